@@ -1,0 +1,12 @@
+use Rattle.std.proofs.Common.{sym, ◌∙◌, arith}
+use Rattle.std.specs.FinSet.{contains}
+use Rattle.wall_labels.proofs.RowLemmas.{contains-set_of_row, held_below}
+use Rattle.wall_labels.proofs.label_set.LabelSet.contains.Goals as goal
+
+pub returns : goal.returns
+returns c = record {
+  value =
+      sym (contains-set_of_row c.self.inside.row c.number.result)
+      ∙ (λ i. contains (c.self.view_is i) (c.number.ensures.value i));
+  members = held_below c.self.inside.row c.args.self.now c.self.view_is 128 (omega arith);
+}

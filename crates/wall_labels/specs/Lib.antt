@@ -1,0 +1,5 @@
+pub mod Fuses
+pub mod Known
+pub mod Labels
+pub mod Ops
+pub mod Rows

@@ -1,0 +1,19 @@
+//! The names and small values that every layer speaks of: ids, labels, operations, sets of datasets, and devices.
+//!
+//! Nothing here takes memory, so no call can answer want of it.
+#![tactic(auto)]
+
+mod device;
+mod ids;
+mod label;
+mod label_set;
+pub mod memory;
+mod op;
+#[cfg(test)]
+mod tests;
+
+pub use device::{Failed, Sink, Source, write_all};
+pub use ids::{CLASS_LIMIT, ClassId, DATASET_LIMIT, DatasetId, PROCESS_LIMIT, ProcessId};
+pub use label::Label;
+pub use label_set::LabelSet;
+pub use op::Op;

@@ -1,0 +1,95 @@
+//! Devices over bytes at hand, which can be told to fail at one call: for tests, and for callers that hold the bytes.
+
+use super::device::{Failed, Sink, Source};
+
+/// At which of the coming calls a device fails: at most one.
+#[derive(Clone, Copy, Debug, PartialEq, Eq)]
+pub enum Fuse {
+    /// At none.
+    Whole,
+    /// At the one after so many others.
+    After(u64),
+    /// It has failed, and does not fail again.
+    Blown,
+}
+
+impl Fuse {
+    ghost use Rattle.std.specs.Prelude.{◌≡◌, IsTrue, ◌↔◌};
+    ghost use Rattle.wall_labels.specs.Fuses.{burned, failures_of};
+
+    // Whether the call at hand fails; the fuse is then blown.
+    fn burn(&mut self) -> bool
+        ensures blown { failures_of self.new ≡ burned (failures_of self.old) result }
+    {
+        match *self {
+            Fuse::After(0) => {
+                *self = Fuse::Blown;
+                true
+            }
+            Fuse::After(calls) => {
+                *self = Fuse::After(calls - 1);
+                false
+            }
+            _ => false,
+        }
+    }
+}
+
+/// A reader of bytes in memory.
+#[derive(Drop)]
+pub struct MemorySource<'a> {
+    /// What is still to be read.
+    pub rest: &'a [u8],
+    /// When it fails.
+    pub fuse: Fuse,
+}
+
+impl<'a> Source for MemorySource<'a> {
+    ghost use Rattle.std.specs.Prelude.{Some};
+    ghost use Rattle.wall_labels.specs.Fuses.{failures_of};
+
+    ghost failures = { λ s. failures_of s.fuse };
+
+    ghost remaining = { λ s. Some s.rest.now };
+
+    fn read(&mut self, buffer: &mut [u8]) -> Result<usize, Failed> {
+        if self.fuse.burn() {
+            return Err(Failed);
+        }
+        let rest = self.rest;
+        let count = rest.len().min(buffer.len());
+        let (front, after) = rest.split_at(count);
+        buffer[..count].copy_from_slice(front);
+        self.rest = after;
+        Ok(count)
+    }
+}
+
+/// A writer that compares what it is given with the bytes that are to come.
+#[derive(Drop)]
+pub struct ExpectingSink<'a> {
+    /// What is still to come.
+    pub rest: &'a [u8],
+    /// Whether all that came so far was as expected.
+    pub is_same: bool,
+    /// When it fails.
+    pub fuse: Fuse,
+}
+
+impl<'a> Sink for ExpectingSink<'a> {
+    ghost use Rattle.wall_labels.specs.Fuses.{failures_of};
+
+    ghost failures = { λ s. failures_of s.fuse };
+
+    fn write(&mut self, bytes: &[u8]) -> Result<usize, Failed> {
+        if self.fuse.burn() {
+            return Err(Failed);
+        }
+        let rest = self.rest;
+        match rest.strip_prefix(bytes) {
+            Some(after) => self.rest = after,
+            None => self.is_same = false,
+        }
+        Ok(bytes.len())
+    }
+}

@@ -1,0 +1,106 @@
+ghost use Rattle.std.specs.Prelude.{◌≡◌, ◌<◌};
+
+use super::memory::{ExpectingSink, Fuse, MemorySource};
+use super::*;
+use std::test::*;
+
+fn dataset(number: u32) -> DatasetId
+    requires { number < DATASET_LIMIT }
+    ensures { result ≡ number }
+{
+    match DatasetId::new(number) {
+        Some(id) => id,
+        None => unreachable!(),
+    }
+}
+
+#[test]
+fn ids_are_the_numbers_below_their_limits(rt: HostRuntime) {
+    for number in [0, 1, 62, 63] {
+        assert_eq!(rt; ProcessId::new(number).map(|id| id.number()), Some(number));
+    }
+    for number in [0, 64, 126, 127] {
+        assert_eq!(rt; DatasetId::new(number).map(|id| id.number()), Some(number));
+        assert_eq!(rt; ClassId::new(number).map(|id| id.number()), Some(number));
+    }
+    assert!(rt; ProcessId::new(64).is_none());
+    assert!(rt; DatasetId::new(128).is_none());
+    assert!(rt; ClassId::new(128).is_none());
+    assert!(rt; ProcessId::new(u32::MAX).is_none());
+}
+
+#[test]
+fn a_label_names_its_dataset_alone(rt: HostRuntime) {
+    let (three, four) = (dataset(3), dataset(4));
+    assert_eq!(rt; Label::Public.dataset(), None);
+    assert_eq!(rt; Label::Of(three).dataset(), Some(three));
+    assert!(rt; Label::Of(three).names(three));
+    assert!(rt; !Label::Of(three).names(four));
+    assert!(rt; !Label::Public.names(three));
+}
+
+#[test]
+fn operations_have_their_names(rt: HostRuntime) {
+    let rows = [
+        (Op::Max, "max"),
+        (Op::Min, "min"),
+        (Op::Sum, "sum"),
+        (Op::Prod, "prod"),
+        (Op::Land, "land"),
+        (Op::Lor, "lor"),
+        (Op::Lxor, "lxor"),
+        (Op::Band, "band"),
+        (Op::Bor, "bor"),
+        (Op::Bxor, "bxor"),
+        (Op::Maxloc, "maxloc"),
+        (Op::Minloc, "minloc"),
+    ];
+    for (op, name) in rows {
+        assert_eq!(rt; op.name(), name);
+        assert_eq!(rt; Op::named(name.as_bytes()), Some(op));
+    }
+    assert_eq!(rt; Op::named(b"avg"), None);
+    assert_eq!(rt; Op::named(b"Sum"), None);
+}
+
+#[test]
+fn label_sets_are_sets(rt: HostRuntime) {
+    let (low, high) = (dataset(0), dataset(127));
+    let mut set = LabelSet::empty();
+    assert_eq!(rt; set.first_other_than(None), None);
+    set.insert(high);
+    set.insert(high);
+    assert!(rt; set.contains(high) && !set.contains(low));
+    assert_eq!(rt; set.first_other_than(Some(high)), None);
+    let mut other = LabelSet::empty();
+    other.insert(low);
+    set.union_with(&other);
+    assert_eq!(rt; set.first_other_than(None), Some(low));
+    assert_eq!(rt; set.first_other_than(Some(low)), Some(high));
+    assert!(rt; !other.contains(high));
+}
+
+#[test]
+fn devices_fail_at_the_call_that_they_are_told(rt: HostRuntime) {
+    let mut source = MemorySource {
+        rest: b"abcde",
+        fuse: Fuse::After(1),
+    };
+    let mut buffer = [0; 3];
+    assert_eq!(rt; source.read(&mut buffer), Ok(3));
+    assert_eq!(rt; buffer, *b"abc");
+    assert_eq!(rt; source.read(&mut buffer), Err(Failed));
+    assert_eq!(rt; source.read(&mut buffer), Ok(2));
+    assert_eq!(rt; source.read(&mut buffer), Ok(0));
+    let mut sink = ExpectingSink {
+        rest: b"abcd",
+        is_same: true,
+        fuse: Fuse::Whole,
+    };
+    assert_eq!(rt; write_all(&mut sink, b"ab"), Ok(()));
+    assert!(rt; sink.is_same && sink.rest == b"cd".as_slice());
+    sink.fuse = Fuse::After(0);
+    assert_eq!(rt; write_all(&mut sink, b"cd"), Err(Failed));
+    assert_eq!(rt; write_all(&mut sink, b"xd"), Ok(()));
+    assert!(rt; !sink.is_same);
+}
