@@ -1,0 +1,27 @@
+//! Why a group isn't made.
+ghost use Rattle.std.specs.Prelude.{◌≡◌};
+ghost use Rattle.mpi_group.specs.declared.fault.GroupFault.TheVariants.{NoMemory};
+
+use std::alloc::{AllocError, AllocFailed};
+use thiserror::Error;
+
+/// Why a group isn't made. Of those that hold, the first is answered.
+#[derive(Clone, Copy, Debug, PartialEq, Eq, Error)]
+pub enum GroupFault {
+    /// A rank at or above the size of the group.
+    #[error("a rank outside the group")]
+    BadRank,
+    /// A rank, or a process, that is named twice.
+    #[error("a rank twice")]
+    RepeatedRank,
+    #[error("out of memory")]
+    NoMemory,
+}
+
+impl From<AllocError> for GroupFault {
+    ghost from_gives = { λ _ fault. fault ≡ NoMemory };
+
+    fn from(_error: AllocError) -> GroupFault {
+        GroupFault::NoMemory
+    }
+}

@@ -1,0 +1,15 @@
+//! Groups of processes, as MPI 4.1 has them in section 7.3: each process at most once, in the order of ranks.
+//!
+//! A group keeps the rank of each process in a table beside its members, so `rank_of` and `translate` take a
+//! step, and the other calls work in time linear in the sizes of the groups that they are given.
+#![tactic(auto)]
+
+mod compare;
+mod fault;
+mod group;
+#[cfg(test)]
+mod tests;
+
+pub use compare::GroupCompare;
+pub use fault::GroupFault;
+pub use group::{Group, ranks_fault};
