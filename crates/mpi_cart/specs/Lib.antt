@@ -1,0 +1,4 @@
+pub mod Faults
+pub mod Grids
+pub mod Laid
+pub mod Laws
