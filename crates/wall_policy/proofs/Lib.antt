@@ -1,0 +1,9 @@
+pub mod Each
+pub mod KeyLemmas
+pub mod NameLemmas
+pub mod RepeatLemmas
+pub mod BuildLemmas
+pub mod LowestLemmas
+pub mod PlaceLemmas
+pub mod PolicyLemmas
+pub mod RivalLemmas

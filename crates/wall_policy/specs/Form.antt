@@ -1,0 +1,39 @@
+-- The keys of a policy file, and what kind of value each holds. (Own format.)
+use Rattle.std.specs.Prelude.{List, [], ◌∷◌, Option, Some, None, codes}
+use Rattle.toml.specs.Data.{Data, Members, as_str, as_table}
+use Rattle.wall_policy.specs.Plain.{ClassText, ProcessText, RuleText, PolicyText}
+use Rattle.wall_policy.specs.Tree.{◌>>=◌, list_or_empty, list_at, text_at, number_at, text_if_any}
+
+unfoldable pub class_of : Data → Option ClassText
+class_of d = do
+  ms ← as_table d
+  name ← text_at (codes "name") ms
+  datasets ← list_at as_str (codes "datasets") ms
+  Some (record { name = name; datasets = datasets })
+
+unfoldable pub process_of : Data → Option ProcessText
+process_of d = do
+  ms ← as_table d
+  name ← text_at (codes "name") ms
+  home ← text_if_any (codes "home") ms
+  Some (record { name = name; home = home })
+
+unfoldable pub rule_of : Data → Option RuleText
+rule_of d = do
+  ms ← as_table d
+  op ← text_at (codes "op") ms
+  least ← number_at (codes "least") ms
+  Some (record { op = op; least = least })
+
+-- at least one
+abbrev pub some_of : {Y : Type 0} → List Y → Option (List Y)
+some_of [] = None
+some_of (y ∷ ys) = Some (y ∷ ys)
+
+-- the record that the tree says, where no required key is absent and each has its kind of value
+unfoldable pub record_of : Members → Option PolicyText
+record_of ms = do
+  classes ← list_or_empty class_of (codes "class") ms
+  processes ← list_at process_of (codes "process") ms >>= some_of
+  rules ← list_or_empty rule_of (codes "sanitise") ms
+  Some (record { classes = classes; processes = processes; rules = rules })

@@ -1,0 +1,12 @@
+pub mod Names
+pub mod Numbering
+pub mod Rivals
+pub mod Policy
+pub mod Plain
+pub mod Tree
+pub mod Form
+pub mod Keys
+pub mod Checks
+pub mod Meaning
+pub mod Answer
+pub mod InTurn

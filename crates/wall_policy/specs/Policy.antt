@@ -1,0 +1,69 @@
+-- A policy of a Chinese Wall: which datasets are rivals, where each process is at home, and which results count as sanitised.
+-- (Brewer and Nash 1989: company datasets, conflict of interest classes, sanitised information. Homes and least numbers are own rules.)
+use Rattle.std.specs.Prelude.{◌≡◌, ℕ, ◌<◌, ◌≤◌, nat_eq, nat_le, Bool, true, false, ◌&&◌, List, length, find, Option, Some, None, option_map, slice_get}
+use Rattle.std.specs.List.{list_all}
+use Rattle.wall_labels.specs.declared.ids.TheConstants.{PROCESS_LIMIT, DATASET_LIMIT, CLASS_LIMIT}
+use Rattle.wall_labels.specs.declared.op.Op.{Op}
+use Rattle.wall_labels.specs.Ops.{op_number}
+use Rattle.wall_policy.specs.Names.{Name, is_name, is_dataset_name, comes_twice}
+use Rattle.wall_policy.specs.Rivals.{are_rivals}
+
+-- Processes, datasets and classes are numbered from 0: what a list has at a number belongs to the thing of that number.
+pub record ChineseWall : Type 0 where
+  pub class_names : List Name
+  pub dataset_names : List Name
+  pub process_names : List Name
+  -- the class of each dataset: a class is the list of its datasets
+  pub classes : List ℕ
+  -- the home of each process, or none
+  pub homes : List (Option ℕ)
+  -- the operations whose results may be sanitised, each with the least number of contributors from which they are
+  pub leasts : List (Op × ℕ)
+
+-- the class of a dataset
+abbrev pub class_of : ChineseWall → ℕ → Option ℕ
+class_of w d = slice_get w.classes d
+
+-- two different datasets of one class
+abbrev pub rival : ChineseWall → ℕ → ℕ → Bool
+rival w d e = are_rivals w.classes d e
+
+abbrev pub home_if_any : Option (Option ℕ) → Option ℕ
+home_if_any None = None
+home_if_any (Some home) = home
+
+-- the home of a process; none also for a number that is no process
+abbrev pub home_of : ChineseWall → ℕ → Option ℕ
+home_of w p = home_if_any (slice_get w.homes p)
+
+-- the number stated for an operation, in a finite map from operations to numbers
+abbrev pub least_in : List (Op × ℕ) → Op → Option ℕ
+least_in leasts op = option_map (λ r. r.1) (find (λ r. nat_eq (op_number r.0) (op_number op)) leasts)
+
+abbrev pub least_of : ChineseWall → Op → Option ℕ
+least_of w op = least_in w.leasts op
+
+-- a least number of contributors: two at least, and no more than there can be processes
+abbrev pub is_least : ℕ → Bool
+is_least n = nat_le 2 n && nat_le n PROCESS_LIMIT
+
+-- What is so of every policy that a file says.
+pub record IsPolicy (w : ChineseWall) : Type 0 where
+  pub some_process : 1 ≤ length w.process_names
+  pub few_processes : length w.process_names ≤ PROCESS_LIMIT
+  pub few_datasets : length w.dataset_names ≤ DATASET_LIMIT
+  pub few_classes : length w.class_names ≤ CLASS_LIMIT
+  -- each dataset belongs to exactly one class
+  pub class_for_each : length w.classes ≡ length w.dataset_names
+  pub known_classes : (d class : ℕ) → class_of w d ≡ Some class → class < length w.class_names
+  -- each home is a dataset
+  pub home_for_each : length w.homes ≡ length w.process_names
+  pub known_homes : (p d : ℕ) → home_of w p ≡ Some d → d < length w.dataset_names
+  -- a name names one thing
+  pub distinct_classes : comes_twice w.class_names ≡ false
+  pub distinct_datasets : comes_twice w.dataset_names ≡ false
+  pub distinct_processes : comes_twice w.process_names ≡ false
+  pub good_classes : list_all is_name w.class_names ≡ true
+  pub good_datasets : list_all is_dataset_name w.dataset_names ≡ true
+  pub good_processes : list_all is_name w.process_names ≡ true
+  pub good_leasts : list_all (λ r. is_least r.1) w.leasts ≡ true

@@ -1,0 +1,83 @@
+//! Why a policy file is refused.
+use std::alloc::{AllocError, AllocFailed};
+use thiserror::Error;
+
+/// Why a tree gives no record.
+#[derive(Clone, Copy)]
+pub(crate) enum FormFault {
+    MissingKey,
+    NoMemory,
+}
+
+impl From<AllocError> for FormFault {
+    ghost use Rattle.std.specs.Prelude.{◌≡◌};
+    ghost use Rattle.wall_policy.specs.declared.fault.FormFault.TheVariants.{NoMemory};
+
+    ghost from_gives = { λ _ e. e ≡ NoMemory };
+
+    fn from(_e: AllocError) -> FormFault {
+        FormFault::NoMemory
+    }
+}
+
+impl<T: Drop> From<AllocFailed<T>> for FormFault {
+    ghost use Rattle.std.specs.Prelude.{◌≡◌};
+    ghost use Rattle.wall_policy.specs.declared.fault.FormFault.TheVariants.{NoMemory};
+
+    ghost from_gives = { λ _ e. e ≡ NoMemory };
+
+    fn from(_e: AllocFailed<T>) -> FormFault {
+        FormFault::NoMemory
+    }
+}
+
+/// Why a policy file is refused: the first of these that holds of its text. (Own format.)
+///
+/// `NoMemory` may come in place of any answer, where a growth was refused.
+#[derive(Clone, Copy, Debug, PartialEq, Eq, Error)]
+pub enum PolicyFault {
+    /// The bytes are not UTF-8, or not a TOML document as the crate `toml` reads it.
+    #[error("NotToml")]
+    NotToml,
+    /// `version` is absent, or not an integer that is a known version.
+    #[error("BadVersion")]
+    BadVersion,
+    /// A required key is absent, a known key has another kind of value than it should, or there is no process.
+    #[error("MissingKey")]
+    MissingKey,
+    /// The document or one of its tables has a key that is not known there.
+    #[error("UnknownKey")]
+    UnknownKey,
+    /// A class, dataset or process has a name outside the rule, or a dataset is called `public` or `none`.
+    #[error("BadName")]
+    BadName,
+    /// Two classes, two datasets of any classes, two processes or two operations are written alike.
+    #[error("DuplicateName")]
+    DuplicateName,
+    /// A home is no dataset.
+    #[error("UnknownDataset")]
+    UnknownDataset,
+    /// An operation is none of a reduction's.
+    #[error("BadOp")]
+    BadOp,
+    /// A least number is below 2 or above the most processes.
+    #[error("BadLeast")]
+    BadLeast,
+    /// There are more processes, datasets or classes than the limits allow.
+    #[error("TooMany")]
+    TooMany,
+    /// Memory ran out.
+    #[error("NoMemory")]
+    NoMemory,
+}
+
+impl From<AllocError> for PolicyFault {
+    ghost use Rattle.std.specs.Prelude.{◌≡◌};
+    ghost use Rattle.wall_policy.specs.declared.fault.PolicyFault.TheVariants.{NoMemory};
+
+    ghost from_gives = { λ _ e. e ≡ NoMemory };
+
+    fn from(_e: AllocError) -> PolicyFault {
+        PolicyFault::NoMemory
+    }
+}

@@ -1,0 +1,229 @@
+//! A policy, as the rules of the wall ask it.
+ghost use Rattle.std.specs.Prelude.{◌≡◌, ◌<◌, ◌≤◌, ◌↔◌, length, IsTrue, IfSome, Some, false, true, slice_get};
+ghost use Rattle.wall_labels.specs.declared.ids.TheConstants.{PROCESS_LIMIT, DATASET_LIMIT};
+ghost use Rattle.wall_policy.specs.Names.{place_of, is_name, is_dataset_name};
+ghost use Rattle.wall_policy.specs.Rivals.{AreRivals, are_rivals};
+ghost use Rattle.wall_policy.specs.Policy.{home_if_any, least_in};
+
+use crate::build::{class_list, home_list, least_list};
+use crate::names::NameTable;
+use crate::plain::PolicyText;
+use std::alloc::{AllocError, Global};
+use std::marker::Model;
+use wall_labels::{ClassId, DatasetId, Op, ProcessId};
+
+/// Which datasets are rivals, where each process is at home, and which results count as sanitised.
+///
+/// No accessor takes memory.
+#[derive(Drop)]
+pub struct Policy {
+    class_names: NameTable,
+    dataset_names: NameTable,
+    process_names: NameTable,
+    classes: Vec<ClassId>,
+    homes: Vec<Option<DatasetId>>,
+    leasts: Vec<(Op, u32)>,
+}
+
+impl Model for Policy {
+    ghost use Rattle.wall_policy.specs.Policy.{ChineseWall, IsPolicy};
+
+    ghost Value = { ChineseWall };
+
+    ghost view = { λ p. record {
+      class_names = p.class_names;
+      dataset_names = p.dataset_names;
+      process_names = p.process_names;
+      classes = p.classes.items;
+      homes = p.homes.items;
+      leasts = p.leasts.items;
+    } };
+
+    ghost invariant = { λ p. IsPolicy (record {
+      class_names = p.class_names;
+      dataset_names = p.dataset_names;
+      process_names = p.process_names;
+      classes = p.classes.items;
+      homes = p.homes.items;
+      leasts = p.leasts.items;
+    }) };
+}
+
+impl Policy {
+    ghost use Rattle.std.specs.Prelude.{map, IfOk};
+    ghost use Rattle.wall_policy.specs.Policy.{IsPolicy, class_of, home_of, least_of, rival};
+    ghost use Rattle.wall_policy.specs.Checks.{dataset_names as dataset_names_of, has_good_names, has_repeats, has_good_leasts, is_small};
+    ghost use Rattle.wall_policy.specs.Meaning.{wall_of};
+
+    // The policy of a good record, with the tables of its names.
+    #[tactic(auto, unfolding(crate::specs::Meaning::wall_of))]
+    pub(crate) fn of_record(
+        alloc: Global,
+        class_names: NameTable,
+        dataset_names: NameTable,
+        process_names: NameTable,
+        text: &PolicyText,
+    ) -> Result<Policy, AllocError>
+        requires classes { class_names ≡ map (λ c. c.name) text.now.classes }
+        requires datasets { dataset_names ≡ dataset_names_of text.now.classes }
+        requires processes { process_names ≡ map (λ p. p.name) text.now.processes }
+        requires some_process { 1 ≤ length text.now.processes }
+        requires good_names { has_good_names text.now ≡ true }
+        requires distinct { has_repeats text.now ≡ false }
+        requires good_leasts { has_good_leasts text.now ≡ true }
+        requires small { is_small text.now ≡ true }
+        ensures { IfOk result (λ p. p ≡ wall_of text.now) }
+    {
+        let classes = class_list(alloc, text.classes())?;
+        let homes = home_list(alloc, &dataset_names, text.processes())?;
+        let leasts = least_list(alloc, text.rules())?;
+        Ok(Policy {
+            class_names,
+            dataset_names,
+            process_names,
+            classes,
+            homes,
+            leasts,
+        })
+    }
+
+    /// How many processes there are.
+    pub fn processes(&self) -> u32
+        ensures number { result ≡ length self.now.process_names }
+        ensures some { 1 ≤ result }
+        ensures few { result ≤ PROCESS_LIMIT }
+        ensures policy { IsPolicy self.now }
+    {
+        self.process_names.len() as u32
+    }
+
+    /// How many datasets there are, of all classes.
+    pub fn datasets(&self) -> u32
+        ensures number { result ≡ length self.now.dataset_names }
+        ensures few { result ≤ DATASET_LIMIT }
+        ensures policy { IsPolicy self.now }
+    {
+        self.dataset_names.len() as u32
+    }
+
+    /// The dataset where the process is at home. There is none for some processes, and for a number that is no process.
+    pub fn home(&self, process: ProcessId) -> Option<DatasetId>
+        ensures home { result ≡ home_of self.now process }
+        ensures known { IfSome result (λ d. d < length self.now.dataset_names) }
+    {
+        home_in(&self.homes, process)
+    }
+
+    /// The class of the dataset.
+    pub fn class_of(&self, dataset: DatasetId) -> ClassId
+        requires { dataset < length self.now.dataset_names }
+        ensures class { class_of self.now dataset ≡ Some result }
+        ensures known { result < length self.now.class_names }
+    {
+        self.classes[dataset.number() as usize]
+    }
+
+    /// Whether these are two different datasets of one class. A number that is no dataset is nobody's rival.
+    pub fn rival(&self, left: DatasetId, right: DatasetId) -> bool
+        ensures test { result ≡ rival self.now left right }
+        ensures rivals { IsTrue result ↔ AreRivals self.now.classes left right }
+    {
+        are_rivals(&self.classes, left, right)
+    }
+
+    /// The least number of contributors from which the operation's results are sanitised, if the policy states one.
+    pub fn least(&self, op: Op) -> Option<u32>
+        ensures least { result ≡ least_of self.now op }
+    {
+        least_in(&self.leasts, op)
+    }
+
+    /// The name of the process.
+    pub fn process_name(&self, process: ProcessId) -> &str
+        requires { process < length self.now.process_names }
+        ensures name { slice_get self.now.process_names process ≡ Some result.now }
+        ensures leads_back { place_of result.now self.now.process_names ≡ Some process }
+        ensures form { is_name result.now ≡ true }
+    {
+        self.process_names.name_at(process.number() as usize)
+    }
+
+    /// The name of the dataset.
+    pub fn dataset_name(&self, dataset: DatasetId) -> &str
+        requires { dataset < length self.now.dataset_names }
+        ensures name { slice_get self.now.dataset_names dataset ≡ Some result.now }
+        ensures leads_back { place_of result.now self.now.dataset_names ≡ Some dataset }
+        ensures form { is_dataset_name result.now ≡ true }
+    {
+        self.dataset_names.name_at(dataset.number() as usize)
+    }
+
+    /// The dataset of that name.
+    pub fn dataset_named(&self, name: &str) -> Option<DatasetId>
+        ensures number { result ≡ place_of name.now self.now.dataset_names }
+        ensures known { IfSome result (λ d. d < length self.now.dataset_names) }
+    {
+        match self.dataset_names.number_of(name) {
+            Some(number) => DatasetId::new(number as u32),
+            None => None,
+        }
+    }
+
+    /// The dataset whose name has these bytes, which need not be a text.
+    pub fn dataset_named_bytes(&self, name: &[u8]) -> Option<DatasetId>
+        ensures number { result ≡ place_of name.now self.now.dataset_names }
+        ensures known { IfSome result (λ d. d < length self.now.dataset_names) }
+    {
+        match self.dataset_names.number_of_bytes(name) {
+            Some(number) => DatasetId::new(number as u32),
+            None => None,
+        }
+    }
+
+    /// The process whose name has these bytes, which need not be a text.
+    pub fn process_named(&self, name: &[u8]) -> Option<ProcessId>
+        ensures number { result ≡ place_of name.now self.now.process_names }
+        ensures known { IfSome result (λ p. p < length self.now.process_names) }
+    {
+        match self.process_names.number_of_bytes(name) {
+            Some(number) => ProcessId::new(number as u32),
+            None => None,
+        }
+    }
+}
+
+// What the list has at the place of the process.
+fn home_in(homes: &[Option<DatasetId>], process: ProcessId) -> Option<DatasetId>
+    ensures { result ≡ home_if_any (slice_get homes.now process) }
+{
+    match homes.get(process.number() as usize) {
+        Some(home) => *home,
+        None => None,
+    }
+}
+
+// Whether these are two places of the list with one class.
+#[tactic(auto, unfolding(crate::specs::Rivals::are_rivals))]
+fn are_rivals(classes: &[ClassId], left: DatasetId, right: DatasetId) -> bool
+    ensures { result ≡ are_rivals classes.now left right }
+{
+    let Some(class) = classes.get(left.number() as usize) else {
+        return false;
+    };
+    let Some(other) = classes.get(right.number() as usize) else {
+        return false;
+    };
+    left.number() != right.number() && class.number() == other.number()
+}
+
+// The number that the list has for the operation.
+fn least_in(leasts: &[(Op, u32)], op: Op) -> Option<u32>
+    ensures { result ≡ least_in leasts.now op }
+{
+    for (stated, least) in leasts {
+        if *stated == op {
+            return Some(*least);
+        }
+    }
+    None
+}

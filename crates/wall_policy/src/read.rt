@@ -1,0 +1,182 @@
+//! Reads a policy file.
+ghost use Rattle.std.specs.Prelude.{◌≡◌, ◌≤◌, not, true, false, length, map, IfOk, IfErr, IfSome, MatchOption, Some, None};
+ghost use Rattle.toml.specs.View.{table_view};
+ghost use Rattle.wall_policy.specs.Checks.{dataset_names as dataset_names_of, has_good_names, has_repeats, has_known_homes, has_known_ops, has_good_leasts, is_small};
+ghost use Rattle.wall_policy.specs.InTurn.{IsNoMemoryOr, judged, in_turn, of_tree, of_record};
+ghost use Rattle.wall_policy.specs.Answer.{Gives, answer_to, tree_of};
+
+use crate::checks::{
+    are_good_classes, are_good_leasts, are_good_processes, are_known_homes, are_known_rules,
+};
+use crate::fault::{FormFault, PolicyFault};
+use crate::keys::{are_all_known, is_known_version};
+use crate::names::NameTable;
+use crate::numbering::{dataset_table, table_of};
+use crate::plain::PolicyText;
+use crate::policy::Policy;
+use crate::tree::record_of_tree;
+use std::alloc::{AllocError, Global};
+use toml::Table;
+use wall_labels::{CLASS_LIMIT, DATASET_LIMIT, PROCESS_LIMIT};
+
+// The names of a record, each kind in its order.
+#[derive(Drop)]
+struct Tables {
+    class_names: NameTable,
+    dataset_names: NameTable,
+    process_names: NameTable,
+}
+
+#[tactic(auto, unfolding(crate::specs::Checks::has_good_names))]
+fn are_names_good(text: &PolicyText) -> bool
+    ensures { result ≡ has_good_names text.now }
+{
+    are_good_classes(text.classes()) && are_good_processes(text.processes())
+}
+
+// The names of the record, or none where one comes twice.
+#[tactic(auto, unfolding(crate::specs::Checks::has_repeats))]
+fn tables_of(alloc: Global, text: &PolicyText) -> Result<Option<Tables>, AllocError>
+    ensures repeats { IfOk result (λ found. MatchOption found (has_repeats text.now ≡ true) (λ _. has_repeats text.now ≡ false)) }
+    ensures classes { IfOk result (λ found. IfSome found (λ t. t.class_names ≡ map (λ c. c.name) text.now.classes)) }
+    ensures datasets { IfOk result (λ found. IfSome found (λ t. t.dataset_names ≡ dataset_names_of text.now.classes)) }
+    ensures processes { IfOk result (λ found. IfSome found (λ t. t.process_names ≡ map (λ p. p.name) text.now.processes)) }
+{
+    let Some(class_names) = table_of(alloc, text.classes())? else {
+        return Ok(None);
+    };
+    let Some(dataset_names) = dataset_table(alloc, text.classes())? else {
+        return Ok(None);
+    };
+    let Some(process_names) = table_of(alloc, text.processes())? else {
+        return Ok(None);
+    };
+    let Some(_) = table_of(alloc, text.rules())? else {
+        return Ok(None);
+    };
+    Ok(Some(Tables {
+        class_names,
+        dataset_names,
+        process_names,
+    }))
+}
+
+#[tactic(auto, unfolding(crate::specs::Checks::has_known_homes))]
+fn are_homes_known(datasets: &NameTable, text: &PolicyText) -> bool
+    requires { datasets.now ≡ dataset_names_of text.now.classes }
+    ensures { result ≡ has_known_homes text.now }
+{
+    are_known_homes(datasets, text.processes())
+}
+
+#[tactic(auto, unfolding(crate::specs::Checks::has_known_ops))]
+fn are_ops_known(text: &PolicyText) -> bool
+    ensures { result ≡ has_known_ops text.now }
+{
+    are_known_rules(text.rules())
+}
+
+#[tactic(auto, unfolding(crate::specs::Checks::has_good_leasts))]
+fn are_leasts_good(text: &PolicyText) -> bool
+    ensures { result ≡ has_good_leasts text.now }
+{
+    are_good_leasts(text.rules())
+}
+
+#[tactic(auto, unfolding(crate::specs::Checks::is_small))]
+fn is_few(datasets: &NameTable, text: &PolicyText) -> bool
+    requires { datasets.now ≡ dataset_names_of text.now.classes }
+    ensures { result ≡ is_small text.now }
+{
+    text.processes().len() <= PROCESS_LIMIT as usize
+        && datasets.len() <= DATASET_LIMIT as usize
+        && text.classes().len() <= CLASS_LIMIT as usize
+}
+
+// The policy of a record, or what is wrong with its names and numbers.
+#[tactic(auto, unfolding(crate::specs::InTurn::judged))]
+fn judge(alloc: Global, text: &PolicyText) -> Result<Policy, PolicyFault>
+    requires { 1 ≤ length text.now.processes }
+    ensures { Gives result (judged text.now) }
+{
+    if !are_names_good(text) {
+        return Err(PolicyFault::BadName);
+    }
+    let Some(tables) = tables_of(alloc, text)? else {
+        return Err(PolicyFault::DuplicateName);
+    };
+    if !are_homes_known(&tables.dataset_names, text) {
+        return Err(PolicyFault::UnknownDataset);
+    }
+    if !are_ops_known(text) {
+        return Err(PolicyFault::BadOp);
+    }
+    if !are_leasts_good(text) {
+        return Err(PolicyFault::BadLeast);
+    }
+    if !is_few(&tables.dataset_names, text) {
+        return Err(PolicyFault::TooMany);
+    }
+    let Tables {
+        class_names,
+        dataset_names,
+        process_names,
+    } = tables;
+    Ok(Policy::of_record(alloc, class_names, dataset_names, process_names, text)?)
+}
+
+// The tree of a file.
+#[tactic(auto, unfolding(crate::specs::Answer::tree_of))]
+fn tree_of_bytes(alloc: Global, bytes: &[u8]) -> Result<Table, PolicyFault>
+    ensures tree { IfOk result (λ table. tree_of bytes.now ≡ Some (table_view table)) }
+    ensures none { IfErr result (λ fault. IsNoMemoryOr fault PolicyFault.NotToml (tree_of bytes.now ≡ None)) }
+{
+    let Ok(text) = std::str::from_utf8(bytes) else {
+        return Err(PolicyFault::NotToml);
+    };
+    match toml::table_from_str(alloc, text) {
+        Ok(table) => Ok(table),
+        Err(error) => {
+            if error.is_memory() {
+                Err(PolicyFault::NoMemory)
+            } else {
+                Err(PolicyFault::NotToml)
+            }
+        }
+    }
+}
+
+// The policy of a tree, or what is wrong with it.
+#[tactic(auto, unfolding(crate::specs::InTurn::of_tree, crate::specs::InTurn::of_record))]
+fn policy_of_tree(alloc: Global, table: &Table) -> Result<Policy, PolicyFault>
+    ensures { Gives result (of_tree (Some (table_view table.now))) }
+{
+    if !is_known_version(table) {
+        return Err(PolicyFault::BadVersion);
+    }
+    let text = match record_of_tree(alloc, table) {
+        Ok(text) => text,
+        Err(FormFault::MissingKey) => return Err(PolicyFault::MissingKey),
+        Err(FormFault::NoMemory) => return Err(PolicyFault::NoMemory),
+    };
+    if !are_all_known(table) {
+        return Err(PolicyFault::UnknownKey);
+    }
+    judge(alloc, &text)
+}
+
+// Looks at one condition after the other.
+#[tactic(auto, unfolding(crate::specs::InTurn::in_turn, crate::specs::InTurn::of_tree))]
+fn read_in_turn(alloc: Global, bytes: &[u8]) -> Result<Policy, PolicyFault>
+    ensures { Gives result (in_turn bytes.now) }
+{
+    let table = tree_of_bytes(alloc, bytes)?;
+    policy_of_tree(alloc, &table)
+}
+
+/// Reads a policy file. What it says is a policy, or the lowest fault that holds of it; want of memory may come in place of either.
+pub fn read_policy(alloc: Global, bytes: &[u8]) -> Result<Policy, PolicyFault>
+    ensures { Gives result (answer_to bytes.now) }
+{
+    read_in_turn(alloc, bytes)
+}
