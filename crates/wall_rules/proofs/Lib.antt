@@ -1,0 +1,3 @@
+pub mod LeastLemmas
+pub mod RuleLemmas
+pub mod HistoryLemmas

@@ -1,0 +1,54 @@
+-- Histories: who has had access to what. (Brewer and Nash 1989: there a matrix of subjects and objects.)
+use Rattle.std.specs.Prelude.{◌≡◌, ℕ, ◌≤◌, nat_eq, Bool, false, ◌&&◌, ◌||◌, List, length, Option, Some, None, slice_index_or, refl}
+use Rattle.std.specs.Ordering.{nat_cmp}
+use Rattle.std.specs.FinSet.{FinSet, empty, contains, code as set_code}
+use Rattle.std.specs.Coded.{Coded, code_by, coded×, coded_ℕ, coded_list}
+use Rattle.wall_labels.specs.declared.ids.TheConstants.{PROCESS_LIMIT, DATASET_LIMIT}
+use Rattle.wall_policy.specs.Policy.{ChineseWall, home_of}
+use Rattle.wall_rules.specs.Rules.{HoldsNoRivals}
+
+-- a set of pairs of process and dataset, by its test
+abbrev pub History : Type 0
+History = ℕ → ℕ → Bool
+
+-- the set and, for one process, the members of a set of datasets
+abbrev pub entered : History → ℕ → FinSet nat_cmp → History
+entered history process s p d = history p d || (nat_eq p process && contains s d)
+
+-- the pairs of each process and its home (own rule: each process begins with access to its home alone)
+abbrev pub is_home : Option ℕ → ℕ → Bool
+is_home (Some home) d = nat_eq home d
+is_home None d = false
+
+abbrev pub opening : ChineseWall → History
+opening w p d = is_home (home_of w p) d
+
+-- no process has had access to two rivals (Brewer and Nash 1989: what the simple security rule keeps)
+abbrev pub NobodyHoldsRivals : List ℕ → History → Type 0
+NobodyHoldsRivals classes history = (p : ℕ) → HoldsNoRivals classes (history p)
+
+-- The value of `Histories` in clauses. `has` shows its pairs.
+pub record Accesses : Type 0 where
+  -- how many processes the policy has, and the class of each dataset
+  pub processes : ℕ
+  pub classes : List ℕ
+  -- for each number that a process can have, the set of its datasets
+  pub sets : List (FinSet nat_cmp)
+
+-- an `Accesses` is stored as the tuple of its fields
+abbrev pub accesses_code : Coded Accesses
+accesses_code =
+    code_by (ℕ × (List ℕ × List (FinSet nat_cmp))) (coded× coded_ℕ (coded× (coded_list coded_ℕ) (coded_list (set_code coded_ℕ))))
+    (λ h. (h.processes, (h.classes, h.sets))) (λ t. record { processes = t.0; classes = t.1.0; sets = t.1.1 }) (λ _. refl)
+
+abbrev pub has_in : List (FinSet nat_cmp) → History
+has_in sets p d = contains (slice_index_or sets p empty) d
+
+abbrev pub has : Accesses → History
+has h = has_in h.sets
+
+-- what is so of all `Histories`
+pub record KeepsWall (h : Accesses) : Type 0 where
+  pub set_for_each : length h.sets ≡ PROCESS_LIMIT
+  pub few_datasets : length h.classes ≤ DATASET_LIMIT
+  pub apart : NobodyHoldsRivals h.classes (has h)
