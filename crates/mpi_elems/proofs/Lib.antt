@@ -1,0 +1,5 @@
+pub mod ElementLemmas
+pub mod FitLemmas
+pub mod LoopLemmas
+pub mod ReadingLemmas
+pub mod BuilderLemmas

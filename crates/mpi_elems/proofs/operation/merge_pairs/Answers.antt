@@ -1,0 +1,7 @@
+use Rattle.std.proofs.Common.{◌+◌}
+use Rattle.mpi_elems.proofs.LoopLemmas.{merged-slice}
+use Rattle.mpi_elems.proofs.operation.merge_pairs.Goals as goal
+
+pub returns-clause-elements : goal.returns-clause-elements
+returns-clause-elements c =
+    merged-slice _ _ c.merge_pair_slice.new.firsts.items c.args.firsts.now.items _ c.args.from.now.items c.args.start (c.args.start + c.args.len) c.deref.ensures.value c.merge_pair_slice.ensures.elements

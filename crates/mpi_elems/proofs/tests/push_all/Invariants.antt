@@ -1,0 +1,8 @@
+use Rattle.std.proofs.Common.{◌≡◌, length}
+use Rattle.mpi_elems.proofs.tests.push_all.Given as goal
+
+abbrev pub invariant-loop-number : goal.invariant-loop-number
+invariant-loop-number l = record {
+  count : length l.builder.numbers ≡ l.number-index;
+  room : l.builder.room ≡ length l.numbers;
+}

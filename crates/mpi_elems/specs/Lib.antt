@@ -1,0 +1,9 @@
+pub mod Types
+pub mod Numbers
+pub mod Operations
+pub mod Elements
+pub mod Lists
+pub mod Contents
+pub mod Faults
+pub mod Shown
+pub mod Loops
