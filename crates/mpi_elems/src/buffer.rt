@@ -1,5 +1,5 @@
 //! A buffer of elements of one type.
-ghost use Rattle.std.specs.Prelude.{◌≡◌, ◌<◌, ◌≤◌, ◌+◌, ◌%◌, ◌++◌, ◌↔◌, [], length, IfOk, IfErr, IsOk, OnOk, IsTrue, true, slice_get, slice_range};
+ghost use Rattle.std.specs.Prelude.{◌≡◌, ◌==◌, ◌<◌, ◌≤◌, ◌+◌, ◌%◌, ◌++◌, ◌↔◌, [], length, IfOk, IfErr, IsOk, OnOk, IsTrue, true, slice_get, slice_range};
 ghost use Rattle.std.specs.List.{list_all};
 ghost use Rattle.mpi_elems.specs.Types.{is_pair};
 ghost use Rattle.mpi_elems.specs.Numbers.{is_number_of};
@@ -12,7 +12,7 @@ ghost use Rattle.mpi_elems.specs.Shown.{AreFit, shown};
 
 use crate::cells::{
     Cells, append_cells, are_same, cells_of, count, has_numbers, kind, merge_cells, no_cells,
-    number, room, room_for,
+    number, number_count, room, room_for,
 };
 use crate::{BufferFault, ElemType, NoMemory};
 use std::alloc::{AllocError, Global};
@@ -107,6 +107,20 @@ impl Buffer {
         ensures { result ≡ length (elements self.now) }
     {
         count(&self.cells)
+    }
+
+    /// How many numbers the buffer holds; a pair is two, its value and its index.
+    pub fn len(&self) -> usize
+        ensures { result ≡ length self.now.numbers }
+    {
+        number_count(&self.cells)
+    }
+
+    /// Whether it holds nothing.
+    pub fn is_empty(&self) -> bool
+        ensures { result ≡ (length self.now.numbers == 0) }
+    {
+        number_count(&self.cells) == 0
     }
 
     /// How many elements the buffer can hold without taking memory, those that it holds included.

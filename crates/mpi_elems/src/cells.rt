@@ -11,7 +11,8 @@ ghost use Rattle.mpi_elems.specs.Shown.{kind_of, elements_in, room_of};
 use crate::ElemType;
 use crate::operation::{merge_numbers, merge_pairs};
 use crate::reading::{
-    append_numbers, append_pairs, has_all, native_numbers, native_pairs, number_at, pair_number_at,
+    append_numbers, append_pairs, count_pairs, count_singles, has_all, native_numbers,
+    native_pairs, number_at, pair_number_at,
 };
 use std::alloc::{AllocError, Global};
 use wall_labels::Op;
@@ -140,6 +141,23 @@ pub fn count(cells: &Cells) -> usize
         Cells::U32(items) => items.len(),
         Cells::U64(items) => items.len(),
         Cells::Pairs(items) => items.len(),
+    }
+}
+
+/// How many numbers the cells have; a pair is two.
+pub fn number_count(cells: &Cells) -> usize
+    ensures { result ≡ length (numbers_of (elements_in cells.now)) }
+{
+    match cells {
+        Cells::I8(items) => count_singles(items),
+        Cells::I16(items) => count_singles(items),
+        Cells::I32(items) => count_singles(items),
+        Cells::I64(items) => count_singles(items),
+        Cells::U8(items) => count_singles(items),
+        Cells::U16(items) => count_singles(items),
+        Cells::U32(items) => count_singles(items),
+        Cells::U64(items) => count_singles(items),
+        Cells::Pairs(items) => count_pairs(items),
     }
 }
 

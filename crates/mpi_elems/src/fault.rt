@@ -27,8 +27,3 @@ impl From<AllocError> for BufferFault {
         BufferFault::NoMemory
     }
 }
-
-/// Memory was refused.
-#[derive(Clone, Copy, Debug, PartialEq, Eq, Error)]
-#[error("out of memory")]
-pub struct NoMemory;

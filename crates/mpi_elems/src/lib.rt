@@ -19,4 +19,5 @@ mod tests;
 pub use buffer::{Buffer, allowed, combine_into};
 pub use builder::BufferBuilder;
 pub use elem_type::ElemType;
-pub use fault::{BufferFault, NoMemory};
+pub use fault::BufferFault;
+pub use wall_labels::NoMemory;

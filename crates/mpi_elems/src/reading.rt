@@ -84,6 +84,20 @@ pub fn pair_number_at(cells: &Vec<(i32, i32)>, i: usize) -> i128
     }
 }
 
+/// How many numbers cells of one number each have.
+pub fn count_singles<T: Native>(cells: &Vec<T>) -> usize
+    ensures { result ≡ length (numbers_of (singles T.number cells.now.items)) }
+{
+    cells.len()
+}
+
+/// How many numbers pairs have.
+pub fn count_pairs(cells: &Vec<(i32, i32)>) -> usize
+    ensures { result ≡ length (numbers_of (pairs cells.now.items)) }
+{
+    2 * cells.len()
+}
+
 /// Appends cells, for which there is room if there are any. Takes no memory.
 pub fn append<T: Copy>(to: &mut Vec<T>, from: &[T])
     requires { 0 < length from.now → vec_len to.old + length from.now ≤ vec_capacity to.old }

@@ -122,7 +122,7 @@ fn reads_pairs(rt: HostRuntime) -> Result<(), Fail> {
         Some(BufferFault::OddPair)
     );
     let pair = buffer(&rt, two, &[1, -2]);
-    assert!(rt; pair.count() == 1 && pair.number_at(1) == -2);
+    assert!(rt; pair.count() == 1 && pair.len() == 2 && pair.number_at(1) == -2);
     assert!(rt; built(&rt, two, &[1, -2]).is_ok_and(|made| made.is_same(&pair)));
     Ok(())
 }
@@ -200,7 +200,11 @@ fn names_and_allows(rt: HostRuntime) -> Result<(), Fail> {
     assert_eq!(rt; ElemType::TwoInt.numbers_per_element(), 2);
     assert!(rt; !allowed(Op::Sum, ElemType::TwoInt) && allowed(Op::Minloc, ElemType::TwoInt));
     let empty = Buffer::empty(rt.alloc(), ElemType::Uint64);
-    assert!(rt; empty.count() == 0 && !empty.is_same(&Buffer::empty(rt.alloc(), ElemType::Int64)));
+    assert!(rt;
+        empty.count() == 0
+            && empty.is_empty()
+            && !empty.is_same(&Buffer::empty(rt.alloc(), ElemType::Int64))
+    );
     Ok(())
 }
 

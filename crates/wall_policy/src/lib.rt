@@ -17,7 +17,7 @@ mod tree;
 
 pub use checks::NAME_LIMIT;
 pub use fault::PolicyFault;
-pub use policy::Policy;
+pub use policy::{Policy, are_rivals};
 pub use read::read_policy;
 
 #[cfg(test)]

@@ -202,9 +202,11 @@ fn home_in(homes: &[Option<DatasetId>], process: ProcessId) -> Option<DatasetId>
     }
 }
 
-// Whether these are two places of the list with one class.
+/// Whether two datasets are rivals, by the list of the class of each dataset: both stand in it, they differ, and they have one class.
+///
+/// For who keeps the classes of a policy beside the data that they guard; [`Policy::rival`] asks the policy itself.
 #[tactic(auto, unfolding(crate::specs::Rivals::are_rivals))]
-fn are_rivals(classes: &[ClassId], left: DatasetId, right: DatasetId) -> bool
+pub fn are_rivals(classes: &[ClassId], left: DatasetId, right: DatasetId) -> bool
     ensures { result ≡ are_rivals classes.now left right }
 {
     let Some(class) = classes.get(left.number() as usize) else {

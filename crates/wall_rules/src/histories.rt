@@ -8,11 +8,11 @@ ghost use Rattle.wall_rules.specs.Least.{least};
 ghost use Rattle.wall_rules.specs.Rules.{IsLowest, IsHeldRival, PassesSimple, HoldsNoRivals, is_held_rival, first_rival, IsHeldOther, PassesStar, joined};
 ghost use Rattle.wall_rules.specs.Histories.{entered, opening, is_home, has_in};
 
-use crate::memory::NoMemory;
+use crate::NoMemory;
 use std::alloc::{AllocError, Global};
 use std::marker::Model;
 use wall_labels::{ClassId, DatasetId, Label, LabelSet, PROCESS_LIMIT, ProcessId};
-use wall_policy::Policy;
+use wall_policy::{Policy, are_rivals};
 
 /// A set of pairs of process and dataset, in which no process has two rivals.
 ///
@@ -176,18 +176,4 @@ fn lowest_rival(
         }
     }
     None
-}
-
-// Whether these are two different places of the list with one class.
-#[tactic(auto, unfolding(wall_policy::specs::Rivals::are_rivals))]
-fn are_rivals(classes: &[ClassId], left: DatasetId, right: DatasetId) -> bool
-    ensures { result ≡ are_rivals classes.now left right }
-{
-    let Some(class) = classes.get(left.number() as usize) else {
-        return false;
-    };
-    let Some(other) = classes.get(right.number() as usize) else {
-        return false;
-    };
-    left.number() != right.number() && class.number() == other.number()
 }

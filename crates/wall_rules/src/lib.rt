@@ -4,9 +4,8 @@
 #![tactic(auto)]
 
 mod histories;
-mod memory;
 #[cfg(test)]
 mod tests;
 
 pub use histories::Histories;
-pub use memory::NoMemory;
+pub use wall_labels::NoMemory;
