@@ -1,0 +1,4 @@
+pub mod Asks
+pub mod Comms
+pub mod Sorting
+pub mod Splits

@@ -1,0 +1,37 @@
+//! Why a call of the table is refused.
+ghost use Rattle.std.specs.Prelude.{◌≡◌};
+ghost use Rattle.mpi_comm.specs.declared.fault.CommFault.TheVariants.{NoMemory};
+
+use mpi_group::GroupFault;
+use std::alloc::AllocError;
+use thiserror::Error;
+
+/// Why a call of the table is refused. Of those that hold, the first is answered.
+#[derive(Clone, Copy, Debug, PartialEq, Eq, Error)]
+pub enum CommFault {
+    /// No communicator has that number.
+    #[error("no such communicator")]
+    NoSuchComm,
+    /// The process isn't in the communicator.
+    #[error("not a member")]
+    NotMember,
+    /// A rank outside the group, or named twice.
+    #[error("not a subgroup")]
+    NotSubgroup,
+    /// A negative colour.
+    #[error("a negative colour")]
+    BadColour,
+    /// There would be more communicators than the table may have.
+    #[error("no room for another communicator")]
+    NoRoom,
+    #[error("out of memory")]
+    NoMemory,
+}
+
+impl From<AllocError> for CommFault {
+    ghost from_gives = { λ _ fault. fault ≡ NoMemory };
+
+    fn from(_error: AllocError) -> CommFault {
+        CommFault::NoMemory
+    }
+}
