@@ -1,0 +1,150 @@
+//! Which elements of a rank go to which place of another.
+ghost use Rattle.std.specs.Prelude.{◌≡◌, ℕ, ◌+◌, ◌<◌, ◌≤◌, IfSome, Some};
+ghost use Rattle.std.specs.List.{list_any};
+ghost use Rattle.mpi_cart.specs.Grids.{below};
+ghost use Rattle.coll_routes.specs.Rolls.{stated_by, given, goes, places as places_of, routed as is_routed, sends, slots, is_missing as is_missing_at};
+ghost use Rattle.coll_routes.specs.Fit.{IsFit, IsSized};
+ghost use Rattle.coll_routes.specs.Lanes.{place_by, covers};
+
+use super::lane::{Piece, cut, has_element, neighbour_at, slot_count};
+use super::roll::Roll;
+use super::signature::Signature;
+use super::statement::Stated;
+
+#[tactic(auto, using(crate::proofs::FitLemmas::of_rank))]
+// What a rank stated.
+fn stated(roll: &Roll, rank: u32) -> &Stated
+    requires fit { IsFit roll.now }
+    requires rank { rank < roll.now.shape.size }
+    ensures { stated_by roll.now rank ≡ Some result.now }
+{
+    roll.stated.get(rank).unwrap()
+}
+
+#[tactic(auto, using(crate::proofs::FitLemmas::of_roll))]
+/// The elements of rank `from` that go to place `place` of rank `to`; none where it sends nothing there. The work doesn't grow with the
+/// elements. Where each rank states counts it adds those before the block.
+pub fn piece(roll: &Roll, from: u32, to: u32, place: u32) -> Option<Piece>
+    requires fit { IsFit roll.now }
+    requires from { from < roll.now.shape.size }
+    requires to { to < roll.now.shape.size }
+    ensures covers { (x : ℕ) → x < given roll.now from → covers result x ≡ goes roll.now from x to place }
+    ensures within { IfSome result (λ p. p.start + p.len ≤ given roll.now from) }
+{
+    let sender = stated(roll, from);
+    cut(
+        &roll.sig,
+        &roll.shape,
+        &sender.own,
+        sender.given,
+        from,
+        to,
+        place,
+    )
+}
+
+#[tactic(auto, unfolding(crate::specs::Rolls::places_by))]
+/// How many blocks rank `to` gets; none from a constructor. (A rank gets no broadcast of its own, and rank 0 nothing from an exscan.)
+pub fn places(roll: &Roll, to: u32) -> u32
+    ensures { result ≡ places_of roll.now to }
+{
+    let size = roll.shape.size;
+    match &roll.sig {
+        Signature::Bcast { root, .. } => u32::from(to != *root),
+        Signature::Gather { root, .. } => { if to == *root { size } else { 0 } }
+        Signature::Gatherv { root, .. } => { if to == *root { size } else { 0 } }
+        Signature::Scatter { .. } => 1,
+        Signature::Scatterv { .. } => 1,
+        Signature::Allgather { .. } => size,
+        Signature::Allgatherv { .. } => size,
+        Signature::Alltoall { .. } => size,
+        Signature::Alltoallv { .. } => size,
+        Signature::Reduce { root, .. } => u32::from(to == *root),
+        Signature::Allreduce { .. } => 1,
+        Signature::ReduceScatter { .. } => 1,
+        Signature::ReduceScatterBlock { .. } => 1,
+        Signature::Scan { .. } => 1,
+        Signature::Exscan { .. } => u32::from(to != 0),
+        Signature::NeighborAllgather { .. } => slot_count(&roll.shape),
+        Signature::NeighborAllgatherv { .. } => slot_count(&roll.shape),
+        Signature::NeighborAlltoall { .. } => slot_count(&roll.shape),
+        Signature::NeighborAlltoallv { .. } => slot_count(&roll.shape),
+        _ => 0,
+    }
+}
+
+/// Whether a place of rank `to` stays empty, since it has no neighbour in that slot. False for the kinds that don't go between neighbours.
+#[tactic(auto, unfolding(crate::specs::Rolls::is_missing))]
+pub fn is_missing(roll: &Roll, to: u32, place: u32) -> bool
+    requires grid { IsSized roll.now.shape }
+    requires to { to < roll.now.shape.size }
+    ensures { result ≡ is_missing_at roll.now to place }
+{
+    roll.sig.is_neighbourly() && neighbour_at(&roll.shape, to, place).is_none()
+}
+
+#[tactic(auto, unfolding(crate::specs::Lanes::place_by))]
+// Where a rank sends to one place of each, that place; the kinds between neighbours aside.
+fn place_from(sig: &Signature, from: u32) -> u32
+    ensures { result ≡ place_by sig.now from }
+{
+    match sig {
+        Signature::Gather { .. } => from,
+        Signature::Gatherv { .. } => from,
+        Signature::Allgather { .. } => from,
+        Signature::Allgatherv { .. } => from,
+        Signature::Alltoall { .. } => from,
+        Signature::Alltoallv { .. } => from,
+        _ => 0,
+    }
+}
+
+#[tactic(auto, using(crate::proofs::FitLemmas::of_roll))]
+// Whether some element of a rank goes to a place.
+fn sends_to(roll: &Roll, from: u32, to: u32, place: u32) -> bool
+    requires fit { IsFit roll.now }
+    requires from { from < roll.now.shape.size }
+    requires to { to < roll.now.shape.size }
+    ensures { result ≡ sends roll.now from to place }
+{
+    let giver = stated(roll, from);
+    has_element(
+        &roll.sig,
+        &roll.shape,
+        &giver.own,
+        giver.given,
+        from,
+        to,
+        place,
+    )
+}
+
+// Whether some element of a rank goes to some slot of another.
+fn sends_to_slots(roll: &Roll, from: u32, to: u32) -> bool
+    requires fit { IsFit roll.now }
+    requires from { from < roll.now.shape.size }
+    requires to { to < roll.now.shape.size }
+    ensures { result ≡ list_any (λ t. sends roll.now from to t) (below (slots roll.now.shape)) }
+{
+    for slot in 0..slot_count(&roll.shape) {
+        if sends_to(roll, from, to, slot) {
+            return true;
+        }
+    }
+    false
+}
+
+#[tactic(auto, using(crate::proofs::RouteLemmas::routing))]
+/// Whether some element of rank `from` goes to rank `to`. Takes a few steps, between neighbours a few for each slot.
+pub fn routed(roll: &Roll, from: u32, to: u32) -> bool
+    requires fit { IsFit roll.now }
+    requires from { from < roll.now.shape.size }
+    requires to { to < roll.now.shape.size }
+    ensures { result ≡ is_routed roll.now from to }
+{
+    if roll.sig.is_neighbourly() {
+        sends_to_slots(roll, from, to)
+    } else {
+        sends_to(roll, from, to, place_from(&roll.sig, from))
+    }
+}
