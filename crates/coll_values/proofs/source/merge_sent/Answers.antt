@@ -1,0 +1,25 @@
+use Rattle.std.proofs.Common.{◌≡◌, ◌++◌, ◌∙◌, ap, sym, arith, length}
+use Rattle.mpi_elems.specs.Contents.{elements}
+use Rattle.mpi_elems.specs.Elements.{combine}
+use Rattle.mpi_elems.specs.Lists.{merged}
+use Rattle.coll_values.proofs.SentLemmas.{type_of, piece_within, piece_length, sent_some, sent_none, merged_nil}
+use Rattle.coll_values.proofs.source.merge_sent.Goals as goal
+
+pub merge_range-requires-clause-one_type : goal.merge_range-requires-clause-one_type
+merge_range-requires-clause-one_type c = type_of c.args.full.now c.args.from c.get-part.result.now c.args.line.now.elem_type c.requires.whole c.get-part.ensures c.requires.one_type
+
+pub merge_range-requires-clause-within : goal.merge_range-requires-clause-within
+merge_range-requires-clause-within c = piece_within c.args.full.now c.args.from c.args.to 0 c.get-part.result.now c.requires.whole c.get-part.ensures c.in-Some.piece.start c.in-Some.piece.len c.in-Some.ensures.within
+
+pub merge_range-requires-clause-room : goal.merge_range-requires-clause-room
+merge_range-requires-clause-room c =
+    let long = piece_length c.args.full.now c.args.from c.args.to 0 c.get-part.result.now c.requires.whole c.get-part.ensures c.in-Some.piece.start c.in-Some.piece.len c.in-Some.ensures.within c.in-Some.ensures.covers in
+    let enough = c.requires.room in
+    omega arith
+
+pub returns-in-Some-clause-elements : goal.returns-in-Some-clause-elements
+returns-in-Some-clause-elements c =
+    c.merge_range.ensures.elements ∙ ap (λ xs. merged (combine c.args.op c.args.line.now.elem_type) (elements c.args.line.now) xs) (sent_some c.args.full.now c.args.from c.args.to 0 c.get-part.result.now c.requires.whole c.get-part.ensures c.in-Some.piece.start c.in-Some.piece.len c.in-Some.ensures.covers)
+
+pub returns-in-None-clause-elements : goal.returns-in-None-clause-elements
+returns-in-None-clause-elements c = merged_nil (combine c.args.op c.args.line.now.elem_type) (elements c.args.line.now) _ (sent_none c.args.full.now c.args.from c.args.to 0 c.get-part.result.now c.requires.whole c.get-part.ensures c.in-None.ensures.covers)

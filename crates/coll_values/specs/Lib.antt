@@ -1,0 +1,7 @@
+pub mod Instances
+pub mod Laws
+pub mod Lines
+pub mod Rooms
+pub mod Sources
+pub mod Spaces
+pub mod Values

@@ -1,0 +1,23 @@
+//! What each member of a full instance is delivered. (MPI 4.1, chapter 6, and section 8.6 between neighbours.)
+//!
+//! Ranks, places and elements count from 0; a pair is one element and two numbers. `room` takes all the memory that a
+//! delivery needs, and `fill` none; `deliver` is both in one.
+#![tactic(auto)]
+
+mod delivery;
+mod filling;
+mod full;
+pub mod laws;
+mod parts;
+mod sizes;
+mod source;
+mod space;
+#[cfg(test)]
+mod tests;
+
+pub use delivery::{Block, Delivery, Integers};
+pub use filling::{deliver, fill, room};
+pub use full::Full;
+pub use parts::Parts;
+pub use space::Room;
+pub use wall_labels::NoMemory;

@@ -1,0 +1,107 @@
+//! What a rank sends to a place.
+ghost use Rattle.std.specs.Prelude.{◌≡◌, ◌+◌, ◌<◌, ◌≤◌, ◌++◌, length, Some, true};
+ghost use Rattle.mpi_elems.specs.Contents.{elements, IsFit};
+ghost use Rattle.mpi_elems.specs.Elements.{combine};
+ghost use Rattle.mpi_elems.specs.Operations.{is_allowed};
+ghost use Rattle.mpi_elems.specs.Lists.{merged};
+ghost use Rattle.coll_routes.specs.Signatures.{elem_type};
+ghost use Rattle.coll_routes.specs.Rolls.{neighbour_in};
+ghost use Rattle.coll_routes.specs.Fit.{IsSized};
+ghost use Rattle.coll_values.specs.Instances.{IsWhole};
+ghost use Rattle.coll_values.specs.Sources.{source_by};
+ghost use Rattle.coll_values.specs.Values.{sent};
+
+use super::full::Full;
+use coll_routes::{Roll, Shape, Signature, piece};
+use mpi_elems::Buffer;
+use wall_labels::Op;
+
+// The neighbour of a rank in a slot, if there is a grid.
+fn neighbour_at(shape: &Shape, rank: u32, slot: u32) -> Option<u32>
+    requires grid { IsSized shape.now }
+    requires rank { rank < shape.now.size }
+    ensures { result ≡ neighbour_in shape.now.grid rank slot }
+{
+    match &shape.grid {
+        Some(grid) => grid.neighbour(rank, slot),
+        None => None,
+    }
+}
+
+// The only rank that may send to a place, in a kind that doesn't reduce.
+#[tactic(auto, unfolding(crate::specs::Sources::source_by))]
+pub(crate) fn source_of(roll: &Roll, to: u32, place: u32) -> Option<u32>
+    requires grid { IsSized roll.now.shape }
+    requires rank { to < roll.now.shape.size }
+    ensures { result ≡ source_by roll.now.sig roll.now.shape to place }
+{
+    match &roll.sig {
+        Signature::Bcast { root, .. } => Some(*root),
+        Signature::Gather { .. } => Some(place),
+        Signature::Gatherv { .. } => Some(place),
+        Signature::Scatter { root, .. } => Some(*root),
+        Signature::Scatterv { root, .. } => Some(*root),
+        Signature::Allgather { .. } => Some(place),
+        Signature::Allgatherv { .. } => Some(place),
+        Signature::Alltoall { .. } => Some(place),
+        Signature::Alltoallv { .. } => Some(place),
+        Signature::NeighborAllgather { .. } => neighbour_at(&roll.shape, to, place),
+        Signature::NeighborAllgatherv { .. } => neighbour_at(&roll.shape, to, place),
+        Signature::NeighborAlltoall { .. } => neighbour_at(&roll.shape, to, place),
+        Signature::NeighborAlltoallv { .. } => neighbour_at(&roll.shape, to, place),
+        _ => None,
+    }
+}
+
+// How many elements a rank sends to a place.
+pub(crate) fn sent_size(full: &Full<Buffer>, from: u32, to: u32, place: u32) -> usize
+    requires whole { IsWhole full.now }
+    requires from { from < full.now.roll.shape.size }
+    requires to { to < full.now.roll.shape.size }
+    ensures { result ≡ length (sent full.now from to place) }
+{
+    match piece(&full.roll, from, to, place) {
+        Some(piece) => piece.len as usize,
+        None => 0,
+    }
+}
+
+// Appends what a rank sends to a place. Takes no memory.
+pub(crate) fn append_sent(line: &mut Buffer, full: &Full<Buffer>, from: u32, to: u32, place: u32)
+    requires whole { IsWhole full.now }
+    requires from { from < full.now.roll.shape.size }
+    requires to { to < full.now.roll.shape.size }
+    requires one_type { elem_type full.now.roll.sig ≡ Some line.old.elem_type }
+    requires room { length (elements line.old) + length (sent full.now from to place) ≤ line.old.room }
+    requires fit { IsFit line.old }
+    ensures elements { elements line.new ≡ elements line.old ++ sent full.now from to place }
+    ensures fit { IsFit line.new }
+{
+    let part = full.parts.get(from);
+    match piece(&full.roll, from, to, place) {
+        Some(piece) => line.append_range(part, piece.start as usize, piece.len as usize),
+        None => {}
+    }
+}
+
+// Combines what a rank sends to the first place with what lower ranks sent. Takes no memory.
+pub(crate) fn merge_sent(op: Op, line: &mut Buffer, full: &Full<Buffer>, from: u32, to: u32)
+    requires whole { IsWhole full.now }
+    requires from { from < full.now.roll.shape.size }
+    requires to { to < full.now.roll.shape.size }
+    requires one_type { elem_type full.now.roll.sig ≡ Some line.old.elem_type }
+    requires room { length (sent full.now from to 0) ≤ line.old.room }
+    requires allowed { is_allowed op line.old.elem_type ≡ true }
+    requires fit { IsFit line.old }
+    ensures kind { line.new.elem_type ≡ line.old.elem_type }
+    ensures elements { elements line.new
+        ≡ merged (combine op line.old.elem_type) (elements line.old) (sent full.now from to 0) }
+    ensures room { line.old.room ≤ line.new.room }
+    ensures fit { IsFit line.new }
+{
+    let part = full.parts.get(from);
+    match piece(&full.roll, from, to, 0) {
+        Some(piece) => line.merge_range(op, part, piece.start as usize, piece.len as usize),
+        None => {}
+    }
+}
