@@ -1,0 +1,52 @@
+-- Charges, rank by rank, and what they meet.
+use Rattle.std.proofs.Common.{◌≡◌, ℕ, ◌+◌, ◌<◌, Bool, true, false, List, Option, Some, None, refl, sym, ap, ◌∙◌, ◌||◌, ◌&&◌, not, slice_get, map, find, flat_map, ⊎_elim, eqb-true, eq-eqb, ne_eqb}
+use Rattle.std.specs.Prelude.{◌==◌, is_some, unwrap_or, nat_eq}
+use Rattle.std.specs.List.{list_any}
+use Rattle.std.specs.Option.{option_map}
+use Rattle.std.specs.Ordering.{nat_cmp, eq_by_cmp}
+use Rattle.std.specs.Cmp.{nat_cmp_total, unsigned_tied}
+use Rattle.std.specs.FinSet.{FinSet, empty, insert, contains, contains-insert, contains-empty}
+use Rattle.std.proofs.Math.Bool.{or-false}
+use Rattle.std.proofs.lemmas.Bool.{cases_Bool, false≢true}
+use Rattle.mpi_cart.specs.Grids.{below}
+use Rattle.wall_verdict.specs.Charges.{is_that}
+use Rattle.wall_verdict.proofs.BelowLemmas.{any_more}
+
+or_comm : (a b : Bool) → (a || b) ≡ (b || a)
+or_comm true true = refl
+or_comm true false = refl
+or_comm false true = refl
+or_comm false false = refl
+
+eq_comm : (a b : ℕ) → nat_eq a b ≡ nat_eq b a
+eq_comm a b = ⊎_elim
+    (λ t. t ∙ sym (eq-eqb b a (sym (eqb-true a b t))))
+    (λ f. f ∙ sym (ne_eqb b a (λ e. false≢true (sym f ∙ eq-eqb a b (sym e)))))
+    (cases_Bool (a == b))
+
+pub contains_inserted : (s : FinSet nat_cmp) (d q : ℕ) → contains (insert s d) q ≡ (contains s q || (d == q))
+contains_inserted s d q =
+    contains-insert nat_cmp_total s d q
+    ∙ (ap (λ b. b || contains s q) (unsigned_tied q d ∙ eq_comm q d)
+    ∙ or_comm (d == q) (contains s q))
+
+-- the set of what the ranks below n bring
+abbrev pub AreBrought : (ℕ → Option ℕ) → ℕ → FinSet nat_cmp → Type 0
+AreBrought f n s = (q : ℕ) → contains s q ≡ list_any (λ i. is_that (f i) q) (below n)
+
+pub brought_none : (f : ℕ → Option ℕ) → AreBrought f 0 empty
+brought_none f q = contains-empty nat_cmp q
+
+pub brought_more : (f : ℕ → Option ℕ) (n d : ℕ) (s : FinSet nat_cmp) → f n ≡ Some d → AreBrought f n s → AreBrought f (n + 1) (insert s d)
+brought_more f n d s e h q =
+    contains_inserted s d q
+    ∙ (ap (λ b. b || (d == q)) (h q)
+    ∙ (ap (λ o. list_any (λ i. is_that (f i) q) (below n) || is_that o q) (sym e)
+    ∙ sym (any_more (λ i. is_that (f i) q) n)))
+
+pub brought_same : (f : ℕ → Option ℕ) (n : ℕ) (s : FinSet nat_cmp) → f n ≡ None → AreBrought f n s → AreBrought f (n + 1) s
+brought_same f n s e h q =
+    h q
+    ∙ (sym (or-false (list_any (λ i. is_that (f i) q) (below n)))
+    ∙ (ap (λ o. list_any (λ i. is_that (f i) q) (below n) || is_that o q) (sym e)
+    ∙ sym (any_more (λ i. is_that (f i) q) n)))

@@ -1,0 +1,15 @@
+use Rattle.std.proofs.Common.{◌≡◌, find, None}
+use Rattle.mpi_cart.specs.Grids.{below}
+use Rattle.wall_rules.specs.Histories.{has}
+use Rattle.wall_rules.specs.Rules.{HoldsNoRivals, joined}
+use Rattle.wall_verdict.specs.Charges.{contribution}
+use Rattle.wall_verdict.specs.Verdicts.{meets}
+use Rattle.wall_verdict.proofs.ChargeLemmas.{AreBrought}
+use Rattle.wall_verdict.proofs.judge.first_meeting.Given as goal
+
+abbrev pub invariant-loop-from : goal.invariant-loop-from
+invariant-loop-from l = record {
+  brought : AreBrought (λ i. contribution l.roll i l.to) l.from l.held;
+  apart : HoldsNoRivals l.histories.classes (joined (has l.histories l.receiver) l.held);
+  none : find (meets l.histories.classes (has l.histories) l.roll l.to) (below l.from) ≡ None;
+}

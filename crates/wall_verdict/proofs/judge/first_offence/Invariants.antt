@@ -1,0 +1,8 @@
+use Rattle.std.proofs.Common.{◌≡◌, None}
+use Rattle.wall_rules.specs.Histories.{has}
+use Rattle.wall_verdict.specs.Verdicts.{offends}
+use Rattle.wall_verdict.proofs.PairLemmas.{found_in}
+use Rattle.wall_verdict.proofs.judge.first_offence.Given as goal
+
+abbrev pub invariant-loop-to : goal.invariant-loop-to
+invariant-loop-to l = found_in (offends l.policy (has l.histories) l.roll) l.roll.shape.size l.to ≡ None

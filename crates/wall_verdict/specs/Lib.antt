@@ -1,0 +1,6 @@
+pub mod Charges
+pub mod Grants
+pub mod Laws
+pub mod Meanings
+pub mod Star
+pub mod Verdicts

@@ -1,0 +1,108 @@
+//! What is charged to a rank for what it gets.
+ghost use Rattle.std.specs.Prelude.{◌≡◌, ℕ, ◌<◌};
+ghost use Rattle.std.specs.FinSet as set;
+ghost use Rattle.coll_routes.specs.Fit.{IsFit};
+ghost use Rattle.coll_routes.specs.Rolls.{label_of};
+ghost use Rattle.wall_verdict.specs.Charges.{dataset_in, contribution, contributors, contributed, sanitised, charged};
+
+use coll_routes::{Roll, routed};
+use wall_labels::{DatasetId, Label, LabelSet};
+use wall_policy::Policy;
+
+/// The label of what the rank gave.
+pub fn label_of(roll: &Roll, rank: u32) -> Option<Label>
+    ensures { result ≡ label_of roll.now rank }
+{
+    match roll.stated.get(rank) {
+        Some(stated) => stated.label,
+        None => None,
+    }
+}
+
+/// The dataset that the label names, if there is one.
+pub fn dataset_in(label: &Option<Label>) -> Option<DatasetId>
+    ensures { result ≡ dataset_in label.now }
+{
+    match label {
+        Some(label) => label.dataset(),
+        None => None,
+    }
+}
+
+/// The dataset of the label of rank `from`, if something of it is routed to rank `to`.
+pub fn contribution(roll: &Roll, from: u32, to: u32) -> Option<DatasetId>
+    requires fit { IsFit roll.now }
+    requires from { from < roll.now.shape.size }
+    requires to { to < roll.now.shape.size }
+    ensures { result ≡ contribution roll.now from to }
+{
+    if routed(roll, from, to) {
+        dataset_in(&label_of(roll, from))
+    } else {
+        None
+    }
+}
+
+/// How many ranks are routed to the rank whose label is a dataset.
+#[tactic(auto, using(crate::proofs::BelowLemmas::count_more, crate::proofs::BelowLemmas::count_within))]
+fn contributors(roll: &Roll, to: u32) -> u32
+    requires fit { IsFit roll.now }
+    requires to { to < roll.now.shape.size }
+    ensures { result ≡ contributors roll.now to }
+{
+    let mut number = 0;
+    for from in 0..roll.shape.size {
+        if contribution(roll, from, to).is_some() {
+            number += 1;
+        }
+    }
+    number
+}
+
+/// Whether what the rank gets is sanitised: the kind reduces, and the policy states for its operation a least number of contributors,
+/// which those of the rank reach.
+#[tactic(auto, unfolding(crate::specs::Charges::sanitised))]
+pub fn sanitised(policy: &Policy, roll: &Roll, rank: u32) -> bool
+    requires fit { IsFit roll.now }
+    requires rank { rank < roll.now.shape.size }
+    ensures { result ≡ sanitised policy.now roll.now rank }
+{
+    let Some(op) = roll.sig.op() else {
+        return false;
+    };
+    match policy.least(op) {
+        Some(least) => least <= contributors(roll, rank),
+        None => false,
+    }
+}
+
+/// The datasets that the ranks contribute to this one.
+#[tactic(auto, using(crate::proofs::ChargeLemmas::brought_none, crate::proofs::ChargeLemmas::brought_more, crate::proofs::ChargeLemmas::brought_same))]
+fn contributed(roll: &Roll, to: u32) -> LabelSet
+    requires fit { IsFit roll.now }
+    requires to { to < roll.now.shape.size }
+    ensures { (d : ℕ) → set.contains result d ≡ contributed roll.now to d }
+{
+    let mut datasets = LabelSet::empty();
+    for from in 0..roll.shape.size {
+        match contribution(roll, from, to) {
+            Some(dataset) => datasets.insert(dataset),
+            None => {}
+        }
+    }
+    datasets
+}
+
+#[tactic(auto, using(crate::proofs::MeetLemmas::sanitised_charges_none, crate::proofs::MeetLemmas::unsanitised_charges))]
+/// The datasets that are charged to the rank: none if what it gets is sanitised, else those of the labels of its contributors.
+pub fn charged(policy: &Policy, roll: &Roll, rank: u32) -> LabelSet
+    requires fit { IsFit roll.now }
+    requires rank { rank < roll.now.shape.size }
+    ensures { (d : ℕ) → set.contains result d ≡ charged policy.now roll.now rank d }
+{
+    if sanitised(policy, roll, rank) {
+        LabelSet::empty()
+    } else {
+        contributed(roll, rank)
+    }
+}

@@ -1,0 +1,51 @@
+//! The verdict that enters what a grant charges.
+ghost use Rattle.std.specs.Prelude.{◌≡◌};
+ghost use Rattle.wall_rules.specs.Histories.{has, NobodyHoldsRivals};
+ghost use Rattle.coll_routes.specs.Fit.{IsFit};
+ghost use Rattle.wall_verdict.specs.Verdicts.{verdict};
+ghost use Rattle.wall_verdict.specs.Grants.{with_charges, settled};
+ghost use Rattle.wall_verdict.specs.Meanings.{MembersStayApart};
+
+use super::charge::charged;
+use super::judge::{decide, keep_apart};
+use super::verdict::Verdict;
+use coll_routes::Roll;
+use wall_policy::Policy;
+use wall_rules::Histories;
+
+#[tactic(auto, using(crate::proofs::GrantLemmas::under_none))]
+/// Enters in each member's history what is charged to it.
+fn grant(policy: &Policy, histories: &mut Histories, roll: &Roll)
+    requires fit { IsFit roll.now }
+    requires classes { histories.old.classes ≡ policy.now.classes }
+    requires apart { MembersStayApart policy.now (has histories.old) roll.now }
+    ensures pairs { has histories.new ≡ with_charges policy.now (has histories.old) roll.now }
+    ensures processes { histories.new.processes ≡ histories.old.processes }
+    ensures classes { histories.new.classes ≡ histories.old.classes }
+{
+    let _ = roll.members.size();
+    for to in 0..roll.shape.size {
+        let charged = charged(policy, roll, to);
+        histories.enter(roll.members.at(to), &charged);
+    }
+}
+
+#[tactic(auto, using(crate::proofs::GrantLemmas::settled_granted, crate::proofs::GrantLemmas::settled_denied))]
+/// The verdict on a full instance. A grant enters in each member's history what is charged to it, a denial enters nothing.
+pub fn settle(policy: &Policy, histories: &mut Histories, roll: &Roll) -> Verdict
+    requires fit { IsFit roll.now }
+    requires classes { histories.old.classes ≡ policy.now.classes }
+    ensures verdict { result ≡ verdict policy.now (has histories.old) roll.now }
+    ensures pairs { has histories.new ≡ settled policy.now (has histories.old) roll.now }
+    ensures processes { histories.new.processes ≡ histories.old.processes }
+    ensures classes { histories.new.classes ≡ histories.old.classes }
+    ensures apart { NobodyHoldsRivals policy.now.classes (has histories.new) }
+{
+    let verdict = decide(policy, histories, roll);
+    match verdict {
+        Verdict::Granted => grant(policy, histories, roll),
+        Verdict::Denied { .. } => {}
+    }
+    keep_apart(histories);
+    verdict
+}

@@ -1,0 +1,162 @@
+//! The verdict on a full instance.
+ghost use Rattle.std.specs.Prelude.{◌≡◌, ◌<◌, find, IfSome};
+ghost use Rattle.wall_rules.specs.Histories.{has, NobodyHoldsRivals};
+ghost use Rattle.wall_rules.specs.Rules.{HoldsNoRivals, joined, clashes};
+ghost use Rattle.coll_routes.specs.Fit.{IsFit};
+ghost use Rattle.coll_routes.specs.Rolls.{ranks, label_of, is_barred};
+ghost use Rattle.wall_verdict.specs.Verdicts.{meets, offends, first_barred, first_offence, told, verdict};
+ghost use Rattle.wall_verdict.specs.Meanings.{IsVerdict, MembersStayApart};
+ghost use Rattle.wall_verdict.specs.declared.verdict.Verdict.TheVariants.{Granted};
+
+use super::charge::{contribution, label_of, sanitised};
+use super::verdict::{Rule, Verdict};
+use coll_routes::Roll;
+use wall_labels::{DatasetId, Label, LabelSet, ProcessId};
+use wall_policy::Policy;
+use wall_rules::Histories;
+
+/// Nobody has had access to two rivals: histories keep that.
+pub fn keep_apart(histories: &Histories)
+    ensures { NobodyHoldsRivals histories.now.classes (has histories.now) }
+{
+    let (Some(process), Some(dataset)) = (ProcessId::new(0), DatasetId::new(0)) else {
+        unreachable!()
+    };
+    let _ = histories.has(process, dataset);
+}
+
+#[tactic(auto, using(crate::proofs::MeetLemmas::held_is_clear))]
+/// Whether the dataset has a rival in the process's history or in the set. What is in the set has none.
+fn clashes(histories: &Histories, process: ProcessId, held: &LabelSet, dataset: DatasetId) -> bool
+    requires { HoldsNoRivals histories.now.classes (joined (has histories.now process) held.now) }
+    ensures { result ≡ clashes histories.now.classes (joined (has histories.now process) held.now) dataset }
+{
+    !held.contains(dataset) && histories.clash(process, held, dataset).is_some()
+}
+
+#[tactic(auto, using(crate::proofs::ChargeLemmas::brought_none, crate::proofs::ChargeLemmas::brought_more, crate::proofs::ChargeLemmas::brought_same, crate::proofs::MeetLemmas::meets_is, crate::proofs::MeetLemmas::meets_none, crate::proofs::MeetLemmas::stays_apart, crate::proofs::BelowLemmas::find_none_more, crate::proofs::BelowLemmas::find_found))]
+/// The lowest rank whose contribution to this one meets a rival, in its history or among those of lower ranks.
+fn first_meeting(histories: &Histories, roll: &Roll, to: u32) -> Option<u32>
+    requires fit { IsFit roll.now }
+    requires to { to < roll.now.shape.size }
+    ensures least { result ≡ find (meets histories.now.classes (has histories.now) roll.now to) (ranks roll.now) }
+    ensures within { IfSome result (λ i. i < roll.now.shape.size) }
+{
+    keep_apart(histories);
+    let receiver = roll.members.at(to);
+    let mut held = LabelSet::empty();
+    for from in 0..roll.shape.size {
+        match contribution(roll, from, to) {
+            Some(dataset) => {
+                if clashes(histories, receiver, &held, dataset) {
+                    return Some(from);
+                }
+                held.insert(dataset);
+            }
+            None => {}
+        }
+    }
+    None
+}
+
+#[tactic(auto, using(crate::proofs::MeetLemmas::sanitised_spares, crate::proofs::MeetLemmas::unsanitised_meets))]
+/// The lowest rank for which a dataset is charged to this one that meets a rival.
+fn first_offender(policy: &Policy, histories: &Histories, roll: &Roll, to: u32) -> Option<u32>
+    requires fit { IsFit roll.now }
+    requires classes { histories.now.classes ≡ policy.now.classes }
+    requires to { to < roll.now.shape.size }
+    ensures least { result ≡ find (offends policy.now (has histories.now) roll.now to) (ranks roll.now) }
+    ensures within { IfSome result (λ i. i < roll.now.shape.size) }
+{
+    if sanitised(policy, roll, to) {
+        None
+    } else {
+        first_meeting(histories, roll, to)
+    }
+}
+
+#[tactic(auto, using(crate::proofs::PairLemmas::pairs_none, crate::proofs::PairLemmas::pairs_found))]
+/// The least pair of a receiver and a rank that offends.
+fn first_offence(policy: &Policy, histories: &Histories, roll: &Roll) -> Option<(u32, u32)>
+    requires fit { IsFit roll.now }
+    requires classes { histories.now.classes ≡ policy.now.classes }
+    ensures least { result ≡ first_offence policy.now (has histories.now) roll.now }
+    ensures within { IfSome result (λ pair. pair.0 < roll.now.shape.size) }
+{
+    for to in 0..roll.shape.size {
+        match first_offender(policy, histories, roll, to) {
+            Some(from) => return Some((to, from)),
+            None => {}
+        }
+    }
+    None
+}
+
+#[tactic(auto, using(crate::proofs::BelowLemmas::find_none_more, crate::proofs::BelowLemmas::find_found))]
+/// The lowest rank whose post was barred.
+fn first_barred(roll: &Roll) -> Option<u32>
+    ensures least { result ≡ first_barred roll.now }
+    ensures within { IfSome result (λ i. i < roll.now.shape.size) }
+{
+    for rank in 0..roll.shape.size {
+        if is_barred(roll, rank) {
+            return Some(rank);
+        }
+    }
+    None
+}
+
+fn is_barred(roll: &Roll, rank: u32) -> bool
+    ensures { result ≡ is_barred roll.now rank }
+{
+    match roll.stated.get(rank) {
+        Some(stated) => stated.barred,
+        None => false,
+    }
+}
+
+/// The label of the rank, which has one.
+fn told(roll: &Roll, rank: u32) -> Label
+    ensures { result ≡ told (label_of roll.now rank) }
+{
+    label_of(roll, rank).unwrap_or(Label::Public)
+}
+
+#[tactic(auto, unfolding(crate::specs::Verdicts::verdict))]
+fn judge(policy: &Policy, histories: &Histories, roll: &Roll) -> Verdict
+    requires fit { IsFit roll.now }
+    requires classes { histories.now.classes ≡ policy.now.classes }
+    ensures { result ≡ verdict policy.now (has histories.now) roll.now }
+{
+    if let Some(rank) = first_barred(roll) {
+        return Verdict::Denied {
+            rule: Rule::Star,
+            process: roll.members.at(rank),
+            label: told(roll, rank),
+        };
+    }
+    match first_offence(policy, histories, roll) {
+        Some((to, from)) => Verdict::Denied {
+            rule: Rule::Simple,
+            process: roll.members.at(to),
+            label: told(roll, from),
+        },
+        None => Verdict::Granted,
+    }
+}
+
+/// The verdict on a full instance. Where a post was barred, it is denied by the star rule, naming the lowest such rank. Else it is denied by
+/// the simple rule if a dataset that is charged to a receiver has a rival in its history, or among those charged to it from lower ranks; of
+/// the pairs of a receiver and a contributor for which that is so the least is named, the lowest receiver first. Else it is granted.
+///
+/// Looks at each pair of ranks at most twice, and once at the rivals of each dataset for each receiver that it is charged to.
+pub fn decide(policy: &Policy, histories: &Histories, roll: &Roll) -> Verdict
+    requires fit { IsFit roll.now }
+    requires classes { histories.now.classes ≡ policy.now.classes }
+    ensures verdict { result ≡ verdict policy.now (has histories.now) roll.now }
+    ensures meaning { IsVerdict policy.now (has histories.now) roll.now result }
+    ensures apart { result ≡ Granted → MembersStayApart policy.now (has histories.now) roll.now }
+{
+    keep_apart(histories);
+    judge(policy, histories, roll)
+}

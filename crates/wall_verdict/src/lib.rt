@@ -1,0 +1,19 @@
+//! The verdict on a full instance, by the two rules of the Chinese Wall. (Brewer and Nash 1989; MPI 4.1, chapter 6.)
+//!
+//! Ranks count from 0. No call takes memory.
+#![tactic(auto)]
+
+mod charge;
+mod grant;
+mod judge;
+pub mod laws;
+mod star;
+#[cfg(test)]
+mod tests;
+mod verdict;
+
+pub use charge::{charged, sanitised};
+pub use grant::settle;
+pub use judge::decide;
+pub use star::{enter_label, passes_star};
+pub use verdict::{Rule, Verdict};
