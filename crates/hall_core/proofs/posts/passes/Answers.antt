@@ -1,0 +1,10 @@
+use Rattle.std.proofs.Common.{◌<◌, sym, subst}
+use Rattle.wall_labels.specs.declared.ids.TheConstants.{DATASET_LIMIT}
+use Rattle.wall_rules.specs.Histories.{has}
+use Rattle.hall_core.proofs.StarLemmas.{star_failed}
+use Rattle.hall_core.proofs.posts.passes.Goals as goal
+
+pub returns-in-Err-clause-value : goal.returns-in-Err-clause-value
+returns-in-Err-clause-value c =
+    let low : c.in-Err.other < DATASET_LIMIT = subst (λ n. n < DATASET_LIMIT) c.number.ensures.value c.number.ensures.below in
+    sym (star_failed (has c.args.histories.now c.args.process) c.args.label c.in-Err.other c.in-Err.ensures.lowest low)

@@ -1,0 +1,13 @@
+use Rattle.std.proofs.Common.{◌≡◌, ◌++◌, length}
+use Rattle.hall_core.specs.Replies.{Legal}
+use Rattle.hall_core.specs.Halls.{run_of, StandsFor}
+use Rattle.hall_core.proofs.runs.run_calls.Given as goal
+
+abbrev pub invariant-loop-call : goal.invariant-loop-call
+invariant-loop-call l = record {
+  policy : l.hall.policy ≡ l.fn.policy;
+  legal : Legal l.hall.policy (run_of l.yielded l.list.items);
+  stands : StandsFor l.hall (run_of l.yielded l.list.items);
+  count : length l.list.items ≡ length l.yielded;
+  rest : l.yielded ++ l.call-iterator.rest.items ≡ l.fn.calls;
+}

@@ -1,0 +1,5 @@
+use Rattle.hall_core.specs.Named.{HaveKnownLabels}
+use Rattle.hall_core.proofs.tests.calls.Given as goal
+
+abbrev pub invariant-loop-line : goal.invariant-loop-line
+invariant-loop-line l = HaveKnownLabels l.policy l.calls.items

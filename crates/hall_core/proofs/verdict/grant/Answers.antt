@@ -1,0 +1,21 @@
+use Rattle.std.proofs.Common.{◌≡◌, length, ◌∙◌, ap, arith}
+use Rattle.wall_rules.specs.Histories.{has}
+use Rattle.hall_core.proofs.GrantLemmas.{under, under_all, under_more, may_enter}
+use Rattle.hall_core.proofs.verdict.grant.Goals as goal
+
+pub enter-requires : goal.enter-requires
+enter-requires c =
+    let classes : c.loop-to.histories.classes ≡ c.args.policy.now.classes = c.loop-to.invariant.classes ∙ c.requires.classes in
+    rw classes (may_enter c.args.policy.now (has c.args.histories.now) c.args.roll.now c.requires.laid c.loop-to.to c.at.result c.at.ensures c.charged-charged.result c.charged-charged.ensures (has c.loop-to.histories) c.loop-to.invariant.pairs c.requires.apart)
+
+pub loop-to-preserved : goal.loop-to-preserved
+loop-to-preserved c = record {
+  pairs = c.enter.ensures.pairs ∙ under_more c.args.policy.now (has c.args.histories.now) c.args.roll.now c.requires.laid c.loop-to.to c.at.result c.at.ensures c.charged-charged.result c.charged-charged.ensures (has c.loop-to.histories) c.loop-to.invariant.pairs;
+  processes = c.enter.ensures.processes ∙ c.loop-to.invariant.processes;
+  classes = c.enter.ensures.classes ∙ c.loop-to.invariant.classes;
+}
+
+pub returns-clause-pairs : goal.returns-clause-pairs
+returns-clause-pairs c =
+    let done : c.loop-to.to ≡ length c.args.roll.now.members = omega (arith, c.requires.laid.size) in
+    c.loop-to.invariant.pairs ∙ (ap (λ n. under c.args.policy.now (has c.args.histories.now) c.args.roll.now n) done ∙ under_all c.args.policy.now (has c.args.histories.now) c.args.roll.now)

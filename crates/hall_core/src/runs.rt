@@ -1,0 +1,77 @@
+//! Whole runs.
+ghost use Rattle.std.specs.Prelude.{◌≡◌, length, IfOk};
+ghost use Rattle.hall_core.specs.Replies.{Legal};
+ghost use Rattle.hall_core.specs.Halls.{run_of};
+ghost use Rattle.hall_core.specs.Named.{HaveKnownLabels};
+
+use crate::call::Call;
+use crate::hall::Hall;
+use crate::reply::Reply;
+use std::alloc::Global;
+use std::marker::Model;
+use wall_policy::Policy;
+use wall_rules::NoMemory;
+
+/// A list of calls.
+#[derive(Drop)]
+pub struct Calls {
+    list: Vec<Call>,
+}
+
+impl Model for Calls {
+    ghost use Rattle.std.specs.Prelude.{List};
+    ghost use Rattle.hall_core.specs.declared.call.Call.{Call};
+
+    ghost Value = { List Call };
+
+    ghost view = { λ c. c.list.items };
+}
+
+impl From<Vec<Call>> for Calls {
+    ghost from_gives = { λ list result. result ≡ list.items };
+
+    fn from(list: Vec<Call>) -> Calls {
+        Calls { list }
+    }
+}
+
+/// A list of replies.
+#[derive(Debug, Drop)]
+pub struct Replies {
+    list: Vec<Reply>,
+}
+
+impl Model for Replies {
+    ghost use Rattle.std.specs.Prelude.{List};
+    ghost use Rattle.hall_core.specs.declared.reply.Reply.{Reply};
+
+    ghost Value = { List Reply };
+
+    ghost view = { λ r. r.list.items };
+}
+
+impl Replies {
+    /// The replies in the order of their calls.
+    pub fn as_slice(&self) -> &[Reply]
+        ensures { result.now ≡ self.now }
+    {
+        self.list.as_slice()
+    }
+}
+
+/// Applies the calls in order to a hall that was opened for them, and gives one reply for each, in order.
+///
+/// `NoMemory` is answered where the hall could not be opened or the list of replies could not grow; a call's own want of memory is its reply.
+pub fn run_calls(alloc: Global, policy: Policy, calls: Calls) -> Result<Replies, NoMemory>
+    requires { HaveKnownLabels policy calls }
+    ensures run { IfOk result (λ replies. Legal policy (run_of calls replies)) }
+    ensures each { IfOk result (λ replies. length replies ≡ length calls) }
+{
+    let mut hall = Hall::open(alloc, policy)?;
+    let mut list = Vec::new(alloc);
+    for call in calls.list {
+        let reply = hall.apply(call);
+        list.push(reply)?;
+    }
+    Ok(Replies { list })
+}
