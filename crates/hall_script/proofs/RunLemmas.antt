@@ -1,0 +1,241 @@
+-- Scripts that are answered line by line.
+use Rattle.std.proofs.Common.{◌≡◌, ℕ, ◌+◌, List, [], ◌∷◌, ◌++◌, Option, Some, None, Result, Ok, Err, refl, sym, ap, ◌∙◌, subst, append_assoc}
+use Rattle.std.proofs.lemmas.List.{append-nil}
+use Rattle.std.specs.Io.KnownBytes.{Appends}
+use Rattle.wall_labels.specs.Known.{AppendsFront, AreLeft}
+use Rattle.wall_labels.proofs.KnownLemmas.{Appends-then}
+use Rattle.wall_policy.specs.Policy.{ChineseWall}
+use Rattle.hall_core.specs.declared.call.Call.{Call}
+use Rattle.hall_core.specs.Replies.{Entry}
+use Rattle.hall_core.specs.Halls.{entry}
+use Rattle.hall_script.specs.declared.fault.LineFault.{LineFault}
+use Rattle.hall_script.specs.declared.fault.LineFault.TheVariants as faults
+use Rattle.hall_script.specs.declared.fault.ScriptFault.{ScriptFault}
+use Rattle.hall_script.specs.declared.fault.ScriptFault.TheVariants.{Read, Line, Write, NoMemory}
+use Rattle.hall_script.specs.Replies.{reply_line}
+use Rattle.hall_script.specs.Scripts.{Script, with_line, line_call, script_from, script_of, calls_in, reply_lines, Answers, Stops, Replays, Replayed}
+use Rattle.hall_script.specs.Answering.{AnswersLine, FailsLine, line_fault, Told, SoFar, no_more, fault_at, Ends, Finishes, Moves}
+
+pub Appends-none : (a : Option (List ℕ)) → Appends a a []
+Appends-none None = tt
+Appends-none (Some xs) = sym (append-nil xs)
+
+-- a text of which a front was written
+pub Moves-none : (a : Option (List ℕ)) (text : List ℕ) → Moves a a text text
+Moves-none a text = ([], Appends-none a, refl)
+
+pub Moves-all : (a b : Option (List ℕ)) (old new : List ℕ) → Appends a b old → new ≡ [] → Moves a b old new
+Moves-all a b old new h e = (old, h, ap (λ (t : List ℕ). old ++ t) e ∙ append-nil old)
+
+module _ (wall : ChineseWall) (before now : Option (List ℕ)) (text : List ℕ) (whole rest : Script) (run : List Entry) (told : Told wall before now text whole rest run) where
+  -- a front of the text is written
+  pub told-moves : (later : Option (List ℕ)) (new : List ℕ) → Moves now later text new → Told wall before later new whole rest run
+  told-moves later new m = record {
+    legal = told.legal;
+    sent = told.sent ++ m.0;
+    written = Appends-then before now later told.sent m.0 told.written m.1;
+    kept = append_assoc told.sent m.0 new ∙ ap (λ (t : List ℕ). told.sent ++ t) m.2 ∙ told.kept;
+    left = told.left;
+  }
+
+  -- all of the text is written
+  pub told-written : (later : Option (List ℕ)) → Appends now later text → Appends before later (reply_lines wall run)
+  told-written later h = subst (Appends before later) told.kept (Appends-then before now later told.sent text told.written h)
+
+  -- the writer failed
+  pub told-breaks : (later : Option (List ℕ)) → AppendsFront now later text → Stops wall before later whole.calls
+  told-breaks later f = record {
+    run = run;
+    rest = rest.calls;
+    legal = told.legal;
+    first = ap (λ (s : Script). s.calls) told.left;
+    written = (
+      told.sent ++ f.0,
+      f.1,
+      append_assoc told.sent f.0 f.1 ∙ ap (λ (t : List ℕ). told.sent ++ t) f.2 ∙ told.kept,
+      Appends-then before now later told.sent f.0 told.written f.3,
+    );
+  }
+
+  -- all is written, and no more comes
+  pub told-stops : (later : Option (List ℕ)) → Appends now later text → Stops wall before later whole.calls
+  told-stops later h = told-breaks later (text, [], append-nil text, h)
+
+-- the calls of a run, where nothing is left behind them
+pub told-answers : (wall : ChineseWall) (before now later : Option (List ℕ)) (text : List ℕ) (whole : Script) (f : Option (ℕ × LineFault)) (run : List Entry) → Told wall before now text whole (record { calls = []; fault = f }) run
+    → Appends now later text → Answers wall before later whole.calls run × (whole.fault ≡ f)
+told-answers wall before now later text whole f run told h = (
+  record {
+    legal = told.legal;
+    answered = sym (append-nil (calls_in run)) ∙ ap (λ (s : Script). s.calls) told.left;
+    written = told-written wall before now text whole (record { calls = []; fault = f }) run told later h;
+  },
+  sym (ap (λ (s : Script). s.fault) told.left),
+)
+
+module _ {M : Type 0} (stands : M → List Entry → Type 0) (wall : ChineseWall) where
+  pub begins : (machine : M) (before : Option (List ℕ)) (text : List ℕ) (whole : Script) → stands machine [] → text ≡ [] → SoFar stands wall machine before before text whole whole
+  begins machine before text whole h e = record {
+    run = [];
+    told = record { legal = tt; sent = []; written = Appends-none before; kept = e; left = refl };
+    standing = h;
+  }
+
+  -- a line is answered
+  after : (old new : M) (before now : Option (List ℕ)) (text after : List ℕ) (whole rest : Script) (n : ℕ) (said : Result (Option Call) LineFault) (x : Unit {0})
+      → SoFar stands wall old before now text whole (with_line n said rest) → AnswersLine stands wall old new text after said (Ok x) → SoFar stands wall new before now after whole rest
+  after old new before now text later whole rest n (Ok None) x s a = record {
+    run = s.run;
+    told = subst (λ (t : List ℕ). Told wall before now t whole rest s.run) (sym a.1) s.told;
+    standing = subst (λ (m : M). stands m s.run) (sym a.0) s.standing;
+  }
+  after old new before now text later whole rest n (Ok (Some call)) x s a =
+      let c = a.1 s.run s.told.legal s.standing in
+      record {
+        run = entry call a.0 ∷ s.run;
+        told = record {
+          legal = c.0;
+          sent = s.told.sent;
+          written = s.told.written;
+          kept = ap (λ (t : List ℕ). s.told.sent ++ t) a.2 ∙ sym (append_assoc s.told.sent text (reply_line wall a.0)) ∙ ap (λ (t : List ℕ). t ++ reply_line wall a.0) s.told.kept;
+          left = ap (λ (cs : List Call). record { calls = cs; fault = rest.fault }) (append_assoc (calls_in s.run) (call ∷ []) rest.calls) ∙ s.told.left;
+        };
+        standing = c.1;
+      }
+  after old new before now text later whole rest n (Err e) x s a = absurd a
+
+  pub goes_on : (old new : M) (before now later : Option (List ℕ)) (text mid next : List ℕ) (whole : Script) (n : ℕ) (line : List ℕ) (lines rest : List (List ℕ)) (x : Unit {0})
+      → lines ≡ line ∷ rest
+      → SoFar stands wall old before now text whole (script_from wall.dataset_names n lines)
+      → AnswersLine stands wall old new text mid (line_call wall.dataset_names line) (Ok x)
+      → Moves now later mid next
+      → SoFar stands wall new before later next whole (script_from wall.dataset_names (n + 1) rest)
+  unfolding script_from
+  goes_on old new before now later text mid next whole n line lines rest x split s a m =
+      let s' = subst (λ ls. SoFar stands wall old before now text whole (script_from wall.dataset_names n ls)) split s in
+      let r = after old new before now text mid whole (script_from wall.dataset_names (n + 1) rest) n (line_call wall.dataset_names line) x s' a in
+      record {
+        run = r.run;
+        told = told-moves wall before now mid whole (script_from wall.dataset_names (n + 1) rest) r.run r.told later next m;
+        standing = r.standing;
+      }
+
+  -- the writer failed behind a line
+  pub breaks : (old new : M) (before now later : Option (List ℕ)) (text mid : List ℕ) (whole : Script) (n : ℕ) (line : List ℕ) (lines rest : List (List ℕ)) (x : Unit {0})
+      → lines ≡ line ∷ rest
+      → SoFar stands wall old before now text whole (script_from wall.dataset_names n lines)
+      → AnswersLine stands wall old new text mid (line_call wall.dataset_names line) (Ok x)
+      → AppendsFront now later mid
+      → Stops wall before later whole.calls
+  unfolding script_from
+  breaks old new before now later text mid whole n line lines rest x split s a f =
+      let s' = subst (λ ls. SoFar stands wall old before now text whole (script_from wall.dataset_names n ls)) split s in
+      let r = after old new before now text mid whole (script_from wall.dataset_names (n + 1) rest) n (line_call wall.dataset_names line) x s' a in
+      told-breaks wall before now mid whole (script_from wall.dataset_names (n + 1) rest) r.run r.told later f
+
+  -- a line has a fault
+  at_fault : (machine : M) (before now : Option (List ℕ)) (text after : List ℕ) (whole rest : Script) (n : ℕ) (said : Result (Option Call) LineFault) (f : LineFault) (run : List Entry)
+      → Told wall before now text whole (with_line n said rest) run → said ≡ Err f → after ≡ text → Ends {X = Unit {0}} stands wall machine before now after whole (Err (Line n f))
+  at_fault machine before now text later whole rest n said f run told e k =
+      let t = subst (λ (u : List ℕ). Told wall before now u whole (with_line n said rest) run) (sym k) told in
+      (run, subst (λ (r : Result (Option Call) LineFault). Told wall before now later whole (with_line n r rest) run) e t)
+
+  no_memory : (machine : M) (before now : Option (List ℕ)) (text after : List ℕ) (whole rest : Script) (run : List Entry)
+      → Told wall before now text whole rest run → after ≡ text → Ends {X = Unit {0}} stands wall machine before now after whole (Err NoMemory)
+  no_memory machine before now text later whole rest run told k = (rest, run, subst (λ (u : List ℕ). Told wall before now u whole rest run) (sym k) told)
+
+  fails : (old new : M) (before now : Option (List ℕ)) (text after : List ℕ) (whole rest : Script) (n : ℕ) (said : Result (Option Call) LineFault) (f : LineFault) (run : List Entry)
+      → Told wall before now text whole (with_line n said rest) run → FailsLine old new text after said f → Ends {X = Unit {0}} stands wall new before now after whole (Err (line_fault n f))
+  fails old new before now text later whole rest n said faults.NoMemory run t a = no_memory new before now text later whole (with_line n said rest) run t a
+  fails old new before now text later whole rest n said faults.BadVerb run t a = at_fault new before now text later whole rest n said faults.BadVerb run t a.0 a.2
+  fails old new before now text later whole rest n said faults.BadShape run t a = at_fault new before now text later whole rest n said faults.BadShape run t a.0 a.2
+  fails old new before now text later whole rest n said faults.BadField run t a = at_fault new before now text later whole rest n said faults.BadField run t a.0 a.2
+  fails old new before now text later whole rest n said faults.BadKind run t a = at_fault new before now text later whole rest n said faults.BadKind run t a.0 a.2
+  fails old new before now text later whole rest n said faults.BadType run t a = at_fault new before now text later whole rest n said faults.BadType run t a.0 a.2
+  fails old new before now text later whole rest n said faults.UnknownOp run t a = at_fault new before now text later whole rest n said faults.UnknownOp run t a.0 a.2
+  fails old new before now text later whole rest n said faults.BadLabel run t a = at_fault new before now text later whole rest n said faults.BadLabel run t a.0 a.2
+  fails old new before now text later whole rest n said faults.BadNumber run t a = at_fault new before now text later whole rest n said faults.BadNumber run t a.0 a.2
+  fails old new before now text later whole rest n said faults.OddPair run t a = at_fault new before now text later whole rest n said faults.OddPair run t a.0 a.2
+
+  line_fails : (old new : M) (before now : Option (List ℕ)) (text after : List ℕ) (whole rest : Script) (n : ℕ) (said : Result (Option Call) LineFault) (f : LineFault) (run : List Entry)
+      → Told wall before now text whole (with_line n said rest) run → AnswersLine {X = Unit {0}} stands wall old new text after said (Err f) → Ends {X = Unit {0}} stands wall new before now after whole (Err (line_fault n f))
+  line_fails old new before now text later whole rest n (Ok None) f run t a = fails old new before now text later whole rest n (Ok None) f run t a
+  line_fails old new before now text later whole rest n (Ok (Some call)) f run t a = fails old new before now text later whole rest n (Ok (Some call)) f run t a
+  line_fails old new before now text later whole rest n (Err e) f run t a = fails old new before now text later whole rest n (Err e) f run t a
+
+  pub ends : (old new : M) (before now : Option (List ℕ)) (text after : List ℕ) (whole : Script) (n : ℕ) (line : List ℕ) (lines rest : List (List ℕ)) (f : LineFault)
+      → lines ≡ line ∷ rest
+      → SoFar stands wall old before now text whole (script_from wall.dataset_names n lines)
+      → AnswersLine {X = Unit {0}} stands wall old new text after (line_call wall.dataset_names line) (Err f)
+      → Ends {X = Unit {0}} stands wall new before now after whole (Err (line_fault n f))
+  unfolding script_from
+  ends old new before now text later whole n line lines rest f split s a =
+      let s' = subst (λ ls. SoFar stands wall old before now text whole (script_from wall.dataset_names n ls)) split s in
+      line_fails old new before now text later whole (script_from wall.dataset_names (n + 1) rest) n (line_call wall.dataset_names line) f s'.run s'.told a
+
+  pub is_done : (machine : M) (before now : Option (List ℕ)) (text : List ℕ) (whole : Script) (n : ℕ) (lines : List (List ℕ)) (x : Unit {0}) → lines ≡ []
+      → SoFar stands wall machine before now text whole (script_from wall.dataset_names n lines) → Ends stands wall machine before now text whole (Ok x)
+  unfolding script_from
+  is_done machine before now text whole n lines x none s = subst (λ ls. SoFar stands wall machine before now text whole (script_from wall.dataset_names n ls)) none s
+
+  -- ---- the end of the text
+
+  -- the text was written
+  pub written_out : (machine : M) (before now later : Option (List ℕ)) (text : List ℕ) (whole : Script) (r : Result (Unit {0}) ScriptFault) → (r ≡ Err Write → ⊥)
+      → Ends stands wall machine before now text whole r → Appends now later text → Finishes stands wall machine before later whole r
+  written_out machine before now later text whole (Ok x) other e h =
+      let a = told-answers wall before now later text whole None e.run e.told h in (e.run, a.0, e.standing, a.1)
+  written_out machine before now later text whole (Err (Line n f)) other e h =
+      let a = told-answers wall before now later text whole (Some (n, f)) e.0 e.1 h in (e.0, a.0, a.1)
+  written_out machine before now later text whole (Err NoMemory) other e h = told-stops wall before now text whole e.0 e.1 e.2 later h
+  written_out machine before now later text whole (Err Write) other e h = absurd (other refl)
+  written_out machine before now later text whole (Err Read) other e h = absurd e
+
+  -- the writer failed at it
+  pub broken_off : (machine : M) (before now later : Option (List ℕ)) (text : List ℕ) (whole : Script) (r : Result (Unit {0}) ScriptFault) → (r ≡ Err Write → ⊥)
+      → Ends stands wall machine before now text whole r → AppendsFront now later text → Stops wall before later whole.calls
+  broken_off machine before now later text whole (Ok x) other e f = told-breaks wall before now text whole no_more e.run e.told later f
+  broken_off machine before now later text whole (Err (Line n g)) other e f = told-breaks wall before now text whole (fault_at n g) e.0 e.1 later f
+  broken_off machine before now later text whole (Err NoMemory) other e f = told-breaks wall before now text whole e.0 e.1 e.2 later f
+  broken_off machine before now later text whole (Err Write) other e f = absurd (other refl)
+  broken_off machine before now later text whole (Err Read) other e f = absurd e
+
+  pub not_read : (machine : M) (before now : Option (List ℕ)) (text : List ℕ) (whole : Script) (f : ScriptFault) → Ends {X = Unit {0}} stands wall machine before now text whole (Err f) → f ≡ Read → ⊥
+  not_read machine before now text whole Read e k = e
+  not_read machine before now text whole (Line n f) e k = absurd cc
+  not_read machine before now text whole Write e k = absurd cc
+  not_read machine before now text whole NoMemory e k = absurd cc
+
+-- ---- a script that was not begun
+
+some_left : (left : Option (List ℕ)) → (script : List ℕ) × AreLeft left script
+some_left None = ([], tt)
+some_left (Some bytes) = (bytes, refl)
+
+stops_first : (wall : ChineseWall) (w : Option (List ℕ)) (calls : List Call) → Stops wall w w calls
+stops_first wall w calls = record { run = []; rest = calls; legal = tt; first = refl; written = ([], [], refl, Appends-none w) }
+
+pub not_begun : {H : Type 0} (stands : H → List Entry → Type 0) (wall : ChineseWall) (left w : Option (List ℕ)) → Replayed stands wall left w w (Err Read)
+not_begun stands wall left w = let s = some_left left in record { script = s.0; whole = s.1; outcome = refl }
+
+pub short_of_memory : {H : Type 0} (stands : H → List Entry → Type 0) (wall : ChineseWall) (left w : Option (List ℕ)) → Replayed stands wall left w w (Err NoMemory)
+short_of_memory stands wall left w = let s = some_left left in record { script = s.0; whole = s.1; outcome = stops_first wall w (script_of wall.dataset_names s.0).calls }
+
+-- ---- a script that ended with a fault
+
+ended_so : {M : Type 0} (stands : M → List Entry → Type 0) (wall : ChineseWall) (machine : M) (before after : Option (List ℕ)) (script : Script) (fault : ScriptFault)
+    → Finishes {X = Unit {0}} stands wall machine before after script (Err fault) → Replays stands wall before after script (Err fault)
+ended_so stands wall machine before after script (Line n f) h = h
+ended_so stands wall machine before after script Write h = h
+ended_so stands wall machine before after script NoMemory h = h
+ended_so stands wall machine before after script Read h = absurd h
+
+pub ended : {M : Type 0} (stands : M → List Entry → Type 0) (policy wall : ChineseWall) (left before after : Option (List ℕ)) (script bytes : List ℕ) (machine : M) (fault : ScriptFault)
+    → wall ≡ policy → AreLeft left script → bytes ≡ script
+    → Finishes {X = Unit {0}} stands wall machine before after (script_of wall.dataset_names bytes) (Err fault) → Replayed stands policy left before after (Err fault)
+ended {M = M} stands policy wall left before after script bytes machine fault same whole read h =
+    let P : ChineseWall → Type 0 = λ w. Finishes {M = M} {X = Unit {0}} stands w machine before after (script_of w.dataset_names bytes) (Err fault) in
+    let mine : P policy = subst P same h in
+    let Q : List ℕ → Type 0 = λ bs. Finishes {M = M} {X = Unit {0}} stands policy machine before after (script_of policy.dataset_names bs) (Err fault) in
+    let of_script : Q script = subst Q read mine in
+    record { script = script; whole = whole; outcome = ended_so stands policy machine before after (script_of policy.dataset_names script) fault of_script }

@@ -1,0 +1,87 @@
+-- The line of each reply. (Own format.)
+use Rattle.std.specs.Prelude.{ℕ, ℤ, List, [], ◌∷◌, ◌++◌, codes, slice_get, unwrap_or, Option, Some, None}
+use Rattle.std.specs.List.{flat_map}
+use Rattle.std.specs.Fmt.{decimal, signed_decimal}
+use Rattle.wall_labels.specs.declared.label.Label.{Label}
+use Rattle.wall_labels.specs.declared.label.Label.TheVariants.{Public, Of}
+use Rattle.wall_policy.specs.Policy.{ChineseWall}
+use Rattle.hall_core.specs.declared.reply.Block.{Block}
+use Rattle.hall_core.specs.declared.reply.Block.TheVariants.{Missing, Numbers}
+use Rattle.hall_core.specs.declared.reply.Rule.{Rule}
+use Rattle.hall_core.specs.declared.reply.Rule.TheVariants.{Star, Simple}
+use Rattle.hall_core.specs.declared.reply.Refusal.{Refusal}
+use Rattle.hall_core.specs.declared.reply.Refusal.TheVariants.{NoSuchProcess, NoSuchComm, NotMember, NoTopology, BadRoot, BadOp, BadCount, BadColour, NotSubgroup, BadDims, Mismatch, TooManyRequests, NoMemory, NoSuchRequest}
+use Rattle.hall_core.specs.declared.reply.Reply.{Reply}
+use Rattle.hall_core.specs.declared.reply.Reply.TheVariants.{Posted, Barred, Pending, Delivered, NewComm, NullComm, Denied, NoRoom, Info, Refused}
+use Rattle.hall_script.specs.Numbers.{Word}
+
+-- the name of a number
+abbrev pub name_at : List Word → ℕ → Word
+name_at names n = unwrap_or (slice_get names n) []
+
+abbrev pub label_text : ChineseWall → Label → Word
+label_text wall Public = codes "public"
+label_text wall (Of d) = name_at wall.dataset_names d
+
+-- each number behind a space
+abbrev pub spaced_numbers : List ℤ → List ℕ
+spaced_numbers ns = flat_map (λ n. 32 ∷ signed_decimal n) ns
+
+abbrev pub numbers_text : List ℤ → List ℕ
+numbers_text [] = codes "[]"
+numbers_text (n ∷ ns) = codes "[" ++ signed_decimal n ++ spaced_numbers ns ++ codes "]"
+
+abbrev pub block_text : Block → List ℕ
+block_text Missing = codes "-"
+block_text (Numbers ns) = numbers_text ns
+
+-- each block behind a space
+abbrev pub blocks_text : List Block → List ℕ
+blocks_text bs = flat_map (λ b. 32 ∷ block_text b) bs
+
+abbrev pub delivery_text : List Block → List ℕ
+delivery_text [] = codes "delivered none"
+delivery_text (b ∷ bs) = codes "delivered" ++ blocks_text (b ∷ bs)
+
+abbrev pub rule_name : Rule → Word
+rule_name Star = codes "star"
+rule_name Simple = codes "simple"
+
+abbrev pub denial_text : Rule → Word → Word → List ℕ
+denial_text rule process label = codes "denied " ++ rule_name rule ++ codes " " ++ process ++ codes " " ++ label
+
+abbrev pub info_text : ℕ → ℕ → Option ℕ → List ℕ
+info_text size rank None = codes "info size " ++ decimal size ++ codes " rank " ++ decimal rank
+info_text size rank (Some dims) = codes "info size " ++ decimal size ++ codes " rank " ++ decimal rank ++ codes " dims " ++ decimal dims
+
+abbrev pub refusal_name : Refusal → Word
+refusal_name NoSuchProcess = codes "NoSuchProcess"
+refusal_name NoSuchComm = codes "NoSuchComm"
+refusal_name NotMember = codes "NotMember"
+refusal_name NoTopology = codes "NoTopology"
+refusal_name BadRoot = codes "BadRoot"
+refusal_name BadOp = codes "BadOp"
+refusal_name BadCount = codes "BadCount"
+refusal_name BadColour = codes "BadColour"
+refusal_name NotSubgroup = codes "NotSubgroup"
+refusal_name BadDims = codes "BadDims"
+refusal_name Mismatch = codes "Mismatch"
+refusal_name TooManyRequests = codes "TooManyRequests"
+refusal_name NoMemory = codes "NoMemory"
+refusal_name NoSuchRequest = codes "NoSuchRequest"
+
+unfoldable pub reply_text : ChineseWall → Reply → List ℕ
+reply_text wall (Posted request) = codes "posted " ++ decimal request
+reply_text wall (Barred request label) = codes "barred " ++ decimal request ++ codes " " ++ label_text wall label
+reply_text wall Pending = codes "pending"
+reply_text wall (Delivered blocks) = delivery_text blocks
+reply_text wall (NewComm comm rank size) = codes "comm " ++ decimal comm ++ codes " rank " ++ decimal rank ++ codes " size " ++ decimal size
+reply_text wall NullComm = codes "null"
+reply_text wall (Denied rule process label) = denial_text rule (name_at wall.process_names process) (label_text wall label)
+reply_text wall NoRoom = codes "noroom"
+reply_text wall (Info size rank dims) = info_text size rank dims
+reply_text wall (Refused refusal) = codes "refused " ++ refusal_name refusal
+
+-- with the end of the line
+abbrev pub reply_line : ChineseWall → Reply → List ℕ
+reply_line wall reply = reply_text wall reply ++ codes "\n"

@@ -1,0 +1,191 @@
+//! Answers the lines of a script.
+ghost use Rattle.std.specs.Prelude.{◌≡◌, ◌≢◌, ◌+◌, ◌≤◌, [], length, IfOk, IfSome, OnOk, OnErr, Err};
+ghost use Rattle.std.specs.Io.KnownBytes.{Appends};
+ghost use Rattle.wall_labels.specs.Known.{AppendsFront};
+ghost use Rattle.hall_core.specs.Named.{HasKnownLabel};
+ghost use Rattle.hall_script.specs.Reading.{Gives};
+ghost use Rattle.hall_script.specs.Scripts.{trimmed, is_skipped, line_call, script_of};
+ghost use Rattle.hall_script.specs.Answering.{AnswersCall, AnswersLine, line_fault, Ends, Finishes, Moves};
+
+use crate::fault::{LineFault, ScriptFault};
+use crate::line::read_call;
+use crate::machine::Machine;
+use crate::parts::Parts;
+use crate::reply::write_reply;
+use hall_core::{Call, NoMemory};
+use std::alloc::Global;
+use wall_labels::{Failed, Sink, write_all};
+use wall_policy::Policy;
+
+// Replies are written out once their lines have as many bytes.
+const CHUNK: usize = 16384;
+
+fn trim(line: &[u8]) -> &[u8]
+    ensures { result.now ≡ trimmed line.now }
+{
+    match line {
+        [front @ .., b'\r'] => front,
+        _ => line,
+    }
+}
+
+fn is_comment(line: &[u8]) -> bool
+    ensures { result ≡ is_skipped line.now }
+{
+    match line {
+        [] => true,
+        [first, ..] => *first == b'#',
+    }
+}
+
+// The call of a line; none where it is skipped.
+#[tactic(auto, unfolding(crate::specs::Scripts::line_call))]
+fn read_line(alloc: Global, policy: &Policy, line: &[u8]) -> Result<Option<Call>, LineFault>
+    ensures call { Gives result (line_call policy.now.dataset_names line.now) }
+    ensures known { IfOk result (λ said. IfSome said (λ call. HasKnownLabel policy.now call.act)) }
+{
+    let line = trim(line);
+    if is_comment(line) {
+        return Ok(None);
+    }
+    let call = read_call(alloc, policy, line)?;
+    Ok(Some(call))
+}
+
+fn answer_call<M: Machine>(
+    alloc: Global,
+    machine: &mut M,
+    call: Call,
+    text: &mut Vec<u8>,
+) -> Result<(), NoMemory>
+    requires { HasKnownLabel (M.wall machine.old) call.act }
+    ensures wall { M.wall machine.new ≡ M.wall machine.old }
+    ensures answered { OnOk result (AnswersCall M.stands (M.wall machine.old) machine.old machine.new text.old.items text.new.items call) }
+    ensures err { OnErr result (text.new.items ≡ text.old.items) }
+{
+    let reply = machine.apply(call);
+    write_reply(alloc, machine.policy(), &reply, text)
+}
+
+fn answer_line<M: Machine>(
+    alloc: Global,
+    machine: &mut M,
+    line: &[u8],
+    text: &mut Vec<u8>,
+) -> Result<(), LineFault>
+    ensures wall { M.wall machine.new ≡ M.wall machine.old }
+    ensures answered { let wall = M.wall machine.old in
+        AnswersLine M.stands wall machine.old machine.new text.old.items text.new.items (line_call wall.dataset_names line.now) result }
+{
+    match read_line(alloc, machine.policy(), line) {
+        Ok(None) => Ok(()),
+        Ok(Some(call)) => match answer_call(alloc, machine, call, text) {
+            Ok(()) => Ok(()),
+            Err(_) => Err(LineFault::NoMemory),
+        },
+        Err(fault) => Err(fault),
+    }
+}
+
+// The fault of a script for a fault of its line.
+fn fault_of(number: u64, fault: LineFault) -> ScriptFault
+    ensures fault { result ≡ line_fault number fault }
+    ensures not_write { result ≢ ScriptFault.Write }
+    ensures not_read { result ≢ ScriptFault.Read }
+{
+    match fault {
+        LineFault::NoMemory => ScriptFault::NoMemory,
+        _ => ScriptFault::Line(number, fault),
+    }
+}
+
+// Writes the text out.
+fn send<W: Sink>(text: &mut Vec<u8>, sink: &mut W) -> Result<(), Failed>
+    ensures went { OnOk result (W.failures sink.new ≡ W.failures sink.old) }
+    ensures failed { OnErr result (W.failures sink.new ≡ W.failures sink.old + 1) }
+    ensures sent { OnOk result (Appends (W.contents sink.old) (W.contents sink.new) text.old.items) }
+    ensures none { OnOk result (text.new.items ≡ []) }
+    ensures front { OnErr result (AppendsFront (W.contents sink.old) (W.contents sink.new) text.old.items) }
+{
+    write_all(sink, text)?;
+    text.clear();
+    Ok(())
+}
+
+// Writes the text out where it is long.
+fn send_long<W: Sink>(text: &mut Vec<u8>, sink: &mut W) -> Result<(), Failed>
+    ensures went { OnOk result (W.failures sink.new ≡ W.failures sink.old) }
+    ensures failed { OnErr result (W.failures sink.new ≡ W.failures sink.old + 1) }
+    ensures moved { OnOk result (Moves (W.contents sink.old) (W.contents sink.new) text.old.items text.new.items) }
+    ensures front { OnErr result (AppendsFront (W.contents sink.old) (W.contents sink.new) text.old.items) }
+{
+    if text.len() < CHUNK {
+        return Ok(());
+    }
+    send(text, sink)
+}
+
+// Answers the lines of a script, and leaves the end of their replies in the text.
+fn answer_lines<M: Machine, W: Sink>(
+    alloc: Global,
+    machine: &mut M,
+    script: &[u8],
+    text: &mut Vec<u8>,
+    sink: &mut W,
+) -> Result<(), ScriptFault>
+    requires bounded { length script.now ≤ 16777216 }
+    requires begins { M.stands machine.old [] }
+    requires nothing { text.old.items ≡ [] }
+    ensures wall { M.wall machine.new ≡ M.wall machine.old }
+    ensures went { result ≢ Err ScriptFault.Write → W.failures sink.new ≡ W.failures sink.old }
+    ensures failed { result ≡ Err ScriptFault.Write → W.failures sink.new ≡ W.failures sink.old + 1 }
+    ensures ends { let wall = M.wall machine.old in
+        Ends M.stands wall machine.new (W.contents sink.old) (W.contents sink.new) text.new.items (script_of wall.dataset_names script.now) result }
+{
+    let mut lines = Parts::new(script, b'\n');
+    let mut number = 1;
+    while let Some(line) = lines.next() {
+        match answer_line(alloc, machine, line, text) {
+            Ok(()) => {}
+            Err(fault) => return Err(fault_of(number, fault)),
+        }
+        match send_long(text, sink) {
+            Ok(()) => {}
+            Err(_) => return Err(ScriptFault::Write),
+        }
+        number += 1;
+    }
+    Ok(())
+}
+
+/// Answers the lines of a script and writes their replies.
+pub(crate) fn answer_script<M: Machine, W: Sink>(
+    alloc: Global,
+    machine: &mut M,
+    script: &[u8],
+    sink: &mut W,
+) -> Result<(), ScriptFault>
+    requires bounded { length script.now ≤ 16777216 }
+    requires begins { M.stands machine.old [] }
+    ensures wall { M.wall machine.new ≡ M.wall machine.old }
+    ensures went { result ≢ Err ScriptFault.Write → W.failures sink.new ≡ W.failures sink.old }
+    ensures failed { result ≡ Err ScriptFault.Write → W.failures sink.new ≡ W.failures sink.old + 1 }
+    ensures not_read { result ≢ Err ScriptFault.Read }
+    ensures replays { let wall = M.wall machine.old in
+        Finishes M.stands wall machine.new (W.contents sink.old) (W.contents sink.new) (script_of wall.dataset_names script.now) result }
+{
+    let mut text = Vec::new(alloc);
+    match answer_lines(alloc, machine, script, &mut text, sink) {
+        Ok(()) => match send(&mut text, sink) {
+            Ok(()) => Ok(()),
+            Err(_) => Err(ScriptFault::Write),
+        },
+        Err(fault) => match fault {
+            ScriptFault::Write => Err(ScriptFault::Write),
+            _ => match send(&mut text, sink) {
+                Ok(()) => Err(fault),
+                Err(_) => Err(ScriptFault::Write),
+            },
+        },
+    }
+}

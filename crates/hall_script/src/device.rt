@@ -1,0 +1,60 @@
+//! Reads a whole device.
+ghost use Rattle.std.specs.Prelude.{◌≡◌, ◌≤◌, length, IfOk, IfErr, OnOk};
+ghost use Rattle.wall_labels.specs.Known.{AreLeft};
+ghost use Rattle.hall_script.specs.Devices.{IsReadFault};
+
+use std::alloc::{AllocError, Global};
+use thiserror::Error;
+use wall_labels::Source;
+
+/// Why a device was not read to its end.
+#[derive(Clone, Copy, Debug, PartialEq, Eq, Error)]
+pub enum DeviceFault {
+    /// The reader failed, or gave more than the limit.
+    #[error("read fault")]
+    Read,
+    /// Memory ran out.
+    #[error("out of memory")]
+    NoMemory,
+}
+
+impl From<AllocError> for DeviceFault {
+    ghost use Rattle.std.specs.Prelude.{◌≡◌};
+    ghost use Rattle.hall_script.specs.declared.device.DeviceFault.TheVariants.{NoMemory};
+
+    ghost from_gives = { λ _ e. e ≡ NoMemory };
+
+    fn from(_e: AllocError) -> DeviceFault {
+        DeviceFault::NoMemory
+    }
+}
+
+/// Reads a device to its end, if that comes within `limit` bytes.
+///
+/// Each read but the last gives a byte at least, so there are at most `limit` and one of them.
+pub fn read_device<R: Source>(
+    alloc: Global,
+    source: &mut R,
+    limit: usize,
+) -> Result<Vec<u8>, DeviceFault>
+    ensures went { OnOk result (R.failures source.new ≡ R.failures source.old) }
+    ensures whole { IfOk result (λ bytes. AreLeft (R.remaining source.old) bytes.items) }
+    ensures within { IfOk result (λ bytes. length bytes.items ≤ limit) }
+    ensures fault { IfErr result (λ fault. IsReadFault fault limit (R.failures source.old) (R.failures source.new) (R.remaining source.old)) }
+{
+    let mut bytes = Vec::new(alloc);
+    let mut buffer = [0u8; 1024];
+    loop {
+        let n = match source.read(&mut buffer) {
+            Ok(n) => n,
+            Err(_) => return Err(DeviceFault::Read),
+        };
+        if n == 0 {
+            return Ok(bytes);
+        }
+        if n > limit - bytes.len() {
+            return Err(DeviceFault::Read);
+        }
+        bytes.extend_from_slice(&buffer[..n])?;
+    }
+}

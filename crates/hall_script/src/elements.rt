@@ -1,0 +1,94 @@
+//! Reads the elements of a post straight into their buffer.
+ghost use Rattle.std.specs.Prelude.{◌≡◌, ◌≤◌, ◌<◌, ◌+◌, ◌*◌, [], length, IfOk, OnOk, IfErr};
+ghost use Rattle.mpi_elems.specs.Types.{numbers_per_element};
+ghost use Rattle.mpi_elems.specs.Contents.{contents};
+ghost use Rattle.hall_script.specs.Reading.{Gives, Leaves};
+ghost use Rattle.hall_script.specs.Lines.{buffer_of, values_of};
+ghost use Rattle.hall_script.specs.Filling.{room_for, with_word, with_words};
+
+use crate::fault::LineFault;
+use crate::numbers::signed;
+use crate::parts::Parts;
+use mpi_elems::{Buffer, BufferBuilder, ElemType};
+use std::alloc::Global;
+
+// How many elements so many numbers are, the last pair maybe without its index.
+fn room(elem_type: ElemType, numbers: usize) -> usize
+    ensures room { result ≡ room_for elem_type numbers }
+    ensures enough { numbers ≤ numbers_per_element elem_type * result }
+{
+    if elem_type.is_pair() {
+        numbers / 2 + numbers % 2
+    } else {
+        numbers
+    }
+}
+
+// A builder with room for so many numbers.
+fn builder(alloc: Global, elem_type: ElemType, numbers: usize) -> Result<BufferBuilder, LineFault>
+    ensures made { IfOk result (λ b. b ≡ contents elem_type [] (room_for elem_type numbers)) }
+    ensures enough { IfOk result (λ b. numbers ≤ numbers_per_element elem_type * b.room) }
+    ensures memory { IfErr result (λ fault. fault ≡ LineFault.NoMemory) }
+{
+    match BufferBuilder::with_room(alloc, elem_type, room(elem_type, numbers)) {
+        Ok(builder) => Ok(builder),
+        Err(_) => Err(LineFault::NoMemory),
+    }
+}
+
+// Reads an element's number.
+fn push_value(builder: &mut BufferBuilder, word: &[u8]) -> Result<(), LineFault>
+    requires { length builder.old.numbers < numbers_per_element builder.old.elem_type * builder.old.room }
+    ensures { Leaves result builder.new (with_word builder.old word.now) }
+{
+    if word.is_empty() {
+        return Err(LineFault::BadShape);
+    }
+    match signed(word, u64::MAX, u64::MAX) {
+        None => Err(LineFault::BadNumber),
+        Some(n) => match builder.push_number(n) {
+            Ok(()) => Ok(()),
+            Err(_) => Err(LineFault::BadNumber),
+        },
+    }
+}
+
+// Reads the numbers to the end of the line.
+fn fill(builder: &mut BufferBuilder, words: &mut Parts) -> Result<(), LineFault>
+    requires { length builder.old.numbers + length words.old ≤ numbers_per_element builder.old.elem_type * builder.old.room }
+    ensures filled { Leaves result builder.new (with_words builder.old words.old) }
+    ensures kind { OnOk result (builder.new.elem_type ≡ builder.old.elem_type) }
+    ensures room { OnOk result (builder.new.room ≡ builder.old.room) }
+    ensures count { OnOk result (length builder.new.numbers ≡ length builder.old.numbers + length words.old) }
+{
+    while let Some(word) = words.next() {
+        push_value(builder, word)?;
+    }
+    Ok(())
+}
+
+// The buffer of what was read.
+#[tactic(auto, unfolding(crate::specs::Lines::buffer_of))]
+fn finish(builder: BufferBuilder) -> Result<Buffer, LineFault>
+    requires { builder.room ≡ room_for builder.elem_type (length builder.numbers) }
+    ensures { Gives result (buffer_of builder.elem_type builder.numbers) }
+{
+    match builder.finish() {
+        Ok(buffer) => Ok(buffer),
+        Err(_) => Err(LineFault::OddPair),
+    }
+}
+
+/// Reads the elements to the end of the line.
+#[tactic(auto, unfolding(crate::specs::Lines::values_of))]
+pub(crate) fn values(
+    alloc: Global,
+    elem_type: ElemType,
+    words: &mut Parts,
+) -> Result<Buffer, LineFault>
+    ensures { Gives result (values_of elem_type words.old) }
+{
+    let mut builder = builder(alloc, elem_type, words.count())?;
+    fill(&mut builder, words)?;
+    finish(builder)
+}
