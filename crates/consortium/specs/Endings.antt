@@ -1,0 +1,60 @@
+-- How the program ends: the status and the line on standard error. (Own format.)
+use Rattle.std.specs.Prelude.{◌≡◌, ℕ, ◌+◌, ◌⊎◌, List, [], ◌++◌, codes, Option}
+use Rattle.std.specs.Fmt.{decimal}
+use Rattle.std.specs.Io.KnownBytes.{Appends}
+use Rattle.wall_labels.specs.Known.{AppendsFront}
+use Rattle.wall_policy.specs.declared.fault.PolicyFault.{PolicyFault}
+use Rattle.wall_policy.specs.declared.fault.PolicyFault.TheVariants as policies
+use Rattle.hall_script.specs.declared.fault.LineFault.{LineFault}
+use Rattle.hall_script.specs.declared.fault.LineFault.TheVariants as lines
+use Rattle.consortium.specs.declared.ending.Ending.{Ending}
+use Rattle.consortium.specs.declared.ending.Ending.TheVariants.{Done, BadPolicy, BadLine, ReadFault, WriteFault, NoMemory, BadArguments}
+
+abbrev pub status_of : Ending → ℕ
+status_of Done = 0
+status_of (BadPolicy fault) = 1
+status_of (BadLine n fault) = 2
+status_of ReadFault = 3
+status_of WriteFault = 3
+status_of NoMemory = 4
+status_of BadArguments = 5
+
+-- a fault's name, and the end of the line
+abbrev pub policy_fault_text : PolicyFault → List ℕ
+policy_fault_text policies.NotToml = codes "NotToml\n"
+policy_fault_text policies.BadVersion = codes "BadVersion\n"
+policy_fault_text policies.MissingKey = codes "MissingKey\n"
+policy_fault_text policies.UnknownKey = codes "UnknownKey\n"
+policy_fault_text policies.BadName = codes "BadName\n"
+policy_fault_text policies.DuplicateName = codes "DuplicateName\n"
+policy_fault_text policies.UnknownDataset = codes "UnknownDataset\n"
+policy_fault_text policies.BadOp = codes "BadOp\n"
+policy_fault_text policies.BadLeast = codes "BadLeast\n"
+policy_fault_text policies.TooMany = codes "TooMany\n"
+policy_fault_text policies.NoMemory = codes "NoMemory\n"
+
+abbrev pub line_fault_text : LineFault → List ℕ
+line_fault_text lines.BadVerb = codes "BadVerb\n"
+line_fault_text lines.BadShape = codes "BadShape\n"
+line_fault_text lines.BadField = codes "BadField\n"
+line_fault_text lines.BadKind = codes "BadKind\n"
+line_fault_text lines.BadType = codes "BadType\n"
+line_fault_text lines.UnknownOp = codes "UnknownOp\n"
+line_fault_text lines.BadLabel = codes "BadLabel\n"
+line_fault_text lines.BadNumber = codes "BadNumber\n"
+line_fault_text lines.OddPair = codes "OddPair\n"
+line_fault_text lines.NoMemory = codes "NoMemory\n"
+
+-- the line on standard error, none where all was done
+abbrev pub error_line : Ending → List ℕ
+error_line Done = []
+error_line (BadPolicy fault) = codes "policy: " ++ policy_fault_text fault
+error_line (BadLine n fault) = (codes "script: line " ++ decimal n) ++ (codes ": " ++ line_fault_text fault)
+error_line ReadFault = codes "read fault\n"
+error_line WriteFault = codes "write fault\n"
+error_line NoMemory = codes "out of memory\n"
+error_line BadArguments = codes "bad arguments\n"
+
+-- the bytes were written, or the writer failed behind a front of them
+abbrev pub IsTold : (old new : ℕ) → (before after : Option (List ℕ)) → List ℕ → Type 0
+IsTold old new before after bytes = ((new ≡ old) × Appends before after bytes) ⊎ ((new ≡ old + 1) × AppendsFront before after bytes)

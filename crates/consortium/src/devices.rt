@@ -1,0 +1,118 @@
+//! Devices over std's files and streams, with a count of failures that takes no bytes.
+ghost use Rattle.std.specs.Prelude.{◌≡◌, ◌+◌, ◌<◌, ◌≤◌, length, IfOk};
+
+use std::fs::File;
+use std::io;
+use std::io::{Read, Write};
+use std::marker::Model;
+use std::rt::Files;
+use std::sync::ledger::{Blank, Book, Ledger, Share};
+use wall_labels::{Failed, Sink, Source};
+
+/// A count that only `rise` changes. It takes no bytes.
+#[derive(Drop)]
+pub struct Count<L: Ledger> {
+    book: Book<L>,
+    share: Share<L>,
+}
+
+impl<L: Ledger> Model for Count<L> {
+    ghost use Rattle.std.specs.Prelude.{ℕ, ◌<◌};
+
+    ghost Value = { ℕ };
+
+    ghost view = { λ s. s.book.total };
+
+    ghost invariant = { λ s. 0 < s.share.parts };
+}
+
+impl<L: Ledger> Count<L> {
+    /// A count of none, kept in this ledger.
+    pub fn new(blank: Blank) -> Count<L>
+        requires name { blank.name ≡ L.name }
+        requires parts { blank.parts ≡ L.parts }
+        requires some { 0 < blank.parts }
+        ensures { result ≡ 0 }
+    {
+        let (book, share) = blank.open::<L>();
+        Count { book, share }
+    }
+
+    /// One more.
+    pub fn rise(&mut self)
+        ensures { self.new ≡ self.old + 1 }
+    {
+        self.book.add(&mut self.share, 1);
+    }
+}
+
+/// A file that is opened at its first read.
+#[derive(Drop)]
+pub struct FileSource<'a, R: Files, L: Ledger> {
+    pub rt: &'a R,
+    pub path: &'a str,
+    pub file: Option<R::File>,
+    pub failures: Count<L>,
+}
+
+// Reads from a file that was opened, or opens it first.
+fn read_opened<R: Files>(
+    rt: &R,
+    path: &str,
+    file: &mut Option<R::File>,
+    buffer: &mut [u8],
+) -> io::Result<usize>
+    ensures { IfOk result (λ n. n ≤ length buffer.new) }
+{
+    if file.is_none() {
+        *file = Some(File::open(rt, path)?);
+    }
+    match file {
+        Some(opened) => opened.read(buffer),
+        None => Ok(0),
+    }
+}
+
+impl<'a, R: Files, L: Ledger> Source for FileSource<'a, R, L> {
+    ghost failures = { λ s. s.failures };
+
+    fn read(&mut self, buffer: &mut [u8]) -> Result<usize, Failed> {
+        match read_opened(self.rt, self.path, &mut self.file, buffer) {
+            Ok(n) => Ok(n),
+            Err(_) => {
+                self.failures.rise();
+                Err(Failed)
+            }
+        }
+    }
+}
+
+/// A stream of std's.
+#[derive(Drop)]
+pub struct StreamSink<W: io::Write + Drop, L: Ledger> {
+    pub stream: W,
+    pub failures: Count<L>,
+}
+
+impl<W: io::Write + Drop, L: Ledger> Sink for StreamSink<W, L> {
+    ghost failures = { λ s. s.failures };
+
+    fn write(&mut self, bytes: &[u8]) -> Result<usize, Failed> {
+        if bytes.is_empty() {
+            return Ok(0);
+        }
+        match self.stream.write(bytes) {
+            Ok(n) => {
+                if n == 0 {
+                    self.failures.rise();
+                    return Err(Failed);
+                }
+                Ok(n)
+            }
+            Err(_) => {
+                self.failures.rise();
+                Err(Failed)
+            }
+        }
+    }
+}

@@ -1,0 +1,141 @@
+//! How the program ends: its status, and its line on standard error. (Own format.)
+ghost use Rattle.std.specs.Prelude.{◌≡◌, ◌+◌, ◌++◌, OnOk, OnErr, decimal};
+ghost use Rattle.std.specs.Io.KnownBytes.{Appends};
+ghost use Rattle.wall_labels.specs.Known.{AppendsFront};
+ghost use Rattle.consortium.specs.Endings.{status_of, error_line, policy_fault_text, line_fault_text, IsTold};
+
+use hall_script::LineFault;
+use wall_labels::{Failed, Sink, write_all};
+use wall_policy::PolicyFault;
+
+/// How the program ends.
+#[derive(Clone, Copy, Debug, PartialEq, Eq)]
+pub enum Ending {
+    /// All was done.
+    Done,
+    /// The policy file is refused.
+    BadPolicy(PolicyFault),
+    /// The line of the script of this number, from 1, is no call.
+    BadLine(u64, LineFault),
+    /// A reader failed, or a file is too long.
+    ReadFault,
+    /// The writer failed.
+    WriteFault,
+    /// Memory ran out.
+    NoMemory,
+    /// The words of the command line ask for nothing that the program does.
+    BadArguments,
+}
+
+fn status(ending: Ending) -> u8
+    ensures { result ≡ status_of ending }
+{
+    match ending {
+        Ending::Done => 0,
+        Ending::BadPolicy(_) => 1,
+        Ending::BadLine(..) => 2,
+        Ending::ReadFault | Ending::WriteFault => 3,
+        Ending::NoMemory => 4,
+        Ending::BadArguments => 5,
+    }
+}
+
+// The fault's name, and the end of the line.
+fn policy_fault(fault: PolicyFault) -> &'static str
+    ensures { result.now ≡ policy_fault_text fault }
+{
+    match fault {
+        PolicyFault::NotToml => "NotToml\n",
+        PolicyFault::BadVersion => "BadVersion\n",
+        PolicyFault::MissingKey => "MissingKey\n",
+        PolicyFault::UnknownKey => "UnknownKey\n",
+        PolicyFault::BadName => "BadName\n",
+        PolicyFault::DuplicateName => "DuplicateName\n",
+        PolicyFault::UnknownDataset => "UnknownDataset\n",
+        PolicyFault::BadOp => "BadOp\n",
+        PolicyFault::BadLeast => "BadLeast\n",
+        PolicyFault::TooMany => "TooMany\n",
+        PolicyFault::NoMemory => "NoMemory\n",
+    }
+}
+
+// The fault's name, and the end of the line.
+fn line_fault(fault: LineFault) -> &'static str
+    ensures { result.now ≡ line_fault_text fault }
+{
+    match fault {
+        LineFault::BadVerb => "BadVerb\n",
+        LineFault::BadShape => "BadShape\n",
+        LineFault::BadField => "BadField\n",
+        LineFault::BadKind => "BadKind\n",
+        LineFault::BadType => "BadType\n",
+        LineFault::UnknownOp => "UnknownOp\n",
+        LineFault::BadLabel => "BadLabel\n",
+        LineFault::BadNumber => "BadNumber\n",
+        LineFault::OddPair => "OddPair\n",
+        LineFault::NoMemory => "NoMemory\n",
+    }
+}
+
+// Writes one after the other.
+fn write_two<W: Sink>(sink: &mut W, first: &[u8], second: &[u8]) -> Result<(), Failed>
+    ensures went { OnOk result (W.failures sink.new ≡ W.failures sink.old) }
+    ensures failed { OnErr result (W.failures sink.new ≡ W.failures sink.old + 1) }
+    ensures written { OnOk result (Appends (W.contents sink.old) (W.contents sink.new) (first.now ++ second.now)) }
+    ensures front { OnErr result (AppendsFront (W.contents sink.old) (W.contents sink.new) (first.now ++ second.now)) }
+{
+    match write_all(sink, first) {
+        Ok(()) => match write_all(sink, second) {
+            Ok(()) => Ok(()),
+            Err(_) => Err(Failed),
+        },
+        Err(_) => Err(Failed),
+    }
+}
+
+// Writes `script: line N: NAME`.
+fn write_bad_line<W: Sink>(sink: &mut W, number: u64, fault: LineFault) -> Result<(), Failed>
+    ensures went { OnOk result (W.failures sink.new ≡ W.failures sink.old) }
+    ensures failed { OnErr result (W.failures sink.new ≡ W.failures sink.old + 1) }
+    ensures written { OnOk result (Appends (W.contents sink.old) (W.contents sink.new) (error_line (Ending.BadLine number fault))) }
+    ensures front { OnErr result (AppendsFront (W.contents sink.old) (W.contents sink.new) (error_line (Ending.BadLine number fault))) }
+{
+    let mut buffer = itoa::Buffer::new();
+    let digits = buffer.format(number);
+    match write_two(sink, b"script: line ", digits.as_bytes()) {
+        Ok(()) => match write_two(sink, b": ", line_fault(fault).as_bytes()) {
+            Ok(()) => Ok(()),
+            Err(_) => Err(Failed),
+        },
+        Err(_) => Err(Failed),
+    }
+}
+
+// Writes the ending's line, if it has one.
+fn write_ending<W: Sink>(sink: &mut W, ending: Ending) -> Result<(), Failed>
+    ensures went { OnOk result (W.failures sink.new ≡ W.failures sink.old) }
+    ensures failed { OnErr result (W.failures sink.new ≡ W.failures sink.old + 1) }
+    ensures written { OnOk result (Appends (W.contents sink.old) (W.contents sink.new) (error_line ending)) }
+    ensures front { OnErr result (AppendsFront (W.contents sink.old) (W.contents sink.new) (error_line ending)) }
+{
+    match ending {
+        Ending::Done => Ok(()),
+        Ending::BadPolicy(fault) => { write_two(sink, b"policy: ", policy_fault(fault).as_bytes()) }
+        Ending::BadLine(number, fault) => write_bad_line(sink, number, fault),
+        Ending::ReadFault => write_all(sink, b"read fault\n"),
+        Ending::WriteFault => write_all(sink, b"write fault\n"),
+        Ending::NoMemory => write_all(sink, b"out of memory\n"),
+        Ending::BadArguments => write_all(sink, b"bad arguments\n"),
+    }
+}
+
+/// Writes the ending's line, if it has one, and gives the status. A writer that fails changes nothing of that.
+pub fn end<W: Sink>(err: &mut W, ending: Ending) -> u8
+    ensures status { result ≡ status_of ending }
+    ensures told { IsTold (W.failures err.old) (W.failures err.new) (W.contents err.old) (W.contents err.new) (error_line ending) }
+{
+    match write_ending(err, ending) {
+        Ok(()) => status(ending),
+        Err(_) => status(ending),
+    }
+}

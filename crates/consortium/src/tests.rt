@@ -1,0 +1,430 @@
+use super::*;
+use hall_script::LineFault;
+use std::alloc::AllocError;
+use std::process::Abort;
+use std::test::Fail;
+use wall_labels::memory::{ExpectingSink, Fuse, MemorySource};
+use wall_policy::PolicyFault;
+
+// Two banks and two oil firms; the fourth process has no home.
+const WALL: &str = "version = 1
+[[class]]
+name = \"banks\"
+datasets = [\"alpha\", \"beta\"]
+[[class]]
+name = \"oil\"
+datasets = [\"crude\", \"delta\"]
+[[process]]
+name = \"a0\"
+home = \"alpha\"
+[[process]]
+name = \"b0\"
+home = \"beta\"
+[[process]]
+name = \"c0\"
+home = \"crude\"
+[[process]]
+name = \"n0\"
+[[sanitise]]
+op = \"sum\"
+least = 3
+";
+
+// Four processes of one bank.
+const BANK: &str = "version = 1
+[[class]]
+name = \"banks\"
+datasets = [\"alpha\", \"beta\"]
+[[process]]
+name = \"p0\"
+home = \"alpha\"
+[[process]]
+name = \"p1\"
+home = \"alpha\"
+[[process]]
+name = \"p2\"
+home = \"alpha\"
+[[process]]
+name = \"p3\"
+home = \"alpha\"
+";
+
+fn source<'a>(rest: &'a [u8], fuse: Fuse) -> MemorySource<'a> {
+    MemorySource { rest, fuse }
+}
+
+fn sink<'a>(rest: &'a [u8], fuse: Fuse) -> ExpectingSink<'a> {
+    ExpectingSink {
+        rest,
+        is_same: true,
+        fuse,
+    }
+}
+
+// The status of a replay that keeps no book.
+fn status_of(
+    rt: &impl AllocGlobal,
+    policy: &mut MemorySource,
+    script: &mut MemorySource,
+    out: &mut ExpectingSink,
+    err: &mut ExpectingSink,
+) -> u8 {
+    let book: Option<&mut ExpectingSink> = None;
+    replay_on(rt.alloc(), policy, script, out, err, book)
+}
+
+// Whether replaying the script writes these replies and this line on standard error, with this status.
+fn ends_so(
+    rt: &impl AllocGlobal,
+    policy: &str,
+    script: &[u8],
+    replies: &str,
+    line: &str,
+    status: u8,
+) -> bool {
+    let mut policy = source(policy.as_bytes(), Fuse::Whole);
+    let mut script = source(script, Fuse::Whole);
+    let mut out = sink(replies.as_bytes(), Fuse::Whole);
+    let mut err = sink(line.as_bytes(), Fuse::Whole);
+    let given = status_of(rt, &mut policy, &mut script, &mut out, &mut err);
+    let is_all = out.rest.is_empty() && err.rest.is_empty();
+    given == status && is_all && out.is_same && err.is_same
+}
+
+#[test]
+fn broadcasts_are_answered(rt: HostRuntime) {
+    // a0's numbers would reach its rival b0
+    assert!(&rt;
+        ends_so(
+            &rt,
+            WALL,
+            b"post 0 0 bcast 0 int32 2 as alpha 7 -1
+post 1 0 bcast 0 int32 2
+post 2 0 bcast 0 int32 2
+take 0 0
+post 3 0 bcast 0 int32 2
+take 0 0
+take 1 0
+take 2 0
+take 3 0
+",
+            "posted 0
+posted 0
+posted 0
+pending
+posted 0
+denied simple b0 alpha
+denied simple b0 alpha
+denied simple b0 alpha
+denied simple b0 alpha
+",
+            "",
+            0,
+        )
+    );
+    // c0 writes what it may not
+    assert!(&rt;
+        ends_so(
+            &rt,
+            WALL,
+            b"post 2 0 bcast 2 int32 1 as alpha 4
+post 0 0 bcast 2 int32 1
+post 1 0 bcast 2 int32 1
+post 3 0 bcast 2 int32 1
+take 0 0
+take 1 0
+take 2 0
+take 3 0
+",
+            "barred 0 alpha
+posted 0
+posted 0
+posted 0
+denied star c0 alpha
+denied star c0 alpha
+denied star c0 alpha
+denied star c0 alpha
+",
+            "",
+            0,
+        )
+    );
+    // every refusal that can arise so far
+    assert!(&rt;
+        ends_so(
+            &rt,
+            BANK,
+            b"post 0 0 bcast 0 int32 1 as alpha 5
+post 1 0 bcast 0 int32 2
+post 1 0 bcast 4 int32 1
+post 1 0 bcast 0 int32 1 as alpha 5
+post 1 0 bcast 0 int32 65537
+post 1 1 bcast 0 int32 1
+post 9 0 bcast 0 int32 1
+take 0 1
+",
+            "posted 0
+refused Mismatch
+refused BadRoot
+refused BadCount
+refused BadCount
+refused NoSuchComm
+refused NoSuchProcess
+refused NoSuchRequest
+",
+            "",
+            0,
+        )
+    );
+    // one bank alone: all get the numbers
+    assert!(&rt;
+        ends_so(
+            &rt,
+            BANK,
+            b"post 3 0 bcast 1 int32 2
+post 1 0 bcast 1 int32 2 as alpha 7 -2147483648
+post 2 0 bcast 1 int32 2
+post 0 0 bcast 1 int32 2
+take 1 0
+take 0 0
+take 0 0
+",
+            "posted 0
+posted 0
+posted 0
+posted 0
+delivered none
+delivered [7 -2147483648]
+refused NoSuchRequest
+",
+            "",
+            0,
+        )
+    );
+}
+
+#[test]
+fn lines_are_cut_at_their_ends(rt: HostRuntime) {
+    let mixed = b"# a comment\r\ntake 0 0\r\n\n\r\n#\xff\ntake 1 0";
+    assert!(&rt;
+        ends_so(
+            &rt,
+            WALL,
+            mixed,
+            "refused NoSuchRequest\nrefused NoSuchRequest\n",
+            "",
+            0
+        )
+    );
+    assert!(&rt; ends_so(&rt, WALL, b"", "", "", 0));
+    let rows = [
+        ("info 0 0", "script: line 1: BadVerb\n"),
+        ("post 0 0 barrier", "script: line 1: BadKind\n"),
+        ("post 0 0 bcast 0 int8 1", "script: line 1: BadType\n"),
+        ("\n\n#\ntake 0", "script: line 4: BadShape\n"),
+        ("\n\r\r\n", "script: line 2: BadShape\n"),
+    ];
+    for (script, line) in rows {
+        assert!(&rt;
+            ends_so(&rt, WALL, script.as_bytes(), "", line, 2),
+            "{script}"
+        );
+    }
+    let late = "take 0 0\ntake x 0\ntake 0 0\n";
+    assert!(&rt;
+        ends_so(
+            &rt,
+            WALL,
+            late.as_bytes(),
+            "refused NoSuchRequest\n",
+            "script: line 2: BadField\n",
+            2
+        )
+    );
+}
+
+#[test]
+fn policies_are_judged_before_scripts(rt: HostRuntime) {
+    let rows = [
+        ("version = ", "policy: NotToml\n"),
+        ("", "policy: BadVersion\n"),
+        ("version = 1", "policy: MissingKey\n"),
+    ];
+    for (policy, line) in rows {
+        assert!(&rt; ends_so(&rt, policy, b"pst", "", line, 1), "{line}");
+    }
+}
+
+#[test]
+fn endings_have_their_status_and_line(rt: HostRuntime) {
+    let rows = [
+        (Ending::Done, 0, ""),
+        (
+            Ending::BadPolicy(PolicyFault::NotToml),
+            1,
+            "policy: NotToml\n",
+        ),
+        (
+            Ending::BadPolicy(PolicyFault::BadVersion),
+            1,
+            "policy: BadVersion\n",
+        ),
+        (
+            Ending::BadPolicy(PolicyFault::MissingKey),
+            1,
+            "policy: MissingKey\n",
+        ),
+        (
+            Ending::BadPolicy(PolicyFault::UnknownKey),
+            1,
+            "policy: UnknownKey\n",
+        ),
+        (
+            Ending::BadPolicy(PolicyFault::BadName),
+            1,
+            "policy: BadName\n",
+        ),
+        (
+            Ending::BadPolicy(PolicyFault::DuplicateName),
+            1,
+            "policy: DuplicateName\n",
+        ),
+        (
+            Ending::BadPolicy(PolicyFault::UnknownDataset),
+            1,
+            "policy: UnknownDataset\n",
+        ),
+        (Ending::BadPolicy(PolicyFault::BadOp), 1, "policy: BadOp\n"),
+        (
+            Ending::BadPolicy(PolicyFault::BadLeast),
+            1,
+            "policy: BadLeast\n",
+        ),
+        (
+            Ending::BadPolicy(PolicyFault::TooMany),
+            1,
+            "policy: TooMany\n",
+        ),
+        (
+            Ending::BadLine(1, LineFault::UnknownOp),
+            2,
+            "script: line 1: UnknownOp\n",
+        ),
+        (
+            Ending::BadLine(16777217, LineFault::BadLabel),
+            2,
+            "script: line 16777217: BadLabel\n",
+        ),
+        (
+            Ending::BadLine(10, LineFault::BadNumber),
+            2,
+            "script: line 10: BadNumber\n",
+        ),
+        (
+            Ending::BadLine(9, LineFault::OddPair),
+            2,
+            "script: line 9: OddPair\n",
+        ),
+        (Ending::ReadFault, 3, "read fault\n"),
+        (Ending::WriteFault, 3, "write fault\n"),
+        (Ending::NoMemory, 4, "out of memory\n"),
+        (Ending::BadArguments, 5, "bad arguments\n"),
+    ];
+    for (ending, status, line) in rows {
+        let mut err = sink(line.as_bytes(), Fuse::Whole);
+        assert_eq!(&rt; end(&mut err, ending), status, "{line}");
+        assert!(&rt; err.is_same && err.rest.is_empty(), "{line}");
+        let mut broken = sink(line.as_bytes(), Fuse::After(0));
+        assert_eq!(&rt; end(&mut broken, ending), status, "{line}");
+    }
+}
+
+// So many lines of a script, and their replies.
+fn repeated(rt: &impl AllocGlobal, line: &str, count: u64) -> Result<String, AllocError> {
+    let mut text = String::new(rt.alloc());
+    for _ in 0..count {
+        text.push_str(line)?;
+    }
+    Ok(text)
+}
+
+#[test]
+fn readers_fail_at_each_read(rt: HostRuntime) -> Result<(), Fail> {
+    let script = repeated(&rt, "take 0 0\n", 400)?;
+    let mut reads: u64 = 0;
+    for k in 0..100u64 {
+        let mut policy = source(WALL.as_bytes(), Fuse::Whole);
+        let mut given = source(script.as_bytes(), Fuse::After(k));
+        let mut out = sink(b"", Fuse::Whole);
+        let mut err = sink(b"read fault\n", Fuse::Whole);
+        if status_of(&rt, &mut policy, &mut given, &mut out, &mut err) != 3 {
+            break;
+        }
+        assert!(&rt; out.is_same && err.is_same && err.rest.is_empty());
+        reads = k;
+    }
+    assert!(&rt; 0 < reads && reads < 99);
+    for k in 0..2u64 {
+        let mut policy = source(WALL.as_bytes(), Fuse::After(k));
+        let mut given = source(b"take 0 0", Fuse::Whole);
+        let mut out = sink(b"", Fuse::Whole);
+        let mut err = sink(b"read fault\n", Fuse::Whole);
+        assert_eq!(&rt;
+            status_of(&rt, &mut policy, &mut given, &mut out, &mut err),
+            3
+        );
+        assert!(&rt; out.is_same && err.is_same && err.rest.is_empty());
+        assert_eq!(&rt; given.rest.len(), 8);
+    }
+    Ok(())
+}
+
+#[test]
+fn writers_fail_at_each_write(rt: HostRuntime) -> Result<(), Fail> {
+    let script = repeated(&rt, "take 0 0\n", 3000)?;
+    let replies = repeated(&rt, "refused NoSuchRequest\n", 3000)?;
+    let mut writes: u64 = 0;
+    for k in 0..100u64 {
+        let mut policy = source(WALL.as_bytes(), Fuse::Whole);
+        let mut given = source(script.as_bytes(), Fuse::Whole);
+        let mut out = sink(replies.as_bytes(), Fuse::After(k));
+        let mut err = sink(b"write fault\n", Fuse::Whole);
+        if status_of(&rt, &mut policy, &mut given, &mut out, &mut err) != 3 {
+            assert!(&rt; out.is_same && out.rest.is_empty());
+            break;
+        }
+        assert!(&rt; out.is_same && err.is_same && err.rest.is_empty());
+        writes = k;
+    }
+    assert!(&rt; 0 < writes && writes < 99);
+    Ok(())
+}
+
+// Whether the words are bad arguments.
+fn is_bad(rt: &impl AllocGlobal, words: &[&str]) -> bool {
+    match read_words(rt.alloc(), words) {
+        Ok(_) => false,
+        Err(fault) => fault == ArgFault::BadArguments,
+    }
+}
+
+#[test]
+fn words_ask_for_a_replay(rt: HostRuntime) {
+    let words = ["replay", "w", "s"];
+    match read_words(rt.alloc(), words.as_slice()) {
+        Ok(command) => {
+            let Command::Replay(paths) = command;
+            assert!(&rt; paths.policy == "w" && paths.script == "s" && paths.book.is_none());
+        }
+        Err(_) => assert!(&rt; false),
+    }
+    assert!(&rt; is_bad(&rt, [].as_slice()));
+    assert!(&rt; is_bad(&rt, ["replay", "w"].as_slice()));
+    assert!(&rt; is_bad(&rt, ["replay", "w", "s", "t"].as_slice()));
+    assert!(&rt; is_bad(&rt, ["replay", "w", "s", "--book", "b"].as_slice()));
+    assert!(&rt; is_bad(&rt, ["run", "w", "s"].as_slice()));
+    assert!(&rt; is_bad(&rt, ["audit", "w", "s"].as_slice()));
+    assert!(&rt; is_bad(&rt, ["--help"].as_slice()));
+    assert!(&rt; is_bad(&rt, ["help"].as_slice()));
+    assert!(&rt; is_bad(&rt, ["replay", "--help"].as_slice()));
+}
