@@ -1,5 +1,5 @@
 -- A piece covers what goes.
-use Rattle.std.proofs.Common.{◌≡◌, ℕ, ◌+◌, ◌*◌, ◌<◌, ◌≤◌, List, [], ◌∷◌, length, take, replicate, sum, get_or, ◌∙◌, ap, sym, refl, arith, Bool, true, false, not, ◌&&◌, ◌||◌, cond, Some, None, nat_le, nat_lt, nat_eq}
+use Rattle.std.proofs.Common.{◌≡◌, ℕ, ◌+◌, ◌*◌, ◌<◌, ◌≤◌, List, [], ◌∷◌, length, take, replicate, sum, get_or, ◌∙◌, ap, sym, refl, arith, Bool, true, false, not, ◌&&◌, ◌||◌, cond, None, nat_le, nat_lt, nat_eq}
 use Rattle.coll_routes.specs.declared.signature.Signature.{Signature}
 use Rattle.coll_routes.specs.declared.signature.Signature.TheVariants.{Barrier, Bcast, Gather, Gatherv, Scatter, Scatterv, Allgather, Allgatherv, Alltoall, Alltoallv, Reduce, Allreduce, ReduceScatter, ReduceScatterBlock, Scan, Exscan, NeighborAllgather, NeighborAllgatherv, NeighborAlltoall, NeighborAlltoallv, Dup, Split, Create, CartCreate, CartSub}
 use Rattle.coll_routes.specs.declared.statement.Own.{Own}
@@ -11,13 +11,13 @@ use Rattle.coll_routes.specs.declared.fault.Asked.TheVariants.{Exactly, SumOfCou
 use Rattle.coll_routes.specs.declared.lane.Lane.{Lane}
 use Rattle.coll_routes.specs.declared.lane.Lane.TheVariants.{Nowhere, Whole, Block}
 use Rattle.mpi_elems.specs.declared.elem_type.ElemType.{ElemType}
-use Rattle.mpi_cart.specs.Grids.{below, opposite}
+use Rattle.mpi_cart.specs.Grids.{opposite}
 use Rattle.coll_routes.specs.Signatures.{elem_type, count}
 use Rattle.coll_routes.specs.Rolls.{goes_by, in_block, counts_in, is_neighbour, slots}
 use Rattle.coll_routes.specs.Lanes.{lane_by, sizes_by, holds, sends_by}
 use Rattle.coll_routes.specs.Faults.{shape_fault, is_met, gives, asked, first_that, bad_count, bad_root, bad_op, bad_colour, not_subgroup, bad_dims, no_topology, is_listed, is_of_type, is_above_limit, is_asked_above_limit}
 use Rattle.std.specs.Prelude.{unwrap_or}
-use Rattle.std.proofs.lemmas.Bool.{eqb-true, le-leb, lt-ltb, le-ltb, ltb-true, ltb-false, leb-true, and_from, and_parts, cases_Bool}
+use Rattle.std.proofs.lemmas.Bool.{eqb-true, le-leb, lt-ltb, ltb-true, ltb-false, and_from, and_parts, cases_Bool}
 use Rattle.std.proofs.Common.{⊎_elim}
 use Rattle.coll_routes.proofs.AnyLemmas.{any_at, any_none}
 use Rattle.coll_routes.proofs.BlockLemmas.{even_whole, sum_front, size_more, empty_block}

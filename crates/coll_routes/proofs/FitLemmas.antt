@@ -1,5 +1,5 @@
 -- What a roll that is fit knows of each rank.
-use Rattle.std.proofs.Common.{◌≡◌, ℕ, ◌<◌, List, length, Option, Some, None, Bool, true, false, not, ◌&&◌, ◌||◌, nat_eq, ◌∙◌, ap, sym, subst, IsSome, refl, arith, ⊎_elim}
+use Rattle.std.proofs.Common.{◌≡◌, ℕ, ◌<◌, List, length, Option, Some, None, Bool, true, false, not, ◌&&◌, ◌||◌, nat_eq, ap, sym, subst, IsSome, refl, arith, ⊎_elim}
 use Rattle.std.specs.Prelude.{IsTrue, ◌↔◌, slice_get, is_some, is_none}
 use Rattle.std.specs.List.{list_any}
 use Rattle.std.proofs.lemmas.Bool.{eqb-true, eq-eqb, and_parts, and_from, not-true, not-false, cases_Bool}

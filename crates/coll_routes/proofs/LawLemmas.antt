@@ -1,15 +1,14 @@
 -- What holds of all rolls.
-use Rattle.std.proofs.Common.{◌≡◌, ℕ, ◌+◌, ◌-◌, ◌%◌, ◌<◌, ◌≤◌, List, ◌∙◌, ap, sym, refl, arith, Bool, true, false, not, ◌&&◌, cond, Option, Some, None, nat_le, nat_lt, nat_eq, replicate, length, ⊎_elim, inl, inr}
-use Rattle.std.specs.Prelude.{IsTrue, ◌↔◌, ◌*◌, is_none}
+use Rattle.std.proofs.Common.{◌≡◌, ℕ, ◌+◌, ◌-◌, ◌%◌, ◌<◌, ◌≤◌, List, ◌∙◌, ap, sym, refl, arith, Bool, true, false, not, ◌&&◌, cond, Option, Some, None, nat_eq, replicate, length, ⊎_elim, inl, inr}
+use Rattle.std.specs.Prelude.{◌*◌, is_none}
 use Rattle.std.specs.List.{list_any}
-use Rattle.std.proofs.lemmas.Bool.{eqb-true, eqb-false, eq-eqb, and_parts, cases_Bool, cases_lt}
+use Rattle.std.proofs.lemmas.Bool.{eqb-true, eqb-false, and_parts, cases_Bool, cases_lt}
 use Rattle.wall_labels.specs.declared.op.Op.{Op}
-use Rattle.mpi_cart.specs.Grids.{Topology, below, neighbour, opposite, volume}
+use Rattle.mpi_cart.specs.Grids.{Topology, below, neighbour, opposite}
 use Rattle.mpi_cart.specs.Laws.{NeighboursAreOpposite, NobodyPastTheLastSlot}
 use Rattle.coll_routes.specs.declared.signature.Signature.{Signature}
 use Rattle.coll_routes.specs.declared.signature.Signature.TheVariants.{Barrier, Bcast, Gather, Gatherv, Scatter, Scatterv, Allgather, Allgatherv, Alltoall, Alltoallv, Reduce, Allreduce, ReduceScatter, ReduceScatterBlock, Scan, Exscan, NeighborAllgather, NeighborAllgatherv, NeighborAlltoall, NeighborAlltoallv, Dup, Split, Create, CartCreate, CartSub}
 use Rattle.coll_routes.specs.declared.roll.Shape.{Shape}
-use Rattle.coll_routes.specs.declared.roll.Roll.{Roll}
 use Rattle.coll_routes.specs.Signatures.{reduction, is_neighbourly, is_constructor}
 use Rattle.coll_routes.specs.Rolls.{goes_by, places_by, in_block, slots, slots_in, neighbour_in, is_it, is_neighbour, stated_by, own_counts_in, given, goes, places, sends, routed, is_missing}
 use Rattle.coll_routes.specs.Fit.{IsSized, IsSizedGrid}

@@ -1,7 +1,7 @@
 -- Who is routed to whom.
-use Rattle.std.proofs.Common.{◌≡◌, ℕ, ◌+◌, ◌<◌, ◌≤◌, List, ◌∙◌, ap, sym, refl, arith, Bool, true, false, not, ◌&&◌, cond, nat_le, nat_lt, nat_eq, replicate, ⊎_elim}
+use Rattle.std.proofs.Common.{◌≡◌, ℕ, ◌<◌, List, ◌∙◌, ap, sym, refl, arith, Bool, true, false, not, ◌&&◌, cond, nat_le, nat_lt, nat_eq, replicate, ⊎_elim}
 use Rattle.std.specs.List.{list_any}
-use Rattle.std.proofs.lemmas.Bool.{eqb-true, eq-eqb, and_parts, cases_Bool, ltb-true}
+use Rattle.std.proofs.lemmas.Bool.{eqb-true, and_parts, cases_Bool, ltb-true}
 use Rattle.coll_routes.specs.declared.signature.Signature.{Signature}
 use Rattle.coll_routes.specs.declared.signature.Signature.TheVariants.{Barrier, Bcast, Gather, Gatherv, Scatter, Scatterv, Allgather, Allgatherv, Alltoall, Alltoallv, Reduce, Allreduce, ReduceScatter, ReduceScatterBlock, Scan, Exscan, NeighborAllgather, NeighborAllgatherv, NeighborAlltoall, NeighborAlltoallv, Dup, Split, Create, CartCreate, CartSub}
 use Rattle.coll_routes.specs.declared.roll.Shape.{Shape}

@@ -1,5 +1,5 @@
 -- The journeys by pieces, as the code has them: nothing, all that a rank gave, or one block of it.
-use Rattle.std.specs.Prelude.{◌≡◌, ℕ, List, [], Bool, true, false, not, ◌&&◌, ◌==◌, ◌+◌, ◌≤◌, nat_lt, nat_le, replicate, if◌then◌else◌, Option, Some, None}
+use Rattle.std.specs.Prelude.{ℕ, List, [], Bool, true, false, not, ◌&&◌, ◌==◌, ◌+◌, nat_lt, nat_le, replicate, if◌then◌else◌, Option, Some, None}
 use Rattle.std.specs.List.{list_any}
 use Rattle.mpi_cart.specs.Grids.{below, opposite}
 use Rattle.coll_routes.specs.declared.signature.Signature.{Signature}

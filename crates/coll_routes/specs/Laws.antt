@@ -1,5 +1,5 @@
 -- What holds of all rolls.
-use Rattle.std.specs.Prelude.{◌≡◌, ◌↔◌, ℕ, ◌<◌, ◌≤◌, Bool, true, false, Option, Some, None, IsTrue}
+use Rattle.std.specs.Prelude.{◌≡◌, ◌↔◌, ℕ, ◌<◌, ◌≤◌, Bool, true, false, Some, None, IsTrue}
 use Rattle.wall_labels.specs.declared.op.Op.{Op}
 use Rattle.coll_routes.specs.declared.signature.Signature.{Signature}
 use Rattle.coll_routes.specs.declared.signature.Signature.TheVariants.{Scatter, Scatterv, Alltoall, Alltoallv, ReduceScatter, ReduceScatterBlock, NeighborAlltoall, NeighborAlltoallv}

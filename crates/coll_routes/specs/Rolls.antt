@@ -1,10 +1,10 @@
 -- Journeys: which element of which rank goes where. (MPI 4.1, chapters 6 and 8.)
-use Rattle.std.specs.Prelude.{ℕ, List, [], Bool, true, false, not, ◌&&◌, ◌==◌, ◌+◌, ◌*◌, length, slice_get, Option, Some, None, nat_lt, nat_le, sum, take, replicate, if◌then◌else◌, is_none}
+use Rattle.std.specs.Prelude.{ℕ, List, [], Bool, false, not, ◌&&◌, ◌==◌, ◌+◌, ◌*◌, length, slice_get, Option, Some, None, nat_lt, nat_le, sum, take, replicate, if◌then◌else◌, is_none}
 use Rattle.std.specs.List.{list_any}
 use Rattle.wall_labels.specs.declared.label.Label.{Label}
 use Rattle.mpi_cart.specs.Grids.{Topology, below, neighbour, opposite}
 use Rattle.coll_routes.specs.declared.signature.Signature.{Signature}
-use Rattle.coll_routes.specs.declared.signature.Signature.TheVariants.{Barrier, Bcast, Gather, Gatherv, Scatter, Scatterv, Allgather, Allgatherv, Alltoall, Alltoallv, Reduce, Allreduce, ReduceScatter, ReduceScatterBlock, Scan, Exscan, NeighborAllgather, NeighborAllgatherv, NeighborAlltoall, NeighborAlltoallv}
+use Rattle.coll_routes.specs.declared.signature.Signature.TheVariants.{Bcast, Gather, Gatherv, Scatter, Scatterv, Allgather, Allgatherv, Alltoall, Alltoallv, Reduce, Allreduce, ReduceScatter, ReduceScatterBlock, Scan, Exscan, NeighborAllgather, NeighborAllgatherv, NeighborAlltoall, NeighborAlltoallv}
 use Rattle.coll_routes.specs.declared.statement.Own.{Own}
 use Rattle.coll_routes.specs.declared.statement.Own.TheVariants.{Counts}
 use Rattle.coll_routes.specs.declared.statement.Stated.{Stated}

@@ -1,6 +1,5 @@
 //! What is wrong with a post by itself.
 ghost use Rattle.std.specs.Prelude.{◌≡◌, ◌*◌, ◌==◌, ◌&&◌, length, sum};
-ghost use Rattle.mpi_group.specs.Groups.{is_member, is_distinct, are_ranks};
 ghost use Rattle.coll_routes.specs.Faults.{asked, gives, is_met, is_of_type, is_asked_above_limit, is_listed, no_topology, bad_root, bad_op, bad_count, bad_colour, not_subgroup, bad_dims, is_refused, is_ill_kept, shape_fault as first_fault};
 
 use super::lane::slot_count;
@@ -9,6 +8,7 @@ use super::signature::Signature;
 use super::statement::Own;
 use mpi_cart::Grid;
 use mpi_elems::{ElemType, allowed};
+use mpi_group::ranks_fault;
 use wall_labels::Op;
 
 /// The most elements that a post may give, and that a signature may make a rank give.
@@ -240,37 +240,12 @@ fn has_bad_colour(own: &Own) -> bool
     }
 }
 
-fn contains(ranks: &[u32], rank: u32) -> bool
-    ensures { result ≡ is_member ranks.now rank }
-{
-    ranks.iter().any(|r| *r == rank)
-}
-
-fn are_below(ranks: &[u32], size: u32) -> bool
-    ensures { result ≡ are_ranks size ranks.now }
-{
-    ranks.iter().all(|rank| *rank < size)
-}
-
-// Whether no rank stands there twice. Looks at each rank up to the first repeat, and for each at those before it.
-fn are_distinct(ranks: &[u32]) -> bool
-    ensures { result ≡ is_distinct ranks.now }
-{
-    for (k, rank) in ranks.iter().enumerate() {
-        if contains(&ranks[..k], *rank) {
-            return false;
-        }
-    }
-    true
-}
-
 #[tactic(auto, unfolding(crate::specs::Faults::not_subgroup))]
 fn is_no_subgroup(shape: &Shape, sig: &Signature) -> bool
     ensures { result ≡ not_subgroup shape.now sig.now }
 {
     match sig {
-        Signature::Create { ranks } => !are_below(ranks.as_slice(), shape.size)
-            || !are_distinct(ranks.as_slice()),
+        Signature::Create { ranks } => ranks_fault(shape.size, ranks.as_slice()).is_some(),
         _ => false,
     }
 }

@@ -72,8 +72,8 @@ fn opposite_of(slot: u32) -> u32
     if slot % 2 == 0 { slot + 1 } else { slot - 1 }
 }
 
-#[tactic(auto, unfolding(crate::specs::Lanes::lane_by))]
 // What of a rank goes to a place.
+#[tactic(auto, unfolding(crate::specs::Lanes::lane_by))]
 fn lane_of(sig: &Signature, shape: &Shape, from: u32, to: u32, place: u32) -> Lane
     requires grid { IsSized shape.now }
     requires rank { to < shape.now.size }
@@ -122,8 +122,8 @@ fn lane_of(sig: &Signature, shape: &Shape, from: u32, to: u32, place: u32) -> La
     }
 }
 
-#[tactic(auto, using(crate::proofs::BlockLemmas::blocks))]
 // The b-th of blocks of these sizes. Adds the sizes before it.
+#[tactic(auto, using(crate::proofs::BlockLemmas::blocks))]
 fn block_of(sizes: &[u32], b: u32) -> Piece
     requires { sum sizes.now < 2 ^ 32 }
     ensures start { result.start ≡ sum (take b sizes.now) }
@@ -139,8 +139,8 @@ fn block_of(sizes: &[u32], b: u32) -> Piece
     Piece { start, len: 0 }
 }
 
-#[tactic(auto, using(crate::proofs::BlockLemmas::even_blocks))]
 // The b-th of n blocks of one size.
+#[tactic(auto, using(crate::proofs::BlockLemmas::even_blocks))]
 fn even_block(n: u32, size: u32, b: u32) -> Piece
     requires { sum (replicate n size) < 2 ^ 32 }
     ensures start { result.start ≡ sum (take b (replicate n size)) }
@@ -158,8 +158,8 @@ fn even_block(n: u32, size: u32, b: u32) -> Piece
     }
 }
 
-#[tactic(auto, unfolding(crate::specs::Lanes::sizes_by))]
 // The b-th block of what a rank gives, which stated these counts for itself.
+#[tactic(auto, unfolding(crate::specs::Lanes::sizes_by))]
 fn block(sig: &Signature, shape: &Shape, counts: &[u32], b: u32) -> Piece
     requires { sum (sizes_by sig.now shape.now counts.now) < 2 ^ 32 }
     ensures start { result.start ≡ sum (take b (sizes_by sig.now shape.now counts.now)) }
@@ -188,16 +188,16 @@ fn size_at(sizes: &[u32], b: u32) -> u32
     }
 }
 
-#[tactic(auto, using(crate::proofs::BlockLemmas::even_sizes))]
 // The size of the b-th of n blocks of one size.
+#[tactic(auto, using(crate::proofs::BlockLemmas::even_sizes))]
 fn even_size(n: u32, size: u32, b: u32) -> u32
     ensures { result ≡ get_or (replicate n size) b 0 }
 {
     if b < n { size } else { 0 }
 }
 
-#[tactic(auto, unfolding(crate::specs::Lanes::sizes_by))]
 // The size of the b-th block of what a rank gives. Adds nothing.
+#[tactic(auto, unfolding(crate::specs::Lanes::sizes_by))]
 fn block_size(sig: &Signature, shape: &Shape, counts: &[u32], b: u32) -> u32
     ensures { result ≡ get_or (sizes_by sig.now shape.now counts.now) b 0 }
 {

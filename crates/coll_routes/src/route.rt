@@ -11,8 +11,8 @@ use super::roll::Roll;
 use super::signature::Signature;
 use super::statement::Stated;
 
-#[tactic(auto, using(crate::proofs::FitLemmas::of_rank))]
 // What a rank stated.
+#[tactic(auto, using(crate::proofs::FitLemmas::of_rank))]
 fn stated(roll: &Roll, rank: u32) -> &Stated
     requires fit { IsFit roll.now }
     requires rank { rank < roll.now.shape.size }
@@ -21,9 +21,9 @@ fn stated(roll: &Roll, rank: u32) -> &Stated
     roll.stated.get(rank).unwrap()
 }
 
-#[tactic(auto, using(crate::proofs::FitLemmas::of_roll))]
 /// The elements of rank `from` that go to place `place` of rank `to`; none where it sends nothing there. The work doesn't grow with the
 /// elements. Where each rank states counts it adds those before the block.
+#[tactic(auto, using(crate::proofs::FitLemmas::of_roll))]
 pub fn piece(roll: &Roll, from: u32, to: u32, place: u32) -> Option<Piece>
     requires fit { IsFit roll.now }
     requires from { from < roll.now.shape.size }
@@ -43,8 +43,8 @@ pub fn piece(roll: &Roll, from: u32, to: u32, place: u32) -> Option<Piece>
     )
 }
 
-#[tactic(auto, unfolding(crate::specs::Rolls::places_by))]
 /// How many blocks rank `to` gets; none from a constructor. (A rank gets no broadcast of its own, and rank 0 nothing from an exscan.)
+#[tactic(auto, unfolding(crate::specs::Rolls::places_by))]
 pub fn places(roll: &Roll, to: u32) -> u32
     ensures { result ≡ places_of roll.now to }
 {
@@ -83,8 +83,8 @@ pub fn is_missing(roll: &Roll, to: u32, place: u32) -> bool
     roll.sig.is_neighbourly() && neighbour_at(&roll.shape, to, place).is_none()
 }
 
-#[tactic(auto, unfolding(crate::specs::Lanes::place_by))]
 // Where a rank sends to one place of each, that place; the kinds between neighbours aside.
+#[tactic(auto, unfolding(crate::specs::Lanes::place_by))]
 fn place_from(sig: &Signature, from: u32) -> u32
     ensures { result ≡ place_by sig.now from }
 {
@@ -99,8 +99,8 @@ fn place_from(sig: &Signature, from: u32) -> u32
     }
 }
 
-#[tactic(auto, using(crate::proofs::FitLemmas::of_roll))]
 // Whether some element of a rank goes to a place.
+#[tactic(auto, using(crate::proofs::FitLemmas::of_roll))]
 fn sends_to(roll: &Roll, from: u32, to: u32, place: u32) -> bool
     requires fit { IsFit roll.now }
     requires from { from < roll.now.shape.size }
@@ -134,8 +134,8 @@ fn sends_to_slots(roll: &Roll, from: u32, to: u32) -> bool
     false
 }
 
-#[tactic(auto, using(crate::proofs::RouteLemmas::routing))]
 /// Whether some element of rank `from` goes to rank `to`. Takes a few steps, between neighbours a few for each slot.
+#[tactic(auto, using(crate::proofs::RouteLemmas::routing))]
 pub fn routed(roll: &Roll, from: u32, to: u32) -> bool
     requires fit { IsFit roll.now }
     requires from { from < roll.now.shape.size }

@@ -139,8 +139,8 @@ pub enum Signature {
 impl Signature {
     ghost use Rattle.coll_routes.specs.Signatures.{kind, root, reduction, elem_type, count, numbers, flags, is_constructor, is_neighbourly, same_signature, has_list};
 
-    #[tactic(auto, unfolding(crate::specs::Signatures::kind))]
     /// The kind alone.
+    #[tactic(auto, unfolding(crate::specs::Signatures::kind))]
     pub fn kind(&self) -> Kind
         ensures { result ≡ kind self.now }
     {
@@ -173,8 +173,8 @@ impl Signature {
         }
     }
 
-    #[tactic(auto, unfolding(crate::specs::Signatures::root))]
     /// The root, where the kind has one.
+    #[tactic(auto, unfolding(crate::specs::Signatures::root))]
     pub fn root(&self) -> Option<u32>
         ensures { result ≡ root self.now }
     {
@@ -189,8 +189,8 @@ impl Signature {
         }
     }
 
-    #[tactic(auto, unfolding(crate::specs::Signatures::reduction))]
     /// The operation, where the kind reduces.
+    #[tactic(auto, unfolding(crate::specs::Signatures::reduction))]
     pub fn op(&self) -> Option<Op>
         ensures { result ≡ reduction self.now }
     {
@@ -205,8 +205,8 @@ impl Signature {
         }
     }
 
-    #[tactic(auto, unfolding(crate::specs::Signatures::elem_type))]
     /// The type of the elements; a barrier and the constructors have none.
+    #[tactic(auto, unfolding(crate::specs::Signatures::elem_type))]
     pub fn elem_type(&self) -> Option<ElemType>
         ensures { result ≡ elem_type self.now }
     {
@@ -234,8 +234,8 @@ impl Signature {
         }
     }
 
-    #[tactic(auto, unfolding(crate::specs::Signatures::count))]
     /// The size of each block, where all blocks have one.
+    #[tactic(auto, unfolding(crate::specs::Signatures::count))]
     pub fn count(&self) -> Option<u32>
         ensures { result ≡ count self.now }
     {
@@ -256,8 +256,8 @@ impl Signature {
         }
     }
 
-    #[tactic(auto, unfolding(crate::specs::Signatures::numbers))]
     /// The counts of `ReduceScatter`, the ranks of `Create`, the dimensions of `CartCreate`; else none.
+    #[tactic(auto, unfolding(crate::specs::Signatures::numbers))]
     pub fn numbers(&self) -> &[u32]
         ensures { result.now ≡ numbers self.now }
     {
@@ -269,8 +269,8 @@ impl Signature {
         }
     }
 
-    #[tactic(auto, unfolding(crate::specs::Signatures::flags))]
     /// The periods of `CartCreate`, the dimensions that `CartSub` keeps; else none.
+    #[tactic(auto, unfolding(crate::specs::Signatures::flags))]
     pub fn flags(&self) -> &[bool]
         ensures { result.now ≡ flags self.now }
     {
@@ -281,8 +281,8 @@ impl Signature {
         }
     }
 
-    #[tactic(auto, unfolding(crate::specs::Signatures::is_constructor))]
     /// Whether the kind makes communicators and moves no element.
+    #[tactic(auto, unfolding(crate::specs::Signatures::is_constructor))]
     pub fn is_constructor(&self) -> bool
         ensures { result ≡ is_constructor self.now }
     {
@@ -296,8 +296,8 @@ impl Signature {
         }
     }
 
-    #[tactic(auto, unfolding(crate::specs::Signatures::is_neighbourly))]
     /// Whether the kind goes between the neighbours of a grid.
+    #[tactic(auto, unfolding(crate::specs::Signatures::is_neighbourly))]
     pub fn is_neighbourly(&self) -> bool
         ensures { result ≡ is_neighbourly self.now }
     {
@@ -331,8 +331,8 @@ impl Signature {
             && are_same_flags(self.flags(), other.flags())
     }
 
-    #[tactic(auto, unfolding(crate::specs::Signatures::numbers, crate::specs::Signatures::flags, crate::specs::Signatures::has_list))]
     /// An equal signature. Takes memory only for numbers and flags.
+    #[tactic(auto, unfolding(crate::specs::Signatures::numbers, crate::specs::Signatures::flags, crate::specs::Signatures::has_list))]
     pub fn copy(&self, alloc: Global) -> Result<Signature, NoMemory>
         ensures made { IfOk result (λ sig. sig ≡ self.now) }
         ensures memory { IsErr result → 0 < length (numbers self.now) + length (flags self.now) }
@@ -361,8 +361,8 @@ impl Signature {
         }
     }
 
-    #[tactic(auto, unfolding(crate::specs::Signatures::has_list))]
     // An equal signature, where no field is a list.
+    #[tactic(auto, unfolding(crate::specs::Signatures::has_list))]
     fn without_lists(&self) -> Signature
         requires { has_list self.now ≡ false }
         ensures { result ≡ self.now }

@@ -1,9 +1,8 @@
 //! The table of communicators, and its constructors.
 ghost use Rattle.std.specs.Prelude.{◌≡◌, ◌<◌, ◌≤◌, ◌+◌, ℕ, List, [], ◌∷◌, ◌++◌, length, take, map, Ok, Err, IfOk, IfErr, OnOk, OnErr, All, IsTrue};
-ghost use Rattle.wall_labels.specs.declared.ids.TheConstants.{PROCESS_LIMIT};
 ghost use Rattle.std.specs.List.{list_all};
 ghost use Rattle.mpi_group.specs.Groups.{members_at};
-ghost use Rattle.mpi_comm.specs.Comms.{world, is_subgroup, subset_groups};
+ghost use Rattle.mpi_comm.specs.Comms.{is_subgroup, subset_groups};
 
 use super::fault::CommFault;
 use super::split;
@@ -11,7 +10,7 @@ use super::values::{Ask, CommCompare, CommInfo, Made};
 use mpi_group::{Group, GroupCompare, ranks_fault};
 use std::alloc::{AllocError, Global};
 use std::marker::Model;
-use wall_labels::ProcessId;
+use wall_labels::{NoMemory, ProcessId};
 
 /// The most communicators that a table may have, the world included.
 pub const COMMUNICATOR_LIMIT: u32 = 1024;
@@ -36,17 +35,15 @@ impl Model for CommTable {
 }
 
 impl CommTable {
-    ghost use Rattle.wall_labels.specs.declared.ids.TheConstants.{PROCESS_LIMIT};
     ghost use Rattle.mpi_comm.specs.declared.table.TheConstants.{COMMUNICATOR_LIMIT};
-    ghost use Rattle.mpi_comm.specs.Comms.{world, group_at, info_of, comm_compare, fits, dup_groups, create_groups, subset_groups, dup_fault, split_fault, create_fault, subsets_fault, Constructs};
+    ghost use Rattle.mpi_comm.specs.Comms.{group_at, info_of, comm_compare, fits, dup_groups, create_groups, subset_groups, dup_fault, split_fault, create_fault, subsets_fault, Constructs};
     ghost use Rattle.mpi_comm.specs.Splits.{split_groups};
 
-    /// The world of so many processes, 0 and up, alone.
-    pub fn open(alloc: Global, processes: u32) -> Result<CommTable, AllocError>
-        requires { processes ≤ PROCESS_LIMIT }
-        ensures { IfOk result (λ table. table ≡ world processes ∷ []) }
+    /// The world alone: the group of all processes, in their order.
+    pub fn open(alloc: Global, world: Group) -> Result<CommTable, NoMemory>
+        ensures { IfOk result (λ table. table ≡ world ∷ []) }
     {
-        let groups = only(alloc, world_of(alloc, processes)?)?;
+        let groups = only(alloc, world)?;
         Ok(CommTable { alloc, groups })
     }
 
@@ -114,8 +111,8 @@ impl CommTable {
         self.add(made)
     }
 
-    #[tactic(auto, using(crate::proofs::SplitLemmas::length_split_groups))]
     /// Makes a communicator for each colour asked for. Asks stand by rank. (MPI_Comm_split.)
+    #[tactic(auto, using(crate::proofs::SplitLemmas::length_split_groups))]
     pub fn split(&mut self, c: u32, asks: &[Ask]) -> Result<Made, CommFault>
         requires { length asks.now ≡ length (group_at self.old c) }
         ensures { Constructs (split_fault self.old c asks.now) (split_groups asks.now (group_at self.old c)) self.old self.new result }
@@ -153,8 +150,8 @@ impl CommTable {
         self.add(made)
     }
 
-    #[tactic(auto, using(crate::proofs::SplitLemmas::length_subset_groups))]
     /// Makes a communicator for each list of ranks, of the members at them, in the order named.
+    #[tactic(auto, using(crate::proofs::SplitLemmas::length_subset_groups))]
     pub fn subsets(&mut self, c: u32, lists: &[Vec<u32>]) -> Result<Made, CommFault>
         ensures { let ranks = map (λ list. list.items) lists.now in
             Constructs (subsets_fault self.old c ranks) (subset_groups ranks (group_at self.old c)) self.old self.new result }
@@ -201,21 +198,6 @@ fn only(alloc: Global, group: Group) -> Result<Vec<Group>, AllocError>
     let mut groups = Vec::with_capacity(alloc, 1)?;
     groups.push(group)?;
     Ok(groups)
-}
-
-// The group of so many processes, 0 and up.
-fn world_of(alloc: Global, processes: u32) -> Result<Group, AllocError>
-    requires { processes ≤ PROCESS_LIMIT }
-    ensures { IfOk result (λ group. group ≡ world processes) }
-{
-    let mut members = Vec::with_capacity(alloc, processes as usize)?;
-    for number in 0..processes {
-        members.push(ProcessId::new(number).unwrap())?;
-    }
-    match Group::from_list(alloc, members.as_slice()) {
-        Ok(group) => Ok(group),
-        Err(_) => Err(AllocError),
-    }
 }
 
 // Whether each rank is one of the group's, and none is named twice.

@@ -3,6 +3,7 @@ ghost use Rattle.std.specs.Prelude.{◌≡◌, length};
 ghost use Rattle.mpi_comm.specs.Comms.{group_at};
 
 use super::{Ask, COMMUNICATOR_LIMIT, CommCompare, CommFault, CommInfo, CommTable, Made};
+use mpi_group::Group;
 use std::alloc::Global;
 use std::process::Abort;
 use std::test::Fail;
@@ -16,6 +17,16 @@ fn asks(colour: Option<i32>, keys: [i32; 4]) -> [Ask; 4] {
     keys.map(|key| Ask { colour, key })
 }
 
+// A table whose world has these processes.
+fn opened(rt: &impl Abort, alloc: Global, processes: &[u32]) -> Result<CommTable, Fail> {
+    let mut members = Vec::new(alloc);
+    for number in processes {
+        members.push(ProcessId::new(*number).expect(rt, "a process"))?;
+    }
+    let world = Group::from_list(alloc, members.as_slice())?;
+    Ok(CommTable::open(alloc, world)?)
+}
+
 // The world has so many members, so a split on it takes so many asks.
 fn expect_world(rt: &impl Abort, table: &CommTable, size: u32)
     ensures { length (group_at table.now 0) ≡ size }
@@ -26,7 +37,7 @@ fn expect_world(rt: &impl Abort, table: &CommTable, size: u32)
 
 // The table with a duplicate of the world, a split that turns it round, and a part of it.
 fn example(rt: &impl Abort, alloc: Global) -> Result<CommTable, Fail> {
-    let mut table = CommTable::open(alloc, 4)?;
+    let mut table = opened(rt, alloc, &[0, 1, 2, 3])?;
     assert_eq!(rt; table.dup(0), made(1, 1));
     let turned = asks(Some(0), [3, 2, 1, 0]);
     expect_world(rt, &table, 4);
@@ -67,7 +78,7 @@ fn constructors(rt: HostRuntime) -> Result<(), Fail> {
 
 #[test]
 fn two_colours(rt: HostRuntime) -> Result<(), Fail> {
-    let mut table = CommTable::open(rt.alloc(), 4)?;
+    let mut table = opened(&rt, rt.alloc(), &[0, 1, 2, 3])?;
     let ask = |colour, key| Ask { colour, key };
     let stated = [
         ask(Some(2), 0),
@@ -85,7 +96,7 @@ fn two_colours(rt: HostRuntime) -> Result<(), Fail> {
 #[test]
 fn parts(rt: HostRuntime) -> Result<(), Fail> {
     let alloc = rt.alloc();
-    let mut table = CommTable::open(alloc, 4)?;
+    let mut table = opened(&rt, alloc, &[0, 1, 2, 3])?;
     let lists = [vec![in alloc; 0u32, 1]?, vec![in alloc; 2, 3]?];
     assert_eq!(rt; table.subsets(0, &lists), made(1, 2));
     expect_members(&rt, &table, 1, &[0, 1]);
@@ -116,7 +127,7 @@ fn looks(rt: HostRuntime) -> Result<(), Fail> {
 
 #[test]
 fn full_table(rt: HostRuntime) -> Result<(), Fail> {
-    let mut table = CommTable::open(rt.alloc(), 1)?;
+    let mut table = opened(&rt, rt.alloc(), &[0])?;
     for number in 1..COMMUNICATOR_LIMIT {
         assert_eq!(rt; table.dup(0), made(number, 1));
     }

@@ -182,9 +182,8 @@ impl Group {
 }
 
 /// What is wrong with a list of ranks of a group of this size: the first fault that `incl` and `excl` would answer,
-/// want of memory aside.
+/// want of memory aside. Looks at each rank up to the first repeat, and for each at those before it.
 pub fn ranks_fault(size: u32, ranks: &[u32]) -> Option<GroupFault>
-    requires { size ≤ PROCESS_LIMIT }
     ensures { result ≡ ranks_fault size ranks.now }
 {
     if !are_ranks(size, ranks) {
@@ -204,17 +203,20 @@ fn are_ranks(size: u32, ranks: &[u32]) -> bool
 
 // Whether no rank stands there twice.
 fn are_distinct(ranks: &[u32]) -> bool
-    requires { All (λ rank. rank < PROCESS_LIMIT) ranks.now }
     ensures { result ≡ is_distinct ranks.now }
 {
-    let mut seen = [false; PROCESS_LIMIT as usize];
-    for rank in ranks {
-        if seen[*rank as usize] {
+    for (k, rank) in ranks.iter().enumerate() {
+        if contains(&ranks[..k], *rank) {
             return false;
         }
-        seen[*rank as usize] = true;
     }
     true
+}
+
+fn contains(ranks: &[u32], rank: u32) -> bool
+    ensures { result ≡ is_member ranks.now rank }
+{
+    ranks.iter().any(|r| *r == rank)
 }
 
 // Whether each of the processes is in the group.

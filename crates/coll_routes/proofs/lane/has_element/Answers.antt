@@ -1,4 +1,4 @@
-use Rattle.std.proofs.Common.{◌≡◌, ap, ◌∙◌, nat_lt, get_or}
+use Rattle.std.proofs.Common.{ap, ◌∙◌, nat_lt, get_or}
 use Rattle.coll_routes.specs.Lanes.{sizes_by}
 use Rattle.coll_routes.proofs.CutLemmas.{sends_nowhere, sends_whole, sends_block}
 use Rattle.coll_routes.proofs.lane.has_element.Goals as goal

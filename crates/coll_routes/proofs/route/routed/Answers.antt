@@ -1,4 +1,4 @@
-use Rattle.std.proofs.Common.{◌≡◌, sym, ◌∙◌}
+use Rattle.std.proofs.Common.{sym, ◌∙◌}
 use Rattle.coll_routes.proofs.RouteLemmas.{by_slots}
 use Rattle.coll_routes.proofs.route.routed.Goals as goal
 

@@ -1,4 +1,4 @@
-use Rattle.std.proofs.Common.{◌≡◌, ℕ, arith, sym, ◌∙◌, true}
+use Rattle.std.proofs.Common.{arith, sym, ◌∙◌}
 use Rattle.coll_routes.specs.Rolls.{sends, slots}
 use Rattle.coll_routes.proofs.AnyLemmas.{any_at, any_none}
 use Rattle.coll_routes.proofs.route.sends_to_slots.Goals as goal

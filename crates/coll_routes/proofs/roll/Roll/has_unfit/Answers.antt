@@ -1,4 +1,4 @@
-use Rattle.std.proofs.Common.{◌≡◌, ℕ, arith, sym, ◌∙◌}
+use Rattle.std.proofs.Common.{arith, sym, ◌∙◌}
 use Rattle.coll_routes.specs.Fit.{is_unfit}
 use Rattle.coll_routes.proofs.AnyLemmas.{any_at, any_none}
 use Rattle.coll_routes.proofs.roll.Roll.has_unfit.Goals as goal

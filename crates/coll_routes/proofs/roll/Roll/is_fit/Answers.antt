@@ -1,4 +1,4 @@
-use Rattle.std.proofs.Common.{◌≡◌, sym, ◌∙◌}
+use Rattle.std.proofs.Common.{sym, ◌∙◌}
 use Rattle.coll_routes.proofs.FitLemmas.{fit_decides}
 use Rattle.coll_routes.proofs.roll.Roll.is_fit.Goals as goal
 

@@ -1,4 +1,4 @@
-use Rattle.std.proofs.Common.{◌≡◌, sym, ◌∙◌}
+use Rattle.std.proofs.Common.{sym, ◌∙◌}
 use Rattle.coll_routes.proofs.SignatureLemmas.{same_signatures_are_equal}
 use Rattle.coll_routes.proofs.signature.Signature.is_same.Goals as goal
 
