@@ -1,5 +1,5 @@
 -- The test of an instance tells whole ones.
-use Rattle.std.proofs.Common.{◌≡◌, ◌↔◌, IsTrue, ℕ, zero, suc, ◌<◌, ◌+◌, List, [], ◌∷◌, length, ◌∙◌, ap, sym, refl, arith, Bool, true, false, not, ◌&&◌, Option, Some, None, slice_get, nat_eq, ⊎_elim, subst}
+use Rattle.std.proofs.Common.{◌≡◌, ◌↔◌, IsTrue, ℕ, zero, suc, ◌<◌, List, [], ◌∷◌, length, ◌∙◌, ap, sym, refl, arith, Bool, true, false, not, ◌&&◌, Option, Some, None, slice_get, nat_eq, ⊎_elim}
 use Rattle.std.specs.List.{list_any}
 use Rattle.std.proofs.lemmas.Bool.{eqb-true, eq-eqb, and_parts, and_from, not-true, not-false, cases_Bool}
 use Rattle.std.proofs.lemmas.Option.{slice_get_within}

@@ -1,22 +1,20 @@
 -- What holds of all values.
-use Rattle.std.proofs.Common.{◌≡◌, ◌↔◌, IsTrue, ℕ, zero, suc, ◌+◌, ◌<◌, ◌≤◌, List, [], ◌∷◌, ◌++◌, length, ◌∙◌, ap, sym, refl, arith, Bool, true, false, cond, Option, Some, None, slice_get, map, fold, max, filter, filter_map, flat_map, ⊎_elim}
+use Rattle.std.proofs.Common.{◌≡◌, ℕ, zero, suc, ◌+◌, ◌<◌, List, [], ◌∷◌, ◌++◌, length, ◌∙◌, ap, refl, arith, Bool, true, false, cond, Option, Some, None, slice_get, map, fold, max, filter, filter_map, flat_map}
 use Rattle.std.proofs.lemmas.List.FromFn.{length-range_with_len}
 use Rattle.std.specs.List.{range_with_len, cons_option}
-use Rattle.std.proofs.lemmas.Bool.{cases_Bool}
 use Rattle.wall_labels.specs.declared.op.Op.{Op}
-use Rattle.mpi_elems.specs.Elements.{Element, combine, folded}
+use Rattle.mpi_elems.specs.Elements.{combine, folded}
 use Rattle.mpi_elems.specs.Contents.{Contents}
 use Rattle.mpi_cart.specs.Grids.{below}
 use Rattle.coll_routes.specs.declared.roll.Roll.{Roll}
 use Rattle.coll_routes.specs.Signatures.{reduction}
-use Rattle.coll_routes.specs.Rolls.{given, goes, places, ranks, routed, is_missing}
+use Rattle.coll_routes.specs.Rolls.{given, goes, places, is_missing}
 use Rattle.coll_routes.specs.Faults.{stated_type}
 use Rattle.coll_routes.specs.Laws.{RoutesAreJourneys}
 use Rattle.coll_values.specs.declared.full.Full.{Full}
-use Rattle.coll_values.specs.declared.delivery.Block.{Block}
-use Rattle.coll_values.specs.Instances.{part, element}
+use Rattle.coll_values.specs.Instances.{element}
 use Rattle.coll_values.specs.Values.{sent, Sendings, copied, breadth, folded_at, reduced, block_by, block_of, blocks, value}
-use Rattle.coll_values.specs.Laws.{AgreeAt, AgreeOnRouted, ValuesAreOfRoutedElements, ValuesAreOfRoutedRanks, ValuesFillPlaces, MergedRowsAreFolds}
+use Rattle.coll_values.specs.Laws.{AgreeOnRouted, ValuesAreOfRoutedElements, ValuesAreOfRoutedRanks, ValuesFillPlaces, MergedRowsAreFolds}
 use Rattle.coll_values.proofs.FoldLemmas.{merged_rows}
 
 -- ## functions that agree on a range

@@ -1,10 +1,8 @@
 -- The numbers of elements.
-use Rattle.std.proofs.Common.{◌≡◌, ℕ, ◌+◌, ◌*◌, List, [], ◌∷◌, ◌++◌, length, ◌∙◌, ap, sym, refl, arith, true, false, map, Bool, if◌then◌else◌, ℤ}
+use Rattle.std.proofs.Common.{◌≡◌, List, [], ◌++◌, ◌∙◌, ap, sym}
 use Rattle.std.specs.List.{list_all}
-use Rattle.mpi_elems.specs.declared.elem_type.ElemType.{ElemType}
-use Rattle.mpi_elems.specs.Types.{is_pair}
 use Rattle.mpi_elems.specs.Numbers.{is_number_of}
-use Rattle.mpi_elems.specs.Elements.{Element, single, pair, numbers_of, pairs_of, elements_of}
+use Rattle.mpi_elems.specs.Elements.{Element, numbers_of, elements_of}
 use Rattle.mpi_elems.specs.Contents.{Contents, elements, IsFit}
 use Rattle.mpi_elems.proofs.ElementLemmas.{elements_of-nil}
 

@@ -1,5 +1,5 @@
 -- Lines and their places.
-use Rattle.std.proofs.Common.{◌≡◌, ℕ, zero, suc, ◌+◌, ◌<◌, ◌≤◌, List, [], ◌∷◌, ◌++◌, length, ◌∙◌, ap, sym, refl, arith, Option, Some, None, slice_get, map}
+use Rattle.std.proofs.Common.{◌≡◌, ℕ, zero, suc, ◌+◌, ◌<◌, List, [], ◌∷◌, ◌++◌, length, ◌∙◌, ap, sym, refl, arith, Option, Some, slice_get, map}
 use Rattle.std.proofs.lemmas.List.FromFn.{length-range_with_len}
 use Rattle.std.specs.List.{range_with_len}
 use Rattle.mpi_elems.specs.declared.elem_type.ElemType.{ElemType}
@@ -9,7 +9,6 @@ use Rattle.mpi_cart.specs.Grids.{below}
 use Rattle.coll_routes.specs.Signatures.{reduction}
 use Rattle.coll_routes.specs.Rolls.{places}
 use Rattle.coll_values.specs.declared.full.Full.{Full}
-use Rattle.coll_values.specs.declared.delivery.Block.{Block}
 use Rattle.coll_values.specs.Values.{sent, block_by, block_of, blocks, value}
 use Rattle.coll_values.specs.Rooms.{size_of, sizes}
 use Rattle.coll_values.specs.Lines.{AreLines}

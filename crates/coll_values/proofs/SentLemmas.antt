@@ -1,5 +1,5 @@
 -- What is sent is the piece.
-use Rattle.std.proofs.Common.{◌≡◌, ℕ, zero, suc, ◌+◌, ◌-◌, ◌<◌, ◌≤◌, List, [], ◌∷◌, ◌++◌, length, take, drop, slice_range, ◌∙◌, ap, sym, refl, arith, Bool, true, false, ◌&&◌, cond, Option, Some, None, nat_le, nat_lt, slice_get, filter, filter_map}
+use Rattle.std.proofs.Common.{◌≡◌, ℕ, zero, suc, ◌+◌, ◌-◌, ◌<◌, ◌≤◌, List, [], ◌∷◌, ◌++◌, length, take, drop, slice_range, ◌∙◌, ap, sym, refl, arith, Bool, true, false, ◌&&◌, cond, Option, Some, nat_le, nat_lt, slice_get, filter, filter_map}
 use Rattle.std.proofs.Common.{length-drop}
 use Rattle.std.proofs.lemmas.List.{length-take-le, append-nil}
 use Rattle.std.specs.List.{range_with_len, cons_option}
@@ -12,7 +12,7 @@ use Rattle.mpi_cart.specs.Grids.{below}
 use Rattle.coll_routes.specs.Signatures.{elem_type}
 use Rattle.coll_routes.specs.Rolls.{goes, given}
 use Rattle.coll_values.specs.declared.full.Full.{Full}
-use Rattle.coll_values.specs.Instances.{part, elements_in, IsWhole}
+use Rattle.coll_values.specs.Instances.{elements_in, IsWhole}
 use Rattle.coll_values.specs.Values.{sent}
 
 module _ {E : Type 0} (test : ℕ → Bool) where

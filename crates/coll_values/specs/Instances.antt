@@ -1,5 +1,5 @@
 -- An instance with the elements that each rank gave.
-use Rattle.std.specs.Prelude.{◌≡◌, ◌==◌, ◌&&◌, ◌<◌, ℕ, List, [], length, slice_get, Bool, true, false, not, Option, Some, None}
+use Rattle.std.specs.Prelude.{◌≡◌, ◌==◌, ◌&&◌, ℕ, List, [], length, slice_get, Bool, true, not, Option, Some, None}
 use Rattle.std.specs.List.{list_any}
 use Rattle.mpi_elems.specs.declared.elem_type.ElemType.{ElemType}
 use Rattle.mpi_elems.specs.Elements.{Element}

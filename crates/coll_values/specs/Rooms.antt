@@ -1,11 +1,9 @@
 -- Room for a delivery, made before it is filled.
 use Rattle.std.specs.Prelude.{ℕ, List, [], Option, Some, None, map, length}
-use Rattle.mpi_elems.specs.declared.elem_type.ElemType.{ElemType}
 use Rattle.mpi_elems.specs.Elements.{Element}
 use Rattle.mpi_elems.specs.Contents.{Contents}
 use Rattle.coll_routes.specs.Faults.{stated_type}
 use Rattle.coll_values.specs.declared.full.Full.{Full}
-use Rattle.coll_values.specs.declared.delivery.Block.{Block}
 use Rattle.coll_values.specs.Spaces.{Space}
 use Rattle.coll_values.specs.Values.{blocks}
 

@@ -1,7 +1,6 @@
 -- What a rank is delivered. (MPI 4.1, chapter 6, and section 8.6 between neighbours.)
-use Rattle.std.specs.Prelude.{ℕ, List, [], Option, Some, None, map, filter, filter_map, flat_map, fold, max, length, slice_get, if◌then◌else◌}
+use Rattle.std.specs.Prelude.{ℕ, List, Option, Some, None, map, filter, filter_map, flat_map, fold, max, length, slice_get, if◌then◌else◌}
 use Rattle.wall_labels.specs.declared.op.Op.{Op}
-use Rattle.mpi_elems.specs.declared.elem_type.ElemType.{ElemType}
 use Rattle.mpi_elems.specs.Elements.{Element, numbers_of, folded}
 use Rattle.mpi_elems.specs.Contents.{Contents}
 use Rattle.mpi_cart.specs.Grids.{below}

@@ -1,15 +1,12 @@
 -- Lists over the numbers below n, by one number more.
-use Rattle.std.proofs.Common.{◌≡◌, ℕ, zero, suc, ◌+◌, ◌<◌, ◌≤◌, Bool, true, false, List, [], ◌∷◌, ◌++◌, length, map, find, filter, filter_map, flat_map, Option, Some, None, refl, sym, ap, ◌∙◌, subst, ◌||◌, cond, arith, add-one, append_assoc, slice_get, ⊎_elim, eqb-true, ◌-◌}
-use Rattle.std.specs.Prelude.{count_by, option_to_list, sum_by, position, ◌==◌}
-use Rattle.std.specs.List.{range_with_len, list_any, position_from}
+use Rattle.std.proofs.Common.{◌≡◌, ℕ, zero, suc, ◌+◌, ◌<◌, ◌≤◌, Bool, true, false, List, [], ◌∷◌, ◌++◌, length, map, find, flat_map, Some, None, refl, sym, ap, ◌∙◌, subst, ◌||◌, cond, arith, add-one, ⊎_elim, ◌-◌}
+use Rattle.std.specs.Prelude.{count_by}
+use Rattle.std.specs.List.{range_with_len, list_any}
 use Rattle.std.specs.Option.{option_or, option_map}
 use Rattle.std.proofs.Math.Bool.{or-false}
-use Rattle.std.proofs.lemmas.Bool.{cond-true, cond-false, cases_Bool, eq-eqb, false≢true}
-use Rattle.std.proofs.lemmas.Option.{slice_get-get_or, slice_get_within}
+use Rattle.std.proofs.lemmas.Bool.{cond-true, cond-false, cases_Bool}
 use Rattle.std.proofs.lemmas.List.FromFn.{get_or-range_with_len}
-use Rattle.std.proofs.lemmas.Iterator.Adapters.{position_from-zero}
 use Rattle.std.proofs.lemmas.List.Folds.{list_any-append, find-append}
-use Rattle.std.proofs.lemmas.List.Elements.{filter-append, filter_map-append}
 use Rattle.std.proofs.lemmas.List.Sums.{sum_by-append}
 use Rattle.std.proofs.lemmas.Grind.{flat_map-append}
 use Rattle.mpi_cart.specs.Grids.{below}

@@ -1,6 +1,6 @@
 -- A grant, receiver by receiver.
 use Rattle.std.proofs.Common.{◌≡◌, ℕ, ◌+◌, ◌<◌, ◌≤◌, Bool, true, false, List, length, Option, Some, None, refl, sym, ap, ◌∙◌, subst, arith, ◌||◌, ◌&&◌, slice_get, inl, inr, ◌⊎◌, ⊎_elim, eqb-true, eq-eqb, ne_eqb, lt-ltb, ltb-true}
-use Rattle.std.specs.Prelude.{nat_lt, nat_eq, ◌==◌, IsTrue, position}
+use Rattle.std.specs.Prelude.{nat_lt, nat_eq, ◌==◌}
 use Rattle.std.specs.Ordering.{nat_cmp}
 use Rattle.std.specs.FinSet.{FinSet, contains}
 use Rattle.std.proofs.Math.Bool.{or-false}
@@ -14,7 +14,6 @@ use Rattle.wall_rules.proofs.RuleLemmas.{no_rivals-part}
 use Rattle.mpi_group.specs.Groups.{IsGroup, rank_in}
 use Rattle.mpi_group.proofs.GroupLemmas.{rank_present, slice_get-member, one_place}
 use Rattle.coll_routes.specs.declared.roll.Roll.{Roll}
-use Rattle.wall_verdict.specs.declared.verdict.Verdict.{Verdict}
 use Rattle.wall_verdict.specs.declared.verdict.Verdict.TheVariants.{Granted}
 use Rattle.wall_verdict.specs.Charges.{charged}
 use Rattle.wall_verdict.specs.Verdicts.{verdict}

@@ -1,6 +1,6 @@
 -- What verdicts say, and what a grant means.
 use Rattle.std.proofs.Common.{◌≡◌, ℕ, zero, suc, ◌+◌, ◌<◌, ◌≤◌, Bool, true, false, List, length, Option, Some, None, refl, sym, ap, ◌∙◌, subst, arith, ◌||◌, ◌&&◌, not, slice_get, ⊎_elim, inl, inr, ◌⊎◌, IsSome, add-one}
-use Rattle.std.specs.Prelude.{is_some, unwrap_or, IsTrue, ◌↔◌}
+use Rattle.std.specs.Prelude.{is_some, unwrap_or, ◌↔◌}
 use Rattle.std.proofs.lemmas.Bool.{cases_Bool, false≢true, or_cases, or_left, or_right}
 use Rattle.std.proofs.lemmas.Option.{slice_get_within, slice_get-get_or}
 use Rattle.wall_labels.specs.declared.label.Label.{Label}
@@ -12,15 +12,14 @@ use Rattle.coll_routes.specs.declared.roll.Roll.{Roll}
 use Rattle.coll_routes.specs.declared.statement.Stated.{Stated}
 use Rattle.coll_routes.specs.Rolls.{stated_by, label_in, label_of, barred_in, is_barred}
 use Rattle.coll_routes.specs.Fit.{IsFit}
-use Rattle.wall_verdict.specs.declared.verdict.Verdict.{Verdict}
-use Rattle.wall_verdict.specs.declared.verdict.Verdict.TheVariants.{Granted, Denied}
+use Rattle.wall_verdict.specs.declared.verdict.Verdict.TheVariants.{Granted}
 use Rattle.wall_verdict.specs.Charges.{is_that, contribution, contributed_below, contributed, charged, sanitised}
 use Rattle.wall_verdict.specs.Verdicts.{member, meets, meets_rival, offends, first_barred, first_offence, told, verdict, verdict_by}
-use Rattle.wall_verdict.specs.Meanings.{IsVerdict, IsLowestBarred, IsLeastOffence, NamesBarred, NamesOffence, NobodyIsBarred, NobodyOffends, MembersStayApart}
+use Rattle.wall_verdict.specs.Meanings.{IsVerdict, NamesBarred, NamesOffence, NobodyIsBarred, MembersStayApart}
 use Rattle.wall_verdict.proofs.BelowLemmas.{any_more}
 use Rattle.wall_verdict.proofs.PairLemmas.{none_at, none_below, IsFirst, Searched, search_below, spared, none_found, IsFirstPair, SearchedPairs, search_pairs}
 use Rattle.wall_verdict.proofs.MeetLemmas.{sanitised_charges_none, unsanitised_charges}
-use Rattle.wall_verdict.proofs.MeaningLemmas.{charges_are_labels, offence_opens, offence_shuts, no_offence}
+use Rattle.wall_verdict.proofs.MeaningLemmas.{charges_are_labels, offence_opens, no_offence}
 
 ---- What a fit roll has at a rank.
 

@@ -1,11 +1,10 @@
 -- Charges and offences, as relations and as tests.
-use Rattle.std.proofs.Common.{◌≡◌, ℕ, ◌+◌, ◌<◌, ◌≤◌, Bool, true, false, List, Option, Some, None, refl, sym, ap, ◌∙◌, subst, arith, ◌||◌, ◌&&◌, not, slice_get, ⊎_elim, inl, inr, ◌⊎◌, eqb-true, eq-eqb, nat_eq}
+use Rattle.std.proofs.Common.{◌≡◌, ℕ, ◌<◌, Bool, true, false, Option, Some, None, refl, sym, ap, ◌∙◌, arith, ◌||◌, not, slice_get, ⊎_elim, inl, inr, eqb-true, eq-eqb}
 use Rattle.std.specs.Prelude.{is_some, unwrap_or, IsTrue, ◌↔◌}
 use Rattle.std.proofs.lemmas.Bool.{cases_Bool, cond-true, cond-false, false≢true, or_cases, or_left, or_right, and_parts, and_from, not-true}
 use Rattle.wall_labels.specs.declared.label.Label.{Label}
 use Rattle.wall_labels.specs.declared.label.Label.TheVariants.{Public, Of}
 use Rattle.wall_policy.specs.Policy.{ChineseWall}
-use Rattle.wall_policy.specs.Rivals.{AreRivals}
 use Rattle.wall_rules.specs.Histories.{History}
 use Rattle.wall_rules.specs.Rules.{first_rival}
 use Rattle.wall_rules.proofs.RuleLemmas.{first_rival-none, first_rival-some}

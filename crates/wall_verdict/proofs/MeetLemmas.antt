@@ -1,16 +1,15 @@
 -- What a contribution meets, rank by rank.
-use Rattle.std.proofs.Common.{◌≡◌, ℕ, ◌+◌, ◌<◌, Bool, true, false, List, Option, Some, None, refl, sym, ap, ◌∙◌, ◌||◌, ◌&&◌, not, slice_get, find, [], ◌∷◌, ⊎_elim, inl, inr}
-use Rattle.std.specs.Prelude.{is_some, unwrap_or, IsTrue}
+use Rattle.std.proofs.Common.{◌≡◌, ℕ, Bool, true, false, List, Option, Some, None, refl, sym, ap, ◌∙◌, ◌||◌, ◌&&◌, not, slice_get, find, [], ◌∷◌}
+use Rattle.std.specs.Prelude.{is_some, unwrap_or}
 use Rattle.std.specs.Ordering.{nat_cmp}
-use Rattle.std.specs.FinSet.{FinSet, empty, insert, contains}
-use Rattle.std.proofs.lemmas.Bool.{cases_Bool, false≢true, or_right}
+use Rattle.std.specs.FinSet.{FinSet, insert, contains}
+use Rattle.std.proofs.lemmas.Bool.{false≢true, or_right}
 use Rattle.wall_policy.specs.Policy.{ChineseWall}
 use Rattle.wall_rules.specs.Histories.{History}
 use Rattle.wall_rules.specs.Rules.{first_rival, joined, clashes, HoldsNoRivals}
 use Rattle.wall_rules.proofs.RuleLemmas.{first_rival-alike, none-first_rival, no_rivals-insert}
 use Rattle.coll_routes.specs.declared.roll.Roll.{Roll}
 use Rattle.coll_routes.specs.Rolls.{ranks}
-use Rattle.wall_policy.specs.Rivals.{AreRivals}
 use Rattle.wall_verdict.specs.Charges.{contribution, contributed_below, contributed, charged, sanitised}
 use Rattle.wall_verdict.specs.Verdicts.{member, meets, meets_rival, offends}
 use Rattle.wall_verdict.proofs.ChargeLemmas.{AreBrought}

@@ -1,13 +1,11 @@
 -- The star rule as a test of every dataset that there can be, and what a post that passes enters.
-use Rattle.std.proofs.Common.{◌≡◌, ℕ, ◌<◌, List, Bool, true, false, Option, Some, None, IsTrue, refl, ap, sym, ◌∙◌, ◌||◌, ◌&&◌}
+use Rattle.std.proofs.Common.{◌≡◌, ℕ, ◌<◌, List, Bool, true, false, Option, Some, None, refl, ap, sym, ◌∙◌, ◌||◌, ◌&&◌}
 use Rattle.std.specs.Prelude.{is_none, ◌==◌}
 use Rattle.std.specs.Ordering.{nat_cmp}
-use Rattle.std.specs.FinSet.{FinSet, empty, insert, contains, contains-empty}
+use Rattle.std.specs.FinSet.{empty, insert, contains, contains-empty}
 use Rattle.std.proofs.Math.Bool.{or-false}
-use Rattle.std.proofs.lemmas.Bool.{false≢true}
 use Rattle.wall_labels.specs.declared.label.Label.{Label}
 use Rattle.wall_labels.specs.declared.ids.TheConstants.{DATASET_LIMIT}
-use Rattle.wall_labels.specs.Labels.{dataset_of}
 use Rattle.wall_rules.specs.Histories.{History, entered}
 use Rattle.wall_rules.specs.Rules.{PassesStar, HoldsNoRivals, IsLowest, IsHeldOther, joined, passes_star}
 use Rattle.wall_rules.proofs.RuleLemmas.{first_other-none, first_other-some, no_rivals-star}

@@ -1,6 +1,6 @@
 -- What is charged to a member for what it gets: the datasets that an access would add to its history.
 -- (Brewer and Nash 1989: sanitised information may be read by anybody. When a result is sanitised, and what is charged to whom, are own rules.)
-use Rattle.std.specs.Prelude.{ℕ, List, Bool, true, false, not, ◌&&◌, ◌==◌, Option, Some, None, nat_le, count_by, is_some, if◌then◌else◌}
+use Rattle.std.specs.Prelude.{ℕ, Bool, false, not, ◌&&◌, ◌==◌, Option, Some, None, nat_le, count_by, is_some, if◌then◌else◌}
 use Rattle.std.specs.Option.{option_and_then}
 use Rattle.std.specs.List.{list_any}
 use Rattle.wall_labels.specs.declared.label.Label.{Label}

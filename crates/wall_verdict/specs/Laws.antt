@@ -1,5 +1,5 @@
 -- What holds of all verdicts.
-use Rattle.std.specs.Prelude.{◌≡◌, ◌↔◌, ℕ, ◌<◌, true, IsTrue}
+use Rattle.std.specs.Prelude.{◌≡◌, ◌↔◌, ℕ, ◌<◌, IsTrue}
 use Rattle.wall_policy.specs.Policy.{ChineseWall}
 use Rattle.wall_rules.specs.Histories.{History, NobodyHoldsRivals}
 use Rattle.coll_routes.specs.declared.roll.Roll.{Roll}

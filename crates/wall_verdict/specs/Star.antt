@@ -1,5 +1,5 @@
 -- The star rule at a post. (Brewer and Nash 1989: the *-property.)
-use Rattle.std.specs.Prelude.{ℕ, Bool, true, not, ◌&&◌, ◌||◌, ◌==◌, Option, Some, None}
+use Rattle.std.specs.Prelude.{ℕ, Bool, true, ◌&&◌, ◌||◌, ◌==◌, Option, Some, None}
 use Rattle.wall_labels.specs.declared.ids.TheConstants.{DATASET_LIMIT}
 use Rattle.wall_labels.specs.declared.label.Label.{Label}
 use Rattle.wall_rules.specs.Histories.{History}

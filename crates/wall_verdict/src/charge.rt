@@ -93,8 +93,8 @@ fn contributed(roll: &Roll, to: u32) -> LabelSet
     datasets
 }
 
-#[tactic(auto, using(crate::proofs::MeetLemmas::sanitised_charges_none, crate::proofs::MeetLemmas::unsanitised_charges))]
 /// The datasets that are charged to the rank: none if what it gets is sanitised, else those of the labels of its contributors.
+#[tactic(auto, using(crate::proofs::MeetLemmas::sanitised_charges_none, crate::proofs::MeetLemmas::unsanitised_charges))]
 pub fn charged(policy: &Policy, roll: &Roll, rank: u32) -> LabelSet
     requires fit { IsFit roll.now }
     requires rank { rank < roll.now.shape.size }

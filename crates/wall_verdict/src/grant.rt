@@ -13,8 +13,8 @@ use coll_routes::Roll;
 use wall_policy::Policy;
 use wall_rules::Histories;
 
-#[tactic(auto, using(crate::proofs::GrantLemmas::under_none))]
 /// Enters in each member's history what is charged to it.
+#[tactic(auto, using(crate::proofs::GrantLemmas::under_none))]
 fn grant(policy: &Policy, histories: &mut Histories, roll: &Roll)
     requires fit { IsFit roll.now }
     requires classes { histories.old.classes ≡ policy.now.classes }
@@ -30,8 +30,8 @@ fn grant(policy: &Policy, histories: &mut Histories, roll: &Roll)
     }
 }
 
-#[tactic(auto, using(crate::proofs::GrantLemmas::settled_granted, crate::proofs::GrantLemmas::settled_denied))]
 /// The verdict on a full instance. A grant enters in each member's history what is charged to it, a denial enters nothing.
+#[tactic(auto, using(crate::proofs::GrantLemmas::settled_granted, crate::proofs::GrantLemmas::settled_denied))]
 pub fn settle(policy: &Policy, histories: &mut Histories, roll: &Roll) -> Verdict
     requires fit { IsFit roll.now }
     requires classes { histories.old.classes ≡ policy.now.classes }

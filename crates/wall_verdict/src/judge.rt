@@ -25,8 +25,8 @@ pub fn keep_apart(histories: &Histories)
     let _ = histories.has(process, dataset);
 }
 
-#[tactic(auto, using(crate::proofs::MeetLemmas::held_is_clear))]
 /// Whether the dataset has a rival in the process's history or in the set. What is in the set has none.
+#[tactic(auto, using(crate::proofs::MeetLemmas::held_is_clear))]
 fn clashes(histories: &Histories, process: ProcessId, held: &LabelSet, dataset: DatasetId) -> bool
     requires { HoldsNoRivals histories.now.classes (joined (has histories.now process) held.now) }
     ensures { result ≡ clashes histories.now.classes (joined (has histories.now process) held.now) dataset }
@@ -34,8 +34,8 @@ fn clashes(histories: &Histories, process: ProcessId, held: &LabelSet, dataset: 
     !held.contains(dataset) && histories.clash(process, held, dataset).is_some()
 }
 
-#[tactic(auto, using(crate::proofs::ChargeLemmas::brought_none, crate::proofs::ChargeLemmas::brought_more, crate::proofs::ChargeLemmas::brought_same, crate::proofs::MeetLemmas::meets_is, crate::proofs::MeetLemmas::meets_none, crate::proofs::MeetLemmas::stays_apart, crate::proofs::BelowLemmas::find_none_more, crate::proofs::BelowLemmas::find_found))]
 /// The lowest rank whose contribution to this one meets a rival, in its history or among those of lower ranks.
+#[tactic(auto, using(crate::proofs::ChargeLemmas::brought_none, crate::proofs::ChargeLemmas::brought_more, crate::proofs::ChargeLemmas::brought_same, crate::proofs::MeetLemmas::meets_is, crate::proofs::MeetLemmas::meets_none, crate::proofs::MeetLemmas::stays_apart, crate::proofs::BelowLemmas::find_none_more, crate::proofs::BelowLemmas::find_found))]
 fn first_meeting(histories: &Histories, roll: &Roll, to: u32) -> Option<u32>
     requires fit { IsFit roll.now }
     requires to { to < roll.now.shape.size }
@@ -59,8 +59,8 @@ fn first_meeting(histories: &Histories, roll: &Roll, to: u32) -> Option<u32>
     None
 }
 
-#[tactic(auto, using(crate::proofs::MeetLemmas::sanitised_spares, crate::proofs::MeetLemmas::unsanitised_meets))]
 /// The lowest rank for which a dataset is charged to this one that meets a rival.
+#[tactic(auto, using(crate::proofs::MeetLemmas::sanitised_spares, crate::proofs::MeetLemmas::unsanitised_meets))]
 fn first_offender(policy: &Policy, histories: &Histories, roll: &Roll, to: u32) -> Option<u32>
     requires fit { IsFit roll.now }
     requires classes { histories.now.classes ≡ policy.now.classes }
@@ -75,8 +75,8 @@ fn first_offender(policy: &Policy, histories: &Histories, roll: &Roll, to: u32) 
     }
 }
 
-#[tactic(auto, using(crate::proofs::PairLemmas::pairs_none, crate::proofs::PairLemmas::pairs_found))]
 /// The least pair of a receiver and a rank that offends.
+#[tactic(auto, using(crate::proofs::PairLemmas::pairs_none, crate::proofs::PairLemmas::pairs_found))]
 fn first_offence(policy: &Policy, histories: &Histories, roll: &Roll) -> Option<(u32, u32)>
     requires fit { IsFit roll.now }
     requires classes { histories.now.classes ≡ policy.now.classes }
@@ -92,8 +92,8 @@ fn first_offence(policy: &Policy, histories: &Histories, roll: &Roll) -> Option<
     None
 }
 
-#[tactic(auto, using(crate::proofs::BelowLemmas::find_none_more, crate::proofs::BelowLemmas::find_found))]
 /// The lowest rank whose post was barred.
+#[tactic(auto, using(crate::proofs::BelowLemmas::find_none_more, crate::proofs::BelowLemmas::find_found))]
 fn first_barred(roll: &Roll) -> Option<u32>
     ensures least { result ≡ first_barred roll.now }
     ensures within { IfSome result (λ i. i < roll.now.shape.size) }

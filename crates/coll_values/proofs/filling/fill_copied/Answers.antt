@@ -1,5 +1,4 @@
-use Rattle.std.proofs.Common.{◌≡◌, ◌≤◌, ◌∙◌, ap, sym, arith, length, []}
-use Rattle.mpi_elems.specs.Contents.{elements}
+use Rattle.std.proofs.Common.{ap, sym, arith, length}
 use Rattle.coll_values.proofs.NumberLemmas.{no_elements, no_numbers, filled_by, left_empty}
 use Rattle.coll_values.proofs.SourceLemmas.{from_source, from_outside, from_nobody}
 use Rattle.coll_values.proofs.filling.fill_copied.Goals as goal

@@ -1,4 +1,4 @@
-use Rattle.std.proofs.Common.{◌≡◌, ◌≤◌, ◌++◌, ◌+◌, map, vec_len, vec_capacity, length}
+use Rattle.std.proofs.Common.{◌≡◌, ◌++◌, map, vec_capacity, length}
 use Rattle.mpi_cart.specs.Grids.{below}
 use Rattle.coll_routes.specs.Signatures.{reduction}
 use Rattle.coll_values.specs.Values.{sent, block_by, block_of}

@@ -1,8 +1,8 @@
-use Rattle.std.proofs.Common.{◌≡◌, ◌≤◌, ◌∙◌, ap, sym, refl, arith, length, Some, ℕ}
+use Rattle.std.proofs.Common.{◌≡◌, ◌∙◌, ap, sym, refl, arith, Some}
 use Rattle.mpi_elems.specs.declared.elem_type.ElemType.{ElemType}
-use Rattle.mpi_elems.specs.Elements.{Element, combine}
+use Rattle.mpi_elems.specs.Elements.{combine}
 use Rattle.mpi_elems.specs.Lists.{merged}
-use Rattle.mpi_elems.specs.Contents.{Contents, elements}
+use Rattle.mpi_elems.specs.Contents.{elements}
 use Rattle.coll_values.specs.Values.{sent}
 use Rattle.coll_values.proofs.FoldLemmas.{fold_none, fold_more, broadest_bounds, reduced_is}
 use Rattle.coll_values.proofs.NumberLemmas.{no_elements, no_numbers, numbers_are}

@@ -1,4 +1,4 @@
-use Rattle.std.proofs.Common.{◌≡◌, ◌++◌, ◌∷◌, [], ◌∙◌, ap, sym, arith, map, ℕ, vec_len}
+use Rattle.std.proofs.Common.{◌≡◌, ◌++◌, ◌∷◌, [], ◌∙◌, ap, sym, arith, map, ℕ}
 use Rattle.mpi_elems.specs.Contents.{Contents, contents}
 use Rattle.mpi_cart.specs.Grids.{below}
 use Rattle.coll_routes.specs.Rolls.{places}

@@ -1,4 +1,4 @@
-use Rattle.std.proofs.Common.{◌≡◌, ◌≤◌, map, vec_len, vec_capacity, []}
+use Rattle.std.proofs.Common.{◌≡◌, ◌≤◌, map, vec_capacity, []}
 use Rattle.mpi_elems.specs.Contents.{contents}
 use Rattle.mpi_cart.specs.Grids.{below}
 use Rattle.coll_routes.specs.Signatures.{reduction}

@@ -1,4 +1,4 @@
-use Rattle.std.proofs.Common.{◌≡◌, ◌∙◌, ap, sym, arith, map, length, List}
+use Rattle.std.proofs.Common.{◌∙◌, ap, map, length}
 use Rattle.std.specs.Prelude.{unwrap_or}
 use Rattle.mpi_elems.specs.declared.elem_type.ElemType.TheVariants.{Int8}
 use Rattle.mpi_elems.specs.Contents.{Contents}

@@ -1,4 +1,4 @@
-use Rattle.std.proofs.Common.{◌≡◌, ◌∙◌, ap, sym, length}
+use Rattle.std.proofs.Common.{◌∙◌, ap, sym, length}
 use Rattle.coll_values.proofs.SourceLemmas.{from_source, from_outside, from_nobody}
 use Rattle.coll_values.proofs.sizes.copied_size.Goals as goal
 

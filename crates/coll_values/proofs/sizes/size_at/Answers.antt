@@ -1,4 +1,4 @@
-use Rattle.std.proofs.Common.{◌≡◌, ◌∙◌, ap, sym, Option}
+use Rattle.std.proofs.Common.{◌∙◌, ap, sym, Option}
 use Rattle.wall_labels.specs.declared.op.Op.{Op}
 use Rattle.coll_values.specs.Values.{sent, block_by}
 use Rattle.coll_values.specs.Rooms.{size_of}

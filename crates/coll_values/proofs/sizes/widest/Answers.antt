@@ -1,4 +1,4 @@
-use Rattle.std.proofs.Common.{◌≡◌, ◌+◌, max, length, arith}
+use Rattle.std.proofs.Common.{◌≡◌, ◌+◌, arith}
 use Rattle.coll_values.specs.Values.{sent}
 use Rattle.coll_values.proofs.FoldLemmas.{broadest, broadest_more}
 use Rattle.coll_values.proofs.sizes.widest.Goals as goal

@@ -1,4 +1,4 @@
-use Rattle.std.proofs.Common.{◌≡◌, ◌++◌, ◌∙◌, ap, sym, arith, length}
+use Rattle.std.proofs.Common.{◌++◌, ◌∙◌, ap, arith}
 use Rattle.mpi_elems.specs.Contents.{elements}
 use Rattle.coll_values.proofs.SentLemmas.{type_of, piece_within, piece_length, sent_some, sent_none, append_nil}
 use Rattle.coll_values.proofs.source.append_sent.Goals as goal

@@ -1,4 +1,4 @@
-use Rattle.std.proofs.Common.{◌≡◌, ◌++◌, ◌∙◌, ap, sym, arith, length}
+use Rattle.std.proofs.Common.{◌∙◌, ap, arith}
 use Rattle.mpi_elems.specs.Contents.{elements}
 use Rattle.mpi_elems.specs.Elements.{combine}
 use Rattle.mpi_elems.specs.Lists.{merged}

@@ -1,6 +1,6 @@
-use Rattle.std.proofs.Common.{◌≡◌, ◌≤◌, length, sym, subst, ◌∙◌, ap, arith}
+use Rattle.std.proofs.Common.{◌≡◌, length, ◌∙◌, arith}
 use Rattle.wall_rules.specs.Histories.{has}
-use Rattle.wall_verdict.proofs.GrantLemmas.{under, under_all, under_more, may_enter}
+use Rattle.wall_verdict.proofs.GrantLemmas.{under_all, under_more, may_enter}
 use Rattle.wall_verdict.proofs.grant.grant.Goals as goal
 
 pub enter-requires : goal.enter-requires

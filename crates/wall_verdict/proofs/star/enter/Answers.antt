@@ -1,5 +1,5 @@
-use Rattle.std.proofs.Common.{◌≡◌, sym, subst, ap, ◌∙◌}
-use Rattle.std.specs.FinSet.{insert, empty}
+use Rattle.std.proofs.Common.{sym, subst, ap, ◌∙◌}
+use Rattle.std.specs.FinSet.{insert}
 use Rattle.wall_rules.specs.Histories.{has, entered}
 use Rattle.wall_rules.specs.Rules.{HoldsNoRivals, joined}
 use Rattle.wall_verdict.proofs.StarLemmas.{may_enter, label_entered}

@@ -1,4 +1,4 @@
-use Rattle.std.proofs.Common.{◌≡◌, sym, ◌∙◌}
+use Rattle.std.proofs.Common.{sym, ◌∙◌}
 use Rattle.coll_values.proofs.InstanceLemmas.{whole_decides}
 use Rattle.coll_values.proofs.full.Full+Buffer.is_whole.Goals as goal
 
