@@ -1,0 +1,4 @@
+pub mod FitLemmas
+pub mod KeyedLemmas
+pub mod PostLemmas
+pub mod ShownLemmas

@@ -1,0 +1,46 @@
+//! What comes of an arrival.
+ghost use Rattle.std.specs.Prelude.{◌≡◌};
+
+use coll_routes::Stated;
+use coll_values::Full;
+use thiserror::Error;
+
+/// What the next arrival of a member would do.
+#[derive(Clone, Copy, Debug, PartialEq, Eq)]
+pub enum Next {
+    /// It opens an instance; a sole member's fills it too.
+    Opens,
+    /// It joins an instance that then still waits for others.
+    Joins,
+    /// It is the last one of an instance.
+    Fills,
+    /// The instance is of another signature.
+    Mismatch,
+}
+
+/// What an arrival came to.
+#[derive(Drop)]
+pub enum Arrived<X> {
+    /// The instance waits for other members.
+    Waiting,
+    /// It was the last one: the instance, with the part of each rank.
+    Full(Full<X>),
+}
+
+/// Why an arrival was refused. Of those that hold, the first is answered.
+#[derive(Clone, Copy, Debug, PartialEq, Eq, Error)]
+pub enum ArrivalFault {
+    /// The instance is of another signature.
+    #[error("another signature than the instance's")]
+    Mismatch,
+    #[error("out of memory")]
+    NoMemory,
+}
+
+/// An arrival that was refused, with what was handed in.
+#[derive(Drop)]
+pub struct Unarrived<X> {
+    pub fault: ArrivalFault,
+    pub stated: Stated,
+    pub part: X,
+}

@@ -1,0 +1,168 @@
+//! Arrivals on small communicators, worked by hand: the k-th arrivals of the members meet.
+
+use super::{ArrivalFault, Arrived, Next, NoMemory, Pending};
+use coll_routes::{Numbers, Own, Shape, Signature, Stated};
+use mpi_elems::ElemType;
+use mpi_group::Group;
+use std::alloc::Global;
+use std::marker::Model;
+use std::process::Abort;
+use std::test::Fail;
+use wall_labels::{Label, Op, ProcessId};
+
+// Instances that wait on communicators of the same members.
+#[derive(Drop)]
+struct Table {
+    group: Group,
+    shape: Shape,
+    pending: Pending<u64>,
+}
+
+impl Model for Table {
+    ghost use Rattle.std.specs.Prelude.{List, ℕ};
+    ghost use Rattle.coll_pending.specs.Lines.{Line};
+    ghost use Rattle.coll_pending.specs.Waiting.{known, IsKnownAs};
+
+    ghost Value = { List (Line ℕ) };
+
+    ghost view = { λ t. t.pending };
+
+    ghost invariant = { λ t. (c : ℕ) → IsKnownAs (record { members = t.group; shape = t.shape }) (known t.pending c) };
+}
+
+impl Table {
+    fn new(rt: &impl Abort, alloc: Global, size: u32) -> Result<Table, Fail> {
+        let mut members = Vec::new(alloc);
+        for number in 0..size {
+            members.push(ProcessId::new(number).expect(rt, "a process"))?;
+        }
+        let group = Group::from_list(alloc, &members)?;
+        Ok(Table {
+            group,
+            shape: Shape { size, grid: None },
+            pending: Pending::new(alloc),
+        })
+    }
+
+    fn ready(&mut self, rt: &impl Abort, comm: u32, rank: u32) -> Result<(), NoMemory> {
+        assert!(rt; rank < self.group.size());
+        self.pending.ready(comm, rank, &self.group, &self.shape)
+    }
+
+    // A rank arrives: `next` says before what it does, and if it is the last one the instance has these parts. A mismatch gives its part back.
+    fn arrive(
+        &mut self,
+        rt: &impl Abort,
+        place: (u32, u32),
+        sig: Signature,
+        part: u64,
+        next: Next,
+        parts: &[u64],
+    ) -> Result<(), NoMemory> {
+        let (comm, rank) = place;
+        assert!(rt; rank < self.group.size() && self.pending.arrivals(comm, rank) < 100);
+        assert_eq!(rt; self.pending.next(comm, rank, &sig), next);
+        let stated = Stated {
+            sig,
+            own: Own::Plain,
+            given: 1,
+            label: Some(Label::Public),
+            barred: false,
+        };
+        match self
+            .pending
+            .arrive(comm, rank, &self.group, &self.shape, stated, part)
+        {
+            Ok(Arrived::Waiting) => assert!(rt; next != Next::Mismatch && parts.is_empty()),
+            Ok(Arrived::Full(full)) => {
+                assert!(rt; full.roll.is_fit() && full.parts.as_slice() == parts);
+            }
+            Err(refused) => {
+                if refused.fault == ArrivalFault::NoMemory {
+                    return Err(NoMemory);
+                }
+                assert!(rt; next == Next::Mismatch && refused.part == part);
+            }
+        }
+        Ok(())
+    }
+}
+
+fn allreduce(op: Op) -> Signature {
+    Signature::Allreduce {
+        op,
+        elem_type: ElemType::Int32,
+        count: 1,
+    }
+}
+
+// The counts of a reduce_scatter of one number.
+fn listed(alloc: Global, counts: &[u32]) -> Result<Signature, Fail> {
+    Ok(Signature::ReduceScatter {
+        op: Op::Sum,
+        elem_type: ElemType::Int32,
+        counts: Numbers::from(Vec::from_slice(alloc, counts)?),
+    })
+}
+
+#[test]
+fn two_members_meet(rt: HostRuntime) -> Result<(), Fail> {
+    let mut table = Table::new(&rt, rt.alloc(), 2)?;
+    table.ready(&rt, 0, 0)?;
+    assert!(rt; table.pending.arrivals(0, 0) == 0 && table.pending.roll(0, 0).is_none());
+    for (rank, op, part, next, parts) in [
+        (0, Op::Sum, 7, Next::Opens, [].as_slice()),
+        (1, Op::Max, 8, Next::Mismatch, [].as_slice()),
+        (1, Op::Sum, 8, Next::Fills, [7, 8].as_slice()),
+        (0, Op::Max, 9, Next::Opens, [].as_slice()),
+    ] {
+        table.arrive(&rt, (0, rank), allreduce(op), part, next, parts)?;
+    }
+    assert!(rt; table.pending.arrivals(0, 0) == 2 && table.pending.arrivals(0, 1) == 1);
+    assert!(rt; table.pending.roll(0, 0).is_none() && table.pending.roll(0, 1).is_some());
+    Ok(())
+}
+
+#[test]
+fn two_reductions_cross(rt: HostRuntime) -> Result<(), Fail> {
+    let mut table = Table::new(&rt, rt.alloc(), 4)?;
+    for (rank, op, part, next, parts) in [
+        (0, Op::Sum, 1, Next::Opens, [].as_slice()),
+        (0, Op::Max, 1, Next::Opens, [].as_slice()),
+        (1, Op::Max, 2, Next::Mismatch, [].as_slice()),
+        (1, Op::Sum, 2, Next::Joins, [].as_slice()),
+        (1, Op::Max, 2, Next::Joins, [].as_slice()),
+        (2, Op::Sum, 3, Next::Joins, [].as_slice()),
+        (2, Op::Max, 3, Next::Joins, [].as_slice()),
+        (3, Op::Sum, 4, Next::Fills, [1, 2, 3, 4].as_slice()),
+        (3, Op::Max, 4, Next::Fills, [1, 2, 3, 4].as_slice()),
+    ] {
+        table.arrive(&rt, (0, rank), allreduce(op), part, next, parts)?;
+    }
+    Ok(())
+}
+
+#[test]
+fn parts_stand_by_rank(rt: HostRuntime) -> Result<(), Fail> {
+    let mut table = Table::new(&rt, rt.alloc(), 3)?;
+    for (rank, counts, part, next, parts) in [
+        (2, [1, 0, 0], 30, Next::Opens, [].as_slice()),
+        (0, [1, 0, 0], 10, Next::Joins, [].as_slice()),
+        (1, [0, 1, 0], 20, Next::Mismatch, [].as_slice()),
+        (1, [1, 0, 0], 20, Next::Fills, [10, 20, 30].as_slice()),
+    ] {
+        let sig = listed(rt.alloc(), &counts)?;
+        table.arrive(&rt, (5, rank), sig, part, next, parts)?;
+    }
+    assert!(rt; table.pending.arrivals(4, 2) == 0 && table.pending.arrivals(5, 2) == 1);
+    Ok(())
+}
+
+#[test]
+fn sole_member_opens_and_fills(rt: HostRuntime) -> Result<(), Fail> {
+    let mut table = Table::new(&rt, rt.alloc(), 1)?;
+    for (part, parts) in [(4, [4].as_slice()), (5, [5].as_slice())] {
+        table.arrive(&rt, (1, 0), allreduce(Op::Sum), part, Next::Opens, parts)?;
+    }
+    Ok(())
+}
