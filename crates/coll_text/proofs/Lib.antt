@@ -1,0 +1,9 @@
+pub mod CutLemmas
+pub mod DigitLemmas
+pub mod EachLemmas
+pub mod FieldLemmas
+pub mod NumberLemmas
+pub mod FoundLemmas
+pub mod AgainLemmas
+pub mod SpacedLemmas
+pub mod SolidLemmas

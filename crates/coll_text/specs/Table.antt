@@ -1,0 +1,126 @@
+-- The fields of each kind in their order, and what they make. (Own format; the kinds are those of MPI 4.1, chapters 6 to 8.)
+use Rattle.std.specs.Prelude.{ℕ, ℤ, pos, Bool, true, false, List, [], ◌∷◌, Option, Some, None, unwrap_or}
+use Rattle.wall_labels.specs.declared.op.Op.TheVariants as ops
+use Rattle.mpi_elems.specs.declared.elem_type.ElemType.TheVariants as types
+use Rattle.coll_routes.specs.declared.kind.Kind.{Kind}
+use Rattle.coll_routes.specs.declared.kind.Kind.TheVariants as kinds
+use Rattle.coll_routes.specs.declared.signature.Signature.{Signature}
+use Rattle.coll_routes.specs.declared.signature.Signature.TheVariants as signatures
+use Rattle.coll_routes.specs.declared.statement.Own.{Own}
+use Rattle.coll_routes.specs.declared.statement.Own.TheVariants as owns
+use Rattle.coll_routes.specs.Signatures.{root, reduction, elem_type, count, numbers, flags}
+use Rattle.coll_routes.specs.Rolls.{counts_in}
+use Rattle.coll_text.specs.declared.table.Form.{Form}
+use Rattle.coll_text.specs.declared.table.Form.TheVariants.{Root, Operation, Typed, Count, Counts, Listed, Flagged, Colour, Key}
+use Rattle.coll_text.specs.declared.table.Fields.{Fields}
+
+unfoldable pub forms_of : Kind → List Form
+forms_of kinds.Barrier = []
+forms_of kinds.Bcast = Root ∷ Typed ∷ Count ∷ []
+forms_of kinds.Gather = Root ∷ Typed ∷ Count ∷ []
+forms_of kinds.Gatherv = Root ∷ Typed ∷ []
+forms_of kinds.Scatter = Root ∷ Typed ∷ Count ∷ []
+forms_of kinds.Scatterv = Root ∷ Typed ∷ Counts ∷ []
+forms_of kinds.Allgather = Typed ∷ Count ∷ []
+forms_of kinds.Allgatherv = Typed ∷ []
+forms_of kinds.Alltoall = Typed ∷ Count ∷ []
+forms_of kinds.Alltoallv = Typed ∷ Counts ∷ []
+forms_of kinds.Reduce = Root ∷ Operation ∷ Typed ∷ Count ∷ []
+forms_of kinds.Allreduce = Operation ∷ Typed ∷ Count ∷ []
+forms_of kinds.ReduceScatter = Operation ∷ Typed ∷ Listed ∷ []
+forms_of kinds.ReduceScatterBlock = Operation ∷ Typed ∷ Count ∷ []
+forms_of kinds.Scan = Operation ∷ Typed ∷ Count ∷ []
+forms_of kinds.Exscan = Operation ∷ Typed ∷ Count ∷ []
+forms_of kinds.NeighborAllgather = Typed ∷ Count ∷ []
+forms_of kinds.NeighborAllgatherv = Typed ∷ []
+forms_of kinds.NeighborAlltoall = Typed ∷ Count ∷ []
+forms_of kinds.NeighborAlltoallv = Typed ∷ Counts ∷ []
+forms_of kinds.Dup = []
+forms_of kinds.Split = Colour ∷ Key ∷ []
+forms_of kinds.Create = Listed ∷ []
+forms_of kinds.CartCreate = Listed ∷ Flagged ∷ []
+forms_of kinds.CartSub = Flagged ∷ []
+
+unfoldable pub signature_of : Kind → Fields → Signature
+signature_of kinds.Barrier f = signatures.Barrier
+signature_of kinds.Bcast f = signatures.Bcast f.root f.elem_type f.count
+signature_of kinds.Gather f = signatures.Gather f.root f.elem_type f.count
+signature_of kinds.Gatherv f = signatures.Gatherv f.root f.elem_type
+signature_of kinds.Scatter f = signatures.Scatter f.root f.elem_type f.count
+signature_of kinds.Scatterv f = signatures.Scatterv f.root f.elem_type
+signature_of kinds.Allgather f = signatures.Allgather f.elem_type f.count
+signature_of kinds.Allgatherv f = signatures.Allgatherv f.elem_type
+signature_of kinds.Alltoall f = signatures.Alltoall f.elem_type f.count
+signature_of kinds.Alltoallv f = signatures.Alltoallv f.elem_type
+signature_of kinds.Reduce f = signatures.Reduce f.root f.op f.elem_type f.count
+signature_of kinds.Allreduce f = signatures.Allreduce f.op f.elem_type f.count
+signature_of kinds.ReduceScatter f = signatures.ReduceScatter f.op f.elem_type f.list
+signature_of kinds.ReduceScatterBlock f = signatures.ReduceScatterBlock f.op f.elem_type f.count
+signature_of kinds.Scan f = signatures.Scan f.op f.elem_type f.count
+signature_of kinds.Exscan f = signatures.Exscan f.op f.elem_type f.count
+signature_of kinds.NeighborAllgather f = signatures.NeighborAllgather f.elem_type f.count
+signature_of kinds.NeighborAllgatherv f = signatures.NeighborAllgatherv f.elem_type
+signature_of kinds.NeighborAlltoall f = signatures.NeighborAlltoall f.elem_type f.count
+signature_of kinds.NeighborAlltoallv f = signatures.NeighborAlltoallv f.elem_type
+signature_of kinds.Dup f = signatures.Dup
+signature_of kinds.Split f = signatures.Split
+signature_of kinds.Create f = signatures.Create f.list
+signature_of kinds.CartCreate f = signatures.CartCreate f.list f.flags
+signature_of kinds.CartSub f = signatures.CartSub f.flags
+
+-- what a poster states for itself alone
+unfoldable pub own_of : Kind → Fields → Own
+own_of kinds.Barrier f = owns.Plain
+own_of kinds.Bcast f = owns.Plain
+own_of kinds.Gather f = owns.Plain
+own_of kinds.Gatherv f = owns.Plain
+own_of kinds.Scatter f = owns.Plain
+own_of kinds.Scatterv f = owns.Counts f.counts
+own_of kinds.Allgather f = owns.Plain
+own_of kinds.Allgatherv f = owns.Plain
+own_of kinds.Alltoall f = owns.Plain
+own_of kinds.Alltoallv f = owns.Counts f.counts
+own_of kinds.Reduce f = owns.Plain
+own_of kinds.Allreduce f = owns.Plain
+own_of kinds.ReduceScatter f = owns.Plain
+own_of kinds.ReduceScatterBlock f = owns.Plain
+own_of kinds.Scan f = owns.Plain
+own_of kinds.Exscan f = owns.Plain
+own_of kinds.NeighborAllgather f = owns.Plain
+own_of kinds.NeighborAllgatherv f = owns.Plain
+own_of kinds.NeighborAlltoall f = owns.Plain
+own_of kinds.NeighborAlltoallv f = owns.Counts f.counts
+own_of kinds.Dup f = owns.Plain
+own_of kinds.Split f = owns.Split f.colour f.key
+own_of kinds.Create f = owns.Plain
+own_of kinds.CartCreate f = owns.Plain
+own_of kinds.CartSub f = owns.Plain
+
+-- before any field is stated
+abbrev pub no_fields : Fields
+no_fields = record { root = 0; op = ops.Max; elem_type = types.Int8; count = 0; counts = []; list = []; flags = []; colour = None; key = pos 0 }
+
+abbrev pub colour_in : Own → Option ℤ
+colour_in (owns.Split colour key) = colour
+colour_in _ = None
+
+abbrev pub key_in : Own → ℤ
+key_in (owns.Split colour key) = key
+key_in _ = pos 0
+
+-- what a statement has in each field, and in the others what stands there before any is stated
+abbrev pub fields_of : Signature → Own → Fields
+fields_of sig own = record { root = unwrap_or (root sig) 0; op = unwrap_or (reduction sig) ops.Max; elem_type = unwrap_or (elem_type sig) types.Int8; count = unwrap_or (count sig) 0; counts = counts_in own; list = numbers sig; flags = flags sig; colour = colour_in own; key = key_in own }
+
+-- what a poster of the kind states for itself: counts, or a colour and a key, or nothing
+abbrev pub is_own_of : Kind → Own → Bool
+is_own_of kinds.Scatterv (owns.Counts counts) = true
+is_own_of kinds.Scatterv _ = false
+is_own_of kinds.Alltoallv (owns.Counts counts) = true
+is_own_of kinds.Alltoallv _ = false
+is_own_of kinds.NeighborAlltoallv (owns.Counts counts) = true
+is_own_of kinds.NeighborAlltoallv _ = false
+is_own_of kinds.Split (owns.Split colour key) = true
+is_own_of kinds.Split _ = false
+is_own_of _ owns.Plain = true
+is_own_of _ _ = false

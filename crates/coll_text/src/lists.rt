@@ -1,0 +1,64 @@
+//! Lists of numbers and of flags between commas.
+ghost use Rattle.std.specs.Prelude.{◌≡◌};
+ghost use Rattle.coll_text.specs.Reading.{Gives, each_of, list_of, flag_of, parts as parts_of};
+ghost use Rattle.coll_text.specs.Fields.{number_of};
+
+use crate::fault::LineFault;
+use crate::parts::Parts;
+use crate::words::number_in;
+use coll_routes::{Flags, Numbers};
+use std::alloc::Global;
+
+fn flag_in(word: &[u8]) -> Result<bool, LineFault>
+    ensures { Gives result (flag_of word.now) }
+{
+    match word {
+        b"0" => Ok(false),
+        b"1" => Ok(true),
+        _ => Err(LineFault::BadField),
+    }
+}
+
+fn each_number(alloc: Global, word: &[u8]) -> Result<Numbers, LineFault>
+    ensures { Gives result (each_of number_of (parts_of 44 word.now)) }
+{
+    let mut parts = Parts::new(word, b',');
+    let mut numbers: Vec<u32> = Vec::new(alloc);
+    while let Some(part) = parts.next() {
+        numbers.push(number_in(part)?)?;
+    }
+    Ok(Numbers::from(numbers))
+}
+
+/// The numbers that the word spells: `-` for none, or numbers between commas.
+#[tactic(auto, unfolding(crate::specs::Reading::list_of))]
+pub(crate) fn numbers_in(alloc: Global, word: &[u8]) -> Result<Numbers, LineFault>
+    ensures { Gives result (list_of number_of word.now) }
+{
+    if word == b"-".as_slice() {
+        return Ok(Numbers::from(Vec::new(alloc)));
+    }
+    each_number(alloc, word)
+}
+
+fn each_flag(alloc: Global, word: &[u8]) -> Result<Flags, LineFault>
+    ensures { Gives result (each_of flag_of (parts_of 44 word.now)) }
+{
+    let mut parts = Parts::new(word, b',');
+    let mut flags: Vec<bool> = Vec::new(alloc);
+    while let Some(part) = parts.next() {
+        flags.push(flag_in(part)?)?;
+    }
+    Ok(Flags::from(flags))
+}
+
+/// The flags that the word spells: `-` for none, or `0` and `1` between commas.
+#[tactic(auto, unfolding(crate::specs::Reading::list_of))]
+pub(crate) fn flags_in(alloc: Global, word: &[u8]) -> Result<Flags, LineFault>
+    ensures { Gives result (list_of flag_of word.now) }
+{
+    if word == b"-".as_slice() {
+        return Ok(Flags::from(Vec::new(alloc)));
+    }
+    each_flag(alloc, word)
+}

@@ -1,0 +1,220 @@
+//! The forms of each kind's fields in their order, and what the fields make: a line for each kind in each table.
+ghost use Rattle.std.specs.Prelude.{◌≡◌, true};
+ghost use Rattle.coll_routes.specs.Signatures.{kind as kind_of_signature};
+ghost use Rattle.coll_text.specs.Table.{forms_of, signature_of, own_of, no_fields, is_own_of};
+
+use coll_routes::{Flags, Kind, Numbers, Own, Signature};
+use mpi_elems::ElemType;
+use std::alloc::Global;
+use wall_labels::Op;
+
+/// The forms of fields.
+#[derive(Clone, Copy, Debug, PartialEq, Eq)]
+pub(crate) enum Form {
+    /// A rank.
+    Root,
+    Operation,
+    /// A type of elements.
+    Typed,
+    /// A number of elements.
+    Count,
+    /// Numbers of elements, which the poster states for itself.
+    Counts,
+    /// Numbers of elements, ranks, or sizes of dimensions, which all state alike.
+    Listed,
+    /// A truth value for each dimension.
+    Flagged,
+    /// A colour, or `undefined`.
+    Colour,
+    Key,
+}
+
+/// The fields of a statement, as far as they were read.
+#[derive(Drop)]
+pub(crate) struct Fields {
+    pub root: u32,
+    pub op: Op,
+    pub elem_type: ElemType,
+    pub count: u32,
+    pub counts: Numbers,
+    pub list: Numbers,
+    pub flags: Flags,
+    pub colour: Option<i32>,
+    pub key: i32,
+}
+
+impl Fields {
+    /// None yet.
+    pub(crate) fn new(alloc: Global) -> Fields
+        ensures { result ≡ no_fields }
+    {
+        Fields {
+            root: 0,
+            op: Op::Max,
+            elem_type: ElemType::Int8,
+            count: 0,
+            counts: Numbers::from(Vec::new(alloc)),
+            list: Numbers::from(Vec::new(alloc)),
+            flags: Flags::from(Vec::new(alloc)),
+            colour: None,
+            key: 0,
+        }
+    }
+}
+
+/// The forms of the kind's fields, in their order.
+#[tactic(auto, unfolding(crate::specs::Table::forms_of))]
+pub(crate) fn forms(kind: Kind) -> &'static [Form]
+    ensures { result.now ≡ forms_of kind }
+{
+    match kind {
+        Kind::Barrier => &[],
+        Kind::Bcast => &[Form::Root, Form::Typed, Form::Count],
+        Kind::Gather => &[Form::Root, Form::Typed, Form::Count],
+        Kind::Gatherv => &[Form::Root, Form::Typed],
+        Kind::Scatter => &[Form::Root, Form::Typed, Form::Count],
+        Kind::Scatterv => &[Form::Root, Form::Typed, Form::Counts],
+        Kind::Allgather => &[Form::Typed, Form::Count],
+        Kind::Allgatherv => &[Form::Typed],
+        Kind::Alltoall => &[Form::Typed, Form::Count],
+        Kind::Alltoallv => &[Form::Typed, Form::Counts],
+        Kind::Reduce => &[Form::Root, Form::Operation, Form::Typed, Form::Count],
+        Kind::Allreduce => &[Form::Operation, Form::Typed, Form::Count],
+        Kind::ReduceScatter => &[Form::Operation, Form::Typed, Form::Listed],
+        Kind::ReduceScatterBlock => &[Form::Operation, Form::Typed, Form::Count],
+        Kind::Scan => &[Form::Operation, Form::Typed, Form::Count],
+        Kind::Exscan => &[Form::Operation, Form::Typed, Form::Count],
+        Kind::NeighborAllgather => &[Form::Typed, Form::Count],
+        Kind::NeighborAllgatherv => &[Form::Typed],
+        Kind::NeighborAlltoall => &[Form::Typed, Form::Count],
+        Kind::NeighborAlltoallv => &[Form::Typed, Form::Counts],
+        Kind::Dup => &[],
+        Kind::Split => &[Form::Colour, Form::Key],
+        Kind::Create => &[Form::Listed],
+        Kind::CartCreate => &[Form::Listed, Form::Flagged],
+        Kind::CartSub => &[Form::Flagged],
+    }
+}
+
+/// What the fields of a kind make: what all members state alike, and what the poster states for itself.
+#[tactic(auto, unfolding(crate::specs::Table::signature_of, crate::specs::Table::own_of, coll_routes::specs::Signatures::kind))]
+pub(crate) fn made_of(kind: Kind, fields: Fields) -> (Signature, Own)
+    ensures signature { result.0 ≡ signature_of kind fields }
+    ensures own { result.1 ≡ own_of kind fields }
+    ensures form { is_own_of (kind_of_signature result.0) result.1 ≡ true }
+{
+    let Fields {
+        root,
+        op,
+        elem_type,
+        count,
+        counts,
+        list,
+        flags,
+        colour,
+        key,
+    } = fields;
+    match kind {
+        Kind::Barrier => (Signature::Barrier, Own::Plain),
+        Kind::Bcast => (
+            Signature::Bcast {
+                root,
+                elem_type,
+                count,
+            },
+            Own::Plain,
+        ),
+        Kind::Gather => (
+            Signature::Gather {
+                root,
+                elem_type,
+                count,
+            },
+            Own::Plain,
+        ),
+        Kind::Gatherv => (Signature::Gatherv { root, elem_type }, Own::Plain),
+        Kind::Scatter => (
+            Signature::Scatter {
+                root,
+                elem_type,
+                count,
+            },
+            Own::Plain,
+        ),
+        Kind::Scatterv => (Signature::Scatterv { root, elem_type }, Own::Counts(counts)),
+        Kind::Allgather => (Signature::Allgather { elem_type, count }, Own::Plain),
+        Kind::Allgatherv => (Signature::Allgatherv { elem_type }, Own::Plain),
+        Kind::Alltoall => (Signature::Alltoall { elem_type, count }, Own::Plain),
+        Kind::Alltoallv => (Signature::Alltoallv { elem_type }, Own::Counts(counts)),
+        Kind::Reduce => (
+            Signature::Reduce {
+                root,
+                op,
+                elem_type,
+                count,
+            },
+            Own::Plain,
+        ),
+        Kind::Allreduce => (
+            Signature::Allreduce {
+                op,
+                elem_type,
+                count,
+            },
+            Own::Plain,
+        ),
+        Kind::ReduceScatter => (
+            Signature::ReduceScatter {
+                op,
+                elem_type,
+                counts: list,
+            },
+            Own::Plain,
+        ),
+        Kind::ReduceScatterBlock => (
+            Signature::ReduceScatterBlock {
+                op,
+                elem_type,
+                count,
+            },
+            Own::Plain,
+        ),
+        Kind::Scan => (
+            Signature::Scan {
+                op,
+                elem_type,
+                count,
+            },
+            Own::Plain,
+        ),
+        Kind::Exscan => (
+            Signature::Exscan {
+                op,
+                elem_type,
+                count,
+            },
+            Own::Plain,
+        ),
+        Kind::NeighborAllgather => (
+            Signature::NeighborAllgather { elem_type, count },
+            Own::Plain,
+        ),
+        Kind::NeighborAllgatherv => (Signature::NeighborAllgatherv { elem_type }, Own::Plain),
+        Kind::NeighborAlltoall => (Signature::NeighborAlltoall { elem_type, count }, Own::Plain),
+        Kind::NeighborAlltoallv => (
+            Signature::NeighborAlltoallv { elem_type },
+            Own::Counts(counts),
+        ),
+        Kind::Dup => (Signature::Dup, Own::Plain),
+        Kind::Split => (Signature::Split, Own::Split { colour, key }),
+        Kind::Create => (Signature::Create { ranks: list }, Own::Plain),
+        Kind::CartCreate => (
+            Signature::CartCreate {
+                dims: list,
+                periods: flags,
+            },
+            Own::Plain,
+        ),
+        Kind::CartSub => (Signature::CartSub { keep: flags }, Own::Plain),
+    }
+}

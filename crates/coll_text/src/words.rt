@@ -1,0 +1,65 @@
+//! The next word of a line, and the numbers that words spell.
+ghost use Rattle.std.specs.Prelude.{◌≡◌, ◌≤◌, IfOk, Ok};
+ghost use Rattle.std.specs.List.{list_all};
+ghost use Rattle.coll_text.specs.Reading.{Gives, Takes, word_at, number_at, number_up_to, ended, is_printable};
+ghost use Rattle.coll_text.specs.Fields.{number_of};
+
+use crate::fault::LineFault;
+use crate::numbers::{number, number32};
+use crate::parts::Parts;
+
+/// Whether all bytes are printable ASCII, the space among them.
+pub fn are_printable(line: &[u8]) -> bool
+    ensures { result ≡ list_all is_printable line.now }
+{
+    line.iter().all(|byte| 32 <= *byte && *byte <= 126)
+}
+
+/// The next word, which may not be empty.
+pub fn next_word<'a>(words: &mut Parts<'a>) -> Result<&'a [u8], LineFault>
+    ensures { Takes (λ w. w.now) result words.new (word_at words.old) }
+{
+    match words.next() {
+        None => Err(LineFault::BadShape),
+        Some(word) => {
+            if word.is_empty() {
+                Err(LineFault::BadShape)
+            } else {
+                Ok(word)
+            }
+        }
+    }
+}
+
+/// The number of the next word, up to this one.
+pub fn next_number(words: &mut Parts, most: u64) -> Result<u64, LineFault>
+    ensures number { Takes (λ n. n) result words.new (number_at most words.old) }
+    ensures below { IfOk result (λ n. n ≤ most) }
+{
+    let word = next_word(words)?;
+    number(word, most).ok_or(LineFault::BadField)
+}
+
+pub(crate) fn number_in(word: &[u8]) -> Result<u32, LineFault>
+    ensures { Gives result (number_of word.now) }
+{
+    number32(word).ok_or(LineFault::BadField)
+}
+
+/// The number of 32 bits of the next word.
+pub fn next_number32(words: &mut Parts) -> Result<u32, LineFault>
+    ensures { Takes (λ n. n) result words.new (number_at u32.MAX words.old) }
+{
+    let word = next_word(words)?;
+    number_in(word)
+}
+
+/// The end of the line: there is no further word.
+pub fn end_of(words: &mut Parts) -> Result<(), LineFault>
+    ensures { Gives result (ended words.old tt) }
+{
+    match words.next() {
+        None => Ok(()),
+        Some(_) => Err(LineFault::BadShape),
+    }
+}
