@@ -1,0 +1,130 @@
+-- A turn, step by step, for the seat that takes it.
+use Rattle.std.proofs.Common.{◌≡◌, ◌≢◌, ℕ, true, false, List, [], ◌∷◌, Option, Some, None, refl, sym, ap, ◌∙◌, subst}
+use Rattle.atomic_table.specs.Table.{Me, Step, rest}
+use Rattle.wall_policy.specs.Policy.{ChineseWall}
+use Rattle.hall_core.specs.declared.call.Act.{Act}
+use Rattle.hall_core.specs.declared.call.Call.{Call}
+use Rattle.hall_core.specs.declared.reply.Reply.{Reply}
+use Rattle.hall_core.specs.Replies.{Entry, Legal}
+use Rattle.hall_core.specs.Halls.{entry}
+use Rattle.hall_turn.specs.declared.answer.Answer.TheVariants.{Reply as Replied}
+use Rattle.hall_turn.specs.Runs.{Continues, calls_of}
+use Rattle.hall_turn.specs.Known.{Doorway, Known}
+use Rattle.hall_turn.specs.Answers.{SeesOn, Answered}
+use Rattle.hall_turn.specs.Machines.{Carries}
+use Rattle.hall_turn.specs.Views.{SeatView, saw, drawn, declared}
+use Rattle.hall_turn.specs.Steps.{Looks, Turning, Took, Turned, IsReady, IsIdle}
+use Rattle.hall_turn.proofs.RunLemmas.{continues_self, continues_trans, calls_of-own}
+
+-- the view m, of a seat that had the view v and has looked since, with its ticket not served
+pub record Waits {M : Type 0} (v : SeatView) (m : Me (Option M) SeatView) : Type 0 where
+  pub is : m ≡ (saw v m.0.seen false, [])
+  pub begins : Continues m.0.seen v.seen
+  pub own : calls_of v.process v.seen ≡ calls_of v.process m.0.seen
+
+module _ {M : Type 0} where
+  first_value : Option M → List (ℕ × Option M) → Option M
+  first_value d [] = d
+  first_value d (x ∷ xs) = x.1
+
+  pub waits_none : (m : Me (Option M) SeatView) → m.0.out ≡ false → m.0.told ≡ [] → m.1 ≡ [] → Waits m.0 m
+  waits_none m out told slots = record {
+    is = λ i. (record m.0 { told = told i; out = out i }, slots i);
+    begins = continues_self m.0.seen;
+    own = refl;
+  }
+
+module _ {M : Type 0} (stands : ChineseWall → M → List Entry → Type 0) where
+  pub record Found (v : SeatView) (m : Me (Option M) SeatView) : Type 0 where
+    pub run : List Entry
+    pub machine : M
+    pub is : m ≡ (saw v run true, (0, Some machine) ∷ [])
+    pub seen : Turning v run
+    pub stood : stands v.policy machine run
+
+  pub away : (v : SeatView) (t r : ℕ) (st : Step (Option M)) (m m' : Me (Option M) SeatView) → v.ticket ≡ Some t → Waits v m → Looks stands st m r m' → r ≢ t → Waits v m'
+  away v t r st m m' ticket w l ne =
+      let view = ap (λ (x : Me (Option M) SeatView). x.0) w.is in
+      let mine : m.0.ticket ≢ Some r = λ e. ne (cc (ap (λ (x : SeatView). x.ticket) view, ticket, e)) in
+      let process = ap (λ (x : SeatView). x.process) view in record {
+        is = l.2 mine ∙ (λ i. (saw (w.is i).0 m'.0.seen false, (w.is i).1));
+        begins = continues_trans m'.0.seen m.0.seen v.seen l.0.begins w.begins;
+        own = w.own ∙ subst (λ n. calls_of n m.0.seen ≡ calls_of n m'.0.seen) process l.0.own;
+      }
+
+  pub found : (v : SeatView) (t r : ℕ) (st : Step (Option M)) (m m' : Me (Option M) SeatView) → v.ticket ≡ Some t → Waits v m → Looks stands st m r m' → r ≡ t → Found v m'
+  found v t r st m m' ticket w l same =
+      let view = ap (λ (x : Me (Option M) SeatView). x.0) w.is in
+      let mine : m.0.ticket ≡ Some r = ap (λ (x : SeatView). x.ticket) view ∙ ticket ∙ ap Some (sym same) in
+      let process = ap (λ (x : SeatView). x.process) view in
+      let policy = ap (λ (x : SeatView). x.policy) view in
+      let took = l.1 mine in record {
+        run = m'.0.seen;
+        machine = took.0;
+        is = took.1 ∙ (λ i. (saw (w.is i).0 m'.0.seen true, (0, Some took.0) ∷ (w.is i).1));
+        seen = record {
+          begins = continues_trans m'.0.seen m.0.seen v.seen l.0.begins w.begins;
+          own = w.own ∙ subst (λ n. calls_of n m.0.seen ≡ calls_of n m'.0.seen) process l.0.own;
+          legal = subst (λ x. Legal x m'.0.seen) policy l.0.legal;
+        };
+        stood = subst (λ x. stands x took.0 m'.0.seen) policy took.2;
+      }
+
+  pub holds_one : (v : SeatView) (m : Me (Option M) SeatView) → Found v m → (old : Option M) × (m.1 ≡ (0, old) ∷ rest m.1)
+  holds_one v m f = let e = ap (λ (x : Me (Option M) SeatView). x.1) f.is in (Some f.machine, e ∙ ap (λ l. (0, Some f.machine) ∷ rest l) (sym e))
+
+  pub was_machine : (v : SeatView) (m : Me (Option M) SeatView) (old : Option M) → (f : Found v m) → m.1 ≡ (0, old) ∷ rest m.1 → old ≡ Some f.machine
+  unfolding first_value
+  was_machine v m old f e = let a = ap (λ (x : Me (Option M) SeatView). x.1) f.is in ap (first_value (Some f.machine)) (sym e ∙ a)
+
+  pub took : (v : SeatView) (m m' : Me (Option M) SeatView) (h : M) → (f : Found v m) → m.1 ≡ (0, Some h) ∷ rest m.1 → m' ≡ (m.0, (0, None) ∷ rest m.1) → Took stands v h m'
+  took v m m' h f e then =
+      let same : f.machine ≡ h = cc (was_machine v m (Some h) f e) in record {
+        run = f.run;
+        is = then ∙ (λ i. ((f.is i).0, (0, None) ∷ rest (f.is i).1));
+        seen = f.seen;
+        stood = subst (λ x. stands v.policy x f.run) same f.stood;
+      }
+
+  -- what the machine is asked in its turn is what it can answer
+  pub may_apply : (v : SeatView) (m1 m2 : Me (Option M) SeatView) (h : M) (act : Act) (Known : ChineseWall → Act → Type 0) → m1.0.policy ≡ v.policy → Took stands m1.0 h m2 → Known v.policy act
+      → (wall : ChineseWall) × (run : List Entry) × Legal wall run × stands wall h run × Known wall act
+  may_apply v m1 m2 h act Known policy took known =
+      (v.policy, took.run, subst (λ p. Legal p took.run) policy took.seen.legal, subst (λ p. stands p h took.run) policy took.stood, known)
+
+  -- before the turn ends
+  pub ready : (v : SeatView) (t : ℕ) (m1 m2 m3 m4 : Me (Option M) SeatView) (h h' : M) (call : Call) (reply : Reply)
+      → m1 ≡ (drawn v t m1.0.lates, []) → Took stands m1.0 h m2 → m3 ≡ (declared m2.0 (entry call reply), m2.1) → m4 ≡ (m3.0, (0, Some h') ∷ [])
+      → call.process ≡ v.process → v.joined ≡ [] → Carries stands h h' call reply
+      → IsReady stands m4
+  ready v t m1 m2 m3 m4 h h' call reply draws took declares puts by joined applied =
+      let e = entry call reply in
+      let l = m1.0.lates in
+      let target : Me (Option M) SeatView = (declared (saw (drawn v t l) took.run true) e, (0, Some h') ∷ []) in
+      let is : m4 ≡ target =
+      puts ∙ (λ i. ((declares i).0, (0, Some h') ∷ [])) ∙ (λ i. (declared (took.is i).0 e, (0, Some h') ∷ [])) ∙ (λ i. (declared (saw (draws i).0 took.run true) e, (0, Some h') ∷ [])) in
+      let policy : m1.0.policy ≡ v.policy = λ i. (draws i).0.policy in
+      let more = applied v.policy took.run (subst (λ p. Legal p took.run) policy took.seen.legal) (subst (λ p. stands p h took.run) policy took.stood) in
+      subst (IsReady stands) (sym is) (record { entry = e; machine = h'; out = refl; said = refl; held = refl; joined = joined; by = by; legal = more.0; stood = more.1 })
+
+  -- a look of a seat between two calls
+  pub sees_on : (door d : Doorway) (p : ℕ) (r : ℕ) (st : Step (Option M)) (m m' : Me (Option M) SeatView) → IsIdle p m → Looks stands st m r m'
+      → SeesOn (record { door = door; process = p; seen = m.0.seen }) (record { door = d; process = p; seen = m'.0.seen })
+  sees_on door d p r st m m' idle l =
+      record { begins = l.0.begins; own = sym (subst (λ n. calls_of n m.0.seen ≡ calls_of n m'.0.seen) idle.process_is l.0.own) }
+
+  -- what a call that was answered does
+  pub called : (door d : Doorway) (p : ℕ) (act : Act) (reply : Reply) (r : ℕ) (st : Step (Option M)) (m m1 m2 : Me (Option M) SeatView)
+      → IsIdle p m → Looks stands st m r m1 → Turned m1.0 (entry (record { process = p; act = act }) reply) m2.0
+      → Answered (record { door = door; process = p; seen = m.0.seen }) act (Replied reply) (record { door = d; process = p; seen = m2.0.seen })
+  called door d p act reply r st m m1 m2 idle l t =
+      let e = entry (record { process = p; act = act }) reply in
+      let saw_it = l.2 (λ (x : m.0.ticket ≡ Some r). cc (idle.ticket, x)) in
+      let process : m1.0.process ≡ p = (λ i. (saw_it i).0.process) ∙ idle.process_is in
+      let own : calls_of p m.0.seen ≡ calls_of p m1.0.seen = subst (λ n. calls_of n m.0.seen ≡ calls_of n m1.0.seen) idle.process_is l.0.own in
+      let next : calls_of p m1.0.seen ≡ calls_of p t.run = subst (λ n. calls_of n m1.0.seen ≡ calls_of n t.run) process t.before.own in record {
+        front = t.run;
+        ends = t.seen_is;
+        begins = continues_trans t.run m1.0.seen m.0.seen t.before.begins l.0.begins;
+        own = ap (calls_of p) t.seen_is ∙ calls_of-own p t.run e refl ∙ ap (λ x. e ∷ x) (sym (own ∙ next));
+      }

@@ -1,0 +1,24 @@
+-- The end of a door.
+use Rattle.std.specs.Prelude.{◌≡◌, ℕ, ◌<◌, ◌≤◌, List, [], All, Any}
+use Rattle.wall_policy.specs.Policy.{ChineseWall}
+use Rattle.hall_core.specs.Posts.{processes}
+use Rattle.hall_core.specs.Replies.{Entry, Legal}
+use Rattle.hall_core.specs.Halls.{Kept, StandsFor}
+use Rattle.hall_turn.specs.Runs.{Continues, calls_of}
+use Rattle.hall_turn.specs.Known.{Known}
+
+-- the pass has seen a beginning of the run, with all calls of its process
+pub record HasMade (run : List Entry) (pass : Known) : Type 0 where
+  pub begins : Continues run pass.seen
+  pub own : calls_of pass.process run ≡ calls_of pass.process pass.seen
+
+-- There is a legal run for which the hall stands. It begins with what each pass has seen, and the calls of each process in it are those that
+-- its pass has seen; of what is no process it has none.
+pub record Closed (wall : ChineseWall) (hall : Kept) (passes : List Known) : Type 0 where
+  pub run : List Entry
+  pub policy : hall.policy ≡ wall
+  pub legal : Legal wall run
+  pub stands : StandsFor hall run
+  pub each : All (HasMade run) passes
+  pub whole : (p : ℕ) → p < processes wall → Any (λ pass. pass.process ≡ p) passes
+  pub others : (p : ℕ) → processes wall ≤ p → calls_of p run ≡ []

@@ -1,0 +1,79 @@
+-- The rule of the turns.
+-- Word 0, SERVING, is the length of the run so far. Word 1, TICKET, is the next ticket. The slot has the machine, which is out only while some
+-- view's ticket is SERVING.
+use Rattle.std.specs.Prelude.{◌≡◌, ◌≢◌, ◌⊎◌, ℕ, ◌+◌, ◌^◌, ◌<◌, ◌≤◌, true, eqb, List, [], ◌∷◌, length, Option, Some, None}
+use Rattle.std.specs.List.{IsDistinct}
+use mathlib.Core.Option as opt
+use lib.ListN.{get_elem?}
+use Rattle.atomic_table.specs.Table.{State}
+use Rattle.wall_policy.specs.Policy.{ChineseWall}
+use Rattle.hall_core.specs.Posts.{processes}
+use Rattle.hall_core.specs.Replies.{Entry, Legal}
+use Rattle.hall_turn.specs.Runs.{Continues, calls_of}
+use Rattle.hall_turn.specs.Views.{Told, SeatView, parts_of, lates_of, every, numbers}
+
+-- f of each, added up
+abbrev pub total : {A : Type 0} → (A → ℕ) → List A → ℕ
+total f [] = 0
+total f (x ∷ xs) = f x + total f xs
+
+-- what the rule says of what one pass has seen
+pub record FitsTold (run : List Entry) (made : ℕ) (t : Told) : Type 0 where
+  pub begins : Continues run t.seen
+  pub own : calls_of t.process t.seen ≡ calls_of t.process run
+  pub below : t.process < made
+
+-- what the rule says of one view, where this is the run so far, and this the next ticket
+pub record Fits (wall : ChineseWall) (made : ℕ) (run : List Entry) (next : ℕ) (v : SeatView) : Type 0 where
+  pub begins : Continues run v.seen
+  pub hears : Continues run v.told
+  pub policy_is : 0 < v.parts → v.policy ≡ wall
+  pub knows : 0 < v.parts → (i : ℕ) (t : Told) → get_elem? (every v) i ≡ opt.some t → FitsTold run made t
+  pub differ : IsDistinct eqb (numbers v)
+  pub waits : (t : ℕ) → v.ticket ≡ Some t → (length run ≤ t) × (t < next) × (0 < v.parts)
+  pub serves : v.out ≡ true → (v.ticket ≡ Some (length run)) × (v.seen ≡ run)
+  pub few : v.lates ≤ v.parts
+  pub late : 0 < v.lates → (t : ℕ) → v.ticket ≡ Some t → 2 ^ 62 ≤ t
+  pub done : 0 < v.lates → v.ticket ≡ None → v.joined ≡ [] → 2 ^ 62 < length v.seen
+  pub makes : 0 < v.made → (v.made ≡ made) × (0 < v.parts)
+
+-- what it says of two
+pub record Apart (v w : SeatView) : Type 0 where
+  pub processes : 0 < v.parts → 0 < w.parts → (i j p q : ℕ) → get_elem? (numbers v) i ≡ opt.some p → get_elem? (numbers w) j ≡ opt.some q → p ≢ q
+  pub tickets : (t : ℕ) → v.ticket ≡ Some t → w.ticket ≡ Some t → ⊥
+  pub makers : 0 < v.made → 0 < w.made → ⊥
+
+-- what it says of all views
+pub record Agree (wall : ChineseWall) (made : ℕ) (run : List Entry) (next : ℕ) (views : List SeatView) : Type 0 where
+  pub each : (j : ℕ) (v : SeatView) → get_elem? views j ≡ opt.some v → Fits wall made run next v
+  pub apart : (i j : ℕ) (v w : SeatView) → get_elem? views i ≡ opt.some v → get_elem? views j ≡ opt.some w → i ≢ j → Apart v w
+
+module _ {M : Type 0} (stands : ChineseWall → M → List Entry → Type 0) where
+  pub record AtHome (wall : ChineseWall) (run : List Entry) (s : State (Option M) SeatView) : Type 0 where
+    pub machine : M
+    pub homes : s.homes ≡ opt.some (Some machine) ∷ []
+    pub stood : stands wall machine run
+
+  pub record IsOut (s : State (Option M) SeatView) : Type 0 where
+    pub seat : ℕ
+    pub view : SeatView
+    pub homes : s.homes ≡ opt.none ∷ []
+    pub at : get_elem? s.views seat ≡ opt.some view
+    pub out : view.out ≡ true
+
+  pub record Ruled (wall : ChineseWall) (s : State (Option M) SeatView) : Type 0 where
+    pub run : List Entry
+    pub next : ℕ
+    pub made : ℕ
+    pub words : s.words ≡ length run ∷ next ∷ []
+    pub legal : Legal wall run
+    pub order : length run ≤ next
+    -- of the tickets numbered 2^62 or more each pass has at most one
+    pub bound : next ≤ 2 ^ 62 + total lates_of s.views
+    -- the parts of the right to close are as many as the processes
+    pub whole : total parts_of s.views ≡ processes wall
+    pub small : processes wall < 2 ^ 32
+    pub within : made ≤ processes wall
+    pub unmade : (p : ℕ) → made ≤ p → calls_of p run ≡ []
+    pub agree : Agree wall made run next s.views
+    pub home : AtHome wall run s ⊎ IsOut s

@@ -1,0 +1,12 @@
+//! What a call at a door answers.
+
+use hall_core::Reply;
+
+/// The answer to a call that takes a turn.
+#[derive(Debug, Drop)]
+pub enum Answer {
+    /// The call was made, at its turn, and this is its reply.
+    Reply(Reply),
+    /// The door has had 2^62 turns. The call was not made.
+    Exhausted,
+}

@@ -1,0 +1,62 @@
+//! The end of a door.
+ghost use Rattle.std.specs.Prelude.{◌≡◌, ◌<◌, ◌≤◌, ◌↔◌, length, IfOk, IfErr, IsErr};
+ghost use Rattle.std.specs.List.{All};
+ghost use Rattle.hall_core.specs.Posts.{processes};
+ghost use Rattle.hall_turn.specs.Ending.{Closed};
+
+use crate::door::Door;
+use crate::pass::Passes;
+use hall_core::Hall;
+use thiserror::Error;
+
+/// Why a door was not closed. Want of memory is no cause: closing takes none.
+#[derive(Clone, Copy, Debug, PartialEq, Eq, Error)]
+pub enum CloseFault {
+    /// There are fewer passes than processes.
+    #[error("a pass is missing")]
+    MissingPass,
+}
+
+/// A door that was not closed, with what was handed in, unchanged.
+#[derive(Drop)]
+pub struct Unclosed {
+    /// Why it was not closed.
+    pub fault: CloseFault,
+    /// The door, as it was.
+    pub door: Door,
+    /// The passes, as they were.
+    pub passes: Passes,
+}
+
+impl Door {
+    /// The hall, at the end of the run of all calls that were made at the door. It takes no memory.
+    ///
+    /// `MissingPass` is answered exactly if there are fewer passes than processes; then door and passes come back as they were. The caller sees to
+    /// it that the passes are of this door. It waits for nobody.
+    pub fn close(self, passes: Passes) -> Result<Hall, Unclosed>
+        requires { All (λ pass. pass.door ≡ self) passes.items }
+        ensures hall { IfOk result (λ hall. Closed self.policy hall passes.items) }
+        ensures missing { IsErr result ↔ (length passes.items < processes self.policy) }
+        ensures back { IfErr result (λ unclosed. (unclosed.door ≡ self) × (unclosed.passes.items ≡ passes.items)) }
+    {
+        if passes.len() < self.count as usize {
+            return Err(Unclosed {
+                fault: CloseFault::MissingPass,
+                door: self,
+                passes,
+            });
+        }
+        Ok(self.end_all(passes))
+    }
+
+    // The hall, where no pass is missing.
+    fn end_all(self, passes: Passes) -> Hall
+        requires of { All (λ pass. pass.door ≡ self) passes.items }
+        requires enough { processes self.policy ≤ length passes.items }
+        ensures { Closed self.policy result passes.items }
+    {
+        let Door { turns, count: _ } = self;
+        let seat = turns.gather(passes);
+        turns.end(seat)
+    }
+}

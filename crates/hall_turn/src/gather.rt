@@ -1,0 +1,54 @@
+//! One seat takes in all passes, to close a door.
+ghost use Rattle.std.specs.Prelude.{◌≡◌, ◌<◌, vec_len};
+ghost use Rattle.std.specs.List.{All};
+ghost use Rattle.hall_turn.specs.Steps.{HasAll, HasWhole, Ends};
+
+use crate::machine::Machine;
+use crate::pass::{Pass, Passes};
+use crate::rule::{Gather, View};
+use crate::turns::Turns;
+use atomic_table::Seat;
+use hall_core::Hall;
+
+impl Turns<Hall> {
+    // One seat that knows what each pass has seen.
+    pub(crate) fn gather(&self, mut passes: Passes) -> Seat<Option<Hall>, View>
+        requires some_pass { 0 < vec_len passes }
+        requires of { All (λ pass. pass.door.name ≡ self.now.table.shared.table_id) passes.items }
+        ensures at { result.table_id ≡ self.now.table.shared.table_id }
+        ensures has { HasAll passes.items result.me }
+    {
+        let Some(first) = passes.pop() else {
+            unreachable!()
+        };
+        let Pass {
+            mut seat,
+            process: _,
+        } = first;
+        while let Some(pass) = passes.pop() {
+            let Pass {
+                seat: other,
+                process: _,
+            } = pass;
+            self.table.shared.join_seat::<Gather>(&mut seat, other);
+        }
+        passes.destroy_empty();
+        seat
+    }
+}
+
+impl<M: Machine> Turns<M> {
+    // The machine, at the end of the run.
+    pub(crate) fn end(self, seat: Seat<Option<M>, View>) -> M
+        requires at { seat.table_id ≡ self.table.shared.table_id }
+        requires whole { HasWhole self.table.shared.key.value seat.me }
+        ensures { Ends M.stands self.table.shared.key.value seat.me.0 result }
+    {
+        let Turns { table } = self;
+        let mut closed = table.close_with(seat);
+        let found = closed.take(0);
+        closed.free();
+        let Some(machine) = found else { unreachable!() };
+        machine
+    }
+}

@@ -1,0 +1,25 @@
+//! The door: threads take turns at one hall, which stands in a slot that each empties and fills again. There is no lock.
+//!
+//! Each process has a [`Pass`]. A call is one turn: its entry, the call with its reply, joins one run of all calls. What a pass has seen of
+//! that run is a beginning of it.
+#![tactic(auto)]
+
+mod answer;
+mod close;
+mod door;
+mod gather;
+mod machine;
+mod note;
+mod pass;
+mod rule;
+mod steps;
+#[cfg(test)]
+mod tests;
+mod turns;
+
+pub use answer::Answer;
+pub use close::{CloseFault, Unclosed};
+pub use door::Door;
+pub use hall_core::NoMemory;
+pub use note::Note;
+pub use pass::{Pass, Passes};

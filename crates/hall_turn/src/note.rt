@@ -1,0 +1,59 @@
+//! Notes, by which one pass tells another what it has seen.
+ghost use Rattle.std.specs.Prelude.{◌≡◌};
+ghost use Rattle.hall_core.specs.Replies.{Legal};
+ghost use Rattle.hall_turn.specs.Runs.{Continues};
+ghost use Rattle.hall_turn.specs.Answers.{IsSamePass, SeesOn};
+
+use crate::door::Door;
+use crate::pass::Pass;
+use crate::rule::View;
+use atomic_table::Seat;
+use hall_core::Hall;
+use std::marker::Model;
+
+/// What a pass had seen, to be told to another. Contracts see its door and the run, the newest entry first.
+#[derive(Drop)]
+pub struct Note {
+    seat: Seat<Option<Hall>, View>,
+}
+
+impl Model for Note {
+    ghost use Rattle.hall_turn.specs.Known.{Noted};
+
+    ghost Value = { Noted };
+
+    ghost use Rattle.hall_turn.specs.Steps.{IsNote};
+
+    ghost view = { λ n. record {
+      door = record { name = n.seat.table_id; policy = n.seat.me.0.policy };
+      seen = n.seat.me.0.seen;
+    } };
+
+    ghost invariant = { λ n. IsNote n.seat.me };
+}
+
+impl Door {
+    /// A note of what the pass has seen. The pass stays as it was. It waits for nobody.
+    pub fn note(&self, pass: &mut Pass) -> Note
+        requires { pass.old.door ≡ self.now }
+        ensures same { pass.new ≡ pass.old }
+        ensures note { result ≡ record { door = self.now; seen = pass.old.seen } }
+    {
+        let seat = self.turns.write_note(&mut pass.seat);
+        Note { seat }
+    }
+
+    /// The pass sees at least what the note has seen, and looks, as by `front`. It waits for nobody.
+    pub fn learn(&self, pass: &mut Pass, note: Note)
+        requires pass { pass.old.door ≡ self.now }
+        requires note { note.door ≡ self.now }
+        ensures same { IsSamePass pass.old pass.new }
+        ensures sees { SeesOn pass.old pass.new }
+        ensures note { Continues pass.new.seen note.seen }
+        ensures legal { Legal self.now.policy pass.new.seen }
+    {
+        let Note { seat } = note;
+        self.turns.hear(&mut pass.seat, seat);
+        self.turns.look(&mut pass.seat);
+    }
+}

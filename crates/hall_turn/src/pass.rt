@@ -1,0 +1,59 @@
+//! Passes, by which processes call at a door.
+ghost use Rattle.std.specs.Prelude.{◌≡◌, length};
+ghost use Rattle.hall_core.specs.Replies.{Legal};
+ghost use Rattle.hall_turn.specs.Answers.{IsSamePass, SeesOn};
+
+use crate::door::Door;
+use crate::rule::View;
+use atomic_table::Seat;
+use hall_core::Hall;
+use std::marker::Model;
+
+/// The right to call as one process. Contracts see its door, its process, and the run that it has seen, the newest entry first.
+#[derive(Drop)]
+pub struct Pass {
+    pub(crate) seat: Seat<Option<Hall>, View>,
+    pub(crate) process: u32,
+}
+
+impl Model for Pass {
+    ghost use Rattle.hall_turn.specs.Known.{Known};
+
+    ghost Value = { Known };
+
+    ghost use Rattle.hall_turn.specs.Steps.{IsIdle};
+
+    ghost view = { λ p. record {
+      door = record { name = p.seat.table_id; policy = p.seat.me.0.policy };
+      process = p.process;
+      seen = p.seat.me.0.seen;
+    } };
+
+    ghost invariant = { λ p. IsIdle p.process p.seat.me };
+}
+
+/// Passes of a door. As it is opened, pass i calls as process i.
+pub type Passes = Vec<Pass>;
+
+impl Pass {
+    /// The number of the process that the pass calls as. What any pass has seen is a legal run.
+    pub fn process(&self) -> u32
+        ensures process { result ≡ self.now.process }
+        ensures legal { Legal self.now.door.policy self.now.seen }
+    {
+        self.process
+    }
+}
+
+impl Door {
+    /// Looks how many turns have ended: that is the length of the run that the pass has now seen. It waits for nobody.
+    pub fn front(&self, pass: &mut Pass) -> u64
+        requires { pass.old.door ≡ self.now }
+        ensures same { IsSamePass pass.old pass.new }
+        ensures sees { SeesOn pass.old pass.new }
+        ensures legal { Legal self.now.policy pass.new.seen }
+        ensures length { result ≡ length pass.new.seen }
+    {
+        self.turns.look(&mut pass.seat)
+    }
+}

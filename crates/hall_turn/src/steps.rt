@@ -1,0 +1,170 @@
+//! The steps of a turn.
+ghost use Rattle.std.specs.Prelude.{◌≡◌, ◌^◌, ◌<◌, [], ◌∷◌, true, false, Some, None, length};
+ghost use mathlib.Core.Option.{none};
+ghost use Rattle.atomic_table.specs.Table.{step};
+ghost use Rattle.hall_core.specs.Halls.{entry};
+ghost use Rattle.hall_core.specs.Named.{HasKnownLabel, IsNamed};
+ghost use Rattle.hall_turn.specs.Views.{maker_left, next_pass, noted, informed, declared, served, drawn};
+ghost use Rattle.hall_turn.specs.Steps.{Looks, IsAt, IsIdle, IsNote, IsReady, Took, Turned, CanMake};
+
+use crate::machine::Machine;
+use crate::rule::{AsNote, Declare, Draw, Learn, Look, NextPass, Saying, Serve, View};
+use crate::turns::Turns;
+use atomic_table::Seat;
+use hall_core::{Call, Reply};
+use std::marker::Brand;
+use std::snapshot::Snapshot;
+use std::sync::Wait;
+use std::thread;
+
+const SERVING: usize = 0;
+
+const TICKET: usize = 1;
+
+const SLOT: usize = 0;
+
+impl<M: Machine> Turns<M> {
+    // The seat becomes the pass of the next process, and the new one is the pass that it was.
+    pub(crate) fn make_pass(&self, maker: &mut Seat<Option<M>, View>) -> Seat<Option<M>, View>
+        requires at { maker.old.table_id ≡ self.now.table.shared.table_id }
+        requires can { CanMake maker.old.me.0 }
+        ensures at { IsAt maker.old maker.new × (result.table_id ≡ maker.old.table_id) }
+        ensures maker { maker.new.me ≡ (maker_left maker.old.me.0, maker.old.me.1) }
+        ensures pass { result.me ≡ (next_pass maker.old.me.0, []) }
+    {
+        self.table.shared.split_seat::<NextPass>(maker)
+    }
+
+    // A new seat has seen what this one has.
+    pub(crate) fn write_note(&self, seat: &mut Seat<Option<M>, View>) -> Seat<Option<M>, View>
+        requires at { seat.old.table_id ≡ self.now.table.shared.table_id }
+        requires out { seat.old.me.0.out ≡ false }
+        ensures at { IsAt seat.old seat.new × (result.table_id ≡ seat.old.table_id) }
+        ensures same { seat.new.me ≡ seat.old.me }
+        ensures note { result.me ≡ (noted seat.old.me.0, []) }
+    {
+        self.table.shared.split_seat::<AsNote>(seat)
+    }
+
+    // The seat hears what the note has seen. At its next look it sees at least that.
+    pub(crate) fn hear(&self, seat: &mut Seat<Option<M>, View>, note: Seat<Option<M>, View>)
+        requires at { seat.old.table_id ≡ self.now.table.shared.table_id }
+        requires note_at { note.table_id ≡ self.now.table.shared.table_id }
+        requires out { seat.old.me.0.out ≡ false }
+        requires note { IsNote note.me }
+        ensures at { IsAt seat.old seat.new }
+        ensures hears { seat.new.me ≡ (informed seat.old.me.0 note.me.0, seat.old.me.1) }
+    {
+        self.table.shared.join_seat::<Learn>(seat, note)
+    }
+
+    // Sees the run so far. Where the seat's ticket is served, the machine is out with it.
+    pub(crate) fn look(&self, seat: &mut Seat<Option<M>, View>) -> u64
+        requires at { seat.old.table_id ≡ self.now.table.shared.table_id }
+        requires parts { 0 < seat.old.me.0.parts }
+        requires out { seat.old.me.0.out ≡ false }
+        ensures at { IsAt seat.old seat.new }
+        ensures looks { Looks M.stands (step 1 0 0 0 none) seat.old.me result seat.new.me }
+    {
+        self.table.shared.load::<Look>(seat, SERVING)
+    }
+
+    fn draw(&self, seat: &mut Seat<Option<M>, View>) -> u64
+        requires at { seat.old.table_id ≡ self.now.table.shared.table_id }
+        requires ticket { seat.old.me.0.ticket ≡ None }
+        requires out { seat.old.me.0.out ≡ false }
+        requires parts { 0 < seat.old.me.0.parts }
+        requires joined { seat.old.me.0.joined ≡ [] }
+        requires few { length seat.old.me.0.seen < 2 ^ 62 }
+        ensures at { IsAt seat.old seat.new }
+        ensures draws { seat.new.me ≡ (drawn seat.old.me.0 result seat.new.me.0.lates, seat.old.me.1) }
+    {
+        self.table.shared.fetch_add::<Draw>(seat, TICKET, 1)
+    }
+
+    // Waits until the ticket is served.
+    fn take_out<R: Wait>(&self, rt: &R, seat: &mut Seat<Option<M>, View>, ticket: u64) -> M
+        requires at { seat.old.table_id ≡ self.now.table.shared.table_id }
+        requires ticket { seat.old.me.0.ticket ≡ Some ticket }
+        requires out { seat.old.me.0.out ≡ false }
+        requires parts { 0 < seat.old.me.0.parts }
+        requires told { seat.old.me.0.told ≡ [] }
+        requires slots { seat.old.me.1 ≡ [] }
+        ensures at { IsAt seat.old seat.new }
+        ensures took { Took M.stands seat.old.me.0 result seat.new.me }
+    {
+        for _ in rt.forever() {
+            if self.look(seat) == ticket {
+                let Some(machine) = self.table.shared.exchange(seat, SLOT, None) else {
+                    unreachable!()
+                };
+                return machine;
+            }
+            thread::yield_now();
+        }
+        unreachable!()
+    }
+
+    // The call and its reply are what the turn will add to the run.
+    fn declare<J: Saying>(
+        &self,
+        seat: &mut Seat<Option<M>, View>,
+        call: &Snapshot<Call>,
+        reply: &Reply,
+    )
+        requires at { seat.old.table_id ≡ self.now.table.shared.table_id }
+        requires out { seat.old.me.0.out ≡ true }
+        requires saying { J.entry ≡ entry call.now.value reply.now }
+        ensures at { IsAt seat.old seat.new }
+        ensures declares { seat.new.me ≡ (declared seat.old.me.0 (entry call.now.value reply.now), seat.old.me.1) }
+    {
+        let _ = call;
+        let _ = reply;
+        self.table.shared.load::<Declare<J>>(seat, SERVING);
+    }
+
+    fn put_back(&self, seat: &mut Seat<Option<M>, View>, machine: M)
+        requires at { seat.old.table_id ≡ self.now.table.shared.table_id }
+        requires slots { seat.old.me.1 ≡ (0, None) ∷ [] }
+        ensures at { IsAt seat.old seat.new }
+        ensures put { seat.new.me ≡ (seat.old.me.0, (0, Some machine) ∷ []) }
+    {
+        let found = self.table.shared.exchange(seat, SLOT, Some(machine));
+        let None = found else { unreachable!() };
+    }
+
+    fn serve(&self, seat: &mut Seat<Option<M>, View>)
+        requires at { seat.old.table_id ≡ self.now.table.shared.table_id }
+        requires ready { IsReady M.stands seat.old.me }
+        ensures at { IsAt seat.old seat.new }
+        ensures serves { (e : _) × (seat.old.me.0.said ≡ Some e) × (seat.new.me ≡ (served seat.old.me.0 e, [])) }
+    {
+        self.table.shared.fetch_add::<Serve>(seat, SERVING, 1);
+    }
+
+    // One turn: the call is applied, and its entry joins the run.
+    pub(crate) fn turn<R: Wait>(
+        &self,
+        rt: &R,
+        seat: &mut Seat<Option<M>, View>,
+        call: Call,
+    ) -> Reply
+        requires at { seat.old.table_id ≡ self.now.table.shared.table_id }
+        requires idle { IsIdle call.process seat.old.me }
+        requires few { length seat.old.me.0.seen < 2 ^ 62 }
+        requires label { HasKnownLabel seat.old.me.0.policy call.act }
+        ensures at { IsAt seat.old seat.new }
+        ensures idle { IsIdle call.process seat.new.me }
+        ensures turned { Turned seat.old.me.0 (entry call result) seat.new.me.0 }
+        ensures named { IsNamed seat.old.me.0.policy result }
+    {
+        let ticket = self.draw(seat);
+        let mut machine = self.take_out(rt, seat, ticket);
+        let asked = Snapshot::of(&call);
+        let reply = machine.apply(call);
+        self.declare::<Brand>(seat, &asked, &reply);
+        self.put_back(seat, machine);
+        self.serve(seat);
+        reply
+    }
+}
