@@ -10,7 +10,7 @@ mod words;
 
 pub use devices::{Count, FileSource, StreamSink};
 pub use ending::{Ending, end};
-pub use replay::replay_on;
+pub use replay::{NoBook, replay_on};
 use std::alloc::Global;
 use std::io::{Stderr, Stdout, Write};
 use std::marker::Brand;
@@ -89,14 +89,13 @@ where
         file: None,
         failures: script_count,
     };
-    let book: Option<&mut StreamSink<W, O>> = None;
     replay_on(
         rt.alloc(),
         &mut policy,
         &mut script,
         &mut out,
         &mut err,
-        book,
+        None,
     )
 }
 

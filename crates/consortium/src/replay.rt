@@ -1,5 +1,5 @@
 //! Replays a script on a policy, over any devices.
-ghost use Rattle.std.specs.Prelude.{◌≡◌, ◌⊎◌, IfOk, IfErr, IsNone};
+ghost use Rattle.std.specs.Prelude.{◌≡◌, ◌⊎◌, IfOk, IfErr};
 ghost use Rattle.consortium.specs.Endings.{status_of, error_line, IsTold};
 ghost use Rattle.consortium.specs.Replaying.{IsPolicyOf, IsNoPolicy, policy_ending, script_ending, replay_ending, Happens, EndsSo};
 
@@ -72,18 +72,21 @@ fn replay_devices<P: Source, S: Source, O: Sink>(
     replay_ending(replay(alloc, wall, script, out))
 }
 
+/// Where a book would go: nowhere, since the hall keeps none yet. Nothing is of this type.
+#[derive(Clone, Copy)]
+pub enum NoBook {}
+
 /// Reads the policy, replays the script on it, writes the replies to `out` and the line of a fault to `err`, and gives the status.
 ///
-/// The policy is read and judged before the script is looked at. The hall keeps no book yet, so none can be asked for.
-pub fn replay_on<P: Source, S: Source, O: Sink, E: Sink, B: Sink>(
+/// The policy is read and judged before the script is looked at. The hall keeps no book yet, so `book` can only be None.
+pub fn replay_on<P: Source, S: Source, O: Sink, E: Sink>(
     alloc: Global,
     policy: &mut P,
     script: &mut S,
     out: &mut O,
     err: &mut E,
-    book: Option<&mut B>,
+    book: Option<NoBook>,
 ) -> u8
-    requires no_book { IsNone book }
     ensures { EndsSo (Happens ((script.new ≡ script.old) × (out.new ≡ out.old))
         (P.failures policy.old) (P.failures policy.new) (S.failures script.old) (S.failures script.new) (O.failures out.old) (O.failures out.new)
         (P.remaining policy.old) (S.remaining script.old) (O.contents out.old) (O.contents out.new))

@@ -69,8 +69,7 @@ fn status_of(
     out: &mut ExpectingSink,
     err: &mut ExpectingSink,
 ) -> u8 {
-    let book: Option<&mut ExpectingSink> = None;
-    replay_on(rt.alloc(), policy, script, out, err, book)
+    replay_on(rt.alloc(), policy, script, out, err, None)
 }
 
 // Whether replaying the script writes these replies and this line on standard error, with this status.
