@@ -1,0 +1,10 @@
+pub mod BookLemmas
+pub mod PostLemmas
+pub mod SizeLemmas
+pub mod CommLemmas
+pub mod TakenLemmas
+pub mod FitLemmas
+pub mod LawLemmas
+pub mod FlowLemmas
+pub mod StepLemmas
+pub mod RowProofs

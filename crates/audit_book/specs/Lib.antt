@@ -1,0 +1,9 @@
+pub mod Books
+pub mod Checks
+pub mod Comms
+pub mod Flow
+pub mod Forms
+pub mod Laws
+pub mod Posts
+pub mod Refusals
+pub mod Rows
