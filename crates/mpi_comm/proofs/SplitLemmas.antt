@@ -1,5 +1,5 @@
 -- What a split makes.
-use Rattle.std.proofs.Common.{◌≡◌, ℕ, zero, suc, ◌+◌, ◌<◌, ◌≤◌, ◌||◌, Bool, true, false, not, cond, eqb, ltb, List, [], ◌∷◌, ◌++◌, length, get_or, take, map, Some, None, ℤ, refl, sym, ap, ◌∙◌, arith, inl, inr, add-one}
+use Rattle.std.proofs.Common.{◌≡◌, ℕ, zero, suc, ◌+◌, ◌<◌, ◌≤◌, ◌||◌, Bool, true, false, not, cond, eqb, ltb, List, [], ◌∷◌, ◌++◌, length, get_or, take, map, Some, None, ℤ, refl, sym, ap, ◌∙◌, arith, inl, inr}
 use Rattle.std.specs.List.{AllByRecursion, filter, filter_map, cons_option, list_any, enumerate_from, dedup, dedup_from, range_with_len}
 use Rattle.std.specs.Set.{distinct_count, unique_keys}
 use Rattle.std.specs.Option.{option_map_or}
@@ -165,7 +165,7 @@ is_subgroup-ranks_for colour asks =
     distinct-sorted_by goes_before (λ p. p.1) (asked colour asks) ∙ distinct_from colour 0 asks in
     and_from _ _ within distinct
 
--- ---- the world
+-- ---- ranks that follow each other are distinct
 none_in_range : (a n q : ℕ) → q < a → is_member (range_with_len a n) q ≡ false
 none_in_range a zero q lt = refl
 none_in_range a (suc n) q lt =
@@ -177,17 +177,6 @@ is_distinct-range_with_len a zero = refl
 is_distinct-range_with_len a (suc n) =
     let none : is_member (range_with_len (a + 1) n) a ≡ false = none_in_range (a + 1) n a (omega arith) in
     rw none (is_distinct-range_with_len (a + 1) n)
-
-range_suc : (a n : ℕ) → range_with_len a (suc n) ≡ range_with_len a n ++ (a + n) ∷ []
-range_suc a zero = let same : a ≡ a + 0 = omega arith in ap (λ (k : ℕ). k ∷ []) same
-range_suc a (suc n) =
-    let same : a + 1 + n ≡ a + suc n = omega arith in
-    ap (λ t. a ∷ t) (range_suc (a + 1) n ∙ ap (λ (k : ℕ). range_with_len (a + 1) n ++ k ∷ []) same)
-
-pub range_more : (n : ℕ) → range_with_len 0 (n + 1) ≡ range_with_len 0 n ++ n ∷ []
-range_more n =
-    let same : 0 + n ≡ n = omega arith in
-    rw add-one (range_suc 0 n ∙ ap (λ (k : ℕ). range_with_len 0 n ++ k ∷ []) same)
 
 -- two maps in a row
 pub map_of_map : {A B C : Type 0} (f : B → C) (g : A → B) (xs : List A) → map f (map g xs) ≡ map (λ x. f (g x)) xs

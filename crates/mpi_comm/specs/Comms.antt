@@ -1,7 +1,7 @@
 -- Communicators. (MPI 4.1, section 7.4.) A table of them is the list of their groups; a communicator's number is its
 -- place. The world is the first, and new ones take the next numbers. (Own rule.)
 use Rattle.std.specs.Prelude.{◌≡◌, ◌==◌, ℕ, ◌+◌, Bool, ◌&&◌, ◌||◌, if◌then◌else◌, List, [], ◌∷◌, ◌++◌, length, map, nat_lt, nat_le, slice_get, Option, Some, None, unwrap_or, Result, Ok, Err, IfOk, IfErr, OnOk, OnErr}
-use Rattle.std.specs.List.{list_all, range_with_len}
+use Rattle.std.specs.List.{list_all}
 use Rattle.mpi_group.specs.Groups.{rank_in, are_ranks, is_distinct, members_at, group_compare}
 use Rattle.mpi_group.specs.declared.compare.GroupCompare.{GroupCompare}
 use Rattle.mpi_group.specs.declared.compare.GroupCompare.TheVariants.{Identical as SameGroup, Similar as SimilarGroup, Unequal as UnequalGroup}
@@ -14,10 +14,6 @@ use Rattle.mpi_comm.specs.declared.values.CommCompare.{CommCompare}
 use Rattle.mpi_comm.specs.declared.values.CommCompare.TheVariants.{Identical, Congruent, Similar, Unequal}
 use Rattle.mpi_comm.specs.declared.fault.CommFault.{CommFault}
 use Rattle.mpi_comm.specs.declared.fault.CommFault.TheVariants.{NoSuchComm, NotMember, NotSubgroup, BadColour, NoRoom, NoMemory}
-
--- all of so many processes, in order (MPI_COMM_WORLD)
-abbrev pub world : ℕ → List ℕ
-world processes = range_with_len 0 processes
 
 -- the group of a communicator
 abbrev pub group_at : List (List ℕ) → ℕ → List ℕ
