@@ -5,15 +5,18 @@ use Rattle.std.specs.Io.KnownBytes.{Appends}
 use Rattle.wall_labels.specs.Known.{AppendsFront}
 use Rattle.wall_policy.specs.declared.fault.PolicyFault.{PolicyFault}
 use Rattle.wall_policy.specs.declared.fault.PolicyFault.TheVariants as policies
-use Rattle.hall_script.specs.declared.fault.LineFault.{LineFault}
-use Rattle.hall_script.specs.declared.fault.LineFault.TheVariants as lines
+use Rattle.coll_text.specs.declared.fault.LineFault.{LineFault}
+use Rattle.coll_text.specs.declared.fault.LineFault.TheVariants as lines
 use Rattle.consortium.specs.declared.ending.Ending.{Ending}
-use Rattle.consortium.specs.declared.ending.Ending.TheVariants.{Done, BadPolicy, BadLine, ReadFault, WriteFault, NoMemory, BadArguments}
+use Rattle.consortium.specs.declared.ending.Ending.TheVariants.{Done, BadPolicy, BadLine, BadBookLine, CutBook, Unsound, ReadFault, WriteFault, NoMemory, BadArguments}
 
 abbrev pub status_of : Ending → ℕ
 status_of Done = 0
 status_of (BadPolicy fault) = 1
 status_of (BadLine n fault) = 2
+status_of (BadBookLine n) = 2
+status_of CutBook = 2
+status_of (Unsound n) = 2
 status_of ReadFault = 3
 status_of WriteFault = 3
 status_of NoMemory = 4
@@ -45,11 +48,18 @@ line_fault_text lines.BadNumber = codes "BadNumber\n"
 line_fault_text lines.OddPair = codes "OddPair\n"
 line_fault_text lines.NoMemory = codes "NoMemory\n"
 
--- the line on standard error, none where all was done
+-- the words, the number, and the end of the line
+abbrev pub numbered_line : List ℕ → ℕ → List ℕ
+numbered_line words n = words ++ (decimal n ++ codes "\n")
+
+-- the line on standard error, none where all was done, nor where a book was read and is unsound
 abbrev pub error_line : Ending → List ℕ
 error_line Done = []
 error_line (BadPolicy fault) = codes "policy: " ++ policy_fault_text fault
 error_line (BadLine n fault) = (codes "script: line " ++ decimal n) ++ (codes ": " ++ line_fault_text fault)
+error_line (BadBookLine n) = numbered_line (codes "book: line ") n
+error_line CutBook = codes "book: cut\n"
+error_line (Unsound n) = []
 error_line ReadFault = codes "read fault\n"
 error_line WriteFault = codes "write fault\n"
 error_line NoMemory = codes "out of memory\n"
@@ -58,3 +68,8 @@ error_line BadArguments = codes "bad arguments\n"
 -- the bytes were written, or the writer failed behind a front of them
 abbrev pub IsTold : (old new : ℕ) → (before after : Option (List ℕ)) → List ℕ → Type 0
 IsTold old new before after bytes = ((new ≡ old) × Appends before after bytes) ⊎ ((new ≡ old + 1) × AppendsFront before after bytes)
+
+-- it ended so, with this status and the line on standard error
+abbrev pub EndsSo : (Ending → Type 0) → (err_old err_new : ℕ) → (before after : Option (List ℕ)) → (status : ℕ) → Type 0
+EndsSo happens err_old err_new before after status =
+    (ending : Ending) × happens ending × (status ≡ status_of ending) × IsTold err_old err_new before after (error_line ending)

@@ -1,18 +1,28 @@
 -- The command line, as `clap` sees it. (Own format.)
-use Rattle.std.specs.Prelude.{◌≡◌, true, List, [], ◌∷◌, Option, Some, None, codes, option_and_then, option_map, Result, Ok, Err}
+use Rattle.std.specs.Prelude.{◌≡◌, true, List, [], ◌∷◌, Option, Some, None, codes, option_and_then, option_map, Result, Ok, Err, if◌then◌else◌}
+use Rattle.std.specs.Str.{bytes_eq}
 use Rattle.clap.specs.Words.{App, Row, Rule, Text, Kinds, fault_of, first_of, new_app, new_rule, subcommand_of, with_rule, with_subcommand}
 use Rattle.consortium.specs.declared.words.ReplayPaths.{ReplayPaths}
+use Rattle.consortium.specs.declared.words.AuditPaths.{AuditPaths}
 use Rattle.consortium.specs.declared.words.Command.{Command}
-use Rattle.consortium.specs.declared.words.Command.TheVariants.{Replay}
+use Rattle.consortium.specs.declared.words.Command.TheVariants.{Replay, Audit}
 use Rattle.consortium.specs.declared.words.ArgFault.{ArgFault}
 use Rattle.consortium.specs.declared.words.ArgFault.TheVariants.{BadArguments, NoMemory}
 
 abbrev pub required_rule : Text → Rule
 required_rule id = record (new_rule id) { required = true }
 
--- replay POLICY SCRIPT
+-- an option with a value, which may be missing, by its long name
+abbrev pub optional_rule : Text → Rule
+optional_rule name = record (new_rule name) { long = Some name }
+
+-- replay POLICY SCRIPT [--book FILE]
 abbrev pub replay_app : App
-replay_app = with_rule (with_rule (new_app (codes "replay")) (required_rule (codes "policy"))) (required_rule (codes "script"))
+replay_app = with_rule (with_rule (with_rule (new_app (codes "replay")) (required_rule (codes "policy"))) (required_rule (codes "script"))) (optional_rule (codes "book"))
+
+-- audit POLICY BOOK
+abbrev pub audit_app : App
+audit_app = with_rule (with_rule (new_app (codes "audit")) (required_rule (codes "policy"))) (required_rule (codes "book"))
 
 -- the words after the program's name
 abbrev pub bare_app : App
@@ -21,46 +31,68 @@ bare_app =
     record a { top = record a.top { no_binary_name = true; subcommand_required = true } }
 
 unfoldable pub program_app : App
-program_app = with_subcommand bare_app replay_app.top
+program_app = with_subcommand (with_subcommand bare_app replay_app.top) audit_app.top
 
 -- the files of a replay, as text
-pub record Paths : Type 0 where
+pub record ReplayFiles : Type 0 where
   pub policy : Text
   pub script : Text
   pub book : Option Text
 
-abbrev pub paths_in : List Row → Option Paths
-paths_in rows =
-    option_and_then (λ p. option_and_then (λ s. Some (record { policy = p; script = s; book = None }))
+-- the files of an audit, as text
+pub record AuditFiles : Type 0 where
+  pub policy : Text
+  pub book : Text
+
+-- a command and its files
+pub data Asked : Type 0 where
+  to_replay : ReplayFiles → Asked
+  to_audit : AuditFiles → Asked
+
+abbrev pub replay_in : List Row → Option ReplayFiles
+replay_in rows =
+    option_and_then (λ p. option_and_then (λ s. Some (record { policy = p; script = s; book = first_of (codes "book") rows }))
     (first_of (codes "script") rows)) (first_of (codes "policy") rows)
 
-abbrev pub replay_of : Option (Text × List Row) → Option Paths
-replay_of None = None
-replay_of (Some p) = paths_in p.1
+abbrev pub audit_in : List Row → Option AuditFiles
+audit_in rows =
+    option_and_then (λ p. option_and_then (λ b. Some (record { policy = p; book = b }))
+    (first_of (codes "book") rows)) (first_of (codes "policy") rows)
 
-abbrev pub unless_refused : Kinds → Option Paths → Option Paths
+-- the command of this name
+abbrev pub command_in : Text → List Row → Option Asked
+command_in name rows =
+    if bytes_eq name (codes "replay") then option_map to_replay (replay_in rows)
+    else if bytes_eq name (codes "audit") then option_map to_audit (audit_in rows)
+    else None
+
+abbrev pub command_of : Option (Text × List Row) → Option Asked
+command_of None = None
+command_of (Some p) = command_in p.0 p.1
+
+abbrev pub unless_refused : Kinds → Option Asked → Option Asked
 unless_refused [] said = said
 unless_refused (k ∷ ks) said = None
 
 -- what the words ask for, where clap does not refuse them
-unfoldable pub asked : List Text → Option Paths
-asked words = unless_refused (fault_of program_app words) (replay_of (subcommand_of program_app words))
+unfoldable pub asked : List Text → Option Asked
+asked words = unless_refused (fault_of program_app words) (command_of (subcommand_of program_app words))
 
-abbrev pub paths_of : ReplayPaths → Paths
-paths_of r = record { policy = r.policy.now; script = r.script.now; book = option_map (λ b. b.now) r.book }
+abbrev pub replay_files : ReplayPaths → ReplayFiles
+replay_files r = record { policy = r.policy.now; script = r.script.now; book = option_map (λ b. b.now) r.book }
+
+abbrev pub audit_files : AuditPaths → AuditFiles
+audit_files r = record { policy = r.policy.now; book = r.book.now }
+
+abbrev pub asked_by : Command → Asked
+asked_by (Replay r) = to_replay (replay_files r)
+asked_by (Audit r) = to_audit (audit_files r)
 
 -- what was read is what the words ask for, unless memory ran out
-abbrev pub Refuses : ArgFault → Option Paths → Type 0
+abbrev pub Refuses : ArgFault → Option Asked → Type 0
 Refuses BadArguments said = said ≡ None
 Refuses NoMemory said = Unit {0}
 
-abbrev pub Says : Result ReplayPaths ArgFault → Option Paths → Type 0
-Says (Ok r) said = said ≡ Some (paths_of r)
-Says (Err fault) said = Refuses fault said
-
-abbrev pub paths_asked : Command → Paths
-paths_asked (Replay r) = paths_of r
-
-abbrev pub SaysCommand : Result Command ArgFault → Option Paths → Type 0
-SaysCommand (Ok command) said = said ≡ Some (paths_asked command)
+abbrev pub SaysCommand : Result Command ArgFault → Option Asked → Type 0
+SaysCommand (Ok command) said = said ≡ Some (asked_by command)
 SaysCommand (Err fault) said = Refuses fault said

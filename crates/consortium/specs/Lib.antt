@@ -1,3 +1,5 @@
 pub mod Endings
+pub mod Walls
 pub mod Replaying
+pub mod Auditing
 pub mod Grammar

@@ -1,5 +1,5 @@
 //! Devices over std's files and streams, with a count of failures that takes no bytes.
-ghost use Rattle.std.specs.Prelude.{◌≡◌, ◌+◌, ◌<◌, ◌≤◌, length, IfOk};
+ghost use Rattle.std.specs.Prelude.{◌≡◌, ◌+◌, ◌<◌, ◌≤◌, length, IfOk, OnOk, OnErr, Ok};
 
 use std::fs::File;
 use std::io;
@@ -87,6 +87,67 @@ impl<'a, R: Files, L: Ledger> Source for FileSource<'a, R, L> {
     }
 }
 
+// What a write of some bytes came to. It failed where it took none.
+fn counted<L: Ledger>(outcome: io::Result<usize>, failures: &mut Count<L>) -> Result<usize, Failed>
+    ensures went { OnOk result (failures.new ≡ failures.old) }
+    ensures failed { OnErr result (failures.new ≡ failures.old + 1) }
+    ensures some { IfOk result (λ n. 0 < n) }
+    ensures same { IfOk result (λ n. outcome ≡ Ok n) }
+{
+    match outcome {
+        Ok(n) => {
+            if n == 0 {
+                failures.rise();
+                return Err(Failed);
+            }
+            Ok(n)
+        }
+        Err(_) => {
+            failures.rise();
+            Err(Failed)
+        }
+    }
+}
+
+/// A file that is made at its first write, in place of one that was there.
+#[derive(Drop)]
+pub struct FileSink<'a, R: Files, L: Ledger> {
+    pub rt: &'a R,
+    pub path: &'a str,
+    pub file: Option<R::File>,
+    pub failures: Count<L>,
+}
+
+// Writes to a file that was made, or makes it first.
+fn write_made<R: Files>(
+    rt: &R,
+    path: &str,
+    file: &mut Option<R::File>,
+    bytes: &[u8],
+) -> io::Result<usize>
+    ensures { IfOk result (λ n. n ≤ length bytes.now) }
+{
+    if file.is_none() {
+        *file = Some(File::create(rt, path)?);
+    }
+    match file {
+        Some(made) => made.write(bytes),
+        None => Ok(0),
+    }
+}
+
+impl<'a, R: Files, L: Ledger> Sink for FileSink<'a, R, L> {
+    ghost failures = { λ s. s.failures };
+
+    fn write(&mut self, bytes: &[u8]) -> Result<usize, Failed> {
+        if bytes.is_empty() {
+            return Ok(0);
+        }
+        let outcome = write_made(self.rt, self.path, &mut self.file, bytes);
+        counted(outcome, &mut self.failures)
+    }
+}
+
 /// A stream of std's.
 #[derive(Drop)]
 pub struct StreamSink<W: io::Write + Drop, L: Ledger> {
@@ -101,18 +162,7 @@ impl<W: io::Write + Drop, L: Ledger> Sink for StreamSink<W, L> {
         if bytes.is_empty() {
             return Ok(0);
         }
-        match self.stream.write(bytes) {
-            Ok(n) => {
-                if n == 0 {
-                    self.failures.rise();
-                    return Err(Failed);
-                }
-                Ok(n)
-            }
-            Err(_) => {
-                self.failures.rise();
-                Err(Failed)
-            }
-        }
+        let outcome = self.stream.write(bytes);
+        counted(outcome, &mut self.failures)
     }
 }

@@ -2,21 +2,27 @@
 ghost use Rattle.std.specs.Prelude.{◌≡◌, ◌+◌, ◌++◌, OnOk, OnErr, decimal};
 ghost use Rattle.std.specs.Io.KnownBytes.{Appends};
 ghost use Rattle.wall_labels.specs.Known.{AppendsFront};
-ghost use Rattle.consortium.specs.Endings.{status_of, error_line, policy_fault_text, line_fault_text, IsTold};
+ghost use Rattle.consortium.specs.Endings.{status_of, error_line, numbered_line, policy_fault_text, line_fault_text, IsTold};
 
-use hall_script::LineFault;
+use coll_text::LineFault;
 use wall_labels::{Failed, Sink, write_all};
 use wall_policy::PolicyFault;
 
-/// How the program ends.
+/// How the program ends. Lines and entries count from 1.
 #[derive(Clone, Copy, Debug, PartialEq, Eq)]
 pub enum Ending {
     /// All was done.
     Done,
     /// The policy file is refused.
     BadPolicy(PolicyFault),
-    /// The line of the script of this number, from 1, is no call.
+    /// The line of the script of this number is no call.
     BadLine(u64, LineFault),
+    /// The line of the book of this number is the first that is not in its form, or that stands behind the end.
+    BadBookLine(u64),
+    /// The book stops before a finished `end` line, and all finished lines are in their form.
+    CutBook,
+    /// The entry of this number is the first that is not what the posts of the book give.
+    Unsound(u64),
     /// A reader failed, or a file is too long.
     ReadFault,
     /// The writer failed.
@@ -34,6 +40,8 @@ fn status(ending: Ending) -> u8
         Ending::Done => 0,
         Ending::BadPolicy(_) => 1,
         Ending::BadLine(..) => 2,
+        Ending::BadBookLine(_) | Ending::CutBook => 2,
+        Ending::Unsound(_) => 2,
         Ending::ReadFault | Ending::WriteFault => 3,
         Ending::NoMemory => 4,
         Ending::BadArguments => 5,
@@ -93,6 +101,24 @@ fn write_two<W: Sink>(sink: &mut W, first: &[u8], second: &[u8]) -> Result<(), F
     }
 }
 
+// Writes the words, the number and the end of the line.
+pub(crate) fn write_numbered<W: Sink>(sink: &mut W, words: &[u8], number: u64) -> Result<(), Failed>
+    ensures went { OnOk result (W.failures sink.new ≡ W.failures sink.old) }
+    ensures failed { OnErr result (W.failures sink.new ≡ W.failures sink.old + 1) }
+    ensures written { OnOk result (Appends (W.contents sink.old) (W.contents sink.new) (numbered_line words.now number)) }
+    ensures front { OnErr result (AppendsFront (W.contents sink.old) (W.contents sink.new) (numbered_line words.now number)) }
+{
+    let mut buffer = itoa::Buffer::new();
+    let digits = buffer.format(number);
+    match write_all(sink, words) {
+        Ok(()) => match write_two(sink, digits.as_bytes(), b"\n") {
+            Ok(()) => Ok(()),
+            Err(_) => Err(Failed),
+        },
+        Err(_) => Err(Failed),
+    }
+}
+
 // Writes `script: line N: NAME`.
 fn write_bad_line<W: Sink>(sink: &mut W, number: u64, fault: LineFault) -> Result<(), Failed>
     ensures went { OnOk result (W.failures sink.new ≡ W.failures sink.old) }
@@ -119,9 +145,11 @@ fn write_ending<W: Sink>(sink: &mut W, ending: Ending) -> Result<(), Failed>
     ensures front { OnErr result (AppendsFront (W.contents sink.old) (W.contents sink.new) (error_line ending)) }
 {
     match ending {
-        Ending::Done => Ok(()),
+        Ending::Done | Ending::Unsound(_) => Ok(()),
         Ending::BadPolicy(fault) => { write_two(sink, b"policy: ", policy_fault(fault).as_bytes()) }
         Ending::BadLine(number, fault) => write_bad_line(sink, number, fault),
+        Ending::BadBookLine(number) => write_numbered(sink, b"book: line ", number),
+        Ending::CutBook => write_all(sink, b"book: cut\n"),
         Ending::ReadFault => write_all(sink, b"read fault\n"),
         Ending::WriteFault => write_all(sink, b"write fault\n"),
         Ending::NoMemory => write_all(sink, b"out of memory\n"),

@@ -1,16 +1,20 @@
-//! The program: `consortium replay POLICY SCRIPT` writes one reply line for each call of the script.
+//! The program: `consortium replay POLICY SCRIPT [--book FILE]` writes one reply line for each call of the script, and the audit book of the
+//! run, and `consortium audit POLICY BOOK` writes whether a book is what its posts give.
 #![tactic(auto)]
 
 ghost use Rattle.std.specs.Prelude.{◌≡◌};
 
+mod audit;
 mod devices;
 mod ending;
 mod replay;
+mod wall;
 mod words;
 
-pub use devices::{Count, FileSource, StreamSink};
+pub use audit::{BOOK_LIMIT, audit_on};
+pub use devices::{Count, FileSink, FileSource, StreamSink};
 pub use ending::{Ending, end};
-pub use replay::{NoBook, replay_on};
+pub use replay::replay_on;
 use std::alloc::Global;
 use std::io::{Stderr, Stdout, Write};
 use std::marker::Brand;
@@ -18,16 +22,18 @@ use std::process::ExitCode;
 use std::rt::{Env, Files};
 use std::sync::ledger::{Blank, Ledger};
 use std::{env, io};
-pub use words::{ArgFault, Command, ReplayPaths, read_words};
+use wall_labels::{Sink, Source};
+pub use words::{ArgFault, AuditPaths, Command, ReplayPaths, read_words};
 
 #[cfg(test)]
 mod tests;
 
 fn main(rt: HostRuntime) -> ExitCode {
-    let status = serve::<HostRuntime, Stdout, Stderr, Brand, Brand, Brand, Brand>(
+    let status = serve::<HostRuntime, Stdout, Stderr, Brand, Brand, Brand, Brand, Brand>(
         &rt,
         rt.stdout(),
         rt.stderr(),
+        Blank::new(1),
         Blank::new(1),
         Blank::new(1),
         Blank::new(1),
@@ -36,13 +42,15 @@ fn main(rt: HostRuntime) -> ExitCode {
     ExitCode::from(status)
 }
 
-// Does what the command line asks for. Each device counts its failures in a ledger of its own.
-fn serve<R, W, V, P: Ledger, S: Ledger, O: Ledger, E: Ledger>(
+// Does what the command line asks for. Each device counts its failures in a ledger of its own; a command reads one file beside the policy,
+// and writes at most one.
+fn serve<R, W, V, P: Ledger, S: Ledger, B: Ledger, O: Ledger, E: Ledger>(
     rt: &R,
     out: W,
     err: V,
     policy_count: Blank,
-    script_count: Blank,
+    second_count: Blank,
+    kept_count: Blank,
     out_count: Blank,
     err_count: Blank,
 ) -> u8
@@ -51,12 +59,14 @@ where
     W: Write + Drop,
     V: Write + Drop,
     requires policy { (policy_count.name ≡ P.name) × (policy_count.parts ≡ P.parts) × (policy_count.parts ≡ 1) }
-    requires script { (script_count.name ≡ S.name) × (script_count.parts ≡ S.parts) × (script_count.parts ≡ 1) }
+    requires second { (second_count.name ≡ S.name) × (second_count.parts ≡ S.parts) × (second_count.parts ≡ 1) }
+    requires kept { (kept_count.name ≡ B.name) × (kept_count.parts ≡ B.parts) × (kept_count.parts ≡ 1) }
     requires out { (out_count.name ≡ O.name) × (out_count.parts ≡ O.parts) × (out_count.parts ≡ 1) }
     requires err { (err_count.name ≡ E.name) × (err_count.parts ≡ E.parts) × (err_count.parts ≡ 1) }
 {
     let policy_count = Count::<P>::new(policy_count);
-    let script_count = Count::<S>::new(script_count);
+    let second_count = Count::<S>::new(second_count);
+    let kept_count = Count::<B>::new(kept_count);
     let mut out = StreamSink {
         stream: out,
         failures: Count::<O>::new(out_count),
@@ -73,30 +83,77 @@ where
         Ok(texts) => texts,
         Err(fault) => return end(&mut err, fault_ending(fault)),
     };
-    let paths = match read_words(rt.alloc(), &texts) {
-        Ok(Command::Replay(paths)) => paths,
-        Err(fault) => return end(&mut err, fault_ending(fault)),
-    };
-    let mut policy = FileSource {
+    match read_words(rt.alloc(), &texts) {
+        Ok(Command::Replay(paths)) => {
+            let counts = (policy_count, second_count, kept_count);
+            serve_replay(rt, paths, counts, &mut out, &mut err)
+        }
+        Ok(Command::Audit(paths)) => {
+            serve_audit(rt, paths, policy_count, second_count, &mut out, &mut err)
+        }
+        Err(fault) => end(&mut err, fault_ending(fault)),
+    }
+}
+
+fn serve_replay<'a, R: Files + AllocGlobal, P: Ledger, S: Ledger, B: Ledger, O: Sink, E: Sink>(
+    rt: &'a R,
+    paths: ReplayPaths<'a>,
+    counts: (Count<P>, Count<S>, Count<B>),
+    out: &mut O,
+    err: &mut E,
+) -> u8 {
+    let (policy_count, script_count, book_count) = counts;
+    let mut policy = unopened(rt, paths.policy, policy_count);
+    let mut script = unopened(rt, paths.script, script_count);
+    match paths.book {
+        Some(path) => {
+            let mut book = FileSink {
+                rt,
+                path,
+                file: None,
+                failures: book_count,
+            };
+            replay_to(rt.alloc(), &mut policy, &mut script, out, err, &mut book)
+        }
+        None => { replay_on::<_, _, _, _, O>(rt.alloc(), &mut policy, &mut script, out, err, None) }
+    }
+}
+
+fn replay_to<P: Source, S: Source, O: Sink, E: Sink, B: Sink>(
+    alloc: Global,
+    policy: &mut P,
+    script: &mut S,
+    out: &mut O,
+    err: &mut E,
+    book: &mut B,
+) -> u8 {
+    replay_on(alloc, policy, script, out, err, Some(book))
+}
+
+fn serve_audit<R: Files + AllocGlobal, P: Ledger, B: Ledger, O: Sink, E: Sink>(
+    rt: &R,
+    paths: AuditPaths,
+    policy_count: Count<P>,
+    book_count: Count<B>,
+    out: &mut O,
+    err: &mut E,
+) -> u8 {
+    let mut policy = unopened(rt, paths.policy, policy_count);
+    let mut book = unopened(rt, paths.book, book_count);
+    audit_on(rt.alloc(), &mut policy, &mut book, out, err)
+}
+
+fn unopened<'a, R: Files, L: Ledger>(
+    rt: &'a R,
+    path: &'a str,
+    failures: Count<L>,
+) -> FileSource<'a, R, L> {
+    FileSource {
         rt,
-        path: paths.policy,
+        path,
         file: None,
-        failures: policy_count,
-    };
-    let mut script = FileSource {
-        rt,
-        path: paths.script,
-        file: None,
-        failures: script_count,
-    };
-    replay_on(
-        rt.alloc(),
-        &mut policy,
-        &mut script,
-        &mut out,
-        &mut err,
-        None,
-    )
+        failures,
+    }
 }
 
 fn fault_ending(fault: ArgFault) -> Ending {

@@ -1,23 +1,17 @@
 //! Replays a script on a policy, over any devices.
-ghost use Rattle.std.specs.Prelude.{◌≡◌, ◌⊎◌, IfOk, IfErr};
-ghost use Rattle.consortium.specs.Endings.{status_of, error_line, IsTold};
-ghost use Rattle.consortium.specs.Replaying.{IsPolicyOf, IsNoPolicy, policy_ending, script_ending, replay_ending, Happens, EndsSo};
+ghost use Rattle.std.specs.Prelude.{◌≡◌, List};
+ghost use Rattle.hall_runs.specs.Runs.{Entry};
+ghost use Rattle.hall_core.specs.Halls.{StandsFor};
+ghost use Rattle.consortium.specs.Endings.{EndsSo};
+ghost use Rattle.consortium.specs.Replaying.{script_ending, Keeps, KeepsNone, KeepsIfAsked, IsUntouched, Happens};
 
 use crate::ending::{Ending, end};
+use crate::wall::read_wall;
+use book_text::{WriteFault, write_book};
 use hall_core::Hall;
-use hall_script::{DeviceFault, SCRIPT_LIMIT, ScriptFault, read_device, replay};
+use hall_script::{ScriptFault, replay};
 use std::alloc::Global;
 use wall_labels::{Sink, Source};
-use wall_policy::{Policy, PolicyFault, read_policy};
-
-fn policy_ending(fault: PolicyFault) -> Ending
-    ensures { result ≡ policy_ending fault }
-{
-    match fault {
-        PolicyFault::NoMemory => Ending::NoMemory,
-        _ => Ending::BadPolicy(fault),
-    }
-}
 
 fn script_ending(fault: ScriptFault) -> Ending
     ensures { result ≡ script_ending fault }
@@ -30,27 +24,15 @@ fn script_ending(fault: ScriptFault) -> Ending
     }
 }
 
-fn replay_ending(outcome: Result<Hall, ScriptFault>) -> Ending
-    ensures { result ≡ replay_ending outcome }
+// Writes the hall's book.
+fn keep<B: Sink>(alloc: Global, hall: &Hall, book: &mut B) -> Ending
+    ensures { (run : List Entry) → StandsFor hall.now run →
+        Keeps hall.now.policy (B.failures book.old) (B.failures book.new) (B.contents book.old) (B.contents book.new) result run }
 {
-    match outcome {
-        Ok(_) => Ending::Done,
-        Err(fault) => script_ending(fault),
-    }
-}
-
-// Reads a policy file whole, and judges it.
-fn read_wall<P: Source>(alloc: Global, source: &mut P) -> Result<Policy, Ending>
-    ensures policy { IfOk result (IsPolicyOf (P.remaining source.old)) }
-    ensures ending { IfErr result (IsNoPolicy (P.failures source.old) (P.failures source.new) (P.remaining source.old)) }
-{
-    match read_device(alloc, source, SCRIPT_LIMIT) {
-        Ok(bytes) => match read_policy(alloc, &bytes) {
-            Ok(policy) => Ok(policy),
-            Err(fault) => Err(policy_ending(fault)),
-        },
-        Err(DeviceFault::Read) => Err(Ending::ReadFault),
-        Err(DeviceFault::NoMemory) => Err(Ending::NoMemory),
+    match write_book(alloc, hall.policy(), hall.book(), book) {
+        Ok(()) => Ending::Done,
+        Err(WriteFault::Write) => Ending::WriteFault,
+        Err(WriteFault::NoMemory) => Ending::NoMemory,
     }
 }
 
@@ -61,7 +43,7 @@ fn replay_devices<P: Source, S: Source, O: Sink>(
     script: &mut S,
     out: &mut O,
 ) -> Ending
-    ensures { Happens ((script.new ≡ script.old) × (out.new ≡ out.old))
+    ensures { Happens ((script.new ≡ script.old) × (out.new ≡ out.old)) (λ _. KeepsNone) (Unit {0})
         (P.failures policy.old) (P.failures policy.new) (S.failures script.old) (S.failures script.new) (O.failures out.old) (O.failures out.new)
         (P.remaining policy.old) (S.remaining script.old) (O.contents out.old) (O.contents out.new) result }
 {
@@ -69,30 +51,63 @@ fn replay_devices<P: Source, S: Source, O: Sink>(
         Ok(wall) => wall,
         Err(ending) => return ending,
     };
-    replay_ending(replay(alloc, wall, script, out))
+    match replay(alloc, wall, script, out) {
+        Ok(_) => {}
+        Err(fault) => return script_ending(fault),
+    }
+    Ending::Done
 }
 
-/// Where a book would go: nowhere, since the hall keeps none yet. Nothing is of this type.
-#[derive(Clone, Copy)]
-pub enum NoBook {}
+// Reads and judges the policy, replays the script, and writes the book of its run.
+fn replay_keeping<P: Source, S: Source, O: Sink, B: Sink>(
+    alloc: Global,
+    policy: &mut P,
+    script: &mut S,
+    out: &mut O,
+    book: &mut B,
+) -> Ending
+    ensures { Happens ((script.new ≡ script.old) × (out.new ≡ out.old))
+        (λ wall. Keeps wall (B.failures book.old) (B.failures book.new) (B.contents book.old) (B.contents book.new)) (book.new ≡ book.old)
+        (P.failures policy.old) (P.failures policy.new) (S.failures script.old) (S.failures script.new) (O.failures out.old) (O.failures out.new)
+        (P.remaining policy.old) (S.remaining script.old) (O.contents out.old) (O.contents out.new) result }
+{
+    let wall = match read_wall(alloc, policy) {
+        Ok(wall) => wall,
+        Err(ending) => return ending,
+    };
+    let hall = match replay(alloc, wall, script, out) {
+        Ok(hall) => hall,
+        Err(fault) => return script_ending(fault),
+    };
+    keep(alloc, &hall, book)
+}
 
-/// Reads the policy, replays the script on it, writes the replies to `out` and the line of a fault to `err`, and gives the status.
+/// Reads the policy, replays the script on it, writes the replies to `out` and the line of a fault to `err`, and gives the status. Where
+/// there is a `book`, and all lines were answered, it then writes the audit book of the run to it.
 ///
-/// The policy is read and judged before the script is looked at. The hall keeps no book yet, so `book` can only be None.
-pub fn replay_on<P: Source, S: Source, O: Sink, E: Sink>(
+/// The policy is read and judged before the script is looked at. After any fault of policy or script no book is written.
+pub fn replay_on<P: Source, S: Source, O: Sink, E: Sink, B: Sink>(
     alloc: Global,
     policy: &mut P,
     script: &mut S,
     out: &mut O,
     err: &mut E,
-    book: Option<NoBook>,
+    book: Option<&mut B>,
 ) -> u8
     ensures { EndsSo (Happens ((script.new ≡ script.old) × (out.new ≡ out.old))
+        (KeepsIfAsked B.failures B.contents book.entry book.exit) (IsUntouched book.entry book.exit)
         (P.failures policy.old) (P.failures policy.new) (S.failures script.old) (S.failures script.new) (O.failures out.old) (O.failures out.new)
         (P.remaining policy.old) (S.remaining script.old) (O.contents out.old) (O.contents out.new))
         (E.failures err.old) (E.failures err.new) (E.contents err.old) (E.contents err.new) result }
 {
-    let _ = book;
-    let ending = replay_devices(alloc, policy, script, out);
-    end(err, ending)
+    match book {
+        Some(book) => {
+            let ending = replay_keeping(alloc, policy, script, out, book);
+            end(err, ending)
+        }
+        None => {
+            let ending = replay_devices(alloc, policy, script, out);
+            end(err, ending)
+        }
+    }
 }

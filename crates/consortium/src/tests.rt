@@ -1,5 +1,5 @@
 use super::*;
-use hall_script::LineFault;
+use coll_text::LineFault;
 use std::alloc::AllocError;
 use std::process::Abort;
 use std::test::Fail;
@@ -69,7 +69,14 @@ fn status_of(
     out: &mut ExpectingSink,
     err: &mut ExpectingSink,
 ) -> u8 {
-    replay_on(rt.alloc(), policy, script, out, err, None)
+    replay_on(
+        rt.alloc(),
+        policy,
+        script,
+        out,
+        err,
+        None::<&mut ExpectingSink>,
+    )
 }
 
 // Whether replaying the script writes these replies and this line on standard error, with this status.
@@ -148,7 +155,7 @@ denied star c0 alpha
             0,
         )
     );
-    // every refusal that can arise so far
+    // refusals
     assert!(&rt;
         ends_so(
             &rt,
@@ -217,9 +224,9 @@ fn lines_are_cut_at_their_ends(rt: HostRuntime) {
     );
     assert!(&rt; ends_so(&rt, WALL, b"", "", "", 0));
     let rows = [
-        ("info 0 0", "script: line 1: BadVerb\n"),
-        ("post 0 0 barrier", "script: line 1: BadKind\n"),
-        ("post 0 0 bcast 0 int8 1", "script: line 1: BadType\n"),
+        ("pst 0", "script: line 1: BadVerb\n"),
+        ("post 0 0 bcst", "script: line 1: BadKind\n"),
+        ("post 0 0 bcast 0 int33 1", "script: line 1: BadType\n"),
         ("\n\n#\ntake 0", "script: line 4: BadShape\n"),
         ("\n\r\r\n", "script: line 2: BadShape\n"),
     ];
@@ -240,6 +247,261 @@ fn lines_are_cut_at_their_ends(rt: HostRuntime) {
             2
         )
     );
+}
+
+// Books without their last lines: the verdict and the end are still to come.
+const BROADCASTS: &str = "book 1
+post 0 0 bcast 0 int32 2 gives 2 as alpha passed
+post 1 0 bcast 0 int32 2 gives 0 as none passed
+post 2 0 bcast 0 int32 2 gives 0 as none passed
+post 3 0 bcast 0 int32 2 gives 0 as none passed
+";
+
+const SPLITS: &str = "book 1
+post 0 0 split 2 0 gives 0 as none passed
+post 1 0 split undefined 0 gives 0 as none passed
+post 2 0 split 0 5 gives 0 as none passed
+post 3 0 split 2 0 gives 0 as none passed
+";
+
+// Three of four gatherers, and the verdict that the first post brings.
+const GATHERERS: &str = "post 1 0 gatherv 3 int32 gives 0 as none passed
+post 2 0 gatherv 3 int32 gives 0 as none passed
+post 3 0 gatherv 3 int32 gives 0 as none passed
+verdict 0 0 denied star a0 public
+end 5
+";
+
+// Whether auditing the book writes this line, and this one on standard error, with this status.
+fn audits_so(
+    rt: &impl AllocGlobal,
+    policy: &str,
+    book: &str,
+    said: &str,
+    line: &str,
+    status: u8,
+) -> bool {
+    let mut policy = source(policy.as_bytes(), Fuse::Whole);
+    let mut book = source(book.as_bytes(), Fuse::Whole);
+    let mut out = sink(said.as_bytes(), Fuse::Whole);
+    let mut err = sink(line.as_bytes(), Fuse::Whole);
+    let given = audit_on(rt.alloc(), &mut policy, &mut book, &mut out, &mut err);
+    let is_all = out.rest.is_empty() && err.rest.is_empty();
+    given == status && is_all && out.is_same && err.is_same
+}
+
+#[test]
+fn books_are_audited(rt: HostRuntime) -> Result<(), Fail> {
+    let denied = "verdict 0 0 denied simple b0 alpha\nend 5\n";
+    let unfinished = "verdict 0 0 denied simple b0 alpha\nend 5";
+    let miscounted = "verdict 0 0 denied simple b0 alpha\nend 4\n";
+    let granted = "verdict 0 0 granted\nend 5\n";
+    let barred = "book 1\npost 0 0 gatherv 3 int32 gives 1 as public barred\n";
+    let passed = "book 1\npost 0 0 gatherv 3 int32 gives 1 as public passed\n";
+    let rows = [
+        (WALL, BROADCASTS, denied, "sound 5\n", "", 0),
+        (WALL, BROADCASTS, granted, "unsound at entry 5\n", "", 2),
+        (WALL, BROADCASTS, unfinished, "", "book: cut\n", 2),
+        (WALL, "", "", "", "book: cut\n", 2),
+        (WALL, BROADCASTS, miscounted, "", "book: line 7\n", 2),
+        (
+            BANK,
+            SPLITS,
+            "verdict 0 0 made 1 2\nend 5\n",
+            "sound 5\n",
+            "",
+            0,
+        ),
+        (
+            BANK,
+            SPLITS,
+            "verdict 0 0 made 1 1\nend 5\n",
+            "unsound at entry 5\n",
+            "",
+            2,
+        ),
+        (BANK, SPLITS, "end 4\n", "unsound at entry 5\n", "", 2),
+        (WALL, barred, GATHERERS, "sound 5\n", "", 0),
+        (WALL, passed, GATHERERS, "unsound at entry 1\n", "", 2),
+        ("version = ", BROADCASTS, denied, "", "policy: NotToml\n", 1),
+    ];
+    for (policy, front, rest, said, line, status) in rows {
+        let book = format!(in rt.alloc(); "{front}{rest}")?;
+        assert!(&rt; audits_so(&rt, policy, &book, said, line, status), "{book}");
+    }
+    Ok(())
+}
+
+#[test]
+fn devices_of_an_audit_fail(rt: HostRuntime) -> Result<(), Fail> {
+    let book = format!(in rt.alloc(); "{SPLITS}verdict 0 0 made 1 2\nend 5\n")?;
+    for k in 0..2u64 {
+        let mut policy = source(BANK.as_bytes(), Fuse::Whole);
+        let mut given = source(book.as_bytes(), Fuse::After(k));
+        let mut out = sink(b"", Fuse::Whole);
+        let mut err = sink(b"read fault\n", Fuse::Whole);
+        let status = audit_on(rt.alloc(), &mut policy, &mut given, &mut out, &mut err);
+        assert!(&rt; status == 3 && out.is_same && err.is_same && err.rest.is_empty());
+    }
+    // the words, the number and the end of the line
+    for k in 0..3u64 {
+        let mut policy = source(BANK.as_bytes(), Fuse::Whole);
+        let mut given = source(book.as_bytes(), Fuse::Whole);
+        let mut out = sink(b"sound 5\n", Fuse::After(k));
+        let mut err = sink(b"write fault\n", Fuse::Whole);
+        let status = audit_on(rt.alloc(), &mut policy, &mut given, &mut out, &mut err);
+        assert!(&rt; status == 3 && out.is_same && err.is_same && err.rest.is_empty());
+    }
+    Ok(())
+}
+
+// Whether replaying the script writes these replies, this book, and this line on standard error, with this status.
+fn keeps_so(
+    rt: &impl AllocGlobal,
+    policy: &str,
+    script: &str,
+    replies: &str,
+    book: &str,
+    line: &str,
+    status: u8,
+) -> bool {
+    let mut policy = source(policy.as_bytes(), Fuse::Whole);
+    let mut script = source(script.as_bytes(), Fuse::Whole);
+    let mut out = sink(replies.as_bytes(), Fuse::Whole);
+    let mut err = sink(line.as_bytes(), Fuse::Whole);
+    let mut kept = sink(book.as_bytes(), Fuse::Whole);
+    let given = replay_on(
+        rt.alloc(),
+        &mut policy,
+        &mut script,
+        &mut out,
+        &mut err,
+        Some(&mut kept),
+    );
+    let is_all = out.rest.is_empty() && err.rest.is_empty() && kept.rest.is_empty();
+    given == status && is_all && out.is_same && err.is_same && kept.is_same
+}
+
+// The posts of a split, whose book the audit above has.
+const SPLITTING: &str = "post 0 0 split 2 0
+post 1 0 split undefined 0
+post 2 0 split 0 5
+post 3 0 split 2 0
+";
+
+const POSTED: &str = "posted 0
+posted 0
+posted 0
+posted 0
+";
+
+#[test]
+fn books_are_kept(rt: HostRuntime) -> Result<(), Fail> {
+    let denied = format!(in rt.alloc(); "{BROADCASTS}verdict 0 0 denied simple b0 alpha\nend 5\n")?;
+    let made = format!(in rt.alloc(); "{SPLITS}verdict 0 0 made 1 2\nend 5\n")?;
+    let first = "book 1\npost 0 0 gatherv 3 int32 gives 1 as public barred\n";
+    let barred = format!(in rt.alloc(); "{first}{GATHERERS}")?;
+    let split_all = format!(in rt.alloc(); "{SPLITTING}take 0 0\ntake 1 0\ntake 2 0\ntake 3 0\n")?;
+    let rows = [
+        (
+            WALL,
+            "post 0 0 bcast 0 int32 2 as alpha 7 -1
+post 1 0 bcast 0 int32 2
+post 2 0 bcast 0 int32 2
+take 0 0
+post 3 0 bcast 0 int32 2
+take 1 0
+",
+            "posted 0\nposted 0\nposted 0\npending\nposted 0\ndenied simple b0 alpha\n",
+            denied.as_str(),
+        ),
+        (
+            BANK,
+            split_all.as_str(),
+            "posted 0
+posted 0
+posted 0
+posted 0
+comm 2 rank 0 size 2
+null
+comm 1 rank 0 size 1
+comm 2 rank 1 size 2
+",
+            made.as_str(),
+        ),
+        (
+            WALL,
+            "post 0 0 gatherv 3 int32 as public 1
+post 1 0 gatherv 3 int32
+post 2 0 gatherv 3 int32
+post 3 0 gatherv 3 int32
+take 2 0
+",
+            "barred 0 public\nposted 0\nposted 0\nposted 0\ndenied star a0 public\n",
+            barred.as_str(),
+        ),
+        (
+            WALL,
+            "take 0 0\npost 0 7 barrier\n",
+            "refused NoSuchRequest\nrefused NoSuchComm\n",
+            "book 1\nend 0\n",
+        ),
+    ];
+    for (policy, script, replies, book) in rows {
+        assert!(&rt;
+            keeps_so(&rt, policy, script, replies, book, "", 0),
+            "{book}"
+        );
+        assert!(&rt;
+            ends_so(&rt, policy, script.as_bytes(), replies, "", 0),
+            "{book}"
+        );
+    }
+    // no book after a fault
+    let broken = format!(in rt.alloc(); "{SPLITTING}take x 0\n")?;
+    assert!(&rt;
+        keeps_so(
+            &rt,
+            BANK,
+            &broken,
+            POSTED,
+            "",
+            "script: line 5: BadField\n",
+            2
+        )
+    );
+    assert!(&rt; keeps_so(&rt, "version = ", &broken, "", "", "policy: NotToml\n", 1));
+    Ok(())
+}
+
+#[test]
+fn writers_of_books_fail_at_each_write(rt: HostRuntime) -> Result<(), Fail> {
+    let made = format!(in rt.alloc(); "{SPLITS}verdict 0 0 made 1 2\nend 5\n")?;
+    let mut writes: u64 = 0;
+    for k in 0..100u64 {
+        let mut policy = source(BANK.as_bytes(), Fuse::Whole);
+        let mut script = source(SPLITTING.as_bytes(), Fuse::Whole);
+        let mut out = sink(POSTED.as_bytes(), Fuse::Whole);
+        let mut err = sink(b"write fault\n", Fuse::Whole);
+        let mut book = sink(made.as_bytes(), Fuse::After(k));
+        let status = replay_on(
+            rt.alloc(),
+            &mut policy,
+            &mut script,
+            &mut out,
+            &mut err,
+            Some(&mut book),
+        );
+        assert!(&rt; out.is_same && out.rest.is_empty() && book.is_same);
+        if status != 3 {
+            assert!(&rt; status == 0 && book.rest.is_empty());
+            break;
+        }
+        assert!(&rt; err.is_same && err.rest.is_empty());
+        writes = k + 1;
+    }
+    assert!(&rt; 0 < writes && writes < 99);
+    Ok(())
 }
 
 #[test]
@@ -324,6 +586,10 @@ fn endings_have_their_status_and_line(rt: HostRuntime) {
             2,
             "script: line 9: OddPair\n",
         ),
+        (Ending::BadBookLine(7), 2, "book: line 7\n"),
+        (Ending::BadBookLine(16777217), 2, "book: line 16777217\n"),
+        (Ending::CutBook, 2, "book: cut\n"),
+        (Ending::Unsound(5), 2, ""),
         (Ending::ReadFault, 3, "read fault\n"),
         (Ending::WriteFault, 3, "write fault\n"),
         (Ending::NoMemory, 4, "out of memory\n"),
@@ -407,23 +673,48 @@ fn is_bad(rt: &impl AllocGlobal, words: &[&str]) -> bool {
     }
 }
 
+// Whether the words ask for a replay of `s` on `w` whose book goes to `b`.
+fn keeps_words(rt: &impl AllocGlobal, words: &[&str]) -> bool {
+    match read_words(rt.alloc(), words) {
+        Ok(Command::Replay(paths)) => {
+            paths.policy == "w" && paths.script == "s" && paths.book == Some("b")
+        }
+        _ => false,
+    }
+}
+
 #[test]
-fn words_ask_for_a_replay(rt: HostRuntime) {
-    let words = ["replay", "w", "s"];
-    match read_words(rt.alloc(), words.as_slice()) {
-        Ok(command) => {
-            let Command::Replay(paths) = command;
+fn words_ask_for_a_command(rt: HostRuntime) {
+    match read_words(rt.alloc(), ["replay", "w", "s"].as_slice()) {
+        Ok(Command::Replay(paths)) => {
             assert!(&rt; paths.policy == "w" && paths.script == "s" && paths.book.is_none());
         }
-        Err(_) => assert!(&rt; false),
+        _ => assert!(&rt; false),
+    }
+    assert!(&rt; keeps_words(&rt, ["replay", "w", "s", "--book", "b"].as_slice()));
+    assert!(&rt; keeps_words(&rt, ["replay", "w", "--book", "b", "s"].as_slice()));
+    assert!(&rt; keeps_words(&rt, ["replay", "--book", "b", "w", "s"].as_slice()));
+    match read_words(rt.alloc(), ["audit", "w", "b"].as_slice()) {
+        Ok(Command::Audit(paths)) => assert!(&rt; paths.policy == "w" && paths.book == "b"),
+        _ => assert!(&rt; false),
     }
     assert!(&rt; is_bad(&rt, [].as_slice()));
     assert!(&rt; is_bad(&rt, ["replay", "w"].as_slice()));
     assert!(&rt; is_bad(&rt, ["replay", "w", "s", "t"].as_slice()));
-    assert!(&rt; is_bad(&rt, ["replay", "w", "s", "--book", "b"].as_slice()));
+    assert!(&rt; is_bad(&rt, ["replay", "w", "s", "--book"].as_slice()));
+    assert!(&rt;
+        is_bad(
+            &rt,
+            ["replay", "w", "s", "--book", "b", "--book", "c"].as_slice()
+        )
+    );
+    assert!(&rt; is_bad(&rt, ["--book", "b", "replay", "w", "s"].as_slice()));
+    assert!(&rt; is_bad(&rt, ["audit", "w", "b", "--book", "c"].as_slice()));
+    assert!(&rt; is_bad(&rt, ["audit", "w"].as_slice()));
+    assert!(&rt; is_bad(&rt, ["audit", "w", "b", "c"].as_slice()));
     assert!(&rt; is_bad(&rt, ["run", "w", "s"].as_slice()));
-    assert!(&rt; is_bad(&rt, ["audit", "w", "s"].as_slice()));
     assert!(&rt; is_bad(&rt, ["--help"].as_slice()));
     assert!(&rt; is_bad(&rt, ["help"].as_slice()));
     assert!(&rt; is_bad(&rt, ["replay", "--help"].as_slice()));
+    assert!(&rt; is_bad(&rt, ["audit", "--help"].as_slice()));
 }

@@ -1,8 +1,8 @@
 //! Reads the words of the command line.
 ghost use Rattle.std.specs.Prelude.{◌≡◌, IfOk, map, false, option_map, [], ◌≢◌, Err};
-ghost use Rattle.clap.specs.Words.{app_of, first_of, found_of, rows_of, fault_of, subcommand_of, subcommand_rows_of};
+ghost use Rattle.clap.specs.Words.{app_of, rule_of, first_of, found_of, rows_of, fault_of, subcommand_of, subcommand_rows_of};
 ghost use Rattle.clap.specs.declared.builder.Command.TheViews.{out-Command as fields_of};
-ghost use Rattle.consortium.specs.Grammar.{replay_app, program_app, paths_in, asked, paths_of, Says, SaysCommand};
+ghost use Rattle.consortium.specs.Grammar.{required_rule, optional_rule, replay_app, audit_app, program_app, replay_in, audit_in, command_in, asked, replay_files, audit_files, asked_by, SaysCommand};
 
 use clap::error::ErrorKind;
 use clap::{Arg, ArgMatches};
@@ -18,10 +18,18 @@ pub struct ReplayPaths<'a> {
     pub book: Option<&'a str>,
 }
 
+/// The files of an audit.
+#[derive(Clone, Copy, Debug)]
+pub struct AuditPaths<'a> {
+    pub policy: &'a str,
+    pub book: &'a str,
+}
+
 /// What the program is asked to do.
 #[derive(Clone, Copy, Debug)]
 pub enum Command<'a> {
     Replay(ReplayPaths<'a>),
+    Audit(AuditPaths<'a>),
 }
 
 /// Why the words are refused.
@@ -35,17 +43,43 @@ pub enum ArgFault {
     NoMemory,
 }
 
-// The command `replay POLICY SCRIPT`.
+// An argument that may not be missing.
+fn required<'a>(alloc: Global, id: &'a str) -> Arg<'a>
+    ensures rule { rule_of result ≡ required_rule id.now }
+    ensures local { result.global ≡ false }
+{
+    Arg::new(alloc, id).required(true)
+}
+
+// An option `--NAME` with a value, which may be missing.
+fn optional<'a>(alloc: Global, name: &'a str) -> Arg<'a>
+    ensures rule { rule_of result ≡ optional_rule name.now }
+    ensures local { result.global ≡ false }
+{
+    Arg::new(alloc, name).long(name)
+}
+
+// The command `replay POLICY SCRIPT [--book FILE]`.
 fn replay_command<'a>(alloc: Global) -> Result<clap::Command<'a>, AllocError>
     ensures app { IfOk result (λ c. app_of c ≡ replay_app) }
     ensures globals { IfOk result (λ c. (fields_of c).has_globals ≡ false) }
 {
-    let policy = Arg::new(alloc, "policy").required(true);
-    let script = Arg::new(alloc, "script").required(true);
     let replay = clap::Command::new(alloc, "replay")
-        .arg(policy)?
-        .arg(script)?;
+        .arg(required(alloc, "policy"))?
+        .arg(required(alloc, "script"))?
+        .arg(optional(alloc, "book"))?;
     Ok(replay)
+}
+
+// The command `audit POLICY BOOK`.
+fn audit_command<'a>(alloc: Global) -> Result<clap::Command<'a>, AllocError>
+    ensures app { IfOk result (λ c. app_of c ≡ audit_app) }
+    ensures globals { IfOk result (λ c. (fields_of c).has_globals ≡ false) }
+{
+    let audit = clap::Command::new(alloc, "audit")
+        .arg(required(alloc, "policy"))?
+        .arg(required(alloc, "book"))?;
+    Ok(audit)
 }
 
 // The command line of the program.
@@ -54,10 +88,11 @@ fn program_command<'a>(alloc: Global) -> Result<clap::Command<'a>, AllocError>
     ensures { IfOk result (λ c. app_of c ≡ program_app) }
 {
     let replay = replay_command(alloc)?;
+    let audit = audit_command(alloc)?;
     let program = clap::Command::new(alloc, "consortium")
         .no_binary_name(true)
         .subcommand_required(true);
-    let program = program.subcommand(replay)?;
+    let program = program.subcommand(replay)?.subcommand(audit)?;
     Ok(program)
 }
 
@@ -69,16 +104,41 @@ fn value_of<'a>(matches: &ArgMatches<'a>, id: &str) -> Option<&'a str>
 }
 
 // The files that the arguments of `replay` name.
-fn paths<'a>(matches: &ArgMatches<'a>) -> Option<ReplayPaths<'a>>
-    ensures { option_map paths_of result ≡ paths_in (rows_of (found_of matches.now)) }
+fn replay_paths<'a>(matches: &ArgMatches<'a>) -> Option<ReplayPaths<'a>>
+    ensures { option_map replay_files result ≡ replay_in (rows_of (found_of matches.now)) }
 {
     let policy = value_of(matches, "policy")?;
     let script = value_of(matches, "script")?;
+    let book = value_of(matches, "book");
     Some(ReplayPaths {
         policy,
         script,
-        book: None,
+        book,
     })
+}
+
+// The files that the arguments of `audit` name.
+fn audit_paths<'a>(matches: &ArgMatches<'a>) -> Option<AuditPaths<'a>>
+    ensures { option_map audit_files result ≡ audit_in (rows_of (found_of matches.now)) }
+{
+    let policy = value_of(matches, "policy")?;
+    let book = value_of(matches, "book")?;
+    Some(AuditPaths { policy, book })
+}
+
+// The command of this name, with its files.
+fn command_named<'a>(name: &str, matches: &ArgMatches<'a>) -> Option<Command<'a>>
+    ensures { option_map asked_by result ≡ command_in name.now (rows_of (found_of matches.now)) }
+{
+    if name == "replay" {
+        let paths = replay_paths(matches)?;
+        Some(Command::Replay(paths))
+    } else if name == "audit" {
+        let paths = audit_paths(matches)?;
+        Some(Command::Audit(paths))
+    } else {
+        None
+    }
 }
 
 // Want of memory is told apart from every other cause.
@@ -106,31 +166,21 @@ fn matches_of<'a>(alloc: Global, words: &'a [&'a str]) -> Result<ArgMatches<'a>,
     }
 }
 
-// The files of a replay that the words ask for.
+/// What the words after the program's name ask for: `replay POLICY SCRIPT [--book FILE]` or `audit POLICY BOOK`. They are bad arguments exactly where
+/// `clap` refuses them for another cause than memory.
 #[tactic(auto, unfolding(crate::specs::Grammar::asked))]
-fn read_replay<'a>(alloc: Global, words: &'a [&'a str]) -> Result<ReplayPaths<'a>, ArgFault>
-    ensures { Says result (asked (map (λ w. w.now) words.entry.now)) }
+pub fn read_words<'a>(alloc: Global, words: &'a [&'a str]) -> Result<Command<'a>, ArgFault>
+    ensures { SaysCommand result (asked (map (λ w. w.now) words.entry.now)) }
 {
     let matches = match matches_of(alloc, words) {
         Ok(matches) => matches,
         Err(fault) => return Err(fault),
     };
-    let Some((_, inner)) = matches.subcommand() else {
+    let Some((name, inner)) = matches.subcommand() else {
         return Err(ArgFault::BadArguments);
     };
-    match paths(inner) {
-        Some(paths) => Ok(paths),
+    match command_named(name, inner) {
+        Some(command) => Ok(command),
         None => Err(ArgFault::BadArguments),
-    }
-}
-
-/// What the words after the program's name ask for: `replay POLICY SCRIPT`. They are bad arguments exactly where `clap` refuses them for
-/// another cause than memory.
-pub fn read_words<'a>(alloc: Global, words: &'a [&'a str]) -> Result<Command<'a>, ArgFault>
-    ensures { SaysCommand result (asked (map (λ w. w.now) words.entry.now)) }
-{
-    match read_replay(alloc, words) {
-        Ok(paths) => Ok(Command::Replay(paths)),
-        Err(fault) => Err(fault),
     }
 }

@@ -1,193 +1,233 @@
 -- What a hall keeps and answers names what the policy has.
-use Rattle.std.proofs.Common.{◌≡◌, ℕ, zero, suc, ◌+◌, ◌<◌, ◌≤◌, Bool, true, false, List, [], ◌∷◌, ◌++◌, length, set, map, find, flat_map, Option, Some, None, refl, sym, ap, ◌∙◌, subst, arith, slice_get, cond, ⊎_elim, inl, inr, ◌⊎◌}
-use Rattle.std.specs.Prelude.{◌==◌, unwrap_or}
-use Rattle.std.specs.List.{range_with_len}
-use Rattle.std.proofs.lemmas.Bool.{cases_Bool, cond-true, cond-false, false≢true}
+use Rattle.std.proofs.Common.{◌≡◌, ℕ, ◌+◌, ◌<◌, Bool, true, false, List, [], ◌∷◌, ◌++◌, length, refl, sym, ap, ◌∙◌, subst, Option, Some, None, slice_get, option_map, cond, inl, inr, append_assoc}
+use Rattle.std.specs.Prelude.{◌==◌, All, nat_lt, IsSome}
+use Rattle.std.specs.Option.{option_to_list}
+use Rattle.std.proofs.lemmas.List.Elements.{All-nil, All-push}
+use Rattle.std.proofs.lemmas.Option.{slice_get_within}
 use Rattle.wall_labels.specs.declared.label.Label.{Label}
-use Rattle.wall_labels.specs.declared.label.Label.TheVariants.{Public, Of}
-use Rattle.wall_policy.specs.Policy.{ChineseWall}
+use Rattle.wall_policy.specs.Policy.{ChineseWall, IsPolicy}
 use Rattle.wall_rules.specs.Histories.{History}
-use Rattle.hall_core.specs.declared.statement.Stated.{Stated}
-use Rattle.hall_core.specs.declared.call.Posting.{Posting}
-use Rattle.hall_core.specs.declared.call.Act.{Act}
-use Rattle.hall_core.specs.declared.call.Act.TheVariants.{Post as ToPost, Take, Info as ToInfo}
-use Rattle.hall_core.specs.declared.outcome.Outcome.{Outcome}
-use Rattle.hall_core.specs.declared.outcome.Outcome.TheVariants.{Granted, Denied as DeniedBy}
-use Rattle.hall_core.specs.declared.reply.Reply.{Reply}
-use Rattle.hall_core.specs.declared.reply.Reply.TheVariants.{Refused}
-use Rattle.hall_core.specs.declared.reply.Refusal.{Refusal}
-use Rattle.hall_core.specs.declared.reply.Refusal.TheVariants.{NoSuchRequest, NoSuchComm, NoSuchProcess}
-use Rattle.hall_core.specs.declared.roll.Roll.{Roll}
-use Rattle.hall_core.specs.declared.roll.Full.{Full}
-use Rattle.hall_core.specs.Journeys.{below, ranks, label_by, label_of}
-use Rattle.hall_core.specs.Verdicts.{dataset_in, told, member, pairs, first_barred, first_offence, verdict, verdict_by}
-use Rattle.hall_core.specs.Posts.{processes, world, roll_by, is_full, if_full, decided, with_label}
-use Rattle.hall_core.specs.Replies.{given_in, label_if, statement, accepted, reply_by_outcome, info_by, info_on, IsAnswer}
-use Rattle.hall_core.specs.Halls.{Shown, updated}
-use Rattle.hall_core.specs.Named.{IsKnownLabel, HasKnownLabel, IsNamed}
-use Rattle.hall_core.specs.Aligned.{IsKnownOutcome, AreKnown}
-use Rattle.hall_core.specs.Moves.{answer_to_post, refusal_of, is_open, full_of, answer, post_of, with_outcome, after_post, after_take}
-use Rattle.hall_core.proofs.BelowLemmas.{at_below, length_below}
-use Rattle.hall_core.proofs.LookLemmas.{get_set_same, get_set_other}
-use Rattle.hall_core.proofs.MadeLemmas.{updated_same, updated_other, same_or_not}
+use Rattle.mpi_elems.specs.Contents.{Contents}
+use Rattle.mpi_comm.specs.Comms.{fits}
+use Rattle.mpi_group.specs.Groups.{rank_in}
+use Rattle.coll_routes.specs.declared.roll.Roll.{Roll}
+use Rattle.coll_routes.specs.declared.statement.Stated.{Stated}
+use Rattle.coll_routes.specs.Signatures.{is_constructor}
+use Rattle.coll_routes.specs.Rolls.{stated_by, stated_in, label_of, label_in as label_stated}
+use Rattle.coll_routes.specs.Fit.{IsFit}
+use Rattle.coll_values.specs.declared.full.Full.{Full}
+use Rattle.wall_verdict.specs.declared.verdict.Rule.TheVariants.{Star, Simple}
+use Rattle.wall_verdict.specs.declared.verdict.Verdict.{Verdict}
+use Rattle.wall_verdict.specs.declared.verdict.Verdict.TheVariants.{Granted, Denied}
+use Rattle.wall_verdict.specs.Meanings.{IsVerdict}
+use Rattle.wall_verdict.specs.Verdicts.{verdict}
+use Rattle.wall_verdict.proofs.LawLemmas.{verdicts_name_the_least}
+use Rattle.audit_book.specs.declared.refusal.Refusal.{Refusal}
+use Rattle.audit_book.specs.declared.outcome.Outcome.{Outcome}
+use Rattle.audit_book.specs.declared.outcome.Outcome.TheVariants as outcomes
+use Rattle.audit_book.specs.declared.entry.Entry.{Entry as BookEntry}
+use Rattle.audit_book.specs.declared.entry.Entry.TheVariants.{Settled}
+use Rattle.audit_book.specs.Comms.{Comm, processes, new_comms}
+use Rattle.audit_book.specs.Posts.{Post, posts_on, place, filled, comms, outcome, outcome_of, made as made_of, by_verdict, labelled, histories, settled}
+use Rattle.audit_book.specs.Books.{AreTaken, book, posted, settlement}
+use Rattle.audit_book.specs.Flow.{IsMoment}
+use Rattle.audit_book.proofs.PostLemmas.{IsFilled, filled_is, stated_at, stated_by as stated_of, kth_from}
+use Rattle.audit_book.proofs.TakenLemmas.{taken_accepted, taken_at}
+use Rattle.audit_book.proofs.FitLemmas.{filled_is_fit}
+use Rattle.hall_runs.specs.declared.call.Posting.{Posting}
+use Rattle.hall_runs.specs.declared.call.Act.{Act}
+use Rattle.hall_runs.specs.declared.call.Act.TheVariants.{Post as ToPost, Take, Info as ToInfo}
+use Rattle.hall_runs.specs.declared.reply.Reply.{Reply}
+use Rattle.hall_runs.specs.declared.reply.Reply.TheVariants as replies
+use Rattle.hall_runs.specs.Runs.{Made, requests, given_in, label_if, after_entry}
+use Rattle.hall_runs.specs.Replies.{posts_in, comm_at, refusal, accepted, reply_to_post, reply_to_take, reply_by_outcome, reply_by, join, joined, info_by, info_on, IsAnswer}
+use Rattle.hall_runs.proofs.MadeLemmas.{entry_of}
+use Rattle.hall_runs.proofs.ProperLemmas.{proper_step}
+use Rattle.hall_runs.proofs.SettledLemmas.{settled_from}
+use Rattle.audit_course.specs.Givens.{full_at}
+use Rattle.hall_core.specs.Halls.{Shown}
+use Rattle.hall_core.specs.Kept.{HaveLabels, IsMade, IsHall}
+use Rattle.hall_core.specs.Moves.{Steps}
+use Rattle.hall_core.specs.Named.{IsKnownLabel, HasKnownLabel, IsKnownGiven, IsNamed, IsNamedOutcome, IsNamedEntry}
 
----- What is found in a list.
+-- ## labels of posts
 
-abbrev Each : {X : Type 0} → (X → Type 0) → List X → Type 0
-Each Q [] = Unit {0}
-Each Q (x ∷ xs) = Q x × Each Q xs
+labels_older : (wall : ChineseWall) (later past : List Post) → HaveLabels wall (later ++ past) → HaveLabels wall past
+labels_older wall [] past h = h
+labels_older wall (x ∷ later) past h = labels_older wall later past h.0
 
-found : {X : Type 0} (Q : X → Type 0) (p : X → Bool) (xs : List X) (x : X) → Each Q xs → find p xs ≡ Some x → Q x
-found Q p [] x each e = absurd (cc)
-found Q p (y ∷ xs) x each e = ⊎_elim
-    (λ t. let both : Some y ≡ Some x = sym (cond-true (p y) (Some y) (find p xs) t) ∙ e in let same : y ≡ x = cc in subst Q same each.0)
-    (λ f. found Q p xs x each.1 (sym (cond-false (p y) (Some y) (find p xs) f) ∙ e))
-    (cases_Bool (p y))
+labels_at : (wall : ChineseWall) (past : List Post) (y : Post) (then : List Post) → IsMoment past y then → HaveLabels wall past → HaveLabels wall (y ∷ then)
+labels_at wall past y then moment h = labels_older wall moment.0 (y ∷ then) (subst (HaveLabels wall) (sym moment.1) h)
 
-each_range : (n a m : ℕ) → a + m ≤ n → Each (λ i. i < n) (range_with_len a m)
-each_range n a zero h = tt
-each_range n a (suc m) h = (omega arith, each_range n (a + 1) m (omega arith))
+-- ## outcomes
 
-each_below : (n : ℕ) → Each (λ i. i < n) (below n)
-each_below n = each_range n 0 n (omega arith)
+module _ (wall : ChineseWall) (x : Post) (past : List Post) (policy : IsPolicy wall) (taken : AreTaken wall (x ∷ past)) (labels : HaveLabels wall (x ∷ past)) (roll : Roll) (fills : filled (comms wall past) x past ≡ Some roll) where
+  filled_as : IsFilled (comms wall past) x past roll
+  filled_as = filled_is (comms wall past) x past roll fills
 
-each_append : {X : Type 0} (Q : X → Type 0) (xs ys : List X) → Each Q xs → Each Q ys → Each Q (xs ++ ys)
-each_append Q [] ys a b = b
-each_append Q (x ∷ xs) ys a b = (a.0, each_append Q xs ys a.1 b)
+  fit : IsFit roll
+  fit = filled_is_fit wall x past roll policy taken fills
 
-each_row : (n j : ℕ) (xs : List ℕ) → j < n → Each (λ (pair : ℕ × ℕ). pair.0 < n) (map (λ i. (j, i)) xs)
-each_row n j [] h = tt
-each_row n j (i ∷ xs) h = (h, each_row n j xs h)
-
-each_rows : (n : ℕ) (ranks : List ℕ) (xs : List ℕ) → Each (λ j. j < n) xs → Each (λ (pair : ℕ × ℕ). pair.0 < n) (flat_map (λ j. map (λ i. (j, i)) ranks) xs)
-each_rows n ranks [] each = tt
-each_rows n ranks (j ∷ xs) each = each_append (λ (pair : ℕ × ℕ). pair.0 < n) (map (λ i. (j, i)) ranks) _ (each_row n j ranks each.0) (each_rows n ranks xs each.1)
-
----- Verdicts.
-
-told_known : (wall : ChineseWall) (l : Option Label) → ((d : ℕ) → dataset_in l ≡ Some d → d < length wall.dataset_names) → IsKnownLabel wall (told l)
-told_known wall None h = tt
-told_known wall (Some Public) h = tt
-told_known wall (Some (Of d)) h = h d refl
-
-module _ (wall : ChineseWall) (roll : Roll) (members : roll.members ≡ below (processes wall)) (known : (i d : ℕ) → dataset_in (label_of roll i) ≡ Some d → d < length wall.dataset_names) where
-  size : length roll.members ≡ processes wall
-  size = ap length members ∙ length_below (processes wall)
-
-  member_known : (j : ℕ) → j < length roll.members → member roll j < processes wall
-  member_known j h =
-      let low : j < processes wall = subst (λ n. j < n) size h in
-      subst (λ m. m < processes wall) (sym (ap (λ ms. unwrap_or (slice_get ms j) 0) members ∙ ap (λ o. unwrap_or o 0) (at_below (processes wall) j low))) low
-
-  by_parts : (b : Option ℕ) (o : Option (ℕ × ℕ)) → ((i : ℕ) → b ≡ Some i → i < length roll.members) → ((pair : ℕ × ℕ) → o ≡ Some pair → pair.0 < length roll.members) → IsKnownOutcome wall (Some (verdict_by roll b o))
-  by_parts (Some i) o low pair_low = (member_known i (low i refl), told_known wall (label_of roll i) (known i))
-  by_parts None (Some pair) low pair_low = (member_known pair.0 (pair_low pair refl), told_known wall (label_of roll pair.1) (known pair.1))
-  by_parts None None low pair_low = tt
-
-  pub verdict_known : (has : History) → IsKnownOutcome wall (Some (verdict wall has roll))
-  unfolding verdict
-  verdict_known has = by_parts (first_barred roll) (first_offence wall has roll)
-      (λ i e. found (λ k. k < length roll.members) _ (ranks roll) i (each_below (length roll.members)) e)
-      (λ pair e. found (λ (q : ℕ × ℕ). q.0 < length roll.members) _ (pairs roll) pair (each_rows (length roll.members) (ranks roll) (ranks roll) (each_below (length roll.members))) e)
-
----- Posts.
-
-label_known : (wall : ChineseWall) (given : ℕ) (label : Label) (d : ℕ) → IsKnownLabel wall label → dataset_in (label_if given label) ≡ Some d → d < length wall.dataset_names
-label_known wall given label d known e = ⊎_elim
-    (λ t. let none = sym (ap dataset_in (cond-true (given == 0) None (Some label) t)) ∙ e in absurd (cc))
-    (λ f. by_label label known (sym (ap dataset_in (cond-false (given == 0) None (Some label) f)) ∙ e))
-    (cases_Bool (given == 0))
-  where
-    by_label : (l : Label) → IsKnownLabel wall l → dataset_in (Some l) ≡ Some d → d < length wall.dataset_names
-    by_label Public k is = absurd (cc)
-    by_label (Of c) k is = let same : c ≡ d = cc in subst (λ n. n < length wall.dataset_names) same k
-
-module _ (hall : Shown) (p : ℕ) (posting : Posting) (barred : Bool) (known : AreKnown hall) (label : IsKnownLabel hall.policy posting.label) where
-  abbrev k : ℕ
-  k = length (hall.taken p)
-
-  abbrev rows : List (Option Stated)
-  rows = set (hall.stated (length (hall.taken p))) p (Some (statement posting barred))
-
-  rows_known : (i d : ℕ) → dataset_in (label_by (slice_get rows i)) ≡ Some d → d < length hall.policy.dataset_names
-  rows_known i d e = ⊎_elim
-      (λ is. ⊎_elim
-      (λ low. label_known hall.policy (given_in posting) posting.label d label (sym (ap (λ o. dataset_in (label_by o)) (ap (λ n. slice_get rows n) is ∙ get_set_same (hall.stated k) p (Some (statement posting barred)) low)) ∙ e))
-      (λ past. let none = sym (ap (λ o. dataset_in (label_by o)) (gone i is past)) ∙ e in absurd (cc))
-      (inside p (hall.stated k)))
-      (λ other. known.stated k i d (sym (ap (λ o. dataset_in (label_by o)) (get_set_other (hall.stated k) p i (Some (statement posting barred)) other)) ∙ e))
-      (same_or_not i p)
+  -- each member has posted
+  member_named : (j q : ℕ) → slice_get roll.members j ≡ Some q → q < processes wall
+  member_named j q at = by_row (slice_get (posts_on x.comm q (x ∷ past)) (place x past)) refl
     where
-      inside : {X : Type 0} (n : ℕ) (xs : List X) → (n < length xs) ⊎ (length xs ≤ n)
-      inside n xs = Rattle.std.proofs.lemmas.Bool.cases_lt n (length xs)
+      low : j < roll.shape.size
+      low = subst (λ n. j < n) fit.sound.members (slice_get_within roll.members j q at)
 
-      gone : (i : ℕ) → i ≡ p → length (hall.stated k) ≤ p → slice_get rows i ≡ None
-      gone i is past = Rattle.std.proofs.lemmas.Option.slice_get_past rows i (let e = Rattle.hall_core.proofs.FlagLemmas.length_set (hall.stated k) p (Some (statement posting barred)) in omega arith)
+      row : stated_by roll j ≡ slice_get (posts_on x.comm q (x ∷ past)) (place x past)
+      row = ap stated_in (stated_at (comms wall past) x past roll j filled_as q at)
 
-  stated_known : (j i d : ℕ) → dataset_in (label_by (slice_get (updated hall.stated k rows j) i)) ≡ Some d → d < length hall.policy.dataset_names
-  stated_known j i d e = ⊎_elim
-      (λ is. rows_known i d (sym (ap (λ ss. dataset_in (label_by (slice_get ss i))) (updated_same hall.stated k j rows is)) ∙ e))
-      (λ other. known.stated j i d (sym (ap (λ ss. dataset_in (label_by (slice_get ss i))) (updated_other hall.stated k j rows other)) ∙ e))
-      (same_or_not j k)
+      by_row : (o : Option Stated) → slice_get (posts_on x.comm q (x ∷ past)) (place x past) ≡ o → q < processes wall
+      by_row None e = let none = subst IsSome (row ∙ e) (fit.full j low) in absurd (cc)
+      by_row (Some s) e =
+          let y = kth_from x.comm q (place x past) s (x ∷ past) e in
+          subst (λ p. p < processes wall) y.by (taken_accepted wall y.y y.then (taken_at wall (x ∷ past) y.y y.then y.moment taken).1).process
 
-  outcome_known : (o : Option Roll) → ((r : Roll) → o ≡ Some r → (has : History) → IsKnownOutcome hall.policy (Some (verdict hall.policy has r))) → (has : History) (j : ℕ) → IsKnownOutcome hall.policy (with_outcome hall.outcome k (decided hall.policy has o) j)
-  outcome_known None h has j = known.outcomes j
-  outcome_known (Some r) h has j = ⊎_elim
-      (λ is. subst (IsKnownOutcome hall.policy) (sym (updated_same hall.outcome k j (Some (verdict hall.policy has r)) is)) (h r refl has))
-      (λ other. subst (IsKnownOutcome hall.policy) (sym (updated_other hall.outcome k j (Some (verdict hall.policy has r)) other)) (known.outcomes j))
-      (same_or_not j k)
+  stated_label : (i : ℕ) (label : Label) (o : Option (Option Stated)) → slice_get roll.stated i ≡ o → label_stated (stated_in o) ≡ Some label → IsKnownLabel wall label
+  stated_label i label None at e = absurd (cc)
+  stated_label i label (Some None) at e = absurd (cc)
+  stated_label i label (Some (Some s)) at e =
+      let of = stated_of (comms wall past) x past roll i filled_as s at in
+      let y = kth_from x.comm of.0 (place x past) s (x ∷ past) of.2 in
+      subst (IsKnownGiven wall) (ap (λ (t : Stated). t.label) y.states ∙ e) (labels_at wall (x ∷ past) y.y y.then y.moment labels).1
 
-  if_full_is : (ss : List (Option Stated)) (r : Roll) → if_full (roll_by (world hall.policy) ss) ≡ Some r → roll_by (world hall.policy) ss ≡ r
-  if_full_is ss r e = ⊎_elim
-      (λ t. let both : Some (roll_by (world hall.policy) ss) ≡ Some r = sym (cond-true (is_full ss) (Some (roll_by (world hall.policy) ss)) None t) ∙ e in cc)
-      (λ f. let bad = sym (cond-false (is_full ss) (Some (roll_by (world hall.policy) ss)) None f) ∙ e in absurd (cc))
-      (cases_Bool (is_full ss))
+  label_named : (i : ℕ) (label : Label) → label_of roll i ≡ Some label → IsKnownLabel wall label
+  label_named i label e = stated_label i label (slice_get roll.stated i) refl e
 
-  pub known_post : AreKnown (after_post hall p posting barred)
-  known_post = record {
-    stated = stated_known;
-    outcomes = outcome_known (if_full (roll_by (world hall.policy) (updated hall.stated k rows k)))
-        (λ r e has. subst (λ (q : Roll). IsKnownOutcome hall.policy (Some (verdict hall.policy has q))) (if_full_is (updated hall.stated k rows k) r e)
-        (verdict_known hall.policy (roll_by (world hall.policy) (updated hall.stated k rows k)) refl (λ i d. stated_known k i d) has))
-        (with_label hall.has (post_of p posting barred));
-  }
+  verdict_named : (has : History) (v : Verdict) → IsVerdict wall has roll v → IsNamedOutcome wall (by_verdict v)
+  verdict_named has Granted h = tt
+  verdict_named has (Denied Star p label) h = (member_named h.rank p h.is_member, label_named h.rank label h.is_label)
+  verdict_named has (Denied Simple p label) h = (member_named h.1.receiver p h.1.is_member, label_named h.1.contributor label h.1.is_label)
 
-pub known_take : (hall : Shown) (p r : ℕ) → AreKnown hall → AreKnown (after_take hall p r)
-known_take hall p r known = record { stated = known.stated; outcomes = known.outcomes }
+  made_named : (n : ℕ) (new : List Comm) (b : Bool) → IsNamedOutcome wall (cond b (outcomes.Made n (length new)) outcomes.NoRoom)
+  made_named n new true = tt
+  made_named n new false = tt
 
----- Replies.
+  by_kind : (has : History) (n : ℕ) (b : Bool) → IsNamedOutcome wall (cond b (made_of n (new_comms roll)) (by_verdict (verdict wall has roll)))
+  by_kind has n true = made_named n (new_comms roll) (fits n (length (new_comms roll)))
+  by_kind has n false = verdict_named has (verdict wall has roll) (verdicts_name_the_least wall has roll fit)
+
+  of_filled : (o : Outcome) → outcome wall x past ≡ Some o → IsNamedOutcome wall o
+  of_filled o e =
+      let told : Some (outcome_of wall (labelled (histories wall past) x) (length (comms wall past)) roll) ≡ Some o =
+      sym (ap (λ r. option_map (outcome_of wall (labelled (histories wall past) x) (length (comms wall past))) r) fills) ∙ e in
+      let same : outcome_of wall (labelled (histories wall past) x) (length (comms wall past)) roll ≡ o = cc in
+      subst (IsNamedOutcome wall) same (by_kind (labelled (histories wall past) x) (length (comms wall past)) (is_constructor roll.sig))
+
+pub outcome_named : (wall : ChineseWall) (x : Post) (past : List Post) → IsPolicy wall → AreTaken wall (x ∷ past) → HaveLabels wall (x ∷ past) → (o : Outcome) → outcome wall x past ≡ Some o → IsNamedOutcome wall o
+outcome_named wall x past policy taken labels o e = go (filled (comms wall past) x past) refl
+  where
+    go : (r : Option Roll) → filled (comms wall past) x past ≡ r → IsNamedOutcome wall o
+    go None fills = let none = sym (ap (λ r. option_map (outcome_of wall (labelled (histories wall past) x) (length (comms wall past))) r) fills) ∙ e in absurd (cc)
+    go (Some roll) fills = of_filled wall x past policy taken labels roll fills o e
+
+settled_named : (wall : ChineseWall) (past : List Post) → IsPolicy wall → AreTaken wall past → HaveLabels wall past → (c k : ℕ) (o : Outcome) → settled wall c k past ≡ Some o → IsNamedOutcome wall o
+settled_named wall past policy taken labels c k o e =
+    let h = settled_from wall c k past o e in
+    outcome_named wall h.x h.before policy (taken_at wall past h.x h.before h.moment taken) (labels_at wall past h.x h.before h.moment labels) o h.came
+
+-- ## replies
 
 accepted_named : (wall : ChineseWall) (passed : Bool) (request : ℕ) (label : Label) → IsKnownLabel wall label → IsNamed wall (accepted passed request label)
 accepted_named wall true request label known = tt
 accepted_named wall false request label known = known
 
-post_named : (hall : Shown) (p : ℕ) (posting : Posting) (o : Option Refusal) → IsKnownLabel hall.policy posting.label → IsNamed hall.policy (answer_to_post hall p posting o)
-post_named hall p posting (Some r) known = tt
-post_named hall p posting None known = accepted_named hall.policy _ _ posting.label known
+post_named : (wall : ChineseWall) (m : Made) (p : ℕ) (posting : Posting) (o : Option Refusal) → IsKnownLabel wall posting.label → IsNamed wall (reply_to_post wall m p posting o)
+post_named wall m p posting (Some r) known = tt
+post_named wall m p posting None known = accepted_named wall _ _ posting.label known
 
-outcome_named : (wall : ChineseWall) (p : ℕ) (full : Full) (o : Option Outcome) → IsKnownOutcome wall o → IsNamed wall (reply_by_outcome p full o)
-outcome_named wall p full None known = tt
-outcome_named wall p full (Some Granted) known = tt
-outcome_named wall p full (Some (DeniedBy rule q label)) known = known
+join_named : (wall : ChineseWall) (first : ℕ) (comm : Comm) (o : Option ℕ) (others : Reply) → IsNamed wall others → IsNamed wall (join first comm o others)
+join_named wall first comm (Some rank) others h = tt
+join_named wall first comm None others h = h
 
-take_named : (hall : Shown) (p r : ℕ) → AreKnown hall → (b : Bool) → IsNamed hall.policy (cond b (reply_by_outcome p (full_of hall r) (hall.outcome r)) (Refused NoSuchRequest))
-take_named hall p r known true = outcome_named hall.policy p (full_of hall r) (hall.outcome r) (known.outcomes r)
-take_named hall p r known false = tt
+joined_named : (wall : ChineseWall) (p first : ℕ) (cs : List Comm) → IsNamed wall (joined p first cs)
+joined_named wall p first [] = tt
+joined_named wall p first (comm ∷ cs) = join_named wall first comm (rank_in comm.members p) (joined p (first + 1) cs) (joined_named wall p (first + 1) cs)
 
-rank_named : (wall : ChineseWall) (o : Option ℕ) → IsNamed wall (info_by (world wall) o)
-rank_named wall None = tt
-rank_named wall (Some rank) = tt
+came_named : (wall : ChineseWall) (p : ℕ) (full : Full Contents) (o : Option Outcome) → ((v : Outcome) → o ≡ Some v → IsNamedOutcome wall v) → IsNamed wall (reply_by_outcome p full o)
+came_named wall p full None h = tt
+came_named wall p full (Some outcomes.Granted) h = tt
+came_named wall p full (Some (outcomes.Denied rule q label)) h = h (outcomes.Denied rule q label) refl
+came_named wall p full (Some (outcomes.Made first number)) h = joined_named wall p first (new_comms full.roll)
+came_named wall p full (Some outcomes.NoRoom) h = tt
 
-info_named : (wall : ChineseWall) (p : ℕ) (a b : Bool) → IsNamed wall (cond a (cond b (info_on p (Some (world wall))) (Refused NoSuchComm)) (Refused NoSuchProcess))
-info_named wall p true true = rank_named wall _
-info_named wall p true false = tt
-info_named wall p false b = tt
+either_named : (wall : ChineseWall) (b : Bool) (x y : Reply) → IsNamed wall x → IsNamed wall y → IsNamed wall (cond b x y)
+either_named wall true x y h k = h
+either_named wall false x y h k = k
 
-due_named : (hall : Shown) (p : ℕ) (act : Act) → AreKnown hall → HasKnownLabel hall.policy act → IsNamed hall.policy (answer hall p act)
-due_named hall p (ToPost posting) known label = post_named hall p posting (refusal_of hall p posting) label
-due_named hall p (Take r) known label = take_named hall p r known (is_open (hall.taken p) r)
-due_named hall p (ToInfo c) known label = info_named hall.policy p _ _
+take_named : (wall : ChineseWall) (m : Made) (p r : ℕ) (o : Option (ℕ × ℕ)) → ((c k : ℕ) (v : Outcome) → settled wall c k (posts_in m) ≡ Some v → IsNamedOutcome wall v) → IsNamed wall (reply_to_take wall m p r o)
+take_named wall m p r None h = tt
+take_named wall m p r (Some (c, k)) h = either_named wall (m.taken p r) _ _ tt (came_named wall p (full_at (comm_at wall (posts_in m) c) c k m.givens) (settled wall c k (posts_in m)) (h c k))
 
-pub answer_named : (hall : Shown) (p : ℕ) (act : Act) (given : Reply) → AreKnown hall → HasKnownLabel hall.policy act → IsAnswer (answer hall p act) given → IsNamed hall.policy given
-answer_named hall p act given known label (inl e) = subst (IsNamed hall.policy) (sym e) (due_named hall p act known label)
-answer_named hall p act given known label (inr e) = subst (IsNamed hall.policy) (sym e.1) tt
+rank_named : (wall : ChineseWall) (comm : Comm) (o : Option ℕ) → IsNamed wall (info_by comm o)
+rank_named wall comm None = tt
+rank_named wall comm (Some rank) = tt
+
+info_named : (wall : ChineseWall) (p : ℕ) (o : Option Comm) → IsNamed wall (info_on p o)
+info_named wall p None = tt
+info_named wall p (Some comm) = rank_named wall comm (rank_in comm.members p)
+
+due_named : (wall : ChineseWall) (m : Made) (p : ℕ) (act : Act) → IsPolicy wall → IsMade wall m → HasKnownLabel wall act → IsNamed wall (reply_by wall m p act)
+due_named wall m p (ToPost posting) policy is label = post_named wall m p posting (refusal wall m p posting) label
+due_named wall m p (Take r) policy is label = take_named wall m p r (slice_get (requests p (posts_in m)) r) (λ c k v e. settled_named wall (posts_in m) policy is.proper.posts is.labels c k v e)
+due_named wall m p (ToInfo c) policy is label = either_named wall (nat_lt p (processes wall)) _ _ (info_named wall p (slice_get (comms wall (posts_in m)) c)) tt
+
+answer_named : (wall : ChineseWall) (m : Made) (p : ℕ) (act : Act) (got : Reply) → IsPolicy wall → IsMade wall m → HasKnownLabel wall act → IsAnswer (reply_by wall m p act) got → IsNamed wall got
+answer_named wall m p act got policy is label (inl e) = subst (IsNamed wall) (sym e) (due_named wall m p act policy is label)
+answer_named wall m p act got policy is label (inr e) = subst (IsNamed wall) (sym e.1) tt
+
+-- ## a call
+
+given_known : (wall : ChineseWall) (given : ℕ) (label : Label) → IsKnownLabel wall label → IsKnownGiven wall (label_if given label)
+given_known wall given label known = by_number (given == 0)
+  where
+    by_number : (b : Bool) → IsKnownGiven wall (cond b None (Some label))
+    by_number true = tt
+    by_number false = known
+
+labels_more : (wall : ChineseWall) (m : Made) (p : ℕ) (act : Act) (got : Reply) → HaveLabels wall (posts_in m) → HasKnownLabel wall act → HaveLabels wall (posts_in (after_entry m (entry_of p act got)))
+labels_more wall m p (ToPost posting) (replies.Posted r) h known = (h, given_known wall (given_in posting) posting.label known)
+labels_more wall m p (ToPost posting) (replies.Barred r label) h known = (h, given_known wall (given_in posting) posting.label known)
+labels_more wall m p (ToPost posting) replies.Pending h known = h
+labels_more wall m p (ToPost posting) (replies.Delivered delivery) h known = h
+labels_more wall m p (ToPost posting) (replies.NewComm c r n) h known = h
+labels_more wall m p (ToPost posting) replies.NullComm h known = h
+labels_more wall m p (ToPost posting) (replies.Denied rule q label) h known = h
+labels_more wall m p (ToPost posting) replies.NoRoom h known = h
+labels_more wall m p (ToPost posting) (replies.Info size rank dims) h known = h
+labels_more wall m p (ToPost posting) (replies.Refused refusal) h known = h
+labels_more wall m p (Take r) got h known = h
+labels_more wall m p (ToInfo c) got h known = h
+
+pub is_hall_after : (old new : Shown) (p : ℕ) (act : Act) (got : Reply) → IsHall old → new.policy ≡ old.policy → HasKnownLabel old.policy act → Steps old new p act got → IsHall new
+is_hall_after old new p act got is same known steps =
+    let step = steps is.made is.is_made.proper is.stands in
+    record {
+      made = after_entry is.made (entry_of p act got);
+      stands = step.1;
+      is_made = subst (λ (w : ChineseWall). IsMade w (after_entry is.made (entry_of p act got))) (sym same) (record {
+        proper = proper_step old.policy is.made p is.is_made.proper act got step.0;
+        labels = labels_more old.policy is.made p act got is.is_made.labels known;
+      });
+    }
+
+pub step_named : (old new : Shown) (p : ℕ) (act : Act) (got : Reply) → IsPolicy old.policy → IsHall old → HasKnownLabel old.policy act → Steps old new p act got → IsNamed old.policy got
+step_named old new p act got policy is known steps = answer_named old.policy is.made p act got policy is.is_made known (steps is.made is.is_made.proper is.stands).0
+
+-- ## the book
+
+entry_named : (wall : ChineseWall) (x : Post) (past : List Post) → AreTaken wall (x ∷ past) → HaveLabels wall (x ∷ past) → IsNamedEntry wall (posted x)
+entry_named wall x past taken labels = ((taken_accepted wall x past taken.1).process, labels.1)
+
+entries_named : (wall : ChineseWall) (x : Post) (past : List Post) (before : List BookEntry) (o : Option Outcome) → All (IsNamedEntry wall) before → IsNamedEntry wall (posted x) → ((v : Outcome) → o ≡ Some v → IsNamedOutcome wall v) →
+    All (IsNamedEntry wall) (before ++ posted x ∷ option_to_list (settlement x past o))
+entries_named wall x past before None all one h = All-push (IsNamedEntry wall) before (posted x) all one
+entries_named wall x past before (Some v) all one h =
+    subst (All (IsNamedEntry wall)) (append_assoc before (posted x ∷ []) (Settled x.comm (place x past) v ∷ []))
+    (All-push (IsNamedEntry wall) (before ++ posted x ∷ []) (Settled x.comm (place x past) v) (All-push (IsNamedEntry wall) before (posted x) all one) (h v refl))
+
+pub book_named : (wall : ChineseWall) (past : List Post) → IsPolicy wall → AreTaken wall past → HaveLabels wall past → All (IsNamedEntry wall) (book wall past)
+book_named wall [] policy taken labels = All-nil (IsNamedEntry wall)
+book_named wall (x ∷ past) policy taken labels =
+    entries_named wall x past (book wall past) (outcome wall x past) (book_named wall past policy taken.0 labels.0) (entry_named wall x past taken labels) (λ v e. outcome_named wall x past policy taken labels v e)

@@ -5,9 +5,9 @@ use Rattle.wall_policy.specs.Policy.{ChineseWall}
 use Rattle.hall_core.specs.Named.{HasKnownLabel, HaveKnownLabels}
 use Rattle.std.specs.List.{zip}
 use Rattle.std.proofs.lemmas.List.{reverse-append}
-use Rattle.hall_core.specs.declared.call.Call.{Call}
-use Rattle.hall_core.specs.declared.reply.Reply.{Reply}
-use Rattle.hall_core.specs.Replies.{Entry}
+use Rattle.hall_runs.specs.declared.call.Call.{Call}
+use Rattle.hall_runs.specs.declared.reply.Reply.{Reply}
+use Rattle.hall_runs.specs.Runs.{Entry}
 use Rattle.hall_core.specs.Halls.{entry, entry_of, run_of}
 
 zipped : (calls : List Call) (replies : List Reply) (call : Call) (given : Reply) → length replies ≡ length calls → map entry_of (zip (calls ++ call ∷ []) (replies ++ given ∷ [])) ≡ map entry_of (zip calls replies) ++ entry call given ∷ []

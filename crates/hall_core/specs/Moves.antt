@@ -1,125 +1,88 @@
--- The reply of a hall and what it is afterwards, from what it shows. (The contracts of `Hall`'s own steps; runs stand above it.)
-use Rattle.std.specs.Prelude.{ℕ, Bool, true, false, not, ◌==◌, List, [], ◌∷◌, ◌++◌, length, slice_get, slice_set, Option, Some, None, nat_lt, if◌then◌else◌, count_by}
-use Rattle.std.specs.Option.{option_map_or}
-use Rattle.wall_policy.specs.Policy.{ChineseWall}
-use Rattle.hall_core.specs.declared.call.Posting.{Posting}
-use Rattle.hall_core.specs.declared.call.Act.{Act}
-use Rattle.hall_core.specs.declared.call.Act.TheVariants.{Post as ToPost, Take, Info as ToInfo}
+-- What a call makes of a hall, by what callers can tell. (The contracts of the hall's own steps.)
+use Rattle.std.specs.Prelude.{◌≡◌, ◌==◌, ◌&&◌, ◌+◌, ◌≤◌, ◌<◌, ℕ, List, [], ◌∷◌, ◌++◌, Option, Some, length, slice_get, take, drop, nat_lt, if◌then◌else◌}
 use Rattle.mpi_elems.specs.Contents.{Contents}
-use Rattle.hall_core.specs.declared.statement.Stated.{Stated}
-use Rattle.hall_core.specs.Journeys.{below}
-use Rattle.hall_core.specs.declared.outcome.Outcome.{Outcome}
-use Rattle.hall_core.specs.declared.reply.Reply.{Reply}
-use Rattle.hall_core.specs.declared.reply.Reply.TheVariants.{Posted, Barred, Pending, Delivered, NewComm, NullComm, Denied, NoRoom, Info, Refused}
-use Rattle.hall_core.specs.declared.reply.Refusal.{Refusal}
-use Rattle.hall_core.specs.declared.reply.Refusal.TheVariants.{NoSuchProcess, NoSuchComm, Mismatch, TooManyRequests, NoSuchRequest}
-use Rattle.hall_core.specs.declared.roll.Roll.{Roll}
-use Rattle.hall_core.specs.declared.roll.Full.{Full}
-use Rattle.hall_core.specs.Signatures.{is_typed}
-use Rattle.hall_core.specs.Faults.{shape_fault, or_else}
-use Rattle.hall_core.specs.Verdicts.{star}
-use Rattle.hall_core.specs.Posts.{Post, processes, world, roll_by, if_full, with_label, with_delivery, decided}
-use Rattle.hall_core.specs.Replies.{given_in, label_in, statement, kept, mismatches, is_over, accepted, reply_by_outcome, info_on, is_outcome}
-use Rattle.hall_core.specs.Halls.{Shown, updated}
+use Rattle.coll_routes.specs.declared.statement.Stated.{Stated}
+use Rattle.coll_values.specs.Instances.{IsWhole}
+use Rattle.audit_book.specs.declared.outcome.Outcome.TheVariants.{Granted, Made}
+use Rattle.audit_book.specs.declared.entry.Entry.{Entry as BookEntry}
+use Rattle.audit_book.specs.declared.entry.Entry.TheVariants.{Posted as EntryPosted, Settled as EntrySettled}
+use Rattle.audit_book.specs.declared.refusal.Refusal.TheVariants.{NoSuchProcess}
+use Rattle.audit_book.specs.Comms.{Comm, processes, new_comms}
+use Rattle.audit_course.specs.declared.entered.Entered.{Entered}
+use Rattle.audit_course.specs.declared.entered.Entered.TheVariants.{Waiting, Settled}
+use Rattle.hall_runs.specs.declared.call.Act.{Act}
+use Rattle.hall_runs.specs.declared.reply.Reply.{Reply}
+use Rattle.hall_runs.specs.declared.reply.Reply.TheVariants.{Refused}
+use Rattle.hall_runs.specs.Runs.{after_entry, with_given, Made as WhatIsMade}
+use Rattle.hall_runs.specs.Replies.{info_on, reply_by, IsAnswer, posts_in}
+use Rattle.hall_core.specs.declared.settled.Settlement.{Settlement}
+use Rattle.hall_core.specs.Asking.{room_of, with_request, with_closed}
+use Rattle.hall_core.specs.Halls.{Shown, StandsBy, settlement}
+use Rattle.hall_runs.specs.Proper.{IsProper}
+use Rattle.audit_book.specs.Books.{IsTaken}
+use Rattle.audit_course.specs.Givens.{Given}
+use Rattle.hall_core.specs.declared.records.Records.{Records}
+use Rattle.hall_core.specs.Settling.{HasPlace}
 
--- the first fault of a post of p, where there are so many processes, with these requests and these instances
-abbrev pub fault_by : (number : ℕ) → (taken : ℕ → List Bool) → (stated : ℕ → List (Option Stated)) → (p : ℕ) → Posting → Option Refusal
-fault_by number taken stated p posting =
-    if nat_lt p number then
-    (if posting.comm == 0 then
-    or_else (shape_fault (record { size = number }) p posting.sig posting.own (is_typed posting.sig posting.elements.elem_type (given_in posting)) (given_in posting))
-    (if mismatches posting.sig (stated (length (taken p))) then Some Mismatch else None)
-    else Some NoSuchComm)
-    else Some NoSuchProcess
+-- ## infos
 
-abbrev pub refusal_by : (number : ℕ) → (taken : ℕ → List Bool) → (stated : ℕ → List (Option Stated)) → (p : ℕ) → Posting → Option Refusal
-refusal_by number taken stated p posting = or_else (fault_by number taken stated p posting) (if is_over (count_by not (taken p)) (length (taken p)) then Some TooManyRequests else None)
+abbrev pub info_of : Shown → (p c : ℕ) → Reply
+info_of hall p c = if nat_lt p (processes hall.policy) then info_on p (slice_get hall.course.comms c) else Refused NoSuchProcess
 
-abbrev pub refusal_of : Shown → (p : ℕ) → Posting → Option Refusal
-refusal_of hall p posting = refusal_by (processes hall.policy) hall.taken hall.stated p posting
+-- ## posts
 
--- whether the star rule lets p post it
-abbrev pub passes : Shown → (p : ℕ) → Posting → Bool
-passes hall p posting = star hall.has p (label_in posting)
+-- the number of the instance that a post came to
+abbrev pub number_in : Entered Contents → ℕ
+number_in (Waiting k) = k
+number_in (Settled full k outcome) = k
 
-abbrev pub answer_to_post : Shown → (p : ℕ) → Posting → Option Refusal → Reply
-answer_to_post hall p posting (Some refusal) = Refused refusal
-answer_to_post hall p posting None = accepted (passes hall p posting) (length (hall.taken p)) posting.label
+-- the entries of the book
+abbrev pub entries_of : (p c : ℕ) → Stated → Entered Contents → List BookEntry
+entries_of p c stated (Waiting k) = EntryPosted p c stated ∷ []
+entries_of p c stated (Settled full k outcome) = EntryPosted p c stated ∷ EntrySettled c k outcome ∷ []
 
--- the request was given and is not taken
-abbrev pub is_open : List Bool → (request : ℕ) → Bool
-is_open taken request = option_map_or not (slice_get taken request) false
+-- what the settlements are afterwards
+abbrev pub IsSettledBy : (c : ℕ) → Entered Contents → (old new : (c k : ℕ) → Option Settlement) → Type 0
+IsSettledBy c (Waiting k) old new = (d j : ℕ) → new d j ≡ old d j
+IsSettledBy c (Settled full k outcome) old new = (d j : ℕ) → new d j ≡ (if d == c && j == k then Some (settlement full outcome) else old d j)
 
--- an instance of so many processes, with its elements
-abbrev pub full_by : (number : ℕ) → List (Option Stated) → List (Option Contents) → Full
-full_by number stated parts = record { roll = roll_by (record { members = below number }) stated; parts = parts }
+-- a post that the course has entered has been recorded
+pub record IsRecorded (old new : Shown) (p c : ℕ) (stated : Stated) (entered : Entered Contents) : Type 0 where
+  pub policy : new.policy ≡ old.policy
+  pub asked : new.asked ≡ with_request old.asked p c (number_in entered)
+  pub settled : IsSettledBy c entered old.settled new.settled
+  pub book : new.book ≡ old.book ++ entries_of p c stated entered
 
-abbrev pub full_of : Shown → (k : ℕ) → Full
-full_of hall k = full_by (processes hall.policy) (hall.stated k) (hall.parts k)
+-- there is room for a post of a process to instance k of communicator c
+pub record HasRoom (records : Records) (p c k : ℕ) : Type 0 where
+  pub request : 0 < room_of records.requests.items p
+  pub entries : 2 ≤ records.book.room
+  pub place : HasPlace records.settled c k
 
-abbrev pub answer_to_info : ChineseWall → (p c : ℕ) → Reply
-answer_to_info wall p c = if nat_lt p (processes wall) then (if c == 0 then info_on p (Some (world wall)) else Refused NoSuchComm) else Refused NoSuchProcess
+-- a post with its part has been counted, whatever the hall stood for
+abbrev pub Counts : (old new : Shown) → Given Contents → Type 0
+Counts old new g = (m : WhatIsMade) → StandsBy old m → IsTaken old.policy g.post (posts_in m) → StandsBy new (with_given m g)
 
-abbrev pub answer : Shown → (p : ℕ) → Act → Reply
-answer hall p (ToPost posting) = answer_to_post hall p posting (refusal_of hall p posting)
-answer hall p (Take request) = if is_open (hall.taken p) request then reply_by_outcome p (full_of hall request) (hall.outcome request) else Refused NoSuchRequest
-answer hall p (ToInfo c) = answer_to_info hall.policy p c
+-- ## takes
 
----- The hall afterwards.
-
-abbrev pub post_of : (p : ℕ) → Posting → (barred : Bool) → Post
-post_of p posting barred = record { process = p; comm = posting.comm; stated = statement posting barred }
-
--- before the instance is settled
-abbrev pub with_post : Shown → (p : ℕ) → Posting → (barred : Bool) → Shown
-with_post hall p posting barred =
-    let k = length (hall.taken p) in
-    record hall {
-      has = with_label hall.has (post_of p posting barred);
-      taken = updated hall.taken p (hall.taken p ++ false ∷ []);
-      stated = updated hall.stated k (slice_set (hall.stated k) p (Some (statement posting barred)));
-      parts = updated hall.parts k (slice_set (hall.parts k) p (Some (kept posting barred)));
-    }
-
-abbrev pub with_outcome : (ℕ → Option Outcome) → (k : ℕ) → Option Outcome → ℕ → Option Outcome
-with_outcome outcome k None = outcome
-with_outcome outcome k (Some o) = updated outcome k (Some o)
-
-abbrev pub with_filled : Shown → (k : ℕ) → Option Roll → Shown
-with_filled hall k roll = record hall {
-  has = with_delivery hall.policy hall.has roll;
-  outcome = with_outcome hall.outcome k (decided hall.policy hall.has roll);
-}
-
--- instance k is settled, if it is full
-abbrev pub with_settled : Shown → (k : ℕ) → Shown
-with_settled hall k = with_filled hall k (if_full (roll_by (world hall.policy) (hall.stated k)))
-
-abbrev pub after_post : Shown → (p : ℕ) → Posting → (barred : Bool) → Shown
-after_post hall p posting barred = with_settled (with_post hall p posting barred) (length (hall.taken p))
-
+-- the request of p is marked as taken
 abbrev pub after_take : Shown → (p request : ℕ) → Shown
-after_take hall p request = record hall { taken = updated hall.taken p (slice_set (hall.taken p) request true) }
+after_take hall p request = record hall { asked = with_closed hall.asked p request }
 
-abbrev pub after_post_as : Shown → (p : ℕ) → Posting → Reply → Shown
-after_post_as hall p posting (Posted request) = after_post hall p posting false
-after_post_as hall p posting (Barred request label) = after_post hall p posting true
-after_post_as hall p posting reply = hall
+-- the communicators of a table from this number on, so many
+abbrev pub row_at : List Comm → (first number : ℕ) → List Comm
+row_at table first number = take number (drop first table)
 
-abbrev pub after : Shown → (p : ℕ) → Act → Reply → Shown
-after hall p (ToPost posting) reply = after_post_as hall p posting reply
-after hall p (Take request) reply = if is_outcome reply then after_take hall p request else hall
-after hall p (ToInfo c) reply = hall
+-- what is known of an instance that was filled, whose communicators stand in this table: a grant is whole, and a constructor's communicators
+-- are those of the table that its outcome names
+pub record IsTellable (table : List Comm) (s : Settlement) : Type 0 where
+  pub whole : s.outcome ≡ Granted → IsWhole s.full
+  pub within : (first number : ℕ) → s.outcome ≡ Made first number → first + number ≤ length table
+  pub made : (first number : ℕ) → s.outcome ≡ Made first number → new_comms s.full.roll ≡ row_at table first number
 
--- replies that leave the hall as it was
-abbrev pub IsQuiet : Reply → Type 0
-IsQuiet Pending = Unit {0}
-IsQuiet (Info size rank dims) = Unit {0}
-IsQuiet (Refused refusal) = Unit {0}
-IsQuiet (Posted request) = ⊥
-IsQuiet (Barred request label) = ⊥
-IsQuiet (Delivered delivery) = ⊥
-IsQuiet (NewComm c r n) = ⊥
-IsQuiet NullComm = ⊥
-IsQuiet (Denied rule p label) = ⊥
-IsQuiet NoRoom = ⊥
+-- ## calls
+
+-- The reply is the one that is due, or want of memory in its place, and the hall then stands for what has been made with it, whatever it
+-- stood for.
+abbrev pub Steps : (old new : Shown) → (p : ℕ) → Act → Reply → Type 0
+Steps old new p act got = (m : WhatIsMade) → IsProper old.policy m → StandsBy old m → IsAnswer (reply_by old.policy m p act) got × StandsBy new (after_entry m (record { call = record { process = p; act = act }; reply = got }))

@@ -1,16 +1,15 @@
 //! Whole runs.
 ghost use Rattle.std.specs.Prelude.{◌≡◌, length, IfOk};
-ghost use Rattle.hall_core.specs.Replies.{Legal};
+ghost use Rattle.hall_runs.specs.Replies.{Legal};
 ghost use Rattle.hall_core.specs.Halls.{run_of};
 ghost use Rattle.hall_core.specs.Named.{HaveKnownLabels};
 
-use crate::call::Call;
 use crate::hall::Hall;
-use crate::reply::Reply;
+use hall_runs::{Call, Reply};
 use std::alloc::Global;
 use std::marker::Model;
+use wall_labels::NoMemory;
 use wall_policy::Policy;
-use wall_rules::NoMemory;
 
 /// A list of calls.
 #[derive(Drop)]
@@ -20,7 +19,7 @@ pub struct Calls {
 
 impl Model for Calls {
     ghost use Rattle.std.specs.Prelude.{List};
-    ghost use Rattle.hall_core.specs.declared.call.Call.{Call};
+    ghost use Rattle.hall_runs.specs.declared.call.Call.{Call};
 
     ghost Value = { List Call };
 
@@ -36,14 +35,14 @@ impl From<Vec<Call>> for Calls {
 }
 
 /// A list of replies.
-#[derive(Debug, Drop)]
+#[derive(Drop)]
 pub struct Replies {
     list: Vec<Reply>,
 }
 
 impl Model for Replies {
     ghost use Rattle.std.specs.Prelude.{List};
-    ghost use Rattle.hall_core.specs.declared.reply.Reply.{Reply};
+    ghost use Rattle.hall_runs.specs.declared.reply.Reply.{Reply};
 
     ghost Value = { List Reply };
 

@@ -3,34 +3,35 @@ ghost use Rattle.std.specs.Prelude.{◌≡◌, IfOk, List};
 ghost use Rattle.wall_policy.specs.Policy.{ChineseWall};
 ghost use Rattle.hall_core.specs.Named.{IsKnownLabel, HasKnownLabel, HaveKnownLabels};
 
-use crate::{
-    Act, Block, Call, Calls, Delivery, Hall, Numbers, Own, Posting, Replies, Reply, Signature,
-    run_calls,
-};
+use crate::{Act, Block, Call, Calls, Delivery, Hall, Posting, Replies, Reply, run_calls};
+use coll_routes::{Own, Signature};
 use mpi_elems::{Buffer, ElemType};
 use std::alloc::{AllocError, Global};
 use std::process::Abort;
 use std::test::Fail;
-use wall_labels::{DatasetId, Label, ProcessId};
+use wall_labels::{DatasetId, Label, Op, ProcessId};
 use wall_policy::{Policy, read_policy};
 
-/// Four processes: a0 at home with alpha, b0 with beta, c0 with crude, n0 nowhere.
+/// Four processes: a0 at home with alpha, b0 with beta, c0 with crude, n0 nowhere. Sums of three and more are sanitised.
 const RIVALS: &str =
-    "version = 1\n[[class]]\nname = \"banks\"\ndatasets = [\"alpha\", \"beta\"]\n[[class]]\nname = \"oil\"\ndatasets = [\"crude\", \"delta\"]\n[[process]]\nname = \"a0\"\nhome = \"alpha\"\n[[process]]\nname = \"b0\"\nhome = \"beta\"\n[[process]]\nname = \"c0\"\nhome = \"crude\"\n[[process]]\nname = \"n0\"\n";
+    "version = 1\n[[class]]\nname = \"banks\"\ndatasets = [\"alpha\", \"beta\"]\n[[class]]\nname = \"oil\"\ndatasets = [\"crude\", \"delta\"]\n[[process]]\nname = \"a0\"\nhome = \"alpha\"\n[[process]]\nname = \"b0\"\nhome = \"beta\"\n[[process]]\nname = \"c0\"\nhome = \"crude\"\n[[process]]\nname = \"n0\"\n[[sanitise]]\nop = \"sum\"\nleast = 3\n";
 
 /// Four processes, all at home with alpha.
 const FRIENDS: &str =
     "version = 1\n[[class]]\nname = \"banks\"\ndatasets = [\"alpha\", \"beta\"]\n[[process]]\nname = \"p0\"\nhome = \"alpha\"\n[[process]]\nname = \"p1\"\nhome = \"alpha\"\n[[process]]\nname = \"p2\"\nhome = \"alpha\"\n[[process]]\nname = \"p3\"\nhome = \"alpha\"\n";
 
-/// What a process does: a broadcast on a communicator from a root of so many numbers, with its own under a label; a take; an info.
+/// What a process does: a broadcast on a communicator from a root of so many numbers, with its own under a label; a sum over all, of its own
+/// numbers under a label; a split of the world, by colour and key; a take; an info.
 #[derive(Clone, Copy)]
 enum Doing {
     Cast(u32, u32, u32, &'static str, &'static [i128]),
+    Sum(&'static str, &'static [i128]),
+    Part(Option<i32>, i32),
     Take(u64),
     Info(u32),
 }
 
-use Doing::{Cast, Info, Take};
+use Doing::{Cast, Info, Part, Sum, Take};
 
 /// A process, what it does, and the reply.
 type Line = (u32, Doing, &'static str);
@@ -51,39 +52,51 @@ fn denied_to_all() -> [Line; 9] {
 }
 
 /// A process of the oil firm may not write for a bank: its post counts, and its instance is denied.
-fn barred() -> [Line; 8] {
+fn barred() -> [Line; 5] {
     [
         (2, Cast(0, 2, 1, "alpha", &[4]), "barred 0 0"),
         (0, Cast(0, 2, 1, "public", &[]), "posted 0"),
         (1, Cast(0, 2, 1, "public", &[]), "posted 0"),
         (3, Cast(0, 2, 1, "public", &[]), "posted 0"),
         (0, Take(0), "denied Star 2 0"),
-        (1, Take(0), "denied Star 2 0"),
-        (2, Take(0), "denied Star 2 0"),
-        (3, Take(0), "denied Star 2 0"),
     ]
 }
 
-/// A public label needs an empty history, which a denial leaves empty and a grant does not.
-fn public() -> [Line; 17] {
+/// A sum of four is sanitised: all get it, and n0, which has had access to nothing, may then write as public.
+fn sum_of_four() -> [Line; 10] {
     [
-        (0, Cast(0, 0, 1, "alpha", &[5]), "posted 0"),
-        (1, Cast(0, 0, 1, "public", &[]), "posted 0"),
-        (2, Cast(0, 0, 1, "public", &[]), "posted 0"),
-        (3, Cast(0, 0, 1, "public", &[]), "posted 0"),
-        (3, Take(0), "denied Simple 1 0"),
-        (3, Cast(0, 3, 1, "public", &[6]), "posted 1"),
-        (0, Cast(0, 3, 1, "public", &[]), "posted 1"),
-        (1, Cast(0, 3, 1, "public", &[]), "posted 1"),
-        (2, Cast(0, 3, 1, "public", &[]), "posted 1"),
-        (1, Take(1), "delivered [6]"),
+        (0, Sum("alpha", &[5]), "posted 0"),
+        (1, Sum("beta", &[6]), "posted 0"),
+        (2, Sum("crude", &[7]), "posted 0"),
+        (3, Sum("public", &[1]), "posted 0"),
+        (0, Take(0), "delivered [19]"),
+        (1, Take(0), "delivered [19]"),
+        (2, Take(0), "delivered [19]"),
+        (3, Take(0), "delivered [19]"),
+        (3, Take(0), "refused NoSuchRequest"),
+        (3, Cast(0, 3, 1, "public", &[2]), "posted 1"),
+    ]
+}
+
+/// A split into two, and a broadcast in the greater part.
+fn split() -> [Line; 16] {
+    [
+        (0, Part(Some(2), 0), "posted 0"),
+        (1, Part(None, 0), "posted 0"),
+        (2, Part(Some(0), 5), "posted 0"),
+        (3, Info(1), "refused NoSuchComm"),
+        (3, Part(Some(2), 0), "posted 0"),
+        (0, Take(0), "comm 2 rank 0 size 2"),
+        (1, Take(0), "null"),
+        (2, Take(0), "comm 1 rank 0 size 1"),
+        (3, Take(0), "comm 2 rank 1 size 2"),
+        (3, Info(2), "info 2 1"),
+        (1, Info(2), "refused NotMember"),
+        (0, Cast(2, 1, 2, "public", &[]), "posted 1"),
+        (3, Cast(2, 1, 2, "alpha", &[7, -1]), "posted 1"),
+        (0, Take(1), "delivered [7 -1]"),
         (3, Take(1), "delivered none"),
-        (0, Cast(0, 0, 1, "public", &[7]), "barred 2 -1"),
-        (1, Cast(0, 0, 1, "public", &[]), "posted 2"),
-        (2, Cast(0, 0, 1, "public", &[]), "posted 2"),
-        (3, Cast(0, 0, 1, "public", &[]), "posted 2"),
-        (3, Take(2), "denied Star 0 -1"),
-        (3, Take(2), "refused NoSuchRequest"),
+        (1, Cast(2, 1, 2, "public", &[]), "refused NotMember"),
     ]
 }
 
@@ -101,81 +114,12 @@ fn refused() -> [Line; 8] {
     ]
 }
 
-/// Friends get the numbers, each once.
-fn delivered() -> [Line; 12] {
-    [
-        (0, Cast(0, 2, 2, "public", &[]), "posted 0"),
-        (1, Cast(0, 2, 2, "public", &[]), "posted 0"),
-        (2, Cast(0, 2, 2, "alpha", &[7, -1]), "posted 0"),
-        (1, Take(0), "pending"),
-        (3, Cast(0, 2, 2, "public", &[]), "posted 0"),
-        (1, Take(0), "delivered [7 -1]"),
-        (2, Take(0), "delivered none"),
-        (1, Take(0), "refused NoSuchRequest"),
-        (3, Take(0), "delivered [7 -1]"),
-        (3, Info(0), "info 4 3"),
-        (4, Info(0), "refused NoSuchProcess"),
-        (3, Info(1), "refused NoSuchComm"),
-    ]
-}
-
-/// The oil firm's figures may go to both banks, and after that neither may write for its own.
-fn three_posts() -> [Line; 3] {
-    [
-        (3, Cast(0, 3, 1, "crude", &[9]), "posted 0"),
-        (0, Cast(0, 3, 1, "public", &[]), "posted 0"),
-        (1, Cast(0, 3, 1, "public", &[]), "posted 0"),
-    ]
-}
-
-fn last_post_and_after() -> [Line; 5] {
-    [
-        (2, Cast(0, 3, 1, "public", &[]), "posted 0"),
-        (0, Take(0), "delivered [9]"),
-        (3, Take(0), "delivered none"),
-        (0, Cast(0, 0, 1, "alpha", &[5]), "barred 1 0"),
-        (3, Cast(0, 0, 1, "public", &[]), "posted 1"),
-    ]
-}
-
-/// A process may have 256 requests that it has not taken: this one has 255.
-fn one_too_many() -> [Line; 2] {
+/// A process may have 256 requests that it has not taken: this one has 255. A bad root is told first.
+fn one_too_many() -> [Line; 3] {
     [
         (0, Cast(0, 0, 0, "public", &[]), "posted 255"),
         (0, Cast(0, 0, 0, "public", &[]), "refused TooManyRequests"),
-    ]
-}
-
-/// For each process which of alpha, beta, crude and delta it has had access to.
-type Pairs = [[bool; 4]; 4];
-
-/// Each process its home.
-fn at_first() -> Pairs {
-    [
-        [true, false, false, false],
-        [false, true, false, false],
-        [false, false, true, false],
-        [false, false, false, false],
-    ]
-}
-
-/// The writer's label comes at its post.
-fn with_the_writers() -> Pairs {
-    [
-        [true, false, false, false],
-        [false, true, false, false],
-        [false, false, true, false],
-        [false, false, true, false],
-    ]
-}
-
-/// The receivers' come with the last post; a barred post adds nothing.
-fn with_the_receivers() -> Pairs {
-    [
-        [true, false, true, false],
-        [false, true, true, false],
-        [false, false, true, false],
-        [false, false, true, false],
+        (0, Cast(0, 4, 0, "public", &[]), "refused BadRoot"),
     ]
 }
 
@@ -189,25 +133,55 @@ fn label(policy: &Policy, name: &str) -> Label
     }
 }
 
+fn posted(
+    alloc: Global,
+    comm: u32,
+    sig: Signature,
+    own: Own,
+    label: Label,
+    numbers: &[i128],
+) -> Result<Act, Fail>
+    ensures { IfOk result (λ act. (wall : ChineseWall) → IsKnownLabel wall label → HasKnownLabel wall act) }
+{
+    let elements = Buffer::from_numbers(alloc, ElemType::Int32, numbers)?;
+    Ok(Act::Post(Posting {
+        comm,
+        sig,
+        own,
+        label,
+        elements,
+    }))
+}
+
 fn act(alloc: Global, doing: Doing, label: Label) -> Result<Act, Fail>
     ensures { IfOk result (λ act. (wall : ChineseWall) → IsKnownLabel wall label → HasKnownLabel wall act) }
 {
+    let elem_type = ElemType::Int32;
     match doing {
         Cast(comm, root, count, _, numbers) => {
-            let elements = Buffer::from_numbers(alloc, ElemType::Int32, numbers)?;
             let sig = Signature::Bcast {
                 root,
-                elem_type: ElemType::Int32,
+                elem_type,
                 count,
             };
-            Ok(Act::Post(Posting {
-                comm,
-                sig,
-                own: Own::Plain,
-                label,
-                elements,
-            }))
+            posted(alloc, comm, sig, Own::Plain, label, numbers)
         }
+        Sum(_, numbers) => {
+            let sig = Signature::Allreduce {
+                op: Op::Sum,
+                elem_type,
+                count: 1,
+            };
+            posted(alloc, 0, sig, Own::Plain, label, numbers)
+        }
+        Part(colour, key) => posted(
+            alloc,
+            0,
+            Signature::Split,
+            Own::Split { colour, key },
+            label,
+            &[],
+        ),
         Take(request) => Ok(Act::Take(request)),
         Info(comm) => Ok(Act::Info(comm)),
     }
@@ -216,6 +190,7 @@ fn act(alloc: Global, doing: Doing, label: Label) -> Result<Act, Fail>
 fn label_name(doing: &Doing) -> &'static str {
     match doing {
         Cast(_, _, _, name, _) => *name,
+        Sum(name, _) => *name,
         _ => "public",
     }
 }
@@ -240,10 +215,11 @@ fn block_text(alloc: Global, text: &mut String, block: &Block) -> Result<(), All
         Block::Missing => text.push_str(" -"),
         Block::Numbers(numbers) => {
             text.push_str(" [")?;
-            for (i, number) in numbers.as_slice().iter().enumerate() {
+            for i in 0..numbers.len() {
                 if i > 0 {
                     text.push_str(" ")?;
                 }
+                let number = numbers.get(i);
                 let number = format!(in alloc; "{number}")?;
                 text.push_str(number.as_str())?;
             }
@@ -272,6 +248,10 @@ fn reply_text(alloc: Global, reply: &Reply) -> Result<String, AllocError> {
         }
         Reply::Pending => String::from_str(alloc, "pending"),
         Reply::Delivered(delivery) => delivery_text(alloc, delivery),
+        Reply::NewComm { comm, rank, size } => {
+            format!(in alloc; "comm {comm} rank {rank} size {size}")
+        }
+        Reply::NullComm => String::from_str(alloc, "null"),
         Reply::Denied {
             rule,
             process,
@@ -281,9 +261,9 @@ fn reply_text(alloc: Global, reply: &Reply) -> Result<String, AllocError> {
             let dataset = dataset_number(label);
             format!(in alloc; "denied {rule:?} {member} {dataset}")
         }
+        Reply::NoRoom => String::from_str(alloc, "no room"),
         Reply::Info { size, rank, .. } => format!(in alloc; "info {size} {rank}"),
         Reply::Refused(refusal) => format!(in alloc; "refused {refusal:?}"),
-        _ => String::from_str(alloc, "another reply"),
     }
 }
 
@@ -318,6 +298,23 @@ fn run(rt: &(impl Abort + AllocGlobal), policy: &str, lines: &[Line]) -> Result<
     Ok(())
 }
 
+#[test]
+fn rivals_get_no_numbers(rt: HostRuntime) -> Result<(), Fail> {
+    run(&rt, RIVALS, &denied_to_all())?;
+    run(&rt, RIVALS, &barred())
+}
+
+#[test]
+fn all_get_a_sanitised_sum(rt: HostRuntime) -> Result<(), Fail> {
+    run(&rt, RIVALS, &sum_of_four())
+}
+
+#[test]
+fn friends_split_and_get_numbers(rt: HostRuntime) -> Result<(), Fail> {
+    run(&rt, FRIENDS, &refused())?;
+    run(&rt, FRIENDS, &split())
+}
+
 fn opened(alloc: Global, policy: &str) -> Result<Hall, Fail> {
     let policy = read_policy(alloc, policy.as_bytes())?;
     Ok(Hall::open(alloc, policy)?)
@@ -339,53 +336,24 @@ fn answers_all(alloc: Global, hall: &mut Hall, lines: &[Line]) -> Result<bool, F
     Ok(true)
 }
 
-#[test]
-fn rivals_get_no_numbers(rt: HostRuntime) -> Result<(), Fail> {
-    run(&rt, RIVALS, &denied_to_all())?;
-    run(&rt, RIVALS, &barred())?;
-    run(&rt, RIVALS, &public())
-}
-
-#[test]
-fn friends_get_the_numbers(rt: HostRuntime) -> Result<(), Fail> {
-    run(&rt, FRIENDS, &refused())?;
-    run(&rt, FRIENDS, &delivered())
-}
-
-fn holds(hall: &Hall, pairs: &Pairs) -> bool {
-    for (p, row) in pairs.iter().enumerate() {
-        for (d, is_held) in row.iter().enumerate() {
-            let (Some(process), Some(dataset)) = (
-                ProcessId::new(p as u32),
-                DatasetId::new(d as u32),
-            ) else {
-                return false;
-            };
-            if hall.histories().has(process, dataset) != *is_held {
-                return false;
-            }
-        }
+/// Whether the hall knows that the process has had access to the dataset.
+fn holds(hall: &Hall, process: u32, dataset: u32) -> bool {
+    match ProcessId::new(process) {
+        Some(process) => match DatasetId::new(dataset) {
+            Some(dataset) => hall.histories().has(process, dataset),
+            None => false,
+        },
+        None => false,
     }
-    true
 }
 
-/// Whether the hall answers as the lines say, and then has these histories.
-fn comes_to(alloc: Global, hall: &mut Hall, lines: &[Line], pairs: &Pairs) -> Result<bool, Fail> {
-    let is_answered = answers_all(alloc, hall, lines)?;
-    Ok(is_answered && holds(hall, pairs))
-}
-
-fn keeps_histories(alloc: Global, hall: &mut Hall) -> Result<bool, Fail> {
-    let at_first = holds(hall, &at_first());
-    let then = comes_to(alloc, hall, &three_posts(), &with_the_writers())?;
-    let last = comes_to(alloc, hall, &last_post_and_after(), &with_the_receivers())?;
-    Ok(at_first && then && last)
-}
-
+/// The histories and the book after a denial: n0 has had access to nothing.
 #[test]
-fn histories_before_and_after_a_grant(rt: HostRuntime) -> Result<(), Fail> {
+fn histories_and_book_of_a_denial(rt: HostRuntime) -> Result<(), Fail> {
     let mut hall = opened(rt.alloc(), RIVALS)?;
-    assert!(rt; keeps_histories(rt.alloc(), &mut hall)?);
+    assert!(rt; answers_all(rt.alloc(), &mut hall, &denied_to_all())?);
+    assert!(rt; holds(&hall, 0, 0) && !holds(&hall, 3, 0) && !holds(&hall, 1, 0));
+    assert_eq!(rt; hall.book().len(), 5);
     Ok(())
 }
 
@@ -393,25 +361,12 @@ fn takes_256_requests(alloc: Global, hall: &mut Hall) -> Result<bool, Fail> {
     for _ in 0..255 {
         answers(alloc, hall, &(0, Cast(0, 0, 0, "public", &[]), "any"))?;
     }
-    let is_full = answers_all(alloc, hall, &one_too_many())?;
-    Ok(is_full && hall.policy().processes() == 4)
+    answers_all(alloc, hall, &one_too_many())
 }
 
 #[test]
 fn no_more_than_256_requests_wait(rt: HostRuntime) -> Result<(), Fail> {
     let mut hall = opened(rt.alloc(), FRIENDS)?;
     assert!(rt; takes_256_requests(rt.alloc(), &mut hall)?);
-    Ok(())
-}
-
-#[test]
-fn numbers_are_the_vector_they_were_made_from(rt: HostRuntime) -> Result<(), Fail> {
-    let alloc = rt.alloc();
-    let numbers = Numbers::from(vec![in alloc; 2, 0, 1]?);
-    let same = Numbers::from(vec![in alloc; 2, 0, 1]?);
-    let other = Numbers::from(vec![in alloc; 2, 1, 0]?);
-    assert!(rt; numbers.is_same(&same) && !numbers.is_same(&other));
-    assert!(rt; numbers.as_slice() == [2, 0, 1].as_slice());
-    assert!(rt; other.into_vec().as_slice() == [2, 1, 0].as_slice());
     Ok(())
 }

@@ -12,12 +12,12 @@ use Rattle.mpi_elems.specs.Numbers.{is_number_of}
 use Rattle.mpi_elems.specs.Elements.{single, pairs_of, elements_of}
 use Rattle.mpi_elems.specs.Contents.{Contents, contents}
 use Rattle.mpi_elems.specs.Faults.{fault_of}
-use Rattle.hall_script.specs.declared.fault.LineFault.{LineFault}
-use Rattle.hall_script.specs.Numbers.{Word}
-use Rattle.hall_script.specs.Reading.{◌>>=◌, Fails, each_of}
+use Rattle.coll_text.specs.declared.fault.LineFault.{LineFault}
+use Rattle.coll_text.specs.Numbers.{Word}
+use Rattle.coll_text.specs.Reading.{◌>>=◌, Fails, each_of}
 use Rattle.hall_script.specs.Lines.{value_of, buffer_of}
 use Rattle.hall_script.specs.Filling.{room_for, with_numbers, with_word, with_words}
-use Rattle.hall_script.proofs.EachLemmas.{carried}
+use Rattle.coll_text.proofs.EachLemmas.{carried}
 
 regroup : (b : Contents) (z : ℤ) (r : Result (List ℤ) LineFault) →
     ((r >>= λ zs. Ok (z ∷ zs)) >>= λ ns. Ok (with_numbers b ns)) ≡ (r >>= λ ns. Ok (with_numbers (with_numbers b (z ∷ [])) ns))

@@ -1,8 +1,8 @@
-pub mod CutLemmas
-pub mod DigitLemmas
-pub mod EachLemmas
-pub mod FieldLemmas
 pub mod RunLemmas
-pub mod SpellingLemmas
-pub mod SpelledLemmas
 pub mod FillLemmas
+pub mod SpacedLemmas
+pub mod SplitLemmas
+pub mod CallLemmas
+pub mod AgainLemmas
+pub mod PlainLemmas
+pub mod LineLemmas

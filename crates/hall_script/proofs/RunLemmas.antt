@@ -5,11 +5,11 @@ use Rattle.std.specs.Io.KnownBytes.{Appends}
 use Rattle.wall_labels.specs.Known.{AppendsFront, AreLeft}
 use Rattle.wall_labels.proofs.KnownLemmas.{Appends-then}
 use Rattle.wall_policy.specs.Policy.{ChineseWall}
-use Rattle.hall_core.specs.declared.call.Call.{Call}
-use Rattle.hall_core.specs.Replies.{Entry}
+use Rattle.hall_runs.specs.declared.call.Call.{Call}
+use Rattle.hall_runs.specs.Runs.{Entry}
 use Rattle.hall_core.specs.Halls.{entry}
-use Rattle.hall_script.specs.declared.fault.LineFault.{LineFault}
-use Rattle.hall_script.specs.declared.fault.LineFault.TheVariants as faults
+use Rattle.coll_text.specs.declared.fault.LineFault.{LineFault}
+use Rattle.coll_text.specs.declared.fault.LineFault.TheVariants as faults
 use Rattle.hall_script.specs.declared.fault.ScriptFault.{ScriptFault}
 use Rattle.hall_script.specs.declared.fault.ScriptFault.TheVariants.{Read, Line, Write, NoMemory}
 use Rattle.hall_script.specs.Replies.{reply_line}
@@ -106,32 +106,32 @@ module _ {M : Type 0} (stands : M → List Entry → Type 0) (wall : ChineseWall
 
   pub goes_on : (old new : M) (before now later : Option (List ℕ)) (text mid next : List ℕ) (whole : Script) (n : ℕ) (line : List ℕ) (lines rest : List (List ℕ)) (x : Unit {0})
       → lines ≡ line ∷ rest
-      → SoFar stands wall old before now text whole (script_from wall.dataset_names n lines)
+      → SoFar stands wall old before now text whole (script_from (line_call wall.dataset_names) n lines)
       → AnswersLine stands wall old new text mid (line_call wall.dataset_names line) (Ok x)
       → Moves now later mid next
-      → SoFar stands wall new before later next whole (script_from wall.dataset_names (n + 1) rest)
+      → SoFar stands wall new before later next whole (script_from (line_call wall.dataset_names) (n + 1) rest)
   unfolding script_from
   goes_on old new before now later text mid next whole n line lines rest x split s a m =
-      let s' = subst (λ ls. SoFar stands wall old before now text whole (script_from wall.dataset_names n ls)) split s in
-      let r = after old new before now text mid whole (script_from wall.dataset_names (n + 1) rest) n (line_call wall.dataset_names line) x s' a in
+      let s' = subst (λ ls. SoFar stands wall old before now text whole (script_from (line_call wall.dataset_names) n ls)) split s in
+      let r = after old new before now text mid whole (script_from (line_call wall.dataset_names) (n + 1) rest) n (line_call wall.dataset_names line) x s' a in
       record {
         run = r.run;
-        told = told-moves wall before now mid whole (script_from wall.dataset_names (n + 1) rest) r.run r.told later next m;
+        told = told-moves wall before now mid whole (script_from (line_call wall.dataset_names) (n + 1) rest) r.run r.told later next m;
         standing = r.standing;
       }
 
   -- the writer failed behind a line
   pub breaks : (old new : M) (before now later : Option (List ℕ)) (text mid : List ℕ) (whole : Script) (n : ℕ) (line : List ℕ) (lines rest : List (List ℕ)) (x : Unit {0})
       → lines ≡ line ∷ rest
-      → SoFar stands wall old before now text whole (script_from wall.dataset_names n lines)
+      → SoFar stands wall old before now text whole (script_from (line_call wall.dataset_names) n lines)
       → AnswersLine stands wall old new text mid (line_call wall.dataset_names line) (Ok x)
       → AppendsFront now later mid
       → Stops wall before later whole.calls
   unfolding script_from
   breaks old new before now later text mid whole n line lines rest x split s a f =
-      let s' = subst (λ ls. SoFar stands wall old before now text whole (script_from wall.dataset_names n ls)) split s in
-      let r = after old new before now text mid whole (script_from wall.dataset_names (n + 1) rest) n (line_call wall.dataset_names line) x s' a in
-      told-breaks wall before now mid whole (script_from wall.dataset_names (n + 1) rest) r.run r.told later f
+      let s' = subst (λ ls. SoFar stands wall old before now text whole (script_from (line_call wall.dataset_names) n ls)) split s in
+      let r = after old new before now text mid whole (script_from (line_call wall.dataset_names) (n + 1) rest) n (line_call wall.dataset_names line) x s' a in
+      told-breaks wall before now mid whole (script_from (line_call wall.dataset_names) (n + 1) rest) r.run r.told later f
 
   -- a line has a fault
   at_fault : (machine : M) (before now : Option (List ℕ)) (text after : List ℕ) (whole rest : Script) (n : ℕ) (said : Result (Option Call) LineFault) (f : LineFault) (run : List Entry)
@@ -165,18 +165,18 @@ module _ {M : Type 0} (stands : M → List Entry → Type 0) (wall : ChineseWall
 
   pub ends : (old new : M) (before now : Option (List ℕ)) (text after : List ℕ) (whole : Script) (n : ℕ) (line : List ℕ) (lines rest : List (List ℕ)) (f : LineFault)
       → lines ≡ line ∷ rest
-      → SoFar stands wall old before now text whole (script_from wall.dataset_names n lines)
+      → SoFar stands wall old before now text whole (script_from (line_call wall.dataset_names) n lines)
       → AnswersLine {X = Unit {0}} stands wall old new text after (line_call wall.dataset_names line) (Err f)
       → Ends {X = Unit {0}} stands wall new before now after whole (Err (line_fault n f))
   unfolding script_from
   ends old new before now text later whole n line lines rest f split s a =
-      let s' = subst (λ ls. SoFar stands wall old before now text whole (script_from wall.dataset_names n ls)) split s in
-      line_fails old new before now text later whole (script_from wall.dataset_names (n + 1) rest) n (line_call wall.dataset_names line) f s'.run s'.told a
+      let s' = subst (λ ls. SoFar stands wall old before now text whole (script_from (line_call wall.dataset_names) n ls)) split s in
+      line_fails old new before now text later whole (script_from (line_call wall.dataset_names) (n + 1) rest) n (line_call wall.dataset_names line) f s'.run s'.told a
 
   pub is_done : (machine : M) (before now : Option (List ℕ)) (text : List ℕ) (whole : Script) (n : ℕ) (lines : List (List ℕ)) (x : Unit {0}) → lines ≡ []
-      → SoFar stands wall machine before now text whole (script_from wall.dataset_names n lines) → Ends stands wall machine before now text whole (Ok x)
+      → SoFar stands wall machine before now text whole (script_from (line_call wall.dataset_names) n lines) → Ends stands wall machine before now text whole (Ok x)
   unfolding script_from
-  is_done machine before now text whole n lines x none s = subst (λ ls. SoFar stands wall machine before now text whole (script_from wall.dataset_names n ls)) none s
+  is_done machine before now text whole n lines x none s = subst (λ ls. SoFar stands wall machine before now text whole (script_from (line_call wall.dataset_names) n ls)) none s
 
   -- ---- the end of the text
 

@@ -3,9 +3,9 @@ use Rattle.std.specs.Prelude.{ℕ, ◌+◌, ◌/◌, ◌%◌, ℤ, List, [], ◌
 use Rattle.mpi_elems.specs.declared.elem_type.ElemType.{ElemType}
 use Rattle.mpi_elems.specs.Types.{is_pair}
 use Rattle.mpi_elems.specs.Contents.{Contents, contents}
-use Rattle.hall_script.specs.declared.fault.LineFault.{LineFault}
-use Rattle.hall_script.specs.Numbers.{Word}
-use Rattle.hall_script.specs.Reading.{◌>>=◌, each_of}
+use Rattle.coll_text.specs.declared.fault.LineFault.{LineFault}
+use Rattle.coll_text.specs.Numbers.{Word}
+use Rattle.coll_text.specs.Reading.{◌>>=◌, each_of}
 use Rattle.hall_script.specs.Lines.{value_of}
 
 -- how many elements so many numbers are, the last pair maybe without its index

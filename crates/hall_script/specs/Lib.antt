@@ -1,10 +1,8 @@
-pub mod Numbers
-pub mod Reading
-pub mod Table
 pub mod Lines
 pub mod Replies
 pub mod Devices
 pub mod Scripts
 pub mod Answering
-pub mod Spellings
 pub mod Filling
+pub mod Splitting
+pub mod Spellings

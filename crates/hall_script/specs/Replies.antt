@@ -5,15 +5,15 @@ use Rattle.std.specs.Fmt.{decimal, signed_decimal}
 use Rattle.wall_labels.specs.declared.label.Label.{Label}
 use Rattle.wall_labels.specs.declared.label.Label.TheVariants.{Public, Of}
 use Rattle.wall_policy.specs.Policy.{ChineseWall}
-use Rattle.hall_core.specs.declared.reply.Block.{Block}
-use Rattle.hall_core.specs.declared.reply.Block.TheVariants.{Missing, Numbers}
-use Rattle.hall_core.specs.declared.reply.Rule.{Rule}
-use Rattle.hall_core.specs.declared.reply.Rule.TheVariants.{Star, Simple}
-use Rattle.hall_core.specs.declared.reply.Refusal.{Refusal}
-use Rattle.hall_core.specs.declared.reply.Refusal.TheVariants.{NoSuchProcess, NoSuchComm, NotMember, NoTopology, BadRoot, BadOp, BadCount, BadColour, NotSubgroup, BadDims, Mismatch, TooManyRequests, NoMemory, NoSuchRequest}
-use Rattle.hall_core.specs.declared.reply.Reply.{Reply}
-use Rattle.hall_core.specs.declared.reply.Reply.TheVariants.{Posted, Barred, Pending, Delivered, NewComm, NullComm, Denied, NoRoom, Info, Refused}
-use Rattle.hall_script.specs.Numbers.{Word}
+use Rattle.coll_values.specs.declared.delivery.Block.{Block}
+use Rattle.coll_values.specs.declared.delivery.Block.TheVariants.{Missing, Numbers}
+use Rattle.wall_verdict.specs.declared.verdict.Rule.{Rule}
+use Rattle.wall_verdict.specs.declared.verdict.Rule.TheVariants.{Star, Simple}
+use Rattle.audit_book.specs.declared.refusal.Refusal.{Refusal}
+use Rattle.audit_book.specs.declared.refusal.Refusal.TheVariants.{NoSuchProcess, NoSuchComm, NotMember, NoTopology, BadRoot, BadOp, BadCount, BadColour, NotSubgroup, BadDims, Mismatch, TooManyRequests, NoMemory, NoSuchRequest}
+use Rattle.hall_runs.specs.declared.reply.Reply.{Reply}
+use Rattle.hall_runs.specs.declared.reply.Reply.TheVariants.{Posted, Barred, Pending, Delivered, NewComm, NullComm, Denied, NoRoom, Info, Refused}
+use Rattle.coll_text.specs.Numbers.{Word}
 
 -- the name of a number
 abbrev pub name_at : List Word → ℕ → Word

@@ -1,15 +1,19 @@
 -- What a script says, and what becomes of it. (Own format.)
-use Rattle.std.specs.Prelude.{◌≡◌, ℕ, ◌+◌, ◌-◌, Bool, true, ◌==◌, List, [], ◌∷◌, ◌++◌, length, take, slice_index, Option, Some, None, Result, Ok, Err, if◌then◌else◌}
+use Rattle.std.specs.Prelude.{◌≡◌, ℕ, ◌+◌, ◌-◌, ◌<◌, nat_lt, Bool, true, ◌==◌, List, [], ◌∷◌, ◌++◌, length, take, slice_index, slice_get, All, Option, Some, None, Result, Ok, Err, if◌then◌else◌}
 use Rattle.std.specs.Io.KnownBytes.{Appends}
 use Rattle.wall_labels.specs.Known.{AppendsFront, AreLeft}
 use Rattle.wall_policy.specs.Policy.{ChineseWall}
-use Rattle.hall_core.specs.declared.call.Call.{Call}
-use Rattle.hall_core.specs.Replies.{Entry, Legal}
-use Rattle.hall_script.specs.declared.fault.LineFault.{LineFault}
+use Rattle.hall_runs.specs.declared.call.Act.{Act}
+use Rattle.hall_runs.specs.declared.call.Call.{Call}
+use Rattle.hall_runs.specs.Runs.{Entry}
+use Rattle.hall_runs.specs.Replies.{Legal}
+use Rattle.coll_text.specs.declared.fault.LineFault.{LineFault}
+use Rattle.coll_text.specs.declared.fault.LineFault.TheVariants.{BadField}
+use Rattle.hall_core.specs.Named.{HasKnownLabel}
 use Rattle.hall_script.specs.declared.fault.ScriptFault.{ScriptFault}
 use Rattle.hall_script.specs.declared.fault.ScriptFault.TheVariants.{Read, Line, Write, NoMemory}
-use Rattle.hall_script.specs.Numbers.{Word}
-use Rattle.hall_script.specs.Reading.{◌>>=◌, parts}
+use Rattle.coll_text.specs.Numbers.{Word}
+use Rattle.coll_text.specs.Reading.{◌>>=◌, parts}
 use Rattle.hall_script.specs.Lines.{answer_to}
 use Rattle.hall_script.specs.Replies.{reply_line}
 
@@ -41,14 +45,14 @@ with_line n (Ok None) rest = rest
 with_line n (Ok (Some call)) rest = record { calls = call ∷ rest.calls; fault = rest.fault }
 with_line n (Err fault) rest = record { calls = []; fault = Some (n, fault) }
 
--- of lines from this number on
-unfoldable pub script_from : List Word → ℕ → List (List ℕ) → Script
-script_from datasets n [] = record { calls = []; fault = None }
-script_from datasets n (line ∷ lines) = with_line n (line_call datasets line) (script_from datasets (n + 1) lines)
+-- of lines from this number on, each read so
+unfoldable pub script_from : (List ℕ → Result (Option Call) LineFault) → ℕ → List (List ℕ) → Script
+script_from read n [] = record { calls = []; fault = None }
+script_from read n (line ∷ lines) = with_line n (read line) (script_from read (n + 1) lines)
 
 -- lines end at LF, and are counted from 1
 abbrev pub script_of : List Word → List ℕ → Script
-script_of datasets bytes = script_from datasets 1 (parts 10 bytes)
+script_of datasets bytes = script_from (line_call datasets) 1 (parts 10 bytes)
 
 -- ---- runs, whose newest entry is the first
 
@@ -89,3 +93,40 @@ pub record Replayed {H : Type 0} (stands : H → List Entry → Type 0) (wall : 
   pub script : List ℕ
   pub whole : AreLeft left script
   pub outcome : Replays stands wall before after (script_of wall.dataset_names script) result
+
+-- ---- the acts of each process
+
+-- the call of a line, if the policy has its process
+abbrev pub of_member : ChineseWall → Option Call → Result (Option Call) LineFault
+of_member wall None = Ok None
+of_member wall (Some call) = if nat_lt call.process (length wall.process_names) then Ok (Some call) else Err BadField
+
+-- a line's own fault comes first
+unfoldable pub member_call : ChineseWall → List ℕ → Result (Option Call) LineFault
+member_call wall line = line_call wall.dataset_names line >>= λ said. of_member wall said
+
+-- a script whose calls must be of processes of the policy
+abbrev pub members_script : ChineseWall → List ℕ → Script
+members_script wall bytes = script_from (member_call wall) 1 (parts 10 bytes)
+
+-- the acts of p's calls, in order
+abbrev pub acts_of : (p : ℕ) → List Call → List Act
+acts_of p [] = []
+acts_of p (call ∷ calls) = if call.process == p then call.act ∷ acts_of p calls else acts_of p calls
+
+-- for each process of the policy the acts of its calls
+pub record AreActs (wall : ChineseWall) (calls : List Call) (scripts : List (List Act)) : Type 0 where
+  pub count : length scripts ≡ length wall.process_names
+  pub each : (p : ℕ) → p < length wall.process_names → slice_get scripts p ≡ Some (acts_of p calls)
+
+-- the labels of all acts are the policy's
+abbrev pub AreNamed : ChineseWall → List (List Act) → Type 0
+AreNamed wall scripts = All (All (HasKnownLabel wall)) scripts
+
+-- what splitting a script gives: the acts of all its calls, or its first fault, or want of memory in place of either
+abbrev pub IsSplit : ChineseWall → Script → Result (List (List Act)) ScriptFault → Type 0
+IsSplit wall script (Ok scripts) = AreActs wall script.calls scripts × (script.fault ≡ None)
+IsSplit wall script (Err (Line n fault)) = script.fault ≡ Some (n, fault)
+IsSplit wall script (Err NoMemory) = Unit {0}
+IsSplit wall script (Err Read) = ⊥
+IsSplit wall script (Err Write) = ⊥

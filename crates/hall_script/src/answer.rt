@@ -3,18 +3,18 @@ ghost use Rattle.std.specs.Prelude.{◌≡◌, ◌≢◌, ◌+◌, ◌≤◌, []
 ghost use Rattle.std.specs.Io.KnownBytes.{Appends};
 ghost use Rattle.wall_labels.specs.Known.{AppendsFront};
 ghost use Rattle.hall_core.specs.Named.{HasKnownLabel};
-ghost use Rattle.hall_script.specs.Reading.{Gives};
+ghost use Rattle.coll_text.specs.Reading.{Gives};
 ghost use Rattle.hall_script.specs.Scripts.{trimmed, is_skipped, line_call, script_of};
 ghost use Rattle.hall_script.specs.Answering.{AnswersCall, AnswersLine, line_fault, Ends, Finishes, Moves};
 
-use crate::fault::{LineFault, ScriptFault};
+use crate::fault::ScriptFault;
 use crate::line::read_call;
 use crate::machine::Machine;
-use crate::parts::Parts;
 use crate::reply::write_reply;
-use hall_core::{Call, NoMemory};
+use coll_text::{LineFault, Parts};
+use hall_runs::Call;
 use std::alloc::Global;
-use wall_labels::{Failed, Sink, write_all};
+use wall_labels::{Failed, NoMemory, Sink, write_all};
 use wall_policy::Policy;
 
 // Replies are written out once their lines have as many bytes.
@@ -38,9 +38,13 @@ fn is_comment(line: &[u8]) -> bool
     }
 }
 
-// The call of a line; none where it is skipped.
+/// The call of a line; none where it is skipped.
 #[tactic(auto, unfolding(crate::specs::Scripts::line_call))]
-fn read_line(alloc: Global, policy: &Policy, line: &[u8]) -> Result<Option<Call>, LineFault>
+pub(crate) fn read_line(
+    alloc: Global,
+    policy: &Policy,
+    line: &[u8],
+) -> Result<Option<Call>, LineFault>
     ensures call { Gives result (line_call policy.now.dataset_names line.now) }
     ensures known { IfOk result (λ said. IfSome said (λ call. HasKnownLabel policy.now call.act)) }
 {
@@ -87,8 +91,8 @@ fn answer_line<M: Machine>(
     }
 }
 
-// The fault of a script for a fault of its line.
-fn fault_of(number: u64, fault: LineFault) -> ScriptFault
+/// The fault of a script for a fault of its line.
+pub(crate) fn fault_of(number: u64, fault: LineFault) -> ScriptFault
     ensures fault { result ≡ line_fault number fault }
     ensures not_write { result ≢ ScriptFault.Write }
     ensures not_read { result ≢ ScriptFault.Read }

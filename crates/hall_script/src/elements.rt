@@ -2,13 +2,11 @@
 ghost use Rattle.std.specs.Prelude.{◌≡◌, ◌≤◌, ◌<◌, ◌+◌, ◌*◌, [], length, IfOk, OnOk, IfErr};
 ghost use Rattle.mpi_elems.specs.Types.{numbers_per_element};
 ghost use Rattle.mpi_elems.specs.Contents.{contents};
-ghost use Rattle.hall_script.specs.Reading.{Gives, Leaves};
+ghost use Rattle.coll_text.specs.Reading.{Gives, Leaves};
 ghost use Rattle.hall_script.specs.Lines.{buffer_of, values_of};
 ghost use Rattle.hall_script.specs.Filling.{room_for, with_word, with_words};
 
-use crate::fault::LineFault;
-use crate::numbers::signed;
-use crate::parts::Parts;
+use coll_text::{LineFault, Parts, signed};
 use mpi_elems::{Buffer, BufferBuilder, ElemType};
 use std::alloc::Global;
 

@@ -1,79 +1,22 @@
-//! Why a line, or a script, is refused.
-use std::alloc::{AllocError, AllocFailed};
+//! Why a script is not answered, or not split.
+use coll_text::LineFault;
+use std::alloc::AllocError;
 use thiserror::Error;
 
-/// Why a line is no call: its first fault from the left. (Own format.)
-///
-/// `NoMemory` may come in place of any answer, where a growth was refused.
-#[derive(Clone, Copy, Debug, PartialEq, Eq, Error)]
-pub enum LineFault {
-    /// The first word asks for nothing that is known.
-    #[error("BadVerb")]
-    BadVerb,
-    /// A byte is not printable, a field is empty, missing or too many, or another word than `as` stands where it may stand.
-    #[error("BadShape")]
-    BadShape,
-    /// A field is not in its form, or out of its range.
-    #[error("BadField")]
-    BadField,
-    /// There is no such kind of collective.
-    #[error("BadKind")]
-    BadKind,
-    /// There is no such type of elements.
-    #[error("BadType")]
-    BadType,
-    /// There is no such operation.
-    #[error("UnknownOp")]
-    UnknownOp,
-    /// The label is neither `public` nor a dataset of the policy.
-    #[error("BadLabel")]
-    BadLabel,
-    /// An element is no number of its type.
-    #[error("BadNumber")]
-    BadNumber,
-    /// The last pair lacks its index.
-    #[error("OddPair")]
-    OddPair,
-    /// Memory ran out.
-    #[error("NoMemory")]
-    NoMemory,
-}
-
-impl From<AllocError> for LineFault {
-    ghost use Rattle.std.specs.Prelude.{◌≡◌};
-    ghost use Rattle.hall_script.specs.declared.fault.LineFault.TheVariants.{NoMemory};
-
-    ghost from_gives = { λ _ e. e ≡ NoMemory };
-
-    fn from(_e: AllocError) -> LineFault {
-        LineFault::NoMemory
-    }
-}
-
-impl<T: Drop> From<AllocFailed<T>> for LineFault {
-    ghost use Rattle.std.specs.Prelude.{◌≡◌};
-    ghost use Rattle.hall_script.specs.declared.fault.LineFault.TheVariants.{NoMemory};
-
-    ghost from_gives = { λ _ e. e ≡ NoMemory };
-
-    fn from(_e: AllocFailed<T>) -> LineFault {
-        LineFault::NoMemory
-    }
-}
-
-/// Why a script was not answered to its end.
+/// Why a script was not answered, or not split, to its end.
 #[derive(Clone, Copy, Debug, PartialEq, Eq, Error)]
 pub enum ScriptFault {
     /// The reader failed, or the script does not end within the limit. No call was applied, and nothing was written.
     #[error("read fault")]
     Read,
-    /// The line of this number, from 1, is no call. The lines before it were answered.
+    /// The line of this number, from 1, is no call, or, where a script is split, a call of a process that the policy lacks. A replay has
+    /// answered the lines before it.
     #[error("script: line {0}: {1}")]
     Line(u64, LineFault),
     /// The writer failed. A front of the lines of the replies is written.
     #[error("write fault")]
     Write,
-    /// Memory ran out. A front of the lines of the replies is written.
+    /// Memory ran out. A front of the lines of a replay's replies is written.
     #[error("out of memory")]
     NoMemory,
 }

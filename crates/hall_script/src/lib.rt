@@ -8,18 +8,21 @@ mod fault;
 mod laws;
 mod line;
 mod machine;
-mod numbers;
-mod parts;
 mod reply;
 mod script;
-mod table;
+mod split;
 
+pub use coll_text::LineFault;
 pub use device::{DeviceFault, read_device};
-pub use fault::{LineFault, ScriptFault};
-pub use laws::{fields_are_read_again, fields_are_spelled_so};
+pub use fault::ScriptFault;
+pub use hall_runs::{Acts, Scripts};
+pub use laws::{calls_are_read_again, calls_are_spelled_so};
 pub use line::read_call;
 pub use reply::write_reply;
 pub use script::{SCRIPT_LIMIT, replay};
+pub use split::split_script;
 
+#[cfg(test)]
+mod replays;
 #[cfg(test)]
 mod tests;

@@ -1,86 +1,18 @@
 //! Reads a line: the call that it says, or its first fault from the left.
-ghost use Rattle.std.specs.Prelude.{◌≡◌, IfOk};
-ghost use Rattle.std.specs.List.{list_all};
-ghost use Rattle.hall_script.specs.Reading.{Gives, Leaves, Takes};
+ghost use Rattle.std.specs.Prelude.{◌≡◌, ◌≤◌, IfOk};
+ghost use Rattle.coll_text.specs.Reading.{Gives};
 ghost use Rattle.hall_core.specs.Named.{IsKnownLabel, HasKnownLabel};
-ghost use Rattle.hall_script.specs.Lines.{word_at, field_number, number_at, type_at, no_fields, with_field, fields_at, label_of, labelled, given_of, post_of, request_of, act_of, verb_of, call_of, is_printable, answer_to};
+ghost use Rattle.hall_script.specs.Lines.{label_of, labelled, given_of, post_of, last_number, act_of, verb_of, call_of, answer_to};
 
 use crate::elements::values;
-use crate::fault::LineFault;
-use crate::numbers::{number, number32};
-use crate::parts::Parts;
-use crate::table::{Fields, Form, forms, kind_named, made_of};
-use hall_core::{Act, Call, Posting};
+use coll_text::{
+    LineFault, Parts, are_printable, end_of, next_number, next_number32, next_statement, next_word,
+};
+use hall_runs::{Act, Call, Posting};
 use mpi_elems::{Buffer, ElemType};
 use std::alloc::Global;
 use wall_labels::Label;
 use wall_policy::Policy;
-
-fn next_word<'a>(words: &mut Parts<'a>) -> Result<&'a [u8], LineFault>
-    ensures { Takes (λ w. w.now) result words.new (word_at words.old) }
-{
-    match words.next() {
-        None => Err(LineFault::BadShape),
-        Some(word) => {
-            if word.is_empty() {
-                Err(LineFault::BadShape)
-            } else {
-                Ok(word)
-            }
-        }
-    }
-}
-
-fn number_in(word: &[u8]) -> Result<u32, LineFault>
-    ensures { Gives result (field_number word.now) }
-{
-    number32(word).ok_or(LineFault::BadField)
-}
-
-fn next_number(words: &mut Parts) -> Result<u32, LineFault>
-    ensures { Takes (λ n. n) result words.new (number_at words.old) }
-{
-    let word = next_word(words)?;
-    number_in(word)
-}
-
-// The type of a word, where scripts may name it.
-fn type_in(word: &[u8]) -> Option<ElemType>
-    ensures { result ≡ type_at word.now }
-{
-    match ElemType::named(word) {
-        Some(ElemType::Int32) => Some(ElemType::Int32),
-        _ => None,
-    }
-}
-
-// Reads a field of this form.
-#[tactic(auto, unfolding(crate::specs::Lines::with_field))]
-fn read_field(form: Form, word: &[u8], fields: &mut Fields) -> Result<(), LineFault>
-    ensures { Leaves result fields.new (with_field form word.now fields.old) }
-{
-    match form {
-        Form::Root => fields.root = number_in(word)?,
-        Form::Typed => {
-            fields.elem_type = type_in(word).ok_or(LineFault::BadType)?;
-            fields.has_type = true;
-        }
-        Form::Count => fields.count = number_in(word)?,
-    }
-    Ok(())
-}
-
-// Reads the fields of these forms.
-fn next_fields(forms: &[Form], words: &mut Parts) -> Result<Fields, LineFault>
-    ensures { Takes (λ f. f) result words.new (fields_at forms.now no_fields words.old) }
-{
-    let mut fields = Fields::new();
-    for form in forms {
-        let word = next_word(words)?;
-        read_field(*form, word, &mut fields)?;
-    }
-    Ok(fields)
-}
 
 #[tactic(auto, unfolding(crate::specs::Lines::label_of))]
 fn label_in(policy: &Policy, word: &[u8]) -> Result<Label, LineFault>
@@ -113,27 +45,32 @@ fn next_labelled(
     Ok((label, elements))
 }
 
-// The part of a post behind its fields.
+// The part of a post behind its statement, whose elements have this type.
 #[tactic(auto, unfolding(crate::specs::Lines::given_of))]
 fn next_given(
     alloc: Global,
     policy: &Policy,
-    has_type: bool,
-    elem_type: ElemType,
+    elem_type: Option<ElemType>,
     words: &mut Parts,
 ) -> Result<(Label, Buffer), LineFault>
-    ensures given { Gives result (given_of policy.now.dataset_names has_type elem_type words.old) }
+    ensures given { Gives result (given_of policy.now.dataset_names elem_type words.old) }
     ensures known { IfOk result (λ r. IsKnownLabel policy.now r.0) }
 {
     match words.next() {
-        None => Ok((Label::Public, Buffer::empty(alloc, elem_type))),
-        Some(word) => {
-            if has_type && word == b"as".as_slice() {
-                next_labelled(alloc, policy, elem_type, words)
-            } else {
-                Err(LineFault::BadShape)
-            }
+        None => {
+            let elem_type = elem_type.unwrap_or(ElemType::Int8);
+            Ok((Label::Public, Buffer::empty(alloc, elem_type)))
         }
+        Some(word) => match elem_type {
+            None => Err(LineFault::BadShape),
+            Some(elem_type) => {
+                if word == b"as".as_slice() {
+                    next_labelled(alloc, policy, elem_type, words)
+                } else {
+                    Err(LineFault::BadShape)
+                }
+            }
+        },
     }
 }
 
@@ -142,12 +79,9 @@ fn next_post(alloc: Global, policy: &Policy, words: &mut Parts) -> Result<Act, L
     ensures act { Gives result (post_of policy.now.dataset_names words.old) }
     ensures known { IfOk result (HasKnownLabel policy.now) }
 {
-    let comm = next_number(words)?;
-    let word = next_word(words)?;
-    let kind = kind_named(word).ok_or(LineFault::BadKind)?;
-    let fields = next_fields(forms(kind), words)?;
-    let (label, elements) = next_given(alloc, policy, fields.has_type, fields.elem_type, words)?;
-    let (sig, own) = made_of(kind, fields);
+    let comm = next_number32(words)?;
+    let (sig, own) = next_statement(alloc, words)?;
+    let (label, elements) = next_given(alloc, policy, sig.elem_type(), words)?;
     Ok(Act::Post(Posting {
         comm,
         sig,
@@ -157,16 +91,15 @@ fn next_post(alloc: Global, policy: &Policy, words: &mut Parts) -> Result<Act, L
     }))
 }
 
-#[tactic(auto, unfolding(crate::specs::Lines::request_of))]
-fn next_request(words: &mut Parts) -> Result<u64, LineFault>
-    ensures { Gives result (request_of words.old) }
+// The last number of a line, up to this one.
+#[tactic(auto, unfolding(crate::specs::Lines::last_number))]
+fn last_number_in(words: &mut Parts, most: u64) -> Result<u64, LineFault>
+    ensures number { Gives result (last_number most words.old) }
+    ensures below { IfOk result (λ n. n ≤ most) }
 {
-    let word = next_word(words)?;
-    let request = number(word, u64::MAX).ok_or(LineFault::BadField)?;
-    match words.next() {
-        None => Ok(request),
-        Some(_) => Err(LineFault::BadShape),
-    }
+    let number = next_number(words, most)?;
+    end_of(words)?;
+    Ok(number)
 }
 
 /// The first words of lines.
@@ -174,6 +107,7 @@ fn next_request(words: &mut Parts) -> Result<u64, LineFault>
 pub(crate) enum Verb {
     Post,
     Take,
+    Info,
 }
 
 #[tactic(auto, unfolding(crate::specs::Lines::verb_of))]
@@ -183,18 +117,24 @@ fn verb_in(word: &[u8]) -> Option<Verb>
     match word {
         b"post" => Some(Verb::Post),
         b"take" => Some(Verb::Take),
+        b"info" => Some(Verb::Info),
         _ => None,
     }
 }
 
 // What stands behind the verb and the process.
+#[tactic(auto, unfolding(crate::specs::Lines::act_of))]
 fn next_act(alloc: Global, policy: &Policy, verb: Verb, words: &mut Parts) -> Result<Act, LineFault>
     ensures act { Gives result (act_of policy.now.dataset_names verb words.old) }
     ensures known { IfOk result (HasKnownLabel policy.now) }
 {
     match verb {
         Verb::Post => next_post(alloc, policy, words),
-        Verb::Take => Ok(Act::Take(next_request(words)?)),
+        Verb::Take => Ok(Act::Take(last_number_in(words, u64::MAX)?)),
+        Verb::Info => {
+            let comm = last_number_in(words, u64::from(u32::MAX))?;
+            Ok(Act::Info(comm as u32))
+        }
     }
 }
 
@@ -205,20 +145,17 @@ fn next_call(alloc: Global, policy: &Policy, words: &mut Parts) -> Result<Call, 
 {
     let word = next_word(words)?;
     let verb = verb_in(word).ok_or(LineFault::BadVerb)?;
-    let process = next_number(words)?;
+    let process = next_number32(words)?;
     let act = next_act(alloc, policy, verb, words)?;
     Ok(Call { process, act })
 }
 
-fn are_printable(line: &[u8]) -> bool
-    ensures { result ≡ list_all is_printable line.now }
-{
-    line.iter().all(|byte| 32 <= *byte && *byte <= 126)
-}
-
 /// Reads a line without its end: the call that it says, or its first fault from the left.
 ///
-/// Want of memory may come in place of either. An answer takes memory for the elements of a post alone.
+/// A line is `post P C KIND FIELDS`, with `as LABEL V ..` behind it where the kind has a type and elements are given, or `take P REQUEST`,
+/// or `info P C`, with one space between two fields. P and C are numbers of 32 bits, REQUEST is one of 64 bits, V are numbers of the type.
+///
+/// Want of memory may come in place of either. An answer takes memory for the elements and the lists of a post alone.
 #[tactic(auto, unfolding(crate::specs::Lines::answer_to))]
 pub fn read_call(alloc: Global, policy: &Policy, line: &[u8]) -> Result<Call, LineFault>
     ensures call { Gives result (answer_to policy.now.dataset_names line.now) }

@@ -1,13 +1,13 @@
 //! What answers calls.
 ghost use Rattle.std.specs.Prelude.{◌≡◌, List};
 ghost use Rattle.wall_policy.specs.Policy.{ChineseWall};
-ghost use Rattle.hall_core.specs.declared.call.Call.{Call};
-ghost use Rattle.hall_core.specs.declared.reply.Reply.{Reply};
-ghost use Rattle.hall_core.specs.Replies.{Entry};
+ghost use Rattle.hall_runs.specs.declared.call.Call.{Call};
+ghost use Rattle.hall_runs.specs.declared.reply.Reply.{Reply};
+ghost use Rattle.hall_runs.specs.Runs.{Entry};
 ghost use Rattle.hall_core.specs.Named.{HasKnownLabel, IsNamed};
 ghost use Rattle.hall_script.specs.Answering.{Carries};
 
-use hall_core::{Call, Reply};
+use hall_runs::{Call, Reply};
 use wall_policy::Policy;
 
 /// What answers calls, one after the other.

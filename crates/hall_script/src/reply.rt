@@ -1,11 +1,12 @@
 //! Writes a reply as a line.
-ghost use Rattle.std.specs.Prelude.{◌≡◌, ◌++◌, OnOk, OnErr, string_bytes};
+ghost use Rattle.std.specs.Prelude.{◌≡◌, ◌++◌, OnOk, OnErr, string_bytes, drop};
+ghost use Rattle.std.specs.Fmt.{signed_decimal};
 ghost use Rattle.hall_core.specs.Named.{IsKnownLabel, IsNamed};
 ghost use Rattle.hall_script.specs.Replies.{block_text, label_text, reply_line, reply_text, refusal_name, spaced_numbers, numbers_text, blocks_text, delivery_text, denial_text, rule_name, info_text};
 
-use hall_core::{Block, NoMemory, Refusal, Reply, Rule};
+use hall_runs::{Block, Integers, Refusal, Reply, Rule};
 use std::alloc::{AllocError, Global};
-use wall_labels::Label;
+use wall_labels::{Label, NoMemory};
 use wall_policy::Policy;
 
 fn refusal_word(refusal: Refusal) -> &'static str
@@ -48,27 +49,33 @@ fn label_word<'a>(policy: &'a Policy, label: &Label) -> &'a str
     }
 }
 
-// The numbers, each behind a space.
-fn put_spaced(line: &mut String, numbers: &[i128]) -> Result<(), AllocError>
-    ensures { OnOk result (string_bytes line.new ≡ string_bytes line.old ++ spaced_numbers numbers.now) }
+fn put_number(line: &mut String, n: i128) -> Result<(), AllocError>
+    ensures { OnOk result (string_bytes line.new ≡ string_bytes line.old ++ signed_decimal n) }
 {
-    for n in numbers {
-        write!(line, " {n}")?;
+    write!(line, "{n}")
+}
+
+// The numbers behind the first, each behind a space.
+fn put_spaced(line: &mut String, numbers: &Integers) -> Result<(), AllocError>
+    ensures { OnOk result (string_bytes line.new ≡ string_bytes line.old ++ spaced_numbers (drop 1 numbers.now)) }
+{
+    for i in 1..numbers.len() {
+        line.push_str(" ")?;
+        put_number(line, numbers.get(i))?;
     }
     Ok(())
 }
 
-fn put_numbers(line: &mut String, numbers: &[i128]) -> Result<(), AllocError>
+fn put_numbers(line: &mut String, numbers: &Integers) -> Result<(), AllocError>
     ensures { OnOk result (string_bytes line.new ≡ string_bytes line.old ++ numbers_text numbers.now) }
 {
-    match numbers {
-        [] => line.push_str("[]"),
-        [first, rest @ ..] => {
-            write!(line, "[{first}")?;
-            put_spaced(line, rest)?;
-            line.push_str("]")
-        }
+    if numbers.len() == 0 {
+        return line.push_str("[]");
     }
+    line.push_str("[")?;
+    put_number(line, numbers.get(0))?;
+    put_spaced(line, numbers)?;
+    line.push_str("]")
 }
 
 fn put_block(line: &mut String, block: &Block) -> Result<(), AllocError>
@@ -76,7 +83,7 @@ fn put_block(line: &mut String, block: &Block) -> Result<(), AllocError>
 {
     match block {
         Block::Missing => line.push_str("-"),
-        Block::Numbers(numbers) => put_numbers(line, numbers.as_slice()),
+        Block::Numbers(numbers) => put_numbers(line, numbers),
     }
 }
 

@@ -1,5 +1,5 @@
 //! Answers a script.
-ghost use Rattle.std.specs.Prelude.{◌≡◌, ◌≢◌, ◌+◌, ◌⊎◌, Err};
+ghost use Rattle.std.specs.Prelude.{◌≡◌, ◌≢◌, ◌+◌, ◌⊎◌, IfOk, Err};
 ghost use Rattle.hall_core.specs.Halls.{StandsFor};
 ghost use Rattle.hall_script.specs.Devices.{IsTooLong, IsWithin};
 ghost use Rattle.hall_script.specs.Scripts.{Replayed};
@@ -8,7 +8,8 @@ use crate::answer::answer_script;
 use crate::device::{DeviceFault, read_device};
 use crate::fault::ScriptFault;
 use crate::machine::Machine;
-use hall_core::{Call, Hall, Reply};
+use hall_core::Hall;
+use hall_runs::{Call, Reply};
 use std::alloc::Global;
 use wall_labels::{Sink, Source};
 use wall_policy::Policy;
@@ -49,6 +50,7 @@ pub fn replay<R: Source, W: Sink>(
     // The writer failed.
     ensures write { result ≡ Err ScriptFault.Write → W.failures sink.new ≡ W.failures sink.old + 1 }
     ensures writer { result ≢ Err ScriptFault.Write → W.failures sink.new ≡ W.failures sink.old }
+    ensures policy { IfOk result (λ hall. hall.policy ≡ policy) }
     // The lines of the replies of a legal run are written.
     ensures replayed { Replayed StandsFor policy (R.remaining source.old) (W.contents sink.old) (W.contents sink.new) result }
 {

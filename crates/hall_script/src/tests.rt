@@ -1,16 +1,17 @@
-ghost use Rattle.std.specs.Prelude.{◌≡◌, ◌<◌, IfOk, length};
+//! Lines of every form with the calls that they say, their faults, replies, and scripts split by processes.
+ghost use Rattle.std.specs.Prelude.{◌≡◌, ◌<◌, IfOk, All, length};
 ghost use Rattle.wall_policy.specs.Policy.{ChineseWall};
-ghost use Rattle.hall_core.specs.Named.{IsNamed};
+ghost use Rattle.hall_core.specs.Named.{IsKnownLabel, HasKnownLabel, IsNamed};
+ghost use Rattle.hall_script.specs.Scripts.{AreNamed};
 
 use super::*;
-use hall_core::{
-    Act, Block, Call, Delivery, Integers, NoMemory, Own, Refusal, Reply, Rule, Signature,
-};
-use mpi_elems::ElemType;
+use coll_text::write_statement;
+use hall_runs::{Act, Block, Call, Delivery, Integers, Posting, Refusal, Reply, Rule};
+use mpi_elems::{Buffer, ElemType};
 use std::process::Abort;
 use std::test::Fail;
-use wall_labels::memory::{ExpectingSink, Fuse, MemorySource};
-use wall_labels::{DatasetId, Label, ProcessId};
+use wall_labels::memory::{Fuse, MemorySource};
+use wall_labels::{DatasetId, Label, NoMemory, ProcessId};
 use wall_policy::{Policy, read_policy};
 
 // Two banks and two oil firms; the fourth process has no home.
@@ -37,7 +38,7 @@ op = \"sum\"
 least = 3
 ";
 
-fn wall(rt: &(impl AllocGlobal + Abort)) -> Policy {
+pub(crate) fn wall(rt: &(impl AllocGlobal + Abort)) -> Policy {
     match read_policy(rt.alloc(), WALL.as_bytes()) {
         Ok(policy) => policy,
         Err(_) => panic!(rt; "the policy is not read"),
@@ -50,7 +51,6 @@ fn lines_have_their_first_fault(rt: HostRuntime) {
         ("", LineFault::BadShape),
         ("pst 0", LineFault::BadVerb),
         ("pst  0", LineFault::BadVerb),
-        ("info 0 0", LineFault::BadVerb),
         (" take 0 0", LineFault::BadShape),
         ("take 0", LineFault::BadShape),
         ("take 0 0 0", LineFault::BadShape),
@@ -59,102 +59,162 @@ fn lines_have_their_first_fault(rt: HostRuntime) {
         ("pst 0\r", LineFault::BadShape),
         ("take 0 x", LineFault::BadField),
         ("take 0 18446744073709551616", LineFault::BadField),
+        ("info 0", LineFault::BadShape),
+        ("info 0 0 0", LineFault::BadShape),
+        ("info 0 4294967296", LineFault::BadField),
         ("post x 0 barrier", LineFault::BadField),
         ("post 00 0 barrier", LineFault::BadField),
         ("post 4294967296 0 barrier", LineFault::BadField),
+        ("post 0 0", LineFault::BadShape),
         ("post 0 0 bcst", LineFault::BadKind),
-        ("post 0 0 barrier", LineFault::BadKind),
-        ("post 0 0 allreduce avg int32 1", LineFault::BadKind),
         ("post 0 0 bcast -1 int32 1", LineFault::BadField),
         ("post 0 0 bcast 0 int33 1", LineFault::BadType),
-        ("post 0 0 bcast 0 int8 1", LineFault::BadType),
         ("post 0 0 bcast 0 int32", LineFault::BadShape),
         ("post 0 0 bcast 0 int32 2 ", LineFault::BadShape),
+        ("post 0 0 allreduce avg int32 1", LineFault::UnknownOp),
+        ("post 0 0 split 0 undefined", LineFault::BadField),
+        ("post 0 0 cart_create 2 2", LineFault::BadField),
+        ("post 0 0 barrier 0", LineFault::BadShape),
+        ("post 0 0 barrier as alpha", LineFault::BadShape),
         ("post 0 0 bcast 0 int32 1 to alpha 1", LineFault::BadShape),
         ("post 0 0 bcast 0 int32 1 as", LineFault::BadShape),
-        ("post 0 0 bcast 0 int32 1 as gamma 1", LineFault::BadLabel),
-        ("post 0 0 bcast 0 int32 1 as none 1", LineFault::BadLabel),
-        ("post 0 0 bcast 0 int32 1 as alpha  1", LineFault::BadShape),
+        ("post 0 0 bcast 0 int8 1 as gamma 1", LineFault::BadLabel),
+        ("post 0 0 bcast 0 int8 1 as none 1", LineFault::BadLabel),
+        ("post 0 0 bcast 0 int8 1 as alpha  1", LineFault::BadShape),
+        ("post 0 0 bcast 0 int8 1 as alpha 7 -", LineFault::BadNumber),
+        ("post 0 0 bcast 0 int8 1 as alpha -0", LineFault::BadNumber),
+        ("post 0 0 bcast 0 int8 1 as alpha 01", LineFault::BadNumber),
+        ("post 0 0 bcast 0 int8 1 as alpha 128", LineFault::BadNumber),
+        ("post 0 0 bcast 0 uint8 1 as alpha -1", LineFault::BadNumber),
         (
-            "post 0 0 bcast 0 int32 1 as alpha 7 -",
+            "post 0 0 bcast 0 uint64 1 as alpha 18446744073709551616",
             LineFault::BadNumber,
         ),
-        ("post 0 0 bcast 0 int32 1 as alpha -0", LineFault::BadNumber),
-        ("post 0 0 bcast 0 int32 1 as alpha 01", LineFault::BadNumber),
+        ("post 0 0 allgather 2int 1 as alpha 5", LineFault::OddPair),
         (
-            "post 0 0 bcast 0 int32 1 as alpha 2147483648",
+            "post 0 0 allgather 2int 1 as alpha 5 x",
             LineFault::BadNumber,
         ),
         (
-            "post 0 0 bcast 0 int32 1 as alpha -2147483649",
-            LineFault::BadNumber,
-        ),
-        (
-            "post 0 0 bcast 0 int32 1 as alpha 99999999999999999999",
+            "post 0 0 allgather 2int 1 as alpha 5 2147483648",
             LineFault::BadNumber,
         ),
     ];
-    for (line, fault) in rows {
-        assert!(&rt; fault_of(&rt, line) == Some(fault), "{line}");
+    for (line, fault) in &rows {
+        assert!(&rt; fault_of(&rt, line) == Some(*fault), "{line}");
     }
 }
 
 // The fault of a line, none where it says a call.
 fn fault_of(rt: &(impl AllocGlobal + Abort), line: &str) -> Option<LineFault> {
-    call_of(rt, line).err()
-}
-
-fn call_of(rt: &(impl AllocGlobal + Abort), line: &str) -> Result<Call, LineFault> {
     let policy = wall(rt);
-    read_call(rt.alloc(), &policy, line.as_bytes())
+    read_call(rt.alloc(), &policy, line.as_bytes()).err()
 }
 
-// Whether the call is the one of the line below.
-fn is_broadcast(call: Call) -> bool {
-    let Call { process, act } = call;
-    let Act::Post(posting) = act else {
+// The part of a post from `as` on, where it gives elements.
+fn put_given(
+    policy: &Policy,
+    label: &Label,
+    elements: &Buffer,
+    line: &mut String,
+) -> Result<(), NoMemory>
+    requires { IsKnownLabel policy.now label.now }
+{
+    if elements.is_empty() {
+        return Ok(());
+    }
+    match label {
+        Label::Public => line.push_str(" as public")?,
+        Label::Of(dataset) => {
+            line.push_str(" as ")?;
+            line.push_str(policy.dataset_name(*dataset))?;
+        }
+    }
+    for i in 0..elements.len() {
+        let n = elements.number_at(i);
+        write!(line, " {n}")?;
+    }
+    Ok(())
+}
+
+// The line of an act of a process.
+fn put_act(
+    rt: &impl AllocGlobal,
+    policy: &Policy,
+    process: usize,
+    act: &Act,
+    line: &mut String,
+) -> Result<(), NoMemory>
+    requires { HasKnownLabel policy.now act.now }
+{
+    match act {
+        Act::Post(
+            Posting {
+                comm,
+                sig,
+                own,
+                label,
+                elements,
+            },
+        ) => {
+            write!(line, "post {process} {comm} ")?;
+            write_statement(rt.alloc(), sig, own, line)?;
+            put_given(policy, label, elements, line)
+        }
+        Act::Take(request) => Ok(write!(line, "take {process} {request}")?),
+        Act::Info(comm) => Ok(write!(line, "info {process} {comm}")?),
+    }
+}
+
+// Whether the line is read, and its call is spelled as the line.
+fn is_spelled(rt: &(impl AllocGlobal + Abort), line: &str) -> bool {
+    let policy = wall(rt);
+    let Ok(call) = read_call(rt.alloc(), &policy, line.as_bytes()) else {
         return false;
     };
-    let Signature::Bcast {
-        root,
-        elem_type,
-        count,
-    } = posting.sig;
-    process == 4294967295
-        && posting.comm == 3
-        && root == 2
-        && elem_type == ElemType::Int32
-        && count == 2
-        && matches!(posting.own, Own::Plain)
-        && posting.label == label(3)
-        && posting.elements.count() == 2
-}
-
-// Whether the call is the greatest take.
-fn is_last_take(call: Call) -> bool {
-    matches!(call.act, Act::Take(18446744073709551615))
+    let mut text = String::new(rt.alloc());
+    let Call { process, act } = call;
+    let is_put = put_act(rt, &policy, process as usize, &act, &mut text).is_ok();
+    is_put && text.as_str() == line
 }
 
 #[test]
 fn lines_say_their_calls(rt: HostRuntime) {
-    let line = "post 4294967295 3 bcast 2 int32 2 as delta -2147483648 2147483647";
-    match call_of(&rt, line) {
-        Ok(call) => assert!(&rt; is_broadcast(call)),
-        Err(_) => assert!(&rt; false),
+    let rows = [
+        "post 4294967295 4294967295 barrier",
+        "post 0 3 bcast 2 int8 1 as alpha -128",
+        "post 0 0 gather 0 int16 0",
+        "post 0 0 gatherv 3 int32 as public 2147483647 0",
+        "post 0 0 scatter 1 int64 1 as delta -9223372036854775808 1",
+        "post 0 0 scatterv 1 uint8 0,2,1 as crude 255 0 1",
+        "post 0 0 scatterv 1 uint8 -",
+        "post 0 0 allgather 2int 2 as beta 5 0 -5 1",
+        "post 0 0 allgatherv uint32 as alpha 4294967295",
+        "post 0 0 alltoall uint64 1 as alpha 18446744073709551615",
+        "post 0 0 alltoallv uint16 1,1 as alpha 65535 1",
+        "post 0 0 reduce 0 max int32 1",
+        "post 0 0 allreduce sum int32 1 as alpha 5",
+        "post 0 0 reduce_scatter prod int8 2,0 as alpha 1 1",
+        "post 0 0 reduce_scatter_block land int32 1",
+        "post 0 0 scan lor int32 1",
+        "post 0 0 exscan minloc 2int 1 as public 3 4",
+        "post 0 1 neighbor_allgather int32 1 as alpha 7",
+        "post 0 1 neighbor_allgatherv int32",
+        "post 0 1 neighbor_alltoall int32 1",
+        "post 0 1 neighbor_alltoallv int32 1,2",
+        "post 0 0 dup",
+        "post 0 0 split undefined -1",
+        "post 0 0 split 7 0",
+        "post 0 0 create 0,2,3",
+        "post 0 0 cart_create 2,2 1,0",
+        "post 0 1 cart_sub 0,1",
+        "take 4294967295 18446744073709551615",
+        "info 0 4294967295",
+    ];
+    for line in &rows {
+        assert!(&rt; is_spelled(&rt, line), "{line}");
     }
-    match call_of(&rt, "take 0 18446744073709551615") {
-        Ok(call) => assert!(&rt; is_last_take(call)),
-        Err(_) => assert!(&rt; false),
-    }
-    assert!(&rt; fault_of(&rt, "post 0 0 bcast 0 int32 0").is_none());
-    assert!(&rt; fault_of(&rt, "post 0 0 bcast 0 int32 0 as public").is_none());
-}
-
-fn label(number: u32) -> Label {
-    match DatasetId::new(number) {
-        Some(dataset) => Label::Of(dataset),
-        None => Label::Public,
-    }
+    assert!(&rt; fault_of(&rt, "post 0 0 bcast 0 int32 0 as alpha").is_none());
 }
 
 // Whether the reply has this line, which is put behind what is there.
@@ -169,18 +229,20 @@ fn has_line(rt: &(impl AllocGlobal + Abort), reply: Reply, line: &str) -> bool
     is_written && bytes.as_slice() == line.as_bytes()
 }
 
-fn numbers(rt: &impl AllocGlobal, numbers: &[i128]) -> Result<Block, NoMemory> {
-    let mut all = Vec::new(rt.alloc());
-    all.extend_from_slice(numbers)?;
-    Ok(Block::Numbers(Integers::from(all)))
+fn numbers(rt: &impl AllocGlobal, ty: ElemType, numbers: &[i128]) -> Result<Block, NoMemory> {
+    match Buffer::from_numbers(rt.alloc(), ty, numbers) {
+        Ok(buffer) => Ok(Block::Numbers(Integers::from(buffer))),
+        Err(_) => Err(NoMemory),
+    }
 }
 
 fn blocks(rt: &impl AllocGlobal) -> Result<Delivery, NoMemory> {
     let mut blocks = Vec::new(rt.alloc());
-    blocks.push(numbers(rt, &[7, -1])?)?;
+    blocks.push(numbers(rt, ElemType::Int8, &[7, -1])?)?;
     blocks.push(Block::Missing)?;
-    blocks.push(numbers(rt, &[])?)?;
-    blocks.push(numbers(rt, &[-9223372036854775808, 18446744073709551615])?)?;
+    blocks.push(numbers(rt, ElemType::TwoInt, &[])?)?;
+    blocks.push(numbers(rt, ElemType::Int64, &[-9223372036854775808])?)?;
+    blocks.push(numbers(rt, ElemType::Uint64, &[18446744073709551615])?)?;
     Ok(Delivery::from(blocks))
 }
 
@@ -201,7 +263,7 @@ fn replies_have_their_lines(rt: HostRuntime) -> Result<(), Fail> {
         has_line(
             &rt,
             Reply::Delivered(some),
-            ">delivered [7 -1] - [] [-9223372036854775808 18446744073709551615]\n"
+            ">delivered [7 -1] - [] [-9223372036854775808] [18446744073709551615]\n"
         )
     );
     assert!(&rt;
@@ -273,6 +335,12 @@ fn denials_name_process_and_label(rt: HostRuntime) {
         label: Label::Of(dataset),
     };
     assert!(&rt; has_line(&rt, denied, ">denied simple b0 alpha\n"));
+    let barred = Reply::Denied {
+        rule: Rule::Star,
+        process,
+        label: Label::Public,
+    };
+    assert!(&rt; has_line(&rt, barred, ">denied star b0 public\n"));
 }
 
 #[test]
@@ -315,68 +383,81 @@ fn devices_are_read_to_their_limit(rt: HostRuntime) {
     }
 }
 
-// The first of the worked examples, with comments, empty lines, ends of two kinds, and a last line without one.
-const SCRIPT: &[u8] = b"# a0 sends alpha's numbers to all
-post 0 0 bcast 0 int32 2 as alpha 7 -1\r
-post 1 0 bcast 0 int32 2\r
-\r
+// The lines of the acts of each process, process by process.
+fn put_scripts(
+    rt: &impl AllocGlobal,
+    policy: &Policy,
+    scripts: &Scripts,
+    text: &mut String,
+) -> Result<(), NoMemory>
+    requires { AreNamed policy.now scripts.now }
+{
+    for (process, acts) in scripts.as_slice().iter().enumerate() {
+        put_acts(rt, policy, process, acts, text)?;
+    }
+    Ok(())
+}
 
-post 2 0 bcast 0 int32 2
-take 0 0
-post 3 0 bcast 0 int32 2
-take 0 0
-take 1 0
-# b0 is a rival
-take 2 0
-take 3 0";
+fn put_acts(
+    rt: &impl AllocGlobal,
+    policy: &Policy,
+    process: usize,
+    acts: &Acts,
+    text: &mut String,
+) -> Result<(), NoMemory>
+    requires { All (HasKnownLabel policy.now) acts.now }
+{
+    for act in acts.as_slice() {
+        put_act(rt, policy, process, act, text)?;
+        text.push_str("\n")?;
+    }
+    Ok(())
+}
 
-const REPLIES: &[u8] = b"posted 0
-posted 0
-posted 0
-pending
-posted 0
-denied simple b0 alpha
-denied simple b0 alpha
-denied simple b0 alpha
-denied simple b0 alpha
+const MIXED: &[u8] = b"# two of each, one process with none
+post 3 0 allreduce sum int32 1 as public 1
+take 0 1\r
+take 3 0
+
+info 1 0
+post 0 0 barrier
+take 1 18446744073709551615";
+
+const BY_PROCESS: &str = "take 0 1
+post 0 0 barrier
+info 1 0
+take 1 18446744073709551615
+post 3 0 allreduce sum int32 1 as public 1
+take 3 0
 ";
 
-// Whether the script has these replies, and ends so.
-fn replays(
-    rt: &(impl AllocGlobal + Abort),
-    script: &[u8],
-    replies: &[u8],
-    fault: Option<ScriptFault>,
-) -> bool {
-    let mut source = MemorySource {
-        rest: script,
-        fuse: Fuse::Whole,
+#[test]
+fn scripts_are_split_by_processes(rt: HostRuntime) {
+    let policy = wall(&rt);
+    let Ok(scripts) = split_script(rt.alloc(), &policy, MIXED) else {
+        panic!(&rt; "the script is not split")
     };
-    let mut sink = ExpectingSink {
-        rest: replies,
-        is_same: true,
-        fuse: Fuse::Whole,
-    };
-    let ended = replay(rt.alloc(), wall(rt), &mut source, &mut sink).err();
-    ended == fault && sink.is_same && sink.rest.is_empty()
+    let mut text = String::new(rt.alloc());
+    let is_put = put_scripts(&rt, &policy, &scripts, &mut text).is_ok();
+    assert!(&rt; is_put && text.as_str() == BY_PROCESS);
+    let rows = scripts.into_vec();
+    assert!(&rt; rows.len() == 4);
 }
 
 #[test]
-fn scripts_are_replayed(rt: HostRuntime) {
-    for (script, replies, fault) in [
-        (SCRIPT, REPLIES, None),
-        (b"".as_slice(), b"".as_slice(), None),
+fn scripts_are_split_up_to_their_first_fault(rt: HostRuntime) {
+    let policy = wall(&rt);
+    for (script, line, fault) in [
+        (b"take 7 0".as_slice(), 1, LineFault::BadField),
         (
-            b"take 0 0\n\n#\npst\ntake 0 0\n".as_slice(),
-            b"refused NoSuchRequest\n".as_slice(),
-            Some(ScriptFault::Line(4, LineFault::BadVerb)),
+            b"take 0 0\n#\ntake 4 0\npst\n".as_slice(),
+            3,
+            LineFault::BadField,
         ),
-        (
-            b"take 0 0\n\r\r\n".as_slice(),
-            b"refused NoSuchRequest\n".as_slice(),
-            Some(ScriptFault::Line(2, LineFault::BadShape)),
-        ),
+        (b"\npst 7\ntake 7 0\n".as_slice(), 2, LineFault::BadVerb),
+        (b"post 4 0 bcst\n".as_slice(), 1, LineFault::BadKind),
     ] {
-        assert!(&rt; replays(&rt, script, replies, fault));
+        let ended = split_script(rt.alloc(), &policy, script).err();
+        assert!(&rt; ended == Some(ScriptFault::Line(line, fault)));
     }
 }

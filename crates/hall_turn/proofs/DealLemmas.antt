@@ -4,7 +4,7 @@ use Rattle.std.specs.List.{All}
 use Rattle.std.proofs.lemmas.List.FromFn.{map-range_with_len_more, get_or-map-range_with_len, length-map-range_with_len}
 use Rattle.atomic_table.specs.Table.{Me}
 use Rattle.wall_policy.specs.Policy.{ChineseWall}
-use Rattle.hall_core.specs.Posts.{processes}
+use Rattle.audit_book.specs.Comms.{processes}
 use Rattle.hall_turn.specs.Views.{SeatView, maker, maker_left, next_pass}
 use Rattle.hall_turn.specs.Steps.{CanMake, IsIdle}
 use Rattle.hall_turn.specs.Known.{Doorway, Known}

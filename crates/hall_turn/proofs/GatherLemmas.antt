@@ -9,7 +9,7 @@ use Rattle.atomic_table.specs.Table.{Me}
 use Rattle.atomic_table.specs.Seated.{TableId}
 use Rattle.atomic_table.proofs.Lists.{at_map}
 use Rattle.wall_policy.specs.Policy.{ChineseWall}
-use Rattle.hall_core.specs.Posts.{processes}
+use Rattle.audit_book.specs.Comms.{processes}
 use Rattle.hall_core.specs.Halls.{Kept}
 use Rattle.hall_turn.specs.Views.{Told, SeatView, every, own_of, gathered}
 use Rattle.hall_turn.specs.Steps.{IsIdle, told_of, HasAll, Ends}

@@ -9,8 +9,9 @@ use Rattle.std.specs.Prelude.{slice_index, slice_set}
 use Rattle.atomic_table.specs.Table.{State, step, Act, Allows, Valid, carried_after, stepped, opening, keeps, takes, gives}
 use Rattle.atomic_table.proofs.Lists.{set_else, at_map}
 use Rattle.wall_policy.specs.Policy.{ChineseWall}
-use Rattle.hall_core.specs.Posts.{processes}
-use Rattle.hall_core.specs.Replies.{Entry, Legal}
+use Rattle.audit_book.specs.Comms.{processes}
+use Rattle.hall_runs.specs.Runs.{Entry}
+use Rattle.hall_runs.specs.Replies.{Legal}
 use Rattle.hall_turn.specs.Runs.{Continues, calls_of}
 use Rattle.hall_turn.specs.Views.{Told, SeatView, parts_of, lates_of, every, numbers, newcomer, saw, drawn, declared, served}
 use Rattle.hall_turn.specs.Turns.{total, FitsTold, Fits, Apart, AtHome, IsOut, Ruled}

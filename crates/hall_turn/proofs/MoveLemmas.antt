@@ -7,8 +7,8 @@ use Rattle.std.proofs.lemmas.List.{length-map}
 use Rattle.atomic_table.specs.Table.{State, Splits, Joins, Final, Seen}
 use Rattle.atomic_table.proofs.Lists.{at_set, set_else, at_longer}
 use Rattle.wall_policy.specs.Policy.{ChineseWall}
-use Rattle.hall_core.specs.Posts.{processes}
-use Rattle.hall_core.specs.Replies.{Entry}
+use Rattle.audit_book.specs.Comms.{processes}
+use Rattle.hall_runs.specs.Runs.{Entry}
 use Rattle.hall_turn.specs.Views.{Told, SeatView, parts_of, lates_of, own_of, every, numbers, maker_left, next_pass, noted, informed, gathered, spent}
 use Rattle.hall_turn.specs.Turns.{FitsTold, Fits, Apart, Agree, AtHome, IsOut, Ruled}
 use Rattle.hall_turn.specs.Steps.{Ends}

@@ -2,10 +2,11 @@
 use Rattle.std.proofs.Common.{◌≡◌, ◌≢◌, ℕ, true, false, List, [], ◌∷◌, Option, Some, None, refl, sym, ap, ◌∙◌, subst}
 use Rattle.atomic_table.specs.Table.{Me, Step, rest}
 use Rattle.wall_policy.specs.Policy.{ChineseWall}
-use Rattle.hall_core.specs.declared.call.Act.{Act}
-use Rattle.hall_core.specs.declared.call.Call.{Call}
-use Rattle.hall_core.specs.declared.reply.Reply.{Reply}
-use Rattle.hall_core.specs.Replies.{Entry, Legal}
+use Rattle.hall_runs.specs.declared.call.Act.{Act}
+use Rattle.hall_runs.specs.declared.call.Call.{Call}
+use Rattle.hall_runs.specs.declared.reply.Reply.{Reply}
+use Rattle.hall_runs.specs.Runs.{Entry}
+use Rattle.hall_runs.specs.Replies.{Legal}
 use Rattle.hall_core.specs.Halls.{entry}
 use Rattle.hall_turn.specs.declared.answer.Answer.TheVariants.{Reply as Replied}
 use Rattle.hall_turn.specs.Runs.{Continues, calls_of}

@@ -1,8 +1,8 @@
 -- What a call at a door does to the pass. (Own rules.)
 use Rattle.std.specs.Prelude.{◌≡◌, ℕ, ◌^◌, ◌≤◌, List, [], ◌∷◌, length, map}
-use Rattle.hall_core.specs.declared.call.Act.{Act}
-use Rattle.hall_core.specs.Journeys.{below}
-use Rattle.hall_core.specs.Replies.{Entry}
+use Rattle.hall_runs.specs.declared.call.Act.{Act}
+use Rattle.mpi_cart.specs.Grids.{below}
+use Rattle.hall_runs.specs.Runs.{Entry}
 use Rattle.hall_core.specs.Halls.{entry}
 use Rattle.hall_core.specs.Named.{IsNamed}
 use Rattle.wall_policy.specs.Policy.{ChineseWall}

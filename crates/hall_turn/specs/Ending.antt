@@ -1,8 +1,9 @@
 -- The end of a door.
 use Rattle.std.specs.Prelude.{◌≡◌, ℕ, ◌<◌, ◌≤◌, List, [], All, Any}
 use Rattle.wall_policy.specs.Policy.{ChineseWall}
-use Rattle.hall_core.specs.Posts.{processes}
-use Rattle.hall_core.specs.Replies.{Entry, Legal}
+use Rattle.audit_book.specs.Comms.{processes}
+use Rattle.hall_runs.specs.Runs.{Entry}
+use Rattle.hall_runs.specs.Replies.{Legal}
 use Rattle.hall_core.specs.Halls.{Kept, StandsFor}
 use Rattle.hall_turn.specs.Runs.{Continues, calls_of}
 use Rattle.hall_turn.specs.Known.{Known}

@@ -1,9 +1,10 @@
 -- What a door needs of the machine behind it: the runs that it stands for.
 use Rattle.std.specs.Prelude.{◌≡◌, List, ◌∷◌}
 use Rattle.wall_policy.specs.Policy.{ChineseWall}
-use Rattle.hall_core.specs.declared.call.Call.{Call}
-use Rattle.hall_core.specs.declared.reply.Reply.{Reply}
-use Rattle.hall_core.specs.Replies.{Entry, Legal}
+use Rattle.hall_runs.specs.declared.call.Call.{Call}
+use Rattle.hall_runs.specs.declared.reply.Reply.{Reply}
+use Rattle.hall_runs.specs.Runs.{Entry}
+use Rattle.hall_runs.specs.Replies.{Legal}
 use Rattle.hall_core.specs.Halls.{Kept, StandsFor, entry}
 use Rattle.hall_core.specs.Named.{IsNamed}
 

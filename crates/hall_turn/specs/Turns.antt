@@ -7,8 +7,9 @@ use mathlib.Core.Option as opt
 use lib.ListN.{get_elem?}
 use Rattle.atomic_table.specs.Table.{State}
 use Rattle.wall_policy.specs.Policy.{ChineseWall}
-use Rattle.hall_core.specs.Posts.{processes}
-use Rattle.hall_core.specs.Replies.{Entry, Legal}
+use Rattle.audit_book.specs.Comms.{processes}
+use Rattle.hall_runs.specs.Runs.{Entry}
+use Rattle.hall_runs.specs.Replies.{Legal}
 use Rattle.hall_turn.specs.Runs.{Continues, calls_of}
 use Rattle.hall_turn.specs.Views.{Told, SeatView, parts_of, lates_of, every, numbers}
 

@@ -1,10 +1,10 @@
 -- What a seat knows, and how its steps change that.
 use Rattle.std.specs.Prelude.{ℕ, ◌+◌, ◌-◌, Bool, false, List, [], ◌∷◌, ◌++◌, map, Option, Some, None}
 use Rattle.wall_policy.specs.Policy.{ChineseWall}
-use Rattle.hall_core.specs.declared.call.Act.TheVariants.{Take}
-use Rattle.hall_core.specs.declared.reply.Reply.TheVariants.{Pending}
-use Rattle.hall_core.specs.Posts.{processes}
-use Rattle.hall_core.specs.Replies.{Entry}
+use Rattle.hall_runs.specs.declared.call.Act.TheVariants.{Take}
+use Rattle.hall_runs.specs.declared.reply.Reply.TheVariants.{Pending}
+use Rattle.audit_book.specs.Comms.{processes}
+use Rattle.hall_runs.specs.Runs.{Entry}
 
 -- what the pass of a process has seen
 pub record Told : Type 0 where

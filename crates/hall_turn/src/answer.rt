@@ -3,7 +3,7 @@
 use hall_core::Reply;
 
 /// The answer to a call that takes a turn.
-#[derive(Debug, Drop)]
+#[derive(Drop)]
 pub enum Answer {
     /// The call was made, at its turn, and this is its reply.
     Reply(Reply),

@@ -1,7 +1,7 @@
 //! The end of a door.
 ghost use Rattle.std.specs.Prelude.{◌≡◌, ◌<◌, ◌≤◌, ◌↔◌, length, IfOk, IfErr, IsErr};
 ghost use Rattle.std.specs.List.{All};
-ghost use Rattle.hall_core.specs.Posts.{processes};
+ghost use Rattle.audit_book.specs.Comms.{processes};
 ghost use Rattle.hall_turn.specs.Ending.{Closed};
 
 use crate::door::Door;

@@ -1,9 +1,9 @@
 //! The door, and the calls that take a turn there.
 ghost use Rattle.std.specs.Prelude.{◌≡◌, ◌<◌, ◌≤◌, [], IfOk, vec_capacity};
 ghost use Rattle.std.specs.List.{All};
-ghost use Rattle.hall_core.specs.declared.call.Act.TheVariants.{Post as ToPost, Take as ToTake, Info as ToInfo};
-ghost use Rattle.hall_core.specs.Posts.{processes};
-ghost use Rattle.hall_core.specs.Replies.{Legal};
+ghost use Rattle.hall_runs.specs.declared.call.Act.TheVariants.{Post as ToPost, Take as ToTake, Info as ToInfo};
+ghost use Rattle.audit_book.specs.Comms.{processes};
+ghost use Rattle.hall_runs.specs.Replies.{Legal};
 ghost use Rattle.hall_core.specs.Named.{IsKnownLabel, HasKnownLabel};
 ghost use Rattle.hall_turn.specs.Answers.{Answered, IsSamePass, NamesKnown, new_passes};
 ghost use Rattle.hall_turn.specs.Views.{newcomer};
@@ -33,7 +33,7 @@ pub struct Door {
 
 impl Model for Door {
     ghost use Rattle.std.specs.Prelude.{◌≡◌, ◌<◌};
-    ghost use Rattle.hall_core.specs.Posts.{processes};
+    ghost use Rattle.audit_book.specs.Comms.{processes};
     ghost use Rattle.hall_turn.specs.Known.{Doorway};
 
     ghost Value = { Doorway };

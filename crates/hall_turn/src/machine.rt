@@ -1,7 +1,8 @@
 //! What a door needs of the machine behind it, and the hall as that machine.
 ghost use Rattle.std.specs.Prelude.{List, ◌∷◌};
 ghost use Rattle.wall_policy.specs.Policy.{ChineseWall};
-ghost use Rattle.hall_core.specs.Replies.{Entry, Legal};
+ghost use Rattle.hall_runs.specs.Runs.{Entry};
+ghost use Rattle.hall_runs.specs.Replies.{Legal};
 ghost use Rattle.hall_core.specs.Named.{HasKnownLabel};
 ghost use Rattle.hall_turn.specs.Machines.{Carries, Stands};
 

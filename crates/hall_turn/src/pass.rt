@@ -1,6 +1,6 @@
 //! Passes, by which processes call at a door.
 ghost use Rattle.std.specs.Prelude.{◌≡◌, length};
-ghost use Rattle.hall_core.specs.Replies.{Legal};
+ghost use Rattle.hall_runs.specs.Replies.{Legal};
 ghost use Rattle.hall_turn.specs.Answers.{IsSamePass, SeesOn};
 
 use crate::door::Door;

@@ -4,14 +4,16 @@ ghost use Rattle.std.specs.List.{All};
 ghost use Rattle.hall_core.specs.Named.{IsKnownLabel};
 
 use crate::{Answer, CloseFault, Door, Pass, Passes, Unclosed};
-use hall_core::{Act, Block, Call, Own, Posting, Refusal, Reply, Signature};
+use coll_routes::{Own, Signature};
+use coll_values::{Block, Integers};
+use hall_core::{Act, Call, Posting, Refusal, Reply};
 use mpi_elems::{Buffer, ElemType};
 use std::alloc::Global;
 use std::process::Abort;
 use std::sync::Wait;
 use std::test::Fail;
 use std::thread::{Threads, join};
-use wall_labels::Label;
+use wall_labels::{Label, Op};
 use wall_policy::{Policy, read_policy};
 
 /// One process, at home with alpha.
@@ -22,9 +24,9 @@ const ALONE: &str =
 const FRIENDS: &str =
     "version = 1\n[[class]]\nname = \"banks\"\ndatasets = [\"alpha\", \"beta\"]\n[[process]]\nname = \"p0\"\nhome = \"alpha\"\n[[process]]\nname = \"p1\"\nhome = \"alpha\"\n";
 
-/// Four processes: a0 at home with alpha, b0 with beta, c0 with crude, n0 nowhere.
+/// Four processes: a0 at home with alpha, b0 with beta, c0 with crude, n0 nowhere. Sums of three contributors are sanitised.
 const RIVALS: &str =
-    "version = 1\n[[class]]\nname = \"banks\"\ndatasets = [\"alpha\", \"beta\"]\n[[class]]\nname = \"oil\"\ndatasets = [\"crude\", \"delta\"]\n[[process]]\nname = \"a0\"\nhome = \"alpha\"\n[[process]]\nname = \"b0\"\nhome = \"beta\"\n[[process]]\nname = \"c0\"\nhome = \"crude\"\n[[process]]\nname = \"n0\"\n";
+    "version = 1\n[[class]]\nname = \"banks\"\ndatasets = [\"alpha\", \"beta\"]\n[[class]]\nname = \"oil\"\ndatasets = [\"crude\", \"delta\"]\n[[process]]\nname = \"a0\"\nhome = \"alpha\"\n[[process]]\nname = \"b0\"\nhome = \"beta\"\n[[process]]\nname = \"c0\"\nhome = \"crude\"\n[[process]]\nname = \"n0\"\n[[sanitise]]\nop = \"sum\"\nleast = 3\n";
 
 /// A label of the policy, public if it has none of that name.
 fn label(policy: &Policy, name: &str) -> Label
@@ -34,6 +36,25 @@ fn label(policy: &Policy, name: &str) -> Label
         Some(dataset) => Label::Of(dataset),
         None => Label::Public,
     }
+}
+
+/// A post on the communicator of all processes.
+fn posting(
+    alloc: Global,
+    sig: Signature,
+    label: Label,
+    numbers: &[i128],
+) -> Result<Posting, Fail>
+    ensures { IfOk result (λ posting. posting.label ≡ label) }
+{
+    let elements = Buffer::from_numbers(alloc, ElemType::Int32, numbers)?;
+    Ok(Posting {
+        comm: 0,
+        sig,
+        own: Own::Plain,
+        label,
+        elements,
+    })
 }
 
 /// A broadcast to all processes.
@@ -46,19 +67,24 @@ fn broadcast(
 ) -> Result<Posting, Fail>
     ensures { IfOk result (λ posting. posting.label ≡ label) }
 {
-    let elements = Buffer::from_numbers(alloc, ElemType::Int32, numbers)?;
     let sig = Signature::Bcast {
         root,
         elem_type: ElemType::Int32,
         count,
     };
-    Ok(Posting {
-        comm: 0,
-        sig,
-        own: Own::Plain,
-        label,
-        elements,
-    })
+    posting(alloc, sig, label, numbers)
+}
+
+/// A sum of one number of each process.
+fn sum(alloc: Global, label: Label, number: i128) -> Result<Posting, Fail>
+    ensures { IfOk result (λ posting. posting.label ≡ label) }
+{
+    let sig = Signature::Allreduce {
+        op: Op::Sum,
+        elem_type: ElemType::Int32,
+        count: 1,
+    };
+    posting(alloc, sig, label, &[number])
 }
 
 /// The last of the passes.
@@ -81,13 +107,21 @@ fn with(door: &Door, mut passes: Passes, pass: Pass) -> Result<Passes, Fail>
     Ok(passes)
 }
 
+fn are(given: &Integers, numbers: &[i128]) -> bool {
+    match numbers {
+        [one] => given.len() == 1 && given.get(0) == *one,
+        [first, second] => given.len() == 2 && given.get(0) == *first && given.get(1) == *second,
+        _ => false,
+    }
+}
+
 fn is_delivered(answer: &Answer, numbers: &[i128]) -> bool {
     let Answer::Reply(Reply::Delivered(delivery)) = answer else {
         return false;
     };
     match delivery.as_slice() {
         [] => numbers.is_empty(),
-        [Block::Numbers(given)] => given.as_slice() == numbers,
+        [Block::Numbers(given)] => are(given, numbers),
         _ => false,
     }
 }
@@ -162,12 +196,11 @@ fn call_alone<R: Wait + Abort>(rt: &R, door: &Door, pass: &mut Pass, posting: Po
 #[test]
 fn one_process_calls(rt: HostRuntime) -> Result<(), Fail> {
     let policy = read_policy(rt.alloc(), ALONE.as_bytes())?;
-    let alpha = label(&policy, "alpha");
-    let posting = broadcast(rt.alloc(), 0, 2, alpha, &[7, -1])?;
+    let barrier = posting(rt.alloc(), Signature::Barrier, Label::Public, &[])?;
     let (door, mut passes) = Door::open(rt.alloc(), policy)?;
     let mut pass = last(&door, &mut passes)?;
     assert_eq!(&rt; (passes.len(), pass.process()), (0, 0));
-    call_alone(&rt, &door, &mut pass, posting);
+    call_alone(&rt, &door, &mut pass, barrier);
     Ok(())
 }
 
@@ -233,7 +266,7 @@ fn tell<R: Wait + Abort>(
     front(rt, door, c0, 1);
 }
 
-/// A door is closed by all passes alone. The hall then has the one post, whose request waits.
+/// A door is closed by all passes alone. The hall then has the one post, which stands in its book, and whose request waits.
 fn end<R: Abort>(rt: &R, door: Door, passes: Passes, missing: Pass) -> Result<(), Fail>
     requires passes { All (λ pass. pass.door ≡ door) passes.items }
     requires missing { missing.door ≡ door }
@@ -251,6 +284,7 @@ fn end<R: Abort>(rt: &R, door: Door, passes: Passes, missing: Pass) -> Result<()
     let Ok(mut hall) = door.close(passes) else {
         panic!(rt; "no pass is missing")
     };
+    assert_eq!(rt; hall.book().len(), 1);
     let reply = hall.apply(Call {
         process: 0,
         act: Act::Take(0),
@@ -278,28 +312,25 @@ fn door_is_closed_by_all(rt: HostRuntime) -> Result<(), Fail> {
     end(&rt, door, passes, n0)
 }
 
-/// Four passes post in turn: their posts meet in one hall.
+/// Four passes post in turn: their posts meet in one hall, and a sum of them all is sanitised for all.
 #[test]
 fn posts_meet(rt: HostRuntime) -> Result<(), Fail> {
     let alloc = rt.alloc();
-    let (four, _) = open_four(alloc)?;
-    let Four {
-        door,
-        mut a0,
-        mut b0,
-        mut c0,
-        mut n0,
-    } = four;
-    let none = broadcast(alloc, 3, 1, Label::Public, &[])?;
-    post(&rt, &door, &mut a0, none, 0);
-    let none = broadcast(alloc, 3, 1, Label::Public, &[])?;
-    post(&rt, &door, &mut b0, none, 0);
-    let none = broadcast(alloc, 3, 1, Label::Public, &[])?;
-    post(&rt, &door, &mut c0, none, 0);
-    let six = broadcast(alloc, 3, 1, Label::Public, &[6])?;
-    post(&rt, &door, &mut n0, six, 0);
-    take(&rt, &door, &mut a0, 0, &[6]);
-    take(&rt, &door, &mut n0, 0, &[]);
+    let policy = read_policy(alloc, RIVALS.as_bytes())?;
+    let alpha = label(&policy, "alpha");
+    let beta = label(&policy, "beta");
+    let crude = label(&policy, "crude");
+    let (door, mut passes) = Door::open(alloc, policy)?;
+    let mut n0 = last(&door, &mut passes)?;
+    let mut c0 = last(&door, &mut passes)?;
+    let mut b0 = last(&door, &mut passes)?;
+    let mut a0 = last(&door, &mut passes)?;
+    post(&rt, &door, &mut a0, sum(alloc, alpha, 5)?, 0);
+    post(&rt, &door, &mut b0, sum(alloc, beta, 6)?, 0);
+    post(&rt, &door, &mut c0, sum(alloc, crude, 7)?, 0);
+    post(&rt, &door, &mut n0, sum(alloc, Label::Public, 1)?, 0);
+    take(&rt, &door, &mut a0, 0, &[19]);
+    take(&rt, &door, &mut n0, 0, &[19]);
     front(&rt, &door, &mut c0, 6);
     Ok(())
 }

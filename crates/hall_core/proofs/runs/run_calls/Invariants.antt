@@ -1,5 +1,5 @@
 use Rattle.std.proofs.Common.{◌≡◌, ◌++◌, length}
-use Rattle.hall_core.specs.Replies.{Legal}
+use Rattle.hall_runs.specs.Replies.{Legal}
 use Rattle.hall_core.specs.Halls.{run_of, StandsFor}
 use Rattle.hall_core.proofs.runs.run_calls.Given as goal
 

@@ -1,5 +1,5 @@
 use Rattle.std.proofs.lemmas.List.Elements.{All-push}
-use Rattle.hall_core.specs.declared.call.Call.{Call}
+use Rattle.hall_runs.specs.declared.call.Call.{Call}
 use Rattle.hall_core.specs.Named.{HasKnownLabel}
 use Rattle.hall_core.proofs.tests.calls.Goals as goal
 

@@ -1,5 +1,5 @@
 use Rattle.std.proofs.Common.{◌≡◌, ◌+◌, ◌≤◌, length}
-use Rattle.hall_script.specs.Scripts.{script_of, script_from}
+use Rattle.hall_script.specs.Scripts.{line_call, script_of, script_from}
 use Rattle.hall_script.specs.Answering.{SoFar}
 use Rattle.hall_script.proofs.answer.answer_lines.Given as goal
 
@@ -9,7 +9,7 @@ invariant-loop-line g l = record {
   count : g.W.Sink.failures l.sink ≡ g.W.Sink.failures l.fn.sink;
   bound : l.number + length l.lines ≤ 16777218;
   so_far : SoFar g.M.Machine.stands (g.M.Machine.wall l.fn.machine) l.machine (g.W.Sink.contents l.fn.sink) (g.W.Sink.contents l.sink) l.text.items
-      (script_of (g.M.Machine.wall l.fn.machine).dataset_names l.script) (script_from (g.M.Machine.wall l.fn.machine).dataset_names l.number l.lines);
+      (script_of (g.M.Machine.wall l.fn.machine).dataset_names l.script) (script_from (line_call (g.M.Machine.wall l.fn.machine).dataset_names) l.number l.lines);
 }
 
 abbrev pub decreases-loop-line : goal.decreases-loop-line

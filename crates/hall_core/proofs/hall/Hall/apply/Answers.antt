@@ -1,14 +1,23 @@
-use Rattle.std.proofs.Common.{◌∷◌, sym, subst}
-use Rattle.wall_policy.specs.Policy.{IsPolicy}
-use Rattle.hall_core.specs.Halls.{entry}
-use Rattle.hall_core.proofs.ApplyLemmas.{applied}
-use Rattle.hall_core.proofs.FlowLemmas.{held_apart}
+use Rattle.std.proofs.Common.{sym, subst}
+use Rattle.hall_core.specs.Halls.{Kept, shown}
+use Rattle.hall_core.specs.Kept.{kept_in}
+use Rattle.hall_core.specs.Named.{HasKnownLabel}
+use Rattle.hall_core.proofs.ApplyLemmas.{applied, applied_apart, kept_after}
+use Rattle.hall_core.proofs.NamedLemmas.{step_named}
 use Rattle.hall_core.proofs.hall.Hall.apply.Goals as goal
 
+pub invariant_of-self : goal.invariant_of-self
+invariant_of-self c =
+    kept_after (kept_in c.self.inside.records) (kept_in c.step.new.self) c.args.call c.step.result c.self.invariant c.step.ensures.policy c.step.ensures.each
+    (subst (λ (h : Kept). HasKnownLabel h.policy c.args.call.act) (sym c.self.view_is) c.requires) c.step.ensures.steps
+
 pub returns-clause-runs : goal.returns-clause-runs
-returns-clause-runs c = applied c.args.self.now c.step.new.self c.args.call c.step.result c.step.ensures.policy c.step.ensures.reply c.step.ensures.state
+returns-clause-runs c = rw (← c.self.view_is) (applied (kept_in c.self.inside.records) (kept_in c.step.new.self) c.args.call c.step.result c.step.ensures.policy c.step.ensures.steps)
 
 pub returns-clause-apart : goal.returns-clause-apart
-returns-clause-apart c = λ run legal stands.
-    held_apart c.step.new.self.policy (subst IsPolicy (sym c.step.ensures.policy) c.step.ensures.is_policy) (entry c.args.call c.step.result ∷ run)
-    (applied c.args.self.now c.step.new.self c.args.call c.step.result c.step.ensures.policy c.step.ensures.reply c.step.ensures.state run legal stands).0
+returns-clause-apart c = rw (← c.self.view_is) (applied_apart (kept_in c.self.inside.records) (kept_in c.step.new.self) c.args.call c.step.result c.self.invariant.policy c.step.ensures.policy c.step.ensures.steps)
+
+pub returns-clause-named : goal.returns-clause-named
+returns-clause-named c =
+    rw c.step.ensures.policy (step_named (shown (kept_in c.self.inside.records)) (shown (kept_in c.step.new.self)) c.args.call.process c.args.call.act c.step.result c.self.invariant.policy c.self.invariant.stands
+    (subst (λ (h : Kept). HasKnownLabel h.policy c.args.call.act) (sym c.self.view_is) c.requires) c.step.ensures.steps)

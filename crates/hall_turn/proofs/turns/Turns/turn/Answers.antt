@@ -1,5 +1,5 @@
 use Rattle.std.proofs.Common.{◌∙◌, sym, ap, subst, List, ℕ, Option}
-use Rattle.hall_core.specs.declared.call.Call.{Call}
+use Rattle.hall_runs.specs.declared.call.Call.{Call}
 use Rattle.hall_core.specs.Named.{HasKnownLabel}
 use Rattle.hall_turn.specs.Machines.{Carries}
 use Rattle.hall_turn.specs.Views.{drawn}

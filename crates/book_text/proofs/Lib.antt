@@ -1,0 +1,11 @@
+pub mod MoveLemmas
+pub mod TextLemmas
+pub mod ReadLemmas
+pub mod FoundLemmas
+pub mod BookLemmas
+pub mod AgainLemmas
+pub mod TextAgainLemmas
+pub mod FormLemmas
+pub mod WriteLemmas
+pub mod NamedLemmas
+pub mod FaultLemmas

@@ -1,0 +1,4 @@
+use Rattle.consortium.proofs.replay.replay_on.Goals as goal
+
+pub returns-in-Some : goal.returns-in-Some
+returns-in-Some g c = rw c.in-Some.is (c.replay_keeping-ending.result, c.replay_keeping-ending.ensures, c.end.ensures.status, c.end.ensures.told)

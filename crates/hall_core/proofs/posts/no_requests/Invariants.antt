@@ -1,6 +1,0 @@
-use Rattle.std.proofs.Common.{◌≡◌, length, []}
-use Rattle.hall_core.specs.Halls.{taken_of}
-use Rattle.hall_core.proofs.posts.no_requests.Given as goal
-
-abbrev pub invariant-loop : goal.invariant-loop
-invariant-loop l = record { none : taken_of l.requests.items ≡ (λ p. []); number : length l.requests.items ≡ l.counter }

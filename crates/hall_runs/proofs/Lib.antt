@@ -1,0 +1,11 @@
+pub mod CountLemmas
+pub mod RequestLemmas
+pub mod SettledLemmas
+pub mod MadeLemmas
+pub mod ProperLemmas
+pub mod WholeLemmas
+pub mod RunLemmas
+pub mod SettlementLemmas
+pub mod PostingLemmas
+pub mod TellLemmas
+pub mod RowProofs

@@ -1,0 +1,188 @@
+-- Calls that are spelled so are read.
+use Rattle.std.proofs.Common.{◌≡◌, ℕ, ◌%◌, ◌^◌, ◌<◌, ◌≤◌, Bool, true, false, not, cond, ◌&&◌, eqb, length, List, [], ◌∷◌, ◌++◌, Option, Some, None, slice_get, get_or, unwrap_or, Ok, ℤ, pos, negsuc, codes, map, refl, sym, ap, arith}
+use Rattle.std.specs.List.{list_all}
+use Rattle.std.specs.Str.{bytes_eq}
+use Rattle.std.specs.Fmt.{decimal, signed_decimal}
+use Rattle.std.proofs.lemmas.Bool.{and_parts}
+use Rattle.std.proofs.lemmas.Bool.Decides.{nat_tests}
+use Rattle.std.proofs.lemmas.Option.{slice_get-get_or}
+use Rattle.wall_labels.specs.declared.label.Label.{Label}
+use Rattle.wall_labels.specs.declared.label.Label.TheVariants as labels
+use Rattle.wall_policy.specs.Names.{Name, is_name, is_dataset_name, place_of}
+use Rattle.wall_policy.specs.Policy.{ChineseWall, IsPolicy}
+use Rattle.wall_policy.proofs.PlaceLemmas.{place_of-name, list_all-place}
+use Rattle.mpi_elems.specs.declared.elem_type.ElemType.{ElemType}
+use Rattle.mpi_elems.specs.declared.elem_type.ElemType.TheVariants.{Int8, Int16, Int32, Int64, Uint8, Uint16, Uint32, Uint64, TwoInt}
+use Rattle.mpi_elems.specs.declared.fault.BufferFault.{BufferFault}
+use Rattle.mpi_elems.specs.declared.fault.BufferFault.TheVariants as faults
+use Rattle.mpi_elems.specs.Types.{is_pair}
+use Rattle.mpi_elems.specs.Numbers.{is_number_of}
+use Rattle.mpi_elems.specs.Elements.{elements_of, pairs_of}
+use Rattle.mpi_elems.specs.Contents.{Contents, contents}
+use Rattle.mpi_elems.specs.Faults.{fault_of}
+use Rattle.coll_routes.specs.Signatures.{elem_type}
+use Rattle.coll_text.specs.Numbers.{Word, IsBetween, is_number}
+use Rattle.coll_text.specs.Spellings.{statement_words}
+use Rattle.coll_text.specs.Reading.{each_of, number_at}
+use Rattle.coll_text.proofs.NumberLemmas.{decimal_is_number, signed_is_read, form}
+use Rattle.coll_text.proofs.AgainLemmas.{positive, statement_again}
+use Rattle.hall_runs.specs.declared.call.Posting.{Posting}
+use Rattle.hall_runs.specs.declared.call.Act.{Act}
+use Rattle.hall_runs.specs.declared.call.Act.TheVariants.{Post, Take, Info}
+use Rattle.hall_core.specs.Named.{IsKnownLabel}
+use Rattle.hall_script.specs.Lines.{value_of, buffer_of, values_of, label_of, labelled, given_of, post_of, last_number, act_of, verb_of, call_of}
+use Rattle.hall_script.specs.Replies.{name_at}
+use Rattle.hall_script.specs.Spellings.{label_word, given_words, act_words, IsSayable, IsSayableAct}
+
+-- ---- numbers
+
+pub between : (ty : ElemType) (z : ℤ) → is_number_of ty z ≡ true → IsBetween 18446744073709551615 18446744073709551615 z
+unfolding is_number_of
+between Int8 (pos n) e = grind (arith, nat_tests)
+between Int8 (negsuc n) e = grind (arith, nat_tests)
+between Int16 (pos n) e = grind (arith, nat_tests)
+between Int16 (negsuc n) e = grind (arith, nat_tests)
+between Int32 (pos n) e = grind (arith, nat_tests)
+between Int32 (negsuc n) e = grind (arith, nat_tests)
+between Int64 (pos n) e = grind (arith, nat_tests)
+between Int64 (negsuc n) e = grind (arith, nat_tests)
+between Uint8 (pos n) e = grind (arith, nat_tests)
+between Uint8 (negsuc n) e = absurd cc
+between Uint16 (pos n) e = grind (arith, nat_tests)
+between Uint16 (negsuc n) e = absurd cc
+between Uint32 (pos n) e = grind (arith, nat_tests)
+between Uint32 (negsuc n) e = absurd cc
+between Uint64 (pos n) e = grind (arith, nat_tests)
+between Uint64 (negsuc n) e = absurd cc
+between TwoInt (pos n) e = grind (arith, nat_tests)
+between TwoInt (negsuc n) e = grind (arith, nat_tests)
+
+digits_nonempty : (w : Word) → is_number w ≡ true → eqb (length w) 0 ≡ false
+digits_nonempty [] h = absurd cc
+digits_nonempty (b ∷ bs) h = positive (b ∷ bs) (omega arith)
+
+decimal_some : (n : ℕ) → n < 2 ^ 64 → eqb (length (decimal n)) 0 ≡ false
+decimal_some n s = digits_nonempty (decimal n) (form n s)
+
+signed_some : (z : ℤ) → IsBetween 18446744073709551615 18446744073709551615 z → eqb (length (signed_decimal z)) 0 ≡ false
+signed_some (pos n) h = decimal_some n (omega (arith, h))
+signed_some (negsuc n) h = positive (signed_decimal (negsuc n)) (omega arith)
+
+value_again : (ty : ElemType) (z : ℤ) → is_number_of ty z ≡ true → value_of ty (signed_decimal z) ≡ Ok z
+value_again ty z h =
+    let b = between ty z h in
+    rw (signed_some z b, signed_is_read 18446744073709551615 18446744073709551615 z (omega arith) (omega arith) b, h) refl
+
+each_again : (ty : ElemType) (zs : List ℤ) → list_all (is_number_of ty) zs ≡ true → each_of (value_of ty) (map signed_decimal zs) ≡ Ok zs
+unfolding each_of
+each_again ty [] h = refl
+each_again ty (z ∷ zs) h =
+    let p = and_parts (is_number_of ty z) (list_all (is_number_of ty) zs) h in
+    rw (value_again ty z p.0, each_again ty zs p.1) refl
+
+pub parts_of : (p q : Bool) (x y : BufferFault) → cond (not p) (Some x) (cond q (Some y) None) ≡ None → (p ≡ true) × (q ≡ false)
+parts_of false q x y e = absurd cc
+parts_of true true x y e = absurd cc
+parts_of true false x y e = (refl, refl)
+
+pub values_again : (ty : ElemType) (ns : List ℤ) → fault_of ty ns ≡ None → values_of ty (map signed_decimal ns) ≡ Ok (contents ty ns (length (elements_of ty ns)))
+unfolding values_of buffer_of
+values_again ty ns h =
+    let p = parts_of (list_all (is_number_of ty) ns) (is_pair ty && not (eqb (length ns % 2) 0)) faults.BadNumber faults.OddPair h in
+    rw (each_again ty ns p.0, p.1) refl
+
+pub number_again : (most n : ℕ) (ws : List Word) → n ≤ most → most < 2 ^ 64 → number_at most (decimal n ∷ ws) ≡ Ok (n, ws)
+number_again most n ws le small = rw (decimal_some n (omega (arith, le)), decimal_is_number most n le small) refl
+
+-- ---- labels
+
+not_false : (b : Bool) → not b ≡ true → b ≡ false
+not_false true e = absurd cc
+not_false false e = refl
+
+name_some : (n : Name) → is_name n ≡ true → eqb (length n) 0 ≡ false
+name_some [] e = absurd cc
+name_some (b ∷ bs) e = positive (b ∷ bs) (omega arith)
+
+-- a name of a dataset as a word
+pub record IsNameOf (names : List Name) (d : ℕ) (w : Word) : Type 0 where
+  pub word : name_at names d ≡ w
+  pub some : eqb (length w) 0 ≡ false
+  pub other : bytes_eq w (codes "public") ≡ false
+  pub place : place_of w names ≡ Some d
+
+name_of : (wall : ChineseWall) (d : ℕ) (w : Word) → IsPolicy wall → slice_get wall.dataset_names d ≡ Some w → IsNameOf wall.dataset_names d w
+name_of wall d w good at =
+    let h : is_dataset_name w ≡ true = list_all-place is_dataset_name wall.dataset_names d w good.good_datasets at in
+    let p = and_parts (is_name w && not (bytes_eq w (codes "public"))) (not (bytes_eq w (codes "none"))) h in
+    let q = and_parts (is_name w) (not (bytes_eq w (codes "public"))) p.0 in
+    record {
+      word = ap (λ o. unwrap_or o []) at;
+      some = name_some w q.0;
+      other = not_false (bytes_eq w (codes "public")) q.1;
+      place = place_of-name wall.dataset_names d w good.distinct_datasets at;
+    }
+
+pub name_at_of : (wall : ChineseWall) (d : ℕ) → IsPolicy wall → d < length wall.dataset_names → (w : Word) × IsNameOf wall.dataset_names d w
+name_at_of wall d good lt = (get_or wall.dataset_names d [], name_of wall d (get_or wall.dataset_names d []) good (slice_get-get_or wall.dataset_names d [] lt))
+
+label_some : (wall : ChineseWall) (label : Label) → IsPolicy wall → IsKnownLabel wall label → eqb (length (label_word wall.dataset_names label)) 0 ≡ false
+label_some wall labels.Public good known = refl
+label_some wall (labels.Of d) good known = let n = name_at_of wall d good known in rw n.1.word n.1.some
+
+label_again : (wall : ChineseWall) (label : Label) → IsPolicy wall → IsKnownLabel wall label → label_of wall.dataset_names (label_word wall.dataset_names label) ≡ Ok label
+unfolding label_of
+label_again wall labels.Public good known = refl
+label_again wall (labels.Of d) good known = let n = name_at_of wall d good known in rw (n.1.word, n.1.other, n.1.place) refl
+
+pub labelled_again : (wall : ChineseWall) (ty : ElemType) (label : Label) (ns : List ℤ) → IsPolicy wall → IsKnownLabel wall label → fault_of ty ns ≡ None
+    → labelled wall.dataset_names ty (label_word wall.dataset_names label ∷ map signed_decimal ns) ≡ Ok (label, contents ty ns (length (elements_of ty ns)))
+unfolding labelled
+labelled_again wall ty label ns good known sound = rw (label_some wall label good known, label_again wall label good known, values_again ty ns sound) refl
+
+-- ---- calls
+
+no_elements : (ty : ElemType) → length (elements_of ty []) ≡ 0
+unfolding elements_of pairs_of
+no_elements Int8 = refl
+no_elements Int16 = refl
+no_elements Int32 = refl
+no_elements Int64 = refl
+no_elements Uint8 = refl
+no_elements Uint16 = refl
+no_elements Uint32 = refl
+no_elements Uint64 = refl
+no_elements TwoInt = refl
+
+given_again : (wall : ChineseWall) (ty : Option ElemType) (label : Label) (ns : List ℤ) → IsPolicy wall → IsKnownLabel wall label → fault_of (unwrap_or ty Int8) ns ≡ None → (ty ≡ None → given_words wall.dataset_names label ns ≡ [])
+    → given_of wall.dataset_names ty (given_words wall.dataset_names label ns) ≡ Ok (label, contents (unwrap_or ty Int8) ns (length (elements_of (unwrap_or ty Int8) ns)))
+unfolding given_of
+given_again wall ty labels.Public [] good known sound nothing = ap (λ (m : ℕ). Ok (labels.Public, contents (unwrap_or ty Int8) [] m)) (sym (no_elements (unwrap_or ty Int8)))
+given_again wall None labels.Public (n ∷ ns) good known sound nothing = absurd (let e = nothing refl in cc)
+given_again wall None (labels.Of d) ns good known sound nothing = absurd (let e = nothing refl in cc)
+given_again wall (Some ty) labels.Public (n ∷ ns) good known sound nothing = labelled_again wall ty labels.Public (n ∷ ns) good known sound
+given_again wall (Some ty) (labels.Of d) ns good known sound nothing = labelled_again wall ty (labels.Of d) ns good known sound
+
+post_again : (wall : ChineseWall) (posting : Posting) → IsPolicy wall → IsSayable wall posting
+    → post_of wall.dataset_names (decimal posting.comm ∷ (statement_words posting.sig posting.own ++ given_words wall.dataset_names posting.label posting.elements.numbers)) ≡ Ok (Post posting)
+unfolding post_of
+post_again wall posting good h =
+    let given = given_words wall.dataset_names posting.label posting.elements.numbers in
+    rw (
+      number_again 4294967295 posting.comm (statement_words posting.sig posting.own ++ given) h.comm (omega arith),
+      statement_again posting.sig posting.own given h.statement,
+      given_again wall (elem_type posting.sig) posting.label posting.elements.numbers good h.label h.numbers h.nothing,
+    )
+    (ap (λ (c : Contents). Ok (Post (record { comm = posting.comm; sig = posting.sig; own = posting.own; label = posting.label; elements = c }))) (sym h.elements))
+
+last_again : (most n : ℕ) → n ≤ most → most < 2 ^ 64 → last_number most (decimal n ∷ []) ≡ Ok n
+unfolding last_number
+last_again most n le small = rw (number_again most n [] le small) refl
+
+pub act_again : (wall : ChineseWall) (p : ℕ) (act : Act) → IsPolicy wall → p ≤ 4294967295 → IsSayableAct wall act → call_of wall.dataset_names (act_words wall.dataset_names p act) ≡ Ok (record { process = p; act = act })
+unfolding call_of verb_of act_of
+act_again wall p (Post posting) good low h =
+    let rest = decimal posting.comm ∷ (statement_words posting.sig posting.own ++ given_words wall.dataset_names posting.label posting.elements.numbers) in
+    rw (number_again 4294967295 p rest low (omega arith), post_again wall posting good h) refl
+act_again wall p (Take request) good low h = rw (number_again 4294967295 p (decimal request ∷ []) low (omega arith), last_again 18446744073709551615 request h (omega arith)) refl
+act_again wall p (Info comm) good low h = rw (number_again 4294967295 p (decimal comm ∷ []) low (omega arith), last_again 4294967295 comm h (omega arith)) refl

@@ -1,0 +1,169 @@
+//! Scripts that are replayed over devices in memory.
+
+use super::*;
+use crate::tests::wall;
+use std::process::Abort;
+use wall_labels::memory::{ExpectingSink, Fuse, MemorySource};
+
+// The first of the worked examples, with comments, empty lines, ends of two kinds, and a last line without one.
+const SCRIPT: &[u8] = b"# a0 sends alpha's numbers to all
+post 0 0 bcast 0 int32 2 as alpha 7 -1\r
+post 1 0 bcast 0 int32 2\r
+\r
+
+post 2 0 bcast 0 int32 2
+take 0 0
+post 3 0 bcast 0 int32 2
+take 0 0
+take 1 0
+# b0 is a rival
+take 2 0
+take 3 0";
+
+const REPLIES: &[u8] = b"posted 0
+posted 0
+posted 0
+pending
+posted 0
+denied simple b0 alpha
+denied simple b0 alpha
+denied simple b0 alpha
+denied simple b0 alpha
+";
+
+// A duplicate of the world, a reduction, and what is known of communicators.
+const MIXED: &[u8] = b"post 0 0 dup
+post 1 0 dup
+post 2 0 dup
+post 3 0 dup
+take 3 0
+info 3 1
+info 3 2
+info 4 0
+post 0 1 allreduce sum int32 1 as alpha 5
+post 1 1 allreduce sum int32 1 as beta 6
+post 2 1 allreduce sum int32 1 as crude 7
+post 3 1 allreduce sum int32 1 as public 1
+take 3 1
+take 3 1
+";
+
+const MIXED_REPLIES: &[u8] = b"posted 0
+posted 0
+posted 0
+posted 0
+comm 1 rank 3 size 4
+info size 4 rank 3
+refused NoSuchComm
+refused NoSuchProcess
+posted 1
+posted 1
+posted 1
+posted 1
+delivered [19]
+refused NoSuchRequest
+";
+
+// How a script is replayed over devices that fail so.
+#[derive(Clone, Copy)]
+struct Case<'a> {
+    script: &'a [u8],
+    replies: &'a [u8],
+    reads: Fuse,
+    writes: Fuse,
+    fault: Option<ScriptFault>,
+}
+
+// Whether these replies are written, and the replay ends so.
+fn is_replayed(rt: &(impl AllocGlobal + Abort), case: &Case) -> bool {
+    let mut source = MemorySource {
+        rest: case.script,
+        fuse: case.reads,
+    };
+    let mut sink = ExpectingSink {
+        rest: case.replies,
+        is_same: true,
+        fuse: case.writes,
+    };
+    let ended = replay(rt.alloc(), wall(rt), &mut source, &mut sink).err();
+    ended == case.fault && sink.is_same && sink.rest.is_empty()
+}
+
+fn whole<'a>(script: &'a [u8], replies: &'a [u8], fault: Option<ScriptFault>) -> Case<'a> {
+    Case {
+        script,
+        replies,
+        reads: Fuse::Whole,
+        writes: Fuse::Whole,
+        fault,
+    }
+}
+
+#[test]
+fn scripts_are_replayed(rt: HostRuntime) {
+    for (script, replies, fault) in [
+        (SCRIPT, REPLIES, None),
+        (MIXED, MIXED_REPLIES, None),
+        (b"".as_slice(), b"".as_slice(), None),
+        (
+            b"take 0 0\n\n#\npst\ntake 0 0\n".as_slice(),
+            b"refused NoSuchRequest\n".as_slice(),
+            Some(ScriptFault::Line(4, LineFault::BadVerb)),
+        ),
+        (
+            b"take 0 0\n\r\r\n".as_slice(),
+            b"refused NoSuchRequest\n".as_slice(),
+            Some(ScriptFault::Line(2, LineFault::BadShape)),
+        ),
+    ] {
+        assert!(&rt; is_replayed(&rt, &whole(script, replies, fault)));
+    }
+}
+
+#[test]
+fn failing_devices_are_told(rt: HostRuntime) {
+    for (reads, writes, fault) in [
+        (Fuse::After(0), Fuse::Whole, ScriptFault::Read),
+        (Fuse::After(1), Fuse::Whole, ScriptFault::Read),
+        (Fuse::Whole, Fuse::After(0), ScriptFault::Write),
+    ] {
+        let case = Case {
+            script: SCRIPT,
+            replies: b"",
+            reads,
+            writes,
+            fault: Some(fault),
+        };
+        assert!(&rt; is_replayed(&rt, &case));
+    }
+}
+
+// The line so many times.
+fn repeated(rt: &(impl AllocGlobal + Abort), line: &[u8], times: u32) -> Vec<u8> {
+    let mut lines = Vec::new(rt.alloc());
+    for _ in 0..times {
+        if lines.extend_from_slice(line).is_err() {
+            panic!(rt; "no memory");
+        }
+    }
+    lines
+}
+
+// The second write fails: the replies stop in their middle.
+#[test]
+fn writers_fail_in_mid_stream(rt: HostRuntime) {
+    let script = repeated(&rt, b"take 0 0\n", 1000);
+    let replies = repeated(&rt, b"refused NoSuchRequest\n", 1000);
+    let mut source = MemorySource {
+        rest: &script,
+        fuse: Fuse::Whole,
+    };
+    let mut sink = ExpectingSink {
+        rest: &replies,
+        is_same: true,
+        fuse: Fuse::After(1),
+    };
+    let ended = replay(rt.alloc(), wall(&rt), &mut source, &mut sink).err();
+    assert!(&rt; ended == Some(ScriptFault::Write) && sink.is_same);
+    assert!(&rt; 0 < sink.rest.len() && sink.rest.len() < replies.len());
+}
