@@ -39,12 +39,7 @@ fn label(policy: &Policy, name: &str) -> Label
 }
 
 /// A post on the communicator of all processes.
-fn posting(
-    alloc: Global,
-    sig: Signature,
-    label: Label,
-    numbers: &[i128],
-) -> Result<Posting, Fail>
+fn posting(alloc: Global, sig: Signature, label: Label, numbers: &[i128]) -> Result<Posting, Fail>
     ensures { IfOk result (λ posting. posting.label ≡ label) }
 {
     let elements = Buffer::from_numbers(alloc, ElemType::Int32, numbers)?;
