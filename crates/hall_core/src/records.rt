@@ -296,6 +296,7 @@ impl Records {
         ensures requests { self.new.requests ≡ self.old.requests }
         ensures settled { HasOneMore self.old.settled self.new.settled comm k settlement }
         ensures book { self.new.book.list ≡ self.old.book.list ++ EntrySettled comm k settlement.outcome ∷ [] }
+        ensures room { self.new.book.room + 1 ≡ self.old.book.room }
     {
         self.book.push(Entry::Settled {
             comm,
