@@ -14,7 +14,7 @@ use Rattle.consortium.specs.declared.audit.TheConstants.{BOOK_LIMIT}
 use Rattle.consortium.specs.declared.audit.Finding.{Finding}
 use Rattle.consortium.specs.declared.audit.Finding.TheVariants as findings
 use Rattle.consortium.specs.declared.ending.Ending.{Ending}
-use Rattle.consortium.specs.declared.ending.Ending.TheVariants.{Done, BadPolicy, BadLine, BadBookLine, CutBook, Unsound, ReadFault, WriteFault, NoMemory, BadArguments}
+use Rattle.consortium.specs.declared.ending.Ending.TheVariants.{Done, BadPolicy, BadLine, BadBookLine, CutBook, Unsound, ReadFault, WriteFault, NoThread, Exhausted, NoMemory, BadArguments}
 use Rattle.consortium.specs.Endings.{numbered_line}
 use Rattle.consortium.specs.Walls.{IsPolicyOf, IsNoPolicy}
 
@@ -42,6 +42,8 @@ IsNoBook wall old new left (BadPolicy fault) = ⊥
 IsNoBook wall old new left (BadLine n fault) = ⊥
 IsNoBook wall old new left (Unsound n) = ⊥
 IsNoBook wall old new left WriteFault = ⊥
+IsNoBook wall old new left NoThread = ⊥
+IsNoBook wall old new left Exhausted = ⊥
 IsNoBook wall old new left BadArguments = ⊥
 
 -- what is found of a book of these entries: it is sound, and this is their number, or this is the number of the first bad one

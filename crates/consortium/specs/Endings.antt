@@ -8,7 +8,7 @@ use Rattle.wall_policy.specs.declared.fault.PolicyFault.TheVariants as policies
 use Rattle.coll_text.specs.declared.fault.LineFault.{LineFault}
 use Rattle.coll_text.specs.declared.fault.LineFault.TheVariants as lines
 use Rattle.consortium.specs.declared.ending.Ending.{Ending}
-use Rattle.consortium.specs.declared.ending.Ending.TheVariants.{Done, BadPolicy, BadLine, BadBookLine, CutBook, Unsound, ReadFault, WriteFault, NoMemory, BadArguments}
+use Rattle.consortium.specs.declared.ending.Ending.TheVariants.{Done, BadPolicy, BadLine, BadBookLine, CutBook, Unsound, ReadFault, WriteFault, NoThread, Exhausted, NoMemory, BadArguments}
 
 abbrev pub status_of : Ending → ℕ
 status_of Done = 0
@@ -19,6 +19,8 @@ status_of CutBook = 2
 status_of (Unsound n) = 2
 status_of ReadFault = 3
 status_of WriteFault = 3
+status_of NoThread = 4
+status_of Exhausted = 4
 status_of NoMemory = 4
 status_of BadArguments = 5
 
@@ -62,6 +64,8 @@ error_line CutBook = codes "book: cut\n"
 error_line (Unsound n) = []
 error_line ReadFault = codes "read fault\n"
 error_line WriteFault = codes "write fault\n"
+error_line NoThread = codes "no thread\n"
+error_line Exhausted = codes "exhausted\n"
 error_line NoMemory = codes "out of memory\n"
 error_line BadArguments = codes "bad arguments\n"
 

@@ -3,9 +3,10 @@ use Rattle.std.specs.Prelude.{◌≡◌, true, List, [], ◌∷◌, Option, Some
 use Rattle.std.specs.Str.{bytes_eq}
 use Rattle.clap.specs.Words.{App, Row, Rule, Text, Kinds, fault_of, first_of, new_app, new_rule, subcommand_of, with_rule, with_subcommand}
 use Rattle.consortium.specs.declared.words.ReplayPaths.{ReplayPaths}
+use Rattle.consortium.specs.declared.words.RunPaths.{RunPaths}
 use Rattle.consortium.specs.declared.words.AuditPaths.{AuditPaths}
 use Rattle.consortium.specs.declared.words.Command.{Command}
-use Rattle.consortium.specs.declared.words.Command.TheVariants.{Replay, Audit}
+use Rattle.consortium.specs.declared.words.Command.TheVariants.{Replay, Run, Audit}
 use Rattle.consortium.specs.declared.words.ArgFault.{ArgFault}
 use Rattle.consortium.specs.declared.words.ArgFault.TheVariants.{BadArguments, NoMemory}
 
@@ -16,9 +17,9 @@ required_rule id = record (new_rule id) { required = true }
 abbrev pub optional_rule : Text → Rule
 optional_rule name = record (new_rule name) { long = Some name }
 
--- replay POLICY SCRIPT [--book FILE]
-abbrev pub replay_app : App
-replay_app = with_rule (with_rule (with_rule (new_app (codes "replay")) (required_rule (codes "policy"))) (required_rule (codes "script"))) (optional_rule (codes "book"))
+-- NAME POLICY SCRIPT [--book FILE]
+abbrev pub script_app : Text → App
+script_app name = with_rule (with_rule (with_rule (new_app name) (required_rule (codes "policy"))) (required_rule (codes "script"))) (optional_rule (codes "book"))
 
 -- audit POLICY BOOK
 abbrev pub audit_app : App
@@ -30,11 +31,21 @@ bare_app =
     let a = new_app (codes "consortium") in
     record a { top = record a.top { no_binary_name = true; subcommand_required = true } }
 
+-- replay and run, with files alike
+unfoldable pub scripts_app : App
+scripts_app = with_subcommand (with_subcommand bare_app (script_app (codes "replay")).top) (script_app (codes "run")).top
+
 unfoldable pub program_app : App
-program_app = with_subcommand (with_subcommand bare_app replay_app.top) audit_app.top
+program_app = with_subcommand scripts_app audit_app.top
 
 -- the files of a replay, as text
 pub record ReplayFiles : Type 0 where
+  pub policy : Text
+  pub script : Text
+  pub book : Option Text
+
+-- the files of a run, as text
+pub record RunFiles : Type 0 where
   pub policy : Text
   pub script : Text
   pub book : Option Text
@@ -47,10 +58,16 @@ pub record AuditFiles : Type 0 where
 -- a command and its files
 pub data Asked : Type 0 where
   to_replay : ReplayFiles → Asked
+  to_run : RunFiles → Asked
   to_audit : AuditFiles → Asked
 
 abbrev pub replay_in : List Row → Option ReplayFiles
 replay_in rows =
+    option_and_then (λ p. option_and_then (λ s. Some (record { policy = p; script = s; book = first_of (codes "book") rows }))
+    (first_of (codes "script") rows)) (first_of (codes "policy") rows)
+
+abbrev pub run_in : List Row → Option RunFiles
+run_in rows =
     option_and_then (λ p. option_and_then (λ s. Some (record { policy = p; script = s; book = first_of (codes "book") rows }))
     (first_of (codes "script") rows)) (first_of (codes "policy") rows)
 
@@ -63,6 +80,7 @@ audit_in rows =
 abbrev pub command_in : Text → List Row → Option Asked
 command_in name rows =
     if bytes_eq name (codes "replay") then option_map to_replay (replay_in rows)
+    else if bytes_eq name (codes "run") then option_map to_run (run_in rows)
     else if bytes_eq name (codes "audit") then option_map to_audit (audit_in rows)
     else None
 
@@ -81,11 +99,15 @@ asked words = unless_refused (fault_of program_app words) (command_of (subcomman
 abbrev pub replay_files : ReplayPaths → ReplayFiles
 replay_files r = record { policy = r.policy.now; script = r.script.now; book = option_map (λ b. b.now) r.book }
 
+abbrev pub run_files : RunPaths → RunFiles
+run_files r = record { policy = r.policy.now; script = r.script.now; book = option_map (λ b. b.now) r.book }
+
 abbrev pub audit_files : AuditPaths → AuditFiles
 audit_files r = record { policy = r.policy.now; book = r.book.now }
 
 abbrev pub asked_by : Command → Asked
 asked_by (Replay r) = to_replay (replay_files r)
+asked_by (Run r) = to_run (run_files r)
 asked_by (Audit r) = to_audit (audit_files r)
 
 -- what was read is what the words ask for, unless memory ran out

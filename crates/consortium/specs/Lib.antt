@@ -1,5 +1,6 @@
 pub mod Endings
 pub mod Walls
 pub mod Replaying
+pub mod Running
 pub mod Auditing
 pub mod Grammar

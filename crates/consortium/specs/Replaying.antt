@@ -14,7 +14,7 @@ use Rattle.hall_script.specs.declared.script.TheConstants.{SCRIPT_LIMIT}
 use Rattle.hall_script.specs.Devices.{IsTooLong, IsWithin}
 use Rattle.hall_script.specs.Scripts.{Replayed}
 use Rattle.consortium.specs.declared.ending.Ending.{Ending}
-use Rattle.consortium.specs.declared.ending.Ending.TheVariants.{Done, BadPolicy, BadLine, BadBookLine, CutBook, Unsound, ReadFault, WriteFault, NoMemory, BadArguments}
+use Rattle.consortium.specs.declared.ending.Ending.TheVariants.{Done, BadPolicy, BadLine, BadBookLine, CutBook, Unsound, ReadFault, WriteFault, NoThread, Exhausted, NoMemory, BadArguments}
 use Rattle.consortium.specs.Walls.{IsPolicyOf, IsNoPolicy}
 
 abbrev pub script_ending : ScriptFault → Ending
@@ -45,6 +45,8 @@ Keeps wall old new before after (BadBookLine n) run = ⊥
 Keeps wall old new before after CutBook run = ⊥
 Keeps wall old new before after (Unsound n) run = ⊥
 Keeps wall old new before after ReadFault run = ⊥
+Keeps wall old new before after NoThread run = ⊥
+Keeps wall old new before after Exhausted run = ⊥
 Keeps wall old new before after BadArguments run = ⊥
 
 -- no book was asked for

@@ -9,7 +9,7 @@ use Rattle.hall_script.specs.declared.device.DeviceFault.TheVariants as devices
 use Rattle.hall_script.specs.declared.script.TheConstants.{SCRIPT_LIMIT}
 use Rattle.hall_script.specs.Devices.{IsReadFault}
 use Rattle.consortium.specs.declared.ending.Ending.{Ending}
-use Rattle.consortium.specs.declared.ending.Ending.TheVariants.{Done, BadPolicy, BadLine, BadBookLine, CutBook, Unsound, ReadFault, WriteFault, NoMemory, BadArguments}
+use Rattle.consortium.specs.declared.ending.Ending.TheVariants.{Done, BadPolicy, BadLine, BadBookLine, CutBook, Unsound, ReadFault, WriteFault, NoThread, Exhausted, NoMemory, BadArguments}
 
 abbrev pub policy_ending : PolicyFault → Ending
 policy_ending policies.NoMemory = NoMemory
@@ -30,4 +30,6 @@ IsNoPolicy old new left (BadBookLine n) = ⊥
 IsNoPolicy old new left CutBook = ⊥
 IsNoPolicy old new left (Unsound n) = ⊥
 IsNoPolicy old new left WriteFault = ⊥
+IsNoPolicy old new left NoThread = ⊥
+IsNoPolicy old new left Exhausted = ⊥
 IsNoPolicy old new left BadArguments = ⊥

@@ -27,6 +27,10 @@ pub enum Ending {
     ReadFault,
     /// The writer failed.
     WriteFault,
+    /// A thread was refused.
+    NoThread,
+    /// The calls of a run were too many for its door.
+    Exhausted,
     /// Memory ran out.
     NoMemory,
     /// The words of the command line ask for nothing that the program does.
@@ -43,6 +47,7 @@ fn status(ending: Ending) -> u8
         Ending::BadBookLine(_) | Ending::CutBook => 2,
         Ending::Unsound(_) => 2,
         Ending::ReadFault | Ending::WriteFault => 3,
+        Ending::NoThread | Ending::Exhausted => 4,
         Ending::NoMemory => 4,
         Ending::BadArguments => 5,
     }
@@ -152,6 +157,8 @@ fn write_ending<W: Sink>(sink: &mut W, ending: Ending) -> Result<(), Failed>
         Ending::CutBook => write_all(sink, b"book: cut\n"),
         Ending::ReadFault => write_all(sink, b"read fault\n"),
         Ending::WriteFault => write_all(sink, b"write fault\n"),
+        Ending::NoThread => write_all(sink, b"no thread\n"),
+        Ending::Exhausted => write_all(sink, b"exhausted\n"),
         Ending::NoMemory => write_all(sink, b"out of memory\n"),
         Ending::BadArguments => write_all(sink, b"bad arguments\n"),
     }

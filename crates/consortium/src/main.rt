@@ -1,5 +1,6 @@
 //! The program: `consortium replay POLICY SCRIPT [--book FILE]` writes one reply line for each call of the script, and the audit book of the
-//! run, and `consortium audit POLICY BOOK` writes whether a book is what its posts give.
+//! run, `consortium run POLICY SCRIPT [--book FILE]` does so with a thread for each process, and `consortium audit POLICY BOOK` writes whether
+//! a book is what its posts give.
 #![tactic(auto)]
 
 ghost use Rattle.std.specs.Prelude.{◌≡◌};
@@ -8,6 +9,7 @@ mod audit;
 mod devices;
 mod ending;
 mod replay;
+mod run;
 mod wall;
 mod words;
 
@@ -15,15 +17,18 @@ pub use audit::{BOOK_LIMIT, audit_on};
 pub use devices::{Count, FileSink, FileSource, StreamSink};
 pub use ending::{Ending, end};
 pub use replay::replay_on;
+pub use run::run_on;
 use std::alloc::Global;
 use std::io::{Stderr, Stdout, Write};
 use std::marker::Brand;
 use std::process::ExitCode;
 use std::rt::{Env, Files};
+use std::sync::Wait;
 use std::sync::ledger::{Blank, Ledger};
+use std::thread::Threads;
 use std::{env, io};
 use wall_labels::{Sink, Source};
-pub use words::{ArgFault, AuditPaths, Command, ReplayPaths, read_words};
+pub use words::{ArgFault, AuditPaths, Command, ReplayPaths, RunPaths, read_words};
 
 #[cfg(test)]
 mod tests;
@@ -55,7 +60,7 @@ fn serve<R, W, V, P: Ledger, S: Ledger, B: Ledger, O: Ledger, E: Ledger>(
     err_count: Blank,
 ) -> u8
 where
-    R: Files + Env + AllocGlobal,
+    R: Files + Env + AllocGlobal + Threads + Wait + Sync,
     W: Write + Drop,
     V: Write + Drop,
     requires policy { (policy_count.name ≡ P.name) × (policy_count.parts ≡ P.parts) × (policy_count.parts ≡ 1) }
@@ -87,6 +92,10 @@ where
         Ok(Command::Replay(paths)) => {
             let counts = (policy_count, second_count, kept_count);
             serve_replay(rt, paths, counts, &mut out, &mut err)
+        }
+        Ok(Command::Run(paths)) => {
+            let counts = (policy_count, second_count, kept_count);
+            serve_run(rt, paths, counts, &mut out, &mut err)
         }
         Ok(Command::Audit(paths)) => {
             serve_audit(rt, paths, policy_count, second_count, &mut out, &mut err)
@@ -128,6 +137,50 @@ fn replay_to<P: Source, S: Source, O: Sink, E: Sink, B: Sink>(
     book: &mut B,
 ) -> u8 {
     replay_on(alloc, policy, script, out, err, Some(book))
+}
+
+fn serve_run<'a, R, P: Ledger, S: Ledger, B: Ledger, O: Sink, E: Sink>(
+    rt: &'a R,
+    paths: RunPaths<'a>,
+    counts: (Count<P>, Count<S>, Count<B>),
+    out: &mut O,
+    err: &mut E,
+) -> u8
+where
+    R: Files + AllocGlobal + Threads + Wait + Sync,
+{
+    let (policy_count, script_count, book_count) = counts;
+    let mut policy = unopened(rt, paths.policy, policy_count);
+    let mut script = unopened(rt, paths.script, script_count);
+    match paths.book {
+        Some(path) => {
+            let mut book = FileSink {
+                rt,
+                path,
+                file: None,
+                failures: book_count,
+            };
+            run_to(rt, &mut policy, &mut script, out, err, &mut book)
+        }
+        None => {
+            let (policy, script) = (&mut policy, &mut script);
+            run_on::<_, _, _, _, _, O>(rt, rt.alloc(), policy, script, out, err, None)
+        }
+    }
+}
+
+fn run_to<R, P: Source, S: Source, O: Sink, E: Sink, B: Sink>(
+    rt: &R,
+    policy: &mut P,
+    script: &mut S,
+    out: &mut O,
+    err: &mut E,
+    book: &mut B,
+) -> u8
+where
+    R: AllocGlobal + Threads + Wait + Sync,
+{
+    run_on(rt, rt.alloc(), policy, script, out, err, Some(book))
 }
 
 fn serve_audit<R: Files + AllocGlobal, P: Ledger, B: Ledger, O: Sink, E: Sink>(

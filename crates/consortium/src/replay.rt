@@ -13,7 +13,7 @@ use hall_script::{ScriptFault, replay};
 use std::alloc::Global;
 use wall_labels::{Sink, Source};
 
-fn script_ending(fault: ScriptFault) -> Ending
+pub(crate) fn script_ending(fault: ScriptFault) -> Ending
     ensures { result ≡ script_ending fault }
 {
     match fault {
@@ -25,7 +25,7 @@ fn script_ending(fault: ScriptFault) -> Ending
 }
 
 // Writes the hall's book.
-fn keep<B: Sink>(alloc: Global, hall: &Hall, book: &mut B) -> Ending
+pub(crate) fn keep<B: Sink>(alloc: Global, hall: &Hall, book: &mut B) -> Ending
     ensures { (run : List Entry) → StandsFor hall.now run →
         Keeps hall.now.policy (B.failures book.old) (B.failures book.new) (B.contents book.old) (B.contents book.new) result run }
 {

@@ -504,6 +504,161 @@ fn writers_of_books_fail_at_each_write(rt: HostRuntime) -> Result<(), Fail> {
     Ok(())
 }
 
+// One process.
+const ALONE: &str = "version = 1
+[[class]]
+name = \"banks\"
+datasets = [\"alpha\", \"beta\"]
+[[process]]
+name = \"p0\"
+home = \"alpha\"
+";
+
+// Whether running the script writes these lines, and this one on standard error, with this status.
+fn runs_so<R: AllocGlobal + Threads + Wait + Sync>(
+    rt: &R,
+    policy: &str,
+    script: &str,
+    said: &str,
+    line: &str,
+    status: u8,
+) -> bool {
+    let mut policy = source(policy.as_bytes(), Fuse::Whole);
+    let mut script = source(script.as_bytes(), Fuse::Whole);
+    let mut out = sink(said.as_bytes(), Fuse::Whole);
+    let mut err = sink(line.as_bytes(), Fuse::Whole);
+    let given = run_on(
+        rt,
+        rt.alloc(),
+        &mut policy,
+        &mut script,
+        &mut out,
+        &mut err,
+        None::<&mut ExpectingSink>,
+    );
+    let is_all = out.rest.is_empty() && err.rest.is_empty();
+    given == status && is_all && out.is_same && err.is_same
+}
+
+#[test]
+fn processes_run_at_the_same_time(rt: HostRuntime) {
+    // each take waits for the posts of the others
+    assert!(&rt;
+        runs_so(
+            &rt,
+            WALL,
+            "post 0 0 allreduce sum int32 1 as alpha 5
+take 0 0
+post 1 0 allreduce sum int32 1 as beta 6
+take 1 0
+post 2 0 allreduce sum int32 1 as crude 7
+take 2 0
+post 3 0 allreduce sum int32 1 as public 1
+take 3 0
+",
+            "rank 0 a0
+posted 0
+delivered [19]
+rank 1 b0
+posted 0
+delivered [19]
+rank 2 c0
+posted 0
+delivered [19]
+rank 3 n0
+posted 0
+delivered [19]
+",
+            "",
+            0,
+        )
+    );
+    let idle = "rank 0 a0\nrank 1 b0\nrank 2 c0\nrank 3 n0\n";
+    assert!(&rt; runs_so(&rt, WALL, "", idle, "", 0));
+    let rows = [
+        (WALL, "take 0 0\npst\n", "script: line 2: BadVerb\n", 2),
+        (
+            WALL,
+            "take 0 0\ntake 4 0\n",
+            "script: line 2: BadField\n",
+            2,
+        ),
+        (ALONE, "take 7 0\n", "script: line 1: BadField\n", 2),
+        ("version = ", "pst", "policy: NotToml\n", 1),
+    ];
+    for (policy, script, line, status) in rows {
+        assert!(&rt; runs_so(&rt, policy, script, "", line, status), "{line}");
+    }
+}
+
+#[test]
+fn books_of_runs_are_kept(rt: HostRuntime) {
+    let rows = [
+        (
+            "post 0 0 bcast 0 int32 1 as alpha 5\ntake 0 0\ntake 0 0\n",
+            "rank 0 p0\nposted 0\ndelivered none\nrefused NoSuchRequest\n",
+            "book 1\npost 0 0 bcast 0 int32 1 gives 1 as alpha passed\nverdict 0 0 granted\nend 2\n",
+            "",
+            0,
+        ),
+        ("", "rank 0 p0\n", "book 1\nend 0\n", "", 0),
+        ("take 7 0\n", "", "", "script: line 1: BadField\n", 2),
+    ];
+    for (script, said, book, line, status) in rows {
+        let mut policy = source(ALONE.as_bytes(), Fuse::Whole);
+        let mut script = source(script.as_bytes(), Fuse::Whole);
+        let mut out = sink(said.as_bytes(), Fuse::Whole);
+        let mut err = sink(line.as_bytes(), Fuse::Whole);
+        let mut kept = sink(book.as_bytes(), Fuse::Whole);
+        let given = run_on(
+            &rt,
+            rt.alloc(),
+            &mut policy,
+            &mut script,
+            &mut out,
+            &mut err,
+            Some(&mut kept),
+        );
+        assert_eq!(&rt; given, status, "{said}");
+        assert!(&rt; out.is_same && err.is_same && kept.is_same, "{said}");
+        assert!(&rt;
+            out.rest.is_empty() && err.rest.is_empty() && kept.rest.is_empty(),
+            "{said}"
+        );
+    }
+}
+
+#[test]
+fn writers_of_runs_fail_at_each_write(rt: HostRuntime) {
+    let said = "rank 0 a0\nrank 1 b0\nrank 2 c0\nrefused NoSuchRequest\nrank 3 n0\n";
+    let mut writes: u64 = 0;
+    for k in 0..100u64 {
+        let mut policy = source(WALL.as_bytes(), Fuse::Whole);
+        let mut script = source(b"take 2 0", Fuse::Whole);
+        let mut out = sink(said.as_bytes(), Fuse::After(k));
+        let mut err = sink(b"write fault\n", Fuse::Whole);
+        let mut kept = sink(b"book 1\nend 0\n", Fuse::Whole);
+        let status = run_on(
+            &rt,
+            rt.alloc(),
+            &mut policy,
+            &mut script,
+            &mut out,
+            &mut err,
+            Some(&mut kept),
+        );
+        assert!(&rt; out.is_same && kept.is_same);
+        if status != 3 {
+            assert!(&rt; status == 0 && out.rest.is_empty() && kept.rest.is_empty());
+            break;
+        }
+        assert!(&rt; err.is_same && err.rest.is_empty());
+        assert_eq!(&rt; kept.rest.len(), 13);
+        writes = k + 1;
+    }
+    assert!(&rt; 0 < writes && writes < 99);
+}
+
 #[test]
 fn policies_are_judged_before_scripts(rt: HostRuntime) {
     let rows = [
@@ -592,6 +747,8 @@ fn endings_have_their_status_and_line(rt: HostRuntime) {
         (Ending::Unsound(5), 2, ""),
         (Ending::ReadFault, 3, "read fault\n"),
         (Ending::WriteFault, 3, "write fault\n"),
+        (Ending::NoThread, 4, "no thread\n"),
+        (Ending::Exhausted, 4, "exhausted\n"),
         (Ending::NoMemory, 4, "out of memory\n"),
         (Ending::BadArguments, 5, "bad arguments\n"),
     ];
@@ -694,6 +851,18 @@ fn words_ask_for_a_command(rt: HostRuntime) {
     assert!(&rt; keeps_words(&rt, ["replay", "w", "s", "--book", "b"].as_slice()));
     assert!(&rt; keeps_words(&rt, ["replay", "w", "--book", "b", "s"].as_slice()));
     assert!(&rt; keeps_words(&rt, ["replay", "--book", "b", "w", "s"].as_slice()));
+    match read_words(rt.alloc(), ["run", "w", "s"].as_slice()) {
+        Ok(Command::Run(paths)) => {
+            assert!(&rt; paths.policy == "w" && paths.script == "s" && paths.book.is_none());
+        }
+        _ => assert!(&rt; false),
+    }
+    match read_words(rt.alloc(), ["run", "--book", "b", "w", "s"].as_slice()) {
+        Ok(Command::Run(paths)) => {
+            assert!(&rt; paths.policy == "w" && paths.script == "s" && paths.book == Some("b"));
+        }
+        _ => assert!(&rt; false),
+    }
     match read_words(rt.alloc(), ["audit", "w", "b"].as_slice()) {
         Ok(Command::Audit(paths)) => assert!(&rt; paths.policy == "w" && paths.book == "b"),
         _ => assert!(&rt; false),
@@ -712,7 +881,9 @@ fn words_ask_for_a_command(rt: HostRuntime) {
     assert!(&rt; is_bad(&rt, ["audit", "w", "b", "--book", "c"].as_slice()));
     assert!(&rt; is_bad(&rt, ["audit", "w"].as_slice()));
     assert!(&rt; is_bad(&rt, ["audit", "w", "b", "c"].as_slice()));
-    assert!(&rt; is_bad(&rt, ["run", "w", "s"].as_slice()));
+    assert!(&rt; is_bad(&rt, ["run", "w"].as_slice()));
+    assert!(&rt; is_bad(&rt, ["run", "w", "s", "t"].as_slice()));
+    assert!(&rt; is_bad(&rt, ["run", "--help"].as_slice()));
     assert!(&rt; is_bad(&rt, ["--help"].as_slice()));
     assert!(&rt; is_bad(&rt, ["help"].as_slice()));
     assert!(&rt; is_bad(&rt, ["replay", "--help"].as_slice()));

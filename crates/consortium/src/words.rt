@@ -2,7 +2,7 @@
 ghost use Rattle.std.specs.Prelude.{◌≡◌, IfOk, map, false, option_map, [], ◌≢◌, Err};
 ghost use Rattle.clap.specs.Words.{app_of, rule_of, first_of, found_of, rows_of, fault_of, subcommand_of, subcommand_rows_of};
 ghost use Rattle.clap.specs.declared.builder.Command.TheViews.{out-Command as fields_of};
-ghost use Rattle.consortium.specs.Grammar.{required_rule, optional_rule, replay_app, audit_app, program_app, replay_in, audit_in, command_in, asked, replay_files, audit_files, asked_by, SaysCommand};
+ghost use Rattle.consortium.specs.Grammar.{required_rule, optional_rule, script_app, scripts_app, audit_app, program_app, replay_in, run_in, audit_in, command_in, asked, replay_files, run_files, audit_files, asked_by, SaysCommand};
 
 use clap::error::ErrorKind;
 use clap::{Arg, ArgMatches};
@@ -12,6 +12,15 @@ use thiserror::Error;
 /// The files of a replay.
 #[derive(Clone, Copy, Debug)]
 pub struct ReplayPaths<'a> {
+    pub policy: &'a str,
+    pub script: &'a str,
+    /// Where the book goes, if it is wanted.
+    pub book: Option<&'a str>,
+}
+
+/// The files of a run.
+#[derive(Clone, Copy, Debug)]
+pub struct RunPaths<'a> {
     pub policy: &'a str,
     pub script: &'a str,
     /// Where the book goes, if it is wanted.
@@ -29,6 +38,7 @@ pub struct AuditPaths<'a> {
 #[derive(Clone, Copy, Debug)]
 pub enum Command<'a> {
     Replay(ReplayPaths<'a>),
+    Run(RunPaths<'a>),
     Audit(AuditPaths<'a>),
 }
 
@@ -59,16 +69,16 @@ fn optional<'a>(alloc: Global, name: &'a str) -> Arg<'a>
     Arg::new(alloc, name).long(name)
 }
 
-// The command `replay POLICY SCRIPT [--book FILE]`.
-fn replay_command<'a>(alloc: Global) -> Result<clap::Command<'a>, AllocError>
-    ensures app { IfOk result (λ c. app_of c ≡ replay_app) }
+// The command `NAME POLICY SCRIPT [--book FILE]`.
+fn script_command<'a>(alloc: Global, name: &'a str) -> Result<clap::Command<'a>, AllocError>
+    ensures app { IfOk result (λ c. app_of c ≡ script_app name.now) }
     ensures globals { IfOk result (λ c. (fields_of c).has_globals ≡ false) }
 {
-    let replay = clap::Command::new(alloc, "replay")
+    let command = clap::Command::new(alloc, name)
         .arg(required(alloc, "policy"))?
         .arg(required(alloc, "script"))?
         .arg(optional(alloc, "book"))?;
-    Ok(replay)
+    Ok(command)
 }
 
 // The command `audit POLICY BOOK`.
@@ -82,17 +92,28 @@ fn audit_command<'a>(alloc: Global) -> Result<clap::Command<'a>, AllocError>
     Ok(audit)
 }
 
+// The command line with the commands that read a script.
+#[tactic(auto, unfolding(crate::specs::Grammar::scripts_app))]
+fn script_commands<'a>(alloc: Global) -> Result<clap::Command<'a>, AllocError>
+    ensures { IfOk result (λ c. app_of c ≡ scripts_app) }
+{
+    let replay = script_command(alloc, "replay")?;
+    let run = script_command(alloc, "run")?;
+    let program = clap::Command::new(alloc, "consortium")
+        .no_binary_name(true)
+        .subcommand_required(true);
+    let program = program.subcommand(replay)?.subcommand(run)?;
+    Ok(program)
+}
+
 // The command line of the program.
 #[tactic(auto, unfolding(crate::specs::Grammar::program_app))]
 fn program_command<'a>(alloc: Global) -> Result<clap::Command<'a>, AllocError>
     ensures { IfOk result (λ c. app_of c ≡ program_app) }
 {
-    let replay = replay_command(alloc)?;
     let audit = audit_command(alloc)?;
-    let program = clap::Command::new(alloc, "consortium")
-        .no_binary_name(true)
-        .subcommand_required(true);
-    let program = program.subcommand(replay)?.subcommand(audit)?;
+    let program = script_commands(alloc)?;
+    let program = program.subcommand(audit)?;
     Ok(program)
 }
 
@@ -117,6 +138,20 @@ fn replay_paths<'a>(matches: &ArgMatches<'a>) -> Option<ReplayPaths<'a>>
     })
 }
 
+// The files that the arguments of `run` name.
+fn run_paths<'a>(matches: &ArgMatches<'a>) -> Option<RunPaths<'a>>
+    ensures { option_map run_files result ≡ run_in (rows_of (found_of matches.now)) }
+{
+    let policy = value_of(matches, "policy")?;
+    let script = value_of(matches, "script")?;
+    let kept = value_of(matches, "book");
+    Some(RunPaths {
+        policy,
+        script,
+        book: kept,
+    })
+}
+
 // The files that the arguments of `audit` name.
 fn audit_paths<'a>(matches: &ArgMatches<'a>) -> Option<AuditPaths<'a>>
     ensures { option_map audit_files result ≡ audit_in (rows_of (found_of matches.now)) }
@@ -133,6 +168,9 @@ fn command_named<'a>(name: &str, matches: &ArgMatches<'a>) -> Option<Command<'a>
     if name == "replay" {
         let paths = replay_paths(matches)?;
         Some(Command::Replay(paths))
+    } else if name == "run" {
+        let paths = run_paths(matches)?;
+        Some(Command::Run(paths))
     } else if name == "audit" {
         let paths = audit_paths(matches)?;
         Some(Command::Audit(paths))
@@ -166,8 +204,8 @@ fn matches_of<'a>(alloc: Global, words: &'a [&'a str]) -> Result<ArgMatches<'a>,
     }
 }
 
-/// What the words after the program's name ask for: `replay POLICY SCRIPT [--book FILE]` or `audit POLICY BOOK`. They are bad arguments exactly where
-/// `clap` refuses them for another cause than memory.
+/// What the words after the program's name ask for: `replay POLICY SCRIPT [--book FILE]`, `run POLICY SCRIPT [--book FILE]` or `audit POLICY BOOK`.
+/// They are bad arguments exactly where `clap` refuses them for another cause than memory.
 #[tactic(auto, unfolding(crate::specs::Grammar::asked))]
 pub fn read_words<'a>(alloc: Global, words: &'a [&'a str]) -> Result<Command<'a>, ArgFault>
     ensures { SaysCommand result (asked (map (λ w. w.now) words.entry.now)) }

@@ -7,15 +7,15 @@ use Rattle.consortium.specs.declared.words.ArgFault.{ArgFault}
 use Rattle.consortium.specs.declared.words.ArgFault.TheVariants.{BadArguments}
 use Rattle.clap.specs.Words.{Kinds, HasKind, kind_of, fault_of, subcommand_of, is_simple, is_simple_and_free}
 use Rattle.clap.proofs.OnLiterals.{clap_on_literals}
-use Rattle.consortium.specs.Grammar.{program_app}
+use Rattle.consortium.specs.Grammar.{scripts_app, program_app}
 use Rattle.consortium.proofs.words.matches_of.Goals as goal
 
 simple_and_free : is_simple_and_free program_app ≡ true
-unfolding program_app clap_on_literals
+unfolding program_app scripts_app clap_on_literals
 simple_and_free = refl
 
 simple : is_simple program_app ≡ true
-unfolding program_app clap_on_literals
+unfolding program_app scripts_app clap_on_literals
 simple = refl
 
 pub returns-in-Ok-try_get_matches_from-clause-ok : goal.returns-in-Ok-try_get_matches_from-clause-ok

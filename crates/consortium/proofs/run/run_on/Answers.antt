@@ -1,0 +1,7 @@
+use Rattle.consortium.proofs.run.run_on.Goals as goal
+
+pub returns-in-Some : goal.returns-in-Some
+returns-in-Some g c = rw c.in-Some.is (c.run_keeping-ending.result, c.run_keeping-ending.ensures, c.end.ensures.status, c.end.ensures.told)
+
+pub returns-in-None : goal.returns-in-None
+returns-in-None g c = rw c.in-None.is (c.run_devices-ending.result, c.run_devices-ending.ensures, c.end-in-None.ensures.status, c.end-in-None.ensures.told)

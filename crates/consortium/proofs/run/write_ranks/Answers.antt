@@ -1,0 +1,31 @@
+use Rattle.std.proofs.Common.{◌∙◌, refl, arith}
+use Rattle.consortium.proofs.RankLemmas.{ranks_none, ranks_step, ranks_broken}
+use Rattle.consortium.proofs.run.write_ranks.Goals as goal
+
+pub loop-number-init : goal.loop-number-init
+loop-number-init g c = record {
+  within = omega arith;
+  count = refl;
+  written = ranks_none c.args.wall.now c.args.replies.now (g.O.Sink.contents c.args.out.now);
+}
+
+pub returns-in-Err-clause-front : goal.returns-in-Err-clause-front
+returns-in-Err-clause-front g c =
+    let test = c.loop-number-test.true in
+    let some = c.processes-number-end.ensures.number in
+    let long = c.requires.long in
+    ranks_broken c.args.wall.now c.args.replies.now c.loop-number.number c.in-Some.process c.of.result.now
+    (g.O.Sink.contents c.args.out.now) (g.O.Sink.contents c.loop-number.out) (g.O.Sink.contents c.write_process.new.out)
+    c.in-Some.ensures.value c.of.ensures (omega arith) c.loop-number.invariant.written c.in-Err.ensures.front
+
+pub loop-number-preserved : goal.loop-number-preserved
+loop-number-preserved g c =
+    let test = c.loop-number-test.true in
+    let some = c.processes-number-end.ensures.number in
+    record {
+      within = omega arith;
+      count = c.in-Ok.ensures.went ∙ c.loop-number.invariant.count;
+      written = ranks_step c.args.wall.now c.args.replies.now c.loop-number.number c.in-Some.process c.of.result.now
+          (g.O.Sink.contents c.args.out.now) (g.O.Sink.contents c.loop-number.out) (g.O.Sink.contents c.write_process.new.out)
+          c.in-Some.ensures.value c.of.ensures c.loop-number.invariant.written c.in-Ok.ensures.written;
+    }

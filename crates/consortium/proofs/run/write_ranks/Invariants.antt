@@ -1,0 +1,12 @@
+use Rattle.std.proofs.Common.{◌≡◌, ◌≤◌}
+use Rattle.std.specs.Io.KnownBytes.{Appends}
+use Rattle.audit_book.specs.Comms.{processes}
+use Rattle.consortium.specs.Running.{ranks_text}
+use Rattle.consortium.proofs.run.write_ranks.Given as goal
+
+abbrev pub invariant-loop-number : goal.invariant-loop-number
+invariant-loop-number g l = record {
+  within : l.number ≤ processes l.wall;
+  count : g.O.Sink.failures l.out ≡ g.O.Sink.failures l.fn.out;
+  written : Appends (g.O.Sink.contents l.fn.out) (g.O.Sink.contents l.out) (ranks_text l.wall l.replies l.number);
+}

@@ -1,0 +1,4 @@
+pub mod WaitLemmas
+pub mod PlayLemmas
+pub mod RunLemmas
+pub mod RowProofs

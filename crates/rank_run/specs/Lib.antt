@@ -1,0 +1,5 @@
+pub mod Waits
+pub mod Plays
+pub mod Jobs
+pub mod Ran
+pub mod Rows

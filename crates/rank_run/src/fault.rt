@@ -1,0 +1,43 @@
+//! Why scripts were not run to their ends.
+ghost use Rattle.std.specs.Prelude.{◌≡◌};
+
+use hall_core::NoMemory;
+use std::alloc::AllocError;
+use thiserror::Error;
+
+/// Why scripts were not run, or not to their ends.
+#[derive(Clone, Copy, Debug, PartialEq, Eq, Error)]
+pub enum RunFault {
+    /// There is not one script for each process. No thread was started.
+    #[error("not one script for each process")]
+    BadScripts,
+    /// A thread was refused. The threads that had started ran their scripts to the end.
+    #[error("a thread was refused")]
+    NoThread,
+    /// The door had 2^62 turns before the scripts were at their ends.
+    #[error("the door is exhausted")]
+    Exhausted,
+    /// A growth of memory was refused. No thread was started.
+    #[error("out of memory")]
+    NoMemory,
+}
+
+impl From<AllocError> for RunFault {
+    ghost use Rattle.rank_run.specs.declared.fault.RunFault.TheVariants.{NoMemory};
+
+    ghost from_gives = { λ error result. result ≡ NoMemory };
+
+    fn from(_error: AllocError) -> RunFault {
+        RunFault::NoMemory
+    }
+}
+
+impl From<NoMemory> for RunFault {
+    ghost use Rattle.rank_run.specs.declared.fault.RunFault.TheVariants.{NoMemory};
+
+    ghost from_gives = { λ error result. result ≡ NoMemory };
+
+    fn from(_error: NoMemory) -> RunFault {
+        RunFault::NoMemory
+    }
+}
