@@ -1,8 +1,7 @@
 -- Known bytes, through several calls.
-use Rattle.std.proofs.Common.{◌≡◌, ℕ, ◌+◌, ◌<◌, ◌≤◌, List, [], ◌∷◌, ◌++◌, length, take, drop, Option, Some, None, refl, sym, ap, ◌∙◌, append_assoc, arith}
+use Rattle.std.proofs.Common.{◌≡◌, ℕ, List, ◌++◌, take, drop, Option, Some, None, sym, ap, ◌∙◌, append_assoc}
 use Rattle.std.proofs.lemmas.List.{take-append-drop}
-use Rattle.std.specs.Io.KnownBytes.{Appends, Keeps, Consumes, IsAtEnd}
-use Rattle.wall_labels.specs.Known.{AppendsFront, AreLeft}
+use Rattle.std.specs.Io.KnownBytes.{Appends, Consumes}
 
 pub Appends-then : (a b c : Option (List ℕ)) (xs ys : List ℕ) → Appends a b xs → Appends b c ys → Appends a c (xs ++ ys)
 Appends-then None b c xs ys p q = tt
@@ -16,7 +15,7 @@ Consumes-then (Some a) None c xs ys p q = absurd p
 Consumes-then (Some a) (Some b) None xs ys p q = absurd q
 Consumes-then (Some a) (Some b) (Some c) xs ys p q = p ∙ ap (λ (t : List ℕ). xs ++ t) q ∙ sym (append_assoc xs ys c)
 
--- a front of the bytes was written, and this is the rest
+-- a prefix of the bytes was written, and this is the rest
 abbrev pub Wrote : Option (List ℕ) → Option (List ℕ) → List ℕ → List ℕ → Type 0
 Wrote old new bytes rest = (front : List ℕ) × (front ++ rest ≡ bytes) × Appends old new front
 

@@ -1,2 +1,3 @@
 pub mod KnownLemmas
 pub mod RowLemmas
+pub mod WallLabelsLemmas

@@ -40,7 +40,7 @@ pub trait Sink {
         ensures bytes { WriteAppends (contents self.old) (contents self.new) result bytes.now };
 }
 
-/// Writes all the bytes. Where it fails, the writer has a front of them.
+/// Writes all the bytes. Where it fails, the writer has a prefix of them.
 pub fn write_all<W: Sink>(sink: &mut W, bytes: &[u8]) -> Result<(), Failed>
     ensures went { OnOk result (W.failures sink.new ≡ W.failures sink.old) }
     ensures failed { OnErr result (W.failures sink.new ≡ W.failures sink.old + 1) }

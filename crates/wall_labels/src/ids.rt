@@ -1,5 +1,6 @@
 //! Ids: numbers below the limits of a policy, kept by their types. (The limits are an own rule.)
 ghost use Rattle.std.specs.Prelude.{◌≡◌, ◌<◌, ◌↔◌, IsSome, IfSome};
+ghost use Rattle.wall_labels.specs.Limits.{process_limit, dataset_limit, class_limit};
 
 use std::marker::Model;
 
@@ -18,13 +19,13 @@ pub struct ProcessId {
 
 impl Model for ProcessId {
     ghost use Rattle.std.specs.Prelude.{ℕ, ◌<◌};
-    ghost use Rattle.wall_labels.specs.declared.ids.TheConstants.{PROCESS_LIMIT};
+    ghost use Rattle.wall_labels.specs.Limits.{process_limit};
 
     ghost Value = { ℕ };
 
     ghost view = { λ id. id.process };
 
-    ghost invariant = { λ id. id.process < PROCESS_LIMIT };
+    ghost invariant = { λ id. id.process < process_limit };
 
     ghost inverse = { λ n. record { process = n } };
 }
@@ -32,7 +33,7 @@ impl Model for ProcessId {
 impl ProcessId {
     /// The id of that number, where it is below the limit.
     pub fn new(number: u32) -> Option<ProcessId>
-        ensures valid { IsSome result ↔ (number < PROCESS_LIMIT) }
+        ensures valid { IsSome result ↔ (number < process_limit) }
         ensures value { IfSome result (λ id. id ≡ number) }
     {
         if number < PROCESS_LIMIT {
@@ -45,7 +46,7 @@ impl ProcessId {
     /// The number, from 0 in the order of the policy file.
     pub fn number(self) -> u32
         ensures value { result ≡ self }
-        ensures below { result < PROCESS_LIMIT }
+        ensures below { result < process_limit }
     {
         self.process
     }
@@ -59,13 +60,13 @@ pub struct DatasetId {
 
 impl Model for DatasetId {
     ghost use Rattle.std.specs.Prelude.{ℕ, ◌<◌};
-    ghost use Rattle.wall_labels.specs.declared.ids.TheConstants.{DATASET_LIMIT};
+    ghost use Rattle.wall_labels.specs.Limits.{dataset_limit};
 
     ghost Value = { ℕ };
 
     ghost view = { λ id. id.dataset };
 
-    ghost invariant = { λ id. id.dataset < DATASET_LIMIT };
+    ghost invariant = { λ id. id.dataset < dataset_limit };
 
     ghost inverse = { λ n. record { dataset = n } };
 }
@@ -73,7 +74,7 @@ impl Model for DatasetId {
 impl DatasetId {
     /// The id of that number, where it is below the limit.
     pub fn new(number: u32) -> Option<DatasetId>
-        ensures valid { IsSome result ↔ (number < DATASET_LIMIT) }
+        ensures valid { IsSome result ↔ (number < dataset_limit) }
         ensures value { IfSome result (λ id. id ≡ number) }
     {
         if number < DATASET_LIMIT {
@@ -86,7 +87,7 @@ impl DatasetId {
     /// The number, from 0 in the order of the policy file.
     pub fn number(self) -> u32
         ensures value { result ≡ self }
-        ensures below { result < DATASET_LIMIT }
+        ensures below { result < dataset_limit }
     {
         self.dataset
     }
@@ -100,13 +101,13 @@ pub struct ClassId {
 
 impl Model for ClassId {
     ghost use Rattle.std.specs.Prelude.{ℕ, ◌<◌};
-    ghost use Rattle.wall_labels.specs.declared.ids.TheConstants.{CLASS_LIMIT};
+    ghost use Rattle.wall_labels.specs.Limits.{class_limit};
 
     ghost Value = { ℕ };
 
     ghost view = { λ id. id.class };
 
-    ghost invariant = { λ id. id.class < CLASS_LIMIT };
+    ghost invariant = { λ id. id.class < class_limit };
 
     ghost inverse = { λ n. record { class = n } };
 }
@@ -114,7 +115,7 @@ impl Model for ClassId {
 impl ClassId {
     /// The id of that number, where it is below the limit.
     pub fn new(number: u32) -> Option<ClassId>
-        ensures valid { IsSome result ↔ (number < CLASS_LIMIT) }
+        ensures valid { IsSome result ↔ (number < class_limit) }
         ensures value { IfSome result (λ id. id ≡ number) }
     {
         if number < CLASS_LIMIT {
@@ -127,7 +128,7 @@ impl ClassId {
     /// The number, from 0 in the order of the policy file.
     pub fn number(self) -> u32
         ensures value { result ≡ self }
-        ensures below { result < CLASS_LIMIT }
+        ensures below { result < class_limit }
     {
         self.class
     }

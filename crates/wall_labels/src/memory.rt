@@ -1,5 +1,9 @@
 //! Devices over bytes at hand, which can be told to fail at one call: for tests, and for callers that hold the bytes.
 
+ghost use Rattle.std.specs.Prelude.{◌≡◌, ◌<◌, ◌≤◌, ◌+◌, ◌↔◌, length, min, IsTrue, IsErr, IfOk, OnOk, OnErr};
+ghost use Rattle.std.specs.Io.KnownBytes.{ReadConsumes, WriteAppends};
+ghost use Rattle.wall_labels.specs.Fuses.{fails, after_call, failures_of, notices, rest_after};
+
 use super::device::{Failed, Sink, Source};
 
 /// At which of the coming calls a device fails: at most one.
@@ -14,12 +18,10 @@ pub enum Fuse {
 }
 
 impl Fuse {
-    ghost use Rattle.std.specs.Prelude.{◌≡◌, IsTrue, ◌↔◌};
-    ghost use Rattle.wall_labels.specs.Fuses.{burned, failures_of};
-
     // Whether the call at hand fails; the fuse is then blown.
     fn burn(&mut self) -> bool
-        ensures blown { failures_of self.new ≡ burned (failures_of self.old) result }
+        ensures fails { result ≡ fails self.old }
+        ensures next { self.new ≡ after_call self.old }
     {
         match *self {
             Fuse::After(0) => {
@@ -52,7 +54,15 @@ impl<'a> Source for MemorySource<'a> {
 
     ghost remaining = { λ s. Some s.rest.now };
 
-    fn read(&mut self, buffer: &mut [u8]) -> Result<usize, Failed> {
+    fn read(&mut self, buffer: &mut [u8]) -> Result<usize, Failed>
+        ensures within { IfOk result (λ n. n ≤ length buffer.new) }
+        ensures went { OnOk result (failures_of self.new.fuse ≡ failures_of self.old.fuse) }
+        ensures failed { OnErr result (failures_of self.new.fuse ≡ failures_of self.old.fuse + 1) }
+        ensures bytes { ReadConsumes (Some self.old.rest.now) (Some self.new.rest.now) result buffer.new }
+        ensures fails { IsErr result ↔ IsTrue (fails self.old.fuse) }
+        ensures fuse { self.new.fuse ≡ after_call self.old.fuse }
+        ensures all { IfOk result (λ n. n ≡ min (length self.old.rest.now) (length buffer.old)) }
+    {
         if self.fuse.burn() {
             return Err(Failed);
         }
@@ -81,7 +91,20 @@ impl<'a> Sink for ExpectingSink<'a> {
 
     ghost failures = { λ s. failures_of s.fuse };
 
-    fn write(&mut self, bytes: &[u8]) -> Result<usize, Failed> {
+    fn write(&mut self, bytes: &[u8]) -> Result<usize, Failed>
+        ensures within { IfOk result (λ n. n ≤ length bytes.now) }
+        ensures some { IfOk result (λ n. 0 < length bytes.now → 0 < n) }
+        ensures went { OnOk result (failures_of self.new.fuse ≡ failures_of self.old.fuse) }
+        ensures failed { OnErr result (failures_of self.new.fuse ≡ failures_of self.old.fuse + 1) }
+        ensures bytes { WriteAppends None None result bytes.now }
+        ensures fails { IsErr result ↔ IsTrue (fails self.old.fuse) }
+        ensures fuse { self.new.fuse ≡ after_call self.old.fuse }
+        ensures all { IfOk result (λ n. n ≡ length bytes.now) }
+        ensures noticed { OnOk result (self.new.is_same ≡ notices self.old.is_same self.old.rest.now bytes.now) }
+        ensures rest { OnOk result (self.new.rest.now ≡ rest_after self.old.rest.now bytes.now) }
+        ensures kept { OnErr result (self.new.is_same ≡ self.old.is_same) }
+        ensures same { OnErr result (self.new.rest.now ≡ self.old.rest.now) }
+    {
         if self.fuse.burn() {
             return Err(Failed);
         }

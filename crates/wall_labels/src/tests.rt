@@ -74,10 +74,36 @@ fn label_sets_are_sets(rt: HostRuntime) {
     assert_eq!(rt; set.first_other_than(Some(high)), None);
     let mut other = LabelSet::empty();
     other.insert(low);
+    assert!(rt; !set.meets(&other));
     set.union_with(&other);
+    assert!(rt; set.meets(&other));
     assert_eq!(rt; set.first_other_than(None), Some(low));
     assert_eq!(rt; set.first_other_than(Some(low)), Some(high));
     assert!(rt; !other.contains(high));
+}
+
+// Where words end: each dataset, and the one above it in its place.
+#[test]
+fn sets_hold_the_datasets_at_the_ends_of_words(rt: HostRuntime) {
+    for number in [0, 1, 62, 63, 64, 65, 126, 127] {
+        let one = dataset(number);
+        let mut alone = LabelSet::empty();
+        alone.insert(one);
+        assert_eq!(rt; alone.first_other_than(None), Some(one));
+        assert_eq!(rt; alone.first_other_than(Some(one)), None);
+        for above in [63, 64, 127] {
+            let next = dataset(above);
+            let mut both = LabelSet::empty();
+            both.insert(next);
+            assert_eq!(rt; both.contains(one), number == above);
+            assert_eq!(rt; both.meets(&alone), number == above);
+            both.union_with(&alone);
+            assert!(rt; both.contains(one) && both.contains(next));
+            assert_eq!(rt; both.first_other_than(None), Some(one.min(next)));
+            assert_eq!(rt; both.first_shared(&alone, &alone), Some(one));
+            assert_eq!(rt; alone.first_shared(&LabelSet::empty(), &both), Some(one));
+        }
+    }
 }
 
 #[test]

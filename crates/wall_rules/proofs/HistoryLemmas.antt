@@ -9,7 +9,7 @@ use Rattle.std.proofs.lemmas.Bool.Decides.{leb_tells, eqb_tells}
 use Rattle.std.specs.Ordering.{nat_cmp}
 use Rattle.std.specs.Cmp.{nat_cmp_total, unsigned_tied}
 use Rattle.std.specs.FinSet.{FinSet, empty, insert, union, contains, contains-empty, contains-insert, contains-union}
-use Rattle.wall_labels.specs.declared.ids.TheConstants.{PROCESS_LIMIT}
+use Rattle.wall_labels.specs.Limits.{process_limit}
 use Rattle.wall_policy.specs.Policy.{ChineseWall, IsPolicy, home_if_any, home_of}
 use Rattle.wall_rules.specs.Rules.{HoldsNoRivals, joined}
 use Rattle.wall_rules.specs.Histories.{History, entered, is_home, opening, NobodyHoldsRivals, Accesses, has_in, has, KeepsWall}
@@ -77,7 +77,7 @@ pub has_in-set : (sets : List (FinSet nat_cmp)) (p : ℕ) (row new s : FinSet na
 has_in-set sets p row new s lt at is = λ i q d. set_at sets p row new s lt at is q d i
 
 -- the same of the whole value, where what is entered fits the rule
-pub keeps_wall-set : (h v : Accesses) (p n : ℕ) (row new s : FinSet nat_cmp) → h ≡ v → n ≡ p → KeepsWall h → n < PROCESS_LIMIT → row ≡ get_or h.sets n row → new ≡ union row s → HoldsNoRivals v.classes (joined (has v p) s)
+pub keeps_wall-set : (h v : Accesses) (p n : ℕ) (row new s : FinSet nat_cmp) → h ≡ v → n ≡ p → KeepsWall h → n < process_limit → row ≡ get_or h.sets n row → new ≡ union row s → HoldsNoRivals v.classes (joined (has v p) s)
     → KeepsWall (record { processes = h.processes; classes = h.classes; sets = set h.sets n new })
 keeps_wall-set h v p n row new s same is kept lt at joint fits =
     let within : n < length h.sets = omega (arith, kept.set_for_each) in
@@ -92,17 +92,17 @@ keeps_wall-set h v p n row new s same is kept lt at joint fits =
 no_home : (homes : List (Option ℕ)) (p d : ℕ) → length homes ≤ p → is_home (home_if_any (slice_get homes p)) d ≡ false
 no_home homes p d past = rw (slice_get_past homes p past) refl
 
-past_homes : (w : ChineseWall) (sets : List (FinSet nat_cmp)) (p d : ℕ) → IsPolicy w → length sets ≡ PROCESS_LIMIT → PROCESS_LIMIT ≤ p → has_in sets p d ≡ opening w p d
+past_homes : (w : ChineseWall) (sets : List (FinSet nat_cmp)) (p d : ℕ) → IsPolicy w → length sets ≡ process_limit → process_limit ≤ p → has_in sets p d ≡ opening w p d
 past_homes w sets p d policy many past =
     let past_sets : length sets ≤ p = omega arith in
     let past_homes : length w.homes ≤ p = omega (arith, policy.home_for_each, policy.few_processes) in
     ap (λ s. contains s d) (get_or_past sets p empty past_sets) ∙ contains-empty nat_cmp d ∙ sym (no_home w.homes p d past_homes)
 
-pair_at : (w : ChineseWall) (sets : List (FinSet nat_cmp)) (p d : ℕ) → IsPolicy w → length sets ≡ PROCESS_LIMIT → (p < PROCESS_LIMIT → has_in sets p d ≡ opening w p d) → has_in sets p d ≡ opening w p d
-pair_at w sets p d policy many below = elim (leb_tells PROCESS_LIMIT p) [ inl e ↦ past_homes w sets p d policy many e.1 | inr e ↦ below e.1 ]
+pair_at : (w : ChineseWall) (sets : List (FinSet nat_cmp)) (p d : ℕ) → IsPolicy w → length sets ≡ process_limit → (p < process_limit → has_in sets p d ≡ opening w p d) → has_in sets p d ≡ opening w p d
+pair_at w sets p d policy many below = elim (leb_tells process_limit p) [ inl e ↦ past_homes w sets p d policy many e.1 | inr e ↦ below e.1 ]
 
 -- a row for each number that a process can have
-pub has_in-opening : (w : ChineseWall) (sets : List (FinSet nat_cmp)) → IsPolicy w → length sets ≡ PROCESS_LIMIT → ((p d : ℕ) → p < PROCESS_LIMIT → has_in sets p d ≡ opening w p d) → has_in sets ≡ opening w
+pub has_in-opening : (w : ChineseWall) (sets : List (FinSet nat_cmp)) → IsPolicy w → length sets ≡ process_limit → ((p d : ℕ) → p < process_limit → has_in sets p d ≡ opening w p d) → has_in sets ≡ opening w
 has_in-opening w sets policy many below = λ i p d. pair_at w sets p d policy many (below p d) i
 
 -- what the fields keep, said of the value

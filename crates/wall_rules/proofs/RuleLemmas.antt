@@ -10,7 +10,7 @@ use Rattle.std.specs.FinSet.{FinSet, empty, insert, contains, contains-empty, co
 use Rattle.wall_labels.specs.declared.label.Label.{Label}
 use Rattle.wall_labels.specs.Labels.{dataset_of}
 use Rattle.wall_policy.specs.Rivals.{AreRivals, are_rivals, is_one_class}
-use Rattle.wall_policy.proofs.RivalLemmas.{are_rivals-Decides, are_rivals-symmetric}
+use Rattle.wall_policy.proofs.WallPolicyLemmas.{are_rivals-Decides, are_rivals-symmetric}
 use Rattle.wall_rules.specs.Rules.{IsLowest, IsHeldRival, PassesSimple, HoldsNoRivals, is_held_rival, first_rival, IsHeldOther, PassesStar, is_other, is_held_other, first_other, passes_star, joined}
 use Rattle.wall_rules.proofs.LeastLemmas.{least-none, none-least, least-some, some-least}
 

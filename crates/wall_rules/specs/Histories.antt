@@ -1,10 +1,11 @@
 -- Histories: who has had access to what. (Brewer and Nash 1989: there a matrix of subjects and objects.)
-use Rattle.std.specs.Prelude.{◌≡◌, ℕ, ◌≤◌, nat_eq, Bool, false, ◌&&◌, ◌||◌, List, length, Option, Some, None, slice_index_or, refl}
+use Rattle.std.specs.Prelude.{◌≡◌, ℕ, ◌≤◌, nat_eq, Bool, false, IsTrue, ◌&&◌, ◌||◌, List, length, Option, Some, None, slice_index_or, refl}
 use Rattle.std.specs.Ordering.{nat_cmp}
 use Rattle.std.specs.FinSet.{FinSet, empty, contains, code as set_code}
 use Rattle.std.specs.Coded.{Coded, code_by, coded×, coded_ℕ, coded_list}
-use Rattle.wall_labels.specs.declared.ids.TheConstants.{PROCESS_LIMIT, DATASET_LIMIT}
+use Rattle.wall_labels.specs.Limits.{process_limit, dataset_limit}
 use Rattle.wall_policy.specs.Policy.{ChineseWall, home_of}
+use Rattle.wall_policy.specs.Rivals.{are_rivals}
 use Rattle.wall_rules.specs.Rules.{HoldsNoRivals}
 
 -- a set of pairs of process and dataset, by its test
@@ -49,6 +50,24 @@ has h = has_in h.sets
 
 -- what is so of all `Histories`
 pub record KeepsWall (h : Accesses) : Type 0 where
-  pub set_for_each : length h.sets ≡ PROCESS_LIMIT
-  pub few_datasets : length h.classes ≤ DATASET_LIMIT
+  pub set_for_each : length h.sets ≡ process_limit
+  pub few_datasets : length h.classes ≤ dataset_limit
   pub apart : NobodyHoldsRivals h.classes (has h)
+
+-- a process that has had access to these has had access to one of the set
+abbrev pub HoldsOneOf : (ℕ → Bool) → FinSet nat_cmp → Type 0
+HoldsOneOf held s = (d : ℕ) × IsTrue (held d) × IsTrue (contains s d)
+
+-- the rows have for each dataset its rivals
+abbrev pub AreRivalRows : List ℕ → List (FinSet nat_cmp) → Type 0
+AreRivalRows classes rows =
+    (d e : ℕ) → contains (slice_index_or rows d empty) e ≡ are_rivals classes d e
+
+-- the rivals of d are added to a set
+abbrev pub AddsRivals : List ℕ → (d : ℕ) → (old new : FinSet nat_cmp) → Type 0
+AddsRivals classes d old new = (e : ℕ) → contains new e ≡ (contains old e || are_rivals classes d e)
+
+-- what is so of the parts that `Histories` are made of
+abbrev pub IsKept : ℕ → (classes : List ℕ) → (rows rivals : List (FinSet nat_cmp)) → Type 0
+IsKept n classes rows rivals =
+    KeepsWall (record { processes = n; classes = classes; sets = rows }) × AreRivalRows classes rivals

@@ -1,12 +1,11 @@
-//! The histories of all processes, in a row of truth values for each.
-ghost use Rattle.std.specs.Prelude.{◌≡◌, ℕ, ◌<◌, ◌≤◌, ◌↔◌, length, IfOk, IfErr, IfSome, IfNone, IsOk};
-ghost use Rattle.std.specs.FinSet as set;
-ghost use Rattle.wall_labels.specs.declared.ids.TheConstants.{PROCESS_LIMIT, DATASET_LIMIT};
+//! The histories of all processes, in a row of bits for each.
+ghost use Rattle.std.specs.Prelude.{◌≡◌, ℕ, ◌<◌, ◌≤◌, ◌↔◌, length, IfOk, IfErr, IfSome, IfNone, IsOk, IsTrue};
+ghost use Rattle.std.specs.FinSet as sets;
+ghost use Rattle.wall_labels.specs.Limits.{process_limit, dataset_limit};
 ghost use Rattle.wall_policy.specs.Rivals.{are_rivals};
 ghost use Rattle.wall_policy.specs.Policy.{IsPolicy};
-ghost use Rattle.wall_rules.specs.Least.{least};
-ghost use Rattle.wall_rules.specs.Rules.{IsLowest, IsHeldRival, PassesSimple, HoldsNoRivals, is_held_rival, first_rival, IsHeldOther, PassesStar, joined};
-ghost use Rattle.wall_rules.specs.Histories.{entered, opening, is_home, has_in};
+ghost use Rattle.wall_rules.specs.Rules.{IsLowest, IsHeldRival, PassesSimple, HoldsNoRivals, first_rival, IsHeldOther, PassesStar, joined};
+ghost use Rattle.wall_rules.specs.Histories.{entered, opening, is_home, has_in, HoldsOneOf, AddsRivals, AreRivalRows};
 
 use crate::NoMemory;
 use std::alloc::{AllocError, Global};
@@ -21,11 +20,13 @@ use wall_policy::{Policy, are_rivals};
 pub struct Histories {
     processes: u32,
     classes: Vec<ClassId>,
+    // The rivals of each dataset of the policy.
+    rivals: Vec<LabelSet>,
     rows: Vec<LabelSet>,
 }
 
 impl Model for Histories {
-    ghost use Rattle.wall_rules.specs.Histories.{Accesses, accesses_code, KeepsWall};
+    ghost use Rattle.wall_rules.specs.Histories.{Accesses, accesses_code, IsKept};
 
     ghost Value = { Accesses };
 
@@ -33,7 +34,7 @@ impl Model for Histories {
 
     ghost view = { λ h. record { processes = h.processes; classes = h.classes.items; sets = h.rows.items } };
 
-    ghost invariant = { λ h. KeepsWall (record { processes = h.processes; classes = h.classes.items; sets = h.rows.items }) };
+    ghost invariant = { λ h. IsKept h.processes h.classes.items h.rows.items h.rivals.items };
 }
 
 impl Histories {
@@ -47,10 +48,12 @@ impl Histories {
     {
         let processes = policy.processes();
         let classes = class_list(alloc, policy)?;
+        let rivals = rival_rows(alloc, &classes)?;
         let rows = home_rows(alloc, policy)?;
         Ok(Histories {
             processes,
             classes,
+            rivals,
             rows,
         })
     }
@@ -93,12 +96,28 @@ impl Histories {
         ensures test { result ≡ first_rival self.now.classes (joined (has self.now process) extra.now) dataset }
         ensures apart { NobodyHoldsRivals self.now.classes (has self.now) }
     {
-        lowest_rival(
-            &self.classes,
-            &self.rows[process.number() as usize],
-            extra,
-            dataset,
-        )
+        let row = &self.rows[process.number() as usize];
+        match self.rivals.get(dataset.number() as usize) {
+            Some(rivals) => rivals.first_shared(row, extra),
+            None => None,
+        }
+    }
+
+    /// Adds the rivals of the dataset to a set.
+    pub fn add_rivals(&self, dataset: DatasetId, set: &mut LabelSet)
+        ensures { AddsRivals self.now.classes dataset set.old set.new }
+    {
+        match self.rivals.get(dataset.number() as usize) {
+            Some(rivals) => set.union_with(rivals),
+            None => {}
+        }
+    }
+
+    /// Whether the process has had access to some dataset of the set.
+    pub fn has_some(&self, process: ProcessId, set: &LabelSet) -> bool
+        ensures { IsTrue result ↔ HoldsOneOf (has self.now process) set.now }
+    {
+        self.rows[process.number() as usize].meets(set)
     }
 
     /// Adds access of the process to each dataset of the set.
@@ -132,7 +151,7 @@ fn class_list(alloc: Global, policy: &Policy) -> Result<Vec<ClassId>, NoMemory>
 fn home_rows(alloc: Global, policy: &Policy) -> Result<Vec<LabelSet>, NoMemory>
     requires { IsPolicy policy.now }
     ensures pairs { IfOk result (λ v. has_in v.items ≡ opening policy.now) }
-    ensures rows { IfOk result (λ v. length v.items ≡ PROCESS_LIMIT) }
+    ensures rows { IfOk result (λ v. length v.items ≡ process_limit) }
 {
     let mut rows = Vec::with_capacity(alloc, PROCESS_LIMIT as usize)?;
     for number in 0..PROCESS_LIMIT {
@@ -146,7 +165,7 @@ fn home_rows(alloc: Global, policy: &Policy) -> Result<Vec<LabelSet>, NoMemory>
 
 // The set of this home alone.
 fn home_row(home: Option<DatasetId>) -> LabelSet
-    ensures { (d : ℕ) → set.contains result d ≡ is_home home d }
+    ensures { (d : ℕ) → sets.contains result d ≡ is_home home d }
 {
     let mut row = LabelSet::empty();
     if let Some(dataset) = home {
@@ -155,25 +174,34 @@ fn home_row(home: Option<DatasetId>) -> LabelSet
     row
 }
 
-// The lowest rival of the dataset in the row or in the set.
-#[tactic(auto, using(crate::proofs::LeastLemmas::least_found, crate::proofs::LeastLemmas::least_none, crate::proofs::LeastLemmas::least_zero), unfolding(crate::specs::Rules::first_rival))]
-fn lowest_rival(
-    classes: &[ClassId],
-    row: &LabelSet,
-    extra: &LabelSet,
-    dataset: DatasetId,
-) -> Option<DatasetId>
-    requires { length classes.now ≤ DATASET_LIMIT }
-    ensures { result ≡ first_rival classes.now (joined (set.contains row.now) extra.now) dataset }
+// For each dataset of the list its rivals.
+fn rival_rows(alloc: Global, classes: &[ClassId]) -> Result<Vec<LabelSet>, NoMemory>
+    requires { length classes.now ≤ dataset_limit }
+    ensures { IfOk result (λ v. AreRivalRows classes.now v.items) }
 {
+    let mut rows = Vec::with_capacity(alloc, classes.len())?;
+    for number in 0..classes.len() as u32 {
+        let Some(dataset) = DatasetId::new(number) else {
+            unreachable!()
+        };
+        rows.push(rival_row(classes, dataset))?;
+    }
+    Ok(rows)
+}
+
+// The rivals of the dataset.
+fn rival_row(classes: &[ClassId], dataset: DatasetId) -> LabelSet
+    requires { length classes.now ≤ dataset_limit }
+    ensures { (d : ℕ) → sets.contains result d ≡ are_rivals classes.now dataset d }
+{
+    let mut row = LabelSet::empty();
     for number in 0..classes.len() as u32 {
         let Some(other) = DatasetId::new(number) else {
             unreachable!()
         };
-        let is_held = row.contains(other) || extra.contains(other);
-        if is_held && are_rivals(classes, dataset, other) {
-            return Some(other);
+        if are_rivals(classes, dataset, other) {
+            row.insert(other);
         }
     }
-    None
+    row
 }

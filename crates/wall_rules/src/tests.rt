@@ -96,6 +96,58 @@ fn a_clash_names_the_lowest_rival(rt: HostRuntime) -> Result<(), Fail> {
     Ok(())
 }
 
+// Classes of two datasets each, 2i and 2i + 1, and two processes with the last of them as homes.
+fn with_most_datasets(alloc: Global) -> Result<Histories, Fail> {
+    let mut text = String::from_str(alloc, "version = 1\n")?;
+    for class in 0..64u32 {
+        let low = 2 * class;
+        let high = low + 1;
+        let lines = format!(in alloc;
+            "[[class]]\nname = \"k{class}\"\ndatasets = [\"d{low}\", \"d{high}\"]\n"
+        )?;
+        text.push_str(lines.as_str())?;
+    }
+    text.push_str("[[process]]\nname = \"p0\"\nhome = \"d126\"\n")?;
+    text.push_str("[[process]]\nname = \"p1\"\nhome = \"d127\"\n")?;
+    let policy = read_policy(alloc, text.as_bytes())?;
+    Ok(Histories::opening(alloc, &policy)?)
+}
+
+#[test]
+fn a_clash_is_found_up_to_the_last_dataset(rt: HostRuntime) -> Result<(), Fail> {
+    let histories = with_most_datasets(rt.alloc())?;
+    let nothing = LabelSet::empty();
+    // A process, the dataset that is asked for, its rival in the process's history.
+    let rows = [
+        (0, 127, Some(126)),
+        (1, 126, Some(127)),
+        (0, 126, None),
+        (0, 62, None),
+        (2, 127, None),
+    ];
+    for (holder, number, rival) in rows {
+        assert_eq!(rt;
+            histories
+                .clash(process(holder), &nothing, dataset(number))
+                .map(|d| d.number()),
+            rival
+        );
+    }
+    // A dataset, and its rival, which is the only one.
+    for (number, rival) in [(62, 63), (63, 62), (64, 65), (126, 127), (127, 126)] {
+        let mut rivals = LabelSet::empty();
+        histories.add_rivals(dataset(number), &mut rivals);
+        assert_eq!(rt; rivals.first_other_than(None), Some(dataset(rival)));
+        assert_eq!(rt; rivals.first_other_than(Some(dataset(rival))), None);
+        assert_eq!(rt; histories.has_some(process(0), &rivals), rival == 126);
+        assert_eq!(rt;
+            histories.clash(process(2), &rivals, dataset(number)),
+            Some(dataset(rival))
+        );
+    }
+    Ok(())
+}
+
 #[test]
 fn what_was_entered_is_held(rt: HostRuntime) -> Result<(), Fail> {
     let mut histories = opened(rt.alloc())?;

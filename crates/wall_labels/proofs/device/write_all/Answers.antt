@@ -1,4 +1,4 @@
-use Rattle.std.proofs.Common.{arith, ◌∙◌}
+use Rattle.std.proofs.Common.{◌∙◌}
 use Rattle.wall_labels.proofs.KnownLemmas.{wrote_more}
 use Rattle.wall_labels.proofs.device.write_all.Goals as goal
 

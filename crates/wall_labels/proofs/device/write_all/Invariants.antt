@@ -1,5 +1,4 @@
-use Rattle.std.proofs.Common.{◌≡◌, ◌++◌, List, ℕ, length}
-use Rattle.std.specs.Io.KnownBytes.{Appends}
+use Rattle.std.proofs.Common.{◌≡◌, length}
 use Rattle.wall_labels.proofs.KnownLemmas.{Wrote}
 use Rattle.wall_labels.proofs.device.write_all.Given as goal
 

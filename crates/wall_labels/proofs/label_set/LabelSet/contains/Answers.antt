@@ -1,12 +1,13 @@
 use Rattle.std.proofs.Common.{sym, ◌∙◌, arith}
 use Rattle.std.specs.FinSet.{contains}
-use Rattle.wall_labels.proofs.RowLemmas.{contains-set_of_row, held_below}
+use Rattle.wall_labels.proofs.RowLemmas.{contains-set_of_row, held_below, read_bit}
 use Rattle.wall_labels.proofs.label_set.LabelSet.contains.Goals as goal
 
 pub returns : goal.returns
 returns c = record {
   value =
-      sym (contains-set_of_row c.self.inside.row c.number.result)
-      ∙ (λ i. contains (c.self.view_is i) (c.number.ensures.value i));
-  members = held_below c.self.inside.row c.args.self.now c.self.view_is 128 (omega arith);
+      read_bit c.self.inside.words c.number-number.result
+      ∙ sym (contains-set_of_row c.self.inside.words c.number-number.result)
+      ∙ (λ i. contains (c.self.view_is i) (c.number-number.ensures.value i));
+  members = held_below c.self.inside.words c.args.self.now c.self.view_is 128 (omega arith);
 }

@@ -1,31 +1,24 @@
-use Rattle.std.proofs.Common.{◌≡◌, ℕ, true, false, get_or, arith, sym, subst, ◌∙◌, Option, Some, None, IfSome}
-use Rattle.wall_labels.proofs.RowLemmas.{held, held_below, place_below}
+use Rattle.std.proofs.Common.{◌≡◌, sym, subst, ◌∙◌, arith, Some}
+use Rattle.wall_labels.proofs.RowLemmas.{IsRest, rest_of_none, rest_of_some, held, held_below, some_then, none_then}
+use Rattle.wall_labels.proofs.label_set.LabelSet.first_other_than.Goals.{in-Some, in_default}
 use Rattle.wall_labels.proofs.label_set.LabelSet.first_other_than.Goals as goal
 
--- what holds of the number holds of the value that is the number
-at_value : (o : Option ℕ) (n : ℕ) (P : ℕ → Type 0) → IfSome o (λ x. x ≡ n) → P n → IfSome o P
-at_value None n P e p = tt
-at_value (Some x) n P e p = subst P (sym e) p
-
-pub returns-then-not-given-clause-found : goal.returns-then-not-given-clause-found
-returns-then-not-given-clause-found c =
-    at_value c.new.result c.loop-number.number _ c.new.ensures.value (
-      held c.self.inside.row c.args.self.now c.self.view_is c.loop-number.number ∙ c.if-self-number.true,
-      λ same. let bad : true ≡ false = sym (c.is_given-given.ensures.1 same) ∙ c.if-not-given.true in cc,
-    )
-
-pub returns-then-not-given-clause-lowest : goal.returns-then-not-given-clause-lowest
-returns-then-not-given-clause-lowest c =
-    at_value c.new.result c.loop-number.number _ c.new.ensures.value
-    (λ e lt has. c.loop-number.invariant e lt (sym (held c.self.inside.row c.args.self.now c.self.view_is e) ∙ has))
-
-pub returns-clause-none : goal.returns-clause-none
-returns-clause-none c e has =
-    let in_row : get_or c.self.inside.row e false ≡ true = sym (held c.self.inside.row c.args.self.now c.self.view_is e) ∙ has in
-    c.loop-number.invariant e (omega (arith, place_below c.self.inside.row e in_row)) in_row
-
-pub returns-then-not-given-clause-members : goal.returns-then-not-given-clause-members
-returns-then-not-given-clause-members c = held_below c.self.inside.row c.args.self.now c.self.view_is 128 (omega arith)
-
-pub returns-clause-members : goal.returns-clause-members
-returns-clause-members c = held_below c.self.inside.row c.args.self.now c.self.view_is 128 (omega arith)
+pub returns : goal.returns
+returns c =
+    let words = c.self.inside.words in
+    let is_held = held words c.args.self.now c.self.view_is in
+    let rest : IsRest words c.args.other c.match-other.words = elim c.match-other.branch [
+      | in-Some w ↦
+          let at : w.number.result ≡ w.in-Some.dataset = w.number.ensures.value in
+          subst (λ r. IsRest words c.args.other r) (sym w.words-is) (
+          subst (λ o. IsRest words o w.clear.new.words) (sym w.in-Some.is) (
+          subst (λ n. IsRest words (Some n) w.clear.new.words) at (rest_of_some words w.clear.new.words w.number.result w.clear.ensures.same w.clear.ensures.others)
+          ))
+      | in_default w ↦ subst (λ r. IsRest words c.args.other r) (sym w.words-is) (subst (λ o. IsRest words o words) (sym w.in_default.is) (rest_of_none words))
+    ] in
+    record {
+      found = some_then c.lowest.result _ _ (λ d is. (is_held d ∙ (rest.kept d is).0, (rest.kept d is).1)) c.lowest.ensures.found;
+      lowest = some_then c.lowest.result _ _ (λ d first e lt has. rest.lost e (first e lt) (sym (is_held e) ∙ has)) c.lowest.ensures.lowest;
+      members = held_below words c.args.self.now c.self.view_is 128 (omega arith);
+      none = none_then c.lowest.result _ _ (λ no e has. rest.lost e (no e) (sym (is_held e) ∙ has)) c.lowest.ensures.none;
+    }

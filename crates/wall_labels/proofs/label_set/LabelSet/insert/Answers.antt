@@ -5,5 +5,5 @@ use Rattle.wall_labels.proofs.label_set.LabelSet.insert.Goals as goal
 
 pub returns : goal.returns
 returns c =
-    set_of_marked c.self.inside.row c.number-place.result (omega arith)
-    ∙ (λ i. insert (c.self.view_is i) (c.number-place.ensures.value i))
+    set_of_marked c.self.inside.words c.number-number.result (omega arith)
+    ∙ (λ i. insert (c.self.view_is i) (c.number-number.ensures.value i))
