@@ -7,3 +7,4 @@ pub mod LowestLemmas
 pub mod PlaceLemmas
 pub mod PolicyLemmas
 pub mod RivalLemmas
+pub mod WallPolicyLemmas

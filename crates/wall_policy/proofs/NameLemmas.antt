@@ -3,7 +3,7 @@ use Rattle.std.proofs.Common.{◌≡◌, ℕ, ◌+◌, cond, ◌||◌, List, [],
 use Rattle.std.proofs.lemmas.Bool.{cases_Bool}
 use Rattle.std.proofs.lemmas.Slice.Eq.{bytes_eq-Decides}
 use Rattle.std.proofs.lemmas.Str.{IsUtf8-string_bytes}
-use Rattle.std.specs.List.{list_any, position_from}
+use Rattle.std.specs.List.{list_any, position_from, AllZip}
 use Rattle.std.specs.Str.{bytes_eq, IsUtf8}
 use Rattle.std.specs.String.{string_eq}
 use Rattle.wall_policy.specs.Names.{Name, place_of, is_in}
@@ -33,3 +33,10 @@ module _ {Z : Type 0} where
 
   pub place_of-not_text : (name : Name) (ks : List (String Z)) → ¬ IsUtf8 name → place_of name (map string_bytes ks) ≡ None
   place_of-not_text name ks not_text = none_from name 0 ks not_text
+
+  -- clones of texts have their bytes
+  pub clones-same : (xs ys : List (String Z)) → AllZip (λ s t. string_bytes t ≡ string_bytes s) xs ys → map string_bytes ys ≡ map string_bytes xs
+  clones-same [] [] h = refl
+  clones-same [] (y ∷ ys) h = absurd h
+  clones-same (x ∷ xs) [] h = absurd h
+  clones-same (x ∷ xs) (y ∷ ys) h = λ i. h.0 i ∷ clones-same xs ys h.1 i

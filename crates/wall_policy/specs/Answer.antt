@@ -24,7 +24,7 @@ in_tree test tree = option_map_or test tree false
 abbrev pub in_record : (PolicyText → Bool) → Option Members → Bool
 in_record test tree = option_map_or test (option_and_then record_of tree) false
 
--- The condition of each fault. Want of memory is no fault of the file.
+-- The condition of each fault. Out of memory is no fault of the file.
 abbrev pub holds : Option Members → PolicyFault → Bool
 holds tree NotToml = is_none tree
 holds tree BadVersion = in_tree (λ ms. not (has_known_version ms)) tree

@@ -1,7 +1,7 @@
 -- What is asked of the names and numbers of a policy file. (Own rules.)
 use Rattle.std.specs.Prelude.{ℤ, pos, negsuc, Bool, true, false, ◌&&◌, ◌||◌, nat_le, List, length, map, Option, Some, None, is_some}
 use Rattle.std.specs.List.{list_all, flat_map}
-use Rattle.wall_labels.specs.declared.ids.TheConstants.{PROCESS_LIMIT, DATASET_LIMIT, CLASS_LIMIT}
+use Rattle.wall_labels.specs.Limits.{process_limit, dataset_limit, class_limit}
 use Rattle.wall_labels.specs.Ops.{op_of}
 use Rattle.wall_policy.specs.Names.{Name, is_name, is_dataset_name, is_in, comes_twice}
 use Rattle.wall_policy.specs.Plain.{ClassText, PolicyText}
@@ -46,6 +46,6 @@ has_good_leasts t = list_all (λ r. is_good_least r.least) t.rules
 -- no limit is passed
 unfoldable pub is_small : PolicyText → Bool
 is_small t =
-    nat_le (length t.processes) PROCESS_LIMIT
-    && nat_le (length (dataset_names t.classes)) DATASET_LIMIT
-    && nat_le (length t.classes) CLASS_LIMIT
+    nat_le (length t.processes) process_limit
+    && nat_le (length (dataset_names t.classes)) dataset_limit
+    && nat_le (length t.classes) class_limit

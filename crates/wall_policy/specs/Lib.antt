@@ -10,3 +10,4 @@ pub mod Checks
 pub mod Meaning
 pub mod Answer
 pub mod InTurn
+pub mod Known

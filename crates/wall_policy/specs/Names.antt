@@ -2,7 +2,6 @@
 use Rattle.std.specs.Prelude.{ℕ, Bool, false, not, ◌&&◌, ◌||◌, ◌==◌, nat_le, nat_lt, List, [], ◌∷◌, length, Option, codes}
 use Rattle.std.specs.List.{list_all, list_any, position_from}
 use Rattle.std.specs.Str.{bytes_eq}
-use Rattle.wall_policy.specs.declared.checks.TheConstants.{NAME_LIMIT}
 
 -- a name is the list of its bytes
 abbrev pub Name : Type 0
@@ -19,10 +18,14 @@ is_digit b = nat_le 48 b && nat_le b 57
 abbrev pub is_name_byte : ℕ → Bool
 is_name_byte b = is_letter b || is_digit b || b == 95 || b == 45
 
--- 1 to NAME_LIMIT bytes, the first a letter
+-- the most bytes of a name
+abbrev pub name_limit : ℕ
+name_limit = 32
+
+-- 1 to that many bytes, the first a letter
 abbrev pub is_name : Name → Bool
 is_name [] = false
-is_name (b ∷ bs) = is_letter b && list_all is_name_byte bs && nat_lt (length bs) NAME_LIMIT
+is_name (b ∷ bs) = is_letter b && list_all is_name_byte bs && nat_lt (length bs) name_limit
 
 -- no dataset has a name that labels give another meaning
 abbrev pub is_dataset_name : Name → Bool

@@ -2,7 +2,7 @@
 -- (Brewer and Nash 1989: company datasets, conflict of interest classes, sanitised information. Homes and least numbers are own rules.)
 use Rattle.std.specs.Prelude.{◌≡◌, ℕ, ◌<◌, ◌≤◌, nat_eq, nat_le, Bool, true, false, ◌&&◌, List, length, find, Option, Some, None, option_map, slice_get}
 use Rattle.std.specs.List.{list_all}
-use Rattle.wall_labels.specs.declared.ids.TheConstants.{PROCESS_LIMIT, DATASET_LIMIT, CLASS_LIMIT}
+use Rattle.wall_labels.specs.Limits.{process_limit, dataset_limit, class_limit}
 use Rattle.wall_labels.specs.declared.op.Op.{Op}
 use Rattle.wall_labels.specs.Ops.{op_number}
 use Rattle.wall_policy.specs.Names.{Name, is_name, is_dataset_name, comes_twice}
@@ -45,14 +45,14 @@ least_of w op = least_in w.leasts op
 
 -- a least number of contributors: two at least, and no more than there can be processes
 abbrev pub is_least : ℕ → Bool
-is_least n = nat_le 2 n && nat_le n PROCESS_LIMIT
+is_least n = nat_le 2 n && nat_le n process_limit
 
 -- What is so of every policy that a file says.
 pub record IsPolicy (w : ChineseWall) : Type 0 where
   pub some_process : 1 ≤ length w.process_names
-  pub few_processes : length w.process_names ≤ PROCESS_LIMIT
-  pub few_datasets : length w.dataset_names ≤ DATASET_LIMIT
-  pub few_classes : length w.class_names ≤ CLASS_LIMIT
+  pub few_processes : length w.process_names ≤ process_limit
+  pub few_datasets : length w.dataset_names ≤ dataset_limit
+  pub few_classes : length w.class_names ≤ class_limit
   -- each dataset belongs to exactly one class
   pub class_for_each : length w.classes ≡ length w.dataset_names
   pub known_classes : (d class : ℕ) → class_of w d ≡ Some class → class < length w.class_names

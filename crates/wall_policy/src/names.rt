@@ -74,6 +74,14 @@ impl NameTable {
         }
     }
 
+    /// A table of the same names, with the same numbers.
+    pub(crate) fn copy(&self) -> Result<NameTable, AllocError>
+        ensures { IfOk result (λ copy. copy ≡ self.now) }
+    {
+        let names = self.names.clone()?;
+        Ok(NameTable { names })
+    }
+
     /// Adds a copy of a name, unless it is there.
     pub(crate) fn add(&mut self, alloc: Global, name: &str) -> Result<bool, AllocError>
         ensures is_new { IfOk result (λ added. added ≡ not (is_in self.old name.now)) }

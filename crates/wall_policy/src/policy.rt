@@ -10,7 +10,7 @@ use crate::names::NameTable;
 use crate::plain::PolicyText;
 use std::alloc::{AllocError, Global};
 use std::marker::Model;
-use wall_labels::{ClassId, DatasetId, Op, ProcessId};
+use wall_labels::{ClassId, DatasetId, NoMemory, Op, ProcessId};
 
 /// Which datasets are rivals, where each process is at home, and which results count as sanitised.
 ///
@@ -77,6 +77,29 @@ impl Policy {
         let classes = class_list(alloc, text.classes())?;
         let homes = home_list(alloc, &dataset_names, text.processes())?;
         let leasts = least_list(alloc, text.rules())?;
+        Ok(Policy {
+            class_names,
+            dataset_names,
+            process_names,
+            classes,
+            homes,
+            leasts,
+        })
+    }
+
+    /// An equal policy, with the same names.
+    pub fn copy(&self, alloc: Global) -> Result<Policy, NoMemory>
+        ensures { IfOk result (λ copy. copy ≡ self.now) }
+    {
+        let class_names = self.class_names.copy()?;
+        let dataset_names = self.dataset_names.copy()?;
+        let process_names = self.process_names.copy()?;
+        let mut classes = Vec::new(alloc);
+        classes.extend_from_slice(&self.classes)?;
+        let mut homes = Vec::new(alloc);
+        homes.extend_from_slice(&self.homes)?;
+        let mut leasts = Vec::new(alloc);
+        leasts.extend_from_slice(&self.leasts)?;
         Ok(Policy {
             class_names,
             dataset_names,

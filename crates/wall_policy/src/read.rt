@@ -174,7 +174,7 @@ fn read_in_turn(alloc: Global, bytes: &[u8]) -> Result<Policy, PolicyFault>
     policy_of_tree(alloc, &table)
 }
 
-/// Reads a policy file. What it says is a policy, or the lowest fault that holds of it; want of memory may come in place of either.
+/// Reads a policy file. What it says is a policy, or the lowest fault that holds of it; out of memory may come in place of either.
 pub fn read_policy(alloc: Global, bytes: &[u8]) -> Result<Policy, PolicyFault>
     ensures { Gives result (answer_to bytes.now) }
 {

@@ -52,7 +52,13 @@ fn changed_policies(rt: HostRuntime) -> Result<(), Fail> {
             "[[sanitise]]\nop = \"avg\"\nleast = 3\n[[sanitise]]\nop = \"avg\"\nleast = 3\n",
             PolicyFault::DuplicateName,
         ),
+        (
+            "delta",
+            "d234567890123456789012345678901_3",
+            PolicyFault::BadName,
+        ),
         ("least = 3", "least = 1", PolicyFault::BadLeast),
+        ("least = 3", "least = 65", PolicyFault::BadLeast),
         ("least = 3", "least = 3.0", PolicyFault::MissingKey),
         (
             "least = 3",
@@ -75,6 +81,8 @@ fn read(rt: HostRuntime) {
     let texts = [
         "version = 1\nclass = []\nsanitise = []\n[[process]]\nname = \"p0\"\n",
         "version = 1\n[[process]]\nname = \"public\"\n",
+        "version = 1\n[[process]]\nname = \"p234567890123456789012345678901-\"\n",
+        "version = 1\n[[process]]\nname = \"p\"\n[[sanitise]]\nop = \"max\"\nleast = 64\n",
         "version = 1\n[[class]]\nname = \"a\"\ndatasets = [\"a\"]\n[[process]]\nname = \"a\"\nhome = \"a\"\n",
     ];
     for text in texts {
@@ -107,13 +115,21 @@ fn many_processes(rt: HostRuntime) -> Result<(), Fail> {
     Ok(())
 }
 
+// The policy W as it is read, and a copy of it.
+fn read_and_copied(alloc: Global) -> Result<[Policy; 2], PolicyFault> {
+    let policy = read_policy(alloc, W.as_bytes())?;
+    let copy = policy.copy(alloc).map_err(|_| PolicyFault::NoMemory)?;
+    Ok([policy, copy])
+}
+
 #[test]
 fn numbers(rt: HostRuntime) -> Result<(), PolicyFault> {
-    let policy = read_policy(rt.alloc(), W.as_bytes())?;
-    assert_eq!(rt; policy.processes(), 4);
-    assert_eq!(rt; policy.datasets(), 4);
-    assert!(rt; policy.least(Op::Sum) == Some(3));
-    assert!(rt; policy.least(Op::Max).is_none());
+    for policy in read_and_copied(rt.alloc())? {
+        assert_eq!(rt; policy.processes(), 4);
+        assert_eq!(rt; policy.datasets(), 4);
+        assert!(rt; policy.least(Op::Sum) == Some(3));
+        assert!(rt; policy.least(Op::Max).is_none());
+    }
     Ok(())
 }
 
@@ -125,12 +141,13 @@ fn are_rivals(policy: &Policy, left: &str, right: &[u8]) -> Option<bool> {
 
 #[test]
 fn rivals(rt: HostRuntime) -> Result<(), PolicyFault> {
-    let policy = read_policy(rt.alloc(), W.as_bytes())?;
-    assert!(rt; are_rivals(&policy, "alpha", b"beta") == Some(true));
-    assert!(rt; are_rivals(&policy, "alpha", b"alpha") == Some(false));
-    assert!(rt; are_rivals(&policy, "alpha", b"crude") == Some(false));
-    assert!(rt; are_rivals(&policy, "gamma", b"crude").is_none());
-    assert!(rt; are_rivals(&policy, "alpha", b"\xff").is_none());
+    for policy in read_and_copied(rt.alloc())? {
+        assert!(rt; are_rivals(&policy, "alpha", b"beta") == Some(true));
+        assert!(rt; are_rivals(&policy, "alpha", b"alpha") == Some(false));
+        assert!(rt; are_rivals(&policy, "alpha", b"crude") == Some(false));
+        assert!(rt; are_rivals(&policy, "gamma", b"crude").is_none());
+        assert!(rt; are_rivals(&policy, "alpha", b"\xff").is_none());
+    }
     Ok(())
 }
 
@@ -149,12 +166,13 @@ fn home_of<'a>(policy: &'a Policy, name: &[u8]) -> Option<(&'a str, Option<Datas
 
 #[test]
 fn names(rt: HostRuntime) -> Result<(), PolicyFault> {
-    let policy = read_policy(rt.alloc(), W.as_bytes())?;
-    assert!(rt; class_of(&policy, "beta") == Some((0, true)));
-    assert!(rt; class_of(&policy, "crude") == Some((1, true)));
-    assert!(rt; home_of(&policy, b"b0") == Some(("b0", DatasetId::new(1))));
-    assert!(rt; home_of(&policy, b"n0") == Some(("n0", None)));
-    assert!(rt; home_of(&policy, b"n1").is_none());
+    for policy in read_and_copied(rt.alloc())? {
+        assert!(rt; class_of(&policy, "beta") == Some((0, true)));
+        assert!(rt; class_of(&policy, "crude") == Some((1, true)));
+        assert!(rt; home_of(&policy, b"b0") == Some(("b0", DatasetId::new(1))));
+        assert!(rt; home_of(&policy, b"n0") == Some(("n0", None)));
+        assert!(rt; home_of(&policy, b"n1").is_none());
+    }
     Ok(())
 }
 

@@ -1,0 +1,3 @@
+-- What crates above may cite of the lemmas of this crate. Everything else in proofs/ is its own.
+pub use Rattle.wall_policy.proofs.PlaceLemmas.{list_all-place, place_of-name}
+pub use Rattle.wall_policy.proofs.RivalLemmas.{are_rivals-Decides, are_rivals-symmetric}
