@@ -4,4 +4,6 @@ pub mod KeptLemmas
 pub mod NumberLemmas
 pub mod ShiftLemmas
 pub mod StrideLemmas
+pub mod TableLemmas
 pub mod VolumeLemmas
+pub mod MpiCartLemmas

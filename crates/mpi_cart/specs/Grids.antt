@@ -2,7 +2,6 @@
 use Rattle.std.specs.Prelude.{◌≡◌, ℕ, ℤ, pos, negsuc, ◌+ℤ◌, List, [], ◌∷◌, Bool, true, false, ◌&&◌, ◌==◌, ◌+◌, ◌-◌, ◌*◌, ◌/◌, ◌%◌, ◌^◌, ◌<◌, ◌≤◌, length, map, not, slice_get, slice_set, Option, Some, None, if◌then◌else◌, unwrap_or, unsigned_abs, nat_lt, flat_map, option_and_then, position}
 use Rattle.std.specs.List.{range_with_len, items_where_true, list_all}
 use Rattle.std.specs.Int.{int_rem_euclid}
-use Rattle.mpi_cart.specs.declared.grid.TheConstants.{DIMENSION_LIMIT}
 
 -- the size of each dimension, and whether it is periodic (8.5.1)
 pub record Topology : Type 0 where
@@ -14,10 +13,15 @@ abbrev pub volume : List ℕ → ℕ
 volume [] = 1
 volume (n ∷ dims) = n * volume dims
 
--- what holds of every grid: no dimension has size 0 and there are at most eight (own rules), and ranks fit 32 bits
+-- the most dimensions (own rule)
+abbrev pub dimensions_limit : ℕ
+dimensions_limit = 8
+
+-- what holds of every grid: no dimension has size 0 and there are at most so many (own rules), and ranks
+-- fit 32 bits
 pub record IsGrid (g : Topology) : Type 0 where
   pub paired : length g.periods ≡ length g.dims
-  pub few : length g.dims ≤ DIMENSION_LIMIT
+  pub few : length g.dims ≤ dimensions_limit
   pub positive : list_all (nat_lt 0) g.dims ≡ true
   pub small : volume g.dims < 2 ^ 32
 

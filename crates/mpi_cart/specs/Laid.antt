@@ -1,6 +1,6 @@
 -- What the code computes with.
-use Rattle.std.specs.Prelude.{◌≡◌, ℕ, List, [], ◌∷◌, Bool, slice_get, unwrap_or}
-use Rattle.mpi_cart.specs.Grids.{volume, cells, IsGrid}
+use Rattle.std.specs.Prelude.{◌≡◌, ℕ, ◌*◌, ◌/◌, ◌%◌, ◌<◌, ◌≤◌, List, [], ◌∷◌, length, Bool, Option, None, slice_get, get_or, unwrap_or}
+use Rattle.mpi_cart.specs.Grids.{Topology, volume, cells, neighbour, IsGrid}
 
 -- the coordinates of a rank
 abbrev pub cell_at : List ℕ → ℕ → List ℕ
@@ -11,8 +11,17 @@ unfoldable pub strides_of : List ℕ → List ℕ
 strides_of [] = []
 strides_of (n ∷ dims) = volume dims ∷ strides_of dims
 
+-- a table tells the neighbours of rank 0 slot by slot, then those of rank 1, and so on, of all ranks or
+-- of the first
+pub record IsTable (g : Topology) (table : List (Option ℕ)) : Type 0 where
+  pub few : length table ≤ volume g.dims * (2 * length g.dims)
+  pub entries : (k : ℕ) → k < length table
+      → get_or table k None ≡ neighbour g (k / (2 * length g.dims)) (k % (2 * length g.dims))
+
 -- the fields of a grid agree
-pub record IsLaid (dims : List ℕ) (periods : List Bool) (strides : List ℕ) (size : ℕ) : Type 0 where
-  pub strides_are : strides ≡ strides_of dims
-  pub size_is : size ≡ volume dims
-  pub grid : IsGrid (record { dims = dims; periods = periods })
+pub record IsLaid (g : Topology) (strides : List ℕ) (table : List (Option ℕ)) (size : ℕ) : Type 0
+  where
+    pub strides_are : strides ≡ strides_of g.dims
+    pub table_is : IsTable g table
+    pub size_is : size ≡ volume g.dims
+    pub grid : IsGrid g

@@ -5,6 +5,7 @@ ghost use Rattle.mpi_cart.specs.Grids.{IsGrid, volume, coords, rank_named, shift
 use super::cell::{coordinate_in, moved_rank, rank_from};
 use super::fault::{BadCoord, BadDirection, GridFault, fault_of, volume_within};
 use super::lists::{copied, kept_items, strides_in};
+use super::nearby::{entry_at, neighbour_by, table_of};
 use std::alloc::{AllocError, Global};
 use std::marker::Model;
 
@@ -17,6 +18,7 @@ pub struct Grid {
     dims: Vec<u32>,
     periods: Vec<bool>,
     strides: Vec<u32>,
+    nearby: Vec<Option<u32>>,
     size: u32,
 }
 
@@ -37,7 +39,8 @@ impl Model for Grid {
 
     ghost view = { λ g. record { dims = g.dims.items; periods = g.periods.items } };
 
-    ghost invariant = { λ g. IsLaid g.dims.items g.periods.items g.strides.items g.size };
+    ghost invariant = { λ g. IsLaid (record { dims = g.dims.items; periods = g.periods.items })
+        g.strides.items g.nearby.items g.size };
 }
 
 impl Grid {
@@ -74,16 +77,19 @@ impl Grid {
         Ok(laid(alloc, dims, periods)?)
     }
 
-    /// An equal grid.
-    pub fn copy(&self, alloc: Global) -> Result<Grid, AllocError>
+    /// An equal grid, or `NoMemory`. A grid of no dimensions takes no memory.
+    pub fn copy(&self, alloc: Global) -> Result<Grid, GridFault>
         ensures made { IfOk result (λ g. g ≡ self.now) }
+        ensures fault { IfErr result (λ f. f ≡ NoMemory) }
         ensures memory { IsErr result → 0 < length self.now.dims }
     {
-        laid(
-            alloc,
-            copied(alloc, &self.dims)?,
-            copied(alloc, &self.periods)?,
-        )
+        Ok(Grid {
+            dims: copied(alloc, &self.dims)?,
+            periods: copied(alloc, &self.periods)?,
+            strides: copied(alloc, &self.strides)?,
+            nearby: copied(alloc, &self.nearby)?,
+            size: self.size,
+        })
     }
 
     /// Whether the dimensions and the periods are the same.
@@ -160,22 +166,31 @@ impl Grid {
         })
     }
 
-    /// The neighbour of a rank in a slot: for each dimension in order the negative one, then the positive one;
-    /// nobody past an edge that isn't periodic, or in a slot that the grid doesn't have. (MPI 4.1, 8.6.)
-    #[tactic(auto, using(crate::proofs::StrideLemmas::neighbours), unfolding(crate::specs::Grids::neighbour))]
+    /// The neighbour of a rank in a slot: for each dimension in order the negative one, then the
+    /// positive one; nobody past an edge that isn't periodic, or in a slot that the grid doesn't have.
+    /// (MPI 4.1, 8.6.) One look into a table, but for the last ranks of a large grid.
+    #[tactic(auto, using(crate::proofs::TableLemmas::known_neighbours))]
     pub fn neighbour(&self, rank: u32, slot: u32) -> Option<u32>
         requires { rank < volume self.now.dims }
         ensures value { result ≡ neighbour self.now rank slot }
         ensures below { IfSome result (λ q. q < volume self.now.dims) }
         ensures opposite { IfSome result (λ q. neighbour self.now q (opposite slot) ≡ Some rank) }
     {
-        let dim = slot / 2;
-        if dim as usize >= self.dims.len() {
-            None
-        } else if slot % 2 == 0 {
-            self.moved(rank, dim, -1)
-        } else {
-            self.moved(rank, dim, 1)
+        self.looked_up(rank, slot)
+    }
+
+    #[tactic(auto, using(crate::proofs::TableLemmas::table_entries))]
+    fn looked_up(&self, rank: u32, slot: u32) -> Option<u32>
+        requires { rank < volume self.now.dims }
+        ensures { result ≡ neighbour self.now rank slot }
+    {
+        let slots = 2 * self.dims.len();
+        if slot as usize >= slots {
+            return None;
+        }
+        match entry_at(&self.nearby, rank as usize * slots + slot as usize) {
+            Some(found) => found,
+            None => neighbour_by(&self.dims, &self.periods, &self.strides, rank, slot),
         }
     }
 
@@ -207,10 +222,12 @@ fn laid(alloc: Global, dims: Vec<u32>, periods: Vec<bool>) -> Result<Grid, Alloc
 {
     let size = volume_within(&dims, u32::MAX).unwrap();
     let strides = strides_in(alloc, &dims, size)?;
+    let nearby = table_of(alloc, &dims, &periods, &strides, size)?;
     Ok(Grid {
         dims,
         periods,
         strides,
+        nearby,
         size,
     })
 }

@@ -8,6 +8,7 @@ mod fault;
 mod grid;
 pub mod laws;
 mod lists;
+mod nearby;
 #[cfg(test)]
 mod tests;
 

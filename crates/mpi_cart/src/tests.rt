@@ -36,9 +36,18 @@ fn makes_grids(rt: HostRuntime) -> Result<(), Fail> {
     for (row, (fault, expected)) in faults.iter().enumerate() {
         assert_eq!(rt; *fault, *expected, "row {row}");
     }
-    match Grid::new(rt.alloc(), &[2, 3], &[false, true], 5) {
-        Ok(_) => panic!(rt; "too large"),
-        Err(fault) => assert_eq!(rt; fault, GridFault::TooLarge),
+    let refused = [
+        (
+            Grid::new(rt.alloc(), &[2, 3], &[false, true], 5),
+            GridFault::TooLarge,
+        ),
+        (Grid::new(rt.alloc(), &[0], &[false], 7), GridFault::BadDims),
+    ];
+    for (row, (made, expected)) in refused.iter().enumerate() {
+        match made {
+            Ok(_) => panic!(rt; "row {row} is made"),
+            Err(fault) => assert_eq!(rt; *fault, *expected, "row {row}"),
+        }
     }
     Ok(())
 }

@@ -15,7 +15,7 @@ use Rattle.std.proofs.lemmas.List.Kept.{IsStrictlySortedBy-dedup}
 use Rattle.std.proofs.lemmas.Map.Keys.{IsDistinct-from_sorted}
 use Rattle.std.proofs.lemmas.Map.Made.{length-from_keys}
 use Rattle.mpi_group.specs.Groups.{is_member, is_distinct, are_ranks, members_at, IsGroup}
-use Rattle.mpi_group.proofs.GroupLemmas.{IsGroup-members_at}
+use Rattle.mpi_group.proofs.MpiGroupLemmas.{IsGroup-members_at}
 use Rattle.mpi_comm.specs.Asks.{is_last}
 use Rattle.mpi_comm.specs.Comms.{is_subgroup, subset_groups}
 use Rattle.mpi_comm.specs.Sorting.{sorted_by}

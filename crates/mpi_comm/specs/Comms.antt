@@ -6,7 +6,6 @@ use Rattle.mpi_group.specs.Groups.{rank_in, are_ranks, is_distinct, members_at, 
 use Rattle.mpi_group.specs.declared.compare.GroupCompare.{GroupCompare}
 use Rattle.mpi_group.specs.declared.compare.GroupCompare.TheVariants.{Identical as SameGroup, Similar as SimilarGroup, Unequal as UnequalGroup}
 use Rattle.mpi_comm.specs.Splits.{has_bad_colour, split_groups}
-use Rattle.mpi_comm.specs.declared.table.TheConstants.{COMMUNICATOR_LIMIT}
 use Rattle.mpi_comm.specs.declared.values.Ask.{Ask}
 use Rattle.mpi_comm.specs.declared.values.Made.{Made}
 use Rattle.mpi_comm.specs.declared.values.CommInfo.{CommInfo}
@@ -56,9 +55,13 @@ subset_groups lists members = map (λ ranks. members_at members ranks) lists
 abbrev pub is_subgroup : ℕ → List ℕ → Bool
 is_subgroup size ranks = are_ranks size ranks && is_distinct ranks
 
+-- the most communicators, the world included (own rule)
+abbrev pub communicators_limit : ℕ
+communicators_limit = 1024
+
 -- so many more communicators fit, where there are some before; making none always fits
 abbrev pub fits : ℕ → ℕ → Bool
-fits before number = nat_le (before + number) COMMUNICATOR_LIMIT || number == 0
+fits before number = nat_le (before + number) communicators_limit || number == 0
 
 -- Why a constructor on the communicator is refused: there is no such communicator, else its own fault, else want of
 -- room for what it makes.
@@ -85,7 +88,7 @@ subsets_fault table c lists =
     constructor_fault table c (if list_all (is_subgroup (length (group_at table c))) lists then None else Some NotSubgroup) (subset_groups lists (group_at table c))
 
 -- A constructor with this fault, if any, that makes these groups: the table has grown by them, or it is as it was and
--- the answer is the fault. Where there is none, only want of memory is answered.
+-- the answer is the fault. Where there is none, only out of memory is answered.
 pub record Constructs (fault : Option CommFault) (made : List (List ℕ)) (old new : List (List ℕ)) (result : Result Made CommFault) : Type 0 where
   pub good : OnOk result (fault ≡ None)
   pub grown : OnOk result (new ≡ old ++ made)

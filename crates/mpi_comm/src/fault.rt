@@ -28,6 +28,14 @@ pub enum CommFault {
     NoMemory,
 }
 
+impl From<wall_labels::NoMemory> for CommFault {
+    ghost from_gives = { λ _ fault. fault ≡ NoMemory };
+
+    fn from(_error: wall_labels::NoMemory) -> CommFault {
+        CommFault::NoMemory
+    }
+}
+
 impl From<AllocError> for CommFault {
     ghost from_gives = { λ _ fault. fault ≡ NoMemory };
 

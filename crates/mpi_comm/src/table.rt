@@ -27,16 +27,15 @@ impl Model for CommTable {
 
     ghost Value = { List (List ℕ) };
 
-    ghost use Rattle.mpi_comm.specs.declared.table.TheConstants.{COMMUNICATOR_LIMIT};
+    ghost use Rattle.mpi_comm.specs.Comms.{communicators_limit};
 
     ghost view = { λ t. t.groups.items };
 
-    ghost invariant = { λ t. length t.groups.items ≤ COMMUNICATOR_LIMIT };
+    ghost invariant = { λ t. length t.groups.items ≤ communicators_limit };
 }
 
 impl CommTable {
-    ghost use Rattle.mpi_comm.specs.declared.table.TheConstants.{COMMUNICATOR_LIMIT};
-    ghost use Rattle.mpi_comm.specs.Comms.{group_at, info_of, comm_compare, fits, dup_groups, create_groups, subset_groups, dup_fault, split_fault, create_fault, subsets_fault, Constructs};
+    ghost use Rattle.mpi_comm.specs.Comms.{group_at, info_of, comm_compare, communicators_limit, fits, dup_groups, create_groups, subset_groups, dup_fault, split_fault, create_fault, subsets_fault, Constructs};
     ghost use Rattle.mpi_comm.specs.Splits.{split_groups};
 
     /// The world alone: the group of all processes, in their order.
@@ -50,7 +49,7 @@ impl CommTable {
     /// How many communicators there are, the world included.
     pub fn len(&self) -> u32
         ensures value { result ≡ length self.now }
-        ensures limit { result ≤ COMMUNICATOR_LIMIT }
+        ensures limit { result ≤ communicators_limit }
     {
         self.groups.len() as u32
     }
@@ -178,7 +177,7 @@ impl CommTable {
 
     // Adds the communicators of these groups, which fit.
     fn add(&mut self, mut made: Vec<Group>) -> Result<Made, CommFault>
-        requires { length self.old + length made.items ≤ COMMUNICATOR_LIMIT }
+        requires { length self.old + length made.items ≤ communicators_limit }
         ensures grown { OnOk result (self.new ≡ self.old ++ made.items) }
         ensures told { IfOk result (λ m. m ≡ record { first = length self.old; number = length made.items }) }
         ensures refused { IfErr result (λ f. f ≡ CommFault.NoMemory) }

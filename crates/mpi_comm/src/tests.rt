@@ -2,7 +2,7 @@
 ghost use Rattle.std.specs.Prelude.{◌≡◌, length};
 ghost use Rattle.mpi_comm.specs.Comms.{group_at};
 
-use super::{Ask, COMMUNICATOR_LIMIT, CommCompare, CommFault, CommInfo, CommTable, Made};
+use super::{Ask, CommCompare, CommFault, CommInfo, CommTable, Made};
 use mpi_group::Group;
 use std::alloc::Global;
 use std::process::Abort;
@@ -128,7 +128,7 @@ fn looks(rt: HostRuntime) -> Result<(), Fail> {
 #[test]
 fn full_table(rt: HostRuntime) -> Result<(), Fail> {
     let mut table = opened(&rt, rt.alloc(), &[0])?;
-    for number in 1..COMMUNICATOR_LIMIT {
+    for number in 1..1024 {
         assert_eq!(rt; table.dup(0), made(number, 1));
     }
     assert_eq!(rt; table.dup(0), Err(CommFault::NoRoom));
@@ -137,8 +137,8 @@ fn full_table(rt: HostRuntime) -> Result<(), Fail> {
         key: 0,
     };
     expect_world(&rt, &table, 1);
-    assert_eq!(rt; table.split(0, &[undefined]), made(COMMUNICATOR_LIMIT, 0));
-    assert_eq!(rt; table.create(0, &[]), made(COMMUNICATOR_LIMIT, 0));
+    assert_eq!(rt; table.split(0, &[undefined]), made(1024, 0));
+    assert_eq!(rt; table.create(0, &[]), made(1024, 0));
     assert_eq!(rt; table.create(0, &[0]), Err(CommFault::NoRoom));
     Ok(())
 }

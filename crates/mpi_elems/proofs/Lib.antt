@@ -3,3 +3,4 @@ pub mod FitLemmas
 pub mod LoopLemmas
 pub mod ReadingLemmas
 pub mod BuilderLemmas
+pub mod MpiElemsLemmas

@@ -14,7 +14,7 @@ fault_of ty numbers =
     else if is_pair ty && not (length numbers % 2 == 0) then Some OddPair
     else None
 
--- what an answer says against the numbers: want of memory says nothing
+-- what an answer says against the numbers: out of memory says nothing
 abbrev pub told : BufferFault → Option BufferFault
 told BadNumber = Some BadNumber
 told OddPair = Some OddPair

@@ -173,6 +173,7 @@ impl Buffer {
         ensures elements { elements self.new
             ≡ merged (combine op self.old.elem_type) (elements self.old) (slice_range (elements other.now) start (start + len)) }
         ensures room { self.old.room ≤ self.new.room }
+        ensures kept { len ≤ length (elements self.old) → self.new.room ≡ self.old.room }
         ensures fit { IsFit self.new }
     {
         merge_cells(op, &mut self.cells, &other.cells, start, len);
@@ -199,7 +200,7 @@ pub fn combine_into(op: Op, first: &mut Buffer, second: &Buffer)
     ensures kind { first.new.elem_type ≡ first.old.elem_type }
     ensures elements { elements first.new
         ≡ zip_with (combine op first.old.elem_type) (elements first.old) (elements second.now) }
-    ensures room { first.old.room ≤ first.new.room }
+    ensures room { first.new.room ≡ first.old.room }
     ensures fit { IsFit first.new }
 {
     merge_cells(op, &mut first.cells, &second.cells, 0, count(&second.cells));

@@ -259,6 +259,7 @@ pub fn merge_cells(op: Op, to: &mut Cells, from: &Cells, start: usize, len: usiz
     ensures elements { elements_in to.new
         ≡ merged (combine op (kind_of to.old)) (elements_in to.old) (slice_range (elements_in from.now) start (start + len)) }
     ensures room { room_of to.old ≤ room_of to.new }
+    ensures kept { len ≤ length (elements_in to.old) → room_of to.new ≡ room_of to.old }
 {
     match to {
         Cells::I8(items) => match from {

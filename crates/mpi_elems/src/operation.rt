@@ -176,10 +176,13 @@ fn merge_each<T: Copy, O: Operation<T>>(firsts: &mut Vec<T>, seconds: &[T])
     requires { vec_len firsts.old < length seconds.now → length seconds.now ≤ vec_capacity firsts.old }
     ensures cells { Merges O.gives firsts.old.items seconds.now firsts.new.items }
     ensures room { vec_capacity firsts.old ≤ vec_capacity firsts.new }
+    ensures kept { length seconds.now ≤ vec_len firsts.old → vec_capacity firsts.new ≡ vec_capacity firsts.old }
 {
     let common = firsts.len().min(seconds.len());
     combine_each::<T, O>(firsts, &seconds[..common]);
-    append(firsts, &seconds[common..]);
+    if common < seconds.len() {
+        append(firsts, &seconds[common..]);
+    }
 }
 
 /// Merges numbers by an operation on numbers.
@@ -189,6 +192,7 @@ fn merge_number_slice<T: Native>(op: Op, firsts: &mut Vec<T>, seconds: &[T])
     ensures elements { singles T.number firsts.new.items
         ≡ merged (combine op T.kind) (singles T.number firsts.old.items) (singles T.number seconds.now) }
     ensures room { vec_capacity firsts.old ≤ vec_capacity firsts.new }
+    ensures kept { length seconds.now ≤ vec_len firsts.old → vec_capacity firsts.new ≡ vec_capacity firsts.old }
 {
     match op {
         Op::Max => merge_each::<T, ByMax>(firsts, seconds),
@@ -213,6 +217,7 @@ fn merge_pair_slice(op: Op, firsts: &mut Vec<(i32, i32)>, seconds: &[(i32, i32)]
     ensures elements { pairs firsts.new.items
         ≡ merged (combine op TwoInt) (pairs firsts.old.items) (pairs seconds.now) }
     ensures room { vec_capacity firsts.old ≤ vec_capacity firsts.new }
+    ensures kept { length seconds.now ≤ vec_len firsts.old → vec_capacity firsts.new ≡ vec_capacity firsts.old }
 {
     match op {
         Op::Maxloc => merge_each::<(i32, i32), ByMaxloc>(firsts, seconds),
@@ -236,6 +241,7 @@ pub fn merge_numbers<T: Native>(
         ≡ merged (combine op T.kind) (singles T.number firsts.old.items)
         (slice_range (singles T.number from.now.items) start (start + len)) }
     ensures room { vec_capacity firsts.old ≤ vec_capacity firsts.new }
+    ensures kept { len ≤ length (singles T.number firsts.old.items) → vec_capacity firsts.new ≡ vec_capacity firsts.old }
 {
     merge_number_slice(op, firsts, &from[start..start + len]);
 }
@@ -254,6 +260,7 @@ pub fn merge_pairs(
     ensures elements { pairs firsts.new.items
         ≡ merged (combine op TwoInt) (pairs firsts.old.items) (slice_range (pairs from.now.items) start (start + len)) }
     ensures room { vec_capacity firsts.old ≤ vec_capacity firsts.new }
+    ensures kept { len ≤ length (pairs firsts.old.items) → vec_capacity firsts.new ≡ vec_capacity firsts.old }
 {
     merge_pair_slice(op, firsts, &from[start..start + len]);
 }

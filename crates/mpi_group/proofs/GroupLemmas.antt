@@ -88,7 +88,7 @@ is_distinct-push (y ∷ xs) x d h =
     let none : is_member (xs ++ x ∷ []) y ≡ false = is_member-append xs (x ∷ []) y ∙ rw (not-true _ parts.0, other) refl in
     rw (none, rest) refl
 
--- where a front of a list has a member twice, the list isn't distinct
+-- where a prefix of a list has a member twice, the list isn't distinct
 pub twice : (xs : List ℕ) (x : ℕ) (ys : List ℕ) → is_member xs x ≡ true → is_distinct (xs ++ x ∷ ys) ≡ false
 twice [] x ys h = absurd (both_ways false refl h)
 twice (y ∷ xs) x ys h =

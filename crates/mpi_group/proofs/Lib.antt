@@ -1,3 +1,4 @@
 pub mod GroupLemmas
 pub mod Marks
 pub mod RankTables
+pub mod MpiGroupLemmas

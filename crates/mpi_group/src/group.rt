@@ -9,7 +9,7 @@ use super::compare::GroupCompare;
 use super::fault::GroupFault;
 use std::alloc::{AllocError, Global};
 use std::marker::Model;
-use wall_labels::{PROCESS_LIMIT, ProcessId};
+use wall_labels::{NoMemory, PROCESS_LIMIT, ProcessId};
 
 /// The rank of each process, by its number.
 type RankTable = [Option<u16>; PROCESS_LIMIT as usize];
@@ -120,7 +120,7 @@ impl Group {
     }
 
     /// An equal group.
-    pub fn copy(&self, alloc: Global) -> Result<Group, AllocError>
+    pub fn copy(&self, alloc: Global) -> Result<Group, NoMemory>
         ensures { IfOk result (λ group. group ≡ self.now) }
     {
         Ok(Group {
@@ -182,7 +182,7 @@ impl Group {
 }
 
 /// What is wrong with a list of ranks of a group of this size: the first fault that `incl` and `excl` would answer,
-/// want of memory aside. Looks at each rank up to the first repeat, and for each at those before it.
+/// out of memory aside. Looks at each rank up to the first repeat, and for each at those before it.
 pub fn ranks_fault(size: u32, ranks: &[u32]) -> Option<GroupFault>
     ensures { result ≡ ranks_fault size ranks.now }
 {

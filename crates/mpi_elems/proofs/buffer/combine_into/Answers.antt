@@ -34,3 +34,13 @@ invariant_of-first c =
 
 pub returns-clause-fit : goal.returns-clause-fit
 returns-clause-fit c = cells_are_fit _ (invariant_of-first c)
+
+pub returns-clause-room : goal.returns-clause-room
+returns-clause-room c =
+    let first = ap length (elements_shown _ _ c.first.view_is) in
+    let second = ap length (elements_shown _ _ c.second.view_is) in
+    let room = ap (λ (b : Contents). b.room) c.first.view_is in
+    let same = c.requires.one_count in
+    let all = c.count.ensures in
+    let kept = c.merge_cells.ensures.kept (omega arith) in
+    omega arith

@@ -27,3 +27,10 @@ invariant_of-self c =
 
 pub returns-clause-fit : goal.returns-clause-fit
 returns-clause-fit c = cells_are_fit _ (invariant_of-self c)
+
+pub returns-clause-kept : goal.returns-clause-kept
+returns-clause-kept c = λ short.
+    let first = ap length (elements_shown _ _ c.self.view_is) in
+    let room = ap (λ (b : Contents). b.room) c.self.view_is in
+    let kept = c.merge_cells.ensures.kept (omega arith) in
+    omega arith
