@@ -19,7 +19,7 @@ use Rattle.coll_routes.proofs.RouteLemmas.{ends_at}
 
 -- ## neighbours
 
-it_is : (o : Option ℕ) (i : ℕ) → is_it o i ≡ true → o ≡ Some i
+pub it_is : (o : Option ℕ) (i : ℕ) → is_it o i ≡ true → o ≡ Some i
 it_is (Some r) i e = ap (λ (n : ℕ). Some n) (eqb-true r i e)
 it_is None i e = absurd (cc)
 
@@ -30,7 +30,7 @@ slot_of past (Some g) i j t e = elim (cases_lt t (2 * length g.dims)) as (λ _. 
 ]
 slot_of past None i j t e = absurd (cc)
 
-between : (sig : Signature) (shape : Shape) (counts : List ℕ) (i x j t : ℕ) → is_neighbourly sig ≡ true → goes_by sig shape counts i x j t ≡ true → (is_neighbour shape i j t ≡ true) × (places_by sig shape j ≡ slots shape)
+pub between : (sig : Signature) (shape : Shape) (counts : List ℕ) (i x j t : ℕ) → is_neighbourly sig ≡ true → goes_by sig shape counts i x j t ≡ true → (is_neighbour shape i j t ≡ true) × (places_by sig shape j ≡ slots shape)
 unfolding is_neighbourly goes_by places_by
 between Barrier shape counts i x j t b e = absurd (cc)
 between (Bcast r ty n) shape counts i x j t b e = absurd (cc)

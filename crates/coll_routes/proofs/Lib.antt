@@ -5,3 +5,5 @@ pub mod FitLemmas
 pub mod LawLemmas
 pub mod RouteLemmas
 pub mod SignatureLemmas
+pub mod SpreadLemmas
+pub mod CollRoutesLemmas

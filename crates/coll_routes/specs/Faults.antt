@@ -18,7 +18,6 @@ use Rattle.coll_routes.specs.declared.fault.ShapeFault.{ShapeFault}
 use Rattle.coll_routes.specs.declared.fault.ShapeFault.TheVariants.{NoTopology, BadRoot, BadOp, BadCount, BadColour, NotSubgroup, BadDims}
 use Rattle.coll_routes.specs.declared.fault.Asked.{Asked}
 use Rattle.coll_routes.specs.declared.fault.Asked.TheVariants.{Exactly, AnyNumber, SumOfCounts, ColourAndKey}
-use Rattle.coll_routes.specs.declared.fault.TheConstants.{ELEMENT_LIMIT}
 use Rattle.coll_routes.specs.Signatures.{root, reduction, elem_type, count, is_neighbourly}
 use Rattle.coll_routes.specs.Rolls.{slots}
 
@@ -91,9 +90,12 @@ abbrev pub is_of_type : Option ElemType → ElemType → Bool
 is_of_type (Some t) ty = type_number t == type_number ty
 is_of_type None ty = true
 
--- more elements than a post may give (own rule)
+-- the most elements that a post may give (own rule)
+abbrev pub elements_limit : ℕ
+elements_limit = 65536
+
 abbrev pub is_above_limit : ℕ → Bool
-is_above_limit n = nat_lt ELEMENT_LIMIT n
+is_above_limit n = nat_lt elements_limit n
 
 -- the signature makes some rank give so many
 abbrev pub is_asked_above_limit : Asked → Bool

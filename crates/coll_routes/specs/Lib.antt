@@ -5,3 +5,5 @@ pub mod Lanes
 pub mod Laws
 pub mod Rolls
 pub mod Signatures
+pub mod Spreads
+pub mod Owns

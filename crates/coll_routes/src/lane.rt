@@ -37,7 +37,8 @@ fn lane_if(goes: bool, lane: Lane) -> Lane
 pub(crate) fn neighbour_at(shape: &Shape, rank: u32, slot: u32) -> Option<u32>
     requires grid { IsSized shape.now }
     requires rank { rank < shape.now.size }
-    ensures { result ≡ neighbour_in shape.now.grid rank slot }
+    ensures value { result ≡ neighbour_in shape.now.grid rank slot }
+    ensures below { IfSome result (λ q. q < shape.now.size) }
 {
     match &shape.grid {
         Some(grid) => grid.neighbour(rank, slot),
@@ -45,7 +46,7 @@ pub(crate) fn neighbour_at(shape: &Shape, rank: u32, slot: u32) -> Option<u32>
     }
 }
 
-fn has_neighbour(shape: &Shape, from: u32, to: u32, slot: u32) -> bool
+pub(crate) fn has_neighbour(shape: &Shape, from: u32, to: u32, slot: u32) -> bool
     requires grid { IsSized shape.now }
     requires rank { to < shape.now.size }
     ensures { result ≡ is_neighbour shape.now from to slot }
@@ -160,7 +161,7 @@ fn even_block(n: u32, size: u32, b: u32) -> Piece
 
 // The b-th block of what a rank gives, which stated these counts for itself.
 #[tactic(auto, unfolding(crate::specs::Lanes::sizes_by))]
-fn block(sig: &Signature, shape: &Shape, counts: &[u32], b: u32) -> Piece
+pub(crate) fn block(sig: &Signature, shape: &Shape, counts: &[u32], b: u32) -> Piece
     requires { sum (sizes_by sig.now shape.now counts.now) < 2 ^ 32 }
     ensures start { result.start ≡ sum (take b (sizes_by sig.now shape.now counts.now)) }
     ensures end { result.start + result.len ≡ sum (take (b + 1) (sizes_by sig.now shape.now counts.now)) }

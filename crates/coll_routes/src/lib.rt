@@ -11,6 +11,7 @@ mod lists;
 mod roll;
 mod route;
 mod signature;
+mod spread;
 mod statement;
 #[cfg(test)]
 mod tests;
@@ -22,4 +23,5 @@ pub use lists::{Flags, Numbers};
 pub use roll::{Roll, Shape, Statements};
 pub use route::{is_missing, piece, places, routed};
 pub use signature::Signature;
+pub use spread::{Gathering, Spread, gathered, sender, spread_of};
 pub use statement::{Own, Stated};

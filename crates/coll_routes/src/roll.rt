@@ -30,7 +30,7 @@ impl Shape {
         ensures memory { IsErr result → 0 < slots self.now }
     {
         let grid = match &self.grid {
-            Some(grid) => Some(grid.copy(alloc)?),
+            Some(grid) => Some(copied(grid, alloc)?),
             None => None,
         };
         Ok(Shape {
@@ -44,6 +44,17 @@ impl Shape {
         ensures { IsTrue result ↔ (self.now ≡ other.now) }
     {
         self.size == other.size && same_grids(&self.grid, &other.grid)
+    }
+}
+
+// An equal grid.
+fn copied(grid: &Grid, alloc: Global) -> Result<Grid, NoMemory>
+    ensures made { IfOk result (λ copy. copy ≡ grid.now) }
+    ensures memory { IsErr result → 0 < length grid.now.dims }
+{
+    match grid.copy(alloc) {
+        Ok(copy) => Ok(copy),
+        Err(_) => Err(NoMemory),
     }
 }
 

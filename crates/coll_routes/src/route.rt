@@ -1,19 +1,20 @@
 //! Which elements of a rank go to which place of another.
-ghost use Rattle.std.specs.Prelude.{◌≡◌, ℕ, ◌+◌, ◌<◌, ◌≤◌, IfSome, Some};
+ghost use Rattle.std.specs.Prelude.{◌≡◌, ℕ, ◌+◌, ◌<◌, ◌≤◌, IfSome, Some, true};
 ghost use Rattle.std.specs.List.{list_any};
 ghost use Rattle.mpi_cart.specs.Grids.{below};
 ghost use Rattle.coll_routes.specs.Rolls.{stated_by, given, goes, places as places_of, routed as is_routed, sends, slots, is_missing as is_missing_at};
+ghost use Rattle.coll_routes.specs.Signatures.{is_neighbourly};
 ghost use Rattle.coll_routes.specs.Fit.{IsFit, IsSized};
 ghost use Rattle.coll_routes.specs.Lanes.{place_by, covers};
 
-use super::lane::{Piece, cut, has_element, neighbour_at, slot_count};
+use super::lane::{Piece, cut, has_element, has_neighbour, neighbour_at, slot_count};
 use super::roll::Roll;
 use super::signature::Signature;
 use super::statement::Stated;
 
 // What a rank stated.
 #[tactic(auto, using(crate::proofs::FitLemmas::of_rank))]
-fn stated(roll: &Roll, rank: u32) -> &Stated
+pub(crate) fn stated(roll: &Roll, rank: u32) -> &Stated
     requires fit { IsFit roll.now }
     requires rank { rank < roll.now.shape.size }
     ensures { stated_by roll.now rank ≡ Some result.now }
@@ -21,8 +22,9 @@ fn stated(roll: &Roll, rank: u32) -> &Stated
     roll.stated.get(rank).unwrap()
 }
 
-/// The elements of rank `from` that go to place `place` of rank `to`; none where it sends nothing there. The work doesn't grow with the
-/// elements. Where each rank states counts it adds those before the block.
+/// The elements of rank `from` that go to place `place` of rank `to`: never an empty piece, but none
+/// where it sends nothing there. The work doesn't grow with the elements. Where each rank states counts
+/// it adds those before the block.
 #[tactic(auto, using(crate::proofs::FitLemmas::of_roll))]
 pub fn piece(roll: &Roll, from: u32, to: u32, place: u32) -> Option<Piece>
     requires fit { IsFit roll.now }
@@ -30,9 +32,10 @@ pub fn piece(roll: &Roll, from: u32, to: u32, place: u32) -> Option<Piece>
     requires to { to < roll.now.shape.size }
     ensures covers { (x : ℕ) → x < given roll.now from → covers result x ≡ goes roll.now from x to place }
     ensures within { IfSome result (λ p. p.start + p.len ≤ given roll.now from) }
+    ensures filled { IfSome result (λ p. 0 < p.len) }
 {
     let sender = stated(roll, from);
-    cut(
+    let piece = cut(
         &roll.sig,
         &roll.shape,
         &sender.own,
@@ -40,7 +43,11 @@ pub fn piece(roll: &Roll, from: u32, to: u32, place: u32) -> Option<Piece>
         from,
         to,
         place,
-    )
+    );
+    match piece {
+        Some(piece) => if piece.len > 0 { Some(piece) } else { None },
+        None => None,
+    }
 }
 
 /// How many blocks rank `to` gets; none from a constructor. (A rank gets no broadcast of its own, and rank 0 nothing from an exscan.)
@@ -101,7 +108,7 @@ fn place_from(sig: &Signature, from: u32) -> u32
 
 // Whether some element of a rank goes to a place.
 #[tactic(auto, using(crate::proofs::FitLemmas::of_roll))]
-fn sends_to(roll: &Roll, from: u32, to: u32, place: u32) -> bool
+pub(crate) fn sends_to(roll: &Roll, from: u32, to: u32, place: u32) -> bool
     requires fit { IsFit roll.now }
     requires from { from < roll.now.shape.size }
     requires to { to < roll.now.shape.size }
@@ -119,15 +126,31 @@ fn sends_to(roll: &Roll, from: u32, to: u32, place: u32) -> bool
     )
 }
 
+// Whether some element of a rank goes to a slot of another: only its neighbour's there can.
+fn sends_to_slot(roll: &Roll, from: u32, to: u32, slot: u32) -> bool
+    requires fit { IsFit roll.now }
+    requires from { from < roll.now.shape.size }
+    requires to { to < roll.now.shape.size }
+    requires between { is_neighbourly roll.now.sig ≡ true }
+    ensures { result ≡ sends roll.now from to slot }
+{
+    if has_neighbour(&roll.shape, from, to, slot) {
+        sends_to(roll, from, to, slot)
+    } else {
+        false
+    }
+}
+
 // Whether some element of a rank goes to some slot of another.
 fn sends_to_slots(roll: &Roll, from: u32, to: u32) -> bool
     requires fit { IsFit roll.now }
     requires from { from < roll.now.shape.size }
     requires to { to < roll.now.shape.size }
+    requires between { is_neighbourly roll.now.sig ≡ true }
     ensures { result ≡ list_any (λ t. sends roll.now from to t) (below (slots roll.now.shape)) }
 {
     for slot in 0..slot_count(&roll.shape) {
-        if sends_to(roll, from, to, slot) {
+        if sends_to_slot(roll, from, to, slot) {
             return true;
         }
     }

@@ -1,8 +1,9 @@
 //! The examples of small communicators, with pieces worked by hand from the standard's rules.
 
 use super::{
-    Flags, Kind, Numbers, Own, Roll, Shape, ShapeFault, Signature, Stated, Statements, is_missing,
-    piece, places, routed, shape_fault,
+    Flags, Gathering, Kind, Numbers, Own, Piece, Roll, Shape, ShapeFault, Signature, Spread,
+    Stated, Statements, gathered, is_missing, piece, places, routed, sender, shape_fault,
+    spread_of,
 };
 use mpi_cart::Grid;
 use mpi_elems::ElemType;
@@ -10,7 +11,7 @@ use mpi_group::Group;
 use std::alloc::Global;
 use std::process::Abort;
 use std::test::Fail;
-use wall_labels::{Op, ProcessId};
+use wall_labels::{DatasetId, Label, Op, ProcessId};
 
 const INT: ElemType = ElemType::Int32;
 
@@ -198,7 +199,7 @@ fn pieces_of_two_ranks(rt: HostRuntime) -> Result<(), Fail> {
         (Signature::Barrier, [0, 0], "\n\n"),
         (bcast(1, 2), [0, 2], "[(1:0+2)]\n\n"),
         (gather, all, "\n[(0:0+2)][(1:0+2)]\n"),
-        (gatherv(1), [3, 0], "\n[(0:0+3)][(1:0+0)]\n"),
+        (gatherv(1), [3, 0], "\n[(0:0+3)][]\n"),
         (scatter(1, 2), [0, 4], "[(1:0+2)]\n[(1:2+2)]\n"),
         (Signature::Allgather { elem_type, count }, all, gathered),
         (Signature::Allgatherv { elem_type }, all, gathered),
@@ -249,12 +250,74 @@ fn pieces_of_two_ranks(rt: HostRuntime) -> Result<(), Fail> {
 }
 
 #[test]
+fn spreads_of_three_ranks(rt: HostRuntime) -> Result<(), Fail> {
+    let alloc = rt.alloc();
+    let (elem_type, op, count) = (INT, Op::Sum, 1);
+    let rows = [
+        (bcast(1, 2), [0, 2, 0], Spread::ToOthers(1)),
+        (gatherv(2), [1, 0, 3], Spread::ToOne(2)),
+        (scatter(1, 1), [0, 3, 0], Spread::ToAll),
+        (
+            Signature::Alltoall { elem_type, count },
+            [3, 3, 3],
+            Spread::ToAll,
+        ),
+        (
+            Signature::Scan {
+                op,
+                elem_type,
+                count,
+            },
+            [1, 1, 1],
+            Spread::UpTo,
+        ),
+        (
+            Signature::Exscan {
+                op,
+                elem_type,
+                count,
+            },
+            [1, 1, 1],
+            Spread::Below,
+        ),
+    ];
+    for (sig, given, expected) in rows {
+        let three = shape(alloc, 3, &[], &[])?;
+        let roll = roll(&rt, alloc, three, sig, &given, &[])?;
+        assert!(rt; roll.is_fit());
+        assert_eq!(rt; spread_of(&roll), expected);
+        if roll.sig.op().is_some() && roll.shape.size > 1 {
+            let until = if expected == Spread::Below { 1 } else { 2 };
+            let piece = Piece { start: 0, len: 1 };
+            assert_eq!(rt; gathered(&roll, 1), Gathering { until, piece });
+        }
+    }
+    let row = shape(alloc, 3, &[3], &[false])?;
+    let sig = Signature::NeighborAllgather { elem_type, count };
+    let roll = roll(&rt, alloc, row, sig, &[1, 1, 1], &[])?;
+    assert!(rt; roll.is_fit() && roll.shape.size == 3);
+    assert_eq!(rt; spread_of(&roll), Spread::ByPlace);
+    let senders = [
+        (0, 0, None),
+        (0, 1, Some(1)),
+        (1, 0, Some(0)),
+        (2, 1, None),
+        (2, 2, None),
+    ];
+    for (to, slot, expected) in senders {
+        assert!(rt; to < 3);
+        assert_eq!(rt; sender(&roll, to, slot), expected);
+    }
+    Ok(())
+}
+
+#[test]
 fn blocks_of_four_ranks(rt: HostRuntime) -> Result<(), Fail> {
     let alloc = rt.alloc();
     let elem_type = ElemType::Int32;
     let scatterv = Signature::Scatterv { root: 1, elem_type };
     let counts: [&[u32]; 4] = [&[], &[2, 0, 1, 1], &[], &[]];
-    let expected = "[(1:0+2)]\n[(1:2+0)]\n[(1:2+1)]\n[(1:3+1)]\n";
+    let expected = "[(1:0+2)]\n[]\n[(1:2+1)]\n[(1:3+1)]\n";
     let four = Shape {
         size: 4,
         grid: None,
@@ -263,7 +326,7 @@ fn blocks_of_four_ranks(rt: HostRuntime) -> Result<(), Fail> {
     let alltoallv = Signature::Alltoallv { elem_type };
     let counts: [&[u32]; 4] = [&[0, 1, 0, 2], &[0, 0, 0, 0], &[1, 1, 1, 1], &[0, 0, 0, 1]];
     let expected =
-        "[(0:0+0)][(1:0+0)][(2:0+1)][(3:0+0)]\n[(0:0+1)][(1:0+0)][(2:1+1)][(3:0+0)]\n[(0:1+0)][(1:0+0)][(2:2+1)][(3:0+0)]\n[(0:1+2)][(1:0+0)][(2:3+1)][(3:0+1)]\n";
+        "[][][(2:0+1)][]\n[(0:0+1)][][(2:1+1)][]\n[][][(2:2+1)][]\n[(0:1+2)][][(2:3+1)][(3:0+1)]\n";
     let four = Shape {
         size: 4,
         grid: None,
@@ -284,7 +347,7 @@ fn blocks_of_four_ranks(rt: HostRuntime) -> Result<(), Fail> {
         counts,
     };
     let expected =
-        "[(0:0+1)(1:0+1)(2:0+1)(3:0+1)]\n[(0:1+0)(1:1+0)(2:1+0)(3:1+0)]\n[(0:1+2)(1:1+2)(2:1+2)(3:1+2)]\n[(0:3+1)(1:3+1)(2:3+1)(3:3+1)]\n";
+        "[(0:0+1)(1:0+1)(2:0+1)(3:0+1)]\n[]\n[(0:1+2)(1:1+2)(2:1+2)(3:1+2)]\n[(0:3+1)(1:3+1)(2:3+1)(3:3+1)]\n";
     let four = Shape {
         size: 4,
         grid: None,
@@ -610,6 +673,27 @@ fn faults_of_constructors(rt: HostRuntime) -> Result<(), Fail> {
     );
     let keep = flags(alloc, &[false, false])?;
     expect_fault(&rt, &grid, Signature::CartSub { keep }, Own::Plain, 0, None);
+    Ok(())
+}
+
+// The copy of what a rank stated that gave one number of dataset 0 to a gather.
+#[test]
+fn copy_of_a_gather(rt: HostRuntime) -> Result<(), Fail> {
+    let alpha = DatasetId::new(0).expect(&rt, "a dataset");
+    let stated = Stated {
+        sig: Signature::Gather {
+            root: 0,
+            elem_type: ElemType::Int32,
+            count: 1,
+        },
+        own: Own::Plain,
+        given: 1,
+        label: Some(Label::Of(alpha)),
+        barred: false,
+    };
+    let copy = stated.copy(rt.alloc())?;
+    assert!(rt; copy.sig.is_same(&stated.sig) && matches!(&copy.own, Own::Plain));
+    assert!(rt; copy.given == 1 && copy.label == Some(Label::Of(alpha)) && !copy.barred);
     Ok(())
 }
 

@@ -11,9 +11,7 @@ use Rattle.coll_routes.specs.Signatures.{elem_type}
 use Rattle.coll_routes.specs.Rolls.{given, ranks}
 use Rattle.coll_routes.specs.Faults.{is_of_type}
 use Rattle.coll_routes.specs.Fit.{IsFit, is_fit}
-use Rattle.coll_routes.proofs.AnyLemmas.{any_at, any_none}
-use Rattle.coll_routes.proofs.SignatureLemmas.{type_is}
-use Rattle.coll_routes.proofs.FitLemmas.{fit_decides}
+use Rattle.coll_routes.proofs.CollRoutesLemmas.{any_at, any_none, type_is, fit_decides}
 use Rattle.coll_values.specs.declared.full.Full.{Full}
 use Rattle.coll_values.specs.Instances.{IsPart, IsWhole, is_part, is_no_part, is_whole}
 
@@ -39,7 +37,7 @@ passed_by : (roll : Roll) (i : ℕ) (p : Contents) (o : Option Contents) → o �
 passed_by roll i p (Some q) e h = let same : q ≡ p = cc in not-false (is_part roll i p) (ap (λ z. not (is_part roll i z)) (sym same) ∙ h)
 passed_by roll i p None e h = absurd (cc)
 
-not_past : (xs : List Contents) (k : ℕ) → slice_get xs k ≡ None → k < length xs → ⊥
+pub not_past : (xs : List Contents) (k : ℕ) → slice_get xs k ≡ None → k < length xs → ⊥
 not_past [] k e h = omega arith
 not_past (x ∷ xs) zero e h = absurd (cc)
 not_past (x ∷ xs) (suc k) e h = not_past xs k e (omega arith)

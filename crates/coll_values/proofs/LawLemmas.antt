@@ -16,10 +16,11 @@ use Rattle.coll_values.specs.Instances.{element}
 use Rattle.coll_values.specs.Values.{sent, Sendings, copied, breadth, folded_at, reduced, block_by, block_of, blocks, value}
 use Rattle.coll_values.specs.Laws.{AgreeOnRouted, ValuesAreOfRoutedElements, ValuesAreOfRoutedRanks, ValuesFillPlaces, MergedRowsAreFolds}
 use Rattle.coll_values.proofs.FoldLemmas.{merged_rows}
+use Rattle.coll_values.proofs.RoomLemmas.{length_map}
 
 -- ## functions that agree on a range
 
-map_same : {X : Type 0} (f g : ℕ → X) (a n : ℕ) → ((k : ℕ) → k < a + n → f k ≡ g k) → map f (range_with_len a n) ≡ map g (range_with_len a n)
+pub map_same : {X : Type 0} (f g : ℕ → X) (a n : ℕ) → ((k : ℕ) → k < a + n → f k ≡ g k) → map f (range_with_len a n) ≡ map g (range_with_len a n)
 map_same f g a zero h = refl
 map_same f g a (suc n) h = λ i. h a (omega arith) i ∷ map_same f g (a + 1) n (λ k low. h k (omega arith)) i
 
@@ -27,7 +28,7 @@ flat_map_same : {X : Type 0} (f g : ℕ → List X) (a n : ℕ) → ((k : ℕ) �
 flat_map_same f g a zero h = refl
 flat_map_same f g a (suc n) h = λ i. h a (omega arith) i ++ flat_map_same f g (a + 1) n (λ k low. h k (omega arith)) i
 
-filter_map_same : {X : Type 0} (f g : ℕ → Option X) (a n : ℕ) → ((k : ℕ) → k < a + n → f k ≡ g k) → filter_map f (range_with_len a n) ≡ filter_map g (range_with_len a n)
+pub filter_map_same : {X : Type 0} (f g : ℕ → Option X) (a n : ℕ) → ((k : ℕ) → k < a + n → f k ≡ g k) → filter_map f (range_with_len a n) ≡ filter_map g (range_with_len a n)
 filter_map_same f g a zero h = refl
 filter_map_same f g a (suc n) h = λ i. cons_option (h a (omega arith) i) (filter_map_same f g (a + 1) n (λ k low. h k (omega arith)) i)
 
@@ -86,10 +87,6 @@ module _ (routes : RoutesAreJourneys) (F G : Full Contents) (j : ℕ) (agree : A
 
 pub values_are_of_routed_ranks : RoutesAreJourneys → ValuesAreOfRoutedRanks
 values_are_of_routed_ranks routes F G j agree = values_are_of_routed_elements F G j (record { roll = agree.roll; elements = routed_element routes F G j agree })
-
-length_map : {X Y : Type 0} (f : X → Y) (xs : List X) → length (map f xs) ≡ length xs
-length_map f [] = refl
-length_map f (x ∷ xs) = omega (arith, length_map f xs)
 
 pub values_fill_places : ValuesFillPlaces
 unfolding value blocks

@@ -1,7 +1,11 @@
 pub mod FoldLemmas
 pub mod InstanceLemmas
 pub mod LawLemmas
+pub mod FormLemmas
 pub mod NumberLemmas
 pub mod RoomLemmas
+pub mod RowLemmas
 pub mod SentLemmas
 pub mod SourceLemmas
+pub mod WholeLemmas
+pub mod CollValuesLemmas

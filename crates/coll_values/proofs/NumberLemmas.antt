@@ -4,7 +4,7 @@ use Rattle.std.specs.List.{list_all}
 use Rattle.mpi_elems.specs.Numbers.{is_number_of}
 use Rattle.mpi_elems.specs.Elements.{Element, numbers_of, elements_of}
 use Rattle.mpi_elems.specs.Contents.{Contents, elements, IsFit}
-use Rattle.mpi_elems.proofs.ElementLemmas.{elements_of-nil}
+use Rattle.mpi_elems.proofs.MpiElemsLemmas.{elements_of-nil}
 
 -- a buffer without numbers has no elements
 pub no_elements : (b : Contents) → b.numbers ≡ [] → elements b ≡ []

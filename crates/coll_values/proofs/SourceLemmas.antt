@@ -22,16 +22,12 @@ use Rattle.coll_routes.specs.declared.fault.ShapeFault.TheVariants.{NoTopology, 
 use Rattle.coll_routes.specs.Signatures.{reduction, elem_type}
 use Rattle.coll_routes.specs.Faults.{shape_fault, first_that, bad_count, bad_root, bad_op, bad_colour, not_subgroup, bad_dims, no_topology, is_refused, stated_type}
 use Rattle.coll_routes.specs.Fit.{IsFit}
-use Rattle.coll_routes.proofs.FitLemmas.{no_fault}
+use Rattle.coll_routes.proofs.CollRoutesLemmas.{no_fault, it_is}
 use Rattle.coll_routes.specs.Rolls.{goes_by, places_by, in_block, slots, neighbour_in, is_it, is_neighbour, stated_by, own_counts_in, given, goes, places, ranks}
 use Rattle.coll_values.specs.declared.full.Full.{Full}
 use Rattle.coll_values.specs.Instances.{element}
 use Rattle.coll_values.specs.Sources.{source_by}
 use Rattle.coll_values.specs.Values.{sent, copied}
-
-it_is : (o : Option ℕ) (i : ℕ) → is_it o i ≡ true → o ≡ Some i
-it_is (Some r) i e = ap (λ (n : ℕ). Some n) (eqb-true r i e)
-it_is None i e = absurd (cc)
 
 some_root : (i r : ℕ) → nat_eq i r ≡ true → Some r ≡ Some i
 some_root i r e = ap (λ (n : ℕ). Some n) (sym (eqb-true i r e))

@@ -1,3 +1,4 @@
+pub mod Forms
 pub mod Instances
 pub mod Laws
 pub mod Lines

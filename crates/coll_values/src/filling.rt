@@ -13,9 +13,9 @@ ghost use Rattle.coll_values.specs.Lines.{AreLines};
 use super::delivery::{Block, Delivery, Integers};
 use super::full::Full;
 use super::sizes::size_at;
-use super::source::{append_sent, merge_sent, source_of};
+use super::source::{append_sent, source_of};
 use super::space::{Room, parts_of, room_of};
-use coll_routes::{is_missing, places};
+use coll_routes::{gathered, is_missing, places};
 use mpi_elems::{Buffer, ElemType};
 use std::alloc::Global;
 use wall_labels::{NoMemory, Op};
@@ -48,8 +48,10 @@ fn fill_reduced(line: &mut Buffer, full: &Full<Buffer>, op: Op, to: u32)
     requires room { breadth full.now.roll (λ i t. sent full.now i to t) ≤ line.old.room }
     ensures { line.new.numbers ≡ numbers_of (reduced op full.now.roll (λ i t. sent full.now i to t)) }
 {
-    for from in 0..full.roll.shape.size {
-        merge_sent(op, line, full, from, to);
+    let row = gathered(&full.roll, to);
+    for from in 0..row.until {
+        let part = full.parts.get(from);
+        line.merge_range(op, part, row.piece.start as usize, row.piece.len as usize);
     }
 }
 

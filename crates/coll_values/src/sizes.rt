@@ -1,5 +1,5 @@
 //! How many elements the blocks of a delivery have.
-ghost use Rattle.std.specs.Prelude.{◌≡◌, ◌<◌, length, max, None};
+ghost use Rattle.std.specs.Prelude.{◌≡◌, ◌<◌, length, None, IsSome};
 ghost use Rattle.coll_routes.specs.Signatures.{reduction};
 ghost use Rattle.coll_values.specs.Instances.{IsWhole};
 ghost use Rattle.coll_values.specs.Values.{sent, block_by, copied, breadth};
@@ -7,26 +7,23 @@ ghost use Rattle.coll_values.specs.Rooms.{size_of};
 
 use super::full::Full;
 use super::source::{sent_size, source_of};
-use coll_routes::is_missing;
+use coll_routes::{gathered, is_missing};
 use mpi_elems::Buffer;
 
-fn larger(a: usize, b: usize) -> usize
-    ensures { result ≡ max a b }
-{
-    if a < b { b } else { a }
-}
-
-// The size of the widest piece that a rank sends to the first place.
+// The size of the widest piece that a rank sends to the first place, in a kind that reduces: all that
+// send one send alike.
 fn widest(full: &Full<Buffer>, to: u32) -> usize
     requires whole { IsWhole full.now }
     requires rank { to < full.now.roll.shape.size }
+    requires reduces { IsSome (reduction full.now.roll.sig) }
     ensures { result ≡ breadth full.now.roll (λ i t. sent full.now i to t) }
 {
-    let mut widest = 0;
-    for from in 0..full.roll.shape.size {
-        widest = larger(widest, sent_size(full, from, to, 0));
+    let row = gathered(&full.roll, to);
+    if row.until > 0 {
+        row.piece.len as usize
+    } else {
+        0
     }
-    widest
 }
 
 // The size of the block at a place, in a kind that doesn't reduce.

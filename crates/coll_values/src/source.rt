@@ -1,9 +1,6 @@
 //! What a rank sends to a place.
-ghost use Rattle.std.specs.Prelude.{◌≡◌, ◌+◌, ◌<◌, ◌≤◌, ◌++◌, length, Some, true};
+ghost use Rattle.std.specs.Prelude.{◌≡◌, ◌+◌, ◌<◌, ◌≤◌, ◌++◌, length, Some};
 ghost use Rattle.mpi_elems.specs.Contents.{elements, IsFit};
-ghost use Rattle.mpi_elems.specs.Elements.{combine};
-ghost use Rattle.mpi_elems.specs.Operations.{is_allowed};
-ghost use Rattle.mpi_elems.specs.Lists.{merged};
 ghost use Rattle.coll_routes.specs.Signatures.{elem_type};
 ghost use Rattle.coll_routes.specs.Rolls.{neighbour_in};
 ghost use Rattle.coll_routes.specs.Fit.{IsSized};
@@ -14,7 +11,6 @@ ghost use Rattle.coll_values.specs.Values.{sent};
 use super::full::Full;
 use coll_routes::{Roll, Shape, Signature, piece};
 use mpi_elems::Buffer;
-use wall_labels::Op;
 
 // The neighbour of a rank in a slot, if there is a grid.
 fn neighbour_at(shape: &Shape, rank: u32, slot: u32) -> Option<u32>
@@ -80,28 +76,6 @@ pub(crate) fn append_sent(line: &mut Buffer, full: &Full<Buffer>, from: u32, to:
     let part = full.parts.get(from);
     match piece(&full.roll, from, to, place) {
         Some(piece) => line.append_range(part, piece.start as usize, piece.len as usize),
-        None => {}
-    }
-}
-
-// Combines what a rank sends to the first place with what lower ranks sent. Takes no memory.
-pub(crate) fn merge_sent(op: Op, line: &mut Buffer, full: &Full<Buffer>, from: u32, to: u32)
-    requires whole { IsWhole full.now }
-    requires from { from < full.now.roll.shape.size }
-    requires to { to < full.now.roll.shape.size }
-    requires one_type { elem_type full.now.roll.sig ≡ Some line.old.elem_type }
-    requires room { length (sent full.now from to 0) ≤ line.old.room }
-    requires allowed { is_allowed op line.old.elem_type ≡ true }
-    requires fit { IsFit line.old }
-    ensures kind { line.new.elem_type ≡ line.old.elem_type }
-    ensures elements { elements line.new
-        ≡ merged (combine op line.old.elem_type) (elements line.old) (sent full.now from to 0) }
-    ensures room { line.old.room ≤ line.new.room }
-    ensures fit { IsFit line.new }
-{
-    let part = full.parts.get(from);
-    match piece(&full.roll, from, to, 0) {
-        Some(piece) => line.merge_range(op, part, piece.start as usize, piece.len as usize),
         None => {}
     }
 }

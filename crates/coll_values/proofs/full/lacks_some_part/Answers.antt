@@ -1,5 +1,5 @@
 use Rattle.std.proofs.Common.{arith, sym, ◌∙◌}
-use Rattle.coll_routes.proofs.AnyLemmas.{any_at, any_none}
+use Rattle.coll_routes.proofs.CollRoutesLemmas.{any_at, any_none}
 use Rattle.coll_values.proofs.InstanceLemmas.{lacks}
 use Rattle.coll_values.proofs.full.lacks_some_part.Goals as goal
 

@@ -1,13 +1,13 @@
-use Rattle.std.proofs.Common.{◌≡◌, ◌+◌, arith}
-use Rattle.coll_values.specs.Values.{sent}
-use Rattle.coll_values.proofs.FoldLemmas.{broadest, broadest_more}
+use Rattle.std.proofs.Common.{arith}
+use Rattle.coll_values.proofs.RowLemmas.{breadth_some, breadth_none}
 use Rattle.coll_values.proofs.sizes.widest.Goals as goal
 
-pub loop-from-preserved : goal.loop-from-preserved
-loop-from-preserved c =
-    let more = broadest_more c.loop-from.from (λ i. sent c.args.full.now i c.args.to 0) in
-    let before : c.loop-from.widest ≡ broadest c.loop-from.from (λ i. sent c.args.full.now i c.args.to 0) = c.loop-from.invariant in
-    let next = c.sent_size.ensures in
-    let here = c.larger-widest.ensures in
-    let total : c.larger-widest.result ≡ broadest (c.loop-from.from + 1) (λ i. sent c.args.full.now i c.args.to 0) = omega arith in
-    total
+pub returns-then-row-gt0 : goal.returns-then-row-gt0
+returns-then-row-gt0 c =
+    breadth_some c.args.full.now c.args.to _ _ _ c.requires.whole c.gathered-row.ensures.senders
+    c.gathered-row.ensures.within (omega arith) (omega arith)
+
+pub returns-else-row-gt0 : goal.returns-else-row-gt0
+returns-else-row-gt0 c =
+    breadth_none c.args.full.now c.args.to _ _ _ c.requires.whole c.gathered-row.ensures.senders
+    (omega arith)

@@ -1,0 +1,541 @@
+-- To whom the ranks send: what a kind says of all pairs of them.
+use Rattle.std.proofs.Common.{◌≡◌, ℕ, zero, suc, ◌+◌, ◌*◌, ◌<◌, ◌≤◌, List, [], ◌∷◌, take, replicate, sum, get_or, ◌∙◌, ap, sym, refl, arith, Bool, true, false, not, ◌&&◌, cond, Option, Some, None, IsSome, nat_le, nat_lt, nat_eq, ⊎_elim}
+use Rattle.std.specs.List.{list_any, range_with_len}
+use Rattle.std.proofs.lemmas.Bool.{eqb-true, eq-eqb, and_from, and_parts, cases_Bool, le-leb, leb-true, leb-false, lt-ltb, ltb-true, ltb-false, le-ltb}
+use Rattle.mpi_cart.specs.Grids.{Topology, below, opposite}
+use Rattle.coll_routes.specs.declared.signature.Signature.{Signature}
+use Rattle.coll_routes.specs.declared.signature.Signature.TheVariants.{Barrier, Bcast, Gather, Gatherv, Scatter, Scatterv, Allgather, Allgatherv, Alltoall, Alltoallv, Reduce, Allreduce, ReduceScatter, ReduceScatterBlock, Scan, Exscan, NeighborAllgather, NeighborAllgatherv, NeighborAlltoall, NeighborAlltoallv, Dup, Split, Create, CartCreate, CartSub}
+use Rattle.coll_routes.specs.declared.statement.Own.{Own}
+use Rattle.coll_routes.specs.declared.statement.Own.TheVariants.{Plain, Counts, Split as SplitBy}
+use Rattle.coll_routes.specs.declared.statement.Stated.{Stated}
+use Rattle.coll_routes.specs.declared.roll.Shape.{Shape}
+use Rattle.coll_routes.specs.declared.roll.Roll.{Roll}
+use Rattle.coll_routes.specs.declared.lane.Lane.{Lane}
+use Rattle.coll_routes.specs.declared.lane.Lane.TheVariants.{Nowhere, Whole, Block}
+use Rattle.coll_routes.specs.declared.fault.Asked.TheVariants.{Exactly, ColourAndKey}
+use Rattle.coll_routes.specs.declared.spread.Spread.{Spread}
+use Rattle.coll_routes.specs.Signatures.{reduction, is_neighbourly}
+use Rattle.coll_routes.specs.Rolls.{goes_by, in_block, slots, is_it, is_neighbour, neighbour_in, stated_by, own_counts_in, counts_in, given, goes, places, sends, routed}
+use Rattle.coll_routes.specs.Faults.{is_met, asked, gives, stated_type}
+use Rattle.coll_routes.specs.Fit.{IsFit}
+use Rattle.coll_routes.specs.Lanes.{lane_by, sizes_by, holds, sends_by, place_by}
+use Rattle.coll_routes.specs.Spreads.{if_it_sends, sender, is_spread, spread_by, until_by, share_by, share_start, share_end}
+use Rattle.coll_routes.proofs.AnyLemmas.{any_none}
+use Rattle.coll_routes.proofs.BlockLemmas.{size_inside, even_whole, sum_front}
+use Rattle.coll_routes.proofs.CutLemmas.{goes-lane, count_is_good, met, sends_nowhere, sends_whole, sends_block}
+use Rattle.coll_routes.proofs.FitLemmas.{no_fault, given_is, counts_are, sends_is}
+use Rattle.coll_routes.proofs.RouteLemmas.{by_place}
+use Rattle.coll_routes.proofs.LawLemmas.{it_is, between}
+
+-- ## how many elements a rank gave
+
+exact : (n : ℕ) (giving : Bool) (own : Own) (given : ℕ) → is_met (Exactly n) giving own given ≡ true
+    → given ≡ cond giving n 0
+exact n giving Plain given m = eqb-true given (cond giving n 0) m
+exact n giving (Counts counts) given m = absurd (cc)
+exact n giving (SplitBy colour key) given m = absurd (cc)
+
+nothing : (giving : Bool) (own : Own) (given : ℕ) → is_met (Exactly 0) giving own given ≡ true
+    → given ≡ 0
+nothing true own given m = exact 0 true own given m
+nothing false own given m = exact 0 false own given m
+
+coloured : (giving : Bool) (own : Own) (given : ℕ) → is_met ColourAndKey giving own given ≡ true
+    → given ≡ 0
+coloured giving (SplitBy colour key) given m = eqb-true given 0 m
+coloured giving Plain given m = absurd (cc)
+coloured giving (Counts counts) given m = absurd (cc)
+
+-- ## what is sent, by lane
+
+filled : Lane → List ℕ → ℕ → Bool
+filled Nowhere sizes given = false
+filled Whole sizes given = nat_lt 0 given
+filled (Block b) sizes given = nat_lt 0 (get_or sizes b 0)
+
+module _ (roll : Roll) (i : ℕ) (s : Stated) (fit : IsFit roll) (said : stated_by roll i
+    ≡ Some s) where
+  as_asked : is_met (asked roll.shape roll.sig) (gives roll.sig i) s.own s.given ≡ true
+  as_asked =
+      met roll.shape i roll.sig s.own (stated_type roll.sig) s.given
+      (count_is_good roll.shape i roll.sig s.own (stated_type roll.sig) s.given
+      (no_fault roll i s fit said))
+
+  by_lane : (j t : ℕ) (l : Lane) → l ≡ lane_by roll.sig roll.shape i j t
+      → sends_by roll.sig roll.shape (counts_in s.own) s.given i j t
+      ≡ filled l (sizes_by roll.sig roll.shape (counts_in s.own)) s.given
+  unfolding filled
+  by_lane j t Nowhere e = sym (sends_nowhere roll.sig roll.shape s.own s.given i j t e)
+  by_lane j t Whole e = sym (sends_whole roll.sig roll.shape s.own s.given i j t e)
+  by_lane j t (Block b) e =
+      sym (sends_block roll.sig roll.shape s.own s.given i j t (stated_type roll.sig) b
+      (no_fault roll i s fit said) e)
+
+  sends_filled : (j t : ℕ) → sends roll i j t
+      ≡ filled (lane_by roll.sig roll.shape i j t) (sizes_by roll.sig roll.shape (counts_in s.own))
+      s.given
+  sends_filled j t =
+      sends_is roll i j t s said ∙ by_lane j t (lane_by roll.sig roll.shape i j t) refl
+
+-- ## pairs
+
+itself : (i : ℕ) → nat_eq i i ≡ true
+itself i = eq-eqb i i refl
+
+whole_if : (b : Bool) (sizes : List ℕ) (given : ℕ) → filled (cond b Whole Nowhere) sizes given
+    ≡ (b && nat_lt 0 given)
+unfolding filled
+whole_if true sizes given = refl
+whole_if false sizes given = refl
+
+whole_own : (a b : Bool) (sizes : List ℕ) (given : ℕ) → b ≡ true
+    → filled (cond (a && b) Whole Nowhere) sizes given ≡ (a && nat_lt 0 given)
+whole_own true b sizes given e = whole_if b sizes given ∙ ap (λ c. c && nat_lt 0 given) e
+whole_own false b sizes given e = whole_if false sizes given
+
+-- a number of blocks of one size, which isn't 0: they are empty together
+even_filled : (size n j given : ℕ) → j < size → given ≡ size * n
+    → nat_lt 0 (get_or (replicate size n) j 0) ≡ nat_lt 0 given
+even_filled size n j given low e =
+    ap (λ k. nat_lt 0 k) (size_inside size n j low)
+    ∙ (alike size n low ∙ ap (λ k. nat_lt 0 k) (sym e))
+  where
+    alike : (size n : ℕ) → j < size → nat_lt 0 n ≡ nat_lt 0 (size * n)
+    alike zero n low = absurd (omega arith)
+    alike (suc size) zero low =
+        ap (λ k. nat_lt 0 k) (let none : 0 ≡ suc size * 0 = omega arith in none)
+    alike (suc size) (suc n) low =
+        lt-ltb 0 (suc n) (omega arith)
+        ∙ sym (lt-ltb 0 (suc size * suc n) (let some : 0 < suc size * suc n = omega arith in some))
+
+-- what a broadcast's root gives goes to the others, and the others give nothing
+from_root : (a b : Bool) (sizes : List ℕ) (n given : ℕ) → given ≡ cond a n 0
+    → filled (cond (a && not b && true) Whole Nowhere) sizes given ≡ (not b && nat_lt 0 given)
+from_root true b sizes n given e = whole_own (not b) true sizes given refl
+from_root false b sizes n given e = whole_if false sizes given ∙ gone (not b)
+  where
+    gone : (c : Bool) → false ≡ (c && nat_lt 0 given)
+    gone true = ap (λ k. nat_lt 0 k) (sym e)
+    gone false = refl
+
+-- the root's blocks, and the others give none
+blocks_of_root : (a : Bool) (size n j given : ℕ) → j < size → given ≡ cond a (size * n) 0
+    → filled (cond (a && true) (Block j) Nowhere) (replicate size n) given ≡ nat_lt 0 given
+unfolding filled
+blocks_of_root true size n j given low e = even_filled size n j given low e
+blocks_of_root false size n j given low e = ap (λ k. nat_lt 0 k) (sym e)
+
+-- the blocks of all
+blocks_of_all : (a : Bool) (size n j given : ℕ) → a ≡ true → j < size → given ≡ size * n
+    → filled (cond a (Block j) Nowhere) (replicate size n) given ≡ nat_lt 0 given
+unfolding filled
+blocks_of_all true size n j given e low g = even_filled size n j given low g
+blocks_of_all false size n j given e low g = absurd (cc)
+
+empty : (given : ℕ) → given ≡ 0 → false ≡ nat_lt 0 given
+empty given e = ap (λ k. nat_lt 0 k) (sym e)
+
+module _ (roll : Roll) (i j : ℕ) (s : Stated) where
+  -- a kind that sends alike, at the one place where rank i sends
+  by_kind : (sig : Signature) (shape : Shape) → is_neighbourly sig ≡ false → j < shape.size
+      → is_met (asked shape sig) (gives sig i) s.own s.given ≡ true → given roll i ≡ s.given
+      → routed roll i j
+      ≡ filled (lane_by sig shape i j (place_by sig i)) (sizes_by sig shape (counts_in s.own))
+      s.given → routed roll i j ≡ is_spread (spread_by sig) roll i j
+  unfolding is_neighbourly asked gives lane_by sizes_by place_by spread_by filled
+  by_kind Barrier shape b low m g r =
+      r ∙ (empty s.given (nothing true s.own s.given m) ∙ ap (λ k. nat_lt 0 k) (sym g))
+  by_kind (Bcast r_ ty n) shape b low m g r =
+      r ∙ (from_root (nat_eq i r_) (nat_eq j r_) [] n s.given
+      (exact n (nat_eq i r_) s.own s.given m) ∙ ap (λ k. not (nat_eq j r_) && nat_lt 0 k) (sym g))
+  by_kind (Gather r_ ty n) shape b low m g r =
+      r ∙ (whole_own (nat_eq j r_) (nat_eq i i) [] s.given (itself i)
+      ∙ ap (λ k. nat_eq j r_ && nat_lt 0 k) (sym g))
+  by_kind (Gatherv r_ ty) shape b low m g r =
+      r ∙ (whole_own (nat_eq j r_) (nat_eq i i) [] s.given (itself i)
+      ∙ ap (λ k. nat_eq j r_ && nat_lt 0 k) (sym g))
+  by_kind (Scatter r_ ty n) shape b low m g r =
+      r ∙ (blocks_of_root (nat_eq i r_) shape.size n j s.given low
+      (exact (shape.size * n) (nat_eq i r_) s.own s.given m) ∙ ap (λ k. nat_lt 0 k) (sym g))
+  by_kind (Scatterv r_ ty) shape b low m g r = refl
+  by_kind (Allgather ty n) shape b low m g r =
+      r ∙ (whole_if (nat_eq i i) [] s.given
+      ∙ (ap (λ c. c && nat_lt 0 s.given) (itself i) ∙ ap (λ k. nat_lt 0 k) (sym g)))
+  by_kind (Allgatherv ty) shape b low m g r =
+      r ∙ (whole_if (nat_eq i i) [] s.given
+      ∙ (ap (λ c. c && nat_lt 0 s.given) (itself i) ∙ ap (λ k. nat_lt 0 k) (sym g)))
+  by_kind (Alltoall ty n) shape b low m g r =
+      r ∙ (blocks_of_all (nat_eq i i) shape.size n j s.given (itself i) low
+      (exact (shape.size * n) true s.own s.given m) ∙ ap (λ k. nat_lt 0 k) (sym g))
+  by_kind (Alltoallv ty) shape b low m g r = refl
+  by_kind (Reduce r_ op ty n) shape b low m g r =
+      r ∙ (whole_own (nat_eq j r_) (true) [] s.given (refl)
+      ∙ ap (λ k. nat_eq j r_ && nat_lt 0 k) (sym g))
+  by_kind (Allreduce op ty n) shape b low m g r =
+      r ∙ (whole_if true [] s.given ∙ ap (λ k. nat_lt 0 k) (sym g))
+  by_kind (ReduceScatter op ty sizes) shape b low m g r = refl
+  by_kind (ReduceScatterBlock op ty n) shape b low m g r =
+      r ∙ (blocks_of_all true shape.size n j s.given refl low
+      (exact (shape.size * n) true s.own s.given m) ∙ ap (λ k. nat_lt 0 k) (sym g))
+  by_kind (Scan op ty n) shape b low m g r =
+      r ∙ (whole_own (nat_le i j) (true) [] s.given (refl)
+      ∙ ap (λ k. nat_le i j && nat_lt 0 k) (sym g))
+  by_kind (Exscan op ty n) shape b low m g r =
+      r ∙ (whole_own (nat_lt i j) (true) [] s.given (refl)
+      ∙ ap (λ k. nat_lt i j && nat_lt 0 k) (sym g))
+  by_kind (NeighborAllgather ty n) shape b low m g r = absurd (cc)
+  by_kind (NeighborAllgatherv ty) shape b low m g r = absurd (cc)
+  by_kind (NeighborAlltoall ty n) shape b low m g r = absurd (cc)
+  by_kind (NeighborAlltoallv ty) shape b low m g r = absurd (cc)
+  by_kind Dup shape b low m g r =
+      r ∙ (empty s.given (nothing true s.own s.given m) ∙ ap (λ k. nat_lt 0 k) (sym g))
+  by_kind Split shape b low m g r =
+      r ∙ (empty s.given (coloured true s.own s.given m) ∙ ap (λ k. nat_lt 0 k) (sym g))
+  by_kind (Create ranks) shape b low m g r =
+      r ∙ (empty s.given (nothing true s.own s.given m) ∙ ap (λ k. nat_lt 0 k) (sym g))
+  by_kind (CartCreate dims periods) shape b low m g r =
+      r ∙ (empty s.given (nothing true s.own s.given m) ∙ ap (λ k. nat_lt 0 k) (sym g))
+  by_kind (CartSub keep) shape b low m g r =
+      r ∙ (empty s.given (nothing true s.own s.given m) ∙ ap (λ k. nat_lt 0 k) (sym g))
+
+-- ## between neighbours
+
+-- a rank that isn't the neighbour there sends nothing there
+pub only_neighbour : (roll : Roll) (i j t : ℕ) → is_neighbourly roll.sig ≡ true
+    → is_neighbour roll.shape i j t ≡ false → sends roll i j t ≡ false
+only_neighbour roll i j t b e = any_none (λ x. goes roll i x j t) 0 (given roll i) (λ x h. ⊎_elim
+    (λ some. let there =
+    between roll.sig roll.shape (own_counts_in (stated_by roll i)) i x j t b some in
+    absurd (cc))
+    (λ no. no)
+    (cases_Bool (goes roll i x j t)))
+
+if_same : (b : Bool) (r i : ℕ) → nat_eq r i ≡ true → is_it (cond b (Some r) None) i ≡ b
+if_same true r i e = e
+if_same false r i e = refl
+
+if_other : (b : Bool) (r i : ℕ) → nat_eq r i ≡ false → is_it (cond b (Some r) None) i ≡ false
+if_other true r i e = e
+if_other false r i e = refl
+
+is_sender : (roll : Roll) (i j t : ℕ) (o : Option ℕ) → is_neighbourly roll.sig ≡ true → o
+    ≡ neighbour_in roll.shape.grid j t → sends roll i j t ≡ is_it (if_it_sends roll j t o) i
+is_sender roll i j t None b e = only_neighbour roll i j t b (ap (λ o. is_it o i) (sym e))
+is_sender roll i j t (Some r) b e = ⊎_elim
+    (λ same. ap (λ k. sends roll k j t) (sym (eqb-true r i same))
+    ∙ sym (if_same (sends roll r j t) r i same))
+    (λ other. only_neighbour roll i j t b (ap (λ o. is_it o i) (sym e) ∙ other)
+    ∙ sym (if_other (sends roll r j t) r i other))
+    (cases_Bool (nat_eq r i))
+
+any_same : (f g : ℕ → Bool) (a n : ℕ) → ((k : ℕ) → f k ≡ g k) → list_any f (range_with_len a n)
+    ≡ list_any g (range_with_len a n)
+any_same f g a zero h = refl
+any_same f g a (suc n) h = λ k. Rattle.std.specs.Prelude.◌||◌ (h a k) (any_same f g (a + 1) n h k)
+
+by_senders : (roll : Roll) (i j : ℕ) → is_neighbourly roll.sig ≡ true → routed roll i j
+    ≡ list_any (λ t. is_it (sender roll j t) i) (below (places roll j))
+unfolding routed
+by_senders roll i j b =
+    any_same (λ t. sends roll i j t) (λ t. is_it (sender roll j t) i) 0 (places roll j)
+    (λ t. is_sender roll i j t (neighbour_in roll.shape.grid j t) b refl)
+
+by_neighbours : (sig : Signature) (roll : Roll) (i j : ℕ) → is_neighbourly sig ≡ true
+    → routed roll i j ≡ list_any (λ t. is_it (sender roll j t) i) (below (places roll j))
+    → routed roll i j ≡ is_spread (spread_by sig) roll i j
+unfolding is_neighbourly spread_by
+by_neighbours Barrier roll i j b e = absurd (cc)
+by_neighbours (Bcast r_ ty n) roll i j b e = absurd (cc)
+by_neighbours (Gather r_ ty n) roll i j b e = absurd (cc)
+by_neighbours (Gatherv r_ ty) roll i j b e = absurd (cc)
+by_neighbours (Scatter r_ ty n) roll i j b e = absurd (cc)
+by_neighbours (Scatterv r_ ty) roll i j b e = absurd (cc)
+by_neighbours (Allgather ty n) roll i j b e = absurd (cc)
+by_neighbours (Allgatherv ty) roll i j b e = absurd (cc)
+by_neighbours (Alltoall ty n) roll i j b e = absurd (cc)
+by_neighbours (Alltoallv ty) roll i j b e = absurd (cc)
+by_neighbours (Reduce r_ op ty n) roll i j b e = absurd (cc)
+by_neighbours (Allreduce op ty n) roll i j b e = absurd (cc)
+by_neighbours (ReduceScatter op ty sizes) roll i j b e = absurd (cc)
+by_neighbours (ReduceScatterBlock op ty n) roll i j b e = absurd (cc)
+by_neighbours (Scan op ty n) roll i j b e = absurd (cc)
+by_neighbours (Exscan op ty n) roll i j b e = absurd (cc)
+by_neighbours (NeighborAllgather ty n) roll i j b e = e
+by_neighbours (NeighborAllgatherv ty) roll i j b e = e
+by_neighbours (NeighborAlltoall ty n) roll i j b e = e
+by_neighbours (NeighborAlltoallv ty) roll i j b e = e
+by_neighbours Dup roll i j b e = absurd (cc)
+by_neighbours Split roll i j b e = absurd (cc)
+by_neighbours (Create ranks) roll i j b e = absurd (cc)
+by_neighbours (CartCreate dims periods) roll i j b e = absurd (cc)
+by_neighbours (CartSub keep) roll i j b e = absurd (cc)
+
+stated_is : (roll : Roll) (i : ℕ) → IsFit roll → i < roll.shape.size → (s : Stated)
+    × (stated_by roll i ≡ Some s)
+stated_is roll i fit h = there (stated_by roll i) (fit.full i h) refl
+  where
+    there : (o : Option Stated) → IsSome o → stated_by roll i ≡ o → (s : Stated)
+        × (stated_by roll i ≡ Some s)
+    there (Some s) some e = (s, e)
+    there None some e = absurd (cc)
+
+pub spread_is : (roll : Roll) (spread : Spread) → IsFit roll → spread ≡ spread_by roll.sig
+    → (i j : ℕ) → i < roll.shape.size → j < roll.shape.size → routed roll i j
+    ≡ is_spread spread roll i j
+spread_is roll spread fit e i j h low =
+    let said = stated_is roll i fit h in
+    ⊎_elim
+    (λ b. by_neighbours roll.sig roll i j b (by_senders roll i j b))
+    (λ b. by_kind roll i j said.0 roll.sig roll.shape b low (as_asked roll i said.0 fit said.1)
+    (given_is roll i said.0 said.1)
+    (sym (by_place roll i j b h) ∙ sends_filled roll i said.0 fit said.1 j (place_by roll.sig i)))
+    (cases_Bool (is_neighbourly roll.sig))
+    ∙ ap (λ z. is_spread z roll i j) (sym e)
+
+-- ## kinds that reduce
+
+-- each rank gives as much as another
+same_given : (sig : Signature) (shape : Shape) (i j : ℕ) (own other : Own) (given more : ℕ)
+    → IsSome (reduction sig) → is_met (asked shape sig) (gives sig i) own given ≡ true
+    → is_met (asked shape sig) (gives sig j) other more ≡ true → given ≡ more
+unfolding reduction asked gives
+same_given Barrier shape i j own other given more some m k = absurd (cc)
+same_given (Bcast r_ ty n) shape i j own other given more some m k = absurd (cc)
+same_given (Gather r_ ty n) shape i j own other given more some m k = absurd (cc)
+same_given (Gatherv r_ ty) shape i j own other given more some m k = absurd (cc)
+same_given (Scatter r_ ty n) shape i j own other given more some m k = absurd (cc)
+same_given (Scatterv r_ ty) shape i j own other given more some m k = absurd (cc)
+same_given (Allgather ty n) shape i j own other given more some m k = absurd (cc)
+same_given (Allgatherv ty) shape i j own other given more some m k = absurd (cc)
+same_given (Alltoall ty n) shape i j own other given more some m k = absurd (cc)
+same_given (Alltoallv ty) shape i j own other given more some m k = absurd (cc)
+same_given (Reduce r_ op ty n) shape i j own other given more some m k =
+    exact n true own given m ∙ sym (exact n true other more k)
+same_given (Allreduce op ty n) shape i j own other given more some m k =
+    exact n true own given m ∙ sym (exact n true other more k)
+same_given (ReduceScatter op ty sizes) shape i j own other given more some m k =
+    exact (sum sizes) true own given m ∙ sym (exact (sum sizes) true other more k)
+same_given (ReduceScatterBlock op ty n) shape i j own other given more some m k =
+    exact (shape.size * n) true own given m ∙ sym (exact (shape.size * n) true other more k)
+same_given (Scan op ty n) shape i j own other given more some m k =
+    exact n true own given m ∙ sym (exact n true other more k)
+same_given (Exscan op ty n) shape i j own other given more some m k =
+    exact n true own given m ∙ sym (exact n true other more k)
+same_given (NeighborAllgather ty n) shape i j own other given more some m k = absurd (cc)
+same_given (NeighborAllgatherv ty) shape i j own other given more some m k = absurd (cc)
+same_given (NeighborAlltoall ty n) shape i j own other given more some m k = absurd (cc)
+same_given (NeighborAlltoallv ty) shape i j own other given more some m k = absurd (cc)
+same_given Dup shape i j own other given more some m k = absurd (cc)
+same_given Split shape i j own other given more some m k = absurd (cc)
+same_given (Create ranks) shape i j own other given more some m k = absurd (cc)
+same_given (CartCreate dims periods) shape i j own other given more some m k = absurd (cc)
+same_given (CartSub keep) shape i j own other given more some m k = absurd (cc)
+
+-- the sizes of the blocks are no rank's own
+same_sizes : (sig : Signature) (shape : Shape) (counts : List ℕ) → IsSome (reduction sig)
+    → sizes_by sig shape counts ≡ sizes_by sig shape []
+unfolding reduction sizes_by
+same_sizes Barrier shape counts some = absurd (cc)
+same_sizes (Bcast r_ ty n) shape counts some = absurd (cc)
+same_sizes (Gather r_ ty n) shape counts some = absurd (cc)
+same_sizes (Gatherv r_ ty) shape counts some = absurd (cc)
+same_sizes (Scatter r_ ty n) shape counts some = absurd (cc)
+same_sizes (Scatterv r_ ty) shape counts some = absurd (cc)
+same_sizes (Allgather ty n) shape counts some = absurd (cc)
+same_sizes (Allgatherv ty) shape counts some = absurd (cc)
+same_sizes (Alltoall ty n) shape counts some = absurd (cc)
+same_sizes (Alltoallv ty) shape counts some = absurd (cc)
+same_sizes (Reduce r_ op ty n) shape counts some = refl
+same_sizes (Allreduce op ty n) shape counts some = refl
+same_sizes (ReduceScatter op ty sizes) shape counts some = refl
+same_sizes (ReduceScatterBlock op ty n) shape counts some = refl
+same_sizes (Scan op ty n) shape counts some = refl
+same_sizes (Exscan op ty n) shape counts some = refl
+same_sizes (NeighborAllgather ty n) shape counts some = absurd (cc)
+same_sizes (NeighborAllgatherv ty) shape counts some = absurd (cc)
+same_sizes (NeighborAlltoall ty n) shape counts some = absurd (cc)
+same_sizes (NeighborAlltoallv ty) shape counts some = absurd (cc)
+same_sizes Dup shape counts some = absurd (cc)
+same_sizes Split shape counts some = absurd (cc)
+same_sizes (Create ranks) shape counts some = absurd (cc)
+same_sizes (CartCreate dims periods) shape counts some = absurd (cc)
+same_sizes (CartSub keep) shape counts some = absurd (cc)
+
+if_all : (l : Lane) (i n : ℕ) → i < n → l ≡ cond (nat_lt i n) l Nowhere
+if_all l i n h = ap (λ b. cond b l Nowhere) (sym (lt-ltb i n h))
+
+if_root : (a : Bool) (i n : ℕ) → i < n → cond (a && true) Whole Nowhere
+    ≡ cond (nat_lt i (cond a n 0)) Whole Nowhere
+if_root true i n h = if_all Whole i n h
+if_root false i n h = ap (λ b. cond b Whole Nowhere) (sym (le-ltb i 0 (omega arith)))
+
+up_to : (i j : ℕ) → nat_le i j ≡ nat_lt i (j + 1)
+up_to i j = ⊎_elim
+    (λ e. e ∙ sym (lt-ltb i (j + 1) (let low = leb-true i j e in omega arith)))
+    (λ e. e ∙ sym (le-ltb i (j + 1) (let high = leb-false i j e in omega arith)))
+    (cases_Bool (nat_le i j))
+
+and_true : (b : Bool) → (b && true) ≡ b
+and_true true = refl
+and_true false = refl
+
+lane_is : (sig : Signature) (shape : Shape) (i j : ℕ) → IsSome (reduction sig) → i < shape.size
+    → lane_by sig shape i j 0 ≡ cond (nat_lt i (until_by sig shape j)) (share_by sig j) Nowhere
+unfolding reduction lane_by until_by share_by
+lane_is Barrier shape i j some h = absurd (cc)
+lane_is (Bcast r_ ty n) shape i j some h = absurd (cc)
+lane_is (Gather r_ ty n) shape i j some h = absurd (cc)
+lane_is (Gatherv r_ ty) shape i j some h = absurd (cc)
+lane_is (Scatter r_ ty n) shape i j some h = absurd (cc)
+lane_is (Scatterv r_ ty) shape i j some h = absurd (cc)
+lane_is (Allgather ty n) shape i j some h = absurd (cc)
+lane_is (Allgatherv ty) shape i j some h = absurd (cc)
+lane_is (Alltoall ty n) shape i j some h = absurd (cc)
+lane_is (Alltoallv ty) shape i j some h = absurd (cc)
+lane_is (Reduce r_ op ty n) shape i j some h = if_root (nat_eq j r_) i shape.size h
+lane_is (Allreduce op ty n) shape i j some h = if_all Whole i shape.size h
+lane_is (ReduceScatter op ty sizes) shape i j some h = if_all (Block j) i shape.size h
+lane_is (ReduceScatterBlock op ty n) shape i j some h = if_all (Block j) i shape.size h
+lane_is (Scan op ty n) shape i j some h =
+    ap (λ b. cond b Whole Nowhere) (and_true (nat_le i j) ∙ up_to i j)
+lane_is (Exscan op ty n) shape i j some h = ap (λ b. cond b Whole Nowhere) (and_true (nat_lt i j))
+lane_is (NeighborAllgather ty n) shape i j some h = absurd (cc)
+lane_is (NeighborAllgatherv ty) shape i j some h = absurd (cc)
+lane_is (NeighborAlltoall ty n) shape i j some h = absurd (cc)
+lane_is (NeighborAlltoallv ty) shape i j some h = absurd (cc)
+lane_is Dup shape i j some h = absurd (cc)
+lane_is Split shape i j some h = absurd (cc)
+lane_is (Create ranks) shape i j some h = absurd (cc)
+lane_is (CartCreate dims periods) shape i j some h = absurd (cc)
+lane_is (CartSub keep) shape i j some h = absurd (cc)
+
+-- what is sent fits what was given
+sum_is : (sig : Signature) (shape : Shape) (i : ℕ) (own : Own) (given : ℕ) → IsSome (reduction sig)
+    → is_met (asked shape sig) (gives sig i) own given ≡ true → sum (sizes_by sig shape []) ≤ given
+unfolding reduction asked gives sizes_by
+sum_is Barrier shape i own given some m = absurd (cc)
+sum_is (Bcast r_ ty n) shape i own given some m = absurd (cc)
+sum_is (Gather r_ ty n) shape i own given some m = absurd (cc)
+sum_is (Gatherv r_ ty) shape i own given some m = absurd (cc)
+sum_is (Scatter r_ ty n) shape i own given some m = absurd (cc)
+sum_is (Scatterv r_ ty) shape i own given some m = absurd (cc)
+sum_is (Allgather ty n) shape i own given some m = absurd (cc)
+sum_is (Allgatherv ty) shape i own given some m = absurd (cc)
+sum_is (Alltoall ty n) shape i own given some m = absurd (cc)
+sum_is (Alltoallv ty) shape i own given some m = absurd (cc)
+sum_is (Reduce r_ op ty n) shape i own given some m = omega arith
+sum_is (Allreduce op ty n) shape i own given some m = omega arith
+sum_is (ReduceScatter op ty sizes) shape i own given some m =
+    (let same = exact (sum sizes) true own given m in omega arith)
+sum_is (ReduceScatterBlock op ty n) shape i own given some m =
+    (let same = exact (shape.size * n) true own given m in let all =
+    even_whole shape.size n in omega arith)
+sum_is (Scan op ty n) shape i own given some m = omega arith
+sum_is (Exscan op ty n) shape i own given some m = omega arith
+sum_is (NeighborAllgather ty n) shape i own given some m = absurd (cc)
+sum_is (NeighborAllgatherv ty) shape i own given some m = absurd (cc)
+sum_is (NeighborAlltoall ty n) shape i own given some m = absurd (cc)
+sum_is (NeighborAlltoallv ty) shape i own given some m = absurd (cc)
+sum_is Dup shape i own given some m = absurd (cc)
+sum_is Split shape i own given some m = absurd (cc)
+sum_is (Create ranks) shape i own given some m = absurd (cc)
+sum_is (CartCreate dims periods) shape i own given some m = absurd (cc)
+sum_is (CartSub keep) shape i own given some m = absurd (cc)
+
+pub ends_in : (l : Lane) (sizes : List ℕ) (given : ℕ) → sum sizes ≤ given
+    → share_end l sizes given ≤ given
+ends_in Nowhere sizes given h = omega arith
+ends_in Whole sizes given h = omega arith
+ends_in (Block b) sizes given h = (let front = sum_front sizes (b + 1) in omega arith)
+
+held : (l : Lane) (sizes : List ℕ) (given x : ℕ) → x < given
+    → (nat_le (share_start l sizes given) x && nat_lt x (share_end l sizes given)) ≡ holds l sizes x
+held Nowhere sizes given x h = and_false (nat_le 0 x) (nat_lt x 0) (le-ltb x 0 (omega arith))
+  where
+    and_false : (a b : Bool) → b ≡ false → (a && b) ≡ false
+    and_false true b e = e
+    and_false false b e = refl
+held Whole sizes given x h =
+    and_from (nat_le 0 x) (nat_lt x given) (le-leb 0 x (omega arith)) (lt-ltb x given h)
+held (Block b) sizes given x h = refl
+
+held_if : (b : Bool) (l : Lane) (sizes : List ℕ) (given x : ℕ) → x < given
+    → (b && (nat_le (share_start l sizes given) x && nat_lt x (share_end l sizes given)))
+    ≡ holds (cond b l Nowhere) sizes x
+held_if true l sizes given x h = held l sizes given x h
+held_if false l sizes given x h = refl
+
+-- of rank i, as the statement of rank j tells what all of them give
+module _ (roll : Roll) (i j : ℕ) (receiver : Stated) (fit : IsFit roll)
+    (some : IsSome (reduction roll.sig)) (said : stated_by roll j
+    ≡ Some receiver) (h : i < roll.shape.size) where
+  given_alike : given roll i ≡ receiver.given
+  given_alike =
+      let other = stated_is roll i fit h in
+      given_is roll i other.0 other.1
+      ∙ same_given roll.sig roll.shape i j other.0.own receiver.own other.0.given receiver.given
+      some (as_asked roll i other.0 fit other.1) (as_asked roll j receiver fit said)
+
+  pub sent_alike : (until start end : ℕ) → until ≡ until_by roll.sig roll.shape j → start
+      ≡ share_start (share_by roll.sig j) (sizes_by roll.sig roll.shape []) receiver.given → end
+      ≡ share_end (share_by roll.sig j) (sizes_by roll.sig roll.shape []) receiver.given → (x : ℕ)
+      → x < given roll i → (nat_lt i until && (nat_le start x && nat_lt x end)) ≡ goes roll i x j 0
+  sent_alike until start end u a z x low =
+      (λ k. nat_lt i (u k) && (nat_le (a k) x && nat_lt x (z k)))
+      ∙ (held_if (nat_lt i (until_by roll.sig roll.shape j)) (share_by roll.sig j)
+      (sizes_by roll.sig roll.shape []) receiver.given x (omega (arith, given_alike, low))
+      ∙ ((λ k. holds (sym (lane_is roll.sig roll.shape i j some h) k)
+      (sym (same_sizes roll.sig roll.shape (own_counts_in (stated_by roll i)) some) k) x)
+      ∙ sym (goes-lane roll.sig roll.shape (own_counts_in (stated_by roll i)) i x j 0)))
+
+  pub end_within : (end : ℕ) → end
+      ≡ share_end (share_by roll.sig j) (sizes_by roll.sig roll.shape []) receiver.given
+      → end ≤ given roll i
+  end_within end z =
+      (let fits =
+      ends_in (share_by roll.sig j) (sizes_by roll.sig roll.shape []) receiver.given
+      (sum_is roll.sig roll.shape j receiver.own receiver.given some
+      (as_asked roll j receiver fit said)) in
+      let same = given_alike in
+      omega arith)
+
+pub sum_within : (roll : Roll) (j : ℕ) (receiver : Stated) → IsFit roll
+    → IsSome (reduction roll.sig) → stated_by roll j ≡ Some receiver
+    → sum (sizes_by roll.sig roll.shape []) ≤ receiver.given
+sum_within roll j receiver fit some said =
+    sum_is roll.sig roll.shape j receiver.own receiver.given some
+    (as_asked roll j receiver fit said)
+
+root_within : (a : Bool) (n : ℕ) → cond a n 0 ≤ n
+root_within true n = omega arith
+root_within false n = omega arith
+
+-- the ranks that send are ranks
+pub until_within : (sig : Signature) (shape : Shape) (j : ℕ) → IsSome (reduction sig)
+    → j < shape.size → until_by sig shape j ≤ shape.size
+unfolding reduction until_by
+until_within Barrier shape j some h = absurd (cc)
+until_within (Bcast r_ ty n) shape j some h = absurd (cc)
+until_within (Gather r_ ty n) shape j some h = absurd (cc)
+until_within (Gatherv r_ ty) shape j some h = absurd (cc)
+until_within (Scatter r_ ty n) shape j some h = absurd (cc)
+until_within (Scatterv r_ ty) shape j some h = absurd (cc)
+until_within (Allgather ty n) shape j some h = absurd (cc)
+until_within (Allgatherv ty) shape j some h = absurd (cc)
+until_within (Alltoall ty n) shape j some h = absurd (cc)
+until_within (Alltoallv ty) shape j some h = absurd (cc)
+until_within (Reduce r_ op ty n) shape j some h = root_within (nat_eq j r_) shape.size
+until_within (Allreduce op ty n) shape j some h = (omega arith)
+until_within (ReduceScatter op ty sizes) shape j some h = (omega arith)
+until_within (ReduceScatterBlock op ty n) shape j some h = (omega arith)
+until_within (Scan op ty n) shape j some h = (omega arith)
+until_within (Exscan op ty n) shape j some h = (omega arith)
+until_within (NeighborAllgather ty n) shape j some h = absurd (cc)
+until_within (NeighborAllgatherv ty) shape j some h = absurd (cc)
+until_within (NeighborAlltoall ty n) shape j some h = absurd (cc)
+until_within (NeighborAlltoallv ty) shape j some h = absurd (cc)
+until_within Dup shape j some h = absurd (cc)
+until_within Split shape j some h = absurd (cc)
+until_within (Create ranks) shape j some h = absurd (cc)
+until_within (CartCreate dims periods) shape j some h = absurd (cc)
+until_within (CartSub keep) shape j some h = absurd (cc)
