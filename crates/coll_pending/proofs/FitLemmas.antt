@@ -3,7 +3,7 @@ use Rattle.std.proofs.Common.{◌≡◌, ℕ, ◌+◌, ◌≤◌, List, [], ◌�
 use Rattle.std.proofs.lemmas.Bool.{eqb-true, le-leb, ltb-false, and_from, cases_Bool}
 use Rattle.mpi_elems.specs.declared.elem_type.ElemType.{ElemType}
 use Rattle.mpi_group.specs.Groups.{ranks_fault}
-use Rattle.mpi_group.proofs.GroupLemmas.{no_fault, ranks_within, length_distinct}
+use Rattle.mpi_group.proofs.MpiGroupLemmas.{no_fault, ranks_within, length_distinct}
 use Rattle.mpi_cart.specs.declared.grid.TheConstants.{DIMENSION_LIMIT}
 use Rattle.mpi_cart.specs.Faults.{first_fault, are_bad_dims}
 use Rattle.mpi_cart.specs.Grids.{Topology}
@@ -16,7 +16,7 @@ use Rattle.coll_routes.specs.declared.fault.ShapeFault.TheVariants.{NoTopology, 
 use Rattle.coll_routes.specs.Signatures.{numbers, flags, elem_type, count}
 use Rattle.coll_routes.specs.Rolls.{slots, slots_in}
 use Rattle.coll_routes.specs.Faults.{shape_fault, first_that, no_topology, bad_root, bad_op, bad_count, bad_colour, not_subgroup, bad_dims, is_listed, is_met, asked, gives, is_of_type, is_above_limit, is_asked_above_limit, is_ill_kept}
-use Rattle.coll_routes.proofs.CutLemmas.{count_is_good}
+use Rattle.coll_routes.proofs.CollRoutesLemmas.{count_is_good}
 use Rattle.coll_pending.specs.Laws.{FaultlessSignaturesFit}
 use Rattle.coll_pending.specs.Lists.{ListRoom, fits, room_by}
 use Rattle.std.specs.Prelude.{unwrap_or}

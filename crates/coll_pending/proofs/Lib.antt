@@ -1,4 +1,10 @@
+pub mod ArriveLemmas
+pub mod ChangeLemmas
 pub mod FitLemmas
-pub mod KeyedLemmas
-pub mod PostLemmas
-pub mod ShownLemmas
+pub mod KeyLemmas
+pub mod OpenLemmas
+pub mod PendingLemmas
+pub mod RowLemmas
+pub mod SlotLemmas
+pub mod TableLemmas
+pub mod CollPendingLemmas

@@ -15,6 +15,9 @@ pub record Communicator : Type 0 where
   pub members : List ℕ
   pub shape : Shape
 
+abbrev pub made_of : List ℕ → Shape → Communicator
+made_of members shape = record { members = members; shape = shape }
+
 -- a roll, and for each rank the part that it brought, if it has posted
 pub record Instance (X : Type 0) : Type 0 where
   pub roll : Roll
@@ -35,7 +38,13 @@ is_begun rows = list_any (λ row. is_some row) rows
 -- an instance of a communicator, for which nobody has posted
 abbrev pub vacant : {X : Type 0} → Communicator → Signature → Instance X
 vacant comm sig = record {
-  roll = record { members = comm.members; shape = comm.shape; sig = sig; stated = replicate (length comm.members) None };
+  roll = record {
+    members = comm.members;
+    shape = comm.shape;
+    sig = sig;
+    stated =
+        replicate (length comm.members) None;
+  };
   parts = replicate (length comm.members) None;
 }
 
@@ -57,7 +66,8 @@ entered rank stated part instance = record {
 }
 
 -- the instance after an arrival
-abbrev pub joined : {X : Type 0} → Communicator → (rank : ℕ) → Stated → X → Option (Instance X) → Instance X
+abbrev pub joined : {X : Type 0} → Communicator → (rank : ℕ) → Stated → X → Option (Instance X) →
+    Instance X
 joined comm rank stated part waiting = entered rank stated part (met comm stated.sig waiting)
 
 -- the roll of an instance, if there is one
@@ -65,8 +75,8 @@ abbrev pub roll_in : {X : Type 0} → Option (Instance X) → Option Roll
 roll_in (Some waiting) = Some waiting.roll
 roll_in None = None
 
--- what an arrival of a rank with this signature does to an instance of this roll: it is another than the instance's, or it opens one, or
--- joins it as the last one or not
+-- what an arrival of a rank with this signature does to an instance of this roll: it is another
+-- than the instance's, or it opens one, or joins it as the last one or not
 abbrev pub next_by : Option Roll → (rank : ℕ) → Signature → Next
 next_by None rank sig = Opens
 next_by (Some roll) rank sig =

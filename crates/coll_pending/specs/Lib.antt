@@ -1,7 +1,7 @@
 pub mod Instances
 pub mod Keyed
 pub mod Laws
-pub mod Lines
 pub mod Lists
-pub mod Openings
+pub mod Queues
+pub mod Spares
 pub mod Waiting

@@ -15,6 +15,8 @@ pub record ListRoom : Type 0 where
 abbrev pub fits : ListRoom → Signature → Bool
 fits room sig = nat_le (length (numbers sig)) room.numbers && nat_le (length (flags sig)) room.flags
 
--- the room that is made for a signature before it is known: enough for each that has no fault on a communicator of this shape
+-- the room that is made for a signature before it is known: enough for each that has no fault on
+-- a communicator of this shape
 abbrev pub room_by : Shape → ListRoom
-room_by shape = record { numbers = shape.size + DIMENSION_LIMIT; flags = slots shape + DIMENSION_LIMIT }
+room_by shape =
+    record { numbers = shape.size + DIMENSION_LIMIT; flags = slots shape + DIMENSION_LIMIT }

@@ -1,4 +1,4 @@
-//! What comes of an arrival.
+//! Answers to arrivals.
 ghost use Rattle.std.specs.Prelude.{◌≡◌};
 
 use coll_routes::Stated;
@@ -18,7 +18,7 @@ pub enum Next {
     Mismatch,
 }
 
-/// What an arrival came to.
+/// The answer to an arrival.
 #[derive(Drop)]
 pub enum Arrived<X> {
     /// The instance waits for other members.

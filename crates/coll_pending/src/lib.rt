@@ -1,19 +1,21 @@
-//! Instances of collectives that wait for members. (MPI 4.1, section 6.12: collectives of a communicator meet in the order in which each
-//! member starts them.)
+//! Instances of collectives that wait for members. (MPI 4.1, section 6.12: collectives of a
+//! communicator meet in the order in which each member starts them.)
 //!
-//! `ready` takes the memory that an arrival needs, and `arrive` then takes none, if the post has no fault by itself (see `laws`).
+//! `ready` takes the memory that an arrival needs, and `arrive` then takes none, if the post has no
+//! fault by itself (see `laws`).
 #![tactic(auto)]
 
 mod arrival;
 pub mod laws;
-mod line;
 mod lists;
-mod opened;
-mod openings;
+mod parts;
 mod pending;
+mod queue;
+mod queues;
+mod slot;
+mod spare;
 #[cfg(test)]
 mod tests;
-mod tray;
 
 pub use arrival::{ArrivalFault, Arrived, Next, Unarrived};
 pub use pending::Pending;

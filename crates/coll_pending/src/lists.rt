@@ -1,16 +1,19 @@
 //! Room for the lists of a signature, made before the signature is known.
-ghost use Rattle.std.specs.Prelude.{◌≡◌, ◌+◌, ◌≤◌, [], ◌∷◌, length, IfOk, true, vec_len, vec_capacity};
+ghost use Rattle.std.specs.Prelude.{◌≡◌, ◌+◌, ◌≤◌, [], ◌∷◌, length, IfOk, IsErr, OnOk, OnErr, true, false, vec_len, vec_capacity};
 ghost use Rattle.coll_routes.specs.Signatures.{numbers, flags};
 ghost use Rattle.coll_routes.specs.Rolls.{slots};
-ghost use Rattle.coll_pending.specs.Lists.{fits, room_by};
+ghost use Rattle.coll_pending.specs.Lists.{fits};
+ghost use Rattle.coll_pending.specs.Spares.{AreListsFor};
 
 use coll_routes::{Flags, Numbers, Shape, Signature};
 use mpi_cart::DIMENSION_LIMIT;
 use std::alloc::Global;
 use std::marker::Model;
+use std::mem;
 use wall_labels::NoMemory;
 
-/// Room for one list of numbers and one of truth values. Contracts see how many items each may have.
+/// Room for one list of numbers and one of truth values. Contracts see how many items each may
+/// have.
 #[derive(Drop)]
 pub struct Lists {
     numbers: Vec<u32>,
@@ -25,7 +28,8 @@ impl Model for Lists {
 
     ghost view = { λ l. record { numbers = vec_capacity l.numbers; flags = vec_capacity l.flags } };
 
-    ghost invariant = { λ l. ((l.numbers.items ≡ []) × (vec_len l.numbers ≡ 0)) × ((l.flags.items ≡ []) × (vec_len l.flags ≡ 0)) };
+    ghost invariant = { λ l. ((l.numbers.items ≡ []) × (vec_len l.numbers ≡ 0))
+        × ((l.flags.items ≡ []) × (vec_len l.flags ≡ 0)) };
 }
 
 impl Lists {
@@ -37,13 +41,21 @@ impl Lists {
         }
     }
 
-    /// Room for the lists of each signature that has no fault on a communicator of this shape.
-    pub fn by_shape(alloc: Global, shape: &Shape) -> Result<Lists, NoMemory>
-        ensures { IfOk result (λ lists. lists ≡ room_by shape.now) }
+    /// Makes room for the lists of each signature that has no fault on a communicator of this
+    /// shape.
+    pub fn ready(&mut self, alloc: Global, shape: &Shape) -> Result<(), NoMemory>
+        ensures ok { OnOk result (AreListsFor shape.now self.new) }
+        ensures memory { AreListsFor shape.now self.old → OnErr result ⊥ }
     {
-        let numbers = Vec::with_capacity(alloc, shape.size as usize + DIMENSION_LIMIT)?;
-        let flags = Vec::with_capacity(alloc, number_of_slots(shape) + DIMENSION_LIMIT)?;
-        Ok(Lists { numbers, flags })
+        let numbers = shape.size as usize + DIMENSION_LIMIT;
+        if self.numbers.capacity() < numbers {
+            self.numbers = Vec::with_capacity(alloc, numbers)?;
+        }
+        let flags = number_of_slots(shape) + DIMENSION_LIMIT;
+        if self.flags.capacity() < flags {
+            self.flags = Vec::with_capacity(alloc, flags)?;
+        }
+        Ok(())
     }
 
     /// Whether the lists of the signature are short enough.
@@ -53,13 +65,25 @@ impl Lists {
         sig.numbers().len() <= self.numbers.capacity() && sig.flags().len() <= self.flags.capacity()
     }
 
-    /// An equal signature, in this room. Takes no memory.
+    /// An equal signature, in this room if that is enough.
+    pub fn copied(&mut self, alloc: Global, sig: &Signature) -> Result<Signature, NoMemory>
+        ensures made { IfOk result (λ copy. copy ≡ sig.now) }
+        ensures err { OnErr result (self.new ≡ self.old) }
+        ensures memory { IsErr result → fits self.old sig.now ≡ false }
+    {
+        if self.fits(sig) {
+            Ok(self.copy_of(alloc, sig))
+        } else {
+            sig.copy(alloc)
+        }
+    }
+
+    // An equal signature, in this room. Takes no memory.
     #[tactic(auto, unfolding(coll_routes::specs::Signatures::numbers, coll_routes::specs::Signatures::flags))]
-    pub fn copy_of(self, alloc: Global, sig: &Signature) -> Signature
-        requires { fits self sig.now ≡ true }
+    fn copy_of(&mut self, alloc: Global, sig: &Signature) -> Signature
+        requires { fits self.old sig.now ≡ true }
         ensures { result ≡ sig.now }
     {
-        let Lists { numbers, flags } = self;
         match sig {
             Signature::ReduceScatter {
                 op,
@@ -68,17 +92,17 @@ impl Lists {
             } => Signature::ReduceScatter {
                 op: *op,
                 elem_type: *elem_type,
-                counts: numbers_in(numbers, counts),
+                counts: numbers_in(mem::replace(&mut self.numbers, Vec::new(alloc)), counts),
             },
             Signature::Create { ranks } => Signature::Create {
-                ranks: numbers_in(numbers, ranks),
+                ranks: numbers_in(mem::replace(&mut self.numbers, Vec::new(alloc)), ranks),
             },
             Signature::CartCreate { dims, periods } => Signature::CartCreate {
-                dims: numbers_in(numbers, dims),
-                periods: flags_in(flags, periods),
+                dims: numbers_in(mem::replace(&mut self.numbers, Vec::new(alloc)), dims),
+                periods: flags_in(mem::replace(&mut self.flags, Vec::new(alloc)), periods),
             },
             Signature::CartSub { keep } => Signature::CartSub {
-                keep: flags_in(flags, keep),
+                keep: flags_in(mem::replace(&mut self.flags, Vec::new(alloc)), keep),
             },
             _ => match sig.copy(alloc) {
                 Ok(copy) => copy,

@@ -1,15 +1,12 @@
 //! The instances of all communicators that wait for members.
-ghost use Rattle.std.specs.Prelude.{◌≡◌, ◌≢◌, ◌<◌, ◌^◌, ℕ, [], length, true, IfOk, IfErr, OnOk, OnErr, IsOk, IsErr, MatchOption, IfSome, slice_get, Some, None};
+ghost use Rattle.std.specs.Prelude.{◌≡◌, ◌≢◌, ◌<◌, ◌^◌, ℕ, length, true, IfOk, IfErr, OnOk, OnErr, None, Some};
 ghost use Rattle.std.specs.Option.{option_copied};
-ghost use Rattle.coll_pending.specs.declared.arrival.Next.TheVariants.{Mismatch};
-ghost use Rattle.coll_pending.specs.Instances.{roll_in};
-ghost use Rattle.coll_pending.specs.Keyed.{look, AreDistinct};
-ghost use Rattle.coll_pending.specs.Lines.{Line, comm_of, communicator};
-ghost use Rattle.coll_pending.specs.Lists.{fits, room_by};
-ghost use Rattle.coll_pending.specs.Waiting.{shown, known, IsKnownAs, IsLineOf};
+ghost use Rattle.coll_pending.specs.declared.arrival.Next.TheVariants.{Opens, Mismatch};
+ghost use Rattle.coll_pending.specs.Instances.{Communicator, made_of};
 
 use crate::arrival::{ArrivalFault, Arrived, Next, Unarrived};
-use crate::line::Line;
+use crate::queues::Queues;
+use crate::spare::Spare;
 use coll_routes::{Roll, Shape, Signature, Stated};
 use mpi_group::Group;
 use std::alloc::Global;
@@ -18,77 +15,76 @@ use wall_labels::NoMemory;
 
 /// Instances that wait for members, each by its communicator and its number on it.
 ///
-/// The k-th arrivals of the members of a communicator meet in its k-th instance, whatever comes between them. Communicators, ranks, arrivals
-/// and instances count from 0. Contracts see the number of arrivals of each member, the instances that wait, and the members and the shape of
-/// each communicator from its first arrival on.
+/// The k-th arrivals of the members of a communicator meet in its k-th instance, whatever comes
+/// between them. Communicators, ranks, arrivals and instances count from 0. Contracts see, by
+/// `shown`, the number of arrivals of each member, the instances that wait, and the members and
+/// the shape of each communicator from its first arrival on.
+///
+/// No call takes longer for more instances that wait, or for more arrivals before. Memory grows
+/// with the highest number of a communicator that is known and with the instances that wait.
 #[derive(Drop)]
 pub struct Pending<X> {
     alloc: Global,
-    lines: Vec<Line<X>>,
+    queues: Queues<X>,
+    spare: Spare<X>,
 }
 
 impl<X> Model for Pending<X> {
-    ghost use Rattle.std.specs.Prelude.{List};
-    ghost use Rattle.coll_pending.specs.Keyed.{AreDistinct};
-    ghost use Rattle.coll_pending.specs.Lines.{Line, comm_of};
+    ghost use Rattle.coll_pending.specs.Waiting.{State};
 
-    ghost Value = { List (Line X) };
+    ghost Value = { State X };
 
-    ghost view = { λ p. p.lines.items };
-
-    ghost invariant = { λ p. AreDistinct comm_of p.lines.items };
+    ghost view = { λ p. record { queues = p.queues; spare = p.spare } };
 }
 
 impl<X: Drop> Pending<X> {
-    ghost use Rattle.coll_pending.specs.Keyed.{look};
-    ghost use Rattle.coll_pending.specs.Lines.{Line, comm_of, communicator};
-    ghost use Rattle.coll_pending.specs.Instances.{roll_in};
+    ghost use Rattle.coll_pending.specs.Instances.{Communicator, made_of, roll_in};
     ghost use Rattle.coll_pending.specs.Lists.{fits, room_by};
-    ghost use Rattle.coll_pending.specs.Waiting.{shown, arrivals, pending, known, next, HasRoom, HasArrived, IsKnownAs, IsReady, fault_at};
+    ghost use Rattle.coll_pending.specs.Waiting.{view_of_pending, next, HasRoom, HasArrived, IsKnownAs, IsOpened, CanArrive, fault_at};
 
     /// Nobody has arrived.
+    #[tactic(auto, unfolding(crate::specs::Waiting::view_of_pending))]
     pub fn new(alloc: Global) -> Pending<X>
-        ensures arrivals { (comm rank : ℕ) → arrivals result comm rank ≡ 0 }
-        ensures pending { (comm k : ℕ) → pending result comm k ≡ None }
-        ensures known { (comm : ℕ) → known result comm ≡ None }
+        ensures arrivals { (comm rank : ℕ) → (view_of_pending result).arrivals comm rank ≡ 0 }
+        ensures pending { (comm k : ℕ) → (view_of_pending result).pending comm k ≡ None }
+        ensures known { (comm : ℕ) → (view_of_pending result).known comm ≡ None }
     {
         Pending {
             alloc,
-            lines: Vec::new(alloc),
+            queues: Queues::new(alloc),
+            spare: Spare::none(alloc),
         }
     }
 
     /// How often a rank has arrived on a communicator. Refused arrivals don't count.
+    #[tactic(auto, unfolding(crate::specs::Waiting::view_of_pending))]
     pub fn arrivals(&self, comm: u32, rank: u32) -> u64
-        ensures { result ≡ arrivals self.now comm rank }
+        ensures { result ≡ (view_of_pending self.now).arrivals comm rank }
     {
-        match line_at(&self.lines, comm) {
-            Some(line) => line.count(rank),
-            None => 0,
-        }
+        self.queues.arrivals(comm, rank)
     }
 
     /// What the next arrival of a rank on a communicator would do, if it has this signature.
+    #[tactic(auto, unfolding(crate::specs::Waiting::view_of_pending))]
     pub fn next(&self, comm: u32, rank: u32, sig: &Signature) -> Next
-        ensures { result ≡ next (shown self.now) comm rank sig.now }
+        ensures { result ≡ next (view_of_pending self.now) comm rank sig.now }
     {
-        match line_at(&self.lines, comm) {
-            Some(line) => line.next(rank, sig),
-            None => Next::Opens,
-        }
+        self.queues.next(comm, rank, sig)
     }
 
     /// The roll of the k-th instance of a communicator, if it waits for members.
+    #[tactic(auto, unfolding(crate::specs::Waiting::view_of_pending))]
     pub fn roll(&self, comm: u32, k: u64) -> Option<&Roll>
-        ensures { option_copied result ≡ roll_in (pending self.now comm k) }
+        ensures { option_copied result ≡ roll_in ((view_of_pending self.now).pending comm k) }
     {
-        match line_at(&self.lines, comm) {
-            Some(line) => line.roll(k),
+        match self.queues.slot(comm, k) {
+            Some(slot) => Some(&slot.roll),
             None => None,
         }
     }
 
     /// Makes the room with which the next arrival, if it is that member's, takes no memory.
+    #[tactic(auto, unfolding(crate::specs::Waiting::view_of_pending, crate::specs::Waiting::HasRoom))]
     pub fn ready(
         &mut self,
         comm: u32,
@@ -97,17 +93,25 @@ impl<X: Drop> Pending<X> {
         shape: &Shape,
     ) -> Result<(), NoMemory>
         requires rank { rank < length group.now }
-        requires known { IsKnownAs (record { members = group.now; shape = shape.now }) (known self.old comm) }
-        ensures unchanged { shown self.new ≡ shown self.old }
-        ensures room { OnOk result (HasRoom self.new comm rank (record { members = group.now; shape = shape.now })) }
-        ensures memory { HasRoom self.old comm rank (record { members = group.now; shape = shape.now }) → OnErr result ⊥ }
+        requires known { IsKnownAs (made_of group.now shape.now) ((view_of_pending self.old).known comm) }
+        ensures unchanged { view_of_pending self.new ≡ view_of_pending self.old }
+        ensures room { OnOk result (HasRoom self.new comm rank (made_of group.now shape.now)) }
+        ensures memory { HasRoom self.old comm rank (made_of group.now shape.now) → OnErr result ⊥ }
     {
-        let at = line_for(&mut self.lines, self.alloc, comm, group, shape)?;
-        self.lines[at].ready(self.alloc, rank)
+        if self.queues.meets(comm, rank) {
+            return Ok(());
+        }
+        self.queues.reserve(comm)?;
+        let is_known = self.queues.knows(comm);
+        self.spare.ready(self.alloc, group, shape, is_known)
     }
 
-    /// A member arrives with its statement and its part. It is refused where its instance is of another signature, or where memory is wanted;
-    /// statement and part then come back.
+    /// A member arrives with its statement and its part. It is refused where its instance is of
+    /// another signature, or where memory runs out; statement and part then come back.
+    ///
+    /// After `ready` an arrival at an instance that waits takes no memory, whatever its signature.
+    /// One that opens an instance keeps its signature twice, in the roll and in its own row, and
+    /// takes no memory if its lists are no longer than a communicator of that shape allows.
     pub fn arrive(
         &mut self,
         comm: u32,
@@ -118,13 +122,18 @@ impl<X: Drop> Pending<X> {
         part: X,
     ) -> Result<Arrived<X>, Unarrived<X>>
         requires rank { rank < length group.now }
-        requires known { IsKnownAs (record { members = group.now; shape = shape.now }) (known self.old comm) }
-        requires few { arrivals self.old comm rank < 2 ^ 62 }
-        ensures arrived { IfOk result (HasArrived (shown self.old) (shown self.new) comm rank (record { members = group.now; shape = shape.now }) stated part) }
-        ensures unchanged { OnErr result (shown self.new ≡ shown self.old) }
-        ensures fault { IfErr result (λ refused. refused.fault ≡ fault_at (next (shown self.old) comm rank stated.sig)) }
+        requires known { IsKnownAs (made_of group.now shape.now) ((view_of_pending self.old).known comm) }
+        requires few { (view_of_pending self.old).arrivals comm rank < 2 ^ 62 }
+        ensures arrived { IfOk result
+            (HasArrived (view_of_pending self.old) (view_of_pending self.new) comm rank
+            (made_of group.now shape.now) stated part) }
+        ensures unchanged { OnErr result (view_of_pending self.new ≡ view_of_pending self.old) }
+        ensures fault { IfErr result
+            (λ refused. refused.fault ≡ fault_at (next (view_of_pending self.old) comm rank stated.sig)) }
         ensures back { IfErr result (λ refused. (refused.stated ≡ stated) × (refused.part ≡ part)) }
-        ensures memory { HasRoom self.old comm rank (record { members = group.now; shape = shape.now }) → fits (room_by shape.now) stated.sig ≡ true →
+        ensures memory { HasRoom self.old comm rank (made_of group.now shape.now) →
+            (next (view_of_pending self.old) comm rank stated.sig ≡ Opens →
+            fits (room_by shape.now) stated.sig ≡ true) →
             IfErr result (λ refused. refused.fault ≢ ArrivalFault.NoMemory) }
     {
         match self.next(comm, rank, &stated.sig) {
@@ -148,16 +157,22 @@ impl<X: Drop> Pending<X> {
         part: X,
     ) -> Result<Arrived<X>, Unarrived<X>>
         requires rank { rank < length group.now }
-        requires known { IsKnownAs (record { members = group.now; shape = shape.now }) (known self.old comm) }
-        requires few { arrivals self.old comm rank < 2 ^ 62 }
-        requires agrees { next (shown self.old) comm rank stated.sig ≢ Mismatch }
-        ensures arrived { IfOk result (HasArrived (shown self.old) (shown self.new) comm rank (record { members = group.now; shape = shape.now }) stated part) }
-        ensures unchanged { OnErr result (shown self.new ≡ shown self.old) }
-        ensures back { IfErr result (λ refused. (refused.fault ≡ ArrivalFault.NoMemory) × (refused.stated ≡ stated) × (refused.part ≡ part)) }
-        ensures memory { HasRoom self.old comm rank (record { members = group.now; shape = shape.now }) → fits (room_by shape.now) stated.sig ≡ true → OnErr result ⊥ }
+        requires known { IsKnownAs (made_of group.now shape.now) ((view_of_pending self.old).known comm) }
+        requires few { (view_of_pending self.old).arrivals comm rank < 2 ^ 62 }
+        requires agrees { next (view_of_pending self.old) comm rank stated.sig ≢ Mismatch }
+        ensures arrived { IfOk result
+            (HasArrived (view_of_pending self.old) (view_of_pending self.new) comm rank
+            (made_of group.now shape.now) stated part) }
+        ensures unchanged { OnErr result (view_of_pending self.new ≡ view_of_pending self.old) }
+        ensures back { IfErr result
+            (λ u. (u.fault ≡ ArrivalFault.NoMemory) × (u.stated ≡ stated) × (u.part ≡ part)) }
+        ensures memory { HasRoom self.old comm rank (made_of group.now shape.now) →
+            (next (view_of_pending self.old) comm rank stated.sig ≡ Opens →
+            fits (room_by shape.now) stated.sig ≡ true) →
+            OnErr result ⊥ }
     {
-        match self.ready(comm, rank, group, shape) {
-            Ok(()) => self.accept(comm, rank, stated, part),
+        match self.open(comm, rank, group, shape, &stated.sig) {
+            Ok(()) => Ok(self.queues.arrive(comm, rank, stated, part)),
             Err(_) => Err(Unarrived {
                 fault: ArrivalFault::NoMemory,
                 stated,
@@ -166,87 +181,37 @@ impl<X: Drop> Pending<X> {
         }
     }
 
-    // Accepts an arrival for which there is room.
-    fn accept(
+    // Opens the instance that an arrival of a rank meets, if it does not wait yet.
+    fn open(
         &mut self,
         comm: u32,
         rank: u32,
-        stated: Stated,
-        part: X,
-    ) -> Result<Arrived<X>, Unarrived<X>>
-        requires { IfSome (look comm_of self.old comm) (IsReady rank stated.sig) }
-        ensures ok { IfOk result (λ arrived. (line : Line X) → look comm_of self.old comm ≡ Some line → HasArrived (shown self.old) (shown self.new) comm rank (communicator line) stated part arrived) }
-        ensures err { OnErr result (self.new ≡ self.old) }
-        ensures back { IfErr result (λ u. (u.fault ≡ ArrivalFault.NoMemory) × (u.stated ≡ stated) × (u.part ≡ part)) }
-        ensures memory { (line : Line X) → look comm_of self.old comm ≡ Some line → fits (room_by line.shape) stated.sig ≡ true → OnErr result ⊥ }
+        group: &Group,
+        shape: &Shape,
+        sig: &Signature,
+    ) -> Result<(), NoMemory>
+        requires rank { rank < length group.now }
+        requires known { IsKnownAs (made_of group.now shape.now) ((view_of_pending self.old).known comm) }
+        requires agrees { next (view_of_pending self.old) comm rank sig.now ≢ Mismatch }
+        ensures opened { OnOk result
+            (IsOpened (view_of_pending self.old) (view_of_pending self.new) comm rank
+            (made_of group.now shape.now) sig.now) }
+        ensures meets { OnOk result
+            (CanArrive self.new.queues comm rank (made_of group.now shape.now) sig.now) }
+        ensures unchanged { OnErr result (view_of_pending self.new ≡ view_of_pending self.old) }
+        ensures memory { HasRoom self.old comm rank (made_of group.now shape.now) →
+            (next (view_of_pending self.old) comm rank sig.now ≡ Opens →
+            fits (room_by shape.now) sig.now ≡ true) →
+            OnErr result ⊥ }
     {
-        match position(&self.lines, comm) {
-            Some(at) => self.lines[at].arrive(self.alloc, rank, stated, part),
-            None => Err(Unarrived {
-                fault: ArrivalFault::NoMemory,
-                stated,
-                part,
-            }),
+        self.ready(comm, rank, group, shape)?;
+        if self.queues.meets(comm, rank) {
+            return Ok(());
         }
-    }
-}
-
-// Where the communicator of that number is.
-fn position<X: Drop>(lines: &[Line<X>], comm: u32) -> Option<usize>
-    ensures found { MatchOption result (look comm_of lines.now comm ≡ None)
-        (λ at. slice_get lines.now at ≡ look comm_of lines.now comm) }
-    ensures there { IfSome result (λ at. IfSome (slice_get lines.now at) (λ line. line.comm ≡ comm)) }
-    ensures within { IfSome result (λ at. at < length lines.now) }
-{
-    for at in 0..lines.len() {
-        let line = &lines[at];
-        if line.comm() == comm {
-            return Some(at);
-        }
-    }
-    None
-}
-
-// The communicator of that number.
-fn line_at<X: Drop>(lines: &[Line<X>], comm: u32) -> Option<&Line<X>>
-    ensures { option_copied result ≡ look comm_of lines.now comm }
-{
-    match position(lines, comm) {
-        Some(at) => lines.get(at),
-        None => None,
-    }
-}
-
-// Where the communicator with these members and this shape is; it is entered if it is not there.
-fn line_for<X: Drop>(
-    lines: &mut Vec<Line<X>>,
-    alloc: Global,
-    comm: u32,
-    group: &Group,
-    shape: &Shape,
-) -> Result<usize, NoMemory>
-    requires distinct { AreDistinct comm_of lines.old.items }
-    requires known { IsKnownAs (record { members = group.now; shape = shape.now }) (known lines.old.items comm) }
-    ensures distinct { AreDistinct comm_of lines.new.items }
-    ensures unchanged { shown lines.new.items ≡ shown lines.old.items }
-    ensures there { IfOk result (λ at. (at < length lines.new.items) × IfSome (slice_get lines.new.items at) (IsLineOf comm (record { members = group.now; shape = shape.now }))) }
-    ensures memory { (line : Line X) → look comm_of lines.old.items comm ≡ Some line → communicator line ≡ record { members = group.now; shape = shape.now } → OnErr result ⊥ }
-    ensures same { (line : Line X) → look comm_of lines.old.items comm ≡ Some line → communicator line ≡ record { members = group.now; shape = shape.now } → lines.new.items ≡ lines.old.items }
-{
-    match position(lines, comm) {
-        Some(at) => {
-            if lines[at].is_of(group, shape) {
-                return Ok(at);
-            }
-            let line = Line::new(alloc, comm, group, shape)?;
-            lines[at] = line;
-            Ok(at)
-        }
-        None => {
-            let at = lines.len();
-            let line = Line::new(alloc, comm, group, shape)?;
-            lines.push(line)?;
-            Ok(at)
-        }
+        let is_known = self.queues.knows(comm);
+        let slot = self.spare.take_slot(self.alloc, sig)?;
+        let fresh = self.spare.take_queue(is_known);
+        self.queues.open(comm, fresh, slot);
+        Ok(())
     }
 }

@@ -19,15 +19,15 @@ struct Table {
 }
 
 impl Model for Table {
-    ghost use Rattle.std.specs.Prelude.{List, ℕ};
-    ghost use Rattle.coll_pending.specs.Lines.{Line};
-    ghost use Rattle.coll_pending.specs.Waiting.{known, IsKnownAs};
+    ghost use Rattle.std.specs.Prelude.{ℕ};
+    ghost use Rattle.coll_pending.specs.Waiting.{State, view_of_pending, IsKnownAs};
 
-    ghost Value = { List (Line ℕ) };
+    ghost Value = { State ℕ };
 
     ghost view = { λ t. t.pending };
 
-    ghost invariant = { λ t. (c : ℕ) → IsKnownAs (record { members = t.group; shape = t.shape }) (known t.pending c) };
+    ghost invariant = { λ t. (c : ℕ) →
+        IsKnownAs (record { members = t.group; shape = t.shape }) ((view_of_pending t.pending).known c) };
 }
 
 impl Table {
@@ -49,7 +49,8 @@ impl Table {
         self.pending.ready(comm, rank, &self.group, &self.shape)
     }
 
-    // A rank arrives: `next` says before what it does, and if it is the last one the instance has these parts. A mismatch gives its part back.
+    // A rank arrives: `next` says before what it does, and if it is the last one the instance has
+    // these parts. A mismatch gives its part back.
     fn arrive(
         &mut self,
         rt: &impl Abort,
@@ -62,13 +63,7 @@ impl Table {
         let (comm, rank) = place;
         assert!(rt; rank < self.group.size() && self.pending.arrivals(comm, rank) < 100);
         assert_eq!(rt; self.pending.next(comm, rank, &sig), next);
-        let stated = Stated {
-            sig,
-            own: Own::Plain,
-            given: 1,
-            label: Some(Label::Public),
-            barred: false,
-        };
+        let stated = stated_for(sig);
         match self
             .pending
             .arrive(comm, rank, &self.group, &self.shape, stated, part)
@@ -85,6 +80,22 @@ impl Table {
             }
         }
         Ok(())
+    }
+}
+
+// A statement that gives one element, or none to a barrier.
+fn stated_for(sig: Signature) -> Stated {
+    let is_barrier = sig.is_same(&Signature::Barrier);
+    Stated {
+        sig,
+        own: Own::Plain,
+        given: if is_barrier { 0 } else { 1 },
+        label: if is_barrier {
+            None
+        } else {
+            Some(Label::Public)
+        },
+        barred: false,
     }
 }
 
@@ -164,5 +175,54 @@ fn sole_member_opens_and_fills(rt: HostRuntime) -> Result<(), Fail> {
     for (part, parts) in [(4, [4].as_slice()), (5, [5].as_slice())] {
         table.arrive(&rt, (1, 0), allreduce(Op::Sum), part, Next::Opens, parts)?;
     }
+    Ok(())
+}
+
+// Two members of each communicator. Instances of several communicators are full in another order
+// than that of opening, those of one communicator in order.
+#[test]
+fn instances_fill_out_of_order(rt: HostRuntime) -> Result<(), Fail> {
+    let mut table = Table::new(&rt, rt.alloc(), 2)?;
+    for (comm, rank, part, next, parts) in [
+        (2, 0, 20, Next::Opens, [].as_slice()),
+        (0, 1, 1, Next::Opens, [].as_slice()),
+        (2, 0, 30, Next::Opens, [].as_slice()),
+        (1, 1, 11, Next::Opens, [].as_slice()),
+        (1, 0, 10, Next::Fills, [10, 11].as_slice()),
+        (2, 1, 21, Next::Fills, [20, 21].as_slice()),
+        (1, 0, 12, Next::Opens, [].as_slice()),
+        (2, 1, 31, Next::Fills, [30, 31].as_slice()),
+        (0, 0, 0, Next::Fills, [0, 1].as_slice()),
+        (2, 1, 40, Next::Opens, [].as_slice()),
+        (1, 1, 13, Next::Fills, [12, 13].as_slice()),
+    ] {
+        table.ready(&rt, comm, rank)?;
+        table.arrive(&rt, (comm, rank), Signature::Barrier, part, next, parts)?;
+    }
+    assert!(rt; table.pending.roll(2, 1).is_none() && table.pending.roll(2, 2).is_some());
+    assert!(rt; table.pending.roll(0, 0).is_none() && table.pending.roll(1, 0).is_none());
+    assert!(rt; table.pending.arrivals(2, 0) == 2 && table.pending.arrivals(2, 1) == 3);
+    Ok(())
+}
+
+// Each of 64 members starts 64 barriers; those of the last member are full one after another.
+#[test]
+fn many_barriers_of_many_members(rt: HostRuntime) -> Result<(), Fail> {
+    let mut table = Table::new(&rt, rt.alloc(), 64)?;
+    let mut ranks = Vec::new(rt.alloc());
+    for rank in 0..64 {
+        ranks.push(rank)?;
+    }
+    for rank in 0..64 {
+        let (next, parts) = match rank {
+            0 => (Next::Opens, [].as_slice()),
+            63 => (Next::Fills, ranks.as_slice()),
+            _ => (Next::Joins, [].as_slice()),
+        };
+        for _ in 0..64 {
+            table.arrive(&rt, (0, rank), Signature::Barrier, rank as u64, next, parts)?;
+        }
+    }
+    assert!(rt; table.pending.roll(0, 63).is_none() && table.pending.arrivals(0, 63) == 64);
     Ok(())
 }

@@ -1,0 +1,2 @@
+-- What crates above may cite of the lemmas of this crate. Everything else in proofs/ is its own.
+pub use Rattle.coll_pending.proofs.RowLemmas.{begun_set}

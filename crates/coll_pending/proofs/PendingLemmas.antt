@@ -1,0 +1,350 @@
+-- The steps of an arrival, as callers see them.
+use Rattle.std.proofs.Common.{◌≡◌, ◌≢◌, ℕ, ◌+◌, ◌<◌, ◌≤◌, ◌^◌, Bool, true, false, List, length, Option, Some, None, IsSome, is_some, refl, sym, ap, ◌∙◌, subst, arith, ◌⊎◌, inl, inr, Result, Ok, Err, ⊎_elim, nat_le, ◌&&◌}
+use Rattle.std.specs.Prelude.{IfOk, OnOk, OnErr}
+use Rattle.std.proofs.lemmas.Bool.{cases_Bool, cases_eq, false≢true, and_from, and_parts, leb-true, le-leb}
+use Rattle.coll_routes.specs.declared.signature.Signature.{Signature}
+use Rattle.coll_routes.specs.declared.statement.Stated.{Stated}
+use Rattle.coll_routes.specs.declared.roll.Shape.{Shape}
+use Rattle.coll_routes.specs.declared.roll.Roll.{Roll}
+use Rattle.coll_routes.specs.Signatures.{same_signature, numbers, flags}
+use Rattle.coll_routes.proofs.CollRoutesLemmas.{same_signatures_are_equal}
+use Rattle.coll_pending.specs.declared.arrival.Arrived.{Arrived}
+use Rattle.coll_pending.specs.declared.arrival.Arrived.TheVariants.{Waiting, Full}
+use Rattle.coll_pending.specs.declared.arrival.Next.{Next}
+use Rattle.coll_pending.specs.declared.arrival.Next.TheVariants as nexts
+use Rattle.coll_pending.specs.declared.arrival.Unarrived.{Unarrived}
+use Rattle.coll_pending.specs.declared.slot.Slot.{Slot}
+use Rattle.coll_pending.specs.Instances.{Instance, Communicator, is_full, is_full_but_for, joined, next_by, roll_in, vacant}
+use Rattle.coll_pending.specs.Keyed.{updated}
+use Rattle.coll_pending.specs.Lists.{ListRoom, fits, room_by}
+use Rattle.coll_pending.specs.Queues.{Queue, Queues, communicator, queue_at, known_in, count_in, slot_of, slot_in, key_in, instance_in, IsVacant}
+use Rattle.coll_pending.specs.Spares.{Spare, members_of, IsQueueOf, IsQueueFor, IsSlotFor, AreListsFor}
+use Rattle.coll_pending.specs.Waiting.{updated_at, PendingView, State, view_of_pending, seen, next, before, after, place, Arrives, HasArrived, IsKnownAs, HasPlace, CanOpen, Meets, HasRoom, Opens, CanArrive, IsOpened}
+use Rattle.coll_pending.proofs.TableLemmas.{updated_here, updated_other, updated_twice, updated_at_here, updated_at_twice}
+
+-- ## an arrival after the opening
+
+module _ {X : Type 0} (old mid new : PendingView X) (c rank : ℕ) (comm : Communicator)
+    (stated : Stated) (part : X) (agrees : next old c rank stated.sig ≢ nexts.Mismatch)
+    (none : before old c rank ≡ None)
+    (opens : Opens old mid c (place old c rank) comm stated.sig) where
+  place_same : place mid c rank ≡ place old c rank
+  place_same = ap (λ (f : ℕ → ℕ → ℕ). f c rank) opens.arrivals
+
+  before_mid : before mid c rank ≡ Some (vacant comm stated.sig)
+  before_mid =
+      ap (λ n. mid.pending c n) place_same
+      ∙ (ap (λ (f : ℕ → ℕ → Option (Instance X)). f c (place old c rank)) opens.pending
+      ∙ updated_at_here old.pending c (place old c rank) (Some (vacant comm stated.sig)))
+
+  after_same : after mid c rank comm stated part ≡ after old c rank comm stated part
+  after_same = ap (λ w. joined comm rank stated part w) before_mid
+      ∙ sym (ap (λ w. joined comm rank stated part w) none)
+
+  arrives : (waits : Option (Instance X)) → Arrives mid new c rank comm stated part waits →
+      Arrives old new c rank comm stated part waits
+  arrives waits it = record {
+    agrees = agrees;
+    arrivals =
+        it.arrivals ∙ ap (λ (f : ℕ → ℕ → ℕ). updated_at f c rank (f c rank + 1)) opens.arrivals;
+    known = it.known
+        ∙ (ap (λ (f : ℕ → Option Communicator). updated f c (Some comm)) opens.known
+        ∙ updated_twice old.known c (Some comm) (Some comm));
+    pending =
+        it.pending
+        ∙ (ap (λ n. updated_at mid.pending c n waits) place_same
+        ∙ (ap (λ (f : ℕ → ℕ → Option (Instance X)). updated_at f c (place old c rank) waits)
+        opens.pending
+        ∙ updated_at_twice old.pending c (place old c rank) (Some (vacant comm stated.sig)) waits));
+  }
+
+  fresh_arrives : (a : Arrived X) → HasArrived mid new c rank comm stated part a →
+      HasArrived old new c rank comm stated part a
+  fresh_arrives Waiting h = (
+    ap (λ (i : Instance X). is_full i.roll.stated) (sym after_same) ∙ h.0,
+    subst (λ i. Arrives old new c rank comm stated part (Some i)) after_same
+        (arrives (Some (after mid c rank comm stated part)) h.1),
+  )
+  fresh_arrives (Full full) h = (
+    ap (λ (i : Instance X). is_full i.roll.stated) (sym after_same) ∙ h.0,
+    h.1 ∙ ap (λ (i : Instance X). i.roll) after_same,
+    h.2 ∙ ap (λ (i : Instance X). i.parts) after_same,
+    h.3,
+    arrives None h.4,
+  )
+
+pub opened_arrives : {X : Type 0} (old mid new : PendingView X) (c rank : ℕ) (comm : Communicator)
+    (stated : Stated) (part : X) (a : Arrived X) → next old c rank stated.sig ≢ nexts.Mismatch →
+    IsOpened old mid c rank comm stated.sig → HasArrived mid new c rank comm stated part a →
+    HasArrived old new c rank comm stated part a
+opened_arrives {X} old mid new c rank comm stated part a agrees (inl was) arrived =
+    subst (λ (v : PendingView X). HasArrived v new c rank comm stated part a) was.2 arrived
+opened_arrives old mid new c rank comm stated part a agrees (inr fresh) arrived =
+    fresh_arrives old mid new c rank comm stated part agrees fresh.0 fresh.1 a arrived
+
+pub opened_place : {X : Type 0} (old mid : PendingView X) (c rank : ℕ) (comm : Communicator)
+    (sig : Signature) → IsOpened old mid c rank comm sig → mid.arrivals c rank ≡ old.arrivals c rank
+opened_place {X} old mid c rank comm sig (inl was) = ap (λ (v : PendingView X). v.arrivals c rank) was.2
+opened_place old mid c rank comm sig (inr fresh) = ap (λ (f : ℕ → ℕ → ℕ). f c rank) fresh.1.arrivals
+
+-- ## the opening
+
+some_not_none : {A : Type 0} {P : Type 0} (w : Option A) → IsSome w → w ≡ None → P
+some_not_none w some none = absurd (false≢true (subst (λ v. IsSome v) none some))
+
+pub none_of : {A : Type 0} (w : Option A) → is_some w ≡ false → w ≡ None
+none_of None e = refl
+none_of (Some x) e = absurd (false≢true (sym e))
+
+some_slot : {X : Type 0} (w : Option (Slot X)) → IsSome w → IsSome (instance_in w)
+some_slot None some = absurd (false≢true some)
+some_slot (Some o) some = refl
+
+some_instance : {X : Type 0} (w : Option (Slot X)) → IsSome (instance_in w) → IsSome w
+some_instance None some = absurd (false≢true some)
+some_instance (Some o) some = refl
+
+-- a communicator with an instance is known
+known_by : {X : Type 0} (s : Queues X) (c k : ℕ) (comm : Communicator) (fresh : Option Queue) →
+    IsQueueOf comm (queue_at s.queues c) fresh → IsSome (slot_of s c k) →
+    known_in (queue_at s.queues c) ≡ Some comm
+known_by {X} s c k comm fresh of some = by_row (queue_at s.queues c) of some
+  where
+    by_row : (w : Option Queue) → IsQueueOf comm w fresh →
+        IsSome (slot_in s.slots (key_in w k)) → known_in w ≡ Some comm
+    by_row None it some' = absurd (false≢true some')
+    by_row (Some q) it some' = ap (λ m. Some m) it
+
+pub room_meets : {X : Type 0} (s : State X) (c rank : ℕ) (comm : Communicator) →
+    HasRoom s c rank comm →
+    IsSome (slot_of s.queues c (count_in (queue_at s.queues.queues c) rank)) →
+    Meets s.queues c rank comm
+unfolding HasRoom
+room_meets s c rank comm (inl meets) some = meets
+room_meets s c rank comm (inr can) some = (
+  known_by s.queues c (count_in (queue_at s.queues.queues c) rank) comm s.spare.queue
+      can.queue some,
+  some,
+)
+
+pub room_opens : {X : Type 0} (s : State X) (c rank : ℕ) (comm : Communicator) →
+    HasRoom s c rank comm →
+    slot_of s.queues c (count_in (queue_at s.queues.queues c) rank) ≡ None → CanOpen s c comm
+unfolding HasRoom
+room_opens s c rank comm (inl meets) none =
+    some_not_none (slot_of s.queues c (count_in (queue_at s.queues.queues c) rank)) meets.1 none
+room_opens s c rank comm (inr can) none = can
+
+-- the instance waits already
+module _ {X : Type 0} (s t : State X) (c rank : ℕ) (comm : Communicator) (sig : Signature)
+    (same : view_of_pending t ≡ view_of_pending s) (room : HasRoom t c rank comm)
+    (agrees : next (view_of_pending s) c rank sig ≢ nexts.Mismatch)
+    (some : IsSome (slot_of t.queues c (count_in (queue_at t.queues.queues c) rank))) where
+  pub waits_opened : IsOpened (view_of_pending s) (view_of_pending t) c rank comm sig
+  unfolding view_of_pending
+  waits_opened = inl (
+    subst (λ (v : PendingView X). IsSome (before v c rank)) same
+        (some_slot (slot_of t.queues c (count_in (queue_at t.queues.queues c) rank)) some),
+    subst (λ (v : PendingView X). v.known c ≡ Some comm) same (room_meets t c rank comm room some).0,
+    same,
+  )
+
+  pub waits_meets : rank < length comm.members → CanArrive t.queues c rank comm sig
+  unfolding view_of_pending
+  waits_meets lt = record {
+    meets = room_meets t c rank comm room some;
+    member = lt;
+    agrees = subst (λ (v : PendingView X). next v c rank sig ≢ nexts.Mismatch) (sym same) agrees;
+  }
+
+joins : (b : Bool) (roll : Roll) (rank : ℕ) (sig : Signature) →
+    is_full_but_for roll.stated rank ≡ b → same_signature roll.sig sig ≡ true →
+    next_by (Some roll) rank sig ≢ nexts.Mismatch
+joins true roll rank sig full same = rw (same, full) (λ e. absurd (cc))
+joins false roll rank sig full same = rw (same, full) (λ e. absurd (cc))
+
+-- the instance has been opened
+module _ {X : Type 0} (s : Queues X) (t : Queues X) (old : PendingView X) (c rank : ℕ)
+    (comm : Communicator) (sig : Signature) (same : seen s ≡ old)
+    (none : slot_of s c (count_in (queue_at s.queues c) rank) ≡ None)
+    (opens : Opens (seen s) (seen t) c (count_in (queue_at s.queues c) rank) comm sig) where
+  pub new_opened : IsOpened old (seen t) c rank comm sig
+  new_opened = inr (
+    subst (λ (v : PendingView X). before v c rank ≡ None) same (ap (λ w. instance_in w) none),
+    subst (λ (v : PendingView X). Opens v (seen t) c (place v c rank) comm sig) same opens,
+  )
+
+  number : (seen t).arrivals c rank ≡ count_in (queue_at s.queues c) rank
+  number = ap (λ (f : ℕ → ℕ → ℕ). f c rank) opens.arrivals
+
+  stood : before (seen t) c rank ≡ Some (vacant comm sig)
+  stood =
+      ap (λ n. (seen t).pending c n) number
+      ∙ (ap (λ (f : ℕ → ℕ → Option (Instance X)). f c (count_in (queue_at s.queues c) rank))
+      opens.pending
+      ∙ updated_at_here (seen s).pending c (count_in (queue_at s.queues c) rank)
+      (Some (vacant comm sig)))
+
+  pub new_meets : rank < length comm.members → CanArrive t c rank comm sig
+  new_meets lt = record {
+    meets = (
+      ap (λ (f : ℕ → Option Communicator). f c) opens.known
+          ∙ updated_here (seen s).known c (Some comm),
+      some_instance (slot_of t c (count_in (queue_at t.queues c) rank)) (ap (λ w. is_some w) stood),
+    );
+    member = lt;
+    agrees = subst (λ w. next_by (roll_in w) rank sig ≢ nexts.Mismatch) (sym stood)
+        (joins _ (vacant {X = X} comm sig).roll rank sig refl
+        ((same_signatures_are_equal sig sig).1 refl));
+  }
+
+-- ## room for it
+
+fits_more : (small large : ListRoom) (sig : Signature) → small.numbers ≤ large.numbers →
+    small.flags ≤ large.flags → fits small sig ≡ true → fits large sig ≡ true
+fits_more small large sig more others it =
+    let both =
+    and_parts (nat_le (length (numbers sig)) small.numbers)
+    (nat_le (length (flags sig)) small.flags) it in
+    let one : nat_le (length (numbers sig)) large.numbers ≡ true =
+    le-leb (length (numbers sig)) large.numbers
+    (omega (arith, leb-true (length (numbers sig)) small.numbers both.0, more)) in
+    let two : nat_le (length (flags sig)) large.flags ≡ true =
+    le-leb (length (flags sig)) large.flags
+    (omega (arith, leb-true (length (flags sig)) small.flags both.1, others)) in
+    and_from (nat_le (length (numbers sig)) large.numbers)
+    (nat_le (length (flags sig)) large.flags) one two
+
+pub lists_fit : (shape : Shape) (lists : ListRoom) (sig : Signature) → AreListsFor shape lists →
+    fits (room_by shape) sig ≡ true → fits lists sig ≡ true
+lists_fit shape lists sig are it = fits_more (room_by shape) lists sig are.numbers are.flags it
+
+pub slot_for_some : {X : Type 0} (comm : Communicator) (w : Option (Slot X)) → IsSlotFor comm w →
+    IsSome w
+slot_for_some comm None it = absurd it
+slot_for_some comm (Some o) it = refl
+
+pub members_are : {X : Type 0} (comm : Communicator) (o : Slot X) → IsVacant comm o →
+    members_of o ≡ comm
+members_are comm o is = λ i. record { members = is.members i; shape = is.shape i }
+
+pub queue_for : (comm : Communicator) (w spare fresh : Option Queue) (known : Bool) →
+    known ≡ is_some w → (known ≡ false → fresh ≡ spare) → IsQueueOf comm w spare →
+    IsQueueOf comm w fresh
+queue_for comm (Some q) spare fresh known e took of = of
+queue_for comm None spare fresh known e took of = subst (λ v. IsQueueFor comm v) (sym (took e)) of
+
+-- a communicator that is known is the one handed in
+pub known_of : (comm : Communicator) (w spare : Option Queue) → IsKnownAs comm (known_in w) →
+    (w ≡ None → IsQueueFor comm spare) → IsQueueOf comm w spare
+known_of comm (Some q) spare known fresh = known
+known_of comm None spare known fresh = fresh refl
+
+pub still_none : (w v : Option Queue) → known_in v ≡ known_in w → v ≡ None → w ≡ None
+still_none None v same none = refl
+still_none (Some q) v same none =
+    (let e : None ≡ Some (communicator q) = sym (ap (λ x. known_in x) none) ∙ same in absurd (cc))
+
+pub spare_for : (comm : Communicator) (w spare : Option Queue) → w ≡ None →
+    IsQueueOf comm w spare → IsQueueFor comm spare
+spare_for comm w spare none of = subst (λ v. IsQueueOf comm v spare) none of
+
+pub both_ok : {T E A B C D : Type 0} (r : Result T E) → OnOk r A → OnOk r B → OnOk r C →
+    (A → B → C → D) → OnOk r D
+both_ok (Ok t) a b c go = go a b c
+both_ok (Err e) a b c go = tt
+
+pub room_made : {X T E : Type 0} (r : Result T E) (queues : Queues X) (spare : Spare X)
+    (c rank : ℕ) (comm : Communicator) (known : Bool) → OnOk r (IsSlotFor comm spare.slot) →
+    OnOk r (AreListsFor comm.shape spare.lists) → known ≡ is_some (queue_at queues.queues c) →
+    (known ≡ false → OnOk r (IsQueueFor comm spare.queue)) → HasPlace queues c →
+    IsKnownAs comm (known_in (queue_at queues.queues c)) →
+    OnOk r (HasRoom (record { queues = queues; spare = spare }) c rank comm)
+unfolding HasRoom
+room_made (Err e) queues spare c rank comm known slot lists is fresh place handed = tt
+room_made (Ok t) queues spare c rank comm known slot lists is fresh place handed = inr (record {
+  place = place;
+  queue = known_of comm (queue_at queues.queues c) spare.queue handed
+      (λ none. fresh (is ∙ ap (λ w. is_some w) none));
+  slot = slot;
+  lists = lists;
+})
+
+-- where there was room, nothing was wanted
+pub room_kept : {X P : Type 0} (s : State X) (queues : Queues X) (spare : Spare X) (c rank : ℕ)
+    (comm : Communicator) (known : Bool) → record { queues = queues; spare = spare } ≡ s →
+    HasRoom s c rank comm →
+    is_some (slot_of queues c (count_in (queue_at queues.queues c) rank)) ≡ false →
+    (now : Queues X) → seen now ≡ seen queues → known ≡ is_some (queue_at now.queues c) →
+    (IsSlotFor comm spare.slot → AreListsFor comm.shape spare.lists →
+    (known ≡ false → IsQueueFor comm spare.queue) → P) → P
+room_kept {X} {P} s queues spare c rank comm known view room free now same is go =
+    let was : State X = record { queues = queues; spare = spare } in
+    let had : HasRoom was c rank comm =
+    subst (λ (v : State X). HasRoom v c rank comm) (sym view) room in
+    let can = room_opens was c rank comm had (none_of _ free) in
+    go can.slot can.lists (λ e. spare_for comm (queue_at queues.queues c) spare.queue
+    (still_none (queue_at queues.queues c) (queue_at now.queues c)
+    (ap (λ (v : PendingView X). v.known c) same) (none_of _ (sym is ∙ e)))
+    can.queue)
+
+pub next_opens : {X : Type 0} (s : Queues X) (old : PendingView X) (c rank : ℕ) (sig : Signature) →
+    seen s ≡ old → slot_of s c (count_in (queue_at s.queues c) rank) ≡ None →
+    next old c rank sig ≡ nexts.Opens
+next_opens {X} s old c rank sig same none =
+    subst (λ (v : PendingView X). next v c rank sig ≡ nexts.Opens) same
+    (ap (λ w. next_by (roll_in (instance_in w)) rank sig) none)
+
+-- what is handed to the queues, where an instance is opened
+pub record Opening {X : Type 0} (queues : Queues X) (c : ℕ) (comm : Communicator) (o : Slot X)
+    (fresh : Option Queue) : Type 0 where
+  pub of : members_of o ≡ comm
+  pub vacant : IsVacant (members_of o) o
+  pub some : 0 < length o.roll.members
+  pub queue : IsQueueOf (members_of o) (queue_at queues.queues c) fresh
+
+pub opening : {X : Type 0} (queues : Queues X) (spare : Spare X) (c rank : ℕ)
+    (comm : Communicator) (o : Slot X) (fresh : Option Queue) (known : Bool) →
+    rank < length comm.members → CanOpen (record { queues = queues; spare = spare }) c comm →
+    IsVacant comm o → known ≡ is_some (queue_at queues.queues c) →
+    (known ≡ false → fresh ≡ spare.queue) → Opening queues c comm o fresh
+opening queues spare c rank comm o fresh known lt can is knows took = record {
+  of = members_are comm o is;
+  vacant = subst (λ m. IsVacant m o) (sym (members_are comm o is)) is;
+  some = omega (arith, ap length is.members, lt);
+  queue = subst (λ m. IsQueueOf m (queue_at queues.queues c) fresh) (sym (members_are comm o is))
+      (queue_for comm (queue_at queues.queues c) spare.queue fresh known knows took can.queue);
+}
+
+pub opens_as : {X : Type 0} (s t : Queues X) (c k : ℕ) (o : Slot X) (comm : Communicator)
+    (sig : Signature) → members_of o ≡ comm → o.roll.sig ≡ sig →
+    Opens (seen s) (seen t) c k (members_of o) o.roll.sig → Opens (seen s) (seen t) c k comm sig
+opens_as s t c k o comm sig of is opens =
+    subst (λ m. Opens (seen s) (seen t) c k m sig) of
+    (subst (λ z. Opens (seen s) (seen t) c k (members_of o) z) is opens)
+
+-- ## one communicator's members and shape for all
+
+known_updated : (table : ℕ → Option Communicator) (c q : ℕ) (comm : Communicator) →
+    IsKnownAs comm (table q) → IsKnownAs comm (updated table c (Some comm) q)
+known_updated table c q comm was = elim (cases_eq q c) [
+  | inl same ↦ subst (λ n. IsKnownAs comm (updated table c (Some comm) n)) (sym same)
+      (subst (λ (k : Option Communicator). IsKnownAs comm k)
+      (sym (updated_here table c (Some comm))) refl)
+  | inr other ↦ subst (λ (k : Option Communicator). IsKnownAs comm k)
+      (sym (updated_other table c (Some comm) q other)) was
+]
+
+-- who hands in one group and shape for each communicator may go on so
+pub stays_known : {X : Type 0} (old new : PendingView X) (c rank : ℕ) (comm : Communicator)
+    (s : Stated) (x : X) (r : Result (Arrived X) (Unarrived X)) →
+    IfOk r (HasArrived old new c rank comm s x) → OnErr r (new ≡ old) →
+    ((q : ℕ) → IsKnownAs comm (old.known q)) → (q : ℕ) → IsKnownAs comm (new.known q)
+stays_known old new c rank comm s x (Ok Waiting) ok err was =
+    λ q. subst (λ (f : ℕ → Option Communicator). IsKnownAs comm (f q)) (sym ok.1.known)
+    (known_updated old.known c q comm (was q))
+stays_known old new c rank comm s x (Ok (Full full)) ok err was =
+    λ q. subst (λ (f : ℕ → Option Communicator). IsKnownAs comm (f q)) (sym ok.4.known)
+    (known_updated old.known c q comm (was q))
+stays_known {X} old new c rank comm s x (Err e) ok err was =
+    λ q. subst (λ (v : PendingView X). IsKnownAs comm (v.known q)) (sym err) (was q)
