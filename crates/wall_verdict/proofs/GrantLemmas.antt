@@ -10,9 +10,9 @@ use Rattle.std.proofs.lemmas.List.Quantifiers.{position-Some}
 use Rattle.wall_policy.specs.Policy.{ChineseWall}
 use Rattle.wall_rules.specs.Histories.{History, entered}
 use Rattle.wall_rules.specs.Rules.{HoldsNoRivals, joined}
-use Rattle.wall_rules.proofs.RuleLemmas.{no_rivals-part}
+use Rattle.wall_rules.proofs.WallRulesLemmas.{no_rivals-part}
 use Rattle.mpi_group.specs.Groups.{IsGroup, rank_in}
-use Rattle.mpi_group.proofs.GroupLemmas.{rank_present, slice_get-member, one_place}
+use Rattle.mpi_group.proofs.MpiGroupLemmas.{rank_present, slice_get-member, one_place}
 use Rattle.coll_routes.specs.declared.roll.Roll.{Roll}
 use Rattle.wall_verdict.specs.declared.verdict.Verdict.TheVariants.{Granted}
 use Rattle.wall_verdict.specs.Charges.{charged}

@@ -7,7 +7,7 @@ use Rattle.wall_labels.specs.declared.label.Label.{Label}
 use Rattle.wall_policy.specs.Policy.{ChineseWall}
 use Rattle.wall_rules.specs.Histories.{History, NobodyHoldsRivals}
 use Rattle.wall_rules.specs.Rules.{HoldsNoRivals, first_rival}
-use Rattle.wall_rules.proofs.RuleLemmas.{first_rival-none, no_rivals-grows, no_rivals-part}
+use Rattle.wall_rules.proofs.WallRulesLemmas.{first_rival-none, no_rivals-grows, no_rivals-part}
 use Rattle.coll_routes.specs.declared.roll.Roll.{Roll}
 use Rattle.coll_routes.specs.declared.statement.Stated.{Stated}
 use Rattle.coll_routes.specs.Rolls.{stated_by, label_in, label_of, barred_in, is_barred}

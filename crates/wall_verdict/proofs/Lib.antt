@@ -1,8 +1,11 @@
 pub mod BelowLemmas
 pub mod ChargeLemmas
 pub mod GrantLemmas
+pub mod InflowLemmas
 pub mod LawLemmas
 pub mod MeaningLemmas
 pub mod MeetLemmas
 pub mod PairLemmas
+pub mod SpanLemmas
 pub mod StarLemmas
+pub mod WallVerdictLemmas

@@ -7,8 +7,8 @@ use Rattle.wall_labels.specs.declared.label.Label.TheVariants.{Public, Of}
 use Rattle.wall_policy.specs.Policy.{ChineseWall}
 use Rattle.wall_rules.specs.Histories.{History}
 use Rattle.wall_rules.specs.Rules.{first_rival}
-use Rattle.wall_rules.proofs.RuleLemmas.{first_rival-none, first_rival-some}
-use Rattle.coll_routes.proofs.AnyLemmas.{any_at, any_found}
+use Rattle.wall_rules.proofs.WallRulesLemmas.{first_rival-none, first_rival-some}
+use Rattle.coll_routes.proofs.CollRoutesLemmas.{any_at, any_found}
 use Rattle.coll_routes.specs.declared.roll.Roll.{Roll}
 use Rattle.coll_routes.specs.Rolls.{label_of, routed}
 use Rattle.wall_verdict.specs.Charges.{dataset_in, is_that, contribution, contributed_below, contributed, charged, sanitised}

@@ -7,7 +7,7 @@ use Rattle.std.proofs.lemmas.Bool.{false≢true, or_right}
 use Rattle.wall_policy.specs.Policy.{ChineseWall}
 use Rattle.wall_rules.specs.Histories.{History}
 use Rattle.wall_rules.specs.Rules.{first_rival, joined, clashes, HoldsNoRivals}
-use Rattle.wall_rules.proofs.RuleLemmas.{first_rival-alike, none-first_rival, no_rivals-insert}
+use Rattle.wall_rules.proofs.WallRulesLemmas.{first_rival-alike, none-first_rival, no_rivals-insert}
 use Rattle.coll_routes.specs.declared.roll.Roll.{Roll}
 use Rattle.coll_routes.specs.Rolls.{ranks}
 use Rattle.wall_verdict.specs.Charges.{contribution, contributed_below, contributed, charged, sanitised}

@@ -8,7 +8,7 @@ use Rattle.wall_labels.specs.declared.label.Label.{Label}
 use Rattle.wall_labels.specs.declared.ids.TheConstants.{DATASET_LIMIT}
 use Rattle.wall_rules.specs.Histories.{History, entered}
 use Rattle.wall_rules.specs.Rules.{PassesStar, HoldsNoRivals, IsLowest, IsHeldOther, joined, passes_star}
-use Rattle.wall_rules.proofs.RuleLemmas.{first_other-none, first_other-some, no_rivals-star}
+use Rattle.wall_rules.proofs.WallRulesLemmas.{first_other-none, first_other-some, no_rivals-star}
 use Rattle.wall_verdict.specs.Charges.{dataset_in, is_that}
 use Rattle.wall_verdict.specs.Star.{MayPost, with_label}
 use Rattle.wall_verdict.proofs.ChargeLemmas.{contains_inserted}

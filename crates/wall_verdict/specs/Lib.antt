@@ -1,5 +1,6 @@
 pub mod Charges
 pub mod Grants
+pub mod Inflows
 pub mod Laws
 pub mod Meanings
 pub mod Star

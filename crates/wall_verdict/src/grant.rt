@@ -6,7 +6,7 @@ ghost use Rattle.wall_verdict.specs.Verdicts.{verdict};
 ghost use Rattle.wall_verdict.specs.Grants.{with_charges, settled};
 ghost use Rattle.wall_verdict.specs.Meanings.{MembersStayApart};
 
-use super::charge::charged;
+use super::inflow::{Inflow, charges};
 use super::judge::{decide, keep_apart};
 use super::verdict::Verdict;
 use coll_routes::Roll;
@@ -24,8 +24,10 @@ fn grant(policy: &Policy, histories: &mut Histories, roll: &Roll)
     ensures classes { histories.new.classes ≡ histories.old.classes }
 {
     let _ = roll.members.size();
+    let mut inflow = Inflow::before(0);
     for to in 0..roll.shape.size {
-        let charged = charged(policy, roll, to);
+        inflow.turn_to(histories, roll, to);
+        let charged = charges(policy, roll, to, &inflow);
         histories.enter(roll.members.at(to), &charged);
     }
 }

@@ -1,14 +1,17 @@
 //! The verdict on a full instance.
-ghost use Rattle.std.specs.Prelude.{◌≡◌, ◌<◌, find, IfSome};
-ghost use Rattle.wall_rules.specs.Histories.{has, NobodyHoldsRivals};
+ghost use Rattle.std.specs.Prelude.{◌≡◌, ◌<◌, find, IfSome, IsTrue};
+ghost use Rattle.wall_labels.specs.Rows.{Meet};
+ghost use Rattle.wall_rules.specs.Histories.{has, HoldsOneOf, NobodyHoldsRivals};
 ghost use Rattle.wall_rules.specs.Rules.{HoldsNoRivals, joined, clashes};
 ghost use Rattle.coll_routes.specs.Fit.{IsFit};
 ghost use Rattle.coll_routes.specs.Rolls.{ranks, label_of, is_barred};
 ghost use Rattle.wall_verdict.specs.Verdicts.{meets, offends, first_barred, first_offence, told, verdict};
+ghost use Rattle.wall_verdict.specs.Inflows.{IsWhole};
 ghost use Rattle.wall_verdict.specs.Meanings.{IsVerdict, MembersStayApart};
 ghost use Rattle.wall_verdict.specs.declared.verdict.Verdict.TheVariants.{Granted};
 
-use super::charge::{contribution, label_of, sanitised};
+use super::charge::{contribution, label_of};
+use super::inflow::{Inflow, is_enough};
 use super::verdict::{Rule, Verdict};
 use coll_routes::Roll;
 use wall_labels::{DatasetId, Label, LabelSet, ProcessId};
@@ -59,32 +62,50 @@ fn first_meeting(histories: &Histories, roll: &Roll, to: u32) -> Option<u32>
     None
 }
 
+/// Whether nothing that comes to the process has a rival in its history, or in what else comes.
+fn is_clear(histories: &Histories, process: ProcessId, inflow: &Inflow) -> bool
+    ensures unheld { IsTrue result → ¬ (HoldsOneOf (has histories.now process) inflow.now.rivals) }
+    ensures apart { IsTrue result → ¬ (Meet inflow.now.datasets inflow.now.rivals) }
+{
+    !histories.has_some(process, &inflow.rivals) && !inflow.datasets.meets(&inflow.rivals)
+}
+
 /// The lowest rank for which a dataset is charged to this one that meets a rival.
-#[tactic(auto, using(crate::proofs::MeetLemmas::sanitised_spares, crate::proofs::MeetLemmas::unsanitised_meets))]
-fn first_offender(policy: &Policy, histories: &Histories, roll: &Roll, to: u32) -> Option<u32>
+/// All that comes to it is at hand.
+fn first_offender(
+    policy: &Policy,
+    histories: &Histories,
+    roll: &Roll,
+    to: u32,
+    inflow: &Inflow,
+) -> Option<u32>
     requires fit { IsFit roll.now }
     requires classes { histories.now.classes ≡ policy.now.classes }
     requires to { to < roll.now.shape.size }
+    requires whole { IsWhole histories.now.classes roll.now to inflow.now }
     ensures least { result ≡ find (offends policy.now (has histories.now) roll.now to) (ranks roll.now) }
     ensures within { IfSome result (λ i. i < roll.now.shape.size) }
 {
-    if sanitised(policy, roll, to) {
-        None
-    } else {
-        first_meeting(histories, roll, to)
+    if is_enough(policy, roll, inflow.number) {
+        return None;
     }
+    if is_clear(histories, roll.members.at(to), inflow) {
+        return None;
+    }
+    first_meeting(histories, roll, to)
 }
 
 /// The least pair of a receiver and a rank that offends.
-#[tactic(auto, using(crate::proofs::PairLemmas::pairs_none, crate::proofs::PairLemmas::pairs_found))]
 fn first_offence(policy: &Policy, histories: &Histories, roll: &Roll) -> Option<(u32, u32)>
     requires fit { IsFit roll.now }
     requires classes { histories.now.classes ≡ policy.now.classes }
     ensures least { result ≡ first_offence policy.now (has histories.now) roll.now }
     ensures within { IfSome result (λ pair. pair.0 < roll.now.shape.size) }
 {
+    let mut inflow = Inflow::before(0);
     for to in 0..roll.shape.size {
-        match first_offender(policy, histories, roll, to) {
+        inflow.turn_to(histories, roll, to);
+        match first_offender(policy, histories, roll, to, &inflow) {
             Some(from) => return Some((to, from)),
             None => {}
         }
@@ -149,7 +170,9 @@ fn judge(policy: &Policy, histories: &Histories, roll: &Roll) -> Verdict
 /// the simple rule if a dataset that is charged to a receiver has a rival in its history, or among those charged to it from lower ranks; of
 /// the pairs of a receiver and a contributor for which that is so the least is named, the lowest receiver first. Else it is granted.
 ///
-/// Looks at each pair of ranks at most twice, and once at the rivals of each dataset for each receiver that it is charged to.
+/// Where all receivers get alike from the ranks that reach them, as in an allreduce, an allgather or
+/// a scan, looks at each rank once, at the masks of each receiver, and, where one offends, at each
+/// rank for it once more. Between neighbours and in an alltoallv looks at each pair of ranks.
 pub fn decide(policy: &Policy, histories: &Histories, roll: &Roll) -> Verdict
     requires fit { IsFit roll.now }
     requires classes { histories.now.classes ≡ policy.now.classes }

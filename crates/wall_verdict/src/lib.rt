@@ -5,6 +5,7 @@
 
 mod charge;
 mod grant;
+mod inflow;
 mod judge;
 pub mod laws;
 mod star;

@@ -3,7 +3,7 @@ use Rattle.std.specs.Ordering.{nat_cmp}
 use Rattle.std.specs.FinSet.{contains, contains-empty}
 use Rattle.wall_rules.specs.Histories.{has}
 use Rattle.wall_rules.specs.Rules.{HoldsNoRivals, joined}
-use Rattle.wall_rules.proofs.RuleLemmas.{no_rivals-empty}
+use Rattle.wall_rules.proofs.WallRulesLemmas.{no_rivals-empty}
 use Rattle.wall_verdict.specs.Charges.{contribution}
 use Rattle.wall_verdict.specs.Verdicts.{meets}
 use Rattle.wall_verdict.proofs.BelowLemmas.{find_none_more}

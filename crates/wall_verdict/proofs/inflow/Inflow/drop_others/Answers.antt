@@ -1,0 +1,12 @@
+use Rattle.std.proofs.Common.{◌∙◌, arith}
+use Rattle.wall_verdict.proofs.InflowLemmas.{inflow_starts}
+use Rattle.wall_verdict.proofs.SpanLemmas.{start_within, end_within}
+use Rattle.wall_verdict.proofs.inflow.Inflow.drop_others.Goals as goal
+
+pub returns-clause-inflow : goal.returns-clause-inflow
+returns-clause-inflow c =
+    let sig = c.args.roll.now.sig in
+    let size = c.args.roll.now.shape.size in
+    inflow_starts c.args._histories.now.classes c.args.roll.now c.args.to c.before-2.result
+    (omega (arith, start_within sig size c.args.to, end_within sig size c.args.to c.requires.to))
+    (c.before-2.ensures.ranks ∙ c.start_of.ensures) c.before-2.ensures.number c.before-2.ensures.datasets

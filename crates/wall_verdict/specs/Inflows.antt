@@ -1,0 +1,96 @@
+-- What comes to the receivers of an instance, one receiver after the other: which ranks can reach
+-- a receiver, and for which kinds what has come to one receiver comes to the next too.
+use Rattle.std.specs.Prelude.{◌≡◌, ℕ, ◌+◌, ◌<◌, ◌≤◌, ◌==◌, nat_lt, Bool, true, false, List, slice_index_or, Option, count_by, is_some, if◌then◌else◌}
+use Rattle.std.specs.List.{list_any}
+use Rattle.std.specs.Option.{option_and_then}
+use Rattle.std.specs.FinSet.{contains}
+use Rattle.wall_policy.specs.Policy.{ChineseWall, least_of}
+use Rattle.wall_policy.specs.Rivals.{are_rivals}
+use Rattle.mpi_cart.specs.Grids.{below}
+use Rattle.coll_routes.specs.declared.signature.Signature.{Signature}
+use Rattle.coll_routes.specs.declared.signature.Signature.TheVariants.{Barrier, Bcast, Gather, Gatherv, Scatter, Scatterv, Allgather, Allgatherv, Alltoall, Alltoallv, Reduce, Allreduce, ReduceScatter, ReduceScatterBlock, Scan, Exscan, NeighborAllgather, NeighborAllgatherv, NeighborAlltoall, NeighborAlltoallv, Dup, Split, Create, CartCreate, CartSub}
+use Rattle.coll_routes.specs.declared.roll.Roll.{Roll}
+use Rattle.coll_routes.specs.Signatures.{reduction}
+use Rattle.wall_verdict.specs.declared.inflow.Inflow.{Inflow}
+use Rattle.wall_verdict.specs.Charges.{contribution, is_that}
+
+abbrev pub from_root : (root size : ℕ) → ℕ
+from_root root size = if nat_lt root size then root else 0
+
+abbrev pub past_root : (root size : ℕ) → ℕ
+past_root root size = if nat_lt root size then root + 1 else 0
+
+abbrev pub all_at : (root size j : ℕ) → ℕ
+all_at root size j = if j == root then size else 0
+
+-- no rank below this one reaches a receiver
+unfoldable pub start_of : Signature → (size : ℕ) → ℕ
+start_of (Bcast r ty n) size = from_root r size
+start_of (Scatter r ty n) size = from_root r size
+start_of (Scatterv r ty) size = from_root r size
+start_of _ size = 0
+
+-- neither this rank nor any above it reaches receiver j
+unfoldable pub end_of : Signature → (size j : ℕ) → ℕ
+end_of (Bcast r ty n) size j = past_root r size
+end_of (Scatter r ty n) size j = past_root r size
+end_of (Scatterv r ty) size j = past_root r size
+end_of (Gather r ty n) size j = all_at r size j
+end_of (Gatherv r ty) size j = all_at r size j
+end_of (Reduce r op ty n) size j = all_at r size j
+end_of (ReduceScatter op ty sizes) size j = if nat_lt 0 (slice_index_or sizes j 0) then size else 0
+end_of (Scan op ty n) size j = j + 1
+end_of (Exscan op ty n) size j = j
+end_of (Allgather ty n) size j = size
+end_of (Allgatherv ty) size j = size
+end_of (Alltoall ty n) size j = size
+end_of (Alltoallv ty) size j = size
+end_of (Allreduce op ty n) size j = size
+end_of (ReduceScatterBlock op ty n) size j = size
+end_of (NeighborAllgather ty n) size j = size
+end_of (NeighborAllgatherv ty) size j = size
+end_of (NeighborAlltoall ty n) size j = size
+end_of (NeighborAlltoallv ty) size j = size
+end_of _ size j = 0
+
+-- a rank below the ends of two receivers reaches both or neither
+unfoldable pub is_alike : Signature → Bool
+is_alike (Allgather ty n) = true
+is_alike (Allgatherv ty) = true
+is_alike (Alltoall ty n) = true
+is_alike (Allreduce op ty n) = true
+is_alike (ReduceScatter op ty sizes) = true
+is_alike (ReduceScatterBlock op ty n) = true
+is_alike (Scan op ty n) = true
+is_alike (Exscan op ty n) = true
+is_alike _ = false
+
+-- The ranks below n have brought this, where rank i brings f i: their number, their datasets, and
+-- among others all rivals of these.
+pub record IsInflow (classes : List ℕ) (f : ℕ → Option ℕ) (n : ℕ) (v : Inflow) : Type 0 where
+  pub number : v.number ≡ count_by (λ i. is_some (f i)) (below n)
+  pub datasets : (d : ℕ) → contains v.datasets d ≡ list_any (λ i. is_that (f i) d) (below n)
+  pub rivals : (d e : ℕ) → contains v.datasets d ≡ true → are_rivals classes d e ≡ true
+      → contains v.rivals e ≡ true
+
+-- so far for receiver j: of the ranks below n
+abbrev pub IsTaken : List ℕ → Roll → (j n : ℕ) → Inflow → Type 0
+IsTaken classes roll j n v = IsInflow classes (λ i. contribution roll i j) n v
+
+-- of the ranks below `ranks`
+abbrev pub IsInflowOf : List ℕ → Roll → (j : ℕ) → Inflow → Type 0
+IsInflowOf classes roll j v = IsInflow classes (λ i. contribution roll i j) v.ranks v
+
+-- all that comes to receiver j
+abbrev pub IsWhole : List ℕ → Roll → (j : ℕ) → Inflow → Type 0
+IsWhole classes roll j v = IsInflow classes (λ i. contribution roll i j) roll.shape.size v
+
+-- it serves for each receiver from j on that its ranks can reach
+abbrev pub Serves : List ℕ → Roll → (j : ℕ) → Inflow → Type 0
+Serves classes roll j v =
+    is_alike roll.sig ≡ true → (k : ℕ) → j ≤ k → k < roll.shape.size
+    → v.ranks ≤ end_of roll.sig roll.shape.size k → IsInflowOf classes roll k v
+
+-- the least number that the policy states for the operation of the kind
+abbrev pub least_for : ChineseWall → Roll → Option ℕ
+least_for wall roll = option_and_then (least_of wall) (reduction roll.sig)

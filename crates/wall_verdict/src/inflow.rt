@@ -1,0 +1,229 @@
+//! What comes to the receivers of an instance, kept from one to the next where it is the same.
+ghost use Rattle.std.specs.Prelude.{◌≡◌, ℕ, ◌+◌, ◌<◌, ◌≤◌, ◌^◌, ◌-◌, slice_index_or};
+ghost use Rattle.std.specs.FinSet as sets;
+ghost use Rattle.coll_routes.specs.Fit.{IsFit};
+ghost use Rattle.wall_rules.specs.Histories.{AddsRivals};
+ghost use Rattle.wall_verdict.specs.Charges.{contributors, contributed, charged, is_at_most};
+ghost use Rattle.wall_verdict.specs.Inflows.{start_of, end_of, is_alike, from_root, past_root, all_at, least_for, IsTaken, IsInflowOf, IsWhole, Serves};
+
+use super::charge::contribution;
+use coll_routes::{Roll, Signature};
+use wall_labels::{DatasetId, LabelSet};
+use wall_policy::Policy;
+use wall_rules::Histories;
+
+/// What the ranks below one contribute to a receiver.
+#[derive(Drop)]
+pub struct Inflow {
+    pub ranks: u32,
+    /// How many of them contribute.
+    pub number: u32,
+    /// What they contribute, and all rivals of these.
+    pub datasets: LabelSet,
+    pub rivals: LabelSet,
+}
+
+impl Inflow {
+    /// Nothing, where no rank below this one contributes.
+    pub fn before(ranks: u32) -> Inflow
+        ensures ranks { result.ranks ≡ ranks }
+        ensures number { result.number ≡ 0 }
+        ensures datasets { result.datasets ≡ sets.empty }
+    {
+        Inflow {
+            ranks,
+            number: 0,
+            datasets: LabelSet::empty(),
+            rivals: LabelSet::empty(),
+        }
+    }
+
+    /// Takes what comes to the next receiver, keeping what comes to it as to the one before.
+    #[tactic(auto, using(crate::proofs::SpanLemmas::end_within))]
+    pub fn turn_to(&mut self, histories: &Histories, roll: &Roll, to: u32)
+        requires fit { IsFit roll.now }
+        requires to { to < roll.now.shape.size }
+        requires serves { Serves histories.now.classes roll.now to self.old }
+        ensures whole { IsWhole histories.now.classes roll.now to self.new }
+        ensures serves { Serves histories.now.classes roll.now (to + 1) self.new }
+    {
+        let end = end_of(&roll.sig, roll.shape.size, to);
+        self.drop_others(histories, roll, to, end);
+        self.grow(histories, roll, to, end);
+    }
+
+    // Drops what does not come to this receiver too.
+    #[tactic(auto, using(crate::proofs::InflowLemmas::inflow_kept, crate::proofs::SpanLemmas::start_within))]
+    fn drop_others(&mut self, _histories: &Histories, roll: &Roll, to: u32, end: u32)
+        requires to { to < roll.now.shape.size }
+        requires end { end ≡ end_of roll.now.sig roll.now.shape.size to }
+        requires serves { Serves _histories.now.classes roll.now to self.old }
+        ensures ranks { self.new.ranks ≤ end }
+        ensures inflow { IsInflowOf _histories.now.classes roll.now to self.new }
+    {
+        if is_alike(&roll.sig) && self.ranks <= end {
+            return;
+        }
+        *self = Inflow::before(start_of(&roll.sig, roll.shape.size));
+    }
+
+    // Takes what comes to the receiver from the next ranks, up to this one.
+    fn grow(&mut self, histories: &Histories, roll: &Roll, to: u32, end: u32)
+        requires fit { IsFit roll.now }
+        requires to { to < roll.now.shape.size }
+        requires end { end ≤ roll.now.shape.size }
+        requires ranks { self.old.ranks ≤ end }
+        requires inflow { IsInflowOf histories.now.classes roll.now to self.old }
+        ensures ranks { self.new.ranks ≡ end }
+        ensures inflow { IsInflowOf histories.now.classes roll.now to self.new }
+    {
+        for from in self.ranks..end {
+            self.take(histories, roll, from, to);
+        }
+        self.ranks = end;
+    }
+
+    // Takes what comes to the receiver from the next rank.
+    fn take(&mut self, histories: &Histories, roll: &Roll, from: u32, to: u32)
+        requires fit { IsFit roll.now }
+        requires to { to < roll.now.shape.size }
+        requires from { from < roll.now.shape.size }
+        requires few { from < 2 ^ 32 - 1 }
+        requires inflow { IsTaken histories.now.classes roll.now to from self.old }
+        ensures { IsTaken histories.now.classes roll.now to (from + 1) self.new }
+    {
+        match contribution(roll, from, to) {
+            Some(dataset) => self.add(histories, dataset),
+            None => {}
+        }
+    }
+
+    fn add(&mut self, histories: &Histories, dataset: DatasetId)
+        requires { self.old.number < 2 ^ 32 - 1 }
+        ensures number { self.new.number ≡ self.old.number + 1 }
+        ensures datasets { self.new.datasets ≡ sets.insert self.old.datasets dataset }
+        ensures rivals { AddsRivals histories.now.classes dataset self.old.rivals self.new.rivals }
+    {
+        self.number += 1;
+        self.datasets.insert(dataset);
+        histories.add_rivals(dataset, &mut self.rivals);
+    }
+}
+
+/// The datasets that are charged to the receiver.
+pub fn charges(policy: &Policy, roll: &Roll, to: u32, inflow: &Inflow) -> LabelSet
+    requires number { inflow.now.number ≡ contributors roll.now to }
+    requires datasets { (d : ℕ) → sets.contains inflow.now.datasets d ≡ contributed roll.now to d }
+    requires to { to < roll.now.shape.size }
+    ensures { (d : ℕ) → sets.contains result d ≡ charged policy.now roll.now to d }
+{
+    let mut datasets = LabelSet::empty();
+    if !is_enough(policy, roll, inflow.number) {
+        datasets.union_with(&inflow.datasets);
+    }
+    datasets
+}
+
+/// Whether the policy takes what so many ranks contribute to one for sanitised.
+pub fn is_enough(policy: &Policy, roll: &Roll, number: u32) -> bool
+    ensures { result ≡ is_at_most (least_for policy.now roll.now) number }
+{
+    let Some(op) = roll.sig.op() else {
+        return false;
+    };
+    match policy.least(op) {
+        Some(least) => least <= number,
+        None => false,
+    }
+}
+
+#[tactic(auto, unfolding(crate::specs::Inflows::start_of))]
+fn start_of(sig: &Signature, size: u32) -> u32
+    ensures { result ≡ start_of sig.now size }
+{
+    match sig {
+        Signature::Bcast { root, .. } => from_root(*root, size),
+        Signature::Scatter { root, .. } => from_root(*root, size),
+        Signature::Scatterv { root, .. } => from_root(*root, size),
+        _ => 0,
+    }
+}
+
+fn from_root(root: u32, size: u32) -> u32
+    ensures { result ≡ from_root root size }
+{
+    if root < size { root } else { 0 }
+}
+
+fn past_root(root: u32, size: u32) -> u32
+    ensures { result ≡ past_root root size }
+{
+    if root < size { root + 1 } else { 0 }
+}
+
+fn all_at(root: u32, size: u32, to: u32) -> u32
+    ensures { result ≡ all_at root size to }
+{
+    if to == root { size } else { 0 }
+}
+
+fn size_at(sizes: &[u32], at: u32) -> u32
+    ensures { result ≡ slice_index_or sizes.now at 0 }
+{
+    match sizes.get(at as usize) {
+        Some(size) => *size,
+        None => 0,
+    }
+}
+
+#[tactic(auto, unfolding(crate::specs::Inflows::end_of))]
+fn end_of(sig: &Signature, size: u32, to: u32) -> u32
+    requires { to < size }
+    ensures { result ≡ end_of sig.now size to }
+{
+    match sig {
+        Signature::Bcast { root, .. } => past_root(*root, size),
+        Signature::Scatter { root, .. } => past_root(*root, size),
+        Signature::Scatterv { root, .. } => past_root(*root, size),
+        Signature::Gather { root, .. } => all_at(*root, size, to),
+        Signature::Gatherv { root, .. } => all_at(*root, size, to),
+        Signature::Reduce { root, .. } => all_at(*root, size, to),
+        Signature::ReduceScatter { counts, .. } => {
+            if size_at(counts.as_slice(), to) > 0 {
+                size
+            } else {
+                0
+            }
+        }
+        Signature::Scan { .. } => to + 1,
+        Signature::Exscan { .. } => to,
+        Signature::Allgather { .. } => size,
+        Signature::Allgatherv { .. } => size,
+        Signature::Alltoall { .. } => size,
+        Signature::Alltoallv { .. } => size,
+        Signature::Allreduce { .. } => size,
+        Signature::ReduceScatterBlock { .. } => size,
+        Signature::NeighborAllgather { .. } => size,
+        Signature::NeighborAllgatherv { .. } => size,
+        Signature::NeighborAlltoall { .. } => size,
+        Signature::NeighborAlltoallv { .. } => size,
+        _ => 0,
+    }
+}
+
+#[tactic(auto, unfolding(crate::specs::Inflows::is_alike))]
+fn is_alike(sig: &Signature) -> bool
+    ensures { result ≡ is_alike sig.now }
+{
+    match sig {
+        Signature::Allgather { .. } => true,
+        Signature::Allgatherv { .. } => true,
+        Signature::Alltoall { .. } => true,
+        Signature::Allreduce { .. } => true,
+        Signature::ReduceScatter { .. } => true,
+        Signature::ReduceScatterBlock { .. } => true,
+        Signature::Scan { .. } => true,
+        Signature::Exscan { .. } => true,
+        _ => false,
+    }
+}
