@@ -30,7 +30,8 @@ use Rattle.coll_text.specs.declared.table.Form.TheVariants.{Root, Operation, Typ
 use Rattle.coll_text.specs.declared.table.Fields.{Fields}
 use Rattle.coll_text.specs.Numbers.{Word, is_digit, number_within, signed_within, IsBetween}
 use Rattle.coll_text.specs.Reading.{◌>>=◌, some_or, each_of, list_of, flag_of, word_at}
-use Rattle.coll_text.specs.Table.{forms_of, signature_of, own_of, no_fields, fields_of, is_own_of}
+use Rattle.coll_text.specs.Table.{forms_of, signature_of, own_of, no_fields, fields_of}
+use Rattle.coll_routes.specs.Owns.{is_own_of}
 use Rattle.coll_text.specs.Fields.{number_of, key_of, colour_of, with_field, fields_at, statement_at}
 use Rattle.coll_text.specs.Spellings.{list_word, flag_word, colour_word, word_of, words_of, statement_words, IsSigned32, Fits, IsSpellable, put, put_all}
 use Rattle.coll_text.proofs.NumberLemmas.{own, form, no_comma, decimal_is_number, signed_is_read, Readable, list_again, not_true}

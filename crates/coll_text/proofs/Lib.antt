@@ -1,4 +1,5 @@
 pub mod CutLemmas
+pub mod FrontLemmas
 pub mod DigitLemmas
 pub mod EachLemmas
 pub mod FieldLemmas
@@ -7,3 +8,8 @@ pub mod FoundLemmas
 pub mod AgainLemmas
 pub mod SpacedLemmas
 pub mod SolidLemmas
+pub mod BatchLemmas
+pub mod SendLemmas
+pub mod WordLemmas
+pub mod StepLemmas
+pub mod CollTextLemmas

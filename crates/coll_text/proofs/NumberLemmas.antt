@@ -1,6 +1,6 @@
 -- Each number has one spelling, which is read.
-use Rattle.std.proofs.Common.{◌≡◌, ℕ, zero, suc, ◌+◌, ◌^◌, ◌<◌, ◌≤◌, Bool, true, false, not, cond, ◌&&◌, ◌||◌, eqb, leb, List, [], ◌∷◌, length, get_or, Option, Some, None, option_map, option_and_then, Result, Ok, Err, ℤ, pos, negsuc, map, codes, All, ◌++◌, refl, sym, ap, subst, ◌∙◌, arith, rules, eq-eqb, inl, inr}
-use Rattle.std.specs.List.{list_all, slice_split, join_with_byte, AllByRecursion}
+use Rattle.std.proofs.Common.{◌≡◌, ℕ, zero, suc, ◌^◌, ◌<◌, ◌≤◌, Bool, true, false, not, cond, ◌&&◌, ◌||◌, eqb, leb, List, [], ◌∷◌, length, get_or, Some, None, option_map, option_and_then, Result, Ok, Err, ℤ, pos, negsuc, map, codes, All, refl, sym, ap, subst, ◌∙◌, arith, rules, eq-eqb}
+use Rattle.std.specs.List.{list_all, join_with_byte, AllByRecursion}
 use Rattle.std.specs.Fmt.{decimal, signed_decimal}
 use Rattle.std.proofs.lemmas.Bool.{eqb-true, leb-true, le-leb, and_parts, and_from, ne_eqb}
 use Rattle.std.proofs.lemmas.Fmt.{digits_decimal, digits_value-decimal, decimal_nonempty, first_decimal, decimal_digit, decimal-digits_value}
@@ -10,10 +10,9 @@ use Rattle.std.proofs.lemmas.List.Elements.{All-nil, All-cons}
 use Rattle.std.proofs.lemmas.List.Splits.{slice_split_none, slice_split_at}
 use Rattle.std.proofs.lemmas.Slice.Eq.{bytes_eq-Decides}
 use Rattle.coll_text.specs.declared.fault.LineFault.{LineFault}
-use Rattle.coll_text.specs.declared.fault.LineFault.TheVariants.{BadField}
 use Rattle.coll_text.specs.Numbers.{Word, is_digit, is_number, value_after, number_within, negative, signed_within, IsBetween}
-use Rattle.coll_text.specs.Reading.{◌>>=◌, some_or, parts, each_of, list_of, flag_of}
-use Rattle.coll_text.specs.Spellings.{list_word, flag_word}
+use Rattle.coll_text.specs.Reading.{parts, each_of, list_of}
+use Rattle.coll_text.specs.Spellings.{list_word}
 
 pub own : IsNumeralModel (λ ds. list_all is_digit ds ≡ true) (value_after 0)
 own = numerals_by_fold _ (search rules) value_after (search rules)
@@ -22,7 +21,7 @@ last_part : (b : ℕ) (bs : Word) (t : Bool) → eqb b 48 ≡ t → (b ≡ 48 �
 last_part b bs false e h = refl
 last_part b bs true e h = eq-eqb (length bs) 0 (let k : suc (length bs) ≡ 1 = h (eqb-true b 48 e) in omega arith)
 
-form_of : (w : Word) → list_all is_digit w ≡ true → 0 < length w → (get_or w 0 0 ≡ 48 → length w ≡ 1) → is_number w ≡ true
+pub form_of : (w : Word) → list_all is_digit w ≡ true → 0 < length w → (get_or w 0 0 ≡ 48 → length w ≡ 1) → is_number w ≡ true
 form_of [] d some lead = absurd (omega arith)
 form_of (b ∷ bs) d some lead = and_from (is_digit b && list_all is_digit bs) (not (eqb b 48) || eqb (length bs) 0) d (last_part b bs (eqb b 48) refl lead)
 
@@ -36,7 +35,7 @@ form_parts (b ∷ bs) h =
     let p = and_parts (is_digit b && list_all is_digit bs) (not (eqb b 48) || eqb (length bs) 0) h in
     (p.0, omega arith, last_is b bs (eqb b 48) refl p.1)
 
-chosen : (b : Bool) (m n : ℕ) → cond b (Some m) None ≡ Some n → (b ≡ true) × (m ≡ n)
+pub chosen : (b : Bool) (m n : ℕ) → cond b (Some m) None ≡ Some n → (b ≡ true) × (m ≡ n)
 chosen true m n e = (refl, cc)
 chosen false m n e = absurd cc
 
@@ -73,11 +72,11 @@ minus_first most least b bs d =
     let other : b ≡ 45 → ⊥ = λ e. absurd (omega arith) in
     rw (ne_eqb b 45 other) refl
 
-plain : (most least : ℕ) (w : Word) → is_number w ≡ true → signed_within most least w ≡ option_map pos (number_within most w)
+pub plain : (most least : ℕ) (w : Word) → is_number w ≡ true → signed_within most least w ≡ option_map pos (number_within most w)
 plain most least [] h = absurd cc
 plain most least (b ∷ bs) h = minus_first most least b bs (and_parts (is_digit b) (list_all is_digit bs) (form_parts (b ∷ bs) h).0).0
 
-behind_minus : (most least : ℕ) (bs : Word) → signed_within most least (45 ∷ bs) ≡ option_and_then negative (number_within least bs)
+pub behind_minus : (most least : ℕ) (bs : Word) → signed_within most least (45 ∷ bs) ≡ option_and_then negative (number_within least bs)
 unfolding signed_within
 behind_minus most least bs = refl
 

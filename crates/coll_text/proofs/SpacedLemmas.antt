@@ -1,10 +1,12 @@
 -- Words behind separators, and words with separators between them.
 use Rattle.std.proofs.Common.{◌≡◌, ℕ, ◌-◌, ◌≤◌, List, [], ◌∷◌, ◌++◌, map, length, take, drop, get_or, Result, Ok, Err, OnOk, refl, sym, ap, ◌∙◌, append_assoc, arith}
 use Rattle.std.specs.List.{flat_map, join_with_byte}
-use Rattle.std.proofs.lemmas.List.{append-nil, take_all}
+use Rattle.std.proofs.lemmas.List.{append-nil, take_all, take-append-drop}
+use Rattle.std.proofs.Math.Seq.{take-append_seam}
 use Rattle.coll_text.specs.Numbers.{Word}
 use Rattle.coll_text.specs.Spellings.{list_word}
 use Rattle.coll_text.specs.Spaced.{behind_each, behind_comma}
+use Rattle.coll_text.specs.Writing.{IsFront}
 
 pub join_cons : (c : ℕ) (w : Word) (ws : List Word) → join_with_byte c (w ∷ ws) ≡ w ++ behind_each c ws
 join_cons c w [] = sym (append-nil w)
@@ -29,3 +31,25 @@ list_word_parts f d (x ∷ xs) h = list_word_cons f x xs ∙ ap (λ ys. f x ++ b
 pub put_behind : {A E : Type 0} (r : Result A E) (old mid new first rest whole : List ℕ) → OnOk r (new ≡ mid ++ rest) → mid ≡ old ++ first → whole ≡ first ++ rest → OnOk r (new ≡ old ++ whole)
 put_behind (Ok x) old mid new first rest whole h g e = h ∙ ap (λ t. t ++ rest) g ∙ append_assoc old first rest ∙ ap (λ t. old ++ t) (sym e)
 put_behind (Err x) old mid new first rest whole h g e = tt
+
+-- ---- what stands at the front of a text
+
+pub front_same : (old new : List ℕ) → new ≡ old → IsFront old new
+front_same old new e = ap (take (length old)) e ∙ take_all (length old) old (omega arith)
+
+pub front_put : (old new more : List ℕ) → new ≡ old ++ more → IsFront old new
+front_put old new more e = ap (take (length old)) e ∙ take-append_seam old more
+
+front_back : (old new : List ℕ) → IsFront old new → old ++ drop (length old) new ≡ new
+front_back old new f = ap (λ (t : List ℕ). t ++ drop (length old) new) (sym f) ∙ take-append-drop (length old) new
+
+pub front_then : (old mid new : List ℕ) → IsFront old mid → IsFront mid new → IsFront old new
+front_then old mid new f g =
+    let a = front_back old mid f in
+    let b = front_back mid new g in
+    front_put old new (drop (length old) mid ++ drop (length mid) new)
+    (sym b ∙ ap (λ (t : List ℕ). t ++ drop (length mid) new) (sym a) ∙ append_assoc old (drop (length old) mid) (drop (length mid) new))
+
+-- with words put between
+pub front_behind : (old mid new more : List ℕ) → mid ≡ old ++ more → IsFront mid new → IsFront old new
+front_behind old mid new more e f = front_then old mid new (front_put old mid more e) f

@@ -12,7 +12,8 @@ use Rattle.coll_text.specs.declared.table.Form.{Form}
 use Rattle.coll_text.specs.declared.table.Form.TheVariants.{Root, Operation, Typed, Count, Counts, Listed, Flagged, Colour, Key}
 use Rattle.coll_text.specs.declared.table.Fields.{Fields}
 use Rattle.coll_text.specs.Numbers.{Word, IsBetween}
-use Rattle.coll_text.specs.Table.{forms_of, fields_of, is_own_of}
+use Rattle.coll_text.specs.Table.{forms_of, fields_of}
+use Rattle.coll_routes.specs.Owns.{is_own_of}
 
 -- `-` for none, or words between commas
 abbrev pub list_word : {A : Type 0} → (A → Word) → List A → Word

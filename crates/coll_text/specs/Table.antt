@@ -111,16 +111,3 @@ key_in _ = pos 0
 -- what a statement has in each field, and in the others what stands there before any is stated
 abbrev pub fields_of : Signature → Own → Fields
 fields_of sig own = record { root = unwrap_or (root sig) 0; op = unwrap_or (reduction sig) ops.Max; elem_type = unwrap_or (elem_type sig) types.Int8; count = unwrap_or (count sig) 0; counts = counts_in own; list = numbers sig; flags = flags sig; colour = colour_in own; key = key_in own }
-
--- what a poster of the kind states for itself: counts, or a colour and a key, or nothing
-abbrev pub is_own_of : Kind → Own → Bool
-is_own_of kinds.Scatterv (owns.Counts counts) = true
-is_own_of kinds.Scatterv _ = false
-is_own_of kinds.Alltoallv (owns.Counts counts) = true
-is_own_of kinds.Alltoallv _ = false
-is_own_of kinds.NeighborAlltoallv (owns.Counts counts) = true
-is_own_of kinds.NeighborAlltoallv _ = false
-is_own_of kinds.Split (owns.Split colour key) = true
-is_own_of kinds.Split _ = false
-is_own_of _ owns.Plain = true
-is_own_of _ _ = false

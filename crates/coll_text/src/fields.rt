@@ -2,7 +2,8 @@
 ghost use Rattle.std.specs.Prelude.{◌≡◌, true, IfOk};
 ghost use Rattle.coll_text.specs.Reading.{Gives, Leaves, Takes};
 ghost use Rattle.coll_routes.specs.Signatures.{kind};
-ghost use Rattle.coll_text.specs.Table.{no_fields, is_own_of};
+ghost use Rattle.coll_text.specs.Table.{no_fields};
+ghost use Rattle.coll_routes.specs.Owns.{is_own_of};
 ghost use Rattle.coll_text.specs.Fields.{colour_of, with_field, fields_at, statement_at};
 
 use crate::fault::LineFault;

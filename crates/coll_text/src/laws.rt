@@ -5,7 +5,7 @@ ghost use Rattle.coll_routes.specs.declared.signature.Signature.{Signature};
 ghost use Rattle.coll_routes.specs.declared.statement.Own.{Own};
 ghost use Rattle.coll_routes.specs.Signatures.{kind};
 ghost use Rattle.coll_text.specs.Numbers.{Word};
-ghost use Rattle.coll_text.specs.Table.{is_own_of};
+ghost use Rattle.coll_routes.specs.Owns.{is_own_of};
 ghost use Rattle.coll_text.specs.Fields.{statement_at};
 ghost use Rattle.coll_text.specs.Spellings.{IsSpellable, statement_words, is_solid};
 

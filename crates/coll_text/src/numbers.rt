@@ -3,16 +3,22 @@ ghost use Rattle.std.specs.Prelude.{◌≡◌, ◌≤◌, IfSome};
 ghost use Rattle.std.specs.List.{list_all};
 ghost use Rattle.coll_text.specs.Numbers.{is_digit, is_number, number_within, signed_within, IsBetween};
 
-fn is_digit_byte(byte: u8) -> bool
+use crate::front::front_number;
+
+pub(crate) fn is_digit_byte(byte: u8) -> bool
     ensures { result ≡ is_digit byte }
 {
     byte.is_ascii_digit()
 }
 
-fn are_digits(bytes: &[u8]) -> bool
+pub(crate) fn are_digits(bytes: &[u8]) -> bool
     ensures { result ≡ list_all is_digit bytes.now }
 {
-    bytes.iter().all(|byte| is_digit_byte(*byte))
+    let mut are_all = true;
+    for byte in bytes {
+        are_all &= (b'0' <= *byte) & (*byte <= b'9');
+    }
+    are_all
 }
 
 fn has_number_form(word: &[u8]) -> bool
@@ -26,9 +32,9 @@ fn has_number_form(word: &[u8]) -> bool
     }
 }
 
-/// The number that the word spells, up to this one: `0`, or a digit from 1 to 9 and further digits.
+// The same of a word of any length, digit by digit.
 #[tactic(auto, unfolding(crate::specs::Numbers::number_within))]
-pub fn number(word: &[u8], most: u64) -> Option<u64>
+fn long_number(word: &[u8], most: u64) -> Option<u64>
     ensures value { result ≡ number_within most word.now }
     ensures below { IfSome result (λ n. n ≤ most) }
 {
@@ -44,6 +50,25 @@ pub fn number(word: &[u8], most: u64) -> Option<u64>
         value = next as u64;
     }
     Some(value)
+}
+
+/// The number that the word spells, up to this one: `0`, or a digit from 1 to 9 and further digits.
+pub fn number(word: &[u8], most: u64) -> Option<u64>
+    ensures value { result ≡ number_within most word.now }
+    ensures below { IfSome result (λ n. n ≤ most) }
+{
+    match front_number(word) {
+        None => long_number(word, most),
+        Some((n, len)) => {
+            if len < word.len() {
+                return long_number(word, most);
+            }
+            if n > most {
+                return None;
+            }
+            Some(n)
+        }
+    }
 }
 
 /// The number of 32 bits that the word spells.

@@ -1,7 +1,10 @@
 //! The parts of a text between separators, from the left.
-ghost use Rattle.std.specs.Prelude.{◌≡◌, ◌==◌, List, ℕ, [], ◌∷◌, MatchOption, length};
-ghost use Rattle.std.specs.List.{slice_split, position};
+ghost use Rattle.std.specs.Prelude.{◌≡◌, ◌==◌, List, ℕ, [], ◌∷◌, MatchOption, IfSome, Some, None, length, ◌≤◌, take};
+ghost use Rattle.std.specs.List.{slice_split, position, count_by};
+ghost use Rattle.coll_text.specs.Numbers.{signed_within};
 
+use crate::front::front_signed;
+use crate::numbers::signed;
 use std::marker::Model;
 
 /// The parts that are still to be read, seen as their list.
@@ -21,10 +24,29 @@ impl<'a> Model for Parts<'a> {
     ghost view = { λ p. if p.is_done then [] else slice_split (λ b. b == p.separator) p.rest.now };
 }
 
+// How many of the bytes are the separator, counted in 8 bits.
+fn count_few(text: &[u8], separator: u8) -> u8
+    requires { length text.now ≤ 255 }
+    ensures { result ≡ count_by (λ b. b == separator) text.now }
+{
+    let mut count = 0;
+    for byte in text {
+        count += u8::from(*byte == separator);
+    }
+    count
+}
+
 fn count_parts(text: &[u8], separator: u8) -> usize
     ensures { result ≡ length (slice_split (λ b. b == separator) text.now) }
 {
-    text.iter().filter(|b| **b == separator).count() + 1
+    let mut count = 0;
+    let mut rest = text;
+    while rest.len() > 255 {
+        let (front, back) = rest.split_at(224);
+        count += usize::from(count_few(front, separator));
+        rest = back;
+    }
+    count + usize::from(count_few(rest, separator)) + 1
 }
 
 fn place_of(text: &[u8], separator: u8) -> Option<usize>
@@ -33,11 +55,41 @@ fn place_of(text: &[u8], separator: u8) -> Option<usize>
     text.iter().position(|b| *b == separator)
 }
 
+// So many bytes at the front have no separator among them, counted in whole steps.
+fn clear_front(text: &[u8], separator: u8) -> usize
+    ensures within { result ≤ length text.now }
+    ensures clear { count_by (λ b. b == separator) (take result text.now) ≡ 0 }
+{
+    let mut clear = 0;
+    while text.len() - clear >= 128 {
+        let (_, rest) = text.split_at(clear);
+        let (step, _) = rest.split_at(128);
+        if count_few(step, separator) != 0 {
+            return clear;
+        }
+        clear += 128;
+    }
+    clear
+}
+
+// The same place, found in steps of many bytes.
+fn far_place_of(text: &[u8], separator: u8) -> Option<usize>
+    ensures { result ≡ position (λ b. b == separator) text.now }
+{
+    let clear = clear_front(text, separator);
+    let (_, rest) = text.split_at(clear);
+    match place_of(rest, separator) {
+        None => None,
+        Some(at) => Some(clear + at),
+    }
+}
+
 // The part before the first separator, and what is after it.
-fn cut(text: &[u8], separator: u8) -> (&[u8], Option<&[u8]>)
+fn cut(text: &[u8], separator: u8, place: Option<usize>) -> (&[u8], Option<&[u8]>)
+    requires { place ≡ position (λ b. b == separator) text.now }
     ensures { MatchOption result.1 (slice_split (λ b. b == separator) text.now ≡ result.0.now ∷ []) (λ rest. slice_split (λ b. b == separator) text.now ≡ result.0.now ∷ slice_split (λ b. b == separator) rest.now) }
 {
-    match place_of(text, separator) {
+    match place {
         None => (text, None),
         Some(at) => {
             let (part, _) = text.split_at(at);
@@ -58,6 +110,20 @@ impl<'a> Parts<'a> {
         }
     }
 
+    /// The parts that are left. None is left here.
+    pub fn take(&mut self) -> Parts<'a>
+        ensures all { result ≡ self.old }
+        ensures none { self.new ≡ [] }
+    {
+        let taken = Parts {
+            rest: self.rest,
+            separator: self.separator,
+            is_done: self.is_done,
+        };
+        self.is_done = true;
+        taken
+    }
+
     /// How many parts are left.
     pub fn count(&self) -> usize
         ensures { result ≡ length self.now }
@@ -75,11 +141,74 @@ impl<'a> Parts<'a> {
         if self.is_done {
             return None;
         }
-        let (part, rest) = cut(self.rest, self.separator);
+        let place = place_of(self.rest, self.separator);
+        let (part, rest) = cut(self.rest, self.separator, place);
         match rest {
             None => self.is_done = true,
             Some(rest) => self.rest = rest,
         }
         Some(part)
+    }
+
+    /// The next part, found in steps of many bytes: for parts that are long.
+    pub fn next_long(&mut self) -> Option<&'a [u8]>
+        ensures { MatchOption result ((self.old ≡ []) × (self.new ≡ [])) (λ part. self.old ≡ part.now ∷ self.new) }
+    {
+        if self.is_done {
+            return None;
+        }
+        let place = far_place_of(self.rest, self.separator);
+        let (part, rest) = cut(self.rest, self.separator, place);
+        match rest {
+            None => {
+                self.is_done = true;
+                Some(part)
+            }
+            Some(rest) => {
+                self.rest = rest;
+                Some(part)
+            }
+        }
+    }
+
+    // The next part where a signed number of at most 19 digits is the whole of it, with the number; else none, and nothing is taken.
+    fn next_plain(&mut self) -> Option<(&'a [u8], i128)>
+        ensures none { result ≡ None → self.new ≡ self.old }
+        ensures part { IfSome result (λ r. self.old ≡ r.0.now ∷ self.new) }
+        ensures number { IfSome result (λ r. signed_within u64.MAX u64.MAX r.0.now ≡ Some r.1) }
+    {
+        if self.is_done || self.separator >= b'-' {
+            return None;
+        }
+        match front_signed(self.rest) {
+            None => None,
+            Some((number, len)) => {
+                if len == self.rest.len() {
+                    self.is_done = true;
+                    return Some((self.rest, number));
+                }
+                if self.rest[len] != self.separator {
+                    return None;
+                }
+                let (part, _) = self.rest.split_at(len);
+                let (_, rest) = self.rest.split_at(len + 1);
+                self.rest = rest;
+                Some((part, number))
+            }
+        }
+    }
+
+    /// The next part, and the signed number of 64 bits behind its sign that it spells.
+    pub fn next_signed(&mut self) -> Option<(&'a [u8], Option<i128>)>
+        ensures part { MatchOption result ((self.old ≡ []) × (self.new ≡ [])) (λ r. self.old ≡ r.0.now ∷ self.new) }
+        ensures number { IfSome result (λ r. r.1 ≡ signed_within u64.MAX u64.MAX r.0.now) }
+    {
+        match self.next_plain() {
+            Some((part, number)) => Some((part, Some(number))),
+            None => match self.next() {
+                None => None,
+                Some(part) => Some((part, signed(part, u64::MAX, u64::MAX))),
+            },
+        }
     }
 }

@@ -1,7 +1,8 @@
 //! The forms of each kind's fields in their order, and what the fields make: a line for each kind in each table.
 ghost use Rattle.std.specs.Prelude.{◌≡◌, true};
 ghost use Rattle.coll_routes.specs.Signatures.{kind as kind_of_signature};
-ghost use Rattle.coll_text.specs.Table.{forms_of, signature_of, own_of, no_fields, is_own_of};
+ghost use Rattle.coll_text.specs.Table.{forms_of, signature_of, own_of, no_fields};
+ghost use Rattle.coll_routes.specs.Owns.{is_own_of};
 
 use coll_routes::{Flags, Kind, Numbers, Own, Signature};
 use mpi_elems::ElemType;

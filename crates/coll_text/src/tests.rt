@@ -1,8 +1,11 @@
 //! Statements as scripts and books spell them, and words that are refused.
 
 use super::*;
+use mpi_elems::{Buffer, ElemType};
+use std::alloc::Global;
 use std::process::Abort;
 use std::test::Fail;
+use wall_labels::NoMemory;
 
 // Whether the line is read whole, and written again as it was.
 fn is_spelled(rt: &(impl AllocGlobal + Abort), line: &str) -> bool {
@@ -13,11 +16,11 @@ fn is_spelled(rt: &(impl AllocGlobal + Abort), line: &str) -> bool {
     if end_of(&mut words).is_err() {
         return false;
     }
-    let mut text = String::new(rt.alloc());
-    if write_statement(rt.alloc(), &sig, &own, &mut text).is_err() {
+    let mut text = Vec::new(rt.alloc());
+    if write_statement(&sig, &own, &mut text).is_err() {
         return false;
     }
-    text.as_str() == line
+    text.as_slice() == line.as_bytes()
 }
 
 fn fault_of(rt: &(impl AllocGlobal + Abort), line: &str) -> Option<LineFault> {
@@ -112,5 +115,103 @@ fn what_is_behind_a_statement_is_left(rt: HostRuntime) -> Result<(), Fail> {
     assert!(rt; end_of(&mut words).is_ok());
     assert!(rt; signed(b"-128", 127, 128) == Some(-128));
     assert!(rt; are_printable(b" ~") && !are_printable(b"\t"));
+    Ok(())
+}
+
+#[test]
+fn faults_have_their_names(rt: HostRuntime) -> Result<(), Fail> {
+    for (fault, name) in [
+        (LineFault::BadVerb, "BadVerb"),
+        (LineFault::BadShape, "BadShape"),
+        (LineFault::BadField, "BadField"),
+        (LineFault::BadKind, "BadKind"),
+        (LineFault::BadType, "BadType"),
+        (LineFault::UnknownOp, "UnknownOp"),
+        (LineFault::BadLabel, "BadLabel"),
+        (LineFault::BadNumber, "BadNumber"),
+        (LineFault::OddPair, "OddPair"),
+        (LineFault::NoMemory, "NoMemory"),
+    ] {
+        let said = format!(in rt.alloc(); "{fault}")?;
+        assert!(&rt; said.as_str() == name, "{name}");
+    }
+    Ok(())
+}
+
+// Numbers of one digit and of all their digits, below 0 and above.
+#[test]
+fn numbers_are_written_and_read_again(rt: HostRuntime) -> Result<(), Fail> {
+    let rows = [
+        ("0", 0),
+        ("-1", -1),
+        ("9", 9),
+        ("10", 10),
+        ("99999999", 99999999),
+        ("100000000", 100000000),
+        ("-2147483648", -2147483648),
+        ("1234567890123456789", 1234567890123456789),
+        ("9223372036854775807", 9223372036854775807),
+        ("-9223372036854775808", -9223372036854775808),
+        ("18446744073709551615", 18446744073709551615),
+    ];
+    for (text, number) in &rows {
+        let mut parts = Parts::new(text.as_bytes(), b' ');
+        assert!(&rt;
+            parts.next_signed() == Some((text.as_bytes(), Some(*number))),
+            "{text}"
+        );
+        assert!(&rt; parts.next_signed().is_none());
+    }
+    for text in [
+        "",
+        "-",
+        "-0",
+        "00",
+        "01",
+        "+1",
+        "1x",
+        "18446744073709551616",
+    ] {
+        let mut parts = Parts::new(text.as_bytes(), b' ');
+        assert!(&rt;
+            parts.next_signed() == Some((text.as_bytes(), None)),
+            "{text}"
+        );
+    }
+    Ok(())
+}
+
+// Whether so many numbers from -33 on are written as they are read.
+fn batch_is_read_again(alloc: Global, count: u8) -> Result<bool, Fail> {
+    let mut numbers = Vec::new(alloc);
+    for n in 0..count {
+        numbers.push(i128::from(n) - 33)?;
+    }
+    let Ok(buffer) = Buffer::from_numbers(alloc, ElemType::Int8, &numbers) else {
+        return Ok(false);
+    };
+    let mut text = Vec::new(alloc);
+    put_spaced(&mut text, &buffer, 0)?;
+    let mut parts = Parts::new(&text, b' ');
+    if parts.next() != Some(b"".as_slice()) {
+        return Ok(false);
+    }
+    for n in &numbers {
+        let Some((_, Some(read))) = parts.next_signed() else {
+            return Ok(false);
+        };
+        if read != *n {
+            return Ok(false);
+        }
+    }
+    Ok(parts.next().is_none())
+}
+
+// Batches of all sizes round one's end.
+#[test]
+fn batches_are_read_again(rt: HostRuntime) -> Result<(), Fail> {
+    for count in [0, 1, 2, 31, 32, 33, 63, 64, 65, 66] {
+        assert!(&rt; batch_is_read_again(rt.alloc(), count)?, "{count}");
+    }
     Ok(())
 }

@@ -1,5 +1,5 @@
 //! The next word of a line, and the numbers that words spell.
-ghost use Rattle.std.specs.Prelude.{◌≡◌, ◌≤◌, IfOk, Ok};
+ghost use Rattle.std.specs.Prelude.{◌≡◌, ◌≢◌, ◌≤◌, IfOk, Ok, Err};
 ghost use Rattle.std.specs.List.{list_all};
 ghost use Rattle.coll_text.specs.Reading.{Gives, Takes, word_at, number_at, number_up_to, ended, is_printable};
 ghost use Rattle.coll_text.specs.Fields.{number_of};
@@ -12,12 +12,17 @@ use crate::parts::Parts;
 pub fn are_printable(line: &[u8]) -> bool
     ensures { result ≡ list_all is_printable line.now }
 {
-    line.iter().all(|byte| 32 <= *byte && *byte <= 126)
+    let mut are_all = true;
+    for byte in line {
+        are_all &= (32 <= *byte) & (*byte <= 126);
+    }
+    are_all
 }
 
 /// The next word, which may not be empty.
 pub fn next_word<'a>(words: &mut Parts<'a>) -> Result<&'a [u8], LineFault>
-    ensures { Takes (λ w. w.now) result words.new (word_at words.old) }
+    ensures word { Takes (λ w. w.now) result words.new (word_at words.old) }
+    ensures memory { result ≢ Err LineFault.NoMemory }
 {
     match words.next() {
         None => Err(LineFault::BadShape),
@@ -35,20 +40,23 @@ pub fn next_word<'a>(words: &mut Parts<'a>) -> Result<&'a [u8], LineFault>
 pub fn next_number(words: &mut Parts, most: u64) -> Result<u64, LineFault>
     ensures number { Takes (λ n. n) result words.new (number_at most words.old) }
     ensures below { IfOk result (λ n. n ≤ most) }
+    ensures memory { result ≢ Err LineFault.NoMemory }
 {
     let word = next_word(words)?;
     number(word, most).ok_or(LineFault::BadField)
 }
 
 pub(crate) fn number_in(word: &[u8]) -> Result<u32, LineFault>
-    ensures { Gives result (number_of word.now) }
+    ensures number { Gives result (number_of word.now) }
+    ensures memory { result ≢ Err LineFault.NoMemory }
 {
     number32(word).ok_or(LineFault::BadField)
 }
 
 /// The number of 32 bits of the next word.
 pub fn next_number32(words: &mut Parts) -> Result<u32, LineFault>
-    ensures { Takes (λ n. n) result words.new (number_at u32.MAX words.old) }
+    ensures number { Takes (λ n. n) result words.new (number_at u32.MAX words.old) }
+    ensures memory { result ≢ Err LineFault.NoMemory }
 {
     let word = next_word(words)?;
     number_in(word)
@@ -56,7 +64,8 @@ pub fn next_number32(words: &mut Parts) -> Result<u32, LineFault>
 
 /// The end of the line: there is no further word.
 pub fn end_of(words: &mut Parts) -> Result<(), LineFault>
-    ensures { Gives result (ended words.old tt) }
+    ensures end { Gives result (ended words.old tt) }
+    ensures memory { result ≢ Err LineFault.NoMemory }
 {
     match words.next() {
         None => Ok(()),

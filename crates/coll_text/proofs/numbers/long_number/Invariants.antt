@@ -1,6 +1,6 @@
 use Rattle.std.proofs.Common.{◌≡◌, ◌≤◌, drop}
 use Rattle.coll_text.specs.Numbers.{value_after}
-use Rattle.coll_text.proofs.numbers.number.Given as goal
+use Rattle.coll_text.proofs.numbers.long_number.Given as goal
 
 abbrev pub invariant-loop-byte : goal.invariant-loop-byte
 invariant-loop-byte l = record {
