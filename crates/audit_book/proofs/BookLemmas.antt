@@ -1,191 +1,133 @@
--- Books and their posts; what it means that a sound book begins with some entries.
-use Rattle.std.proofs.Common.{◌≡◌, ℕ, suc, zero, ◌+◌, ◌-◌, ◌<◌, ◌≤◌, List, [], ◌∷◌, ◌++◌, length, take, drop, refl, sym, ap, ◌∙◌, subst, arith, inl, inr, ◌⊎◌, ⊎_elim, not, Option, Some, None, reverse, slice_get, append_assoc}
-use Rattle.std.specs.Prelude.{filter_map}
-use Rattle.std.specs.Option.{option_to_list}
-use Rattle.std.proofs.lemmas.List.{reverse-append, append-nil, take-append-drop, take-take, take-append-le}
-use Rattle.std.proofs.Math.Seq.{take-append_seam}
-use Rattle.std.proofs.lemmas.Bool.{cases_lt}
-use Rattle.std.proofs.lemmas.List.Elements.{filter_map-append}
+-- A text that is read as a book is the book's text.
+use Rattle.std.proofs.Common.{◌≡◌, ℕ, suc, ◌+◌, eqb, Bool, true, false, cond, List, [], ◌∷◌, ◌++◌, length, map, codes, Result, Ok, Err, refl, sym, ap, ◌∙◌, append_assoc, arith}
+use Rattle.std.specs.List.{join_with_byte, flat_map}
+use Rattle.std.specs.Str.{bytes_eq}
+use Rattle.std.proofs.lemmas.Bool.{eqb-true}
+use Rattle.std.proofs.lemmas.List.{append-nil}
+use Rattle.std.proofs.lemmas.List.Splits.{join_with_byte-slice_split}
+use Rattle.std.proofs.lemmas.Slice.Eq.{bytes_eq-Decides}
 use Rattle.wall_policy.specs.Policy.{ChineseWall}
-use Rattle.audit_book.specs.declared.outcome.Outcome.{Outcome}
-use Rattle.audit_book.specs.declared.entry.Entry.{Entry}
-use Rattle.audit_book.specs.declared.entry.Entry.TheVariants.{Posted}
-use Rattle.coll_routes.specs.declared.statement.Stated.{Stated}
-use Rattle.wall_verdict.specs.Star.{star}
-use Rattle.audit_book.specs.Posts.{Post, outcome, histories}
-use Rattle.audit_book.specs.Laws.{BooksOfPostsAreSound, WordsAreOfTheStarRule}
-use Rattle.audit_book.specs.Books.{posted, settlement, entries_for, book, post_in, posts_in, AreTaken, IsSound, Begins, IsFirstBad}
+use Rattle.run_model.specs.declared.entry.Entry.{Entry}
+use Rattle.coll_text.specs.declared.fault.LineFault.{LineFault}
+use Rattle.coll_text.specs.Numbers.{Word}
+use Rattle.coll_text.specs.Reading.{parts}
+use Rattle.audit_book.specs.declared.fault.ReadFault.{ReadFault}
+use Rattle.audit_book.specs.declared.fault.ReadFault.TheVariants.{BadLine}
+use Rattle.audit_book.specs.declared.line.Line.{Line}
+use Rattle.audit_book.specs.declared.line.Line.TheVariants.{Said, End}
+use Rattle.audit_book.specs.Lines.{line_at}
+use Rattle.audit_book.specs.Text.{line_of, entry_words, end_words, header_words, entry_lines, book_text}
+use Rattle.audit_book.specs.Reading.{with_front, by_line, ended_at, entries_in, lines_in, book_in}
+use Rattle.audit_book.proofs.FoundLemmas.{line_words, line_found}
 
----- The posts of a book are those that it was made of.
+-- lines with their ends
+abbrev pub ended_lines : List Word → List ℕ
+ended_lines ls = flat_map (λ l. l ++ (10 ∷ [])) ls
 
-no_post : (x : Post) (past : List Post) (o : Option Outcome) → filter_map post_in (option_to_list (settlement x past o)) ≡ []
-no_post x past None = refl
-no_post x past (Some v) = refl
+-- the lines of entries, without their ends
+abbrev pub said_lines : ChineseWall → List Entry → List Word
+said_lines wall es = map (λ e. join_with_byte 32 (entry_words wall e)) es
 
-posts_for : (wall : ChineseWall) (x : Post) (past : List Post) → filter_map post_in (entries_for wall x past) ≡ x ∷ []
-posts_for wall x past = ap (λ ps. x ∷ ps) (no_post x past (outcome wall x past))
+-- and behind them the end
+abbrev pub all_lines : ChineseWall → List Entry → ℕ → List Word
+all_lines wall es n = said_lines wall es ++ (join_with_byte 32 (end_words n) ∷ [])
 
-pub posts_in-append : (xs ys : List Entry) → posts_in (xs ++ ys) ≡ posts_in ys ++ posts_in xs
-posts_in-append xs ys = ap (λ (ps : List Post). reverse ps) (filter_map-append post_in xs ys) ∙ reverse-append (filter_map post_in xs) (filter_map post_in ys)
+line_text : (wall : ChineseWall) (line : Word) (l : Line) → line_at wall line ≡ Ok l → line ≡ join_with_byte 32 (line_words wall l)
+line_text wall line l h = sym (join_with_byte-slice_split 32 line) ∙ ap (join_with_byte 32) (line_found wall (parts 32 line) l h)
 
-pub posts_in-book : (wall : ChineseWall) (past : List Post) → posts_in (book wall past) ≡ past
-posts_in-book wall [] = refl
-posts_in-book wall (x ∷ past) =
-    posts_in-append (book wall past) (entries_for wall x past)
-    ∙ (ap (λ (ps : List Post). reverse ps ++ posts_in (book wall past)) (posts_for wall x past)
-    ∙ ap (λ ps. x ∷ ps) (posts_in-book wall past))
+abbrev done : List Entry → Result (List Entry) ReadFault
+done es = Ok es
 
-pub book_is_sound : (wall : ChineseWall) (past : List Post) → AreTaken wall past → IsSound wall (book wall past)
-book_is_sound wall past taken =
-    let same = sym (posts_in-book wall past) in
-    record { posts = subst (λ ps. AreTaken wall ps) same taken; given = ap (λ ps. book wall ps) same }
+ok_is : (x y : List Entry) → done x ≡ done y → x ≡ y
+ok_is x y e = cc
 
----- What a sound book begins with is given by its own posts.
-
--- the posts of these entries count and give all of them, and perhaps one more
-pub record AreGiven (wall : ChineseWall) (entries : List Entry) : Type 0 where
-  pub posts : AreTaken wall (posts_in entries)
+-- one entry more
+pub record More (e : Entry) (others : Result (List Entry) ReadFault) (es : List Entry) : Type 0 where
   pub rest : List Entry
-  pub given : entries ++ rest ≡ book wall (posts_in entries)
+  pub read : others ≡ Ok rest
+  pub whole : es ≡ e ∷ rest
 
--- the front of a joined list is a front of the first part, or goes on into the second
-front_of : (xs rest as' bs : List Entry) → xs ++ rest ≡ as' ++ bs → ((r : List Entry) × (xs ++ r ≡ as')) ⊎ ((ys : List Entry) × (xs ≡ as' ++ ys) × (ys ++ rest ≡ bs))
-front_of xs rest [] bs e = inr (xs, refl, e)
-front_of [] rest (a ∷ as') bs e = inl (a ∷ as', refl)
-front_of (x ∷ xs) rest (a ∷ as') bs e =
-    let head : x ≡ a = cc in
-    let tail : xs ++ rest ≡ as' ++ bs = cc in
-    ⊎_elim
-    (λ (h : (r : List Entry) × (xs ++ r ≡ as')). inl (h.0, cc))
-    (λ (h : (ys : List Entry) × (xs ≡ as' ++ ys) × (ys ++ rest ≡ bs)). inr (h.0, cc, h.2))
-    (front_of xs rest as' bs tail)
+pub more_found : (e : Entry) (others : Result (List Entry) ReadFault) (es : List Entry) → with_front (e ∷ []) others ≡ Ok es → More e others es
+more_found e (Ok rest) es h = record { rest = rest; read = refl; whole = sym (ok_is (e ∷ rest) es h) }
+more_found e (Err f) es h = absurd cc
 
--- a front of what one post gives is nothing, the post, or all of it
-given_front : (x : Post) (o : Option Entry) (ys rest : List Entry) → ys ++ rest ≡ posted x ∷ option_to_list o → (ys ≡ []) ⊎ ((ys ≡ posted x ∷ []) ⊎ (ys ≡ posted x ∷ option_to_list o))
-given_front x o [] rest e = inl refl
-given_front x o (y ∷ []) rest e = inr (inl (let h : y ≡ posted x = cc in ap (λ z. z ∷ []) h))
-given_front x None (y ∷ z ∷ ys) rest e = absurd (cc)
-given_front x (Some v) (y ∷ z ∷ []) rest e = inr (inr (let h : y ≡ posted x = cc in let k : z ≡ v = cc in cc))
-given_front x (Some v) (y ∷ z ∷ w ∷ ys) rest e = absurd (cc)
+empty_is : (rest : Word) (n : ℕ) (es : List Entry) (t : Bool) → eqb (length rest) 0 ≡ t → cond t (Ok []) (Err (BadLine n)) ≡ Ok es → (length rest ≡ 0) × (es ≡ [])
+empty_is rest n es true e h = (eqb-true (length rest) 0 e, sym (ok_is [] es h))
+empty_is rest n es false e h = absurd cc
 
-post_only : (wall : ChineseWall) (x : Post) (past : List Post) → posts_in (book wall past ++ posted x ∷ []) ≡ x ∷ past
-post_only wall x past = posts_in-append (book wall past) (posted x ∷ []) ∙ ap (λ ps. x ∷ ps) (posts_in-book wall past)
+nothing : (rest : Word) → length rest ≡ 0 → rest ≡ []
+nothing [] e = refl
+nothing (b ∷ bs) e = absurd (omega (arith, e))
 
-pub given_of_book : (wall : ChineseWall) (past : List Post) (entries rest : List Entry) → AreTaken wall past → entries ++ rest ≡ book wall past → AreGiven wall entries
-given_of_book wall [] [] rest taken e = record { posts = tt; rest = []; given = refl }
-given_of_book wall [] (x ∷ entries) rest taken e = absurd (cc)
-given_of_book wall (x ∷ past) entries rest taken e = ⊎_elim
-    (λ (h : (r : List Entry) × (entries ++ r ≡ book wall past)). given_of_book wall past entries h.0 taken.0 h.1)
-    (λ (h : (ys : List Entry) × (entries ≡ book wall past ++ ys) × (ys ++ rest ≡ entries_for wall x past)). subst (AreGiven wall) (sym h.1) (⊎_elim
-    (λ none. subst (λ ys. AreGiven wall (book wall past ++ ys)) (sym none) (subst (AreGiven wall) (sym (append-nil (book wall past)))
-    (record { posts = subst (AreTaken wall) (sym (posts_in-book wall past)) taken.0; rest = []; given = append-nil (book wall past) ∙ ap (book wall) (sym (posts_in-book wall past)) })))
-    (λ some. ⊎_elim
-    (λ one. subst (λ ys. AreGiven wall (book wall past ++ ys)) (sym one)
-    (record {
-      posts = subst (AreTaken wall) (sym (post_only wall x past)) taken;
-      rest = option_to_list (settlement x past (outcome wall x past));
-      given = append_assoc (book wall past) (posted x ∷ []) (option_to_list (settlement x past (outcome wall x past))) ∙ ap (book wall) (sym (post_only wall x past));
-    }))
-    (λ all. subst (λ ys. AreGiven wall (book wall past ++ ys)) (sym all)
-    (record {
-      posts = subst (AreTaken wall) (sym (posts_in-book wall (x ∷ past))) taken;
-      rest = [];
-      given = append-nil (book wall (x ∷ past)) ∙ ap (book wall) (sym (posts_in-book wall (x ∷ past)));
-    }))
-    some)
-    (given_front x (settlement x past (outcome wall x past)) h.0 rest h.2)))
-    (front_of entries rest (book wall past) (entries_for wall x past) e)
+pub ended_found : (n : ℕ) (next : Word) (more : List Word) (es : List Entry) → ended_at n (next ∷ more) ≡ Ok es → (next ∷ more ≡ [] ∷ []) × (es ≡ [])
+ended_found n next [] es h = let e = empty_is next n es (eqb (length next) 0) refl h in (ap (λ w. w ∷ []) (nothing next e.0), e.1)
+ended_found n next (m ∷ ms) es h = absurd cc
 
-pub begins_given : (wall : ChineseWall) (entries : List Entry) → Begins wall entries → AreGiven wall entries
-begins_given wall entries h = given_of_book wall (posts_in (entries ++ h.0)) entries h.0 h.1.posts h.1.given
+pub end_step : (k n : ℕ) (ended : Result (List Entry) ReadFault) (es : List Entry) (t : Bool) → eqb n k ≡ t → cond t ended (Err (BadLine (k + 2))) ≡ Ok es → (n ≡ k) × (ended ≡ Ok es)
+end_step k n ended es true e h = (eqb-true n k e, h)
+end_step k n ended es false e h = absurd cc
 
-pub given_begins : (wall : ChineseWall) (entries : List Entry) → AreGiven wall entries → Begins wall entries
-given_begins wall entries h = (h.rest, subst (IsSound wall) (sym h.given) (book_is_sound wall (posts_in entries) h.posts))
+abbrev Spells : ChineseWall → ℕ → List Word → List Entry → Type 0
+Spells wall k ls es = ls ≡ all_lines wall es (k + length es) ++ ([] ∷ [])
 
----- The first bad entry.
+by_line_found : (wall : ChineseWall) (k : ℕ) (line next : Word) (more : List Word) (es : List Entry) (r : Result Line LineFault) → line_at wall line ≡ r
+    → ((rest : List Entry) → entries_in wall (k + 1) (next ∷ more) ≡ Ok rest → Spells wall (k + 1) (next ∷ more) rest)
+    → by_line k r (entries_in wall (k + 1) (next ∷ more)) (ended_at (k + 3) (next ∷ more)) ≡ Ok es → Spells wall k (line ∷ next ∷ more) es
+by_line_found wall k line next more es (Ok (Said e)) said behind h =
+    let m = more_found e (entries_in wall (k + 1) (next ∷ more)) es h in
+    let sum : k + 1 + length m.rest ≡ k + suc (length m.rest) = omega arith in
+    (λ i. line_text wall line (Said e) said i ∷ behind m.rest m.read i)
+    ∙ ap (λ (n : ℕ). join_with_byte 32 (entry_words wall e) ∷ (all_lines wall m.rest n ++ ([] ∷ []))) sum
+    ∙ ap (λ (es : List Entry). all_lines wall es (k + length es) ++ ([] ∷ [])) (sym m.whole)
+by_line_found wall k line next more es (Ok (End n)) said behind h =
+    let e = end_step k n (ended_at (k + 3) (next ∷ more)) es (eqb n k) refl h in
+    let f = ended_found (k + 3) next more es e.1 in
+    let zero_more : k ≡ k + 0 = omega arith in
+    (λ i. line_text wall line (End n) said i ∷ f.0 i)
+    ∙ ap (λ (n : ℕ). join_with_byte 32 (end_words n) ∷ [] ∷ []) (e.0 ∙ zero_more)
+    ∙ ap (λ (es : List Entry). all_lines wall es (k + length es) ++ ([] ∷ [])) (sym f.1)
+by_line_found wall k line next more es (Err f) said behind h = absurd cc
 
-split_at : (n : ℕ) (xs : List Entry) → take n xs ++ drop n xs ≡ xs
-split_at n xs = take-append-drop n xs
+entries_found : (wall : ChineseWall) (k : ℕ) (ls : List Word) (es : List Entry) → entries_in wall k ls ≡ Ok es → Spells wall k ls es
+unfolding entries_in
+entries_found wall k [] es h = absurd cc
+entries_found wall k (line ∷ []) es h = absurd cc
+entries_found wall k (line ∷ next ∷ more) es h = by_line_found wall k line next more es (line_at wall line) refl (entries_found wall (k + 1) (next ∷ more)) h
 
--- a sound book begins with fewer of the entries
-pub begins_fewer : (wall : ChineseWall) (entries : List Entry) (n : ℕ) → Begins wall entries → Begins wall (take n entries)
-begins_fewer wall entries n h = (drop n entries ++ h.0, subst (IsSound wall) (sym (sym (append_assoc (take n entries) (drop n entries) h.0) ∙ ap (λ xs. xs ++ h.0) (split_at n entries))) h.1)
+-- ---- the whole text
 
-pub sound_begins : (wall : ChineseWall) (entries : List Entry) → IsSound wall entries → Begins wall entries
-sound_begins wall entries sound = ([], subst (IsSound wall) (sym (append-nil entries)) sound)
+join_ended : (ls : List Word) → join_with_byte 10 (ls ++ ([] ∷ [])) ≡ ended_lines ls
+join_ended [] = refl
+join_ended (l ∷ []) = sym (append-nil (l ++ (10 ∷ [])))
+join_ended (l ∷ m ∷ ls) = ap (λ t. l ++ (10 ∷ t)) (join_ended (m ∷ ls)) ∙ sym (append_assoc l (10 ∷ []) (ended_lines (m ∷ ls)))
 
-pub no_bad_entry : (wall : ChineseWall) (entries : List Entry) (n : ℕ) → IsSound wall entries → IsFirstBad wall entries n → ⊥
-no_bad_entry wall entries n sound bad = ⊎_elim
-    (λ (low : n ≤ length entries). bad.wrong low (begins_fewer wall entries n (sound_begins wall entries sound)))
-    (λ (high : n ≡ length entries + 1). bad.missing high sound)
-    (where_is n (length entries) bad.within)
-  where
-    where_is : (n l : ℕ) → n ≤ l + 1 → (n ≤ l) ⊎ (n ≡ l + 1)
-    where_is n l h = ⊎_elim (λ (high : l < n). inr (omega arith)) (λ (low : n ≤ l). inl low) (cases_lt l n)
+lines_are : (wall : ChineseWall) (es : List Entry) (n : ℕ) → ended_lines (all_lines wall es n) ≡ entry_lines wall es ++ line_of (end_words n)
+lines_are wall [] n = append-nil (line_of (end_words n))
+lines_are wall (e ∷ es) n = ap (λ t. line_of (entry_words wall e) ++ t) (lines_are wall es n) ∙ sym (append_assoc (line_of (entry_words wall e)) (entry_lines wall es) (line_of (end_words n)))
 
--- the entries before a first bad one are right, so no lower one is bad
-not_lower : (wall : ChineseWall) (entries : List Entry) (n m : ℕ) → IsFirstBad wall entries n → IsFirstBad wall entries m → n < m → ⊥
-not_lower wall entries n m one other low =
-    let within = other.within in
-    let less : n ≤ m - 1 = omega arith in
-    one.wrong (omega arith) (subst (Begins wall) (shorter n (m - 1) entries less) (begins_fewer wall (take (m - 1) entries) n other.before))
-  where
-    shorter : (n m : ℕ) (xs : List Entry) → n ≤ m → take n (take m xs) ≡ take n xs
-    shorter n m xs h = take-take n m xs h
+-- the text of a book is that of its lines
+pub text_is : (wall : ChineseWall) (es : List Entry) → ended_lines (codes "book 1" ∷ all_lines wall es (length es)) ≡ book_text wall es
+unfolding book_text
+text_is wall es = ap (λ t. line_of header_words ++ t) (lines_are wall es (length es))
 
-pub first_is_one : (wall : ChineseWall) (entries : List Entry) (n m : ℕ) → IsFirstBad wall entries n → IsFirstBad wall entries m → n ≡ m
-first_is_one wall entries n m one other = ⊎_elim
-    (λ (low : n < m). absurd (not_lower wall entries n m one other low))
-    (λ (high : m ≤ n). ⊎_elim
-    (λ (low : m < n). absurd (not_lower wall entries m n other one low))
-    (λ (le : n ≤ m). omega arith)
-    (cases_lt m n))
-    (cases_lt n m)
+pub header_step : (wall : ChineseWall) (line next : Word) (more : List Word) (es : List Entry) (t : Bool) → bytes_eq line (codes "book 1") ≡ t
+    → cond t (entries_in wall 0 (next ∷ more)) (Err (BadLine 1)) ≡ Ok es → (line ≡ codes "book 1") × (entries_in wall 0 (next ∷ more) ≡ Ok es)
+header_step wall line next more es true e h = ((bytes_eq-Decides line (codes "book 1")).0 e, h)
+header_step wall line next more es false e h = absurd cc
 
-pub books_of_posts_are_sound : BooksOfPostsAreSound
-books_of_posts_are_sound wall past taken = (book_is_sound wall past taken, posts_in-book wall past)
+lines_found : (wall : ChineseWall) (ls : List Word) (es : List Entry) → lines_in wall ls ≡ Ok es → ls ≡ (codes "book 1" ∷ all_lines wall es (length es)) ++ ([] ∷ [])
+lines_found wall [] es h = absurd cc
+lines_found wall (line ∷ []) es h = absurd cc
+lines_found wall (line ∷ next ∷ more) es h =
+    let s = header_step wall line next more es (bytes_eq line (codes "book 1")) refl h in
+    let none : 0 + length es ≡ length es = omega arith in
+    (λ i. s.0 i ∷ entries_found wall 0 (next ∷ more) es s.1 i)
+    ∙ ap (λ (n : ℕ). (codes "book 1" ∷ all_lines wall es n) ++ ([] ∷ [])) none
 
----- Words.
-
-before_seam : (xs ys : List Entry) (i : ℕ) → i < length xs → slice_get (xs ++ ys) i ≡ slice_get xs i
-before_seam [] ys i h = absurd (omega arith)
-before_seam (x ∷ xs) ys zero h = refl
-before_seam (x ∷ xs) ys (suc i) h = before_seam xs ys i (omega arith)
-
-after_seam : (xs ys : List Entry) (i k : ℕ) → i ≡ length xs + k → slice_get (xs ++ ys) i ≡ slice_get ys k
-after_seam [] ys i k e = ap (slice_get ys) (let z : i ≡ k = omega arith in z)
-after_seam (x ∷ xs) ys zero k e = absurd (omega arith)
-after_seam (x ∷ xs) ys (suc i) k e = after_seam xs ys i k (omega arith)
-
-only_post : (x : Post) (past : List Post) (o : Option Outcome) (k p c : ℕ) (s : Stated) → slice_get (posted x ∷ option_to_list (settlement x past o)) k ≡ Some (Posted p c s) → (k ≡ 0) × (x.process ≡ p) × (x.stated ≡ s)
-only_post x past o zero p c s e = (refl, cc, cc)
-only_post x past None (suc k) p c s e = absurd (cc)
-only_post x past (Some v) (suc zero) p c s e = absurd (cc)
-only_post x past (Some v) (suc (suc k)) p c s e = absurd (cc)
-
--- an entry of a book that is a post stands behind the book of the posts before it
-word_at : (wall : ChineseWall) (past : List Post) (i p c : ℕ) (s : Stated) → AreTaken wall past → slice_get (book wall past) i ≡ Some (Posted p c s) →
-    s.barred ≡ not (star (histories wall (posts_in (take i (book wall past)))) p s.label)
-word_at wall [] i p c s taken at = absurd (cc)
-word_at wall (x ∷ past) i p c s taken at = ⊎_elim
-    (λ (low : i < length (book wall past)).
-    let old : slice_get (book wall past) i ≡ Some (Posted p c s) = sym (before_seam (book wall past) (entries_for wall x past) i low) ∙ at in
-    word_at wall past i p c s taken.0 old ∙ ap (λ es. not (star (histories wall (posts_in es)) p s.label)) (sym (take-append-le i (book wall past) (entries_for wall x past) (omega arith))))
-    (λ (high : length (book wall past) ≤ i).
-    let new : slice_get (entries_for wall x past) (i - length (book wall past)) ≡ Some (Posted p c s) = sym (after_seam (book wall past) (entries_for wall x past) i (i - length (book wall past)) (omega arith)) ∙ at in
-    let is = only_post x past (outcome wall x past) (i - length (book wall past)) p c s new in
-    let i_is : i ≡ length (book wall past) = omega (arith, is.0, high) in
-    let front : take i (book wall past ++ entries_for wall x past) ≡ book wall past = ap (λ n. take n (book wall past ++ entries_for wall x past)) i_is ∙ take-append_seam (book wall past) (entries_for wall x past) in
-    let label : x.stated ≡ s = is.2 in
-    ap (λ (t : Stated). t.barred) (sym label) ∙ (taken.1.word
-    ∙ (ap (λ q. not (star (histories wall past) q x.stated.label)) is.1
-    ∙ (ap (λ (t : Stated). not (star (histories wall past) p t.label)) label
-    ∙ ap (λ es. not (star (histories wall es) p s.label)) (sym (ap posts_in front ∙ posts_in-book wall past))))))
-    (cases_lt i (length (book wall past)))
-
-pub words_are_of_the_star_rule : WordsAreOfTheStarRule
-words_are_of_the_star_rule wall entries i p c s sound at =
-    let there : slice_get (book wall (posts_in entries)) i ≡ Some (Posted p c s) = ap (λ es. slice_get es i) (sym sound.given) ∙ at in
-    word_at wall (posts_in entries) i p c s sound.posts there
-    ∙ (ap (λ es. not (star (histories wall (posts_in (take i es))) p s.label)) (sym sound.given)
-    ∙ ap (λ n. not (star (histories wall (posts_in (take n entries))) p s.label)) (let z : i ≡ i + 1 - 1 = omega arith in z))
+pub book_found : (wall : ChineseWall) (text : List ℕ) (es : List Entry) → book_in wall text ≡ Ok es → text ≡ book_text wall es
+unfolding book_in
+book_found wall text es h =
+    sym (join_with_byte-slice_split 10 text)
+    ∙ ap (join_with_byte 10) (lines_found wall (parts 10 text) es h)
+    ∙ join_ended (codes "book 1" ∷ all_lines wall es (length es))
+    ∙ text_is wall es

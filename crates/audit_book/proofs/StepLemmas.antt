@@ -6,13 +6,14 @@ use Rattle.std.proofs.lemmas.List.{append-nil, length-append}
 use Rattle.std.proofs.lemmas.Option.{slice_get_within}
 use Rattle.wall_policy.specs.Policy.{ChineseWall}
 use Rattle.coll_routes.specs.declared.statement.Stated.{Stated}
-use Rattle.audit_book.specs.declared.entry.Entry.{Entry}
-use Rattle.audit_book.specs.declared.entry.Entry.TheVariants.{Posted, Settled}
-use Rattle.audit_book.specs.declared.settlement.Settlement.{Settlement}
-use Rattle.audit_book.specs.Posts.{Post, outcome}
-use Rattle.audit_book.specs.Books.{settlement, entries_for, book, posts_in, IsTaken, AreTaken, IsSound, Begins, IsFirstBad}
-use Rattle.audit_book.specs.Checks.{entry_of, post_of, IsRight}
-use Rattle.audit_book.proofs.BookLemmas.{begins_given, book_is_sound, posts_in-append}
+use Rattle.run_model.specs.declared.entry.Entry.{Entry}
+use Rattle.run_model.specs.declared.entry.Entry.TheVariants.{Posted, Settled}
+use Rattle.run_model.specs.Posts.{Post, outcome}
+use Rattle.run_model.specs.Books.{outcome_entry, entries_for, book, posts_in, IsCounted, AreCounted, IsSound, Begins, IsFirstBad}
+use Rattle.run_state.specs.Views.{PostStateValue}
+use Rattle.audit_book.specs.declared.due.Due.{Due}
+use Rattle.audit_book.specs.Checks.{entry_of, post_of, Stands, IsRight}
+use Rattle.run_model.proofs.RunModelLemmas.{begins_given, book_is_sound, posts_in-append}
 
 same_rest : (es : List Entry) (x y : Entry) (xs ys : List Entry) → es ++ x ∷ xs ≡ es ++ y ∷ ys → x ≡ y
 same_rest [] x y xs ys e = cc
@@ -46,61 +47,61 @@ none_due wall es c k o given h =
     let g = begins_given wall (es ++ Settled c k o ∷ []) h in
     no_more es (Settled c k o) g.rest (sym (append_assoc es (Settled c k o ∷ []) g.rest) ∙ (g.given ∙ (ap (book wall) (posts_settled es c k o) ∙ sym given)))
 
-pub post_counts : (wall : ChineseWall) (es : List Entry) (p c : ℕ) (s : Stated) → Begins wall (es ++ Posted p c s ∷ []) → IsTaken wall (post_of p c s) (posts_in es)
+pub post_counts : (wall : ChineseWall) (es : List Entry) (p c : ℕ) (s : Stated) → Begins wall (es ++ Posted p c s ∷ []) → IsCounted wall (post_of p c s) (posts_in es)
 post_counts wall es p c s h =
     let g = begins_given wall (es ++ Posted p c s ∷ []) h in
-    let taken : AreTaken wall (post_of p c s ∷ posts_in es) = subst (AreTaken wall) (posts_posted es p c s) g.posts in
+    let taken : AreCounted wall (post_of p c s ∷ posts_in es) = subst (AreCounted wall) (posts_posted es p c s) g.posts in
     taken.1
 
 ---- The check, step by step.
 
-module _ {L : Type 0} (stands : ChineseWall → L → List Post → Type 0) (wall : ChineseWall) where
+module _ (wall : ChineseWall) where
   -- nothing has been checked
-  pub right_at_first : (ledger : L) → stands wall ledger [] → IsRight stands wall ledger [] None
-  right_at_first ledger stood = record { posts = tt; given = refl; stood = stood }
+  pub right_at_first : (post_state : PostStateValue (Unit {0})) → Stands wall post_state [] → IsRight wall post_state [] None
+  right_at_first post_state stood = record { posts = tt; given = refl; stood = stood }
 
   -- the settlement that was due has come
-  pub settled_right : (ledger : L) (es : List Entry) (due : Settlement) → IsRight stands wall ledger es (Some due) → IsRight stands wall ledger (es ++ entry_of due ∷ []) None
-  settled_right ledger es due right =
+  pub settled_right : (post_state : PostStateValue (Unit {0})) (es : List Entry) (due : Due) → IsRight wall post_state es (Some due) → IsRight wall post_state (es ++ entry_of due ∷ []) None
+  settled_right post_state es due right =
       let same = posts_settled es due.comm due.k due.outcome in
       record {
-        posts = subst (AreTaken wall) (sym same) right.posts;
+        posts = subst (AreCounted wall) (sym same) right.posts;
         given = append-nil (es ++ entry_of due ∷ []) ∙ (right.given ∙ ap (book wall) (sym same));
-        stood = subst (stands wall ledger) (sym same) right.stood;
+        stood = subst (Stands wall post_state) (sym same) right.stood;
       }
 
-  pub other_wrong : (ledger : L) (es : List Entry) (due : Settlement) (e : Entry) → IsRight stands wall ledger es (Some due) → (e ≡ entry_of due → ⊥) → Begins wall (es ++ e ∷ []) → ⊥
-  other_wrong ledger es due e right other h = other (due_only wall es (entry_of due) e right.given h)
+  pub other_wrong : (post_state : PostStateValue (Unit {0})) (es : List Entry) (due : Due) (e : Entry) → IsRight wall post_state es (Some due) → (e ≡ entry_of due → ⊥) → Begins wall (es ++ e ∷ []) → ⊥
+  other_wrong post_state es due e right other h = other (due_only wall es (entry_of due) e right.given h)
 
-  pub settled_wrong : (ledger : L) (es : List Entry) (c k : ℕ) (o : _) → IsRight stands wall ledger es None → Begins wall (es ++ Settled c k o ∷ []) → ⊥
-  settled_wrong ledger es c k o right h = none_due wall es c k o (sym (append-nil es) ∙ right.given) h
+  pub settled_wrong : (post_state : PostStateValue (Unit {0})) (es : List Entry) (c k : ℕ) (o : _) → IsRight wall post_state es None → Begins wall (es ++ Settled c k o ∷ []) → ⊥
+  settled_wrong post_state es c k o right h = none_due wall es c k o (sym (append-nil es) ∙ right.given) h
 
-  pub posted_wrong : (es : List Entry) (p c : ℕ) (s : Stated) → (IsTaken wall (post_of p c s) (posts_in es) → ⊥) → Begins wall (es ++ Posted p c s ∷ []) → ⊥
+  pub posted_wrong : (es : List Entry) (p c : ℕ) (s : Stated) → (IsCounted wall (post_of p c s) (posts_in es) → ⊥) → Begins wall (es ++ Posted p c s ∷ []) → ⊥
   posted_wrong es p c s wrong h = wrong (post_counts wall es p c s h)
 
-  pub posted_right : (old new : L) (es : List Entry) (p c : ℕ) (s : Stated) (came : Option Settlement) → IsRight stands wall old es None →
-      IsTaken wall (post_of p c s) (posts_in es) → stands wall new (post_of p c s ∷ posts_in es) → option_map entry_of came ≡ settlement (post_of p c s) (posts_in es) (outcome wall (post_of p c s) (posts_in es)) →
-      IsRight stands wall new (es ++ Posted p c s ∷ []) came
+  pub posted_right : (old new : PostStateValue (Unit {0})) (es : List Entry) (p c : ℕ) (s : Stated) (came : Option Due) → IsRight wall old es None →
+      IsCounted wall (post_of p c s) (posts_in es) → Stands wall new (post_of p c s ∷ posts_in es) → option_map entry_of came ≡ outcome_entry (post_of p c s) (posts_in es) (outcome wall (post_of p c s) (posts_in es)) →
+      IsRight wall new (es ++ Posted p c s ∷ []) came
   posted_right old new es p c s came right counts stood told =
       let same = posts_posted es p c s in
       record {
-        posts = subst (AreTaken wall) (sym same) (right.posts, counts);
+        posts = subst (AreCounted wall) (sym same) (right.posts, counts);
         given = append_assoc es (Posted p c s ∷ []) (option_to_list (option_map entry_of came))
             ∙ (ap (λ o. es ++ Posted p c s ∷ option_to_list o) told
             ∙ (ap (λ b. b ++ entries_for wall (post_of p c s) (posts_in es)) (sym (append-nil es) ∙ right.given)
             ∙ ap (book wall) (sym same)));
-        stood = subst (stands wall new) (sym same) stood;
+        stood = subst (Stands wall new) (sym same) stood;
       }
 
   -- all entries are right, and none is due
-  pub right_is_sound : (ledger : L) (es : List Entry) → IsRight stands wall ledger es None → IsSound wall es
-  right_is_sound ledger es right = record { posts = right.posts; given = sym (append-nil es) ∙ right.given }
+  pub right_is_sound : (post_state : PostStateValue (Unit {0})) (es : List Entry) → IsRight wall post_state es None → IsSound wall es
+  right_is_sound post_state es right = record { posts = right.posts; given = sym (append-nil es) ∙ right.given }
 
-  pub right_begins : (ledger : L) (es : List Entry) (due : Option Settlement) → IsRight stands wall ledger es due → Begins wall es
-  right_begins ledger es due right = (option_to_list (option_map entry_of due), subst (IsSound wall) (sym right.given) (book_is_sound wall (posts_in es) right.posts))
+  pub right_begins : (post_state : PostStateValue (Unit {0})) (es : List Entry) (due : Option Due) → IsRight wall post_state es due → Begins wall es
+  right_begins post_state es due right = (option_to_list (option_map entry_of due), subst (IsSound wall) (sym right.given) (book_is_sound wall (posts_in es) right.posts))
 
-  pub due_is_unsound : (ledger : L) (es : List Entry) (due : Settlement) → IsRight stands wall ledger es (Some due) → IsSound wall es → ⊥
-  due_is_unsound ledger es due right sound = no_more es (entry_of due) [] (right.given ∙ sym sound.given)
+  pub due_is_unsound : (post_state : PostStateValue (Unit {0})) (es : List Entry) (due : Due) → IsRight wall post_state es (Some due) → IsSound wall es → ⊥
+  due_is_unsound post_state es due right sound = no_more es (entry_of due) [] (right.given ∙ sym sound.given)
 
 ---- Answers in part.
 

@@ -1,50 +1,76 @@
--- What the check of a book needs to know of the posts so far, and how far it has come.
-use Rattle.std.specs.Prelude.{◌≡◌, ℕ, ◌<◌, ◌^◌, List, ◌∷◌, ◌++◌, length, Option}
+-- How far the check of a book has come, and what its fault says. The check goes on from a state
+-- whose posts have no parts.
+use Rattle.std.specs.Prelude.{◌≡◌, ℕ, ◌<◌, ◌^◌, List, ◌∷◌, ◌++◌, length, map, Option, Some, None}
 use Rattle.std.specs.Option.{option_map, option_to_list}
 use Rattle.wall_policy.specs.Policy.{ChineseWall}
 use Rattle.coll_routes.specs.declared.statement.Stated.{Stated}
-use Rattle.audit_book.specs.declared.entry.Entry.{Entry}
-use Rattle.audit_book.specs.declared.entry.Entry.TheVariants.{Settled}
-use Rattle.audit_book.specs.declared.settlement.Settlement.{Settlement}
-use Rattle.audit_book.specs.declared.fault.BookFault.{BookFault}
-use Rattle.audit_book.specs.declared.fault.BookFault.TheVariants.{BadEntry, NoMemory}
-use Rattle.audit_book.specs.Posts.{Post, outcome}
-use Rattle.audit_book.specs.Books.{book, posts_in, settlement, IsTaken, AreTaken, IsFirstBad}
+use Rattle.run_model.specs.declared.entry.Entry.{Entry}
+use Rattle.run_model.specs.declared.entry.Entry.TheVariants.{Settled}
+use Rattle.run_model.specs.Posts.{Post, outcome}
+use Rattle.run_model.specs.Contributions.{Contribution}
+use Rattle.run_model.specs.Books.{book, posts_in, outcome_entry, IsCounted, AreCounted, IsFirstBad}
+use Rattle.run_state.specs.declared.entered.Entered.{Entered}
+use Rattle.run_state.specs.declared.entered.Entered.TheVariants.{Waiting as waits, Settled as settles}
+use Rattle.run_state.specs.Views.{PostStateValue, view_of}
+use Rattle.run_state.specs.Stands.{StandsForPosts}
+use Rattle.audit_book.specs.declared.due.Due.{Due}
+use Rattle.audit_book.specs.declared.check_fault.BookFault.{BookFault}
+use Rattle.audit_book.specs.declared.check_fault.BookFault.TheVariants.{BadEntry, NoMemory}
 
 abbrev pub post_of : (p c : ℕ) → Stated → Post
 post_of p c stated = record { process = p; comm = c; stated = stated }
 
--- the entry of a settlement
-abbrev pub entry_of : Settlement → Entry
-entry_of s = Settled s.comm s.k s.outcome
+-- the same posts, each without a part
+abbrev pub bare : List Post → List (Contribution (Unit {0}))
+bare posts = map (λ x. record { post = x; part = tt }) posts
 
--- it stands for some posts, fewer than 2^62, and the post counts after each list of posts that it stands for
-pub record MayEnter {L : Type 0} (stands : ChineseWall → L → List Post → Type 0) (wall : ChineseWall) (ledger : L) (x : Post) : Type 0 where
+-- the state stands for these posts, the newest first
+abbrev pub Stands : ChineseWall → PostStateValue (Unit {0}) → List Post → Type 0
+Stands wall post_state posts = StandsForPosts wall (view_of post_state) (bare posts)
+
+-- the entry that is due
+abbrev pub entry_of : Due → Entry
+entry_of due = Settled due.comm due.k due.outcome
+
+-- the outcome of the instance of communicator c that a post filled is due after it, if it filled
+-- one
+abbrev pub due_after : (c : ℕ) → Entered (Unit {0}) → Option Due
+due_after c (waits k) = None
+due_after c (settles full k o) = Some (record { comm = c; k = k; outcome = o })
+
+-- it stands for some posts, fewer than 2^62, and the post counts after each list of posts that it
+-- stands for
+pub record MayEnter (wall : ChineseWall) (post_state : PostStateValue (Unit {0})) (x : Post) : Type 0 where
   pub past : List Post
-  pub stood : stands wall ledger past
+  pub stood : Stands wall post_state past
   pub few : length past < 2 ^ 62
-  pub counts : (posts : List Post) → stands wall ledger posts → IsTaken wall x posts
+  pub counts : (posts : List Post) → Stands wall post_state posts → IsCounted wall x posts
 
--- it now stands for the posts with this one, and has told what came of the instance that the post fills, if it fills one
-abbrev pub HasEntered : {L : Type 0} → (ChineseWall → L → List Post → Type 0) → ChineseWall → (old new : L) → Post → Option Settlement → Type 0
-HasEntered stands wall old new x came = (past : List Post) → stands wall old past → stands wall new (x ∷ past) × (option_map entry_of came ≡ settlement x past (outcome wall x past))
+-- it now stands for the posts with this one, and the outcome of the instance that the post fills is
+-- due, if it fills one
+abbrev pub HasEntered : ChineseWall → (old new : PostStateValue (Unit {0})) → Post → Option Due → Type 0
+HasEntered wall old new x due = (past : List Post) → Stands wall old past →
+    Stands wall new (x ∷ past) × (option_map entry_of due ≡ outcome_entry x past (outcome wall x past))
 
 -- and the post counts
-abbrev pub HasCounted : {L : Type 0} → (ChineseWall → L → List Post → Type 0) → ChineseWall → (old new : L) → Post → Option Settlement → Type 0
-HasCounted stands wall old new x came = (past : List Post) → stands wall old past →
-    IsTaken wall x past × stands wall new (x ∷ past) × (option_map entry_of came ≡ settlement x past (outcome wall x past))
+abbrev pub HasCounted : ChineseWall → (old new : PostStateValue (Unit {0})) → Post → Option Due → Type 0
+HasCounted wall old new x due = (past : List Post) → Stands wall old past →
+    IsCounted wall x past × Stands wall new (x ∷ past)
+    × (option_map entry_of due ≡ outcome_entry x past (outcome wall x past))
 
--- the entries so far are right, and the next has to be that of this settlement, if there is one; the ledger stands for their posts
-pub record IsRight {L : Type 0} (stands : ChineseWall → L → List Post → Type 0) (wall : ChineseWall) (ledger : L) (entries : List Entry) (due : Option Settlement) : Type 0 where
-  pub posts : AreTaken wall (posts_in entries)
+-- the entries so far are right, and the next has to be the one that is due, if there is one; the
+-- state stands for their posts
+pub record IsRight (wall : ChineseWall) (post_state : PostStateValue (Unit {0}))
+    (entries : List Entry) (due : Option Due) : Type 0 where
+  pub posts : AreCounted wall (posts_in entries)
   pub given : entries ++ option_to_list (option_map entry_of due) ≡ book wall (posts_in entries)
-  pub stood : stands wall ledger (posts_in entries)
+  pub stood : Stands wall post_state (posts_in entries)
 
 -- so many entries are right
-abbrev pub IsRightFor : {L : Type 0} → (ChineseWall → L → List Post → Type 0) → ChineseWall → L → Option Settlement → Type 0
-IsRightFor stands wall ledger due = (entries : List Entry) × (length entries < 2 ^ 62) × IsRight stands wall ledger entries due
+abbrev pub IsRightFor : ChineseWall → PostStateValue (Unit {0}) → Option Due → Type 0
+IsRightFor wall post_state due = (entries : List Entry) × (length entries < 2 ^ 62) × IsRight wall post_state entries due
 
--- what a fault says of a book; want of memory says nothing
+-- what a fault says of a book; out of memory says nothing
 abbrev pub IsFaultOf : ChineseWall → List Entry → BookFault → Type 0
 IsFaultOf wall entries (BadEntry n) = IsFirstBad wall entries n
 IsFaultOf wall entries NoMemory = Unit {0}

@@ -1,9 +1,16 @@
-pub mod Books
-pub mod Checks
-pub mod Comms
-pub mod Flow
-pub mod Forms
+-- the text of a book
+pub mod Text
+-- which line is which entry
+pub mod Lines
+-- which text is which book, and the fault of each other
+pub mod Reading
+-- where and why a text is no book
+pub mod Faults
+-- which entries have a text of their own
 pub mod Laws
-pub mod Posts
-pub mod Refusals
-pub mod Rows
+-- which books can be written, and how the writing went
+pub mod Writing
+-- how far the check of a book has come, and what its fault says
+pub mod Checks
+-- how lines are read and written one after the other (of private contracts)
+pub mod LineSteps

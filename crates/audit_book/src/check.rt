@@ -1,35 +1,61 @@
 //! The check of a book.
 ghost use Rattle.std.specs.Prelude.{◌≡◌, ◌<◌, ◌^◌, ◌∷◌, ◌++◌, [], List, length, take, IfOk, IfErr, OnOk, true};
-ghost use Rattle.audit_book.specs.declared.entry.Entry.{Entry};
+ghost use Rattle.wall_policy.specs.Policy.{ChineseWall};
+ghost use Rattle.wall_verdict.specs.Star.{star};
+ghost use Rattle.run_model.specs.declared.entry.Entry.{Entry};
+ghost use Rattle.run_model.specs.Posts.{Post, histories};
+ghost use Rattle.run_model.specs.Refusals.{post_fault};
+ghost use Rattle.run_model.specs.Books.{IsSound, Begins, IsCounted, is_labelled};
+ghost use Rattle.run_model.specs.EntryForms.{HasForm};
 ghost use Rattle.audit_book.specs.declared.check.Stopped.TheVariants.{Wrong};
-ghost use Rattle.audit_book.specs.Posts.{Post};
-ghost use Rattle.audit_book.specs.Books.{IsSound, Begins, IsTaken, is_labelled};
-ghost use Rattle.audit_book.specs.Forms.{HasForm};
-ghost use Rattle.audit_book.specs.Checks.{post_of, HasCounted, IsRight, IsRightFor, IsFaultOf};
+ghost use Rattle.audit_book.specs.Checks.{post_of, due_after, Stands, MayEnter, HasEntered, HasCounted, IsRight, IsRightFor, IsFaultOf};
 
-use crate::book::Book;
-use crate::entry::Entry;
-use crate::fault::BookFault;
-use crate::ledger::Ledger;
-use crate::settlement::Settlement;
+use crate::check_fault::BookFault;
+use crate::due::Due;
 use coll_routes::Stated;
-use wall_labels::ProcessId;
+use mpi_elems::ElemType;
+use run_model::{Entry, Refusal};
+use run_state::{Book, Entered, PostState};
+use std::alloc::Global;
+use wall_labels::{Label, NoMemory, ProcessId};
 use wall_policy::Policy;
 
-/// Checks a book entry by entry against a ledger that stands for no post. `Ok` is answered exactly where the book is sound, and `BadEntry`
-/// exactly with the number of the first entry that the posts don't give; `NoMemory` only where a growth was refused.
-pub fn check_against<L: Ledger>(
-    policy: &Policy,
-    ledger: &mut L,
-    book: &Book,
-) -> Result<(), BookFault>
-    requires { L.stands policy.now ledger.old [] }
+/// Whether the book is what its own posts give under the policy: each post meets no refusal and was
+/// barred exactly where the star rule bars it, and each other entry is the outcome of the instance
+/// that the post before it fills.
+///
+/// An entry costs a look through the members of its communicator, the instances that wait there and
+/// the communicators in use, and a copy of its statement; that of a last member also the verdict,
+/// or the new communicators. Nothing goes over the entries before it, so the time is linear in
+/// their number. Memory is taken for the communicators and for the instances that wait.
+///
+/// `BadEntry` has the number, counted from 1, of the first entry that the posts don't give; where
+/// only an entry is missing at the end, the number after the last. `NoMemory` is answered only
+/// where a growth was refused.
+pub fn check_book(alloc: Global, policy: &Policy, book: &Book) -> Result<(), BookFault>
     ensures sound { OnOk result (IsSound policy.now book.now.list) }
     ensures fault { IfErr result (IsFaultOf policy.now book.now.list) }
 {
-    let mut due: Option<Settlement> = None;
+    match PostState::open(alloc, policy) {
+        Ok(mut post_state) => follow_all(alloc, policy, &mut post_state, book),
+        Err(_) => Err(BookFault::NoMemory),
+    }
+}
+
+// Goes through a whole book, with a state that stands for no post.
+fn follow_all(
+    alloc: Global,
+    policy: &Policy,
+    post_state: &mut PostState<()>,
+    book: &Book,
+) -> Result<(), BookFault>
+    requires { Stands policy.now post_state.old [] }
+    ensures sound { OnOk result (IsSound policy.now book.now.list) }
+    ensures fault { IfErr result (IsFaultOf policy.now book.now.list) }
+{
+    let mut due: Option<Due> = None;
     for at in 0..book.len() {
-        match follow(policy, ledger, due, book.get(at)) {
+        match follow(alloc, policy, post_state, due, book.get(at)) {
             Ok(next) => due = next,
             Err(Stopped::Wrong) => return Err(BookFault::BadEntry(at as u64 + 1)),
             Err(Stopped::NoMemory) => return Err(BookFault::NoMemory),
@@ -49,21 +75,24 @@ enum Stopped {
     NoMemory,
 }
 
-// Goes on by one entry, where the one of a settlement may be due, and tells which is due then.
-fn follow<L: Ledger>(
+// Goes on by one entry, where a certain one may be due, and tells which is due then.
+fn follow(
+    alloc: Global,
     policy: &Policy,
-    ledger: &mut L,
-    due: Option<Settlement>,
+    post_state: &mut PostState<()>,
+    due: Option<Due>,
     entry: &Entry,
-) -> Result<Option<Settlement>, Stopped>
-    requires right { IsRightFor L.stands policy.now ledger.old due }
+) -> Result<Option<Due>, Stopped>
+    requires right { IsRightFor policy.now post_state.old due }
     requires form { HasForm entry.now }
-    ensures right { IfOk result (λ next. (entries : List Entry) → IsRight L.stands policy.now ledger.old entries due → IsRight L.stands policy.now ledger.new (entries ++ entry.now ∷ []) next) }
-    ensures wrong { IfErr result (λ stopped. stopped ≡ Wrong → (entries : List Entry) → IsRight L.stands policy.now ledger.old entries due → ¬ (Begins policy.now (entries ++ entry.now ∷ []))) }
+    ensures right { IfOk result (λ next. (entries : List Entry) → IsRight policy.now post_state.old entries due →
+        IsRight policy.now post_state.new (entries ++ entry.now ∷ []) next) }
+    ensures wrong { IfErr result (λ stopped. stopped ≡ Wrong → (entries : List Entry) →
+        IsRight policy.now post_state.old entries due → ¬ (Begins policy.now (entries ++ entry.now ∷ []))) }
 {
     match due {
-        Some(settlement) => {
-            if settlement.is_entry(entry) {
+        Some(awaited) => {
+            if awaited.is_entry(entry) {
                 Ok(None)
             } else {
                 Err(Stopped::Wrong)
@@ -74,33 +103,102 @@ fn follow<L: Ledger>(
                 process,
                 comm,
                 stated,
-            } => count(policy, ledger, *process, *comm, stated),
+            } => count(alloc, policy, post_state, *process, *comm, stated),
             Entry::Settled { .. } => Err(Stopped::Wrong),
         },
     }
 }
 
-// Enters a post that counts, and tells what came of it.
-fn count<L: Ledger>(
+// Enters a post that counts, and tells which entry is due after it.
+fn count(
+    alloc: Global,
     policy: &Policy,
-    ledger: &mut L,
+    post_state: &mut PostState<()>,
     process: ProcessId,
     comm: u32,
     stated: &Stated,
-) -> Result<Option<Settlement>, Stopped>
-    requires stands { (past : List Post) × (length past < 2 ^ 62) × L.stands policy.now ledger.old past }
+) -> Result<Option<Due>, Stopped>
+    requires stands { (past : List Post) × (length past < 2 ^ 62) × Stands policy.now post_state.old past }
     requires label { is_labelled stated.now ≡ true }
-    ensures counted { IfOk result (HasCounted L.stands policy.now ledger.old ledger.new (post_of process comm stated.now)) }
-    ensures wrong { IfErr result (λ stopped. stopped ≡ Wrong → (past : List Post) → L.stands policy.now ledger.old past → ¬ (IsTaken policy.now (post_of process comm stated.now) past)) }
+    ensures counted { IfOk result (HasCounted policy.now post_state.old post_state.new
+        (post_of process comm stated.now)) }
+    ensures wrong { IfErr result (λ stopped. stopped ≡ Wrong → (past : List Post) →
+        Stands policy.now post_state.old past → ¬ (IsCounted policy.now (post_of process comm stated.now) past)) }
 {
-    if ledger.refusal(policy, process, comm, stated).is_some() {
+    if refusal(policy, post_state, process, comm, stated).is_some() {
         return Err(Stopped::Wrong);
     }
-    if stated.barred == ledger.passes(process, &stated.label) {
+    if stated.barred == passes(post_state, process, &stated.label) {
         return Err(Stopped::Wrong);
     }
-    match ledger.enter(policy, process, comm, stated) {
-        Ok(came) => Ok(came),
+    match enter(alloc, policy, post_state, process, comm, stated) {
+        Ok(due) => Ok(due),
         Err(_) => Err(Stopped::NoMemory),
+    }
+}
+
+// Why a post would be refused, for the posts so far.
+fn refusal(
+    policy: &Policy,
+    post_state: &PostState<()>,
+    process: ProcessId,
+    comm: u32,
+    stated: &Stated,
+) -> Option<Refusal>
+    ensures { (past : List Post) → Stands policy.now post_state.now past →
+        result ≡ post_fault policy.now past (post_of process comm stated.now) }
+{
+    let elem_type = stated.sig.elem_type().unwrap_or(ElemType::Int8);
+    post_state.refusal(
+        policy,
+        process.number(),
+        comm,
+        &stated.sig,
+        &stated.own,
+        elem_type,
+        stated.given as usize,
+    )
+}
+
+// Whether the star rule lets the process post elements with this label.
+fn passes(post_state: &PostState<()>, process: ProcessId, label: &Option<Label>) -> bool
+    ensures { (wall : ChineseWall) (past : List Post) → Stands wall post_state.now past →
+        result ≡ star (histories wall past) process label.now }
+{
+    post_state.passes(process, label)
+}
+
+// Enters a post that counts, and tells which entry is due after it.
+fn enter(
+    alloc: Global,
+    policy: &Policy,
+    post_state: &mut PostState<()>,
+    process: ProcessId,
+    comm: u32,
+    stated: &Stated,
+) -> Result<Option<Due>, NoMemory>
+    requires { MayEnter policy.now post_state.old (post_of process comm stated.now) }
+    ensures { IfOk result (HasEntered policy.now post_state.old post_state.new
+        (post_of process comm stated.now)) }
+{
+    let stated = stated.copy(alloc)?;
+    let _ = post_state.len();
+    match post_state.enter(policy, process, comm, stated, ()) {
+        Ok(entered) => Ok(due_after(comm, &entered)),
+        Err(_) => Err(NoMemory),
+    }
+}
+
+// The outcome of an instance of this communicator, if a post filled one.
+fn due_after(comm: u32, entered: &Entered<()>) -> Option<Due>
+    ensures { result ≡ due_after comm entered.now }
+{
+    match entered {
+        Entered::Waiting { .. } => None,
+        Entered::Settled { k, outcome, .. } => Some(Due {
+            comm,
+            k: *k,
+            outcome: *outcome,
+        }),
     }
 }

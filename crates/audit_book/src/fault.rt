@@ -1,14 +1,53 @@
-//! Why a book is refused.
-ghost use Rattle.std.specs.Prelude.{◌≡◌};
-
+//! Why a book is not read, or not written.
+use std::alloc::AllocError;
 use thiserror::Error;
+use wall_labels::NoMemory as OutOfMemory;
 
-/// Why a book is refused.
+/// Why a text is no book. (Own format.)
+///
+/// `NoMemory` may come in place of any answer, where a growth was refused.
 #[derive(Clone, Copy, Debug, PartialEq, Eq, Error)]
-pub enum BookFault {
-    /// The first entry, counted from 1, that the posts don't give. Where an entry is missing at the end it has the number after the last.
-    #[error("entry {0} is not what the posts give")]
-    BadEntry(u64),
+pub enum ReadFault {
+    /// The line of this number, from 1, is the first that is not in its form, or that stands behind the end.
+    #[error("line {0}")]
+    BadLine(u64),
+    /// The text stops before a finished `end` line, and all finished lines are in their form.
+    #[error("cut")]
+    Cut,
+    /// Memory ran out.
     #[error("out of memory")]
     NoMemory,
+}
+
+impl From<OutOfMemory> for ReadFault {
+    ghost use Rattle.std.specs.Prelude.{◌≡◌};
+    ghost use Rattle.audit_book.specs.declared.fault.ReadFault.TheVariants.{NoMemory};
+
+    ghost from_gives = { λ _ e. e ≡ NoMemory };
+
+    fn from(_e: OutOfMemory) -> ReadFault {
+        ReadFault::NoMemory
+    }
+}
+
+/// Why a book was not written whole. A prefix of its text is written.
+#[derive(Clone, Copy, Debug, PartialEq, Eq, Error)]
+pub enum WriteFault {
+    /// The writer failed.
+    #[error("write fault")]
+    Write,
+    /// Memory ran out.
+    #[error("out of memory")]
+    NoMemory,
+}
+
+impl From<AllocError> for WriteFault {
+    ghost use Rattle.std.specs.Prelude.{◌≡◌};
+    ghost use Rattle.audit_book.specs.declared.fault.WriteFault.TheVariants.{NoMemory};
+
+    ghost from_gives = { λ _ e. e ≡ NoMemory };
+
+    fn from(_e: AllocError) -> WriteFault {
+        WriteFault::NoMemory
+    }
 }

@@ -1,58 +1,36 @@
-//! What holds of all posts that count and of their books, as functions that do nothing.
-ghost use Rattle.audit_book.specs.Laws.{HistoriesGrow, CommunicatorsStay, FilledInstancesAreFit, PostsKeepTheWall, HoldingIsHistory, NobodyHoldsTwoRivals, BooksOfPostsAreSound, WordsAreOfTheStarRule, SoundBooksHaveNoBadEntry, FirstBadEntryIsOne};
+//! What holds of books and their texts, as functions that do nothing.
+ghost use Rattle.std.specs.Prelude.{◌≡◌, ◌↔◌, ℕ, ◌<◌, ◌≤◌, ◌++◌, List, length, Ok, Err};
+ghost use Rattle.std.specs.List.{AllByRecursion};
+ghost use Rattle.wall_policy.specs.Policy.{ChineseWall, IsPolicy};
+ghost use Rattle.run_model.specs.declared.entry.Entry.{Entry};
+ghost use Rattle.audit_book.specs.declared.fault.ReadFault.TheVariants.{BadLine, Cut};
+ghost use Rattle.audit_book.specs.Text.{book_text};
+ghost use Rattle.audit_book.specs.Reading.{book_in};
+ghost use Rattle.audit_book.specs.Laws.{IsSpelled};
+ghost use Rattle.audit_book.specs.Faults.{IsCut, IsBadAt};
 
-/// A pair that stands in the histories stays there.
-#[tactic(auto, using(crate::proofs::LawLemmas::histories_grow))]
-pub fn histories_grow()
-    ensures { HistoriesGrow }
+/// A text that is read as a book is the text of that book.
+pub fn books_are_spelled_so()
+    ensures { (wall : ChineseWall) (text : List ℕ) (entries : List Entry) → book_in wall text ≡ Ok entries → text ≡ book_text wall entries }
 {}
 
-/// A communicator keeps its number, its group and its grid.
-#[tactic(auto, using(crate::proofs::LawLemmas::communicators_stay))]
-pub fn communicators_stay()
-    ensures { CommunicatorsStay }
+/// The text of a book is read as that book.
+pub fn books_are_read_again()
+    ensures { (wall : ChineseWall) (entries : List Entry) → IsPolicy wall → AllByRecursion (IsSpelled wall) entries → length entries ≤ 18446744073709551615 → book_in wall (book_text wall entries) ≡ Ok entries }
 {}
 
-/// The calls on rolls may be made on each instance that is filled.
-pub fn filled_instances_are_fit()
-    ensures { FilledInstancesAreFit }
+/// The text of a book that lacks bytes at its end is cut.
+pub fn prefixes_of_books_are_cut()
+    ensures { (wall : ChineseWall) (entries : List Entry) (front rest : List ℕ) → IsPolicy wall → AllByRecursion (IsSpelled wall) entries → length entries ≤ 18446744073709551615
+        → front ++ rest ≡ book_text wall entries → 0 < length rest → book_in wall front ≡ Err Cut }
 {}
 
-/// No process has had access to two rivals.
-#[tactic(auto, using(crate::proofs::LawLemmas::posts_keep_the_wall))]
-pub fn posts_keep_the_wall()
-    ensures { PostsKeepTheWall }
+/// The answer is `Cut` exactly for a text that stops before a finished `end` line, where all finished lines are in their form.
+pub fn cut_texts_stop_early()
+    ensures { (wall : ChineseWall) (text : List ℕ) → (book_in wall text ≡ Err Cut) ↔ IsCut wall text }
 {}
 
-/// After each post a process holds, through chains of deliveries, exactly what stands in its history: so nothing is refused for data that
-/// nobody holds.
-pub fn holding_is_history()
-    ensures { HoldingIsHistory }
-{}
-
-/// After no post a process holds two rivals, directly or through others.
-pub fn nobody_holds_two_rivals()
-    ensures { NobodyHoldsTwoRivals }
-{}
-
-/// The book of posts that count is sound, and its posts are those.
-#[tactic(auto, using(crate::proofs::BookLemmas::books_of_posts_are_sound))]
-pub fn books_of_posts_are_sound()
-    ensures { BooksOfPostsAreSound }
-{}
-
-/// In a sound book a post was barred exactly where it failed the star rule under the histories that the book gives before it.
-#[tactic(auto, using(crate::proofs::BookLemmas::words_are_of_the_star_rule))]
-pub fn words_are_of_the_star_rule()
-    ensures { WordsAreOfTheStarRule }
-{}
-
-/// A sound book has no first bad entry.
-pub fn sound_books_have_no_bad_entry()
-    ensures { SoundBooksHaveNoBadEntry }
-{}
-
-/// No book has two first bad entries.
-pub fn first_bad_entry_is_one()
-    ensures { FirstBadEntryIsOne }
+/// The answer is `BadLine` exactly where there is a first line that should not stand there, with its number.
+pub fn bad_lines_are_the_first()
+    ensures { (wall : ChineseWall) (text : List ℕ) (number : ℕ) → (book_in wall text ≡ Err (BadLine number)) ↔ IsBadAt wall text number }
 {}

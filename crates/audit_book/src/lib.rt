@@ -1,28 +1,34 @@
-//! The audit book: what each counted post stated, and what came of each full instance; and whether a book is what its posts give.
+//! The audit book for its users: the book itself, its text, and its check.
 //!
-//! The definitions of instances, communicators, outcomes and histories that posts make stand here, in `specs/`.
+//! `write_book` writes exactly the text of a book, and `read_book` reads a text as a book exactly
+//! if it is that book's text, and tells of each other text where it goes wrong. `check_book`
+//! answers whether a book is what its own posts give under the policy, and else which entry is the
+//! first that they do not.
+//!
+//! What a book must have is said by `run_model`; the book and the state that the check goes on from
+//! stand in `run_state`, the words of a kind in `coll_text`. The text is proved line by line, from
+//! the top (`specs/Lines.antt`, `Reading.antt`), and against what a text is as a whole
+//! (`specs/Faults.antt`); the check entry by entry, over a state that stands for the posts so far
+//! (`specs/Checks.antt`). (The format is our own.)
 #![tactic(auto)]
 
-mod book;
 mod check;
-mod entry;
+mod check_fault;
+#[cfg(test)]
+mod check_tests;
+mod due;
 mod fault;
 pub mod laws;
-mod ledger;
-mod outcome;
-mod refusal;
-pub mod rows;
-mod settlement;
+mod line;
+mod read;
 #[cfg(test)]
 mod tests;
+mod words;
+mod write;
 
-pub use book::Book;
-pub use check::check_against;
-pub use entry::Entry;
-pub use fault::BookFault;
-pub use ledger::Ledger;
-pub use outcome::Outcome;
-pub use refusal::Refusal;
-pub use settlement::Settlement;
-pub use wall_labels::NoMemory;
-pub use wall_verdict::Rule;
+pub use check::check_book;
+pub use check_fault::BookFault;
+pub use fault::{ReadFault, WriteFault};
+pub use read::read_book;
+pub use run_state::{Book, Entry, NoMemory, Outcome, Rule};
+pub use write::write_book;

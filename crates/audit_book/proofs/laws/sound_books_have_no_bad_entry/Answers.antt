@@ -1,5 +1,0 @@
-use Rattle.audit_book.proofs.BookLemmas.{no_bad_entry}
-use Rattle.audit_book.proofs.laws.sound_books_have_no_bad_entry.Goals as goal
-
-pub returns : goal.returns
-returns c = no_bad_entry

@@ -1,0 +1,157 @@
+//! Reads a line of a book.
+ghost use Rattle.std.specs.Prelude.{◌≡◌, IfOk};
+ghost use Rattle.coll_text.specs.Reading.{Gives, Takes};
+ghost use Rattle.run_model.specs.EntryForms.{HasForm};
+ghost use Rattle.audit_book.specs.Lines.{post_at, denied_at, made_at, came_to, outcome_at, verdict_at, end_at, line_behind, line_in, line_at};
+ghost use Rattle.audit_book.specs.LineSteps.{IsFormed};
+
+use crate::words::{
+    Came, Verb, came_in, next_given, next_label, next_named, next_process, next_rule, verb_in,
+};
+use coll_routes::Stated;
+use coll_text::{LineFault, Parts, end_of, next_number, next_number32, next_statement, next_word};
+use run_model::{Entry, Outcome};
+use std::alloc::Global;
+use wall_labels::Label;
+use wall_policy::Policy;
+use wall_verdict::Rule;
+
+/// A finished line behind the header.
+#[derive(Drop)]
+pub(crate) enum Line {
+    /// An entry.
+    Said(Entry),
+    /// The end, with the number of entries that it states.
+    End(u64),
+}
+
+// What stands behind `post`.
+#[tactic(auto, unfolding(crate::specs::Lines::post_at))]
+fn next_post(alloc: Global, policy: &Policy, words: &mut Parts) -> Result<Entry, LineFault>
+    ensures entry { Gives result (post_at policy.now words.old) }
+    ensures form { IfOk result HasForm }
+{
+    let process = next_process(policy, words)?;
+    let comm = next_number32(words)?;
+    let (sig, own) = next_statement(alloc, words)?;
+    let given = next_given(policy, words)?;
+    end_of(words)?;
+    Ok(Entry::Posted {
+        process,
+        comm,
+        stated: Stated {
+            sig,
+            own,
+            given: given.given,
+            label: given.label,
+            barred: given.barred,
+        },
+    })
+}
+
+#[tactic(auto, unfolding(crate::specs::Lines::denied_at))]
+fn next_denied(policy: &Policy, words: &mut Parts) -> Result<Outcome, LineFault>
+    ensures { Takes (λ o. o) result words.new (denied_at policy.now words.old) }
+{
+    let rule = next_rule(words)?;
+    let process = next_named(policy, words)?;
+    let label = next_label(policy, words)?;
+    Ok(Outcome::Denied {
+        rule,
+        process,
+        label,
+    })
+}
+
+#[tactic(auto, unfolding(crate::specs::Lines::made_at))]
+fn next_made(words: &mut Parts) -> Result<Outcome, LineFault>
+    ensures { Takes (λ o. o) result words.new (made_at words.old) }
+{
+    let first = next_number32(words)?;
+    let number = next_number32(words)?;
+    Ok(Outcome::Made { first, number })
+}
+
+fn next_came(policy: &Policy, came: Came, words: &mut Parts) -> Result<Outcome, LineFault>
+    ensures { Takes (λ o. o) result words.new (came_to policy.now came words.old) }
+{
+    match came {
+        Came::Granted => Ok(Outcome::Granted),
+        Came::Denied => next_denied(policy, words),
+        Came::Made => next_made(words),
+        Came::NoRoom => Ok(Outcome::NoRoom),
+    }
+}
+
+#[tactic(auto, unfolding(crate::specs::Lines::outcome_at))]
+fn next_outcome(policy: &Policy, words: &mut Parts) -> Result<Outcome, LineFault>
+    ensures { Takes (λ o. o) result words.new (outcome_at policy.now words.old) }
+{
+    let word = next_word(words)?;
+    let came = came_in(word).ok_or(LineFault::BadShape)?;
+    next_came(policy, came, words)
+}
+
+// What stands behind `verdict`.
+#[tactic(auto, unfolding(crate::specs::Lines::verdict_at))]
+fn next_verdict(policy: &Policy, words: &mut Parts) -> Result<Entry, LineFault>
+    ensures entry { Gives result (verdict_at policy.now words.old) }
+    ensures form { IfOk result HasForm }
+{
+    let comm = next_number32(words)?;
+    let k = next_number(words, u64::MAX)?;
+    let outcome = next_outcome(policy, words)?;
+    end_of(words)?;
+    Ok(Entry::Settled { comm, k, outcome })
+}
+
+// What stands behind `end`.
+#[tactic(auto, unfolding(crate::specs::Lines::end_at))]
+fn next_end(words: &mut Parts) -> Result<u64, LineFault>
+    ensures { Gives result (end_at words.old) }
+{
+    let number = next_number(words, u64::MAX)?;
+    end_of(words)?;
+    Ok(number)
+}
+
+fn next_behind(
+    alloc: Global,
+    policy: &Policy,
+    verb: Verb,
+    words: &mut Parts,
+) -> Result<Line, LineFault>
+    ensures line { Gives result (line_behind policy.now verb words.old) }
+    ensures form { IfOk result IsFormed }
+{
+    match verb {
+        Verb::Post => match next_post(alloc, policy, words) {
+            Ok(entry) => Ok(Line::Said(entry)),
+            Err(fault) => Err(fault),
+        },
+        Verb::Verdict => match next_verdict(policy, words) {
+            Ok(entry) => Ok(Line::Said(entry)),
+            Err(fault) => Err(fault),
+        },
+        Verb::End => Ok(Line::End(next_end(words)?)),
+    }
+}
+
+#[tactic(auto, unfolding(crate::specs::Lines::line_in))]
+fn next_line(alloc: Global, policy: &Policy, words: &mut Parts) -> Result<Line, LineFault>
+    ensures line { Gives result (line_in policy.now words.old) }
+    ensures form { IfOk result IsFormed }
+{
+    let word = next_word(words)?;
+    let verb = verb_in(word).ok_or(LineFault::BadVerb)?;
+    next_behind(alloc, policy, verb, words)
+}
+
+/// Reads a line behind the header, without its end.
+pub(crate) fn read_line(alloc: Global, policy: &Policy, line: &[u8]) -> Result<Line, LineFault>
+    ensures line { Gives result (line_at policy.now line.now) }
+    ensures form { IfOk result IsFormed }
+{
+    let mut words = Parts::new(line, b' ');
+    next_line(alloc, policy, &mut words)
+}

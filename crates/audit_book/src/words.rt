@@ -1,0 +1,183 @@
+//! The words of a book's lines that scripts do not have.
+ghost use Rattle.std.specs.Prelude.{◌≡◌, true, IfOk};
+ghost use Rattle.run_model.specs.Books.{is_labelled_as};
+ghost use Rattle.coll_text.specs.Reading.{Gives, Takes};
+ghost use Rattle.audit_book.specs.Lines.{past_word, known_process, process_at, named_at, label_at, given_label, either_word, barred_at, rule_at, rule_of, given_at, came_of, verb_of};
+
+use coll_text::{LineFault, Parts, label_in, next_number32, next_word};
+use wall_labels::{Label, ProcessId};
+use wall_policy::Policy;
+use wall_verdict::Rule;
+
+/// The first words of the lines behind the header.
+#[derive(Clone, Copy, Debug, PartialEq, Eq)]
+pub(crate) enum Verb {
+    Post,
+    Verdict,
+    End,
+}
+
+/// The first words of outcomes.
+#[derive(Clone, Copy, Debug, PartialEq, Eq)]
+pub(crate) enum Came {
+    Granted,
+    Denied,
+    Made,
+    NoRoom,
+}
+
+/// What a post gave: so many elements, as what, and whether it was barred.
+#[derive(Clone, Copy, Debug)]
+pub(crate) struct Given {
+    pub given: u32,
+    pub label: Option<Label>,
+    pub barred: bool,
+}
+
+#[tactic(auto, unfolding(crate::specs::Lines::verb_of))]
+pub(crate) fn verb_in(word: &[u8]) -> Option<Verb>
+    ensures { result ≡ verb_of word.now }
+{
+    if word == b"post".as_slice() {
+        Some(Verb::Post)
+    } else if word == b"verdict".as_slice() {
+        Some(Verb::Verdict)
+    } else if word == b"end".as_slice() {
+        Some(Verb::End)
+    } else {
+        None
+    }
+}
+
+#[tactic(auto, unfolding(crate::specs::Lines::came_of))]
+pub(crate) fn came_in(word: &[u8]) -> Option<Came>
+    ensures { result ≡ came_of word.now }
+{
+    if word == b"granted".as_slice() {
+        Some(Came::Granted)
+    } else if word == b"denied".as_slice() {
+        Some(Came::Denied)
+    } else if word == b"made".as_slice() {
+        Some(Came::Made)
+    } else if word == b"noroom".as_slice() {
+        Some(Came::NoRoom)
+    } else {
+        None
+    }
+}
+
+// Goes past this very word.
+fn pass_word(words: &mut Parts, word: &[u8]) -> Result<(), LineFault>
+    ensures { Takes (λ w. w) result words.new (past_word word.now words.old) }
+{
+    let next = next_word(words)?;
+    if next == word {
+        Ok(())
+    } else {
+        Err(LineFault::BadShape)
+    }
+}
+
+fn known_process(policy: &Policy, number: u32) -> Result<ProcessId, LineFault>
+    ensures { Gives result (known_process policy.now number) }
+{
+    if number >= policy.processes() {
+        return Err(LineFault::BadField);
+    }
+    ProcessId::new(number).ok_or(LineFault::BadField)
+}
+
+/// A process of the policy, by its number.
+pub(crate) fn next_process(policy: &Policy, words: &mut Parts) -> Result<ProcessId, LineFault>
+    ensures { Takes (λ p. p) result words.new (process_at policy.now words.old) }
+{
+    let number = next_number32(words)?;
+    known_process(policy, number)
+}
+
+/// A process by its name.
+pub(crate) fn next_named(policy: &Policy, words: &mut Parts) -> Result<ProcessId, LineFault>
+    ensures { Takes (λ p. p) result words.new (named_at policy.now words.old) }
+{
+    let word = next_word(words)?;
+    match policy.process_named(word) {
+        None => Err(LineFault::BadField),
+        Some(process) => Ok(process),
+    }
+}
+
+/// A label.
+pub(crate) fn next_label(policy: &Policy, words: &mut Parts) -> Result<Label, LineFault>
+    ensures { Takes (λ l. l) result words.new (label_at policy.now words.old) }
+{
+    let word = next_word(words)?;
+    label_in(policy, word)
+}
+
+// The label of so many elements: none where there is none.
+#[tactic(auto, unfolding(crate::specs::Lines::given_label))]
+fn next_given_label(
+    policy: &Policy,
+    given: u32,
+    words: &mut Parts,
+) -> Result<Option<Label>, LineFault>
+    ensures label { Takes (λ l. l) result words.new (given_label policy.now given words.old) }
+    ensures labelled { IfOk result (λ l. is_labelled_as given l ≡ true) }
+{
+    if given == 0 {
+        pass_word(words, b"none")?;
+        Ok(None)
+    } else {
+        let label = next_label(policy, words)?;
+        Ok(Some(label))
+    }
+}
+
+fn either_word(word: &[u8], first: &[u8], second: &[u8]) -> Result<bool, LineFault>
+    ensures { Gives result (either_word first.now second.now word.now) }
+{
+    if word == first {
+        Ok(false)
+    } else if word == second {
+        Ok(true)
+    } else {
+        Err(LineFault::BadShape)
+    }
+}
+
+fn next_barred(words: &mut Parts) -> Result<bool, LineFault>
+    ensures { Takes (λ b. b) result words.new (barred_at words.old) }
+{
+    let word = next_word(words)?;
+    either_word(word, b"passed", b"barred")
+}
+
+/// A rule of the wall.
+pub(crate) fn next_rule(words: &mut Parts) -> Result<Rule, LineFault>
+    ensures { Takes (λ r. r) result words.new (rule_at words.old) }
+{
+    let word = next_word(words)?;
+    if either_word(word, b"star", b"simple")? {
+        Ok(Rule::Simple)
+    } else {
+        Ok(Rule::Star)
+    }
+}
+
+/// What is given, behind a kind and its fields.
+#[tactic(auto, unfolding(crate::specs::Lines::given_at))]
+pub(crate) fn next_given(policy: &Policy, words: &mut Parts) -> Result<Given, LineFault>
+    ensures given { Takes (λ g. g) result words.new (given_at policy.now words.old) }
+    ensures labelled { IfOk result (λ g. is_labelled_as g.given g.label ≡ true) }
+{
+    pass_word(words, b"gives")?;
+    let given = next_number32(words)?;
+    pass_word(words, b"as")?;
+    let label = next_given_label(policy, given, words)?;
+    let barred = next_barred(words)?;
+    Ok(Given {
+        given,
+        label,
+        barred,
+    })
+}

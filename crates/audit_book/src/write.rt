@@ -1,0 +1,216 @@
+//! Writes a book.
+ghost use Rattle.std.specs.Prelude.{◌≡◌, ◌+◌, ◌<◌, ◌++◌, [], All, OnOk, OnErr, IfErr, length, codes};
+ghost use Rattle.std.specs.Fmt.{decimal};
+ghost use Rattle.std.specs.Io.KnownBytes.{Appends};
+ghost use Rattle.wall_labels.specs.Known.{AppendsFront};
+ghost use Rattle.audit_book.specs.Text.{given_word, passage_word, line_of, given_end, post_words, verdict_words, outcome_words, entry_words, header_words, end_words, entry_lines, book_text};
+ghost use Rattle.coll_text.specs.Writing.{Moves};
+ghost use Rattle.audit_book.specs.Writing.{IsWriteFault};
+ghost use Rattle.run_model.specs.Known.{IsKnownProcess, IsKnownIfAny, IsKnownOutcome, IsKnownEntry, IsKnownLabel};
+
+use crate::fault::WriteFault;
+use coll_routes::Stated;
+use coll_text::{label_text, put, put_decimal, rule_text, send, send_long, write_statement};
+use run_model::{Entry, Outcome};
+use run_state::Book;
+use std::alloc::{AllocError, Global};
+use wall_labels::{Label, NoMemory, ProcessId, Sink};
+use wall_policy::Policy;
+use wall_verdict::Rule;
+
+fn passage_text(barred: bool) -> &'static str
+    ensures { result.now ≡ passage_word barred }
+{
+    if barred { "barred" } else { "passed" }
+}
+
+fn given_text<'a>(policy: &'a Policy, label: &Option<Label>) -> &'a str
+    requires { IsKnownIfAny policy.now label.now }
+    ensures { result.now ≡ given_word policy.now label.now }
+{
+    match label {
+        None => "none",
+        Some(label) => label_text(policy, label),
+    }
+}
+
+// A word, and two numbers with a space between them.
+fn put_numbers(word: &str, first: u64, second: u64, text: &mut Vec<u8>) -> Result<(), AllocError>
+    ensures { OnOk result (text.new.items ≡ text.old.items ++ word.now ++ decimal first ++ codes " " ++ decimal second) }
+{
+    put(text, word)?;
+    put_decimal(text, first)?;
+    put(text, " ")?;
+    put_decimal(text, second)
+}
+
+// What a post gives, to the end of its line.
+fn put_given(policy: &Policy, stated: &Stated, text: &mut Vec<u8>) -> Result<(), AllocError>
+    requires { IsKnownIfAny policy.now stated.now.label }
+    ensures { OnOk result (text.new.items ≡ text.old.items ++ given_end policy.now stated.now) }
+{
+    put(text, " gives ")?;
+    put_decimal(text, u64::from(stated.given))?;
+    put(text, " as ")?;
+    put(text, given_text(policy, &stated.label))?;
+    put(text, " ")?;
+    put(text, passage_text(stated.barred))?;
+    put(text, "\n")
+}
+
+fn put_post(
+    policy: &Policy,
+    process: ProcessId,
+    comm: u32,
+    stated: &Stated,
+    text: &mut Vec<u8>,
+) -> Result<(), NoMemory>
+    requires { IsKnownIfAny policy.now stated.now.label }
+    ensures { OnOk result (text.new.items ≡ text.old.items ++ line_of (post_words policy.now process comm stated.now)) }
+{
+    let process = u64::from(process.number());
+    put_numbers("post ", process, u64::from(comm), text)?;
+    put(text, " ")?;
+    write_statement(&stated.sig, &stated.own, text)?;
+    put_given(policy, stated, text)?;
+    Ok(())
+}
+
+fn put_denied(
+    policy: &Policy,
+    rule: Rule,
+    process: ProcessId,
+    label: &Label,
+    text: &mut Vec<u8>,
+) -> Result<(), AllocError>
+    requires process { IsKnownProcess policy.now process }
+    requires label { IsKnownLabel policy.now label.now }
+    ensures { OnOk result (text.new.items ≡ text.old.items ++ line_of (outcome_words policy.now (Outcome.Denied rule process label.now))) }
+{
+    put(text, "denied ")?;
+    put(text, rule_text(rule))?;
+    put(text, " ")?;
+    put(text, policy.process_name(process))?;
+    put(text, " ")?;
+    put(text, label_text(policy, label))?;
+    put(text, "\n")
+}
+
+// An outcome to the end of its line.
+fn put_outcome(policy: &Policy, outcome: &Outcome, text: &mut Vec<u8>) -> Result<(), AllocError>
+    requires { IsKnownOutcome policy.now outcome.now }
+    ensures { OnOk result (text.new.items ≡ text.old.items ++ line_of (outcome_words policy.now outcome.now)) }
+{
+    match outcome {
+        Outcome::Granted => put(text, "granted\n"),
+        Outcome::Denied {
+            rule,
+            process,
+            label,
+        } => put_denied(policy, *rule, *process, label, text),
+        Outcome::Made { first, number } => {
+            put_numbers("made ", u64::from(*first), u64::from(*number), text)?;
+            put(text, "\n")
+        }
+        Outcome::NoRoom => put(text, "noroom\n"),
+    }
+}
+
+#[tactic(auto, unfolding(crate::specs::Text::verdict_words))]
+fn put_verdict(
+    policy: &Policy,
+    comm: u32,
+    k: u64,
+    outcome: &Outcome,
+    text: &mut Vec<u8>,
+) -> Result<(), AllocError>
+    requires { IsKnownOutcome policy.now outcome.now }
+    ensures { OnOk result (text.new.items ≡ text.old.items ++ line_of (verdict_words policy.now comm k outcome.now)) }
+{
+    put_numbers("verdict ", u64::from(comm), k, text)?;
+    put(text, " ")?;
+    put_outcome(policy, outcome, text)
+}
+
+fn put_entry(policy: &Policy, entry: &Entry, text: &mut Vec<u8>) -> Result<(), NoMemory>
+    requires { IsKnownEntry policy.now entry.now }
+    ensures { OnOk result (text.new.items ≡ text.old.items ++ line_of (entry_words policy.now entry.now)) }
+{
+    match entry {
+        Entry::Posted {
+            process,
+            comm,
+            stated,
+        } => put_post(policy, *process, *comm, stated, text),
+        Entry::Settled { comm, k, outcome } => {
+            put_verdict(policy, *comm, *k, outcome, text)?;
+            Ok(())
+        }
+    }
+}
+
+fn put_header(text: &mut Vec<u8>) -> Result<(), AllocError>
+    ensures { OnOk result (text.new.items ≡ text.old.items ++ line_of header_words) }
+{
+    put(text, "book 1\n")
+}
+
+fn put_end(entries: usize, text: &mut Vec<u8>) -> Result<(), AllocError>
+    ensures { OnOk result (text.new.items ≡ text.old.items ++ line_of (end_words entries)) }
+{
+    put(text, "end ")?;
+    put_decimal(text, entries as u64)?;
+    put(text, "\n")
+}
+
+// Writes the lines of the entries, and leaves the end of them in the text.
+fn write_entries<W: Sink>(
+    policy: &Policy,
+    entries: &[Entry],
+    text: &mut Vec<u8>,
+    sink: &mut W,
+) -> Result<(), WriteFault>
+    requires { All (IsKnownEntry policy.now) entries.now }
+    ensures went { OnOk result (W.failures sink.new ≡ W.failures sink.old) }
+    ensures fault { IfErr result (λ fault. IsWriteFault fault (W.failures sink.old) (W.failures sink.new)) }
+    ensures moved { OnOk result (Moves (W.contents sink.old) (W.contents sink.new) (text.old.items ++ entry_lines policy.now entries.now) text.new.items) }
+    ensures front { OnErr result (AppendsFront (W.contents sink.old) (W.contents sink.new) (text.old.items ++ entry_lines policy.now entries.now)) }
+{
+    for entry in entries {
+        match put_entry(policy, entry, text) {
+            Ok(()) => {}
+            Err(_) => return Err(WriteFault::NoMemory),
+        }
+        match send_long(text, sink) {
+            Ok(()) => {}
+            Err(_) => return Err(WriteFault::Write),
+        }
+    }
+    Ok(())
+}
+
+/// Writes the text of a book, whose processes and datasets are the policy's. (Own format.)
+///
+/// `Write` where the writer failed, `NoMemory` where memory ran out. A prefix of the text is written then.
+#[tactic(auto, unfolding(crate::specs::Text::book_text))]
+pub fn write_book<W: Sink>(
+    alloc: Global,
+    policy: &Policy,
+    book: &Book,
+    sink: &mut W,
+) -> Result<(), WriteFault>
+    requires { All (IsKnownEntry policy.now) book.now.list }
+    ensures written { OnOk result (Appends (W.contents sink.old) (W.contents sink.new) (book_text policy.now book.now.list)) }
+    ensures went { OnOk result (W.failures sink.new ≡ W.failures sink.old) }
+    ensures fault { IfErr result (λ fault. IsWriteFault fault (W.failures sink.old) (W.failures sink.new)) }
+    ensures front { OnErr result (AppendsFront (W.contents sink.old) (W.contents sink.new) (book_text policy.now book.now.list)) }
+{
+    let mut text = Vec::new(alloc);
+    put_header(&mut text)?;
+    write_entries(policy, book.as_slice(), &mut text, sink)?;
+    put_end(book.len(), &mut text)?;
+    match send(&mut text, sink) {
+        Ok(()) => Ok(()),
+        Err(_) => Err(WriteFault::Write),
+    }
+}

@@ -1,7 +1,0 @@
-use Rattle.std.proofs.Common.{◌≡◌, map}
-use Rattle.mpi_cart.specs.Grids.{below}
-use Rattle.audit_course.specs.Parts.{apart_of}
-use Rattle.audit_course.proofs.parts.all_apart.Given as goal
-
-abbrev pub invariant-loop-rank : goal.invariant-loop-rank
-invariant-loop-rank l = map (λ list. list.items) l.lists.items ≡ map (apart_of l.grid l.gone) (below l.rank)

@@ -1,9 +1,0 @@
-pub mod Checking
-pub mod Givens
-pub mod Laid
-pub mod Making
-pub mod Moves
-pub mod Parts
-pub mod Shown
-pub mod Stands
-pub mod Upcoming

@@ -1,5 +1,0 @@
-use Rattle.book_text.proofs.TextAgainLemmas.{book_again}
-use Rattle.book_text.proofs.laws.books_are_read_again.Goals as goal
-
-pub returns : goal.returns
-returns c = λ wall entries policy h small. book_again wall policy entries h small

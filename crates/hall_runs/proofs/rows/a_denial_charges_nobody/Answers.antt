@@ -1,8 +1,0 @@
-use Rattle.hall_runs.proofs.RowProofs.{public_is_posted, charge_is_not_legal}
-use Rattle.hall_runs.proofs.rows.a_denial_charges_nobody.Goals as goal
-
-pub returns-clause-legal : goal.returns-clause-legal
-returns-clause-legal c = public_is_posted
-
-pub returns-clause-wrong : goal.returns-clause-wrong
-returns-clause-wrong c = charge_is_not_legal

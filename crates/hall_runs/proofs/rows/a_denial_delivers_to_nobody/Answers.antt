@@ -1,8 +1,0 @@
-use Rattle.hall_runs.proofs.RowProofs.{denial_is_told, delivery_is_not_legal}
-use Rattle.hall_runs.proofs.rows.a_denial_delivers_to_nobody.Goals as goal
-
-pub returns-clause-legal : goal.returns-clause-legal
-returns-clause-legal c = denial_is_told
-
-pub returns-clause-wrong : goal.returns-clause-wrong
-returns-clause-wrong c = delivery_is_not_legal

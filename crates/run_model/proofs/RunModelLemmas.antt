@@ -1,0 +1,20 @@
+-- What crates above may cite of the lemmas of this crate. Everything else in proofs/ is its own.
+pub use Rattle.run_model.proofs.BookLemmas.{begins_given, book_is_sound, posts_in-append}
+pub use Rattle.run_model.proofs.BookLemmas.{posts_in-book}
+pub use Rattle.run_model.proofs.CountLemmas.{fault_spared, taken}
+pub use Rattle.run_model.proofs.CountedLemmas.{accepted, comm_stays, comms_stay, no_fault_has}
+pub use Rattle.run_model.proofs.CountedLemmas.{taken_accepted, taken_at}
+pub use Rattle.run_model.proofs.EffectLemmas.{after_barred, after_nothing, after_outcome}
+pub use Rattle.run_model.proofs.EffectLemmas.{after_posted, after_refused, entry_of, given_of}
+pub use Rattle.run_model.proofs.FitLemmas.{filled_is_fit}
+pub use Rattle.run_model.proofs.PostLawLemmas.{posts_keep_the_wall}
+pub use Rattle.run_model.proofs.PostLemmas.{IsFilled, filled_is, kth_from, stated_at, stated_by}
+pub use Rattle.run_model.proofs.PostingLemmas.{posts_within}
+pub use Rattle.run_model.proofs.ProperLemmas.{legal_proper, proper_step}
+pub use Rattle.run_model.proofs.RequestLemmas.{request_member, requests_other, requests_own}
+pub use Rattle.run_model.proofs.RunLemmas.{holding_is_history_in_runs}
+pub use Rattle.run_model.proofs.RunLemmas.{nobody_holds_two_rivals_in_runs}
+pub use Rattle.run_model.proofs.SettledLemmas.{IsSettled, comm_at_is, filled_at, instance_stays}
+pub use Rattle.run_model.proofs.SettledLemmas.{kth_later, settled_from, settled_none, settled_now}
+pub use Rattle.run_model.proofs.SettledLemmas.{settled_other}
+pub use Rattle.run_model.proofs.WholeLemmas.{granted_whole}

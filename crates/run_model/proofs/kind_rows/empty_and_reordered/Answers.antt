@@ -1,0 +1,11 @@
+use Rattle.run_model.proofs.KindRowProofs.{empty_and_reordered_is_legal, empty_and_reordered_is_wrong_1, empty_and_reordered_is_wrong_2}
+use Rattle.run_model.proofs.kind_rows.empty_and_reordered.Goals as goal
+
+pub returns-clause-legal : goal.returns-clause-legal
+returns-clause-legal c = empty_and_reordered_is_legal
+
+pub returns-clause-wrong_1 : goal.returns-clause-wrong_1
+returns-clause-wrong_1 c = empty_and_reordered_is_wrong_1
+
+pub returns-clause-wrong_2 : goal.returns-clause-wrong_2
+returns-clause-wrong_2 c = empty_and_reordered_is_wrong_2

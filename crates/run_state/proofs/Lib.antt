@@ -1,0 +1,15 @@
+pub mod RowLemmas
+pub mod BelowLemmas
+pub mod ContributionLemmas
+pub mod AfterLemmas
+pub mod SeenLemmas
+pub mod StandLemmas
+pub mod LaidLemmas
+pub mod MakingLemmas
+pub mod MadeLemmas
+pub mod MakingGridLemmas
+pub mod MakingKindLemmas
+pub mod PartLemmas
+pub mod PostStateLemmas
+pub mod VerdictLemmas
+pub mod RunStateLemmas

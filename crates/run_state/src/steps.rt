@@ -1,0 +1,352 @@
+//! The steps of a post, on the parts of a state.
+ghost use Rattle.std.specs.Prelude.{◌≡◌, ◌<◌, ◌≤◌, ◌^◌, ◌==◌, ℕ, not, length, slice_get, IfOk, IfErr, OnOk, OnErr, Some, None, true};
+ghost use Rattle.std.specs.Option.{option_copied};
+ghost use Rattle.wall_labels.specs.declared.ids.TheConstants.{PROCESS_LIMIT};
+ghost use Rattle.wall_rules.specs.Histories.{has};
+ghost use Rattle.mpi_cart.specs.Grids.{below};
+ghost use Rattle.coll_routes.specs.Fit.{IsFit};
+ghost use Rattle.coll_routes.specs.Faults.{stated_type};
+ghost use Rattle.coll_routes.specs.declared.roll.Roll;
+ghost use Rattle.coll_pending.specs.declared.arrival.Next.TheVariants.{Mismatch};
+ghost use Rattle.coll_pending.specs.Waiting.{view_of_pending, next, HasRoom};
+ghost use Rattle.wall_verdict.specs.Star.{star};
+ghost use Rattle.run_model.specs.Comms.{Comm, processes, ask_by, ask_in, asks};
+ghost use Rattle.run_model.specs.Posts.{outcome_of, with_delivery, by_verdict};
+ghost use Rattle.run_model.specs.Refusals.{refused_for};
+ghost use Rattle.run_model.specs.Contributions.{contribution};
+ghost use Rattle.run_state.specs.Views.{IsPostState, seen, communicator_of, fault_among, fault_after, fault_of, place_of};
+ghost use Rattle.run_state.specs.Entering.{Changes, Answers, Enters};
+ghost use Rattle.run_state.specs.Upcoming.{IsNext, IsPrepared, roll_next, is_last, asks_with, stated_in, constructed};
+
+use crate::communicators::Communicators;
+use crate::entered::{Entered, Unentered};
+use coll_pending::laws::faultless_signatures_fit;
+use coll_pending::{Arrived, Next, Pending};
+use coll_routes::{Own, Roll, Shape, ShapeFault, Signature, Stated, shape_fault};
+use mpi_comm::Ask;
+use mpi_elems::ElemType;
+use mpi_group::{Group, GroupFault};
+use run_model::{Outcome, Refusal};
+use std::alloc::Global;
+use wall_labels::{NoMemory, ProcessId};
+use wall_policy::Policy;
+use wall_rules::Histories;
+use wall_verdict::{Verdict, enter_label, settle};
+
+/// The group of all processes, in order.
+#[tactic(auto, using(crate::proofs::PartLemmas::distinct_below))]
+pub fn world(alloc: Global, processes: u32) -> Result<Group, NoMemory>
+    requires { processes ≤ PROCESS_LIMIT }
+    ensures { IfOk result (λ group. group ≡ below processes) }
+{
+    let list = all_processes(alloc, processes)?;
+    match Group::from_list(alloc, &list) {
+        Ok(group) => Ok(group),
+        Err(GroupFault::NoMemory) => Err(NoMemory),
+        Err(_) => unreachable!(),
+    }
+}
+
+#[tactic(auto, using(crate::proofs::BelowLemmas::below_more))]
+fn all_processes(alloc: Global, processes: u32) -> Result<Vec<ProcessId>, NoMemory>
+    requires { processes ≤ PROCESS_LIMIT }
+    ensures { IfOk result (λ list. list.items ≡ below processes) }
+{
+    let mut list = Vec::with_capacity(alloc, processes as usize)?;
+    for number in 0..processes {
+        let Some(process) = ProcessId::new(number) else {
+            unreachable!()
+        };
+        list.push(process)?;
+    }
+    Ok(list)
+}
+
+/// The first refusal that holds of the next post of a process on a communicator, where there are so many processes.
+pub fn refusal<X: Drop>(
+    comms: &Communicators,
+    pending: &Pending<X>,
+    processes: u32,
+    process: u32,
+    comm: u32,
+    sig: &Signature,
+    own: &Own,
+    elem_type: ElemType,
+    given: usize,
+) -> Option<Refusal>
+    requires { processes ≤ PROCESS_LIMIT }
+    ensures { result ≡ fault_among processes comms.now (view_of_pending pending.now) process comm sig.now own.now elem_type given }
+{
+    if process >= processes {
+        return Some(Refusal::NoSuchProcess);
+    }
+    if comm >= comms.len() {
+        return Some(Refusal::NoSuchComm);
+    }
+    let Some(member) = ProcessId::new(process) else {
+        unreachable!()
+    };
+    match comms.group(comm).rank_of(member) {
+        Some(rank) => refusal_after(
+            shape_fault(comms.shape(comm), rank, sig, own, elem_type, given),
+            pending.next(comm, rank, sig),
+        ),
+        None => Some(Refusal::NotMember),
+    }
+}
+
+// The refusal of a member, by the post's own fault and by what its arrival would do.
+fn refusal_after(fault: Option<ShapeFault>, next: Next) -> Option<Refusal>
+    ensures { result ≡ fault_after fault next }
+{
+    match fault {
+        Some(fault) => Some(refused_for(fault)),
+        None => match next {
+            Next::Mismatch => Some(Refusal::Mismatch),
+            _ => None,
+        },
+    }
+}
+
+fn refused_for(fault: ShapeFault) -> Refusal
+    ensures { result ≡ refused_for fault }
+{
+    match fault {
+        ShapeFault::NoTopology => Refusal::NoTopology,
+        ShapeFault::BadRoot => Refusal::BadRoot,
+        ShapeFault::BadOp => Refusal::BadOp,
+        ShapeFault::BadCount => Refusal::BadCount,
+        ShapeFault::BadColour => Refusal::BadColour,
+        ShapeFault::NotSubgroup => Refusal::NotSubgroup,
+        ShapeFault::BadDims => Refusal::BadDims,
+    }
+}
+
+/// Counts a post that meets no refusal: all growth first, and then all change.
+pub fn count<X: Drop>(
+    alloc: Global,
+    comms: &mut Communicators,
+    pending: &mut Pending<X>,
+    histories: &mut Histories,
+    policy: &Policy,
+    process: ProcessId,
+    comm: u32,
+    stated: Stated,
+    part: X,
+) -> Result<Entered<X>, Unentered<X>>
+    requires post_state { IsPostState (seen comms.old pending.old histories.old) }
+    requires policy { histories.old.classes ≡ policy.now.classes }
+    requires accepted { fault_of policy.now (seen comms.old pending.old histories.old) process comm stated.sig stated.own (stated_type stated.sig) stated.given ≡ None }
+    requires word { stated.barred ≡ not (star (has histories.old) process stated.label) }
+    requires few { place_of (seen comms.old pending.old histories.old) process comm < 2 ^ 62 }
+    ensures post_state { IsPostState (seen comms.new pending.new histories.new) }
+    ensures counted { IfOk result (λ entered. Enters policy.now (seen comms.old pending.old histories.old) (seen comms.new pending.new histories.new) (contribution process comm stated part) entered) }
+    ensures classes { histories.new.classes ≡ histories.old.classes }
+    ensures unchanged { OnErr result (seen comms.new pending.new histories.new ≡ seen comms.old pending.old histories.old) }
+    ensures back { IfErr result (λ refused. (refused.stated ≡ stated) × (refused.part ≡ part)) }
+{
+    let Some(rank) = comms.group(comm).rank_of(process) else {
+        unreachable!()
+    };
+    match prepare(alloc, comms, pending, comm, rank, &stated) {
+        Err(_) => Err(Unentered { stated, part }),
+        Ok(made) => Ok(change(
+            comms, pending, histories, policy, process, comm, rank, stated, part, made,
+        )),
+    }
+}
+
+// Makes all that a member's post needs, and the communicators that it completes, if they fit.
+fn prepare<X: Drop>(
+    alloc: Global,
+    comms: &mut Communicators,
+    pending: &mut Pending<X>,
+    comm: u32,
+    rank: u32,
+    stated: &Stated,
+) -> Result<Option<Outcome>, NoMemory>
+    requires there { comm < length comms.old }
+    requires upcoming { (found : Comm) → slice_get comms.old comm ≡ Some found → IsNext (view_of_pending pending.old) comm rank found stated.now }
+    ensures waiting { view_of_pending pending.new ≡ view_of_pending pending.old }
+    ensures room { OnOk result ((found : Comm) → slice_get comms.old comm ≡ Some found → HasRoom pending.new comm rank (communicator_of found)) }
+    ensures made { IfOk result (λ made. (found : Comm) → slice_get comms.old comm ≡ Some found → IsPrepared comms.old comms.new made (roll_next (view_of_pending pending.old) comm rank found stated.now)) }
+    ensures kept { OnErr result (comms.new ≡ comms.old) }
+{
+    pending.ready(comm, rank, comms.group(comm), comms.shape(comm))?;
+    make_if_full(alloc, comms, pending, comm, rank, stated)
+}
+
+// Makes the communicators of a constructor that a member's post fills.
+fn make_if_full<X: Drop>(
+    alloc: Global,
+    comms: &mut Communicators,
+    pending: &Pending<X>,
+    comm: u32,
+    rank: u32,
+    stated: &Stated,
+) -> Result<Option<Outcome>, NoMemory>
+    requires there { comm < length comms.old }
+    requires upcoming { (found : Comm) → slice_get comms.old comm ≡ Some found → IsNext (view_of_pending pending.now) comm rank found stated.now }
+    ensures made { IfOk result (λ made. (found : Comm) → slice_get comms.old comm ≡ Some found → IsPrepared comms.old comms.new made (roll_next (view_of_pending pending.now) comm rank found stated.now)) }
+    ensures kept { OnErr result (comms.new ≡ comms.old) }
+{
+    if !stated.sig.is_constructor() {
+        return Ok(None);
+    }
+    let size = comms.group(comm).size();
+    if !is_last(pending.next(comm, rank, &stated.sig), size) {
+        return Ok(None);
+    }
+    let place = pending.arrivals(comm, rank);
+    let asks = all_asks(alloc, pending.roll(comm, place), size, rank, &stated.own)?;
+    let outcome = comms.make(comm, &stated.sig, &asks)?;
+    Ok(Some(outcome))
+}
+
+// Whether an arrival is the last one of an instance.
+fn is_last(next: Next, size: u32) -> bool
+    ensures { result ≡ is_last next size }
+{
+    match next {
+        Next::Opens => size == 1,
+        Next::Joins => false,
+        Next::Fills => true,
+        Next::Mismatch => false,
+    }
+}
+
+// What the members ask, where this rank states this for itself.
+#[tactic(auto, using(crate::proofs::BelowLemmas::map_more))]
+fn all_asks(
+    alloc: Global,
+    roll: Option<&Roll>,
+    size: u32,
+    rank: u32,
+    own: &Own,
+) -> Result<Vec<Ask>, NoMemory>
+    ensures { IfOk result (λ asks. asks.items ≡ asks_with (option_copied roll.entry) size rank own.now) }
+{
+    let mut asks = Vec::with_capacity(alloc, size as usize)?;
+    for k in 0..size {
+        if k == rank {
+            asks.push(ask_by(own))?;
+        } else {
+            asks.push(ask_at(roll, k))?;
+        }
+    }
+    Ok(asks)
+}
+
+fn ask_at(roll: Option<&Roll>, rank: u32) -> Ask
+    ensures { result ≡ ask_in (stated_in (option_copied roll.entry) rank) }
+{
+    match roll {
+        Some(roll) => match roll.stated.get(rank) {
+            Some(stated) => ask_by(&stated.own),
+            None => no_ask(),
+        },
+        None => no_ask(),
+    }
+}
+
+fn no_ask() -> Ask
+    ensures { result ≡ ask_in None }
+{
+    Ask {
+        colour: None,
+        key: 0,
+    }
+}
+
+fn ask_by(own: &Own) -> Ask
+    ensures { result ≡ ask_by own.now }
+{
+    match own {
+        Own::Split { colour, key } => Ask {
+            colour: *colour,
+            key: *key,
+        },
+        _ => no_ask(),
+    }
+}
+
+// Enters a post for which there is room.
+fn change<X: Drop>(
+    comms: &Communicators,
+    pending: &mut Pending<X>,
+    histories: &mut Histories,
+    policy: &Policy,
+    process: ProcessId,
+    comm: u32,
+    rank: u32,
+    stated: Stated,
+    part: X,
+    made: Option<Outcome>,
+) -> Entered<X>
+    requires there { comm < length comms.now }
+    requires upcoming { (found : Comm) → slice_get comms.now comm ≡ Some found → IsNext (view_of_pending pending.old) comm rank found stated }
+    requires room { (found : Comm) → slice_get comms.now comm ≡ Some found → HasRoom pending.old comm rank (communicator_of found) }
+    requires word { stated.barred ≡ not (star (has histories.old) process stated.label) }
+    requires policy { histories.old.classes ≡ policy.now.classes }
+    requires few { (view_of_pending pending.old).arrivals comm rank < 2 ^ 62 }
+    ensures classes { histories.new.classes ≡ histories.old.classes }
+    ensures changes { (found : Comm) (count : ℕ) → slice_get comms.now comm ≡ Some found → made ≡ constructed count (roll_next (view_of_pending pending.old) comm rank found stated) →
+        Changes policy.now count (seen comms.now pending.old histories.old) (seen comms.now pending.new histories.new) (record { rank = rank; comm = found }) (contribution process comm stated part)
+        × Answers policy.now count (seen comms.now pending.old histories.old) (record { rank = rank; comm = found }) (contribution process comm stated part) result }
+{
+    faultless_signatures_fit();
+    let k = pending.arrivals(comm, rank);
+    let _ = enter_label(histories, process, &stated.label);
+    match pending.arrive(
+        comm,
+        rank,
+        comms.group(comm),
+        comms.shape(comm),
+        stated,
+        part,
+    ) {
+        Ok(Arrived::Waiting) => Entered::Waiting { k },
+        Ok(Arrived::Full(full)) => {
+            let outcome = settle_full(policy, histories, &full.roll, made);
+            Entered::Settled { full, k, outcome }
+        }
+        Err(_) => unreachable!(),
+    }
+}
+
+// The outcome of a full instance: what its constructor made, or else the verdict, by which the histories grow.
+fn settle_full(
+    policy: &Policy,
+    histories: &mut Histories,
+    roll: &Roll,
+    made: Option<Outcome>,
+) -> Outcome
+    requires fit { IsFit roll.now }
+    requires classes { histories.old.classes ≡ policy.now.classes }
+    ensures outcome { (before : ℕ) → made ≡ constructed before roll.now → result ≡ outcome_of policy.now (has histories.old) before roll.now }
+    ensures pairs { (before : ℕ) → made ≡ constructed before roll.now → has histories.new ≡ with_delivery policy.now (has histories.old) before (Some roll.now) }
+    ensures processes { histories.new.processes ≡ histories.old.processes }
+    ensures classes { histories.new.classes ≡ histories.old.classes }
+{
+    match made {
+        Some(outcome) => outcome,
+        None => by_verdict(settle(policy, histories, roll)),
+    }
+}
+
+fn by_verdict(verdict: Verdict) -> Outcome
+    ensures { result ≡ by_verdict verdict }
+{
+    match verdict {
+        Verdict::Granted => Outcome::Granted,
+        Verdict::Denied {
+            rule,
+            process,
+            label,
+        } => Outcome::Denied {
+            rule,
+            process,
+            label,
+        },
+    }
+}
