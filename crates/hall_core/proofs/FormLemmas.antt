@@ -8,9 +8,9 @@ use Rattle.coll_routes.specs.declared.signature.Signature.TheVariants.{Barrier, 
 use Rattle.coll_routes.specs.declared.statement.Own.{Own}
 use Rattle.coll_routes.specs.declared.statement.Own.TheVariants.{Plain, Counts, Split as SplitBy}
 use Rattle.coll_routes.specs.declared.roll.Shape.{Shape}
-use Rattle.coll_routes.specs.Signatures.{elem_type, count}
+use Rattle.coll_routes.specs.Signatures.{elem_type, count, kind}
 use Rattle.coll_routes.specs.Faults.{asked, gives, is_met, is_of_type, is_above_limit, is_asked_above_limit, is_listed, bad_count}
-use Rattle.audit_book.specs.Forms.{is_formed}
+use Rattle.run_model.specs.EntryForms.{is_formed}
 
 -- ## the tests on elements and counts
 
@@ -47,7 +47,7 @@ module _ (shape : Shape) (rank : ℕ) (sig : Signature) (own : Own) (ty : ElemTy
 -- ## what a member states for itself
 
 pub formed : (shape : Shape) (sig : Signature) (b : Bool) (own : Own) (given : ℕ) → is_met (asked shape sig) b own given ≡ true → is_formed sig own ≡ true
-unfolding asked is_formed
+unfolding asked is_formed kind
 formed shape Barrier b Plain given h = refl
 formed shape Barrier b (Counts list) given h = absurd (false≢true h)
 formed shape Barrier b (SplitBy colour key) given h = absurd (false≢true h)

@@ -1,9 +1,9 @@
 -- The new communicator that a process is in.
 use Rattle.std.proofs.Common.{◌≡◌, ℕ, suc, ◌+◌, ◌-◌, ◌<◌, ◌≤◌, List, length, ap, ◌∙◌, arith, Some, None, slice_get, take, drop}
 use Rattle.mpi_group.specs.Groups.{rank_in}
-use Rattle.audit_book.specs.Comms.{Comm}
-use Rattle.hall_runs.specs.declared.reply.Reply.TheVariants.{NewComm, NullComm}
-use Rattle.hall_runs.specs.Replies.{join, joined}
+use Rattle.run_model.specs.Comms.{Comm}
+use Rattle.run_model.specs.declared.reply.Reply.TheVariants.{NewComm, NullComm}
+use Rattle.run_model.specs.Replies.{join, joined}
 use Rattle.hall_core.specs.Moves.{row_at}
 use Rattle.hall_core.proofs.LookLemmas.{row_next}
 

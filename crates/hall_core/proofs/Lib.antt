@@ -7,9 +7,11 @@ pub mod JoinLemmas
 pub mod OpenLemmas
 pub mod TakeLemmas
 pub mod TellLemmas
+pub mod ClaimLemmas
 pub mod RecordLemmas
 pub mod FormLemmas
 pub mod PostLemmas
 pub mod NamedLemmas
 pub mod ApplyLemmas
 pub mod RunLemmas
+pub mod WorldsLemmas

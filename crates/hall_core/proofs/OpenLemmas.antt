@@ -1,13 +1,13 @@
 -- A hall of no call.
 use Rattle.std.proofs.Common.{◌≡◌, ℕ, List, [], ap, None, map}
-use Rattle.audit_course.specs.Stands.{StandsFor as CourseStandsFor}
-use Rattle.hall_runs.specs.Runs.{made}
+use Rattle.run_state.specs.Stands.{StandsForPosts}
+use Rattle.run_model.specs.Runs.{effects}
 use Rattle.hall_core.specs.declared.requests.Request.{Request}
-use Rattle.hall_core.specs.Halls.{Shown, StandsBy, instance_of, taken_at}
+use Rattle.hall_core.specs.Halls.{HallView, StandsForEffects, instance_of, taken_at}
 
-pub stands_first : (hall : Shown) → CourseStandsFor hall.policy hall.course [] → hall.asked ≡ (λ p. []) → ((c k : ℕ) → hall.settled c k ≡ None) → hall.book ≡ [] → StandsBy hall (made [])
-stands_first hall course asked settled book = record {
-  course = course;
+pub stands_first : (hall : HallView) → StandsForPosts hall.policy hall.post_state [] → hall.asked ≡ (λ p. []) → ((c k : ℕ) → hall.settled c k ≡ None) → hall.book ≡ [] → StandsForEffects hall (effects [])
+stands_first hall post_state asked settled book = record {
+  post_state = post_state;
   requests = λ p. ap (λ (f : ℕ → List Request). map instance_of (f p)) asked;
   taken = λ p r. ap (λ (f : ℕ → List Request). taken_at (f p) r) asked;
   settled = settled;

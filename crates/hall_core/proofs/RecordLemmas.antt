@@ -6,65 +6,64 @@ use Rattle.std.proofs.lemmas.Bool.{cases_Bool, cond-true, cond-false, false≢tr
 use Rattle.wall_policy.specs.Policy.{ChineseWall}
 use Rattle.mpi_elems.specs.Contents.{Contents}
 use Rattle.coll_values.specs.declared.full.Full.{Full}
-use Rattle.audit_book.specs.declared.outcome.Outcome.{Outcome}
-use Rattle.audit_book.specs.declared.entry.Entry.TheVariants.{Settled as EntrySettled}
-use Rattle.audit_book.specs.Posts.{Post, comms, settled, filled, outcome, place}
-use Rattle.audit_book.specs.Books.{IsTaken, book, posted, settlement as book_settlement}
-use Rattle.audit_course.specs.declared.entered.Entered.{Entered}
-use Rattle.audit_course.specs.declared.entered.Entered.TheVariants.{Waiting, Settled}
-use Rattle.audit_course.specs.Givens.{Given, full_at}
-use Rattle.audit_course.specs.Stands.{StandsFor as CourseStandsFor, Tells}
-use Rattle.hall_runs.specs.Runs.{Made, requests, with_given}
-use Rattle.hall_runs.specs.Replies.{posts_in, comm_at}
-use Rattle.hall_runs.proofs.RequestLemmas.{requests_own, requests_other}
-use Rattle.hall_runs.proofs.SettledLemmas.{settled_now, settled_none, settled_other, instance_stays, filled_at}
+use Rattle.run_model.specs.declared.outcome.Outcome.{Outcome}
+use Rattle.run_model.specs.declared.entry.Entry.TheVariants.{Settled as EntrySettled}
+use Rattle.run_model.specs.Posts.{Post, comms, outcome_at, filled, outcome, place}
+use Rattle.run_model.specs.Books.{IsCounted, book, posted, outcome_entry as book_settlement}
+use Rattle.run_state.specs.declared.entered.Entered.{Entered}
+use Rattle.run_state.specs.declared.entered.Entered.TheVariants.{Waiting, Settled}
+use Rattle.run_model.specs.Contributions.{Contribution, full_at}
+use Rattle.run_state.specs.Stands.{StandsForPosts, Tells}
+use Rattle.run_model.specs.Runs.{Effects, requests, with_contribution}
+use Rattle.run_model.specs.Replies.{posts_in, comm_at}
+use Rattle.run_model.proofs.RunModelLemmas.{requests_own, requests_other, settled_now, settled_none, settled_other, instance_stays, filled_at}
 use Rattle.hall_core.specs.declared.requests.Request.{Request}
 use Rattle.hall_core.specs.declared.settled.Settlement.{Settlement}
 use Rattle.hall_core.specs.Asking.{with_request}
-use Rattle.hall_core.specs.Halls.{Shown, StandsBy, instance_of, taken_at, settlement, settled_in}
+use Rattle.hall_core.specs.Halls.{HallView, StandsForEffects, instance_of, taken_at, settlement, settlement_in}
 use Rattle.hall_core.specs.Moves.{number_in, entries_of, IsSettledBy, IsRecorded}
 use Rattle.hall_core.proofs.RequestLemmas.{updated_same, updated_other, same_or_not, map_more, taken_more}
 
 outcome_none : (wall : ChineseWall) (x : Post) (past : List Post) → filled (comms wall past) x past ≡ None → outcome wall x past ≡ None
-outcome_none wall x past none = ap (λ o. option_map (Rattle.audit_book.specs.Posts.outcome_of wall (Rattle.audit_book.specs.Posts.labelled (Rattle.audit_book.specs.Posts.histories wall past) x) (length (comms wall past))) o) none
+outcome_none wall x past none = ap (λ o. option_map (Rattle.run_model.specs.Posts.outcome_of wall (Rattle.run_model.specs.Posts.labelled (Rattle.run_model.specs.Posts.histories wall past) x) (length (comms wall past))) o) none
 
 -- ## settlements
 
-module _ (wall : ChineseWall) (m : Made) (g : Given Contents) (counts : IsTaken wall g.post (posts_in m)) where
+module _ (wall : ChineseWall) (m : Effects) (g : Contribution Contents) (counts : IsCounted wall g.post (posts_in m)) where
   -- an instance that the post does not settle is kept as it was
-  still : (c k : ℕ) → settled wall c k (g.post ∷ posts_in m) ≡ settled wall c k (posts_in m) → settled_in wall (with_given m g) c k ≡ settled_in wall m c k
-  still c k same = go (settled wall c k (posts_in m)) refl
+  still : (c k : ℕ) → outcome_at wall c k (g.post ∷ posts_in m) ≡ outcome_at wall c k (posts_in m) → settlement_in wall (with_contribution m g) c k ≡ settlement_in wall m c k
+  still c k same = go (outcome_at wall c k (posts_in m)) refl
     where
-      go : (o : Option Outcome) → settled wall c k (posts_in m) ≡ o → settled_in wall (with_given m g) c k ≡ settled_in wall m c k
-      go None is = ap (λ o. option_map (settlement (full_at (comm_at wall (g.post ∷ posts_in m) c) c k (g ∷ m.givens))) o) (same ∙ is) ∙ sym (ap (λ o. option_map (settlement (full_at (comm_at wall (posts_in m) c) c k m.givens)) o) is)
-      go (Some o) is = λ i. option_map (settlement (instance_stays wall c k o g m.givens is i)) (same i)
+      go : (o : Option Outcome) → outcome_at wall c k (posts_in m) ≡ o → settlement_in wall (with_contribution m g) c k ≡ settlement_in wall m c k
+      go None is = ap (λ o. option_map (settlement (full_at (comm_at wall (g.post ∷ posts_in m) c) c k (g ∷ m.contributions))) o) (same ∙ is) ∙ sym (ap (λ o. option_map (settlement (full_at (comm_at wall (posts_in m) c) c k m.contributions)) o) is)
+      go (Some o) is = λ i. option_map (settlement (instance_stays wall c k o g m.contributions is i)) (same i)
 
-  waiting : filled (comms wall (posts_in m)) g.post (posts_in m) ≡ None → (c k : ℕ) → settled_in wall (with_given m g) c k ≡ settled_in wall m c k
+  waiting : filled (comms wall (posts_in m)) g.post (posts_in m) ≡ None → (c k : ℕ) → settlement_in wall (with_contribution m g) c k ≡ settlement_in wall m c k
   waiting none c k = still c k (settled_none wall c k g.post (posts_in m) none)
 
-  module _ (full : Full Contents) (k : ℕ) (o : Outcome) (tells : Tells wall g m.givens (Settled full k o)) where
+  module _ (full : Full Contents) (k : ℕ) (o : Outcome) (tells : Tells wall g m.contributions (Settled full k o)) where
     place_is : place g.post (posts_in m) ≡ k
     place_is = sym tells.0
 
     -- the one that it settles
-    own : settled_in wall (with_given m g) g.post.comm k ≡ Some (settlement full o)
+    own : settlement_in wall (with_contribution m g) g.post.comm k ≡ Some (settlement full o)
     own =
-        let came : settled wall g.post.comm k (g.post ∷ posts_in m) ≡ Some o =
-        ap (λ n. settled wall g.post.comm n (g.post ∷ posts_in m)) (sym place_is) ∙ (settled_now wall g.post (posts_in m) full.roll tells.1 ∙ tells.3) in
-        let is : full_at (comm_at wall (g.post ∷ posts_in m) g.post.comm) g.post.comm k (g ∷ m.givens) ≡ full = filled_at wall g m.givens k full tells.2 in
+        let came : outcome_at wall g.post.comm k (g.post ∷ posts_in m) ≡ Some o =
+        ap (λ n. outcome_at wall g.post.comm n (g.post ∷ posts_in m)) (sym place_is) ∙ (settled_now wall g.post (posts_in m) full.roll tells.1 ∙ tells.3) in
+        let is : full_at (comm_at wall (g.post ∷ posts_in m) g.post.comm) g.post.comm k (g ∷ m.contributions) ≡ full = filled_at wall g m.contributions k full tells.2 in
         λ i. option_map (settlement (is i)) (came i)
 
     -- every other
-    other : (c j : ℕ) → (g.post.comm ≢ c) ⊎ (k ≢ j) → settled_in wall (with_given m g) c j ≡ settled_in wall m c j
+    other : (c j : ℕ) → (g.post.comm ≢ c) ⊎ (k ≢ j) → settlement_in wall (with_contribution m g) c j ≡ settlement_in wall m c j
     other c j apart = still c j (settled_other wall c j g.post (posts_in m) (⊎_elim (λ a. inl a) (λ (b : k ≢ j). inr (λ e. b (sym place_is ∙ e))) apart))
 
-    now_settled : (c j : ℕ) → settled_in wall (with_given m g) c j ≡ cond (c == g.post.comm && j == k) (Some (settlement full o)) (settled_in wall m c j)
+    now_settled : (c j : ℕ) → settlement_in wall (with_contribution m g) c j ≡ cond (c == g.post.comm && j == k) (Some (settlement full o)) (settlement_in wall m c j)
     now_settled c j = ⊎_elim
         (λ t.
         let parts = and_parts (c == g.post.comm) (j == k) t in
-        (λ i. settled_in wall (with_given m g) (eqb-true c g.post.comm parts.0 i) (eqb-true j k parts.1 i))
-        ∙ (own ∙ sym (cond-true (c == g.post.comm && j == k) (Some (settlement full o)) (settled_in wall m c j) t)))
-        (λ f. other c j (apart (same_or_not c g.post.comm) (same_or_not j k) f) ∙ sym (cond-false (c == g.post.comm && j == k) (Some (settlement full o)) (settled_in wall m c j) f))
+        (λ i. settlement_in wall (with_contribution m g) (eqb-true c g.post.comm parts.0 i) (eqb-true j k parts.1 i))
+        ∙ (own ∙ sym (cond-true (c == g.post.comm && j == k) (Some (settlement full o)) (settlement_in wall m c j) t)))
+        (λ f. other c j (apart (same_or_not c g.post.comm) (same_or_not j k) f) ∙ sym (cond-false (c == g.post.comm && j == k) (Some (settlement full o)) (settlement_in wall m c j) f))
         (cases_Bool (c == g.post.comm && j == k))
       where
         apart : (c ≡ g.post.comm) ⊎ (c ≢ g.post.comm) → (j ≡ k) ⊎ (j ≢ k) → (c == g.post.comm && j == k) ≡ false → (g.post.comm ≢ c) ⊎ (k ≢ j)
@@ -72,33 +71,33 @@ module _ (wall : ChineseWall) (m : Made) (g : Given Contents) (counts : IsTaken 
         apart (inl a) (inr b) f = inr (λ e. b (sym e))
         apart (inl a) (inl b) f = absurd (false≢true (sym f ∙ and_from (c == g.post.comm) (j == k) (eq-eqb c g.post.comm a) (eq-eqb j k b)))
 
-  settled_by : (old new : (c k : ℕ) → Option Settlement) (entered : Entered Contents) → Tells wall g m.givens entered → ((c k : ℕ) → old c k ≡ settled_in wall m c k) → IsSettledBy g.post.comm entered old new → (c k : ℕ) → new c k ≡ settled_in wall (with_given m g) c k
+  settled_by : (old new : (c k : ℕ) → Option Settlement) (entered : Entered Contents) → Tells wall g m.contributions entered → ((c k : ℕ) → old c k ≡ settlement_in wall m c k) → IsSettledBy g.post.comm entered old new → (c k : ℕ) → new c k ≡ settlement_in wall (with_contribution m g) c k
   settled_by old new (Waiting n) tells before by c k = by c k ∙ (before c k ∙ sym (waiting tells.1 c k))
   settled_by old new (Settled full n o) tells before by c k = by c k ∙ (ap (λ s. cond (c == g.post.comm && k == n) (Some (settlement full o)) s) (before c k) ∙ sym (now_settled full n o tells c k))
 
   -- ## the book
 
-  booked : (entered : Entered Contents) → Tells wall g m.givens entered → book wall (posts_in m) ++ entries_of g.post.process g.post.comm g.post.stated entered ≡ book wall (g.post ∷ posts_in m)
+  booked : (entered : Entered Contents) → Tells wall g m.contributions entered → book wall (posts_in m) ++ entries_of g.post.process g.post.comm g.post.stated entered ≡ book wall (g.post ∷ posts_in m)
   booked (Waiting n) tells = ap (λ o. book wall (posts_in m) ++ posted g.post ∷ option_to_list (book_settlement g.post (posts_in m) o)) (sym (outcome_none wall g.post (posts_in m) tells.1))
   booked (Settled full n o) tells =
       ap (λ (j : ℕ). book wall (posts_in m) ++ posted g.post ∷ EntrySettled g.post.comm j o ∷ []) tells.0
       ∙ ap (λ v. book wall (posts_in m) ++ posted g.post ∷ option_to_list (book_settlement g.post (posts_in m) v)) (sym tells.3)
 
-  number_is : (entered : Entered Contents) → Tells wall g m.givens entered → number_in entered ≡ place g.post (posts_in m)
+  number_is : (entered : Entered Contents) → Tells wall g m.contributions entered → number_in entered ≡ place g.post (posts_in m)
   number_is (Waiting n) tells = tells.0
   number_is (Settled full n o) tells = tells.0
 
 -- ## all of it
 
-module _ (old new : Shown) (m : Made) (g : Given Contents) (entered : Entered Contents) (stands : StandsBy old m) (counts : IsTaken old.policy g.post (posts_in m))
-    (course : CourseStandsFor old.policy new.course (g ∷ m.givens)) (tells : Tells old.policy g m.givens entered) (recorded : IsRecorded old new g.post.process g.post.comm g.post.stated entered) where
+module _ (old new : HallView) (m : Effects) (g : Contribution Contents) (entered : Entered Contents) (stands : StandsForEffects old m) (counts : IsCounted old.policy g.post (posts_in m))
+    (post_state : StandsForPosts old.policy new.post_state (g ∷ m.contributions)) (tells : Tells old.policy g m.contributions entered) (recorded : IsRecorded old new g.post.process g.post.comm g.post.stated entered) where
   asked_own : (q : ℕ) → q ≡ g.post.process → with_request old.asked g.post.process g.post.comm (number_in entered) q ≡ old.asked g.post.process ++ record { comm = g.post.comm; k = number_in entered; taken = false } ∷ []
   asked_own q is = updated_same old.asked g.post.process q (old.asked g.post.process ++ record { comm = g.post.comm; k = number_in entered; taken = false } ∷ []) is
 
   asked_other : (q : ℕ) → q ≢ g.post.process → with_request old.asked g.post.process g.post.comm (number_in entered) q ≡ old.asked q
   asked_other q apart = updated_other old.asked g.post.process q (old.asked g.post.process ++ record { comm = g.post.comm; k = number_in entered; taken = false } ∷ []) apart
 
-  requests_now : (q : ℕ) → map instance_of (with_request old.asked g.post.process g.post.comm (number_in entered) q) ≡ requests q (posts_in (with_given m g))
+  requests_now : (q : ℕ) → map instance_of (with_request old.asked g.post.process g.post.comm (number_in entered) q) ≡ requests q (posts_in (with_contribution m g))
   requests_now q = ⊎_elim
       (λ is. ap (map instance_of) (asked_own q is)
       ∙ (map_more (old.asked g.post.process) (record { comm = g.post.comm; k = number_in entered; taken = false })
@@ -113,11 +112,11 @@ module _ (old new : Shown) (m : Made) (g : Given Contents) (entered : Entered Co
       (λ apart. ap (λ l. taken_at l r) (asked_other q apart) ∙ stands.taken q r)
       (same_or_not q g.post.process)
 
-  pub stands_recorded : StandsBy new (with_given m g)
+  pub stands_recorded : StandsForEffects new (with_contribution m g)
   stands_recorded = record {
-    course = subst (λ (w : ChineseWall). CourseStandsFor w new.course (g ∷ m.givens)) (sym recorded.policy) course;
+    post_state = subst (λ (w : ChineseWall). StandsForPosts w new.post_state (g ∷ m.contributions)) (sym recorded.policy) post_state;
     requests = λ q. ap (λ (f : ℕ → List Request). map instance_of (f q)) recorded.asked ∙ requests_now q;
     taken = λ q r. ap (λ (f : ℕ → List Request). taken_at (f q) r) recorded.asked ∙ taken_now q r;
-    settled = λ c j. settled_by old.policy m g counts old.settled new.settled entered tells stands.settled recorded.settled c j ∙ ap (λ (w : ChineseWall). settled_in w (with_given m g) c j) (sym recorded.policy);
+    settled = λ c j. settled_by old.policy m g counts old.settled new.settled entered tells stands.settled recorded.settled c j ∙ ap (λ (w : ChineseWall). settlement_in w (with_contribution m g) c j) (sym recorded.policy);
     book = recorded.book ∙ (ap (λ es. es ++ entries_of g.post.process g.post.comm g.post.stated entered) stands.book ∙ (booked old.policy m g counts entered tells ∙ ap (λ (w : ChineseWall). book w (g.post ∷ posts_in m)) (sym recorded.policy)));
   }

@@ -7,11 +7,11 @@ use Rattle.std.proofs.lemmas.Bool.{cases_Bool, cond-true, cond-false, false≢tr
 use Rattle.std.proofs.lemmas.Option.{slice_get-map}
 use Rattle.std.proofs.lemmas.List.Sums.{sum_by-append}
 use Rattle.mpi_cart.specs.Grids.{below}
-use Rattle.hall_runs.specs.Runs.{Made, requests}
-use Rattle.hall_runs.specs.Replies.{posts_in, open_requests, is_over, too_many}
+use Rattle.run_model.specs.Runs.{Effects, requests}
+use Rattle.run_model.specs.Replies.{posts_in, open_requests, is_limit_reached, too_many}
 use Rattle.hall_core.specs.declared.requests.Request.{Request}
 use Rattle.hall_core.specs.Asking.{is_open, opened, closed, IsOpen, updated}
-use Rattle.hall_core.specs.Halls.{Shown, StandsBy, instance_of, taken_at}
+use Rattle.hall_core.specs.Halls.{HallView, StandsForEffects, instance_of, taken_at}
 use Rattle.hall_core.proofs.SettlingLemmas.{set_there, set_apart}
 
 -- ## a request that is open
@@ -112,7 +112,7 @@ length_map : {X Y : Type 0} (f : X → Y) (xs : List X) → length (map f xs) �
 length_map f [] = refl
 length_map f (x ∷ xs) = ap suc (length_map f xs)
 
-module _ (hall : Shown) (m : Made) (stands : StandsBy hall m) (p : ℕ) where
+module _ (hall : HallView) (m : Effects) (stands : StandsForEffects hall m) (p : ℕ) where
   -- how many requests were given
   pub number_is : length (hall.asked p) ≡ length (requests p (posts_in m))
   number_is = sym (length_map instance_of (hall.asked p)) ∙ ap length (stands.requests p)
@@ -125,5 +125,5 @@ module _ (hall : Shown) (m : Made) (stands : StandsBy hall m) (p : ℕ) where
   waiting_is = sym (count_open (hall.asked p))
       ∙ ((λ i. count_by (λ r. not (stands.taken p r i)) (below (number_is i))))
 
-  pub over_is : is_over (count_by is_open (hall.asked p)) (length (hall.asked p)) ≡ too_many p m
-  over_is = λ i. is_over (waiting_is i) (number_is i)
+  pub over_is : is_limit_reached (count_by is_open (hall.asked p)) (length (hall.asked p)) ≡ too_many p m
+  over_is = λ i. is_limit_reached (waiting_is i) (number_is i)

@@ -2,13 +2,12 @@
 use Rattle.std.proofs.Common.{◌≡◌, List, [], ◌∷◌, ◌++◌, length, reverse, map, refl, ap, ◌∙◌, arith}
 use Rattle.std.proofs.lemmas.List.Elements.{All-tail}
 use Rattle.wall_policy.specs.Policy.{ChineseWall}
-use Rattle.hall_core.specs.Named.{HasKnownLabel, HaveKnownLabels}
+use Rattle.run_model.specs.Known.{HasKnownLabel, HaveKnownLabels}
 use Rattle.std.specs.List.{zip}
 use Rattle.std.proofs.lemmas.List.{reverse-append}
-use Rattle.hall_runs.specs.declared.call.Call.{Call}
-use Rattle.hall_runs.specs.declared.reply.Reply.{Reply}
-use Rattle.hall_runs.specs.Runs.{Entry}
-use Rattle.hall_core.specs.Halls.{entry, entry_of, run_of}
+use Rattle.run_model.specs.declared.call.Call.{Call}
+use Rattle.run_model.specs.declared.reply.Reply.{Reply}
+use Rattle.run_model.specs.Runs.{Entry, entry, run_of, entry_of}
 
 zipped : (calls : List Call) (replies : List Reply) (call : Call) (given : Reply) → length replies ≡ length calls → map entry_of (zip (calls ++ call ∷ []) (replies ++ given ∷ [])) ≡ map entry_of (zip calls replies) ++ entry call given ∷ []
 zipped [] [] call given e = refl

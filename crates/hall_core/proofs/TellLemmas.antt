@@ -11,18 +11,15 @@ use Rattle.wall_rules.specs.Histories.{History}
 use Rattle.wall_verdict.specs.declared.verdict.Verdict.{Verdict}
 use Rattle.wall_verdict.specs.declared.verdict.Verdict.TheVariants as verdicts
 use Rattle.wall_verdict.specs.Verdicts.{verdict}
-use Rattle.audit_book.specs.declared.outcome.Outcome.{Outcome}
-use Rattle.audit_book.specs.declared.outcome.Outcome.TheVariants.{Made as MadeComms, NoRoom}
-use Rattle.audit_book.specs.Comms.{Comm, new_comms, added}
-use Rattle.audit_book.specs.Posts.{Post, comms, outcome_of, made, by_verdict, labelled, histories, instance, kth_posts, is_full, roll_by}
-use Rattle.audit_book.proofs.PostLemmas.{filled_is}
-use Rattle.audit_book.proofs.TakenLemmas.{comms_stay, comm_stays}
-use Rattle.hall_runs.specs.Replies.{posts_in, comm_at}
-use Rattle.hall_runs.proofs.SettledLemmas.{IsSettled, settled_from, kth_later, comm_at_is}
-use Rattle.hall_runs.proofs.WholeLemmas.{granted_whole}
+use Rattle.run_model.specs.declared.outcome.Outcome.{Outcome}
+use Rattle.run_model.specs.declared.outcome.Outcome.TheVariants.{Made as MadeComms, NoRoom}
+use Rattle.run_model.specs.Comms.{Comm, new_comms, added}
+use Rattle.run_model.specs.Posts.{Post, comms, outcome_of, constructor_outcome, by_verdict, labelled, histories, instance, kth_posts, is_full, roll_by}
+use Rattle.run_model.proofs.RunModelLemmas.{filled_is, comms_stay, comm_stays, IsSettled, settled_from, kth_later, comm_at_is, granted_whole}
+use Rattle.run_model.specs.Replies.{posts_in, comm_at}
 use Rattle.hall_core.specs.declared.settled.Settlement.{Settlement}
-use Rattle.hall_core.specs.Halls.{Shown}
-use Rattle.hall_core.specs.Kept.{IsHall}
+use Rattle.hall_core.specs.Halls.{HallView}
+use Rattle.hall_core.specs.Invariant.{IsHallView}
 use Rattle.hall_core.specs.Moves.{IsTellable, row_at}
 use Rattle.hall_core.proofs.LookLemmas.{row_between}
 use Rattle.hall_core.proofs.TakeLemmas.{known_as}
@@ -34,7 +31,7 @@ pub record IsMadeAt (before first number : ℕ) (new : List Comm) : Type 0 where
   pub start : first ≡ before
   pub long : number ≡ length new
 
-made_is : (before first number : ℕ) (new : List Comm) → made before new ≡ MadeComms first number → IsMadeAt before first number new
+made_is : (before first number : ℕ) (new : List Comm) → constructor_outcome before new ≡ MadeComms first number → IsMadeAt before first number new
 made_is before first number new e = go (fits before (length new)) refl e
   where
     go : (b : Bool) → fits before (length new) ≡ b → cond b (MadeComms before (length new)) NoRoom ≡ MadeComms first number → IsMadeAt before first number new
@@ -48,7 +45,7 @@ not_made (verdicts.Denied rule p label) first number e = absurd (cc)
 outcome_made : (wall : ChineseWall) (has : History) (before first number : ℕ) (roll : Roll) → outcome_of wall has before roll ≡ MadeComms first number → IsMadeAt before first number (new_comms roll)
 outcome_made wall has before first number roll e = go (is_constructor roll.sig) e
   where
-    go : (b : Bool) → cond b (made before (new_comms roll)) (by_verdict (verdict wall has roll)) ≡ MadeComms first number → IsMadeAt before first number (new_comms roll)
+    go : (b : Bool) → cond b (constructor_outcome before (new_comms roll)) (by_verdict (verdict wall has roll)) ≡ MadeComms first number → IsMadeAt before first number (new_comms roll)
     go true e = made_is before first number (new_comms roll) e
     go false e = absurd (not_made (verdict wall has roll) first number e)
 
@@ -68,13 +65,13 @@ made_there wall posts c k first number h =
     let told : outcome_of wall (labelled (histories wall h.before) h.x) (length (comms wall h.before)) h.roll ≡ MadeComms first number =
     (let both : Some (outcome_of wall (labelled (histories wall h.before) h.x) (length (comms wall h.before)) h.roll) ≡ Some (MadeComms first number) =
     sym (ap (λ (o : Option Roll). option_map (outcome_of wall (labelled (histories wall h.before) h.x) (length (comms wall h.before))) o) h.fills) ∙ h.came in cc) in
-    let made = outcome_made wall (labelled (histories wall h.before) h.x) (length (comms wall h.before)) first number h.roll told in
+    let constructor_outcome = outcome_made wall (labelled (histories wall h.before) h.x) (length (comms wall h.before)) first number h.roll told in
     let grown : comms wall (h.x ∷ h.before) ≡ comms wall h.before ++ new_comms h.roll =
     ap (λ (o : Option Roll). comms wall h.before ++ added (length (comms wall h.before)) o) h.fills
-    ∙ ap (λ (b : Bool). comms wall h.before ++ cond b (new_comms h.roll) []) made.fit in
+    ∙ ap (λ (b : Bool). comms wall h.before ++ cond b (new_comms h.roll) []) constructor_outcome.fit in
     let stay = comms_stay wall h.moment.0 (h.x ∷ h.before) in
     there_by (comms wall h.before) (new_comms h.roll) stay.0 (comms wall posts) first number
-    (ap (λ ps. comms wall ps) (sym h.moment.1) ∙ (stay.1 ∙ ap (λ ts. ts ++ stay.0) grown)) made.start made.long
+    (ap (λ ps. comms wall ps) (sym h.moment.1) ∙ (stay.1 ∙ ap (λ ts. ts ++ stay.0) grown)) constructor_outcome.start constructor_outcome.long
 
 -- the instance that was filled then is the one that a take looks at
 roll_now : (wall : ChineseWall) (posts : List Post) (c k : ℕ) (o : Outcome) (h : IsSettled wall c k posts o) → instance (comm_at wall posts c) c k posts ≡ h.roll
@@ -89,18 +86,18 @@ roll_now wall posts c k o h =
 
 -- ## what a hall may tell
 
-pub tellable : (hall : Shown) → IsPolicy hall.policy → IsHall hall → (c k : ℕ) (s : Settlement) → hall.settled c k ≡ Some s → IsTellable hall.course.comms s
+pub tellable : (hall : HallView) → IsPolicy hall.policy → IsHallView hall → (c k : ℕ) (s : Settlement) → hall.settled c k ≡ Some s → IsTellable hall.post_state.comms s
 tellable hall policy is c k s e =
-    let known = known_as hall is.made is.stands c k s e in
+    let known = known_as hall is.effects is.stands c k s e in
     let proper = is.is_made.proper in
-    let row : (first number : ℕ) → s.outcome ≡ MadeComms first number → AreThere hall.course.comms first number (new_comms s.full.roll) =
+    let row : (first number : ℕ) → s.outcome ≡ MadeComms first number → AreThere hall.post_state.comms first number (new_comms s.full.roll) =
     (λ first number o.
-    let h = settled_from hall.policy c k (posts_in is.made) (MadeComms first number) (known.came ∙ ap (λ x. Some x) o) in
-    let roll : h.roll ≡ s.full.roll = sym (roll_now hall.policy (posts_in is.made) c k (MadeComms first number) h) ∙ ap (λ (f : Full Contents). f.roll) known.full in
-    subst (λ (r : Roll). AreThere hall.course.comms first number (new_comms r)) roll
-    (subst (λ (t : List Comm). AreThere t first number (new_comms h.roll)) (sym is.stands.course.comms) (made_there hall.policy (posts_in is.made) c k first number h))) in
+    let h = settled_from hall.policy c k (posts_in is.effects) (MadeComms first number) (known.came ∙ ap (λ x. Some x) o) in
+    let roll : h.roll ≡ s.full.roll = sym (roll_now hall.policy (posts_in is.effects) c k (MadeComms first number) h) ∙ ap (λ (f : Full Contents). f.roll) known.full in
+    subst (λ (r : Roll). AreThere hall.post_state.comms first number (new_comms r)) roll
+    (subst (λ (t : List Comm). AreThere t first number (new_comms h.roll)) (sym is.stands.post_state.comms) (made_there hall.policy (posts_in is.effects) c k first number h))) in
     record {
-      whole = λ granted. subst IsWhole known.full (granted_whole hall.policy is.made.givens c k policy proper.posts proper.parts (known.came ∙ ap (λ x. Some x) granted));
+      whole = λ granted. subst IsWhole known.full (granted_whole hall.policy is.effects.contributions c k policy proper.posts proper.parts (known.came ∙ ap (λ x. Some x) granted));
       within = λ first number o. (row first number o).within;
       made = λ first number o. (row first number o).row;
     }

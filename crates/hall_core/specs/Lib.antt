@@ -1,6 +1,8 @@
 pub mod Asking
+pub mod Claims
 pub mod Halls
-pub mod Kept
+pub mod Invariant
 pub mod Moves
-pub mod Named
 pub mod Settling
+pub mod Sharing
+pub mod Worlds

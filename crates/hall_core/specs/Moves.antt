@@ -3,35 +3,35 @@ use Rattle.std.specs.Prelude.{◌≡◌, ◌==◌, ◌&&◌, ◌+◌, ◌≤◌,
 use Rattle.mpi_elems.specs.Contents.{Contents}
 use Rattle.coll_routes.specs.declared.statement.Stated.{Stated}
 use Rattle.coll_values.specs.Instances.{IsWhole}
-use Rattle.audit_book.specs.declared.outcome.Outcome.TheVariants.{Granted, Made}
-use Rattle.audit_book.specs.declared.entry.Entry.{Entry as BookEntry}
-use Rattle.audit_book.specs.declared.entry.Entry.TheVariants.{Posted as EntryPosted, Settled as EntrySettled}
-use Rattle.audit_book.specs.declared.refusal.Refusal.TheVariants.{NoSuchProcess}
-use Rattle.audit_book.specs.Comms.{Comm, processes, new_comms}
-use Rattle.audit_course.specs.declared.entered.Entered.{Entered}
-use Rattle.audit_course.specs.declared.entered.Entered.TheVariants.{Waiting, Settled}
-use Rattle.hall_runs.specs.declared.call.Act.{Act}
-use Rattle.hall_runs.specs.declared.reply.Reply.{Reply}
-use Rattle.hall_runs.specs.declared.reply.Reply.TheVariants.{Refused}
-use Rattle.hall_runs.specs.Runs.{after_entry, with_given, Made as WhatIsMade}
-use Rattle.hall_runs.specs.Replies.{info_on, reply_by, IsAnswer, posts_in}
+use Rattle.run_model.specs.declared.outcome.Outcome.TheVariants.{Granted, Made}
+use Rattle.run_model.specs.declared.entry.Entry.{Entry as BookEntry}
+use Rattle.run_model.specs.declared.entry.Entry.TheVariants.{Posted as EntryPosted, Settled as EntrySettled}
+use Rattle.run_model.specs.declared.refusal.Refusal.TheVariants.{NoSuchProcess}
+use Rattle.run_model.specs.Comms.{Comm, processes, new_comms}
+use Rattle.run_state.specs.declared.entered.Entered.{Entered}
+use Rattle.run_state.specs.declared.entered.Entered.TheVariants.{Waiting, Settled}
+use Rattle.run_model.specs.declared.call.Act.{Act}
+use Rattle.run_model.specs.declared.reply.Reply.{Reply}
+use Rattle.run_model.specs.declared.reply.Reply.TheVariants.{Refused}
+use Rattle.run_model.specs.Runs.{after_entry, with_contribution, Effects}
+use Rattle.run_model.specs.Replies.{info_on, reply_by, IsAnswer, posts_in}
 use Rattle.hall_core.specs.declared.settled.Settlement.{Settlement}
 use Rattle.hall_core.specs.Asking.{room_of, with_request, with_closed}
-use Rattle.hall_core.specs.Halls.{Shown, StandsBy, settlement}
-use Rattle.hall_runs.specs.Proper.{IsProper}
-use Rattle.audit_book.specs.Books.{IsTaken}
-use Rattle.audit_course.specs.Givens.{Given}
+use Rattle.hall_core.specs.Halls.{HallView, StandsForEffects, settlement}
+use Rattle.run_model.specs.Proper.{IsProper}
+use Rattle.run_model.specs.Books.{IsCounted}
+use Rattle.run_model.specs.Contributions.{Contribution}
 use Rattle.hall_core.specs.declared.records.Records.{Records}
 use Rattle.hall_core.specs.Settling.{HasPlace}
 
 -- ## infos
 
-abbrev pub info_of : Shown → (p c : ℕ) → Reply
-info_of hall p c = if nat_lt p (processes hall.policy) then info_on p (slice_get hall.course.comms c) else Refused NoSuchProcess
+abbrev pub info_of : HallView → (p c : ℕ) → Reply
+info_of hall p c = if nat_lt p (processes hall.policy) then info_on p (slice_get hall.post_state.comms c) else Refused NoSuchProcess
 
 -- ## posts
 
--- the number of the instance that a post came to
+-- the number of the instance that a post belongs to
 abbrev pub number_in : Entered Contents → ℕ
 number_in (Waiting k) = k
 number_in (Settled full k outcome) = k
@@ -46,8 +46,8 @@ abbrev pub IsSettledBy : (c : ℕ) → Entered Contents → (old new : (c k : �
 IsSettledBy c (Waiting k) old new = (d j : ℕ) → new d j ≡ old d j
 IsSettledBy c (Settled full k outcome) old new = (d j : ℕ) → new d j ≡ (if d == c && j == k then Some (settlement full outcome) else old d j)
 
--- a post that the course has entered has been recorded
-pub record IsRecorded (old new : Shown) (p c : ℕ) (stated : Stated) (entered : Entered Contents) : Type 0 where
+-- a post that the state has entered has been recorded
+pub record IsRecorded (old new : HallView) (p c : ℕ) (stated : Stated) (entered : Entered Contents) : Type 0 where
   pub policy : new.policy ≡ old.policy
   pub asked : new.asked ≡ with_request old.asked p c (number_in entered)
   pub settled : IsSettledBy c entered old.settled new.settled
@@ -60,13 +60,13 @@ pub record HasRoom (records : Records) (p c k : ℕ) : Type 0 where
   pub place : HasPlace records.settled c k
 
 -- a post with its part has been counted, whatever the hall stood for
-abbrev pub Counts : (old new : Shown) → Given Contents → Type 0
-Counts old new g = (m : WhatIsMade) → StandsBy old m → IsTaken old.policy g.post (posts_in m) → StandsBy new (with_given m g)
+abbrev pub Counts : (old new : HallView) → Contribution Contents → Type 0
+Counts old new g = (m : Effects) → StandsForEffects old m → IsCounted old.policy g.post (posts_in m) → StandsForEffects new (with_contribution m g)
 
 -- ## takes
 
 -- the request of p is marked as taken
-abbrev pub after_take : Shown → (p request : ℕ) → Shown
+abbrev pub after_take : HallView → (p request : ℕ) → HallView
 after_take hall p request = record hall { asked = with_closed hall.asked p request }
 
 -- the communicators of a table from this number on, so many
@@ -82,7 +82,7 @@ pub record IsTellable (table : List Comm) (s : Settlement) : Type 0 where
 
 -- ## calls
 
--- The reply is the one that is due, or want of memory in its place, and the hall then stands for what has been made with it, whatever it
+-- The reply is the one that is due, or out of memory in its place, and the hall then stands for what has been made with it, whatever it
 -- stood for.
-abbrev pub Steps : (old new : Shown) → (p : ℕ) → Act → Reply → Type 0
-Steps old new p act got = (m : WhatIsMade) → IsProper old.policy m → StandsBy old m → IsAnswer (reply_by old.policy m p act) got × StandsBy new (after_entry m (record { call = record { process = p; act = act }; reply = got }))
+abbrev pub Steps : (old new : HallView) → (p : ℕ) → Act → Reply → Type 0
+Steps old new p act got = (m : Effects) → IsProper old.policy m → StandsForEffects old m → IsAnswer (reply_by old.policy m p act) got × StandsForEffects new (after_entry m (record { call = record { process = p; act = act }; reply = got }))

@@ -4,12 +4,12 @@ use Rattle.std.specs.Option.{option_and_then}
 use Rattle.hall_core.specs.declared.settled.Settlement.{Settlement}
 
 -- the place of one instance in a row, if something stands there
-abbrev pub settled_in : List (Option Settlement) → (k : ℕ) → Option Settlement
-settled_in row k = option_and_then (λ place. place) (slice_get row k)
+abbrev pub settlement_in_row : List (Option Settlement) → (k : ℕ) → Option Settlement
+settlement_in_row row k = option_and_then (λ place. place) (slice_get row k)
 
--- what came of instance k of communicator c, if it was filled
-abbrev pub settled_at : List (List (Option Settlement)) → (c k : ℕ) → Option Settlement
-settled_at rows c k = option_and_then (λ row. settled_in row k) (slice_get rows c)
+-- the settlement of instance k of communicator c, if it was filled
+abbrev pub settlement_at : List (List (Option Settlement)) → (c k : ℕ) → Option Settlement
+settlement_at rows c k = option_and_then (λ row. settlement_in_row row k) (slice_get rows c)
 
 -- there is a place for instance k of communicator c
 pub record HasPlace (rows : List (List (Option Settlement))) (c k : ℕ) : Type 0 where
@@ -19,8 +19,8 @@ pub record HasPlace (rows : List (List (Option Settlement))) (c k : ℕ) : Type 
 
 -- two tables have the same settlements
 abbrev pub AreSame : (old new : List (List (Option Settlement))) → Type 0
-AreSame old new = (c k : ℕ) → settled_at new c k ≡ settled_at old c k
+AreSame old new = (c k : ℕ) → settlement_at new c k ≡ settlement_at old c k
 
 -- and one more
 abbrev pub HasOneMore : (old new : List (List (Option Settlement))) → (c k : ℕ) → Settlement → Type 0
-HasOneMore old new c k s = (d j : ℕ) → settled_at new d j ≡ (if d == c && j == k then Some s else settled_at old d j)
+HasOneMore old new c k s = (d j : ℕ) → settlement_at new d j ≡ (if d == c && j == k then Some s else settlement_at old d j)

@@ -1,9 +1,10 @@
 //! The hall: one call at a time.
 ghost use Rattle.std.specs.Prelude.{◌≡◌, List, [], ◌∷◌, All, IfOk};
 
+use crate::claims::Claim;
 use crate::records::Records;
-use audit_book::Book;
-use hall_runs::{Call, Reply};
+use run_model::{Call, Reply};
+use run_state::Book;
 use std::alloc::Global;
 use std::marker::Model;
 use wall_labels::NoMemory;
@@ -20,27 +21,29 @@ pub struct Hall {
 impl Model for Hall {
     ghost use Rattle.std.specs.Coded.{codes};
     ghost use Rattle.wall_rules.specs.Histories.{accesses_code};
-    ghost use Rattle.hall_core.specs.Halls.{Kept};
-    ghost use Rattle.hall_core.specs.Kept.{IsKept, kept_in};
+    ghost use Rattle.hall_core.specs.Halls.{HallValue};
+    ghost use Rattle.hall_core.specs.Invariant.{IsHallValue, value_in};
 
-    ghost Value = { Kept };
+    ghost Value = { HallValue };
 
     ghost coded = { Prim.hlevel (codes, accesses_code) };
 
-    ghost view = { λ h. kept_in h.records };
+    ghost view = { λ h. value_in h.records };
 
-    ghost invariant = { λ h. IsKept (kept_in h.records) };
+    ghost invariant = { λ h. IsHallValue (value_in h.records) };
 }
 
 impl Hall {
     ghost use Rattle.wall_rules.specs.Histories.{has, NobodyHoldsRivals};
-    ghost use Rattle.audit_book.specs.Posts.{histories};
-    ghost use Rattle.audit_book.specs.Books.{book, IsSound};
-    ghost use Rattle.audit_book.specs.Laws.{IsWhatIsHeld, NobodyHoldsBoth};
-    ghost use Rattle.hall_runs.specs.Runs.{Entry, posts};
-    ghost use Rattle.hall_runs.specs.Replies.{Legal};
-    ghost use Rattle.hall_core.specs.Halls.{StandsFor, shown, entry, IsQuiet};
-    ghost use Rattle.hall_core.specs.Named.{HasKnownLabel, IsNamed, IsNamedEntry};
+    ghost use Rattle.run_model.specs.Posts.{histories};
+    ghost use Rattle.run_model.specs.Comms.{processes};
+    ghost use Rattle.run_model.specs.Books.{book, posts_in, IsSound};
+    ghost use Rattle.run_model.specs.PostLaws.{IsWhatIsHeld, NobodyHoldsBoth};
+    ghost use Rattle.run_model.specs.Runs.{Entry, posts, effects, entry, MakesNothing};
+    ghost use Rattle.run_model.specs.Replies.{Legal};
+    ghost use Rattle.hall_core.specs.Halls.{StandsFor, view_of};
+    ghost use Rattle.hall_core.specs.Claims.{claim_reply, claim_entry, Claims, CanFinish};
+    ghost use Rattle.run_model.specs.Known.{HasKnownLabel, IsKnownReply, IsKnownEntry};
 
     /// A hall that stands for the empty run. `NoMemory` is answered only where a growth was refused.
     pub fn open(alloc: Global, policy: Policy) -> Result<Hall, NoMemory>
@@ -64,11 +67,33 @@ impl Hall {
             Legal self.new.policy (entry call result ∷ run) × StandsFor self.new (entry call result ∷ run) }
         ensures apart { (run : List Entry) → Legal self.old.policy run → StandsFor self.old run →
             NobodyHoldsBoth self.new.policy (posts (entry call result ∷ run)) }
-        ensures unchanged { IsQuiet result → shown self.new ≡ shown self.old }
-        ensures named { IsNamed self.new.policy result }
+        ensures unchanged { MakesNothing result → view_of self.new ≡ view_of self.old }
+        ensures named { IsKnownReply self.new.policy result }
     {
         let Call { process, act } = call;
         self.records.step(process, act)
+    }
+
+    /// All of a take that needs the hall, the mark as taken included; `finish` gives its reply.
+    ///
+    /// It is ready exactly where that reply is `Delivered`. Then it holds the instance as the run
+    /// has it, which never changes again, the caller's rank in it, and room for what that rank
+    /// gets, with no block filled. A claim that found no memory is `Refused(NoMemory)`, and the
+    /// request stays.
+    pub fn claim(&mut self, process: u32, request: u64) -> Claim
+        ensures policy { self.new.policy ≡ self.old.policy }
+        ensures runs { (run : List Entry) → Legal self.old.policy run → StandsFor self.old run →
+            Legal self.new.policy (claim_entry process request result ∷ run)
+            × StandsFor self.new (claim_entry process request result ∷ run) }
+        ensures apart { (run : List Entry) → Legal self.old.policy run → StandsFor self.old run →
+            NobodyHoldsBoth self.new.policy (posts (claim_entry process request result ∷ run)) }
+        ensures claims { (run : List Entry) → Legal self.old.policy run → StandsFor self.old run →
+            Claims self.old.policy (effects run) process request result }
+        ensures can { CanFinish result }
+        ensures unchanged { MakesNothing (claim_reply result) → view_of self.new ≡ view_of self.old }
+        ensures named { IsKnownReply self.new.policy (claim_reply result) }
+    {
+        self.records.claim(process, request)
     }
 
     /// The policy that the hall was opened with.
@@ -78,22 +103,30 @@ impl Hall {
         &self.records.policy
     }
 
-    /// Who has had access to what: the histories of the run, in which nobody has two rivals. A process has had access to exactly what it
-    /// holds, directly or through others.
+    /// Who has had access to what: the histories of the run, in which nobody has two rivals. A
+    /// process has had access to exactly what it holds, directly or through others. They are those
+    /// of the posts in the book, and have the processes and the classes of the policy.
     pub fn histories(&self) -> &Histories
-        ensures runs { (run : List Entry) → StandsFor self.now run → has result.now ≡ histories self.now.policy (posts run) }
+        ensures runs { (run : List Entry) → StandsFor self.now run →
+            has result.now ≡ histories self.now.policy (posts run) }
+        ensures book { has result.now
+            ≡ histories self.now.policy (posts_in (view_of self.now).book) }
+        ensures processes { result.now.processes ≡ processes self.now.policy }
+        ensures classes { result.now.classes ≡ self.now.policy.classes }
         ensures apart { NobodyHoldsRivals self.now.policy.classes (has result.now) }
         ensures flow { (run : List Entry) → Legal self.now.policy run → StandsFor self.now run →
             IsWhatIsHeld self.now.policy (posts run) (has result.now) }
     {
-        self.records.course.histories()
+        self.records.post_state.histories()
     }
 
     /// The audit book of the run, which is sound.
     pub fn book(&self) -> &Book
-        ensures runs { (run : List Entry) → StandsFor self.now run → result.now.list ≡ book self.now.policy (posts run) }
+        ensures value { result.now.list ≡ (view_of self.now).book }
+        ensures runs { (run : List Entry) → StandsFor self.now run →
+            result.now.list ≡ book self.now.policy (posts run) }
         ensures sound { IsSound self.now.policy result.now.list }
-        ensures named { All (IsNamedEntry self.now.policy) result.now.list }
+        ensures named { All (IsKnownEntry self.now.policy) result.now.list }
     {
         &self.records.book
     }

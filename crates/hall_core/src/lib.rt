@@ -1,7 +1,9 @@
 //! The hall: what the server keeps, and its answers to calls.
 #![tactic(auto)]
 
+mod claims;
 mod hall;
+mod instance;
 mod posts;
 mod records;
 mod requests;
@@ -10,8 +12,15 @@ mod settled;
 mod takes;
 #[cfg(test)]
 mod tests;
+mod worlds;
+#[cfg(test)]
+mod worlds_tests;
 
+pub use claims::{Claim, finish};
 pub use hall::Hall;
-pub use hall_runs::{Act, Block, Call, Delivery, Integers, Posting, Refusal, Reply, Rule};
+pub use run_model::{
+    Act, Acts, Block, Call, Delivery, Integers, Posting, Refusal, Reply, Rule, Scripts,
+};
 pub use runs::{Calls, Replies, run_calls};
 pub use wall_labels::NoMemory;
+pub use worlds::{TwoRuns, run_two};

@@ -1,14 +1,13 @@
 //! What a posting states and gives.
 ghost use Rattle.std.specs.Prelude.{◌≡◌, ◌<◌, IsTrue, IsFalse};
-ghost use Rattle.audit_book.specs.declared.refusal.Refusal.TheVariants.{NoMemory};
-ghost use Rattle.audit_book.specs.Comms.{processes};
-ghost use Rattle.hall_runs.specs.declared.reply.Reply.TheVariants.{Refused};
-ghost use Rattle.hall_runs.specs.Replies.{accepted};
-ghost use Rattle.hall_runs.specs.Runs.{given_in, label_in, kept_if};
+ghost use Rattle.run_model.specs.declared.refusal.Refusal.TheVariants.{NoMemory};
+ghost use Rattle.run_model.specs.Comms.{processes};
+ghost use Rattle.run_model.specs.declared.reply.Reply.TheVariants.{Refused};
+ghost use Rattle.run_model.specs.Replies.{accepted};
+ghost use Rattle.run_model.specs.Runs.{given_in, label_in, kept_if};
 
-use audit_book::Refusal;
-use hall_runs::{Posting, Reply};
 use mpi_elems::Buffer;
+use run_model::{Posting, Refusal, Reply};
 use std::alloc::Global;
 use wall_labels::{Label, ProcessId};
 use wall_policy::Policy;

@@ -1,10 +1,10 @@
 //! Requests.
 ghost use Rattle.std.specs.Prelude.{◌≡◌, ◌<◌, [], ◌∷◌, ◌++◌, length, slice_get, ◌^◌, false, count_by, IfOk, IfNone, OnOk, IsSome, IsFalse, Some, None, if◌then◌else◌};
-ghost use Rattle.audit_book.specs.declared.refusal.Refusal.TheVariants.{TooManyRequests};
-ghost use Rattle.hall_runs.specs.Replies.{is_over as is_over_test};
+ghost use Rattle.run_model.specs.declared.refusal.Refusal.TheVariants.{TooManyRequests};
+ghost use Rattle.run_model.specs.Replies.{is_limit_reached as is_over_test};
 ghost use Rattle.hall_core.specs.Asking.{is_open, opened, closed_at, IsOpen, requests_of, room_of, with_request, with_closed};
 
-use audit_book::Refusal;
+use run_model::Refusal;
 use std::alloc::{AllocError, Global};
 use std::marker::Model;
 

@@ -1,11 +1,11 @@
 //! Whole runs.
 ghost use Rattle.std.specs.Prelude.{◌≡◌, length, IfOk};
-ghost use Rattle.hall_runs.specs.Replies.{Legal};
-ghost use Rattle.hall_core.specs.Halls.{run_of};
-ghost use Rattle.hall_core.specs.Named.{HaveKnownLabels};
+ghost use Rattle.run_model.specs.Replies.{Legal};
+ghost use Rattle.run_model.specs.Runs.{run_of};
+ghost use Rattle.run_model.specs.Known.{HaveKnownLabels};
 
 use crate::hall::Hall;
-use hall_runs::{Call, Reply};
+use run_model::{Call, Reply};
 use std::alloc::Global;
 use std::marker::Model;
 use wall_labels::NoMemory;
@@ -19,7 +19,7 @@ pub struct Calls {
 
 impl Model for Calls {
     ghost use Rattle.std.specs.Prelude.{List};
-    ghost use Rattle.hall_runs.specs.declared.call.Call.{Call};
+    ghost use Rattle.run_model.specs.declared.call.Call.{Call};
 
     ghost Value = { List Call };
 
@@ -42,7 +42,7 @@ pub struct Replies {
 
 impl Model for Replies {
     ghost use Rattle.std.specs.Prelude.{List};
-    ghost use Rattle.hall_runs.specs.declared.reply.Reply.{Reply};
+    ghost use Rattle.run_model.specs.declared.reply.Reply.{Reply};
 
     ghost Value = { List Reply };
 
@@ -60,7 +60,7 @@ impl Replies {
 
 /// Applies the calls in order to a hall that was opened for them, and gives one reply for each, in order.
 ///
-/// `NoMemory` is answered where the hall could not be opened or the list of replies could not grow; a call's own want of memory is its reply.
+/// `NoMemory` is answered where the hall could not be opened or the list of replies could not grow; a call's own out of memory is its reply.
 pub fn run_calls(alloc: Global, policy: Policy, calls: Calls) -> Result<Replies, NoMemory>
     requires { HaveKnownLabels policy calls }
     ensures run { IfOk result (λ replies. Legal policy (run_of calls replies)) }

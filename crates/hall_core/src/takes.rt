@@ -1,68 +1,84 @@
-//! What is told of instances that were filled.
+//! What claims on instances that were filled come to.
 ghost use Rattle.std.specs.Prelude.{◌≡◌, ◌≢◌, ◌≤◌, ◌+◌, length, slice_get, IfOk, IsErr, Some, None};
 ghost use Rattle.coll_values.specs.Instances.{IsWhole};
 ghost use Rattle.mpi_group.specs.Groups.{rank_in};
-ghost use Rattle.audit_book.specs.declared.outcome.Outcome.TheVariants.{Granted, Made};
-ghost use Rattle.hall_runs.specs.Replies.{joined, reply_by_outcome};
+ghost use Rattle.run_model.specs.declared.outcome.Outcome.TheVariants.{Granted, Made};
+ghost use Rattle.run_model.specs.Replies.{joined, reply_by_outcome};
+ghost use Rattle.hall_core.specs.Claims.{claim_reply, CanFinish, IsNoDelivery, IsClaimOn};
 ghost use Rattle.hall_core.specs.Moves.{IsTellable, row_at};
 
+use crate::claims::Claim;
 use crate::settled::Settlement;
-use audit_book::Outcome;
-use audit_course::Course;
-use coll_values::deliver;
-use hall_runs::Reply;
+use coll_values::room;
 use mpi_elems::Buffer;
+use run_model::{Outcome, Reply};
+use run_state::PostState;
 use std::alloc::Global;
 use wall_labels::{NoMemory, ProcessId};
 
-/// What a member is told of an instance that was filled. `NoMemory` only for a delivery.
-pub fn told(
+/// What a claim of a member comes to, on an instance that was filled. `NoMemory` only for a
+/// delivery.
+pub fn claimed(
     alloc: Global,
-    course: &Course<Buffer>,
+    post_state: &PostState<Buffer>,
     member: ProcessId,
     settlement: &Settlement,
-) -> Result<Reply, NoMemory>
-    requires tellable { IsTellable course.now.comms settlement.now }
+) -> Result<Claim, NoMemory>
+    requires tellable { IsTellable post_state.now.comms settlement.now }
     requires member { rank_in settlement.now.full.roll.members member ≢ None }
-    ensures told { IfOk result (λ reply. reply ≡ reply_by_outcome member settlement.now.full (Some settlement.now.outcome)) }
+    ensures told { IfOk result (λ claim.
+        claim_reply claim
+        ≡ reply_by_outcome member settlement.now.full (Some settlement.now.outcome)) }
+    ensures can { IfOk result CanFinish }
+    ensures of { IfOk result (IsClaimOn settlement.now member) }
     ensures memory { IsErr result → settlement.now.outcome ≡ Granted }
 {
     match &settlement.outcome {
-        Outcome::Granted => delivered(alloc, settlement, member),
+        Outcome::Granted => ready(alloc, settlement, member),
         Outcome::Denied {
             rule,
             process,
             label,
-        } => Ok(Reply::Denied {
+        } => Ok(Claim::Done(Reply::Denied {
             rule: *rule,
             process: *process,
             label: *label,
-        }),
-        Outcome::Made { first, number } => Ok(joined(course, member, *first, *number)),
-        Outcome::NoRoom => Ok(Reply::NoRoom),
+        })),
+        Outcome::Made { first, number } => Ok(Claim::Done(joined(
+            post_state, member, *first, *number,
+        ))),
+        Outcome::NoRoom => Ok(Claim::Done(Reply::NoRoom)),
     }
 }
 
-fn delivered(alloc: Global, settlement: &Settlement, member: ProcessId) -> Result<Reply, NoMemory>
+// A share of an instance that was granted, and room for what the member gets.
+fn ready(alloc: Global, settlement: &Settlement, member: ProcessId) -> Result<Claim, NoMemory>
     requires whole { IsWhole settlement.now.full }
+    requires granted { settlement.now.outcome ≡ Granted }
     requires member { rank_in settlement.now.full.roll.members member ≢ None }
-    ensures { IfOk result (λ reply. reply ≡ reply_by_outcome member settlement.now.full (Some Granted)) }
+    ensures told { IfOk result (λ claim.
+        claim_reply claim ≡ reply_by_outcome member settlement.now.full (Some Granted)) }
+    ensures can { IfOk result CanFinish }
+    ensures of { IfOk result (IsClaimOn settlement.now member) }
 {
-    let Some(rank) = settlement.full.roll.members.rank_of(member) else {
+    let full = settlement.full.share()?;
+    let Some(rank) = full.roll.members.rank_of(member) else {
         unreachable!()
     };
-    Ok(Reply::Delivered(deliver(alloc, &settlement.full, rank)?))
+    let room = room(alloc, &full, rank)?;
+    Ok(Claim::Ready { full, rank, room })
 }
 
 // The new communicator that the process is in, of so many from this number on.
-fn joined(course: &Course<Buffer>, member: ProcessId, first: u32, number: u32) -> Reply
-    requires { first + number ≤ length course.now.comms }
-    ensures { result ≡ joined member first (row_at course.now.comms first number) }
+fn joined(post_state: &PostState<Buffer>, member: ProcessId, first: u32, number: u32) -> Reply
+    requires { first + number ≤ length post_state.now.comms }
+    ensures told { result ≡ joined member first (row_at post_state.now.comms first number) }
+    ensures no_delivery { IsNoDelivery result }
 {
-    let _ = course.len();
+    let _ = post_state.len();
     let end = first + number;
     for comm in first..end {
-        let group = course.group(comm);
+        let group = post_state.group(comm);
         match group.rank_of(member) {
             Some(rank) => {
                 return Reply::NewComm {

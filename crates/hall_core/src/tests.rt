@@ -1,10 +1,12 @@
 //! Worked lists of calls with their replies. Alpha and beta are rivals, crude and delta too.
 ghost use Rattle.std.specs.Prelude.{◌≡◌, IfOk, List};
 ghost use Rattle.wall_policy.specs.Policy.{ChineseWall};
-ghost use Rattle.hall_core.specs.Named.{IsKnownLabel, HasKnownLabel, HaveKnownLabels};
+ghost use Rattle.run_model.specs.Known.{IsKnownLabel, HasKnownLabel, HaveKnownLabels};
 
-use crate::{Act, Block, Call, Calls, Delivery, Hall, Posting, Replies, Reply, run_calls};
-use coll_routes::{Own, Signature};
+use crate::{
+    Act, Block, Call, Calls, Claim, Delivery, Hall, Posting, Replies, Reply, finish, run_calls,
+};
+use coll_routes::{Numbers, Own, Signature};
 use mpi_elems::{Buffer, ElemType};
 use std::alloc::{AllocError, Global};
 use std::process::Abort;
@@ -13,7 +15,7 @@ use wall_labels::{DatasetId, Label, Op, ProcessId};
 use wall_policy::{Policy, read_policy};
 
 /// Four processes: a0 at home with alpha, b0 with beta, c0 with crude, n0 nowhere. Sums of three and more are sanitised.
-const RIVALS: &str =
+pub(crate) const RIVALS: &str =
     "version = 1\n[[class]]\nname = \"banks\"\ndatasets = [\"alpha\", \"beta\"]\n[[class]]\nname = \"oil\"\ndatasets = [\"crude\", \"delta\"]\n[[process]]\nname = \"a0\"\nhome = \"alpha\"\n[[process]]\nname = \"b0\"\nhome = \"beta\"\n[[process]]\nname = \"c0\"\nhome = \"crude\"\n[[process]]\nname = \"n0\"\n[[sanitise]]\nop = \"sum\"\nleast = 3\n";
 
 /// Four processes, all at home with alpha.
@@ -21,20 +23,24 @@ const FRIENDS: &str =
     "version = 1\n[[class]]\nname = \"banks\"\ndatasets = [\"alpha\", \"beta\"]\n[[process]]\nname = \"p0\"\nhome = \"alpha\"\n[[process]]\nname = \"p1\"\nhome = \"alpha\"\n[[process]]\nname = \"p2\"\nhome = \"alpha\"\n[[process]]\nname = \"p3\"\nhome = \"alpha\"\n";
 
 /// What a process does: a broadcast on a communicator from a root of so many numbers, with its own under a label; a sum over all, of its own
-/// numbers under a label; a split of the world, by colour and key; a take; an info.
+/// numbers under a label; a split of the world, by colour and key; a gather of one number each; a take; an info. Or a group of
+/// these ranks of the world is created; or all gather one number of each, on a communicator.
 #[derive(Clone, Copy)]
-enum Doing {
+pub(crate) enum Doing {
+    Group(&'static [u32]),
+    Share(u32, &'static str, &'static [i128]),
     Cast(u32, u32, u32, &'static str, &'static [i128]),
     Sum(&'static str, &'static [i128]),
     Part(Option<i32>, i32),
+    Gather(u32, u32, &'static str, &'static [i128]),
     Take(u64),
     Info(u32),
 }
 
-use Doing::{Cast, Info, Part, Sum, Take};
+use Doing::{Cast, Gather, Group, Info, Part, Share, Sum, Take};
 
 /// A process, what it does, and the reply.
-type Line = (u32, Doing, &'static str);
+pub(crate) type Line = (u32, Doing, &'static str);
 
 /// A bank's numbers reach nobody, since its rival would get them too.
 fn denied_to_all() -> [Line; 9] {
@@ -174,6 +180,18 @@ fn act(alloc: Global, doing: Doing, label: Label) -> Result<Act, Fail>
             };
             posted(alloc, 0, sig, Own::Plain, label, numbers)
         }
+        Group(ranks) => {
+            let ranks = Numbers::from(ranks.to_vec(alloc)?);
+            let sig = Signature::Create { ranks };
+            posted(alloc, 0, sig, Own::Plain, label, &[])
+        }
+        Share(comm, _, numbers) => {
+            let sig = Signature::Allgather {
+                elem_type,
+                count: 1,
+            };
+            posted(alloc, comm, sig, Own::Plain, label, numbers)
+        }
         Part(colour, key) => posted(
             alloc,
             0,
@@ -182,6 +200,14 @@ fn act(alloc: Global, doing: Doing, label: Label) -> Result<Act, Fail>
             label,
             &[],
         ),
+        Gather(comm, root, _, numbers) => {
+            let sig = Signature::Gather {
+                root,
+                elem_type,
+                count: 1,
+            };
+            posted(alloc, comm, sig, Own::Plain, label, numbers)
+        }
         Take(request) => Ok(Act::Take(request)),
         Info(comm) => Ok(Act::Info(comm)),
     }
@@ -191,6 +217,8 @@ fn label_name(doing: &Doing) -> &'static str {
     match doing {
         Cast(_, _, _, name, _) => *name,
         Sum(name, _) => *name,
+        Share(_, name, _) => *name,
+        Gather(_, _, name, _) => *name,
         _ => "public",
     }
 }
@@ -267,7 +295,7 @@ fn reply_text(alloc: Global, reply: &Reply) -> Result<String, AllocError> {
     }
 }
 
-fn calls(alloc: Global, policy: &Policy, lines: &[Line]) -> Result<Vec<Call>, Fail>
+pub(crate) fn calls(alloc: Global, policy: &Policy, lines: &[Line]) -> Result<Vec<Call>, Fail>
     ensures { IfOk result (λ v. HaveKnownLabels policy.now v.items) }
 {
     let mut calls = Vec::new(alloc);
@@ -288,14 +316,22 @@ fn replies(alloc: Global, policy: &str, lines: &[Line]) -> Result<Replies, Fail>
     Ok(run_calls(alloc, policy, Calls::from(calls))?)
 }
 
-fn run(rt: &(impl Abort + AllocGlobal), policy: &str, lines: &[Line]) -> Result<(), Fail> {
+pub(crate) fn told(
+    rt: &(impl Abort + AllocGlobal),
+    lines: &[Line],
+    replies: &Replies,
+) -> Result<(), Fail> {
     let alloc = rt.alloc();
-    let replies = replies(alloc, policy, lines)?;
     assert_eq!(rt; replies.as_slice().len(), lines.len());
     for (line, reply) in lines.iter().zip(replies.as_slice()) {
         assert!(rt; is_told(alloc, reply, line.2)?);
     }
     Ok(())
+}
+
+fn run(rt: &(impl Abort + AllocGlobal), policy: &str, lines: &[Line]) -> Result<(), Fail> {
+    let replies = replies(rt.alloc(), policy, lines)?;
+    told(rt, lines, &replies)
 }
 
 #[test]
@@ -368,5 +404,124 @@ fn takes_256_requests(alloc: Global, hall: &mut Hall) -> Result<bool, Fail> {
 fn no_more_than_256_requests_wait(rt: HostRuntime) -> Result<(), Fail> {
     let mut hall = opened(rt.alloc(), FRIENDS)?;
     assert!(rt; takes_256_requests(rt.alloc(), &mut hall)?);
+    Ok(())
+}
+
+/// A gather of all at a0.
+fn gathered() -> [Line; 4] {
+    [
+        (3, Gather(0, 0, "alpha", &[7]), "posted 0"),
+        (1, Gather(0, 0, "alpha", &[6]), "posted 0"),
+        (2, Gather(0, 0, "alpha", &[9]), "posted 0"),
+        (0, Gather(0, 0, "alpha", &[8]), "posted 0"),
+    ]
+}
+
+/// The rank of a claim that is ready.
+fn ready_rank(claim: &Claim) -> Option<u32> {
+    match claim {
+        Claim::Ready { rank, .. } => Some(*rank),
+        Claim::Done(_) => None,
+    }
+}
+
+/// A process, a request, the rank with which the claim is ready, and the reply that it comes to.
+type Claimed = (u32, u64, Option<u32>, &'static str);
+
+/// Whether the claim is ready with the line's rank, or not ready, and comes to the line's reply.
+fn claims(alloc: Global, hall: &mut Hall, line: &Claimed) -> Result<bool, Fail> {
+    let claim = hall.claim(line.0, line.1);
+    let same = ready_rank(&claim) == line.2;
+    let reply = finish(claim);
+    let told = is_told(alloc, &reply, line.3)?;
+    Ok(same && told)
+}
+
+fn claims_all(alloc: Global, hall: &mut Hall, lines: &[Claimed]) -> Result<bool, Fail> {
+    for line in lines {
+        if !claims(alloc, hall, line)? {
+            return Ok(false);
+        }
+    }
+    Ok(true)
+}
+
+/// Claims of what was gathered.
+fn claimed() -> [Claimed; 4] {
+    [
+        (0, 0, Some(0), "delivered [8] [6] [9] [7]"),
+        (0, 0, None, "refused NoSuchRequest"),
+        (3, 0, Some(3), "delivered none"),
+        (1, 1, None, "refused NoSuchRequest"),
+    ]
+}
+
+fn claims_gathered(alloc: Global, hall: &mut Hall) -> Result<bool, Fail> {
+    if !answers_all(alloc, hall, &gathered())? {
+        return Ok(false);
+    }
+    claims_all(alloc, hall, &claimed())
+}
+
+/// A claim that is ready holds the caller's rank. The request is taken by the claim.
+#[test]
+fn a_claim_is_a_take(rt: HostRuntime) -> Result<(), Fail> {
+    let mut hall = opened(rt.alloc(), FRIENDS)?;
+    assert!(rt; claims_gathered(rt.alloc(), &mut hall)?);
+    Ok(())
+}
+
+/// The members of communicators 1 to 5, by their ranks in the world.
+const GROUPS: [&[u32]; 5] = [&[0, 2, 3], &[0, 1, 3], &[0, 3], &[1, 3], &[2, 3]];
+
+fn create(alloc: Global, ranks: &[u32]) -> Result<Act, Fail>
+    ensures { IfOk result (λ act. (wall : ChineseWall) → HasKnownLabel wall act) }
+{
+    let ranks = Numbers::from(ranks.to_vec(alloc)?);
+    let sig = Signature::Create { ranks };
+    posted(alloc, 0, sig, Own::Plain, Label::Public, &[])
+}
+
+/// All four processes create one communicator of each group.
+fn create_all(alloc: Global, hall: &mut Hall) -> Result<(), Fail> {
+    for ranks in GROUPS {
+        for process in 0..4 {
+            let act = create(alloc, ranks)?;
+            hall.apply(Call { process, act });
+        }
+    }
+    Ok(())
+}
+
+/// A gather of a bank's numbers at a0. Before its last post n0 asks for an oil firm's.
+fn gathered_by_two() -> [Line; 4] {
+    [
+        (3, Gather(3, 0, "alpha", &[7]), "posted 5"),
+        (2, Cast(5, 0, 1, "crude", &[9]), "posted 5"),
+        (3, Cast(5, 0, 1, "public", &[]), "posted 6"),
+        (0, Gather(3, 0, "alpha", &[8]), "posted 5"),
+    ]
+}
+
+/// Claims of it by a0.
+fn claimed_by_the_root() -> [Claimed; 2] {
+    [
+        (0, 5, Some(0), "delivered [8] [7]"),
+        (0, 5, None, "refused NoSuchRequest"),
+    ]
+}
+
+fn claims_in_groups(alloc: Global, hall: &mut Hall) -> Result<bool, Fail> {
+    create_all(alloc, hall)?;
+    if !answers_all(alloc, hall, &gathered_by_two())? {
+        return Ok(false);
+    }
+    claims_all(alloc, hall, &claimed_by_the_root())
+}
+
+#[test]
+fn a_root_claims_what_its_group_gathered(rt: HostRuntime) -> Result<(), Fail> {
+    let mut hall = opened(rt.alloc(), RIVALS)?;
+    assert!(rt; claims_in_groups(rt.alloc(), &mut hall)?);
     Ok(())
 }

@@ -1,6 +1,8 @@
-use Rattle.std.proofs.Common.{◌≡◌, [], ◌∷◌, ◌++◌, arith}
+use Rattle.std.proofs.Common.{◌≡◌, List, [], ◌∷◌, ◌++◌, length, arith, refl, sym, ap, ◌∙◌}
 use Rattle.std.proofs.lemmas.Grind.{common_steps}
-use Rattle.hall_core.specs.Halls.{run_of, entry}
+use Rattle.std.proofs.lemmas.List.{append-nil}
+use Rattle.run_model.specs.declared.call.Call.{Call}
+use Rattle.run_model.specs.Runs.{entry, run_of}
 use Rattle.hall_core.proofs.RunLemmas.{run_of-push}
 use Rattle.hall_core.proofs.runs.run_calls.Goals as goal
 
@@ -16,3 +18,17 @@ loop-call-preserved c =
       count = grind (arith, common_steps);
       rest = grind (arith, common_steps);
     }
+
+nothing_in : (xs : List Call) → length xs ≡ 0 → xs ≡ []
+nothing_in [] e = refl
+nothing_in (x ∷ xs) e = absurd (omega (arith, e))
+
+-- all calls were yielded, so the run so far is that of the calls
+pub returns-clause-run : goal.returns-clause-run
+returns-clause-run c =
+    let rest = c.loop-call.call-iterator.rest in
+    let none : length rest.items ≡ 0 = sym rest.ok.0 ∙ c.in-None.ensures.steps.0 in
+    let all : c.loop-call.yielded ≡ c.args.calls =
+    sym (append-nil c.loop-call.yielded)
+    ∙ (ap (λ xs. c.loop-call.yielded ++ xs) (sym (nothing_in rest.items none)) ∙ c.loop-call.invariant.rest) in
+    rw (← all, ← c.loop-call.invariant.policy) c.loop-call.invariant.legal

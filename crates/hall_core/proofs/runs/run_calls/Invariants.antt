@@ -1,6 +1,7 @@
 use Rattle.std.proofs.Common.{◌≡◌, ◌++◌, length}
-use Rattle.hall_runs.specs.Replies.{Legal}
-use Rattle.hall_core.specs.Halls.{run_of, StandsFor}
+use Rattle.run_model.specs.Replies.{Legal}
+use Rattle.hall_core.specs.Halls.{StandsFor}
+use Rattle.run_model.specs.Runs.{run_of}
 use Rattle.hall_core.proofs.runs.run_calls.Given as goal
 
 abbrev pub invariant-loop-call : goal.invariant-loop-call

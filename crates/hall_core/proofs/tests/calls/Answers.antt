@@ -1,6 +1,6 @@
 use Rattle.std.proofs.lemmas.List.Elements.{All-push}
-use Rattle.hall_runs.specs.declared.call.Call.{Call}
-use Rattle.hall_core.specs.Named.{HasKnownLabel}
+use Rattle.run_model.specs.declared.call.Call.{Call}
+use Rattle.run_model.specs.Known.{HasKnownLabel}
 use Rattle.hall_core.proofs.tests.calls.Goals as goal
 
 pub loop-line-preserved : goal.loop-line-preserved

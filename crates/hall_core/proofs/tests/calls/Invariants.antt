@@ -1,4 +1,4 @@
-use Rattle.hall_core.specs.Named.{HaveKnownLabels}
+use Rattle.run_model.specs.Known.{HaveKnownLabels}
 use Rattle.hall_core.proofs.tests.calls.Given as goal
 
 abbrev pub invariant-loop-line : goal.invariant-loop-line

@@ -1,23 +1,23 @@
 use Rattle.std.proofs.Common.{sym, subst}
-use Rattle.hall_core.specs.Halls.{Kept, shown}
-use Rattle.hall_core.specs.Kept.{kept_in}
-use Rattle.hall_core.specs.Named.{HasKnownLabel}
+use Rattle.hall_core.specs.Halls.{HallValue, view_of}
+use Rattle.hall_core.specs.Invariant.{value_in}
+use Rattle.run_model.specs.Known.{HasKnownLabel}
 use Rattle.hall_core.proofs.ApplyLemmas.{applied, applied_apart, kept_after}
 use Rattle.hall_core.proofs.NamedLemmas.{step_named}
 use Rattle.hall_core.proofs.hall.Hall.apply.Goals as goal
 
 pub invariant_of-self : goal.invariant_of-self
 invariant_of-self c =
-    kept_after (kept_in c.self.inside.records) (kept_in c.step.new.self) c.args.call c.step.result c.self.invariant c.step.ensures.policy c.step.ensures.each
-    (subst (λ (h : Kept). HasKnownLabel h.policy c.args.call.act) (sym c.self.view_is) c.requires) c.step.ensures.steps
+    kept_after (value_in c.self.inside.records) (value_in c.step.new.self) c.args.call c.step.result c.self.invariant c.step.ensures.policy c.step.ensures.each
+    (subst (λ (h : HallValue). HasKnownLabel h.policy c.args.call.act) (sym c.self.view_is) c.requires) c.step.ensures.steps
 
 pub returns-clause-runs : goal.returns-clause-runs
-returns-clause-runs c = rw (← c.self.view_is) (applied (kept_in c.self.inside.records) (kept_in c.step.new.self) c.args.call c.step.result c.step.ensures.policy c.step.ensures.steps)
+returns-clause-runs c = rw (← c.self.view_is) (applied (value_in c.self.inside.records) (value_in c.step.new.self) c.args.call c.step.result c.step.ensures.policy c.step.ensures.steps)
 
 pub returns-clause-apart : goal.returns-clause-apart
-returns-clause-apart c = rw (← c.self.view_is) (applied_apart (kept_in c.self.inside.records) (kept_in c.step.new.self) c.args.call c.step.result c.self.invariant.policy c.step.ensures.policy c.step.ensures.steps)
+returns-clause-apart c = rw (← c.self.view_is) (applied_apart (value_in c.self.inside.records) (value_in c.step.new.self) c.args.call c.step.result c.self.invariant.policy c.step.ensures.policy c.step.ensures.steps)
 
 pub returns-clause-named : goal.returns-clause-named
 returns-clause-named c =
-    rw c.step.ensures.policy (step_named (shown (kept_in c.self.inside.records)) (shown (kept_in c.step.new.self)) c.args.call.process c.args.call.act c.step.result c.self.invariant.policy c.self.invariant.stands
-    (subst (λ (h : Kept). HasKnownLabel h.policy c.args.call.act) (sym c.self.view_is) c.requires) c.step.ensures.steps)
+    rw c.step.ensures.policy (step_named (view_of (value_in c.self.inside.records)) (view_of (value_in c.step.new.self)) c.args.call.process c.args.call.act c.step.result c.self.invariant.policy c.self.invariant.stands
+    (subst (λ (h : HallValue). HasKnownLabel h.policy c.args.call.act) (sym c.self.view_is) c.requires) c.step.ensures.steps)

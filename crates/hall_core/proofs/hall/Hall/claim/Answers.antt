@@ -1,0 +1,36 @@
+use Rattle.hall_core.specs.Halls.{view_of}
+use Rattle.hall_core.specs.Invariant.{value_in}
+use Rattle.hall_core.specs.Claims.{to_take, claim_reply}
+use Rattle.hall_core.proofs.ApplyLemmas.{applied, applied_apart, kept_after, claimed}
+use Rattle.hall_core.proofs.NamedLemmas.{step_named}
+use Rattle.hall_core.proofs.hall.Hall.claim.Goals as goal
+
+pub invariant_of-self : goal.invariant_of-self
+invariant_of-self c =
+    kept_after (value_in c.self.inside.records) (value_in c.claim.new.self)
+    (to_take c.args.process c.args.request) (claim_reply c.claim.result)
+    c.self.invariant c.claim.ensures.policy c.claim.ensures.each tt c.claim.ensures.steps
+
+pub returns-clause-runs : goal.returns-clause-runs
+returns-clause-runs c =
+    rw (← c.self.view_is) (applied (value_in c.self.inside.records) (value_in c.claim.new.self)
+    (to_take c.args.process c.args.request) (claim_reply c.claim.result)
+    c.claim.ensures.policy c.claim.ensures.steps)
+
+pub returns-clause-apart : goal.returns-clause-apart
+returns-clause-apart c =
+    rw (← c.self.view_is) (applied_apart (value_in c.self.inside.records) (value_in c.claim.new.self)
+    (to_take c.args.process c.args.request) (claim_reply c.claim.result)
+    c.self.invariant.policy c.claim.ensures.policy c.claim.ensures.steps)
+
+pub returns-clause-claims : goal.returns-clause-claims
+returns-clause-claims c =
+    rw (← c.self.view_is) (claimed (value_in c.self.inside.records) c.args.process c.args.request
+    c.claim.result c.claim.ensures.holds)
+
+pub returns-clause-named : goal.returns-clause-named
+returns-clause-named c =
+    rw c.claim.ensures.policy (step_named (view_of (value_in c.self.inside.records))
+    (view_of (value_in c.claim.new.self)) c.args.process
+    (to_take c.args.process c.args.request).act (claim_reply c.claim.result)
+    c.self.invariant.policy c.self.invariant.stands tt c.claim.ensures.steps)

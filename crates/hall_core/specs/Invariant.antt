@@ -1,0 +1,41 @@
+-- What is so of every hall.
+use Rattle.std.specs.Prelude.{◌≡◌, List, [], ◌∷◌, length}
+use Rattle.wall_policy.specs.Policy.{ChineseWall, IsPolicy}
+use Rattle.run_model.specs.Comms.{processes}
+use Rattle.run_model.specs.Posts.{Post}
+use Rattle.run_model.specs.Runs.{Effects}
+use Rattle.run_model.specs.Proper.{IsProper}
+use Rattle.run_model.specs.Replies.{posts_in}
+use Rattle.hall_core.specs.declared.records.Records.{Records}
+use Rattle.hall_core.specs.Halls.{HallValue, HallView, StandsForEffects, view_of}
+use Rattle.run_model.specs.Known.{IsKnownIfAny, PostsHaveKnownLabels}
+
+-- what a hall may stand for: posts that count and bring what they state, whose labels the policy has
+pub record IsMade (wall : ChineseWall) (effects : Effects) : Type 0 where
+  pub proper : IsProper wall effects
+  pub labels : PostsHaveKnownLabels wall (posts_in effects)
+
+-- the hall stands for something
+pub record IsHallView (hall : HallView) : Type 0 where
+  pub effects : Effects
+  pub stands : StandsForEffects hall effects
+  pub is_made : IsMade hall.policy effects
+
+-- the value of these records
+abbrev pub value_in : Records → HallValue
+value_in records = record {
+  policy = records.policy;
+  post_state = records.post_state;
+  asked = records.requests.items;
+  settled = records.settled;
+  book = records.book;
+}
+
+abbrev pub view_in : Records → HallView
+view_in records = view_of (value_in records)
+
+-- the policy is one, each process of it has its requests, and the hall stands for something
+pub record IsHallValue (hall : HallValue) : Type 0 where
+  pub policy : IsPolicy hall.policy
+  pub each : length hall.asked ≡ processes hall.policy
+  pub stands : IsHallView (view_of hall)
