@@ -10,7 +10,7 @@ use Rattle.wall_labels.specs.declared.label.Label.{Label}
 use Rattle.wall_labels.specs.declared.label.Label.TheVariants as labels
 use Rattle.wall_policy.specs.Names.{Name, is_name, is_dataset_name, place_of}
 use Rattle.wall_policy.specs.Policy.{ChineseWall, IsPolicy}
-use Rattle.wall_policy.proofs.PlaceLemmas.{place_of-name, list_all-place}
+use Rattle.wall_policy.proofs.WallPolicyLemmas.{place_of-name, list_all-place}
 use Rattle.mpi_elems.specs.declared.elem_type.ElemType.{ElemType}
 use Rattle.mpi_elems.specs.declared.elem_type.ElemType.TheVariants.{Int8, Int16, Int32, Int64, Uint8, Uint16, Uint32, Uint64, TwoInt}
 use Rattle.mpi_elems.specs.declared.fault.BufferFault.{BufferFault}
@@ -24,15 +24,15 @@ use Rattle.coll_routes.specs.Signatures.{elem_type}
 use Rattle.coll_text.specs.Numbers.{Word, IsBetween, is_number}
 use Rattle.coll_text.specs.Spellings.{statement_words}
 use Rattle.coll_text.specs.Reading.{each_of, number_at}
-use Rattle.coll_text.proofs.NumberLemmas.{decimal_is_number, signed_is_read, form}
-use Rattle.coll_text.proofs.AgainLemmas.{positive, statement_again}
-use Rattle.hall_runs.specs.declared.call.Posting.{Posting}
-use Rattle.hall_runs.specs.declared.call.Act.{Act}
-use Rattle.hall_runs.specs.declared.call.Act.TheVariants.{Post, Take, Info}
-use Rattle.hall_core.specs.Named.{IsKnownLabel}
-use Rattle.hall_script.specs.Lines.{value_of, buffer_of, values_of, label_of, labelled, given_of, post_of, last_number, act_of, verb_of, call_of}
-use Rattle.hall_script.specs.Replies.{name_at}
-use Rattle.hall_script.specs.Spellings.{label_word, given_words, act_words, IsSayable, IsSayableAct}
+use Rattle.coll_text.proofs.CollTextLemmas.{decimal_is_number, signed_is_read, form, positive, statement_again, decimal_some, label_some, label_again}
+use Rattle.run_model.specs.declared.call.Posting.{Posting}
+use Rattle.run_model.specs.declared.call.Act.{Act}
+use Rattle.run_model.specs.declared.call.Act.TheVariants.{Post, Take, Info}
+use Rattle.run_model.specs.Known.{IsKnownLabel}
+use Rattle.hall_script.specs.Lines.{value_of, buffer_of, values_of, labelled, given_of, post_of, last_number, act_of, verb_of, call_of}
+use Rattle.coll_text.specs.Words.{name_at, label_word}
+use Rattle.hall_script.proofs.KnownLemmas.{is_label}
+use Rattle.hall_script.specs.Spellings.{given_words, act_words, IsSayable, IsSayableAct}
 
 -- ---- numbers
 
@@ -56,13 +56,6 @@ between Uint64 (pos n) e = grind (arith, nat_tests)
 between Uint64 (negsuc n) e = absurd cc
 between TwoInt (pos n) e = grind (arith, nat_tests)
 between TwoInt (negsuc n) e = grind (arith, nat_tests)
-
-digits_nonempty : (w : Word) → is_number w ≡ true → eqb (length w) 0 ≡ false
-digits_nonempty [] h = absurd cc
-digits_nonempty (b ∷ bs) h = positive (b ∷ bs) (omega arith)
-
-decimal_some : (n : ℕ) → n < 2 ^ 64 → eqb (length (decimal n)) 0 ≡ false
-decimal_some n s = digits_nonempty (decimal n) (form n s)
 
 signed_some : (z : ℤ) → IsBetween 18446744073709551615 18446744073709551615 z → eqb (length (signed_decimal z)) 0 ≡ false
 signed_some (pos n) h = decimal_some n (omega (arith, h))
@@ -96,49 +89,11 @@ number_again most n ws le small = rw (decimal_some n (omega (arith, le)), decima
 
 -- ---- labels
 
-not_false : (b : Bool) → not b ≡ true → b ≡ false
-not_false true e = absurd cc
-not_false false e = refl
-
-name_some : (n : Name) → is_name n ≡ true → eqb (length n) 0 ≡ false
-name_some [] e = absurd cc
-name_some (b ∷ bs) e = positive (b ∷ bs) (omega arith)
-
--- a name of a dataset as a word
-pub record IsNameOf (names : List Name) (d : ℕ) (w : Word) : Type 0 where
-  pub word : name_at names d ≡ w
-  pub some : eqb (length w) 0 ≡ false
-  pub other : bytes_eq w (codes "public") ≡ false
-  pub place : place_of w names ≡ Some d
-
-name_of : (wall : ChineseWall) (d : ℕ) (w : Word) → IsPolicy wall → slice_get wall.dataset_names d ≡ Some w → IsNameOf wall.dataset_names d w
-name_of wall d w good at =
-    let h : is_dataset_name w ≡ true = list_all-place is_dataset_name wall.dataset_names d w good.good_datasets at in
-    let p = and_parts (is_name w && not (bytes_eq w (codes "public"))) (not (bytes_eq w (codes "none"))) h in
-    let q = and_parts (is_name w) (not (bytes_eq w (codes "public"))) p.0 in
-    record {
-      word = ap (λ o. unwrap_or o []) at;
-      some = name_some w q.0;
-      other = not_false (bytes_eq w (codes "public")) q.1;
-      place = place_of-name wall.dataset_names d w good.distinct_datasets at;
-    }
-
-pub name_at_of : (wall : ChineseWall) (d : ℕ) → IsPolicy wall → d < length wall.dataset_names → (w : Word) × IsNameOf wall.dataset_names d w
-name_at_of wall d good lt = (get_or wall.dataset_names d [], name_of wall d (get_or wall.dataset_names d []) good (slice_get-get_or wall.dataset_names d [] lt))
-
-label_some : (wall : ChineseWall) (label : Label) → IsPolicy wall → IsKnownLabel wall label → eqb (length (label_word wall.dataset_names label)) 0 ≡ false
-label_some wall labels.Public good known = refl
-label_some wall (labels.Of d) good known = let n = name_at_of wall d good known in rw n.1.word n.1.some
-
-label_again : (wall : ChineseWall) (label : Label) → IsPolicy wall → IsKnownLabel wall label → label_of wall.dataset_names (label_word wall.dataset_names label) ≡ Ok label
-unfolding label_of
-label_again wall labels.Public good known = refl
-label_again wall (labels.Of d) good known = let n = name_at_of wall d good known in rw (n.1.word, n.1.other, n.1.place) refl
-
 pub labelled_again : (wall : ChineseWall) (ty : ElemType) (label : Label) (ns : List ℤ) → IsPolicy wall → IsKnownLabel wall label → fault_of ty ns ≡ None
     → labelled wall.dataset_names ty (label_word wall.dataset_names label ∷ map signed_decimal ns) ≡ Ok (label, contents ty ns (length (elements_of ty ns)))
 unfolding labelled
-labelled_again wall ty label ns good known sound = rw (label_some wall label good known, label_again wall label good known, values_again ty ns sound) refl
+labelled_again wall ty label ns good known sound =
+    let here = is_label wall label known in rw (label_some wall label good here, label_again wall label good here, values_again ty ns sound) refl
 
 -- ---- calls
 

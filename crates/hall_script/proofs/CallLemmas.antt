@@ -20,16 +20,15 @@ use Rattle.coll_text.specs.Numbers.{Word, number_within, signed_within}
 use Rattle.coll_text.specs.Reading.{◌>>=◌, some_or, parts, each_of, word_at, number_at, number_up_to, ended, is_printable}
 use Rattle.coll_text.specs.Fields.{statement_at}
 use Rattle.coll_text.specs.Spellings.{statement_words}
-use Rattle.coll_text.proofs.NumberLemmas.{number_is_decimal}
-use Rattle.coll_text.proofs.FoundLemmas.{bind_ok, some_ok, ok_is, word_found, signed_found, statement_found}
-use Rattle.hall_runs.specs.declared.call.Act.{Act}
-use Rattle.hall_runs.specs.declared.call.Act.TheVariants.{Post, Take, Info}
-use Rattle.hall_runs.specs.declared.call.Call.{Call}
+use Rattle.coll_text.proofs.CollTextLemmas.{number_is_decimal, bind_ok, some_ok, ok_is, word_found, signed_found, statement_found, label_found}
+use Rattle.run_model.specs.declared.call.Act.{Act}
+use Rattle.run_model.specs.declared.call.Act.TheVariants.{Post, Take, Info}
+use Rattle.run_model.specs.declared.call.Call.{Call}
 use Rattle.hall_script.specs.declared.line.Verb.{Verb}
 use Rattle.hall_script.specs.declared.line.Verb.TheVariants as verbs
-use Rattle.hall_script.specs.Lines.{typed, value_of, buffer_of, values_of, label_of, labelled, given_of, post_of, last_number, act_of, verb_of, call_of, answer_to}
-use Rattle.hall_script.specs.Replies.{name_at}
-use Rattle.hall_script.specs.Spellings.{label_word, given_words, act_words, call_words, GivesNothing, IsSpelled, IsLineOf}
+use Rattle.hall_script.specs.Lines.{typed, value_of, buffer_of, values_of, labelled, given_of, post_of, last_number, act_of, verb_of, call_of, answer_to}
+use Rattle.coll_text.specs.Words.{name_at, label_word, label_of}
+use Rattle.hall_script.specs.Spellings.{given_words, act_words, call_words, GivesNothing, IsSpelled, IsLineOf}
 
 -- ---- numbers
 
@@ -72,32 +71,6 @@ unfolding values_of
 values_found ty ws c e =
     let a = bind_ok (each_of (value_of ty) ws) (λ ns. buffer_of ty ns) c e in
     each_found ty ws a.0 a.1 ∙ ap (map signed_decimal) (buffer_found ty a.0 c a.2)
-
--- ---- labels
-
-place_by : (w n : Word) (ns : List Word) (k d : ℕ) (b : Bool) → bytes_eq w n ≡ b → (position_from (bytes_eq w) (k + 1) ns ≡ Some d → (i : ℕ) × (k + 1 + i ≡ d) × (w ≡ name_at ns i))
-    → cond b (Some k) (position_from (bytes_eq w) (k + 1) ns) ≡ Some d → (i : ℕ) × (k + i ≡ d) × (w ≡ name_at (n ∷ ns) i)
-place_by w n ns k d true same rest h = let at : k ≡ d = cc in (0, omega (arith, at), (bytes_eq-Decides w n).0 same)
-place_by w n ns k d false same rest h = let r = rest h in (suc r.0, omega (arith, r.1), r.2)
-
-place_from : (w : Word) (names : List Word) (k d : ℕ) → position_from (bytes_eq w) k names ≡ Some d → (i : ℕ) × (k + i ≡ d) × (w ≡ name_at names i)
-place_from w [] k d e = absurd cc
-place_from w (n ∷ ns) k d e = place_by w n ns k d (bytes_eq w n) refl (place_from w ns (k + 1) d) e
-
-place_found : (w : Word) (names : List Word) (d : ℕ) → place_of w names ≡ Some d → w ≡ name_at names d
-place_found w names d e = let r = place_from w names 0 d e in let at : r.0 ≡ d = omega (arith, r.1) in r.2 ∙ ap (name_at names) at
-
-label_by : (datasets : List Word) (w : Word) (label : Label) (r : Option ℕ) → place_of w datasets ≡ r → some_or BadLabel (option_map labels.Of r) ≡ Ok label → w ≡ label_word datasets label
-label_by datasets w label None at e = absurd cc
-label_by datasets w label (Some d) at e = let k : labels.Of d ≡ label = cc in place_found w datasets d at ∙ ap (label_word datasets) k
-
-label_either : (datasets : List Word) (w : Word) (label : Label) (b : Bool) → bytes_eq w (codes "public") ≡ b → cond b (Ok labels.Public) (some_or BadLabel (option_map labels.Of (place_of w datasets))) ≡ Ok label → w ≡ label_word datasets label
-label_either datasets w label true same e = let k : labels.Public ≡ label = cc in (bytes_eq-Decides w (codes "public")).0 same ∙ ap (label_word datasets) k
-label_either datasets w label false same e = label_by datasets w label (place_of w datasets) refl e
-
-label_found : (datasets : List Word) (w : Word) (label : Label) → label_of datasets w ≡ Ok label → w ≡ label_word datasets label
-unfolding label_of
-label_found datasets w label e = label_either datasets w label (bytes_eq w (codes "public")) refl e
 
 -- ---- what is given
 
@@ -207,9 +180,9 @@ verb_by w v false true d x y z e = let k : verbs.Take ≡ v = cc in (bytes_eq-De
 verb_by w v false false true x y z e = let k : verbs.Info ≡ v = cc in (bytes_eq-Decides w (codes "info")).0 z ∙ ap verb_word k
 verb_by w v false false false x y z e = absurd cc
 
-verb_found : (w : Word) (v : Verb) → verb_of w ≡ Some v → w ≡ verb_word v
+script_verb_found : (w : Word) (v : Verb) → verb_of w ≡ Some v → w ≡ verb_word v
 unfolding verb_of
-verb_found w v e = verb_by w v (bytes_eq w (codes "post")) (bytes_eq w (codes "take")) (bytes_eq w (codes "info")) refl refl refl e
+script_verb_found w v e = verb_by w v (bytes_eq w (codes "post")) (bytes_eq w (codes "take")) (bytes_eq w (codes "info")) refl refl refl e
 
 pub call_found : (datasets ws : List Word) (call : Call) → call_of datasets ws ≡ Ok call → IsSpelled (GivesNothing datasets call.act) (call_words datasets call) ws
 unfolding call_of
@@ -220,7 +193,7 @@ call_found datasets ws call e =
     let d = bind_ok (act_of datasets b.0 c.0.1) (λ act. Ok (record { process = c.0.0; act = act })) call c.2 in
     let made : record { process = c.0.0; act = d.0 } ≡ call = ok_is (record { process = c.0.0; act = d.0 }) call d.2 in
     let split : ws ≡ verb_word b.0 ∷ decimal c.0.0 ∷ c.0.1 =
-    word_found ws a.0 a.1 ∙ (λ i. verb_found a.0.0 b.0 (some_ok BadVerb (verb_of a.0.0) b.0 b.1) i ∷ number_found 4294967295 a.0.1 c.0 (omega arith) c.1 i) in
+    word_found ws a.0 a.1 ∙ (λ i. script_verb_found a.0.0 b.0 (some_ok BadVerb (verb_of a.0.0) b.0 b.1) i ∷ number_found 4294967295 a.0.1 c.0 (omega arith) c.1 i) in
     subst (λ (x : Call). IsSpelled (GivesNothing datasets x.act) (call_words datasets x) ws) made (subst (λ vs. IsSpelled (GivesNothing datasets d.0) (act_words datasets c.0.0 d.0) vs) (sym split) (act_found datasets b.0 c.0.0 c.0.1 d.0 d.1))
 
 line_by : (datasets : List Word) (line : List ℕ) (call : Call) (b : Bool) → cond b (call_of datasets (parts 32 line)) (Err BadShape) ≡ Ok call → IsLineOf datasets call line

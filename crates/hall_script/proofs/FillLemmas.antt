@@ -17,7 +17,7 @@ use Rattle.coll_text.specs.Numbers.{Word}
 use Rattle.coll_text.specs.Reading.{◌>>=◌, Fails, each_of}
 use Rattle.hall_script.specs.Lines.{value_of, buffer_of}
 use Rattle.hall_script.specs.Filling.{room_for, with_numbers, with_word, with_words}
-use Rattle.coll_text.proofs.EachLemmas.{carried}
+use Rattle.coll_text.proofs.CollTextLemmas.{carried}
 
 regroup : (b : Contents) (z : ℤ) (r : Result (List ℤ) LineFault) →
     ((r >>= λ zs. Ok (z ∷ zs)) >>= λ ns. Ok (with_numbers b ns)) ≡ (r >>= λ ns. Ok (with_numbers (with_numbers b (z ∷ [])) ns))

@@ -1,6 +1,7 @@
 pub mod RunLemmas
 pub mod FillLemmas
-pub mod SpacedLemmas
+pub mod KnownLemmas
+pub mod ReplyLemmas
 pub mod SplitLemmas
 pub mod CallLemmas
 pub mod AgainLemmas

@@ -13,7 +13,7 @@ use Rattle.wall_labels.specs.declared.label.Label.TheVariants as labels
 use Rattle.wall_policy.specs.Names.{Name, is_name, is_letter, is_digit, is_name_byte, is_dataset_name}
 use Rattle.wall_policy.specs.declared.checks.TheConstants.{NAME_LIMIT}
 use Rattle.wall_policy.specs.Policy.{ChineseWall, IsPolicy}
-use Rattle.wall_policy.proofs.PlaceLemmas.{list_all-place}
+use Rattle.wall_policy.proofs.WallPolicyLemmas.{list_all-place}
 use Rattle.mpi_elems.specs.declared.elem_type.ElemType.{ElemType}
 use Rattle.mpi_elems.specs.declared.fault.BufferFault.TheVariants as faults
 use Rattle.mpi_elems.specs.Types.{is_pair}
@@ -22,12 +22,13 @@ use Rattle.coll_routes.specs.Faults.{stated_type}
 use Rattle.coll_text.specs.Numbers.{Word}
 use Rattle.coll_text.specs.Reading.{parts, is_printable}
 use Rattle.coll_text.specs.Spellings.{statement_words}
-use Rattle.hall_core.specs.Named.{IsKnownLabel}
-use Rattle.hall_runs.specs.declared.call.Act.{Act}
-use Rattle.hall_runs.specs.declared.call.Act.TheVariants.{Post, Take, Info}
-use Rattle.hall_runs.specs.declared.call.Call.{Call}
+use Rattle.run_model.specs.Known.{IsKnownLabel}
+use Rattle.run_model.specs.declared.call.Act.{Act}
+use Rattle.run_model.specs.declared.call.Act.TheVariants.{Post, Take, Info}
+use Rattle.run_model.specs.declared.call.Call.{Call}
 use Rattle.hall_script.specs.Lines.{answer_to}
-use Rattle.hall_script.specs.Replies.{name_at}
+use Rattle.coll_text.specs.Words.{name_at}
+use Rattle.coll_text.proofs.CollTextLemmas.{name_at_of}
 use Rattle.hall_script.specs.Spellings.{given_words, act_words, call_words, call_line, IsSayableAct, IsSayableCall}
 use Rattle.hall_script.proofs.PlainLemmas.{is_visible, is_plain, decimal_plain, signed_plain, digit_plain, statement_plain, all_joint}
 use Rattle.hall_script.proofs.AgainLemmas.{between, parts_of, act_again}
@@ -71,12 +72,7 @@ name_plain (b ∷ bs) h =
 -- ---- words
 
 dataset_plain : (wall : ChineseWall) (d : ℕ) → IsPolicy wall → d < length wall.dataset_names → is_plain (name_at wall.dataset_names d) ≡ true
-dataset_plain wall d good lt =
-    let w = get_or wall.dataset_names d [] in
-    let at = slice_get-get_or wall.dataset_names d [] lt in
-    let h : is_dataset_name w ≡ true = list_all-place is_dataset_name wall.dataset_names d w good.good_datasets at in
-    let p = and_parts (is_name w && not (bytes_eq w (codes "public"))) (not (bytes_eq w (codes "none"))) h in
-    ap (λ o. is_plain (unwrap_or o [])) at ∙ name_plain w (and_parts (is_name w) (not (bytes_eq w (codes "public"))) p.0).0
+dataset_plain wall d good lt = let n = name_at_of wall d good lt in ap is_plain n.1.word ∙ name_plain n.0 n.1.named
 
 numbers_plain : (ty : ElemType) (ns : List ℤ) → list_all (is_number_of ty) ns ≡ true → list_all is_plain (map signed_decimal ns) ≡ true
 numbers_plain ty [] h = refl

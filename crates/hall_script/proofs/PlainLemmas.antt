@@ -21,7 +21,7 @@ use Rattle.coll_routes.specs.Rolls.{counts_in}
 use Rattle.coll_text.specs.Numbers.{Word, is_digit, IsBetween}
 use Rattle.coll_text.specs.Table.{forms_of, fields_of, colour_in, key_in}
 use Rattle.coll_text.specs.Spellings.{list_word, flag_word, colour_word, word_of, words_of, statement_words, IsSigned32, Fits, IsSpellable}
-use Rattle.coll_text.proofs.NumberLemmas.{own}
+use Rattle.coll_text.proofs.CollTextLemmas.{own}
 
 -- printable, and no space
 abbrev pub is_visible : ℕ → Bool

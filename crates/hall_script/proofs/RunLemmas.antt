@@ -3,32 +3,22 @@ use Rattle.std.proofs.Common.{◌≡◌, ℕ, ◌+◌, List, [], ◌∷◌, ◌+
 use Rattle.std.proofs.lemmas.List.{append-nil}
 use Rattle.std.specs.Io.KnownBytes.{Appends}
 use Rattle.wall_labels.specs.Known.{AppendsFront, AreLeft}
-use Rattle.wall_labels.proofs.KnownLemmas.{Appends-then}
+use Rattle.wall_labels.proofs.WallLabelsLemmas.{Appends-then}
 use Rattle.wall_policy.specs.Policy.{ChineseWall}
-use Rattle.hall_runs.specs.declared.call.Call.{Call}
-use Rattle.hall_runs.specs.Runs.{Entry}
-use Rattle.hall_core.specs.Halls.{entry}
+use Rattle.run_model.specs.declared.call.Call.{Call}
+use Rattle.run_model.specs.Runs.{Entry, entry}
 use Rattle.coll_text.specs.declared.fault.LineFault.{LineFault}
 use Rattle.coll_text.specs.declared.fault.LineFault.TheVariants as faults
+use Rattle.coll_text.specs.Writing.{Moves}
+use Rattle.coll_text.proofs.CollTextLemmas.{Appends-none}
 use Rattle.hall_script.specs.declared.fault.ScriptFault.{ScriptFault}
 use Rattle.hall_script.specs.declared.fault.ScriptFault.TheVariants.{Read, Line, Write, NoMemory}
 use Rattle.hall_script.specs.Replies.{reply_line}
 use Rattle.hall_script.specs.Scripts.{Script, with_line, line_call, script_from, script_of, calls_in, reply_lines, Answers, Stops, Replays, Replayed}
-use Rattle.hall_script.specs.Answering.{AnswersLine, FailsLine, line_fault, Told, SoFar, no_more, fault_at, Ends, Finishes, Moves}
-
-pub Appends-none : (a : Option (List ℕ)) → Appends a a []
-Appends-none None = tt
-Appends-none (Some xs) = sym (append-nil xs)
-
--- a text of which a front was written
-pub Moves-none : (a : Option (List ℕ)) (text : List ℕ) → Moves a a text text
-Moves-none a text = ([], Appends-none a, refl)
-
-pub Moves-all : (a b : Option (List ℕ)) (old new : List ℕ) → Appends a b old → new ≡ [] → Moves a b old new
-Moves-all a b old new h e = (old, h, ap (λ (t : List ℕ). old ++ t) e ∙ append-nil old)
+use Rattle.hall_script.specs.Answering.{AnswersLine, FailsLine, line_fault, Told, SoFar, no_more, fault_at, Ends, Finishes}
 
 module _ (wall : ChineseWall) (before now : Option (List ℕ)) (text : List ℕ) (whole rest : Script) (run : List Entry) (told : Told wall before now text whole rest run) where
-  -- a front of the text is written
+  -- a prefix of the text is written
   pub told-moves : (later : Option (List ℕ)) (new : List ℕ) → Moves now later text new → Told wall before later new whole rest run
   told-moves later new m = record {
     legal = told.legal;

@@ -3,16 +3,16 @@ use Rattle.std.proofs.Common.{◌≡◌, ℕ, ◌+◌, ◌<◌, List, [], ◌∷
 use Rattle.std.proofs.lemmas.List.{append-nil, get_or-set_same, get_or-set_other, length-set, length-replicate, get_or-replicate}
 use Rattle.std.specs.Prelude.{All}
 use Rattle.std.proofs.lemmas.List.Elements.{All-nil}
-use Rattle.hall_core.specs.Named.{HasKnownLabel}
+use Rattle.run_model.specs.Known.{HasKnownLabel, ScriptsHaveKnownLabels}
 use Rattle.std.proofs.lemmas.Bool.{eqb-true, eq-eqb, ltb-true}
 use Rattle.std.proofs.lemmas.Option.{slice_get-get_or}
 use Rattle.wall_policy.specs.Policy.{ChineseWall}
 use Rattle.coll_text.specs.declared.fault.LineFault.{LineFault}
 use Rattle.coll_text.specs.declared.fault.LineFault.TheVariants as faults
 use Rattle.coll_text.specs.Reading.{◌>>=◌, Fails}
-use Rattle.hall_runs.specs.declared.call.Act.{Act}
-use Rattle.hall_runs.specs.declared.call.Call.{Call}
-use Rattle.hall_script.specs.Scripts.{Script, with_line, line_call, of_member, member_call, script_from, acts_of, AreActs, AreNamed, IsSplit}
+use Rattle.run_model.specs.declared.call.Act.{Act}
+use Rattle.run_model.specs.declared.call.Call.{Call}
+use Rattle.hall_script.specs.Scripts.{Script, with_line, line_call, of_member, member_call, script_from, acts_of, AreActs, IsSplit}
 use Rattle.hall_script.specs.Splitting.{with_act, with_said, with_line_of, SplitSoFar}
 use Rattle.hall_script.specs.Answering.{line_fault}
 
@@ -49,11 +49,11 @@ act_added rows q act p rest total lt true e h =
 act_added rows q act p rest total lt false e h =
     ap (λ (xs : List Act). xs ++ rest) (get_or-set_other rows q p (get_or rows q [] ++ act ∷ []) [] (λ k. let t : eqb q p ≡ true = eq-eqb q p (sym k) in cc)) ∙ h
 
-pub none_named : (wall : ChineseWall) (n : ℕ) (rows : List (List Act)) → rows ≡ replicate n [] → AreNamed wall rows
+pub none_named : (wall : ChineseWall) (n : ℕ) (rows : List (List Act)) → rows ≡ replicate n [] → ScriptsHaveKnownLabels wall rows
 none_named wall n rows e =
-    let none : AreNamed wall (replicate n []) = λ k d lt.
+    let none : ScriptsHaveKnownLabels wall (replicate n []) = λ k d lt.
     subst (All (HasKnownLabel wall)) (sym (get_or-replicate n k [] d (subst (λ (m : ℕ). k < m) (length-replicate n []) lt))) (All-nil (HasKnownLabel wall)) in
-    subst (AreNamed wall) (sym e) none
+    subst (ScriptsHaveKnownLabels wall) (sym e) none
 
 module _ (wall : ChineseWall) (whole : Script) where
   pub begins : (rows : List (List Act)) → rows ≡ replicate (length wall.process_names) [] → SplitSoFar wall whole whole rows

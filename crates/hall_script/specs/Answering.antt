@@ -2,11 +2,10 @@
 use Rattle.std.specs.Prelude.{◌≡◌, ℕ, List, [], ◌∷◌, ◌++◌, Option, Some, None, Result, Ok, Err}
 use Rattle.std.specs.Io.KnownBytes.{Appends}
 use Rattle.wall_policy.specs.Policy.{ChineseWall}
-use Rattle.hall_runs.specs.declared.call.Call.{Call}
-use Rattle.hall_runs.specs.declared.reply.Reply.{Reply}
-use Rattle.hall_runs.specs.Runs.{Entry}
-use Rattle.hall_runs.specs.Replies.{Legal}
-use Rattle.hall_core.specs.Halls.{entry}
+use Rattle.run_model.specs.declared.call.Call.{Call}
+use Rattle.run_model.specs.declared.reply.Reply.{Reply}
+use Rattle.run_model.specs.Runs.{Entry, entry}
+use Rattle.run_model.specs.Replies.{Legal}
 use Rattle.coll_text.specs.declared.fault.LineFault.{LineFault}
 use Rattle.coll_text.specs.declared.fault.LineFault.TheVariants as lines
 use Rattle.hall_script.specs.declared.fault.ScriptFault.{ScriptFault}
@@ -83,7 +82,3 @@ Finishes stands wall machine before after script (Err (Line n fault)) = (run : L
 Finishes stands wall machine before after script (Err Write) = Stops wall before after script.calls
 Finishes stands wall machine before after script (Err NoMemory) = Stops wall before after script.calls
 Finishes stands wall machine before after script (Err Read) = ⊥
-
--- a front of the text was written, and the rest of it is left
-abbrev pub Moves : (before now : Option (List ℕ)) → (old new : List ℕ) → Type 0
-Moves before now old new = (gone : List ℕ) × Appends before now gone × (gone ++ new ≡ old)

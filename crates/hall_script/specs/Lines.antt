@@ -1,10 +1,9 @@
 -- A call, read from the left: the grammar of lines. (Own format.)
-use Rattle.std.specs.Prelude.{ℕ, ◌%◌, ℤ, not, ◌&&◌, ◌==◌, List, [], ◌∷◌, length, codes, Option, Some, None, option_map, unwrap_or, Result, Ok, Err, if◌then◌else◌}
+use Rattle.std.specs.Prelude.{◌≡◌, ℕ, true, ◌%◌, ℤ, not, ◌&&◌, ◌==◌, List, [], ◌∷◌, length, codes, Option, Some, None, unwrap_or, Result, Ok, Err, if◌then◌else◌}
 use Rattle.std.specs.List.{list_all}
 use Rattle.std.specs.Str.{bytes_eq}
 use Rattle.wall_labels.specs.declared.label.Label.{Label}
 use Rattle.wall_labels.specs.declared.label.Label.TheVariants as labels
-use Rattle.wall_policy.specs.Names.{place_of}
 use Rattle.mpi_elems.specs.declared.elem_type.ElemType.{ElemType}
 use Rattle.mpi_elems.specs.declared.elem_type.ElemType.TheVariants.{Int8}
 use Rattle.mpi_elems.specs.Types.{is_pair}
@@ -13,17 +12,18 @@ use Rattle.mpi_elems.specs.Elements.{elements_of}
 use Rattle.mpi_elems.specs.Contents.{Contents, contents}
 use Rattle.coll_routes.specs.Signatures.{elem_type}
 use Rattle.coll_text.specs.declared.fault.LineFault.{LineFault}
-use Rattle.coll_text.specs.declared.fault.LineFault.TheVariants.{BadVerb, BadShape, BadLabel, BadNumber, OddPair}
+use Rattle.coll_text.specs.declared.fault.LineFault.TheVariants.{BadVerb, BadShape, BadNumber, OddPair}
 use Rattle.coll_text.specs.Numbers.{Word, signed_within}
 use Rattle.coll_text.specs.Reading.{◌>>=◌, some_or, parts, each_of, word_at, number_at, ended, is_printable}
+use Rattle.coll_text.specs.Words.{label_of}
 use Rattle.coll_text.specs.Fields.{statement_at}
-use Rattle.hall_runs.specs.declared.call.Act.{Act}
-use Rattle.hall_runs.specs.declared.call.Act.TheVariants.{Post, Take, Info}
-use Rattle.hall_runs.specs.declared.call.Call.{Call}
+use Rattle.run_model.specs.declared.call.Act.{Act}
+use Rattle.run_model.specs.declared.call.Act.TheVariants.{Post, Take, Info}
+use Rattle.run_model.specs.declared.call.Call.{Call}
 use Rattle.hall_script.specs.declared.line.Verb.{Verb}
 use Rattle.hall_script.specs.declared.line.Verb.TheVariants as verbs
 
--- ---- labels and elements
+-- ---- elements
 
 -- a number that the type has
 abbrev pub typed : ElemType → Option ℤ → Option ℤ
@@ -42,9 +42,6 @@ unfoldable pub values_of : ElemType → List Word → Result Contents LineFault
 values_of ty ws = do
   ns ← each_of (value_of ty) ws
   buffer_of ty ns
-
-unfoldable pub label_of : List Word → Word → Result Label LineFault
-label_of datasets w = if bytes_eq w (codes "public") then Ok labels.Public else some_or BadLabel (option_map labels.Of (place_of w datasets))
 
 unfoldable pub labelled : List Word → ElemType → List Word → Result (Label × Contents) LineFault
 labelled datasets ty ws = do
@@ -83,6 +80,10 @@ act_of datasets verbs.Info ws = last_number 4294967295 ws >>= λ comm. Ok (Info 
 unfoldable pub verb_of : Word → Option Verb
 verb_of w = if bytes_eq w (codes "post") then Some verbs.Post else if bytes_eq w (codes "take") then Some verbs.Take else if bytes_eq w (codes "info") then Some verbs.Info else None
 
+-- the verb that words begin with
+abbrev pub verb_at : List Word → Result Verb LineFault
+verb_at ws = word_at ws >>= λ w. some_or BadVerb (verb_of w.0)
+
 unfoldable pub call_of : List Word → List Word → Result Call LineFault
 call_of datasets ws = do
   w ← word_at ws
@@ -94,3 +95,8 @@ call_of datasets ws = do
 -- the call that a line says, or its first fault from the left
 unfoldable pub answer_to : List Word → List ℕ → Result Call LineFault
 answer_to datasets line = if list_all is_printable line then call_of datasets (parts 32 line) else Err BadShape
+
+-- a printable line that begins as a post
+pub record IsPost (line : List ℕ) : Type 0 where
+  pub printable : list_all is_printable line ≡ true
+  pub verb : verb_at (parts 32 line) ≡ Ok verbs.Post

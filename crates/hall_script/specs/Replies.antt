@@ -1,31 +1,19 @@
 -- The line of each reply. (Own format.)
-use Rattle.std.specs.Prelude.{ℕ, ℤ, List, [], ◌∷◌, ◌++◌, codes, slice_get, unwrap_or, Option, Some, None}
+use Rattle.std.specs.Prelude.{ℕ, ℤ, List, [], ◌∷◌, ◌++◌, codes, Option, Some, None}
 use Rattle.std.specs.List.{flat_map}
 use Rattle.std.specs.Fmt.{decimal, signed_decimal}
 use Rattle.wall_labels.specs.declared.label.Label.{Label}
-use Rattle.wall_labels.specs.declared.label.Label.TheVariants.{Public, Of}
 use Rattle.wall_policy.specs.Policy.{ChineseWall}
 use Rattle.coll_values.specs.declared.delivery.Block.{Block}
 use Rattle.coll_values.specs.declared.delivery.Block.TheVariants.{Missing, Numbers}
 use Rattle.wall_verdict.specs.declared.verdict.Rule.{Rule}
-use Rattle.wall_verdict.specs.declared.verdict.Rule.TheVariants.{Star, Simple}
-use Rattle.audit_book.specs.declared.refusal.Refusal.{Refusal}
-use Rattle.audit_book.specs.declared.refusal.Refusal.TheVariants.{NoSuchProcess, NoSuchComm, NotMember, NoTopology, BadRoot, BadOp, BadCount, BadColour, NotSubgroup, BadDims, Mismatch, TooManyRequests, NoMemory, NoSuchRequest}
-use Rattle.hall_runs.specs.declared.reply.Reply.{Reply}
-use Rattle.hall_runs.specs.declared.reply.Reply.TheVariants.{Posted, Barred, Pending, Delivered, NewComm, NullComm, Denied, NoRoom, Info, Refused}
+use Rattle.run_model.specs.declared.refusal.Refusal.{Refusal}
+use Rattle.run_model.specs.declared.refusal.Refusal.TheVariants.{NoSuchProcess, NoSuchComm, NotMember, NoTopology, BadRoot, BadOp, BadCount, BadColour, NotSubgroup, BadDims, Mismatch, TooManyRequests, NoMemory, NoSuchRequest}
+use Rattle.run_model.specs.declared.reply.Reply.{Reply}
+use Rattle.run_model.specs.declared.reply.Reply.TheVariants.{Posted, Barred, Pending, Delivered, NewComm, NullComm, Denied, NoRoom, Info, Refused}
 use Rattle.coll_text.specs.Numbers.{Word}
-
--- the name of a number
-abbrev pub name_at : List Word → ℕ → Word
-name_at names n = unwrap_or (slice_get names n) []
-
-abbrev pub label_text : ChineseWall → Label → Word
-label_text wall Public = codes "public"
-label_text wall (Of d) = name_at wall.dataset_names d
-
--- each number behind a space
-abbrev pub spaced_numbers : List ℤ → List ℕ
-spaced_numbers ns = flat_map (λ n. 32 ∷ signed_decimal n) ns
+use Rattle.coll_text.specs.Words.{name_at, label_word, rule_word}
+use Rattle.coll_text.specs.Writing.{spaced_numbers}
 
 abbrev pub numbers_text : List ℤ → List ℕ
 numbers_text [] = codes "[]"
@@ -43,12 +31,8 @@ abbrev pub delivery_text : List Block → List ℕ
 delivery_text [] = codes "delivered none"
 delivery_text (b ∷ bs) = codes "delivered" ++ blocks_text (b ∷ bs)
 
-abbrev pub rule_name : Rule → Word
-rule_name Star = codes "star"
-rule_name Simple = codes "simple"
-
 abbrev pub denial_text : Rule → Word → Word → List ℕ
-denial_text rule process label = codes "denied " ++ rule_name rule ++ codes " " ++ process ++ codes " " ++ label
+denial_text rule process label = codes "denied " ++ rule_word rule ++ codes " " ++ process ++ codes " " ++ label
 
 abbrev pub info_text : ℕ → ℕ → Option ℕ → List ℕ
 info_text size rank None = codes "info size " ++ decimal size ++ codes " rank " ++ decimal rank
@@ -72,12 +56,12 @@ refusal_name NoSuchRequest = codes "NoSuchRequest"
 
 unfoldable pub reply_text : ChineseWall → Reply → List ℕ
 reply_text wall (Posted request) = codes "posted " ++ decimal request
-reply_text wall (Barred request label) = codes "barred " ++ decimal request ++ codes " " ++ label_text wall label
+reply_text wall (Barred request label) = codes "barred " ++ decimal request ++ codes " " ++ label_word wall.dataset_names label
 reply_text wall Pending = codes "pending"
 reply_text wall (Delivered blocks) = delivery_text blocks
 reply_text wall (NewComm comm rank size) = codes "comm " ++ decimal comm ++ codes " rank " ++ decimal rank ++ codes " size " ++ decimal size
 reply_text wall NullComm = codes "null"
-reply_text wall (Denied rule process label) = denial_text rule (name_at wall.process_names process) (label_text wall label)
+reply_text wall (Denied rule process label) = denial_text rule (name_at wall.process_names process) (label_word wall.dataset_names label)
 reply_text wall NoRoom = codes "noroom"
 reply_text wall (Info size rank dims) = info_text size rank dims
 reply_text wall (Refused refusal) = codes "refused " ++ refusal_name refusal

@@ -3,19 +3,23 @@ use Rattle.std.specs.Prelude.{◌≡◌, ℕ, ◌+◌, ◌-◌, ◌<◌, nat_lt,
 use Rattle.std.specs.Io.KnownBytes.{Appends}
 use Rattle.wall_labels.specs.Known.{AppendsFront, AreLeft}
 use Rattle.wall_policy.specs.Policy.{ChineseWall}
-use Rattle.hall_runs.specs.declared.call.Act.{Act}
-use Rattle.hall_runs.specs.declared.call.Call.{Call}
-use Rattle.hall_runs.specs.Runs.{Entry}
-use Rattle.hall_runs.specs.Replies.{Legal}
+use Rattle.run_model.specs.declared.call.Act.{Act}
+use Rattle.run_model.specs.declared.call.Call.{Call}
+use Rattle.run_model.specs.Runs.{Entry}
+use Rattle.run_model.specs.Replies.{Legal}
 use Rattle.coll_text.specs.declared.fault.LineFault.{LineFault}
 use Rattle.coll_text.specs.declared.fault.LineFault.TheVariants.{BadField}
-use Rattle.hall_core.specs.Named.{HasKnownLabel}
+use Rattle.run_model.specs.Known.{HasKnownLabel}
 use Rattle.hall_script.specs.declared.fault.ScriptFault.{ScriptFault}
 use Rattle.hall_script.specs.declared.fault.ScriptFault.TheVariants.{Read, Line, Write, NoMemory}
 use Rattle.coll_text.specs.Numbers.{Word}
 use Rattle.coll_text.specs.Reading.{◌>>=◌, parts}
 use Rattle.hall_script.specs.Lines.{answer_to}
 use Rattle.hall_script.specs.Replies.{reply_line}
+
+-- the most bytes of a script, or of a policy
+abbrev pub script_limit : ℕ
+script_limit = 16777216
 
 -- ---- lines
 
@@ -72,7 +76,7 @@ pub record Answers (wall : ChineseWall) (before after : Option (List ℕ)) (call
   pub answered : calls_in run ≡ calls
   pub written : Appends before after (reply_lines wall run)
 
--- some legal run answers the first of the calls, and a front of the lines of its replies was written
+-- some legal run answers the first of the calls, and a prefix of the lines of its replies was written
 pub record Stops (wall : ChineseWall) (before after : Option (List ℕ)) (calls : List Call) : Type 0 where
   pub run : List Entry
   pub rest : List Call
@@ -119,11 +123,7 @@ pub record AreActs (wall : ChineseWall) (calls : List Call) (scripts : List (Lis
   pub count : length scripts ≡ length wall.process_names
   pub each : (p : ℕ) → p < length wall.process_names → slice_get scripts p ≡ Some (acts_of p calls)
 
--- the labels of all acts are the policy's
-abbrev pub AreNamed : ChineseWall → List (List Act) → Type 0
-AreNamed wall scripts = All (All (HasKnownLabel wall)) scripts
-
--- what splitting a script gives: the acts of all its calls, or its first fault, or want of memory in place of either
+-- what splitting a script gives: the acts of all its calls, or its first fault, or out of memory in place of either
 abbrev pub IsSplit : ChineseWall → Script → Result (List (List Act)) ScriptFault → Type 0
 IsSplit wall script (Ok scripts) = AreActs wall script.calls scripts × (script.fault ≡ None)
 IsSplit wall script (Err (Line n fault)) = script.fault ≡ Some (n, fault)

@@ -12,16 +12,12 @@ use Rattle.coll_routes.specs.Signatures.{elem_type}
 use Rattle.coll_routes.specs.Faults.{stated_type}
 use Rattle.coll_text.specs.Numbers.{Word}
 use Rattle.coll_text.specs.Spellings.{statement_words, IsSpellable}
-use Rattle.hall_runs.specs.declared.call.Posting.{Posting}
-use Rattle.hall_runs.specs.declared.call.Act.{Act}
-use Rattle.hall_runs.specs.declared.call.Act.TheVariants.{Post, Take, Info}
-use Rattle.hall_runs.specs.declared.call.Call.{Call}
-use Rattle.hall_core.specs.Named.{IsKnownLabel}
-use Rattle.hall_script.specs.Replies.{name_at}
-
-abbrev pub label_word : List Word → Label → Word
-label_word datasets Public = codes "public"
-label_word datasets (Of d) = name_at datasets d
+use Rattle.run_model.specs.declared.call.Posting.{Posting}
+use Rattle.run_model.specs.declared.call.Act.{Act}
+use Rattle.run_model.specs.declared.call.Act.TheVariants.{Post, Take, Info}
+use Rattle.run_model.specs.declared.call.Call.{Call}
+use Rattle.run_model.specs.Known.{IsKnownLabel}
+use Rattle.coll_text.specs.Words.{name_at}
 
 -- what stands behind the statement of a post: nothing where it is public and gives no numbers
 abbrev pub given_words : List Word → Label → List ℤ → List Word

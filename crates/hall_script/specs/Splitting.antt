@@ -3,8 +3,8 @@ use Rattle.std.specs.Prelude.{◌≡◌, ℕ, ◌<◌, List, [], ◌∷◌, ◌+
 use Rattle.wall_policy.specs.Policy.{ChineseWall}
 use Rattle.coll_text.specs.declared.fault.LineFault.{LineFault}
 use Rattle.coll_text.specs.Reading.{◌>>=◌}
-use Rattle.hall_runs.specs.declared.call.Act.{Act}
-use Rattle.hall_runs.specs.declared.call.Call.{Call}
+use Rattle.run_model.specs.declared.call.Act.{Act}
+use Rattle.run_model.specs.declared.call.Call.{Call}
 use Rattle.hall_script.specs.Scripts.{Script, member_call, acts_of}
 
 -- with one more act of the process

@@ -2,23 +2,20 @@
 ghost use Rattle.std.specs.Prelude.{◌≡◌, ◌≢◌, ◌+◌, ◌≤◌, [], length, IfOk, IfSome, OnOk, OnErr, Err};
 ghost use Rattle.std.specs.Io.KnownBytes.{Appends};
 ghost use Rattle.wall_labels.specs.Known.{AppendsFront};
-ghost use Rattle.hall_core.specs.Named.{HasKnownLabel};
+ghost use Rattle.run_model.specs.Known.{HasKnownLabel};
 ghost use Rattle.coll_text.specs.Reading.{Gives};
 ghost use Rattle.hall_script.specs.Scripts.{trimmed, is_skipped, line_call, script_of};
-ghost use Rattle.hall_script.specs.Answering.{AnswersCall, AnswersLine, line_fault, Ends, Finishes, Moves};
+ghost use Rattle.hall_script.specs.Answering.{AnswersCall, AnswersLine, line_fault, Ends, Finishes};
 
 use crate::fault::ScriptFault;
 use crate::line::read_call;
 use crate::machine::Machine;
 use crate::reply::write_reply;
-use coll_text::{LineFault, Parts};
-use hall_runs::Call;
+use coll_text::{LineFault, Parts, send, send_long};
+use run_model::Call;
 use std::alloc::Global;
-use wall_labels::{Failed, NoMemory, Sink, write_all};
+use wall_labels::{NoMemory, Sink};
 use wall_policy::Policy;
-
-// Replies are written out once their lines have as many bytes.
-const CHUNK: usize = 16384;
 
 fn trim(line: &[u8]) -> &[u8]
     ensures { result.now ≡ trimmed line.now }
@@ -56,19 +53,14 @@ pub(crate) fn read_line(
     Ok(Some(call))
 }
 
-fn answer_call<M: Machine>(
-    alloc: Global,
-    machine: &mut M,
-    call: Call,
-    text: &mut Vec<u8>,
-) -> Result<(), NoMemory>
+fn answer_call<M: Machine>(machine: &mut M, call: Call, text: &mut Vec<u8>) -> Result<(), NoMemory>
     requires { HasKnownLabel (M.wall machine.old) call.act }
     ensures wall { M.wall machine.new ≡ M.wall machine.old }
     ensures answered { OnOk result (AnswersCall M.stands (M.wall machine.old) machine.old machine.new text.old.items text.new.items call) }
     ensures err { OnErr result (text.new.items ≡ text.old.items) }
 {
     let reply = machine.apply(call);
-    write_reply(alloc, machine.policy(), &reply, text)
+    write_reply(machine.policy(), &reply, text)
 }
 
 fn answer_line<M: Machine>(
@@ -83,7 +75,7 @@ fn answer_line<M: Machine>(
 {
     match read_line(alloc, machine.policy(), line) {
         Ok(None) => Ok(()),
-        Ok(Some(call)) => match answer_call(alloc, machine, call, text) {
+        Ok(Some(call)) => match answer_call(machine, call, text) {
             Ok(()) => Ok(()),
             Err(_) => Err(LineFault::NoMemory),
         },
@@ -101,32 +93,6 @@ pub(crate) fn fault_of(number: u64, fault: LineFault) -> ScriptFault
         LineFault::NoMemory => ScriptFault::NoMemory,
         _ => ScriptFault::Line(number, fault),
     }
-}
-
-// Writes the text out.
-fn send<W: Sink>(text: &mut Vec<u8>, sink: &mut W) -> Result<(), Failed>
-    ensures went { OnOk result (W.failures sink.new ≡ W.failures sink.old) }
-    ensures failed { OnErr result (W.failures sink.new ≡ W.failures sink.old + 1) }
-    ensures sent { OnOk result (Appends (W.contents sink.old) (W.contents sink.new) text.old.items) }
-    ensures none { OnOk result (text.new.items ≡ []) }
-    ensures front { OnErr result (AppendsFront (W.contents sink.old) (W.contents sink.new) text.old.items) }
-{
-    write_all(sink, text)?;
-    text.clear();
-    Ok(())
-}
-
-// Writes the text out where it is long.
-fn send_long<W: Sink>(text: &mut Vec<u8>, sink: &mut W) -> Result<(), Failed>
-    ensures went { OnOk result (W.failures sink.new ≡ W.failures sink.old) }
-    ensures failed { OnErr result (W.failures sink.new ≡ W.failures sink.old + 1) }
-    ensures moved { OnOk result (Moves (W.contents sink.old) (W.contents sink.new) text.old.items text.new.items) }
-    ensures front { OnErr result (AppendsFront (W.contents sink.old) (W.contents sink.new) text.old.items) }
-{
-    if text.len() < CHUNK {
-        return Ok(());
-    }
-    send(text, sink)
 }
 
 // Answers the lines of a script, and leaves the end of their replies in the text.
@@ -148,7 +114,7 @@ fn answer_lines<M: Machine, W: Sink>(
 {
     let mut lines = Parts::new(script, b'\n');
     let mut number = 1;
-    while let Some(line) = lines.next() {
+    while let Some(line) = lines.next_long() {
         match answer_line(alloc, machine, line, text) {
             Ok(()) => {}
             Err(fault) => return Err(fault_of(number, fault)),

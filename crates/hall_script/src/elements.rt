@@ -2,11 +2,12 @@
 ghost use Rattle.std.specs.Prelude.{◌≡◌, ◌≤◌, ◌<◌, ◌+◌, ◌*◌, [], length, IfOk, OnOk, IfErr};
 ghost use Rattle.mpi_elems.specs.Types.{numbers_per_element};
 ghost use Rattle.mpi_elems.specs.Contents.{contents};
+ghost use Rattle.coll_text.specs.Numbers.{signed_within};
 ghost use Rattle.coll_text.specs.Reading.{Gives, Leaves};
 ghost use Rattle.hall_script.specs.Lines.{buffer_of, values_of};
 ghost use Rattle.hall_script.specs.Filling.{room_for, with_word, with_words};
 
-use coll_text::{LineFault, Parts, signed};
+use coll_text::{LineFault, Parts};
 use mpi_elems::{Buffer, BufferBuilder, ElemType};
 use std::alloc::Global;
 
@@ -34,15 +35,20 @@ fn builder(alloc: Global, elem_type: ElemType, numbers: usize) -> Result<BufferB
     }
 }
 
-// Reads an element's number.
-fn push_value(builder: &mut BufferBuilder, word: &[u8]) -> Result<(), LineFault>
-    requires { length builder.old.numbers < numbers_per_element builder.old.elem_type * builder.old.room }
+// Takes the number that an element's word spells.
+fn push_value(
+    builder: &mut BufferBuilder,
+    word: &[u8],
+    number: Option<i128>,
+) -> Result<(), LineFault>
+    requires spelled { number ≡ signed_within u64.MAX u64.MAX word.now }
+    requires room { length builder.old.numbers < numbers_per_element builder.old.elem_type * builder.old.room }
     ensures { Leaves result builder.new (with_word builder.old word.now) }
 {
     if word.is_empty() {
         return Err(LineFault::BadShape);
     }
-    match signed(word, u64::MAX, u64::MAX) {
+    match number {
         None => Err(LineFault::BadNumber),
         Some(n) => match builder.push_number(n) {
             Ok(()) => Ok(()),
@@ -51,16 +57,19 @@ fn push_value(builder: &mut BufferBuilder, word: &[u8]) -> Result<(), LineFault>
     }
 }
 
-// Reads the numbers to the end of the line.
-fn fill(builder: &mut BufferBuilder, words: &mut Parts) -> Result<(), LineFault>
-    requires { length builder.old.numbers + length words.old ≤ numbers_per_element builder.old.elem_type * builder.old.room }
-    ensures filled { Leaves result builder.new (with_words builder.old words.old) }
+// Reads the numbers to the end of the line. It stands alone so that its loop has the registers for
+// itself.
+#[inline(never)]
+fn fill(builder: &mut BufferBuilder, line: Parts) -> Result<(), LineFault>
+    requires { length builder.old.numbers + length line ≤ numbers_per_element builder.old.elem_type * builder.old.room }
+    ensures filled { Leaves result builder.new (with_words builder.old line.entry) }
     ensures kind { OnOk result (builder.new.elem_type ≡ builder.old.elem_type) }
     ensures room { OnOk result (builder.new.room ≡ builder.old.room) }
-    ensures count { OnOk result (length builder.new.numbers ≡ length builder.old.numbers + length words.old) }
+    ensures count { OnOk result (length builder.new.numbers ≡ length builder.old.numbers + length line.entry) }
 {
-    while let Some(word) = words.next() {
-        push_value(builder, word)?;
+    let mut words = line;
+    while let Some((word, number)) = words.next_signed() {
+        push_value(builder, word, number)?;
     }
     Ok(())
 }
@@ -87,6 +96,6 @@ pub(crate) fn values(
     ensures { Gives result (values_of elem_type words.old) }
 {
     let mut builder = builder(alloc, elem_type, words.count())?;
-    fill(&mut builder, words)?;
+    fill(&mut builder, words.take())?;
     finish(builder)
 }

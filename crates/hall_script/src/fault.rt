@@ -13,10 +13,10 @@ pub enum ScriptFault {
     /// answered the lines before it.
     #[error("script: line {0}: {1}")]
     Line(u64, LineFault),
-    /// The writer failed. A front of the lines of the replies is written.
+    /// The writer failed. A prefix of the lines of the replies is written.
     #[error("write fault")]
     Write,
-    /// Memory ran out. A front of the lines of a replay's replies is written.
+    /// Memory ran out. A prefix of the lines of a replay's replies is written.
     #[error("out of memory")]
     NoMemory,
 }

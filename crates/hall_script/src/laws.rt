@@ -2,7 +2,7 @@
 ghost use Rattle.std.specs.Prelude.{◌≡◌, ℕ, List, Ok};
 ghost use Rattle.wall_policy.specs.Policy.{ChineseWall, IsPolicy};
 ghost use Rattle.coll_text.specs.Numbers.{Word};
-ghost use Rattle.hall_runs.specs.declared.call.Call.{Call};
+ghost use Rattle.run_model.specs.declared.call.Call.{Call};
 ghost use Rattle.hall_script.specs.Lines.{answer_to};
 ghost use Rattle.hall_script.specs.Spellings.{call_line, IsLineOf, IsSayableCall};
 

@@ -15,10 +15,10 @@ mod split;
 pub use coll_text::LineFault;
 pub use device::{DeviceFault, read_device};
 pub use fault::ScriptFault;
-pub use hall_runs::{Acts, Scripts};
 pub use laws::{calls_are_read_again, calls_are_spelled_so};
 pub use line::read_call;
 pub use reply::write_reply;
+pub use run_model::{Acts, Scripts};
 pub use script::{SCRIPT_LIMIT, replay};
 pub use split::split_script;
 

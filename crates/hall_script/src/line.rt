@@ -1,35 +1,22 @@
 //! Reads a line: the call that it says, or its first fault from the left.
-ghost use Rattle.std.specs.Prelude.{◌≡◌, ◌≤◌, IfOk};
+ghost use Rattle.std.specs.Prelude.{◌≡◌, ◌≢◌, ◌≤◌, IfOk, Ok, Err};
 ghost use Rattle.coll_text.specs.Reading.{Gives};
-ghost use Rattle.hall_core.specs.Named.{IsKnownLabel, HasKnownLabel};
-ghost use Rattle.hall_script.specs.Lines.{label_of, labelled, given_of, post_of, last_number, act_of, verb_of, call_of, answer_to};
+ghost use Rattle.run_model.specs.Known.{IsKnownLabel, HasKnownLabel};
+ghost use Rattle.hall_script.specs.Lines.{labelled, given_of, post_of, last_number, act_of, verb_of, verb_at, call_of, answer_to, IsPost};
 
 use crate::elements::values;
 use coll_text::{
-    LineFault, Parts, are_printable, end_of, next_number, next_number32, next_statement, next_word,
+    LineFault, Parts, are_printable, end_of, label_in, next_number, next_number32, next_statement,
+    next_word,
 };
-use hall_runs::{Act, Call, Posting};
 use mpi_elems::{Buffer, ElemType};
+use run_model::{Act, Call, Posting};
 use std::alloc::Global;
 use wall_labels::Label;
 use wall_policy::Policy;
 
-#[tactic(auto, unfolding(crate::specs::Lines::label_of))]
-fn label_in(policy: &Policy, word: &[u8]) -> Result<Label, LineFault>
-    ensures label { Gives result (label_of policy.now.dataset_names word.now) }
-    ensures known { IfOk result (IsKnownLabel policy.now) }
-{
-    if word == b"public".as_slice() {
-        return Ok(Label::Public);
-    }
-    match policy.dataset_named_bytes(word) {
-        None => Err(LineFault::BadLabel),
-        Some(dataset) => Ok(Label::Of(dataset)),
-    }
-}
-
 // What stands behind `as`.
-#[tactic(auto, unfolding(crate::specs::Lines::labelled))]
+#[tactic(auto, unfolding(crate::specs::Lines::labelled), using(crate::proofs::KnownLemmas::known))]
 fn next_labelled(
     alloc: Global,
     policy: &Policy,
@@ -96,6 +83,7 @@ fn next_post(alloc: Global, policy: &Policy, words: &mut Parts) -> Result<Act, L
 fn last_number_in(words: &mut Parts, most: u64) -> Result<u64, LineFault>
     ensures number { Gives result (last_number most words.old) }
     ensures below { IfOk result (λ n. n ≤ most) }
+    ensures memory { result ≢ Err LineFault.NoMemory }
 {
     let number = next_number(words, most)?;
     end_of(words)?;
@@ -127,6 +115,7 @@ fn verb_in(word: &[u8]) -> Option<Verb>
 fn next_act(alloc: Global, policy: &Policy, verb: Verb, words: &mut Parts) -> Result<Act, LineFault>
     ensures act { Gives result (act_of policy.now.dataset_names verb words.old) }
     ensures known { IfOk result (HasKnownLabel policy.now) }
+    ensures memory { result ≡ Err LineFault.NoMemory → verb ≡ Verb.Post }
 {
     match verb {
         Verb::Post => next_post(alloc, policy, words),
@@ -142,6 +131,7 @@ fn next_act(alloc: Global, policy: &Policy, verb: Verb, words: &mut Parts) -> Re
 fn next_call(alloc: Global, policy: &Policy, words: &mut Parts) -> Result<Call, LineFault>
     ensures call { Gives result (call_of policy.now.dataset_names words.old) }
     ensures known { IfOk result (λ call. HasKnownLabel policy.now call.act) }
+    ensures memory { result ≡ Err LineFault.NoMemory → verb_at words.old ≡ Ok Verb.Post }
 {
     let word = next_word(words)?;
     let verb = verb_in(word).ok_or(LineFault::BadVerb)?;
@@ -152,14 +142,18 @@ fn next_call(alloc: Global, policy: &Policy, words: &mut Parts) -> Result<Call, 
 
 /// Reads a line without its end: the call that it says, or its first fault from the left.
 ///
-/// A line is `post P C KIND FIELDS`, with `as LABEL V ..` behind it where the kind has a type and elements are given, or `take P REQUEST`,
-/// or `info P C`, with one space between two fields. P and C are numbers of 32 bits, REQUEST is one of 64 bits, V are numbers of the type.
+/// A line is `post P C KIND FIELDS`, with `as LABEL V ..` behind it where the kind has a type and
+/// elements are given, or `take P REQUEST`,
+/// or `info P C`, with one space between two fields. P and C are numbers of 32 bits, REQUEST is one
+/// of 64 bits, V are numbers of the type.
 ///
-/// Want of memory may come in place of either. An answer takes memory for the elements and the lists of a post alone.
+/// Out of memory may come in place of either for a post, whose elements and lists take memory; no
+/// other line takes any.
 #[tactic(auto, unfolding(crate::specs::Lines::answer_to))]
 pub fn read_call(alloc: Global, policy: &Policy, line: &[u8]) -> Result<Call, LineFault>
     ensures call { Gives result (answer_to policy.now.dataset_names line.now) }
     ensures known { IfOk result (λ call. HasKnownLabel policy.now call.act) }
+    ensures memory { result ≡ Err LineFault.NoMemory → IsPost line.now }
 {
     if !are_printable(line) {
         return Err(LineFault::BadShape);

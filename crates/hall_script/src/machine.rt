@@ -1,13 +1,13 @@
 //! What answers calls.
 ghost use Rattle.std.specs.Prelude.{◌≡◌, List};
 ghost use Rattle.wall_policy.specs.Policy.{ChineseWall};
-ghost use Rattle.hall_runs.specs.declared.call.Call.{Call};
-ghost use Rattle.hall_runs.specs.declared.reply.Reply.{Reply};
-ghost use Rattle.hall_runs.specs.Runs.{Entry};
-ghost use Rattle.hall_core.specs.Named.{HasKnownLabel, IsNamed};
+ghost use Rattle.run_model.specs.declared.call.Call.{Call};
+ghost use Rattle.run_model.specs.declared.reply.Reply.{Reply};
+ghost use Rattle.run_model.specs.Runs.{Entry};
+ghost use Rattle.run_model.specs.Known.{HasKnownLabel, IsKnownReply};
 ghost use Rattle.hall_script.specs.Answering.{Carries};
 
-use hall_runs::{Call, Reply};
+use run_model::{Call, Reply};
 use wall_policy::Policy;
 
 /// What answers calls, one after the other.
@@ -26,5 +26,5 @@ pub(crate) trait Machine {
         requires { HasKnownLabel (wall self.old) call.act }
         ensures wall { wall self.new ≡ wall self.old }
         ensures carries { Carries stands (wall self.old) self.old self.new call result }
-        ensures named { IsNamed (wall self.new) result };
+        ensures named { IsKnownReply (wall self.new) result };
 }

@@ -3,6 +3,7 @@
 use super::*;
 use crate::tests::wall;
 use std::process::Abort;
+use std::test::Fail;
 use wall_labels::memory::{ExpectingSink, Fuse, MemorySource};
 
 // The first of the worked examples, with comments, empty lines, ends of two kinds, and a last line without one.
@@ -152,8 +153,8 @@ fn repeated(rt: &(impl AllocGlobal + Abort), line: &[u8], times: u32) -> Vec<u8>
 // The second write fails: the replies stop in their middle.
 #[test]
 fn writers_fail_in_mid_stream(rt: HostRuntime) {
-    let script = repeated(&rt, b"take 0 0\n", 1000);
-    let replies = repeated(&rt, b"refused NoSuchRequest\n", 1000);
+    let script = repeated(&rt, b"take 0 0\n", 5000);
+    let replies = repeated(&rt, b"refused NoSuchRequest\n", 5000);
     let mut source = MemorySource {
         rest: &script,
         fuse: Fuse::Whole,
@@ -166,4 +167,28 @@ fn writers_fail_in_mid_stream(rt: HostRuntime) {
     let ended = replay(rt.alloc(), wall(&rt), &mut source, &mut sink).err();
     assert!(&rt; ended == Some(ScriptFault::Write) && sink.is_same);
     assert!(&rt; 0 < sink.rest.len() && sink.rest.len() < replies.len());
+}
+
+#[test]
+fn faults_have_their_texts(rt: HostRuntime) -> Result<(), Fail> {
+    for (fault, text) in [
+        (ScriptFault::Read, "read fault"),
+        (
+            ScriptFault::Line(3, LineFault::BadVerb),
+            "script: line 3: BadVerb",
+        ),
+        (ScriptFault::Write, "write fault"),
+        (ScriptFault::NoMemory, "out of memory"),
+    ] {
+        let said = format!(in rt.alloc(); "{fault}")?;
+        assert!(&rt; said.as_str() == text, "{text}");
+    }
+    for (fault, text) in [
+        (DeviceFault::Read, "read fault"),
+        (DeviceFault::NoMemory, "out of memory"),
+    ] {
+        let said = format!(in rt.alloc(); "{fault}")?;
+        assert!(&rt; said.as_str() == text, "{text}");
+    }
+    Ok(())
 }

@@ -1,12 +1,14 @@
 //! Writes a reply as a line.
-ghost use Rattle.std.specs.Prelude.{◌≡◌, ◌++◌, OnOk, OnErr, string_bytes, drop};
-ghost use Rattle.std.specs.Fmt.{signed_decimal};
-ghost use Rattle.hall_core.specs.Named.{IsKnownLabel, IsNamed};
-ghost use Rattle.hall_script.specs.Replies.{block_text, label_text, reply_line, reply_text, refusal_name, spaced_numbers, numbers_text, blocks_text, delivery_text, denial_text, rule_name, info_text};
+ghost use Rattle.std.specs.Prelude.{◌≡◌, ◌++◌, OnOk, OnErr, codes};
+ghost use Rattle.std.specs.Fmt.{decimal};
+ghost use Rattle.run_model.specs.Known.{IsKnownReply};
+ghost use Rattle.coll_text.specs.Writing.{IsFront};
+ghost use Rattle.hall_script.specs.Replies.{block_text, reply_line, reply_text, refusal_name, numbers_text, blocks_text, delivery_text, denial_text, info_text};
 
-use hall_runs::{Block, Integers, Refusal, Reply, Rule};
-use std::alloc::{AllocError, Global};
-use wall_labels::{Label, NoMemory};
+use coll_text::{label_text, put, put_decimal, put_number_at, put_spaced, rule_text};
+use run_model::{Block, Integers, Refusal, Reply, Rule};
+use std::alloc::AllocError;
+use wall_labels::NoMemory;
 use wall_policy::Policy;
 
 fn refusal_word(refusal: Refusal) -> &'static str
@@ -30,148 +32,159 @@ fn refusal_word(refusal: Refusal) -> &'static str
     }
 }
 
-fn rule_word(rule: Rule) -> &'static str
-    ensures { result.now ≡ rule_name rule }
-{
-    match rule {
-        Rule::Star => "star",
-        Rule::Simple => "simple",
-    }
-}
-
-fn label_word<'a>(policy: &'a Policy, label: &Label) -> &'a str
-    requires { IsKnownLabel policy.now label.now }
-    ensures { result.now ≡ label_text policy.now label.now }
-{
-    match label {
-        Label::Public => "public",
-        Label::Of(dataset) => policy.dataset_name(*dataset),
-    }
-}
-
-fn put_number(line: &mut String, n: i128) -> Result<(), AllocError>
-    ensures { OnOk result (string_bytes line.new ≡ string_bytes line.old ++ signed_decimal n) }
-{
-    write!(line, "{n}")
-}
-
-// The numbers behind the first, each behind a space.
-fn put_spaced(line: &mut String, numbers: &Integers) -> Result<(), AllocError>
-    ensures { OnOk result (string_bytes line.new ≡ string_bytes line.old ++ spaced_numbers (drop 1 numbers.now)) }
-{
-    for i in 1..numbers.len() {
-        line.push_str(" ")?;
-        put_number(line, numbers.get(i))?;
-    }
-    Ok(())
-}
-
-fn put_numbers(line: &mut String, numbers: &Integers) -> Result<(), AllocError>
-    ensures { OnOk result (string_bytes line.new ≡ string_bytes line.old ++ numbers_text numbers.now) }
+#[tactic(auto, using(crate::proofs::ReplyLemmas::list_text))]
+fn put_numbers(line: &mut Vec<u8>, numbers: &Integers) -> Result<(), AllocError>
+    ensures ok { OnOk result (line.new.items ≡ line.old.items ++ numbers_text numbers.now) }
+    ensures front { IsFront line.old.items line.new.items }
 {
     if numbers.len() == 0 {
-        return line.push_str("[]");
+        return put(line, "[]");
     }
-    line.push_str("[")?;
-    put_number(line, numbers.get(0))?;
-    put_spaced(line, numbers)?;
-    line.push_str("]")
+    put(line, "[")?;
+    put_number_at(line, numbers.as_buffer(), 0)?;
+    put_spaced(line, numbers.as_buffer(), 1)?;
+    put(line, "]")
 }
 
-fn put_block(line: &mut String, block: &Block) -> Result<(), AllocError>
-    ensures { OnOk result (string_bytes line.new ≡ string_bytes line.old ++ block_text block.now) }
+fn put_block(line: &mut Vec<u8>, block: &Block) -> Result<(), AllocError>
+    ensures ok { OnOk result (line.new.items ≡ line.old.items ++ block_text block.now) }
+    ensures front { IsFront line.old.items line.new.items }
 {
     match block {
-        Block::Missing => line.push_str("-"),
+        Block::Missing => put(line, "-"),
         Block::Numbers(numbers) => put_numbers(line, numbers),
     }
 }
 
 // The blocks, each behind a space.
-fn put_blocks(line: &mut String, blocks: &[Block]) -> Result<(), AllocError>
-    ensures { OnOk result (string_bytes line.new ≡ string_bytes line.old ++ blocks_text blocks.now) }
+fn put_blocks(line: &mut Vec<u8>, blocks: &[Block]) -> Result<(), AllocError>
+    ensures ok { OnOk result (line.new.items ≡ line.old.items ++ blocks_text blocks.now) }
+    ensures front { IsFront line.old.items line.new.items }
 {
     for block in blocks {
-        line.push_str(" ")?;
+        put(line, " ")?;
         put_block(line, block)?;
     }
     Ok(())
 }
 
-fn put_delivery(line: &mut String, blocks: &[Block]) -> Result<(), AllocError>
-    ensures { OnOk result (string_bytes line.new ≡ string_bytes line.old ++ delivery_text blocks.now) }
+fn put_delivery(line: &mut Vec<u8>, blocks: &[Block]) -> Result<(), AllocError>
+    ensures ok { OnOk result (line.new.items ≡ line.old.items ++ delivery_text blocks.now) }
+    ensures front { IsFront line.old.items line.new.items }
 {
     if blocks.is_empty() {
-        return line.push_str("delivered none");
+        return put(line, "delivered none");
     }
-    line.push_str("delivered")?;
+    put(line, "delivered")?;
     put_blocks(line, blocks)
 }
 
-fn put_denial(line: &mut String, rule: Rule, process: &str, label: &str) -> Result<(), AllocError>
-    ensures { OnOk result (string_bytes line.new ≡ string_bytes line.old ++ denial_text rule process.now label.now) }
+fn put_denial(line: &mut Vec<u8>, rule: Rule, process: &str, label: &str) -> Result<(), AllocError>
+    ensures ok { OnOk result (line.new.items ≡ line.old.items ++ denial_text rule process.now label.now) }
+    ensures front { IsFront line.old.items line.new.items }
 {
-    let word = rule_word(rule);
-    write!(line, "denied {word} {process} {label}")
+    let word = rule_text(rule);
+    put(line, "denied ")?;
+    put(line, word)?;
+    put(line, " ")?;
+    put(line, process)?;
+    put(line, " ")?;
+    put(line, label)
 }
 
-fn put_info(line: &mut String, size: u32, rank: u32, dims: Option<u32>) -> Result<(), AllocError>
-    ensures { OnOk result (string_bytes line.new ≡ string_bytes line.old ++ info_text size rank dims) }
+fn put_new_comm(line: &mut Vec<u8>, comm: u32, rank: u32, size: u32) -> Result<(), AllocError>
+    ensures ok { OnOk result (line.new.items ≡ line.old.items ++ codes "comm " ++ decimal comm ++ codes " rank " ++ decimal rank ++ codes " size " ++ decimal size) }
+    ensures front { IsFront line.old.items line.new.items }
 {
+    put(line, "comm ")?;
+    put_decimal(line, u64::from(comm))?;
+    put(line, " rank ")?;
+    put_decimal(line, u64::from(rank))?;
+    put(line, " size ")?;
+    put_decimal(line, u64::from(size))
+}
+
+fn put_info(line: &mut Vec<u8>, size: u32, rank: u32, dims: Option<u32>) -> Result<(), AllocError>
+    ensures ok { OnOk result (line.new.items ≡ line.old.items ++ info_text size rank dims) }
+    ensures front { IsFront line.old.items line.new.items }
+{
+    put(line, "info size ")?;
+    put_decimal(line, u64::from(size))?;
+    put(line, " rank ")?;
+    put_decimal(line, u64::from(rank))?;
     match dims {
-        None => write!(line, "info size {size} rank {rank}"),
-        Some(dims) => write!(line, "info size {size} rank {rank} dims {dims}"),
+        None => Ok(()),
+        Some(dims) => {
+            put(line, " dims ")?;
+            put_decimal(line, u64::from(dims))
+        }
     }
 }
 
 // The reply without the end of its line.
 #[tactic(auto, unfolding(crate::specs::Replies::reply_text))]
-fn put_reply(policy: &Policy, reply: &Reply, line: &mut String) -> Result<(), AllocError>
-    requires { IsNamed policy.now reply.now }
-    ensures { OnOk result (string_bytes line.new ≡ string_bytes line.old ++ reply_text policy.now reply.now) }
+fn put_reply(policy: &Policy, reply: &Reply, line: &mut Vec<u8>) -> Result<(), AllocError>
+    requires { IsKnownReply policy.now reply.now }
+    ensures ok { OnOk result (line.new.items ≡ line.old.items ++ reply_text policy.now reply.now) }
+    ensures front { IsFront line.old.items line.new.items }
 {
     match reply {
-        Reply::Posted(request) => write!(line, "posted {request}"),
-        Reply::Barred { request, label } => {
-            let label = label_word(policy, label);
-            write!(line, "barred {request} {label}")
+        Reply::Posted(request) => {
+            put(line, "posted ")?;
+            put_decimal(line, *request)
         }
-        Reply::Pending => line.push_str("pending"),
+        Reply::Barred { request, label } => {
+            let label = label_text(policy, label);
+            put(line, "barred ")?;
+            put_decimal(line, *request)?;
+            put(line, " ")?;
+            put(line, label)
+        }
+        Reply::Pending => put(line, "pending"),
         Reply::Delivered(delivery) => put_delivery(line, delivery.as_slice()),
-        Reply::NewComm { comm, rank, size } => write!(line, "comm {comm} rank {rank} size {size}"),
-        Reply::NullComm => line.push_str("null"),
+        Reply::NewComm { comm, rank, size } => put_new_comm(line, *comm, *rank, *size),
+        Reply::NullComm => put(line, "null"),
         Reply::Denied {
             rule,
             process,
             label,
         } => {
             let process = policy.process_name(*process);
-            let label = label_word(policy, label);
+            let label = label_text(policy, label);
             put_denial(line, *rule, process, label)
         }
-        Reply::NoRoom => line.push_str("noroom"),
+        Reply::NoRoom => put(line, "noroom"),
         Reply::Info { size, rank, dims } => put_info(line, *size, *rank, *dims),
         Reply::Refused(refusal) => {
             let word = refusal_word(*refusal);
-            write!(line, "refused {word}")
+            put(line, "refused ")?;
+            put(line, word)
         }
     }
 }
 
-/// Appends the line of the reply, whose processes and datasets are the policy's. Where memory ran out the bytes are as they were.
-pub fn write_reply(
-    alloc: Global,
-    policy: &Policy,
-    reply: &Reply,
-    bytes: &mut Vec<u8>,
-) -> Result<(), NoMemory>
-    requires { IsNamed policy.now reply.now }
+fn put_line(policy: &Policy, reply: &Reply, line: &mut Vec<u8>) -> Result<(), AllocError>
+    requires { IsKnownReply policy.now reply.now }
+    ensures ok { OnOk result (line.new.items ≡ line.old.items ++ reply_line policy.now reply.now) }
+    ensures front { IsFront line.old.items line.new.items }
+{
+    put_reply(policy, reply, line)?;
+    put(line, "\n")
+}
+
+/// Appends the line of the reply, whose processes and datasets are the policy's. Where memory ran
+/// out the bytes are as they were.
+pub fn write_reply(policy: &Policy, reply: &Reply, bytes: &mut Vec<u8>) -> Result<(), NoMemory>
+    requires { IsKnownReply policy.now reply.now }
     ensures ok { OnOk result (bytes.new.items ≡ bytes.old.items ++ reply_line policy.now reply.now) }
     ensures err { OnErr result (bytes.new.items ≡ bytes.old.items) }
 {
-    let mut line = String::new(alloc);
-    put_reply(policy, reply, &mut line)?;
-    line.push_str("\n")?;
-    bytes.extend_from_slice(line.as_bytes())?;
-    Ok(())
+    let len = bytes.len();
+    match put_line(policy, reply, bytes) {
+        Ok(()) => Ok(()),
+        Err(_) => {
+            bytes.truncate(len);
+            Err(NoMemory)
+        }
+    }
 }

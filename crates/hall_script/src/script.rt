@@ -2,14 +2,14 @@
 ghost use Rattle.std.specs.Prelude.{◌≡◌, ◌≢◌, ◌+◌, ◌⊎◌, IfOk, Err};
 ghost use Rattle.hall_core.specs.Halls.{StandsFor};
 ghost use Rattle.hall_script.specs.Devices.{IsTooLong, IsWithin};
-ghost use Rattle.hall_script.specs.Scripts.{Replayed};
+ghost use Rattle.hall_script.specs.Scripts.{script_limit, Replayed};
 
 use crate::answer::answer_script;
 use crate::device::{DeviceFault, read_device};
 use crate::fault::ScriptFault;
 use crate::machine::Machine;
 use hall_core::Hall;
-use hall_runs::{Call, Reply};
+use run_model::{Call, Reply};
 use std::alloc::Global;
 use wall_labels::{Sink, Source};
 use wall_policy::Policy;
@@ -34,7 +34,7 @@ impl Machine for Hall {
 /// Reads the whole script, and then reads, applies and answers it line by line.
 ///
 /// Lines end at LF, and one CR before it is dropped; the last may lack its end. An empty line, and one that begins with `#`, is skipped
-/// but counted. A line's want of memory is the fault `NoMemory`.
+/// but counted. A line's out of memory is the fault `NoMemory`.
 pub fn replay<R: Source, W: Sink>(
     alloc: Global,
     policy: Policy,
@@ -43,10 +43,11 @@ pub fn replay<R: Source, W: Sink>(
 ) -> Result<Hall, ScriptFault>
     // The reader failed, or the script is too long. Nothing was written.
     ensures read { result ≡ Err ScriptFault.Read →
-        ((R.failures source.new ≡ R.failures source.old + 1) ⊎ ((R.failures source.new ≡ R.failures source.old) × IsTooLong SCRIPT_LIMIT (R.remaining source.old)))
+        ((R.failures source.new ≡ R.failures source.old + 1)
+        ⊎ ((R.failures source.new ≡ R.failures source.old) × IsTooLong script_limit (R.remaining source.old)))
         × (sink.new ≡ sink.old) }
     ensures reader { result ≢ Err ScriptFault.Read → R.failures source.new ≡ R.failures source.old }
-    ensures within { result ≢ Err ScriptFault.Read → result ≢ Err ScriptFault.NoMemory → IsWithin SCRIPT_LIMIT (R.remaining source.old) }
+    ensures within { result ≢ Err ScriptFault.Read → result ≢ Err ScriptFault.NoMemory → IsWithin script_limit (R.remaining source.old) }
     // The writer failed.
     ensures write { result ≡ Err ScriptFault.Write → W.failures sink.new ≡ W.failures sink.old + 1 }
     ensures writer { result ≢ Err ScriptFault.Write → W.failures sink.new ≡ W.failures sink.old }

@@ -1,14 +1,14 @@
 //! Splits a script by processes.
 ghost use Rattle.std.specs.Prelude.{◌≡◌, ◌<◌, [], length, replicate, IfOk, IfSome, OnOk};
 ghost use Rattle.coll_text.specs.Reading.{Gives, Leaves};
-ghost use Rattle.hall_core.specs.Named.{HasKnownLabel};
-ghost use Rattle.hall_script.specs.Scripts.{member_call, members_script, AreNamed, IsSplit};
+ghost use Rattle.run_model.specs.Known.{HasKnownLabel, ScriptsHaveKnownLabels};
+ghost use Rattle.hall_script.specs.Scripts.{member_call, members_script, IsSplit};
 ghost use Rattle.hall_script.specs.Splitting.{with_act, with_line_of};
 
 use crate::answer::{fault_of, read_line};
 use crate::fault::ScriptFault;
 use coll_text::{LineFault, Parts};
-use hall_runs::{Act, Acts, Call, Scripts};
+use run_model::{Act, Acts, Call, Scripts};
 use std::alloc::{AllocError, Global};
 use wall_policy::Policy;
 
@@ -61,7 +61,7 @@ fn put_line(
     requires { length rows.old.items ≡ length policy.now.process_names }
     ensures put { Leaves result rows.new.items (with_line_of policy.now line.now rows.old.items) }
     ensures count { OnOk result (length rows.new.items ≡ length rows.old.items) }
-    ensures known { OnOk result (AreNamed policy.now rows.old.items → AreNamed policy.now rows.new.items) }
+    ensures known { OnOk result (ScriptsHaveKnownLabels policy.now rows.old.items → ScriptsHaveKnownLabels policy.now rows.new.items) }
 {
     match read_member(alloc, policy, line)? {
         None => Ok(()),
@@ -80,12 +80,12 @@ fn put_line(
 /// growth was refused; the other faults never come.
 pub fn split_script(alloc: Global, policy: &Policy, script: &[u8]) -> Result<Scripts, ScriptFault>
     ensures split { IsSplit policy.now (members_script policy.now script.now) result }
-    ensures known { IfOk result (AreNamed policy.now) }
+    ensures known { IfOk result (ScriptsHaveKnownLabels policy.now) }
 {
     let mut rows = no_acts(alloc, policy)?;
     let mut lines = Parts::new(script, b'\n');
     let mut number = 1;
-    while let Some(line) = lines.next() {
+    while let Some(line) = lines.next_long() {
         match put_line(alloc, policy, line, &mut rows) {
             Ok(()) => {}
             Err(fault) => return Err(fault_of(number, fault)),

@@ -1,13 +1,13 @@
 //! Lines of every form with the calls that they say, their faults, replies, and scripts split by processes.
 ghost use Rattle.std.specs.Prelude.{◌≡◌, ◌<◌, IfOk, All, length};
 ghost use Rattle.wall_policy.specs.Policy.{ChineseWall};
-ghost use Rattle.hall_core.specs.Named.{IsKnownLabel, HasKnownLabel, IsNamed};
-ghost use Rattle.hall_script.specs.Scripts.{AreNamed};
+ghost use Rattle.run_model.specs.Known.{HasKnownLabel, IsKnownReply, ScriptsHaveKnownLabels, IsKnownLabel};
 
 use super::*;
-use coll_text::write_statement;
-use hall_runs::{Act, Block, Call, Delivery, Integers, Posting, Refusal, Reply, Rule};
+use coll_text::{label_text, put, put_decimal, put_spaced, write_statement};
 use mpi_elems::{Buffer, ElemType};
+use run_model::{Act, Block, Call, Delivery, Integers, Posting, Refusal, Reply, Rule};
+use std::alloc::AllocError;
 use std::process::Abort;
 use std::test::Fail;
 use wall_labels::memory::{Fuse, MemorySource};
@@ -116,35 +116,28 @@ fn put_given(
     policy: &Policy,
     label: &Label,
     elements: &Buffer,
-    line: &mut String,
+    line: &mut Vec<u8>,
 ) -> Result<(), NoMemory>
     requires { IsKnownLabel policy.now label.now }
 {
     if elements.is_empty() {
         return Ok(());
     }
-    match label {
-        Label::Public => line.push_str(" as public")?,
-        Label::Of(dataset) => {
-            line.push_str(" as ")?;
-            line.push_str(policy.dataset_name(*dataset))?;
-        }
-    }
-    for i in 0..elements.len() {
-        let n = elements.number_at(i);
-        write!(line, " {n}")?;
-    }
-    Ok(())
+    put(line, " as ")?;
+    put(line, label_text(policy, label))?;
+    Ok(put_spaced(line, elements, 0)?)
+}
+
+// A verb with its process and a number.
+fn put_two(line: &mut Vec<u8>, verb: &str, process: u32, number: u64) -> Result<(), AllocError> {
+    put(line, verb)?;
+    put_decimal(line, u64::from(process))?;
+    put(line, " ")?;
+    put_decimal(line, number)
 }
 
 // The line of an act of a process.
-fn put_act(
-    rt: &impl AllocGlobal,
-    policy: &Policy,
-    process: usize,
-    act: &Act,
-    line: &mut String,
-) -> Result<(), NoMemory>
+fn put_act(policy: &Policy, process: u32, act: &Act, line: &mut Vec<u8>) -> Result<(), NoMemory>
     requires { HasKnownLabel policy.now act.now }
 {
     match act {
@@ -157,12 +150,13 @@ fn put_act(
                 elements,
             },
         ) => {
-            write!(line, "post {process} {comm} ")?;
-            write_statement(rt.alloc(), sig, own, line)?;
+            put_two(line, "post ", process, u64::from(*comm))?;
+            put(line, " ")?;
+            write_statement(sig, own, line)?;
             put_given(policy, label, elements, line)
         }
-        Act::Take(request) => Ok(write!(line, "take {process} {request}")?),
-        Act::Info(comm) => Ok(write!(line, "info {process} {comm}")?),
+        Act::Take(request) => Ok(put_two(line, "take ", process, *request)?),
+        Act::Info(comm) => Ok(put_two(line, "info ", process, u64::from(*comm))?),
     }
 }
 
@@ -172,10 +166,10 @@ fn is_spelled(rt: &(impl AllocGlobal + Abort), line: &str) -> bool {
     let Ok(call) = read_call(rt.alloc(), &policy, line.as_bytes()) else {
         return false;
     };
-    let mut text = String::new(rt.alloc());
+    let mut text = Vec::new(rt.alloc());
     let Call { process, act } = call;
-    let is_put = put_act(rt, &policy, process as usize, &act, &mut text).is_ok();
-    is_put && text.as_str() == line
+    let is_put = put_act(&policy, process, &act, &mut text).is_ok();
+    is_put && text.as_slice() == line.as_bytes()
 }
 
 #[test]
@@ -219,13 +213,12 @@ fn lines_say_their_calls(rt: HostRuntime) {
 
 // Whether the reply has this line, which is put behind what is there.
 fn has_line(rt: &(impl AllocGlobal + Abort), reply: Reply, line: &str) -> bool
-    requires { (wall : ChineseWall) → 1 < length wall.process_names → 0 < length wall.dataset_names → IsNamed wall reply }
+    requires { (wall : ChineseWall) → 1 < length wall.process_names → 0 < length wall.dataset_names → IsKnownReply wall reply }
 {
     let policy = wall(rt);
     assert!(rt; 1 < policy.processes() && 0 < policy.datasets());
     let mut bytes = Vec::new(rt.alloc());
-    let is_written = bytes.push(b'>').is_ok()
-        && write_reply(rt.alloc(), &policy, &reply, &mut bytes).is_ok();
+    let is_written = bytes.push(b'>').is_ok() && write_reply(&policy, &reply, &mut bytes).is_ok();
     is_written && bytes.as_slice() == line.as_bytes()
 }
 
@@ -390,7 +383,7 @@ fn put_scripts(
     scripts: &Scripts,
     text: &mut String,
 ) -> Result<(), NoMemory>
-    requires { AreNamed policy.now scripts.now }
+    requires { ScriptsHaveKnownLabels policy.now scripts.now }
 {
     for (process, acts) in scripts.as_slice().iter().enumerate() {
         put_acts(rt, policy, process, acts, text)?;

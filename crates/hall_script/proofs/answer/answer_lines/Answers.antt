@@ -22,14 +22,14 @@ returns-in-Err-clause-ends g c =
     let wall = g.M.Machine.wall c.args.machine.now in
     rw c.fault_of.ensures.fault
     (ends g.M.Machine.stands wall c.loop-line.machine c.answer_line.new.machine (g.W.Sink.contents c.args.sink.now) (g.W.Sink.contents c.loop-line.sink) c.loop-line.text.items c.answer_line.new.text.items
-    (script_of wall.dataset_names c.args.script.now) c.loop-line.number c.in-Some.line.now c.loop-line.lines c.next.new.self c.in-Err.fault c.in-Some.ensures c.loop-line.invariant.so_far
+    (script_of wall.dataset_names c.args.script.now) c.loop-line.number c.in-Some.line.now c.loop-line.lines c.next_long.new.self c.in-Err.fault c.in-Some.ensures c.loop-line.invariant.so_far
     (rw c.loop-line.invariant.wall at c.in-Err.ensures.answered))
 
 pub returns-in-Err-send_long-clause-ends : goal.returns-in-Err-send_long-clause-ends
 returns-in-Err-send_long-clause-ends g c =
     let wall = g.M.Machine.wall c.args.machine.now in
     breaks g.M.Machine.stands wall c.loop-line.machine c.answer_line.new.machine (g.W.Sink.contents c.args.sink.now) (g.W.Sink.contents c.loop-line.sink) (g.W.Sink.contents c.send_long.new.sink)
-    c.loop-line.text.items c.answer_line.new.text.items (script_of wall.dataset_names c.args.script.now) c.loop-line.number c.in-Some.line.now c.loop-line.lines c.next.new.self tt c.in-Some.ensures c.loop-line.invariant.so_far
+    c.loop-line.text.items c.answer_line.new.text.items (script_of wall.dataset_names c.args.script.now) c.loop-line.number c.in-Some.line.now c.loop-line.lines c.next_long.new.self tt c.in-Some.ensures c.loop-line.invariant.so_far
     (rw c.loop-line.invariant.wall at c.in-Ok.ensures.answered) c.in-Err-send_long.ensures.front
 
 pub loop-line-preserved : goal.loop-line-preserved
@@ -40,7 +40,7 @@ loop-line-preserved g c =
       count = c.in-Ok-send_long.ensures.went ∙ c.loop-line.invariant.count;
       bound = omega (arith, ap length c.in-Some.ensures, c.loop-line.invariant.bound);
       so_far = goes_on g.M.Machine.stands wall c.loop-line.machine c.answer_line.new.machine (g.W.Sink.contents c.args.sink.now) (g.W.Sink.contents c.loop-line.sink) (g.W.Sink.contents c.send_long.new.sink)
-          c.loop-line.text.items c.answer_line.new.text.items c.send_long.new.text.items (script_of wall.dataset_names c.args.script.now) c.loop-line.number c.in-Some.line.now c.loop-line.lines c.next.new.self tt
+          c.loop-line.text.items c.answer_line.new.text.items c.send_long.new.text.items (script_of wall.dataset_names c.args.script.now) c.loop-line.number c.in-Some.line.now c.loop-line.lines c.next_long.new.self tt
           c.in-Some.ensures c.loop-line.invariant.so_far (rw c.loop-line.invariant.wall at c.in-Ok.ensures.answered) c.in-Ok-send_long.ensures.moved;
     }
 

@@ -20,14 +20,14 @@ pub returns-in-Err-clause-split : goal.returns-in-Err-clause-split
 returns-in-Err-clause-split c =
     let wall = c.args.policy.now in
     rw c.fault_of.ensures.fault
-    (ends wall (members_script wall c.args.script.now) c.loop-line.rows.items c.loop-line.number c.in-Some.line.now c.loop-line.lines c.next.new.self c.in-Err.fault c.in-Some.ensures c.loop-line.invariant.so_far c.in-Err.ensures.put)
+    (ends wall (members_script wall c.args.script.now) c.loop-line.rows.items c.loop-line.number c.in-Some.line.now c.loop-line.lines c.next_long.new.self c.in-Err.fault c.in-Some.ensures c.loop-line.invariant.so_far c.in-Err.ensures.put)
 
 pub loop-line-preserved : goal.loop-line-preserved
 loop-line-preserved c =
     let wall = c.args.policy.now in
     record {
       bound = omega (arith, ap length c.in-Some.ensures, c.loop-line.invariant.bound);
-      so_far = goes_on wall (members_script wall c.args.script.now) c.loop-line.rows.items c.put_line.new.rows.items c.loop-line.number c.in-Some.line.now c.loop-line.lines c.next.new.self c.in-Some.ensures c.loop-line.invariant.so_far c.in-Ok.ensures.put;
+      so_far = goes_on wall (members_script wall c.args.script.now) c.loop-line.rows.items c.put_line.new.rows.items c.loop-line.number c.in-Some.line.now c.loop-line.lines c.next_long.new.self c.in-Some.ensures c.loop-line.invariant.so_far c.in-Ok.ensures.put;
       known = c.in-Ok.ensures.known c.loop-line.invariant.known;
     }
 
