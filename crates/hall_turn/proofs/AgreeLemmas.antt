@@ -5,7 +5,7 @@ use mathlib.Core.Option.{some-injective, some-ne-none}
 use lib.ListN.{get_elem?}
 use Rattle.atomic_table.proofs.Lists.{at_set}
 use Rattle.wall_policy.specs.Policy.{ChineseWall}
-use Rattle.hall_runs.specs.Runs.{Entry}
+use Rattle.run_model.specs.Runs.{Entry}
 use Rattle.hall_turn.specs.Views.{SeatView}
 use Rattle.hall_turn.specs.Turns.{Fits, Apart, Agree}
 

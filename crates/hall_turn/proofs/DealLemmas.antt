@@ -4,7 +4,7 @@ use Rattle.std.specs.List.{All}
 use Rattle.std.proofs.lemmas.List.FromFn.{map-range_with_len_more, get_or-map-range_with_len, length-map-range_with_len}
 use Rattle.atomic_table.specs.Table.{Me}
 use Rattle.wall_policy.specs.Policy.{ChineseWall}
-use Rattle.audit_book.specs.Comms.{processes}
+use Rattle.run_model.specs.Comms.{processes}
 use Rattle.hall_turn.specs.Views.{SeatView, maker, maker_left, next_pass}
 use Rattle.hall_turn.specs.Steps.{CanMake, IsIdle}
 use Rattle.hall_turn.specs.Known.{Doorway, Known}
@@ -14,7 +14,13 @@ pub more_passes : (door : Doorway) (n : ℕ) (ks : List Known) (k : Known) → k
 more_passes door n ks k are is = (λ i. are i ++ is i ∷ []) ∙ sym (map-range_with_len_more (new_pass door) 0 n n (omega arith))
 
 pub can_make : (wall : ChineseWall) (n : ℕ) → n < processes wall - 1 → CanMake (maker wall n)
-can_make wall n lt = record { makes = omega arith; more = omega arith; parts = omega arith; lates = refl; ticket = refl; out = refl }
+can_make wall n lt = record {
+  makes = omega arith;
+  more = omega arith;
+  parts = omega arith;
+  ticket = refl;
+  out = refl;
+}
 
 pub next_maker : (wall : ChineseWall) (n : ℕ) → maker_left (maker wall n) ≡ maker wall (n + 1)
 next_maker wall n = let e : processes wall - n - 1 ≡ processes wall - (n + 1) = omega arith in ap (λ parts. record (maker wall (n + 1)) { parts = parts }) e

@@ -13,7 +13,9 @@ unfolding IsDistinct
 one_number p = (tt, tt)
 
 -- a number apart from each of the list
-apart_all : (p : ℕ) (ys : List ℕ) → ((i q : ℕ) → get_elem? ys i ≡ some q → p ≢ q) → AllByRecursion (λ y. eqb p y ≡ false) ys
+pub apart_all : (p : ℕ) (ys : List ℕ)
+    → ((i q : ℕ) → get_elem? ys i ≡ some q → p ≢ q)
+    → AllByRecursion (λ y. eqb p y ≡ false) ys
 apart_all p [] ne = tt
 apart_all p (y ∷ ys) ne = (ne_eqb p y (ne 0 y refl), apart_all p ys (λ i q e. ne (suc i) q e))
 
@@ -60,7 +62,7 @@ Place p xs = (i : ℕ) × (get_elem? xs i ≡ some p)
 later : (p x : ℕ) (xs : List ℕ) → Place p xs → Place p (x ∷ xs)
 later p x xs r = (suc r.0, r.1)
 
-any_at : (p : ℕ) (xs : List ℕ) → list_any (eqb p) xs ≡ true → Place p xs
+pub any_at : (p : ℕ) (xs : List ℕ) → list_any (eqb p) xs ≡ true → Place p xs
 any_at p [] e = absurd (true≢false (sym e))
 any_at p (x ∷ xs) e = by_head p x xs (any_at p xs) e (eqb p x) refl
   where

@@ -9,8 +9,8 @@ use Rattle.atomic_table.specs.Table.{Me}
 use Rattle.atomic_table.specs.Seated.{TableId}
 use Rattle.atomic_table.proofs.Lists.{at_map}
 use Rattle.wall_policy.specs.Policy.{ChineseWall}
-use Rattle.audit_book.specs.Comms.{processes}
-use Rattle.hall_core.specs.Halls.{Kept}
+use Rattle.run_model.specs.Comms.{processes}
+use Rattle.hall_core.specs.Halls.{HallValue}
 use Rattle.hall_turn.specs.Views.{Told, SeatView, every, own_of, gathered}
 use Rattle.hall_turn.specs.Steps.{IsIdle, told_of, HasAll, Ends}
 use Rattle.hall_turn.specs.Machines.{Stands}
@@ -129,7 +129,7 @@ module _ {S : Type 0} where
           (j, r.0, ap (λ l. get_elem? l j) g.split ∙ at_front g.mid (g.first ∷ []) j r.0 r.1, r.2)
 
 -- what the one seat knows, in the words of the passes
-pub closed : {S : Type 0} (wall : ChineseWall) (hall : Kept) (passes : List Known) (m : Me S SeatView) → HasAll passes m → Ends Stands wall m.0 hall → processes wall ≤ length passes → Closed wall hall passes
+pub closed : {S : Type 0} (wall : ChineseWall) (hall : HallValue) (passes : List Known) (m : Me S SeatView) → HasAll passes m → Ends Stands wall m.0 hall → processes wall ≤ length passes → Closed wall hall passes
 closed wall hall passes m h e long = record {
   run = e.run;
   policy = e.stood.0;

@@ -1,8 +1,10 @@
 pub mod RunLemmas
 pub mod DistinctLemmas
 pub mod AgreeLemmas
+pub mod TicketLemmas
 pub mod KeepLemmas
 pub mod MoveLemmas
 pub mod TurnLemmas
 pub mod GatherLemmas
 pub mod DealLemmas
+pub mod HallTurnLemmas

@@ -7,14 +7,15 @@ use Rattle.std.proofs.lemmas.List.{length-map}
 use Rattle.atomic_table.specs.Table.{State, Splits, Joins, Final, Seen}
 use Rattle.atomic_table.proofs.Lists.{at_set, set_else, at_longer}
 use Rattle.wall_policy.specs.Policy.{ChineseWall}
-use Rattle.audit_book.specs.Comms.{processes}
-use Rattle.hall_runs.specs.Runs.{Entry}
-use Rattle.hall_turn.specs.Views.{Told, SeatView, parts_of, lates_of, own_of, every, numbers, maker_left, next_pass, noted, informed, gathered, spent}
+use Rattle.run_model.specs.Comms.{processes}
+use Rattle.run_model.specs.Runs.{Entry}
+use Rattle.hall_turn.specs.Views.{Told, SeatView, parts_of, tickets_of, number_of, own_of, every, numbers, maker_left, next_pass, noted, informed, gathered, spent}
 use Rattle.hall_turn.specs.Turns.{FitsTold, Fits, Apart, Agree, AtHome, IsOut, Ruled}
 use Rattle.hall_turn.specs.Steps.{Ends}
 use Rattle.hall_turn.proofs.RunLemmas.{continues_none, total_set, total_push, total_two, calls_of-none}
 use Rattle.hall_turn.proofs.AgreeLemmas.{agree_set, agree_push, set_swap, at_first, at_both, at_unmap, apart_turned}
 use Rattle.hall_turn.proofs.DistinctLemmas.{one_number, distinct_joined, each_number}
+use Rattle.hall_turn.proofs.TicketLemmas.{holds_set, holds_push, numbers_back, late_kept}
 use Rattle.hall_turn.proofs.KeepLemmas.{off, knows_own, apart_ticket}
 
 numbers_below : (wall : ChineseWall) (made : ℕ) (run : List Entry) (next : ℕ) (u : SeatView) → Fits wall made run next u → 0 < u.parts → (i q : ℕ) → get_elem? (numbers u) i ≡ opt.some q → q < made
@@ -31,9 +32,6 @@ spent_fits wall made run next = record {
   differ = one_number 0;
   waits = λ t e. absurd (cc);
   serves = λ e. absurd (off e);
-  few = omega arith;
-  late = λ p. absurd (omega arith);
-  done = λ p. absurd (omega arith);
   makes = λ p. absurd (omega arith);
 }
 
@@ -44,6 +42,15 @@ spent_apart v = record {
   makers = λ x y. absurd (omega arith);
 }
 
+-- a note has no ticket
+no_ticket : (wall : ChineseWall) (made : ℕ) (run : List Entry) (next : ℕ) (w : SeatView)
+    → Fits wall made run next w → w.parts ≡ 0 → w.ticket ≡ None
+no_ticket wall made run next w f none = by_ticket w.ticket refl
+  where
+    by_ticket : (o : Option ℕ) → w.ticket ≡ o → w.ticket ≡ None
+    by_ticket None is = is
+    by_ticket (Some t) is = absurd (let p = (f.waits t is).2 in omega arith)
+
 fits_made : (wall : ChineseWall) (made : ℕ) (run : List Entry) (next : ℕ) (u : SeatView) → Fits wall made run next u → (0 < u.made → u.made ≡ made + 1) → Fits wall (made + 1) run next u
 fits_made wall made run next u f makes = record {
   begins = f.begins;
@@ -53,17 +60,15 @@ fits_made wall made run next u f makes = record {
   differ = f.differ;
   waits = f.waits;
   serves = f.serves;
-  few = f.few;
-  late = f.late;
-  done = f.done;
   makes = λ p. (makes p, (f.makes p).1);
 }
 
 module _ {M : Type 0} (stands : ChineseWall → M → List Entry → Type 0) where
   -- another pass is made
-  pub splits_pass : (wall : ChineseWall) (id : ℕ) (v : SeatView) → 0 < v.made → v.made < processes v.policy → 1 < v.parts → v.lates ≡ 0 → v.ticket ≡ None → v.out ≡ false
+  pub splits_pass : (wall : ChineseWall) (id : ℕ) (v : SeatView) → 0 < v.made
+      → v.made < processes v.policy → 1 < v.parts → v.ticket ≡ None → v.out ≡ false
       → Splits (Ruled stands wall) id v (maker_left v) (next_pass v)
-  splits_pass wall id v makes more parts lates ticket out s k at =
+  splits_pass wall id v makes more parts ticket out s k at =
       let f = k.agree.each id v at in
       let l = maker_left v in
       let r = next_pass v in
@@ -81,9 +86,6 @@ module _ {M : Type 0} (stands : ChineseWall → M → List Entry → Type 0) whe
         differ = one_number v.made;
         waits = λ t e. absurd (cc);
         serves = λ o. absurd (off (sym out ∙ o));
-        few = omega arith;
-        late = λ p. absurd (omega arith);
-        done = λ p. absurd (omega arith);
         makes = λ p. (omega arith, omega arith);
       } in
       let right : Fits wall (k.made + 1) k.run k.next r = record {
@@ -96,9 +98,6 @@ module _ {M : Type 0} (stands : ChineseWall → M → List Entry → Type 0) whe
         differ = one_number v.process;
         waits = λ t e. absurd (cc);
         serves = λ o. absurd (off o);
-        few = omega arith;
-        late = λ p. absurd (omega arith);
-        done = λ p. absurd (omega arith);
         makes = λ p. absurd (omega arith);
       } in record {
         run = k.run;
@@ -106,8 +105,15 @@ module _ {M : Type 0} (stands : ChineseWall → M → List Entry → Type 0) whe
         made = k.made + 1;
         words = k.words;
         legal = k.legal;
-        order = k.order;
-        bound = (let a = total_set lates_of s.views id v l at in let b = total_push lates_of (set s.views id l) r in let c = k.bound in omega arith);
+        drawn = (
+            let a = total_set tickets_of s.views id v l at in
+            let b = total_push tickets_of (set s.views id l) r in
+            let c = k.drawn in omega arith);
+        late = late_kept k.run k.run s.views (set s.views id l ++ r ∷ [])
+            (numbers_back k.run s.views (set s.views id l ++ r ∷ [])
+            (λ p t h. holds_set s.views id v l at (λ n e. absurd (cc)) p t
+            (holds_push (set s.views id l) r refl p t h)))
+            k.late;
         whole = (let a = total_set parts_of s.views id v l at in let b = total_push parts_of (set s.views id l) r in let c = k.whole in omega arith);
         small = k.small;
         within = omega arith;
@@ -157,8 +163,15 @@ module _ {M : Type 0} (stands : ChineseWall → M → List Entry → Type 0) whe
         made = k.made;
         words = k.words;
         legal = k.legal;
-        order = k.order;
-        bound = (let a = total_set lates_of s.views id v v at in let b = total_push lates_of (set s.views id v) r in let c = k.bound in omega arith);
+        drawn = (
+            let a = total_set tickets_of s.views id v v at in
+            let b = total_push tickets_of (set s.views id v) r in
+            let c = k.drawn in omega arith);
+        late = late_kept k.run k.run s.views (set s.views id v ++ r ∷ [])
+            (numbers_back k.run s.views (set s.views id v ++ r ∷ [])
+            (λ p t h. holds_set s.views id v v at (λ n e. (e, refl)) p t
+            (holds_push (set s.views id v) r refl p t h)))
+            k.late;
         whole = (let a = total_set parts_of s.views id v v at in let b = total_push parts_of (set s.views id v) r in let c = k.whole in omega arith);
         small = k.small;
         within = k.within;
@@ -174,9 +187,6 @@ module _ {M : Type 0} (stands : ChineseWall → M → List Entry → Type 0) whe
               differ = one_number v.process;
               waits = λ t e. absurd (cc);
               serves = λ o. absurd (off o);
-              few = omega arith;
-              late = λ p. absurd (omega arith);
-              done = λ p. absurd (omega arith);
               makes = λ p. absurd (omega arith);
             })
             (λ j u e. record { processes = λ x y. absurd (omega arith); tickets = λ t x y. absurd (cc); makers = λ x y. absurd (omega arith) });
@@ -190,11 +200,12 @@ module _ {M : Type 0} (stands : ChineseWall → M → List Entry → Type 0) whe
 
   -- one view takes in another
   joined : (wall : ChineseWall) (id : ℕ) (v : SeatView) (other : ℕ) (w both : SeatView) (s : State (Option M) SeatView) → (k : Ruled stands wall s) → get_elem? s.views id ≡ opt.some v → ¬ (other ≡ id) → get_elem? s.views other ≡ opt.some w
-      → both.parts ≡ v.parts + w.parts → v.lates + w.lates ≤ both.lates → v.out ≡ false → w.out ≡ false
+      → both.parts ≡ v.parts + w.parts → both.ticket ≡ v.ticket → both.process ≡ v.process
+      → w.ticket ≡ None → v.out ≡ false → w.out ≡ false
       → Fits wall k.made k.run k.next both
       → ((j : ℕ) (u : SeatView) → j ≢ id → j ≢ other → get_elem? s.views j ≡ opt.some u → Apart both u)
       → Ruled stands wall record { words = s.words; homes = s.homes; views = set (set s.views id both) other spent }
-  joined wall id v other w both s k at ne at' parts lates out out' fits alone =
+  joined wall id v other w both s k at ne at' parts ticket process none out out' fits alone =
       let swap : set (set s.views other spent) id both ≡ set (set s.views id both) other spent = set_swap s.views other id spent both ne in
       let there : get_elem? (set s.views id both) other ≡ opt.some w = set_else s.views id other both ne ∙ at' in
       let first = agree_set wall k.made k.run k.next k.made k.run k.next s.views k.agree other spent (λ j u n e. k.agree.each j u e) (spent_fits wall k.made k.run k.next) (λ j u n e. apart_turned u spent (spent_apart u)) in record {
@@ -203,8 +214,17 @@ module _ {M : Type 0} (stands : ChineseWall → M → List Entry → Type 0) whe
         made = k.made;
         words = k.words;
         legal = k.legal;
-        order = k.order;
-        bound = (let a = total_set lates_of s.views id v both at in let b = total_set lates_of (set s.views id both) other w spent there in let c = k.bound in omega arith);
+        drawn = (
+            let a = total_set tickets_of s.views id v both at in
+            let b = total_set tickets_of (set s.views id both) other w spent there in
+            let e = ap number_of ticket in
+            let n = ap number_of none in
+            let c = k.drawn in omega arith);
+        late = late_kept k.run k.run s.views (set (set s.views id both) other spent)
+            (numbers_back k.run s.views (set (set s.views id both) other spent)
+            (λ p t h. holds_set s.views id v both at (λ n e. (sym ticket ∙ e, sym process)) p t
+            (holds_set (set s.views id both) other w spent there (λ n e. absurd (cc)) p t h)))
+            k.late;
         whole = (let a = total_set parts_of s.views id v both at in let b = total_set parts_of (set s.views id both) other w spent there in let c = k.whole in omega arith);
         small = k.small;
         within = k.within;
@@ -236,17 +256,30 @@ module _ {M : Type 0} (stands : ChineseWall → M → List Entry → Type 0) whe
       let at' = was s.views id other (informed v w) w ne there in
       let f = k.agree.each id v at in
       let g = k.agree.each other w at' in
-      joined wall id v other w (informed v w) s k at ne at' (omega arith) (let a = g.few in omega arith) out out'
-      (record { begins = f.begins; hears = g.begins; policy_is = f.policy_is; knows = f.knows; differ = f.differ; waits = f.waits; serves = f.serves; few = f.few; late = f.late; done = f.done; makes = f.makes })
+      joined wall id v other w (informed v w) s k at ne at' (omega arith) refl refl
+      (no_ticket wall k.made k.run k.next w g none) out out'
+      (record {
+        begins = f.begins;
+        hears = g.begins;
+        policy_is = f.policy_is;
+        knows = f.knows;
+        differ = f.differ;
+        waits = f.waits;
+        serves = f.serves;
+        makes = f.makes;
+      })
       (λ j u n n' e. let a = k.agree.apart id j v u at e (λ x. n (sym x)) in apart_ticket v (informed v w) u a refl refl refl a.tickets)
 
   -- a pass takes in a pass
-  pub joins_pass : (wall : ChineseWall) (id : ℕ) (v : SeatView) (other : ℕ) (w : SeatView) → v.out ≡ false → w.out ≡ false → 0 < v.parts → 0 < w.parts → v.ticket ≡ None → Joins (Ruled stands wall) id v other w (gathered v w) spent
-  joins_pass wall id v other w out out' parts parts' ticket s k at ne there =
+  pub joins_pass : (wall : ChineseWall) (id : ℕ) (v : SeatView) (other : ℕ) (w : SeatView)
+      → v.out ≡ false → w.out ≡ false → 0 < v.parts → 0 < w.parts
+      → v.ticket ≡ None → w.ticket ≡ None
+      → Joins (Ruled stands wall) id v other w (gathered v w) spent
+  joins_pass wall id v other w out out' parts parts' ticket ticket' s k at ne there =
       let at' = was s.views id other (gathered v w) w ne there in
       let f = k.agree.each id v at in
       let g = k.agree.each other w at' in
-      joined wall id v other w (gathered v w) s k at ne at' refl (omega arith) out out'
+      joined wall id v other w (gathered v w) s k at ne at' refl refl refl ticket' out out'
       (record {
         begins = f.begins;
         hears = f.hears;
@@ -261,9 +294,6 @@ module _ {M : Type 0} (stands : ChineseWall → M → List Entry → Type 0) whe
         differ = distinct_joined (own_of v) (every w) v.joined f.differ g.differ ((k.agree.apart id other v w at at' (λ x. ne (sym x))).processes parts parts');
         waits = λ t e. absurd (cc);
         serves = λ o. absurd (off (sym out ∙ o));
-        few = (let a = f.few in let b = g.few in omega arith);
-        late = λ p t e. absurd (cc);
-        done = λ p e j. absurd (cc);
         makes = λ p. ((f.makes p).0, omega arith);
       })
       (λ j u n n' e.

@@ -2,19 +2,16 @@
 use Rattle.std.proofs.Common.{◌≡◌, ◌≢◌, ℕ, true, false, List, [], ◌∷◌, Option, Some, None, refl, sym, ap, ◌∙◌, subst}
 use Rattle.atomic_table.specs.Table.{Me, Step, rest}
 use Rattle.wall_policy.specs.Policy.{ChineseWall}
-use Rattle.hall_runs.specs.declared.call.Act.{Act}
-use Rattle.hall_runs.specs.declared.call.Call.{Call}
-use Rattle.hall_runs.specs.declared.reply.Reply.{Reply}
-use Rattle.hall_runs.specs.Runs.{Entry}
-use Rattle.hall_runs.specs.Replies.{Legal}
-use Rattle.hall_core.specs.Halls.{entry}
-use Rattle.hall_turn.specs.declared.answer.Answer.TheVariants.{Reply as Replied}
+use Rattle.run_model.specs.declared.call.Call.{Call}
+use Rattle.run_model.specs.declared.reply.Reply.{Reply}
+use Rattle.run_model.specs.Runs.{Entry, entry}
+use Rattle.run_model.specs.Replies.{Legal}
 use Rattle.hall_turn.specs.Runs.{Continues, calls_of}
-use Rattle.hall_turn.specs.Known.{Doorway, Known}
-use Rattle.hall_turn.specs.Answers.{SeesOn, Answered}
+use Rattle.hall_turn.specs.Known.{Doorway}
+use Rattle.hall_turn.specs.Answers.{SeesOn, EntersAnd}
 use Rattle.hall_turn.specs.Machines.{Carries}
 use Rattle.hall_turn.specs.Views.{SeatView, saw, drawn, declared}
-use Rattle.hall_turn.specs.Steps.{Looks, Turning, Took, Turned, IsReady, IsIdle}
+use Rattle.hall_turn.specs.Steps.{Looks, Turning, Took, Turned, TellsAfter, IsReady, IsIdle}
 use Rattle.hall_turn.proofs.RunLemmas.{continues_self, continues_trans, calls_of-own}
 
 -- the view m, of a seat that had the view v and has looked since, with its ticket not served
@@ -88,20 +85,29 @@ module _ {M : Type 0} (stands : ChineseWall → M → List Entry → Type 0) whe
       }
 
   -- what the machine is asked in its turn is what it can answer
-  pub may_apply : (v : SeatView) (m1 m2 : Me (Option M) SeatView) (h : M) (act : Act) (Known : ChineseWall → Act → Type 0) → m1.0.policy ≡ v.policy → Took stands m1.0 h m2 → Known v.policy act
-      → (wall : ChineseWall) × (run : List Entry) × Legal wall run × stands wall h run × Known wall act
-  may_apply v m1 m2 h act Known policy took known =
-      (v.policy, took.run, subst (λ p. Legal p took.run) policy took.seen.legal, subst (λ p. stands p h took.run) policy took.stood, known)
+  pub may_apply : (v : SeatView) (m1 m2 : Me (Option M) SeatView) (h : M) (May : ChineseWall → Type 0) → m1.0.policy ≡ v.policy → Took stands m1.0 h m2 → May v.policy
+      → (wall : ChineseWall) × (run : List Entry) × Legal wall run × stands wall h run × May wall
+  may_apply v m1 m2 h May policy took may =
+      (v.policy, took.run, subst (λ p. Legal p took.run) policy took.seen.legal, subst (λ p. stands p h took.run) policy took.stood, may)
+
+  -- what is known of what it told
+  pub tells_after : (v : SeatView) (m1 m2 : Me (Option M) SeatView) (h : M) (Told : ChineseWall → List Entry → Type 0) → m1.0.policy ≡ v.policy → (took : Took stands m1.0 h m2)
+      → ((wall : ChineseWall) (run : List Entry) → Legal wall run → stands wall h run → Told wall run)
+      → (last : Entry) (seen : List Entry) → seen ≡ last ∷ took.run → TellsAfter seen (Told v.policy)
+  tells_after v m1 m2 h Told policy took told last seen is e run also =
+      let same : took.run ≡ run = cc (is, also) in
+      subst (Told v.policy) same (told v.policy took.run (subst (λ p. Legal p took.run) policy took.seen.legal) (subst (λ p. stands p h took.run) policy took.stood))
 
   -- before the turn ends
   pub ready : (v : SeatView) (t : ℕ) (m1 m2 m3 m4 : Me (Option M) SeatView) (h h' : M) (call : Call) (reply : Reply)
-      → m1 ≡ (drawn v t m1.0.lates, []) → Took stands m1.0 h m2 → m3 ≡ (declared m2.0 (entry call reply), m2.1) → m4 ≡ (m3.0, (0, Some h') ∷ [])
+      → m1 ≡ (drawn v t, []) → Took stands m1.0 h m2
+      → m3 ≡ (declared m2.0 (entry call reply), m2.1) → m4 ≡ (m3.0, (0, Some h') ∷ [])
       → call.process ≡ v.process → v.joined ≡ [] → Carries stands h h' call reply
       → IsReady stands m4
   ready v t m1 m2 m3 m4 h h' call reply draws took declares puts by joined applied =
       let e = entry call reply in
-      let l = m1.0.lates in
-      let target : Me (Option M) SeatView = (declared (saw (drawn v t l) took.run true) e, (0, Some h') ∷ []) in
+      let target : Me (Option M) SeatView =
+      (declared (saw (drawn v t) took.run true) e, (0, Some h') ∷ []) in
       let is : m4 ≡ target =
       puts ∙ (λ i. ((declares i).0, (0, Some h') ∷ [])) ∙ (λ i. (declared (took.is i).0 e, (0, Some h') ∷ [])) ∙ (λ i. (declared (saw (draws i).0 took.run true) e, (0, Some h') ∷ [])) in
       let policy : m1.0.policy ≡ v.policy = λ i. (draws i).0.policy in
@@ -114,18 +120,28 @@ module _ {M : Type 0} (stands : ChineseWall → M → List Entry → Type 0) whe
   sees_on door d p r st m m' idle l =
       record { begins = l.0.begins; own = sym (subst (λ n. calls_of n m.0.seen ≡ calls_of n m'.0.seen) idle.process_is l.0.own) }
 
-  -- what a call that was answered does
-  pub called : (door d : Doorway) (p : ℕ) (act : Act) (reply : Reply) (r : ℕ) (st : Step (Option M)) (m m1 m2 : Me (Option M) SeatView)
-      → IsIdle p m → Looks stands st m r m1 → Turned m1.0 (entry (record { process = p; act = act }) reply) m2.0
-      → Answered (record { door = door; process = p; seen = m.0.seen }) act (Replied reply) (record { door = d; process = p; seen = m2.0.seen })
-  called door d p act reply r st m m1 m2 idle l t =
-      let e = entry (record { process = p; act = act }) reply in
+  -- what a deed that was carried out does
+  pub carried : (door d : Doorway) (p : ℕ) (e : Entry) (Tells : ChineseWall → List Entry → Type 0)
+      (r : ℕ) (st : Step (Option M)) (m m1 m2 : Me (Option M) SeatView)
+      → door.policy ≡ m.0.policy → e.call.process ≡ p
+      → IsIdle p m → Looks stands st m r m1 → Turned m1.0 e m2.0
+      → TellsAfter m2.0.seen (Tells m1.0.policy)
+      → EntersAnd (record { door = door; process = p; seen = m.0.seen }) e (Tells door.policy)
+      (record { door = d; process = p; seen = m2.0.seen })
+  carried door d p e Tells r st m m1 m2 wall by idle l t tells =
       let saw_it = l.2 (λ (x : m.0.ticket ≡ Some r). cc (idle.ticket, x)) in
+      let policy : m1.0.policy ≡ door.policy = (λ i. (saw_it i).0.policy) ∙ sym wall in
       let process : m1.0.process ≡ p = (λ i. (saw_it i).0.process) ∙ idle.process_is in
-      let own : calls_of p m.0.seen ≡ calls_of p m1.0.seen = subst (λ n. calls_of n m.0.seen ≡ calls_of n m1.0.seen) idle.process_is l.0.own in
-      let next : calls_of p m1.0.seen ≡ calls_of p t.run = subst (λ n. calls_of n m1.0.seen ≡ calls_of n t.run) process t.before.own in record {
-        front = t.run;
-        ends = t.seen_is;
-        begins = continues_trans t.run m1.0.seen m.0.seen t.before.begins l.0.begins;
-        own = ap (calls_of p) t.seen_is ∙ calls_of-own p t.run e refl ∙ ap (λ x. e ∷ x) (sym (own ∙ next));
+      let own : calls_of p m.0.seen ≡ calls_of p m1.0.seen =
+      subst (λ n. calls_of n m.0.seen ≡ calls_of n m1.0.seen) idle.process_is l.0.own in
+      let next : calls_of p m1.0.seen ≡ calls_of p t.run =
+      subst (λ n. calls_of n m1.0.seen ≡ calls_of n t.run) process t.before.own in record {
+        enters = record {
+          front = t.run;
+          ends = t.seen_is;
+          begins = continues_trans t.run m1.0.seen m.0.seen t.before.begins l.0.begins;
+          own = ap (calls_of p) t.seen_is ∙ calls_of-own p t.run e by
+              ∙ ap (λ x. e ∷ x) (sym (own ∙ next));
+        };
+        so = subst (λ w. Tells w t.run) policy (tells e t.run t.seen_is);
       }

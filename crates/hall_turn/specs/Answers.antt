@@ -1,15 +1,19 @@
 -- What a call at a door does to the pass. (Own rules.)
 use Rattle.std.specs.Prelude.{◌≡◌, ℕ, ◌^◌, ◌≤◌, List, [], ◌∷◌, length, map}
-use Rattle.hall_runs.specs.declared.call.Act.{Act}
+use Rattle.run_model.specs.declared.call.Act.{Act}
 use Rattle.mpi_cart.specs.Grids.{below}
-use Rattle.hall_runs.specs.Runs.{Entry}
-use Rattle.hall_core.specs.Halls.{entry}
-use Rattle.hall_core.specs.Named.{IsNamed}
+use Rattle.run_model.specs.Runs.{Entry, entry}
+use Rattle.run_model.specs.Known.{IsKnownReply}
 use Rattle.wall_policy.specs.Policy.{ChineseWall}
+use Rattle.hall_core.specs.declared.claims.Claim.{Claim}
+use Rattle.hall_core.specs.Claims.{claim_reply, claim_entry, CanFinish}
+use Rattle.hall_turn.specs.declared.answer.Claimed.{Claimed}
+use Rattle.hall_turn.specs.declared.answer.Claimed.TheVariants as claimed
 use Rattle.hall_turn.specs.declared.answer.Answer.{Answer}
 use Rattle.hall_turn.specs.declared.answer.Answer.TheVariants.{Reply as Replied, Exhausted}
 use Rattle.hall_turn.specs.Runs.{Continues, calls_of}
 use Rattle.hall_turn.specs.Known.{Doorway, Known}
+use Rattle.hall_turn.specs.Machines.{ClaimsAfter}
 
 -- the pass of a process at a new door
 abbrev pub new_pass : Doorway → (process : ℕ) → Known
@@ -35,12 +39,42 @@ pub record Enters (before : Known) (new : Entry) (after : Known) : Type 0 where
   pub begins : Continues front before.seen
   pub own : calls_of before.process after.seen ≡ new ∷ calls_of before.process before.seen
 
--- The call was made and got this reply; or the door is exhausted after 2^62 turns, and the pass has looked.
+-- the same, and this is so of the run before that entry
+pub record EntersAnd (before : Known) (new : Entry) (IsSoOf : List Entry → Type 0) (after : Known)
+    : Type 0 where
+  pub enters : Enters before new after
+  pub so : IsSoOf enters.front
+
+-- the door is exhausted after 2^62 turns, and the pass has looked
+abbrev pub IsTooLate : (before after : Known) → Type 0
+IsTooLate before after = SeesOn before after × (2 ^ 62 ≤ length after.seen)
+
+-- the call was made and got this reply; or the door is exhausted
 abbrev pub Answered : (before : Known) → Act → Answer → (after : Known) → Type 0
-Answered before act (Replied reply) after = Enters before (entry (record { process = before.process; act = act }) reply) after
-Answered before act Exhausted after = SeesOn before after × (2 ^ 62 ≤ length after.seen)
+Answered before act (Replied reply) after =
+    Enters before (entry (record { process = before.process; act = act }) reply) after
+Answered before act Exhausted after = IsTooLate before after
 
 -- the processes and labels that the answer names are the policy's
 abbrev pub NamesKnown : ChineseWall → Answer → Type 0
-NamesKnown wall (Replied reply) = IsNamed wall reply
+NamesKnown wall (Replied reply) = IsKnownReply wall reply
 NamesKnown wall Exhausted = Unit {0}
+
+-- ## claims
+
+-- The claim was made: it comes to the reply of the new entry, and what it holds is that of the run
+-- before that entry. Or the door is exhausted.
+abbrev pub ClaimAnswered : (before : Known) → (request : ℕ) → Claimed → (after : Known) → Type 0
+ClaimAnswered before request (claimed.Claim claim) after =
+    EntersAnd before (claim_entry before.process request claim)
+    (λ run. ClaimsAfter before.door.policy run before.process request claim) after
+ClaimAnswered before request claimed.Exhausted after = IsTooLate before after
+
+-- a claim that was made may be finished
+abbrev pub MayFinish : Claimed → Type 0
+MayFinish (claimed.Claim claim) = CanFinish claim
+MayFinish claimed.Exhausted = Unit {0}
+
+abbrev pub ClaimNamesKnown : ChineseWall → Claimed → Type 0
+ClaimNamesKnown wall (claimed.Claim claim) = IsKnownReply wall (claim_reply claim)
+ClaimNamesKnown wall claimed.Exhausted = Unit {0}

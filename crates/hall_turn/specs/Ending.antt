@@ -1,10 +1,10 @@
 -- The end of a door.
 use Rattle.std.specs.Prelude.{◌≡◌, ℕ, ◌<◌, ◌≤◌, List, [], All, Any}
 use Rattle.wall_policy.specs.Policy.{ChineseWall}
-use Rattle.audit_book.specs.Comms.{processes}
-use Rattle.hall_runs.specs.Runs.{Entry}
-use Rattle.hall_runs.specs.Replies.{Legal}
-use Rattle.hall_core.specs.Halls.{Kept, StandsFor}
+use Rattle.run_model.specs.Comms.{processes}
+use Rattle.run_model.specs.Runs.{Entry}
+use Rattle.run_model.specs.Replies.{Legal}
+use Rattle.hall_core.specs.Halls.{HallValue, StandsFor}
 use Rattle.hall_turn.specs.Runs.{Continues, calls_of}
 use Rattle.hall_turn.specs.Known.{Known}
 
@@ -15,7 +15,7 @@ pub record HasMade (run : List Entry) (pass : Known) : Type 0 where
 
 -- There is a legal run for which the hall stands. It begins with what each pass has seen, and the calls of each process in it are those that
 -- its pass has seen; of what is no process it has none.
-pub record Closed (wall : ChineseWall) (hall : Kept) (passes : List Known) : Type 0 where
+pub record Closed (wall : ChineseWall) (hall : HallValue) (passes : List Known) : Type 0 where
   pub run : List Entry
   pub policy : hall.policy ≡ wall
   pub legal : Legal wall run

@@ -2,7 +2,7 @@
 use Rattle.std.specs.Prelude.{ℕ, List}
 use Rattle.atomic_table.specs.Seated.{TableId}
 use Rattle.wall_policy.specs.Policy.{ChineseWall}
-use Rattle.hall_runs.specs.Runs.{Entry}
+use Rattle.run_model.specs.Runs.{Entry}
 
 -- a door: which one it is, and its policy
 pub record Doorway : Type 0 where

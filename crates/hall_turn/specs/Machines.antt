@@ -1,19 +1,28 @@
 -- What a door needs of the machine behind it: the runs that it stands for.
-use Rattle.std.specs.Prelude.{◌≡◌, List, ◌∷◌}
+use Rattle.std.specs.Prelude.{◌≡◌, ℕ, List, ◌∷◌}
 use Rattle.wall_policy.specs.Policy.{ChineseWall}
-use Rattle.hall_runs.specs.declared.call.Call.{Call}
-use Rattle.hall_runs.specs.declared.reply.Reply.{Reply}
-use Rattle.hall_runs.specs.Runs.{Entry}
-use Rattle.hall_runs.specs.Replies.{Legal}
-use Rattle.hall_core.specs.Halls.{Kept, StandsFor, entry}
-use Rattle.hall_core.specs.Named.{IsNamed}
+use Rattle.run_model.specs.declared.call.Call.{Call}
+use Rattle.run_model.specs.declared.reply.Reply.{Reply}
+use Rattle.run_model.specs.Runs.{Entry, effects, entry}
+use Rattle.run_model.specs.Replies.{Legal}
+use Rattle.hall_core.specs.declared.claims.Claim.{Claim}
+use Rattle.hall_core.specs.Claims.{Claims, CanFinish}
+use Rattle.hall_core.specs.Halls.{HallValue, StandsFor}
+use Rattle.run_model.specs.Known.{IsKnownReply}
 
 -- the hall has this policy, and stands for the run
-abbrev pub Stands : ChineseWall → Kept → List Entry → Type 0
+abbrev pub Stands : ChineseWall → HallValue → List Entry → Type 0
 Stands wall hall run = (hall.policy ≡ wall) × StandsFor hall run
 
 -- a call with its reply carries a machine from each legal run that it stands for to that run with this entry
 abbrev pub Carries : {M : Type 0} → (ChineseWall → M → List Entry → Type 0) → M → M → Call → Reply → Type 0
 Carries stands old new call reply =
     (wall : ChineseWall) (run : List Entry) → Legal wall run → stands wall old run
-    → Legal wall (entry call reply ∷ run) × stands wall new (entry call reply ∷ run) × IsNamed wall reply
+    → Legal wall (entry call reply ∷ run) × stands wall new (entry call reply ∷ run) × IsKnownReply wall reply
+
+-- What else is known of a claim of p for its request, after a run: it holds the run's instance and
+-- p's rank, or is no delivery; and it may be finished, with its room as it was made.
+pub record ClaimsAfter (wall : ChineseWall) (run : List Entry) (p request : ℕ) (claim : Claim)
+    : Type 0 where
+  pub claims : Claims wall (effects run) p request claim
+  pub can : CanFinish claim

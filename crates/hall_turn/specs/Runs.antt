@@ -1,7 +1,7 @@
 -- Runs as a door speaks of them. A run has its newest entry first.
 use Rattle.std.specs.Prelude.{◌≡◌, ℕ, List, ◌++◌, ◌==◌}
 use Rattle.std.specs.List.{filter}
-use Rattle.hall_runs.specs.Runs.{Entry}
+use Rattle.run_model.specs.Runs.{Entry}
 
 -- the later run begins with the earlier one: it has its entries, and after them perhaps more
 abbrev pub Continues : (later earlier : List Entry) → Type 0

@@ -5,9 +5,9 @@ use lib.ListN.{get_elem?}
 use Rattle.atomic_table.specs.Table.{Me, Step}
 use Rattle.atomic_table.specs.declared.shared.Seat.{Seat}
 use Rattle.wall_policy.specs.Policy.{ChineseWall}
-use Rattle.audit_book.specs.Comms.{processes}
-use Rattle.hall_runs.specs.Runs.{Entry}
-use Rattle.hall_runs.specs.Replies.{Legal}
+use Rattle.run_model.specs.Comms.{processes}
+use Rattle.run_model.specs.Runs.{Entry}
+use Rattle.run_model.specs.Replies.{Legal}
 use Rattle.hall_turn.specs.Runs.{Continues, calls_of}
 use Rattle.hall_turn.specs.Known.{Known}
 use Rattle.hall_turn.specs.Views.{Told, SeatView, every, saw, drawn, declared, served}
@@ -35,7 +35,7 @@ module _ {S : Type 0} where
   IsAt p q = (q.table_id ≡ p.table_id) × (q.id ≡ p.id)
 
   abbrev pub Draws : Step S → Me S SeatView → ℕ → Me S SeatView → Type 0
-  Draws st m r m' = m' ≡ (drawn m.0 r m'.0.lates, m.1)
+  Draws st m r m' = m' ≡ (drawn m.0 r, m.1)
 
   abbrev pub Declares : Entry → Step S → Me S SeatView → ℕ → Me S SeatView → Type 0
   Declares e st m r m' = m' ≡ (declared m.0 e, m.1)
@@ -70,7 +70,6 @@ pub record CanMake (v : SeatView) : Type 0 where
   pub makes : 0 < v.made
   pub more : v.made < processes v.policy
   pub parts : 1 < v.parts
-  pub lates : v.lates ≡ 0
   pub ticket : v.ticket ≡ None
   pub out : v.out ≡ false
 
@@ -87,6 +86,10 @@ pub record Turned (v : SeatView) (e : Entry) (w : SeatView) : Type 0 where
   pub legal : Legal v.policy (e ∷ run)
   pub policy_is : w.policy ≡ v.policy
   pub seen_is : w.seen ≡ e ∷ run
+
+-- what a turn told is so of the run before the last entry
+abbrev pub TellsAfter : (seen : List Entry) → (List Entry → Type 0) → Type 0
+TellsAfter seen Told = (e : Entry) (run : List Entry) → seen ≡ e ∷ run → Told run
 
 module _ {M : Type 0} (stands : ChineseWall → M → List Entry → Type 0) where
   -- v after its wait, with the machine in hand, and the slot empty

@@ -1,17 +1,17 @@
 -- The rule of the turns.
 -- Word 0, SERVING, is the length of the run so far. Word 1, TICKET, is the next ticket. The slot has the machine, which is out only while some
 -- view's ticket is SERVING.
-use Rattle.std.specs.Prelude.{◌≡◌, ◌≢◌, ◌⊎◌, ℕ, ◌+◌, ◌^◌, ◌<◌, ◌≤◌, true, eqb, List, [], ◌∷◌, length, Option, Some, None}
+use Rattle.std.specs.Prelude.{◌≡◌, ◌≢◌, ◌⊎◌, ℕ, ◌+◌, ◌^◌, ◌<◌, ◌≤◌, true, eqb, List, [], ◌∷◌, ◌++◌, length, Option, Some, None}
 use Rattle.std.specs.List.{IsDistinct}
 use mathlib.Core.Option as opt
 use lib.ListN.{get_elem?}
 use Rattle.atomic_table.specs.Table.{State}
 use Rattle.wall_policy.specs.Policy.{ChineseWall}
-use Rattle.audit_book.specs.Comms.{processes}
-use Rattle.hall_runs.specs.Runs.{Entry}
-use Rattle.hall_runs.specs.Replies.{Legal}
+use Rattle.run_model.specs.Comms.{processes}
+use Rattle.run_model.specs.Runs.{Entry}
+use Rattle.run_model.specs.Replies.{Legal}
 use Rattle.hall_turn.specs.Runs.{Continues, calls_of}
-use Rattle.hall_turn.specs.Views.{Told, SeatView, parts_of, lates_of, every, numbers}
+use Rattle.hall_turn.specs.Views.{Told, SeatView, parts_of, tickets_of, every, numbers}
 
 -- f of each, added up
 abbrev pub total : {A : Type 0} → (A → ℕ) → List A → ℕ
@@ -33,9 +33,6 @@ pub record Fits (wall : ChineseWall) (made : ℕ) (run : List Entry) (next : ℕ
   pub differ : IsDistinct eqb (numbers v)
   pub waits : (t : ℕ) → v.ticket ≡ Some t → (length run ≤ t) × (t < next) × (0 < v.parts)
   pub serves : v.out ≡ true → (v.ticket ≡ Some (length run)) × (v.seen ≡ run)
-  pub few : v.lates ≤ v.parts
-  pub late : 0 < v.lates → (t : ℕ) → v.ticket ≡ Some t → 2 ^ 62 ≤ t
-  pub done : 0 < v.lates → v.ticket ≡ None → v.joined ≡ [] → 2 ^ 62 < length v.seen
   pub makes : 0 < v.made → (v.made ≡ made) × (0 < v.parts)
 
 -- what it says of two
@@ -48,6 +45,33 @@ pub record Apart (v w : SeatView) : Type 0 where
 pub record Agree (wall : ChineseWall) (made : ℕ) (run : List Entry) (next : ℕ) (views : List SeatView) : Type 0 where
   pub each : (j : ℕ) (v : SeatView) → get_elem? views j ≡ opt.some v → Fits wall made run next v
   pub apart : (i j : ℕ) (v w : SeatView) → get_elem? views i ≡ opt.some v → get_elem? views j ≡ opt.some w → i ≢ j → Apart v w
+
+-- turn t of the run was p's: before its entry the run has t others
+pub record TookTurn (run : List Entry) (p t : ℕ) : Type 0 where
+  pub later : List Entry
+  pub entry : Entry
+  pub earlier : List Entry
+  pub at : later ++ entry ∷ earlier ≡ run
+  pub number : length earlier ≡ t
+  pub by : entry.call.process ≡ p
+
+-- ticket t is out, with a view of p
+pub record HoldsTicket (views : List SeatView) (p t : ℕ) : Type 0 where
+  pub seat : ℕ
+  pub view : SeatView
+  pub at : get_elem? views seat ≡ opt.some view
+  pub by : view.process ≡ p
+  pub ticket : view.ticket ≡ Some t
+
+-- the turn or the ticket of this number is p's
+abbrev pub HasNumber : (run : List Entry) (views : List SeatView) (p t : ℕ) → Type 0
+HasNumber run views p t = TookTurn run p t ⊎ HoldsTicket views p t
+
+-- of the turns and tickets numbered 2^62 or more p has at most one
+abbrev pub HasOneLate : (run : List Entry) (views : List SeatView) (p : ℕ) → Type 0
+HasOneLate run views p =
+    (t u : ℕ) → 2 ^ 62 ≤ t → 2 ^ 62 ≤ u
+    → HasNumber run views p t → HasNumber run views p u → t ≡ u
 
 module _ {M : Type 0} (stands : ChineseWall → M → List Entry → Type 0) where
   pub record AtHome (wall : ChineseWall) (run : List Entry) (s : State (Option M) SeatView) : Type 0 where
@@ -68,9 +92,10 @@ module _ {M : Type 0} (stands : ChineseWall → M → List Entry → Type 0) whe
     pub made : ℕ
     pub words : s.words ≡ length run ∷ next ∷ []
     pub legal : Legal wall run
-    pub order : length run ≤ next
-    -- of the tickets numbered 2^62 or more each pass has at most one
-    pub bound : next ≤ 2 ^ 62 + total lates_of s.views
+    -- TICKET is SERVING and the number of views with a ticket
+    pub drawn : next ≡ length run + total tickets_of s.views
+    -- of the turns and tickets numbered 2^62 or more each process has at most one
+    pub late : (p : ℕ) → HasOneLate run s.views p
     -- the parts of the right to close are as many as the processes
     pub whole : total parts_of s.views ≡ processes wall
     pub small : processes wall < 2 ^ 32

@@ -1,10 +1,10 @@
 -- What a seat knows, and how its steps change that.
 use Rattle.std.specs.Prelude.{ℕ, ◌+◌, ◌-◌, Bool, false, List, [], ◌∷◌, ◌++◌, map, Option, Some, None}
 use Rattle.wall_policy.specs.Policy.{ChineseWall}
-use Rattle.hall_runs.specs.declared.call.Act.TheVariants.{Take}
-use Rattle.hall_runs.specs.declared.reply.Reply.TheVariants.{Pending}
-use Rattle.audit_book.specs.Comms.{processes}
-use Rattle.hall_runs.specs.Runs.{Entry}
+use Rattle.run_model.specs.declared.call.Act.TheVariants.{Take}
+use Rattle.run_model.specs.declared.reply.Reply.TheVariants.{Pending}
+use Rattle.run_model.specs.Comms.{processes}
+use Rattle.run_model.specs.Runs.{Entry}
 
 -- what the pass of a process has seen
 pub record Told : Type 0 where
@@ -24,8 +24,6 @@ pub record SeatView : Type 0 where
   pub said : Option Entry
   -- its parts of the right to close, one for each pass in it; a note has none
   pub parts : ℕ
-  -- how many of its parts stand for a turn or ticket numbered 2^62 or more
-  pub lates : ℕ
   -- how many passes were made, if it is the one that makes them
   pub made : ℕ
   -- the passes that were joined into it
@@ -41,8 +39,13 @@ no_entry = record { call = record { process = 0; act = Take 0 }; reply = Pending
 abbrev pub parts_of : SeatView → ℕ
 parts_of v = v.parts
 
-abbrev pub lates_of : SeatView → ℕ
-lates_of v = v.lates
+-- how many tickets it has: one or none
+abbrev pub number_of : Option ℕ → ℕ
+number_of (Some ticket) = 1
+number_of None = 0
+
+abbrev pub tickets_of : SeatView → ℕ
+tickets_of v = number_of v.ticket
 
 -- what the pass of the seat itself has seen
 abbrev pub own_of : SeatView → Told
@@ -63,7 +66,18 @@ numbers v = numbers_in (every v)
 -- the seat that makes the passes, as the pass of this process
 abbrev pub maker : ChineseWall → ℕ → SeatView
 maker wall n =
-    record { policy = wall; process = n; seen = []; told = []; ticket = None; out = false; said = None; parts = processes wall - n; lates = 0; made = n + 1; joined = [] }
+    record {
+      policy = wall;
+      process = n;
+      seen = [];
+      told = [];
+      ticket = None;
+      out = false;
+      said = None;
+      parts = processes wall - n;
+      made = n + 1;
+      joined = [];
+    }
 
 -- the first pass, of process 0, which makes the others
 abbrev pub newcomer : ChineseWall → SeatView
@@ -76,7 +90,18 @@ maker_left v = record v { process = v.made; parts = v.parts - 1; made = v.made +
 -- a seat that has seen as much as this one, and has so many parts
 abbrev pub beside : SeatView → (parts : ℕ) → SeatView
 beside v parts =
-    record { policy = v.policy; process = v.process; seen = v.seen; told = []; ticket = None; out = false; said = None; parts = parts; lates = 0; made = 0; joined = [] }
+    record {
+      policy = v.policy;
+      process = v.process;
+      seen = v.seen;
+      told = [];
+      ticket = None;
+      out = false;
+      said = None;
+      parts = parts;
+      made = 0;
+      joined = [];
+    }
 
 -- a new seat is the pass that the maker was
 abbrev pub next_pass : SeatView → SeatView
@@ -91,12 +116,23 @@ informed v w = record v { told = w.seen }
 
 -- a pass has taken in a pass
 abbrev pub gathered : SeatView → SeatView → SeatView
-gathered v w = record v { parts = v.parts + w.parts; lates = v.lates + w.lates; joined = every w ++ v.joined }
+gathered v w = record v { parts = v.parts + w.parts; joined = every w ++ v.joined }
 
 -- what is left of a seat that was taken in
 abbrev pub spent : SeatView
 spent =
-    record { policy = no_wall; process = 0; seen = []; told = []; ticket = None; out = false; said = None; parts = 0; lates = 0; made = 0; joined = [] }
+    record {
+      policy = no_wall;
+      process = 0;
+      seen = [];
+      told = [];
+      ticket = None;
+      out = false;
+      said = None;
+      parts = 0;
+      made = 0;
+      joined = [];
+    }
 
 ---- A turn.
 
@@ -104,8 +140,8 @@ spent =
 abbrev pub saw : SeatView → List Entry → (out : Bool) → SeatView
 saw v run out = record v { seen = run; told = []; out = out }
 
-abbrev pub drawn : SeatView → (ticket lates : ℕ) → SeatView
-drawn v ticket lates = record v { ticket = Some ticket; lates = lates }
+abbrev pub drawn : SeatView → (ticket : ℕ) → SeatView
+drawn v ticket = record v { ticket = Some ticket }
 
 abbrev pub declared : SeatView → Entry → SeatView
 declared v e = record v { said = Some e }

@@ -1,7 +1,7 @@
 //! The end of a door.
 ghost use Rattle.std.specs.Prelude.{◌≡◌, ◌<◌, ◌≤◌, ◌↔◌, length, IfOk, IfErr, IsErr};
 ghost use Rattle.std.specs.List.{All};
-ghost use Rattle.audit_book.specs.Comms.{processes};
+ghost use Rattle.run_model.specs.Comms.{processes};
 ghost use Rattle.hall_turn.specs.Ending.{Closed};
 
 use crate::door::Door;
@@ -9,7 +9,7 @@ use crate::pass::Passes;
 use hall_core::Hall;
 use thiserror::Error;
 
-/// Why a door was not closed. Want of memory is no cause: closing takes none.
+/// Why a door was not closed. Out of memory is no cause: closing takes none.
 #[derive(Clone, Copy, Debug, PartialEq, Eq, Error)]
 pub enum CloseFault {
     /// There are fewer passes than processes.

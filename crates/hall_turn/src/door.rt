@@ -1,19 +1,22 @@
 //! The door, and the calls that take a turn there.
-ghost use Rattle.std.specs.Prelude.{◌≡◌, ◌<◌, ◌≤◌, [], IfOk, vec_capacity};
+ghost use Rattle.std.specs.Prelude.{◌≡◌, ◌<◌, ◌≤◌, [], IfOk, IfSome, IfNone, vec_capacity};
 ghost use Rattle.std.specs.List.{All};
-ghost use Rattle.hall_runs.specs.declared.call.Act.TheVariants.{Post as ToPost, Take as ToTake, Info as ToInfo};
-ghost use Rattle.audit_book.specs.Comms.{processes};
-ghost use Rattle.hall_runs.specs.Replies.{Legal};
-ghost use Rattle.hall_core.specs.Named.{IsKnownLabel, HasKnownLabel};
-ghost use Rattle.hall_turn.specs.Answers.{Answered, IsSamePass, NamesKnown, new_passes};
+ghost use Rattle.run_model.specs.declared.call.Act.TheVariants.{Post as ToPost, Take as ToTake, Info as ToInfo};
+ghost use Rattle.run_model.specs.Comms.{processes};
+ghost use Rattle.run_model.specs.Replies.{Legal};
+ghost use Rattle.run_model.specs.Runs.{entry};
+ghost use Rattle.run_model.specs.Known.{IsKnownLabel, HasKnownLabel, IsKnownReply};
+ghost use Rattle.hall_turn.specs.Answers.{Answered, ClaimAnswered, ClaimNamesKnown, EntersAnd, MayFinish, IsSamePass, IsTooLate, NamesKnown, new_passes};
 ghost use Rattle.hall_turn.specs.Views.{newcomer};
 
-use crate::answer::Answer;
+use crate::answer::{Answer, Claimed};
+use crate::deed::{Claiming, Deed};
 use crate::pass::{Pass, Passes};
 use crate::rule::View;
+use crate::steps::Ended;
 use crate::turns::Turns;
 use atomic_table::{Seat, Table};
-use hall_core::{Act, Call, Hall, NoMemory, Posting};
+use hall_core::{Act, Call, Hall, NoMemory, Posting, finish};
 use std::alloc::Global;
 use std::marker::Model;
 use std::snapshot::Snapshot;
@@ -33,7 +36,7 @@ pub struct Door {
 
 impl Model for Door {
     ghost use Rattle.std.specs.Prelude.{◌≡◌, ◌<◌};
-    ghost use Rattle.audit_book.specs.Comms.{processes};
+    ghost use Rattle.run_model.specs.Comms.{processes};
     ghost use Rattle.hall_turn.specs.Known.{Doorway};
 
     ghost Value = { Doorway };
@@ -79,11 +82,16 @@ impl Door {
         let last = self.count - 1;
         for process in 0..last {
             let seat = self.turns.make_pass(&mut maker);
-            passes.push_reserved(Pass { seat, process });
+            passes.push_reserved(Pass {
+                seat,
+                process,
+                settled: false,
+            });
         }
         passes.push_reserved(Pass {
             seat: maker,
             process: last,
+            settled: false,
         });
         passes
     }
@@ -113,7 +121,31 @@ impl Door {
         ensures answered { Answered pass.old (ToTake request) result pass.new }
         ensures named { NamesKnown self.now.policy result }
     {
-        self.call(rt, pass, Act::Take(request))
+        match self.claim(rt, pass, request) {
+            Claimed::Claim(claim) => Answer::Reply(finish(claim)),
+            Claimed::Exhausted => Answer::Exhausted,
+        }
+    }
+
+    /// All of a take that needs the hall, at the pass's turn. What is left, `finish` does after the turn.
+    ///
+    /// `Exhausted` is answered after 2^62 turns alone; then the request stays, and the pass has looked, as by `front`.
+    pub fn claim<R: Wait>(&self, rt: &R, pass: &mut Pass, request: u64) -> Claimed
+        requires door { pass.old.door ≡ self.now }
+        ensures same { IsSamePass pass.old pass.new }
+        ensures legal { Legal self.now.policy pass.new.seen }
+        ensures answered { ClaimAnswered pass.old request result pass.new }
+        ensures may { MayFinish result }
+        ensures named { ClaimNamesKnown self.now.policy result }
+    {
+        let claiming = Claiming {
+            process: pass.process,
+            request,
+        };
+        match self.carry_out(rt, pass, claiming) {
+            Some(claim) => Claimed::Claim(claim),
+            None => Claimed::Exhausted,
+        }
     }
 
     /// The size of a communicator and the process's rank in it, at the pass's turn.
@@ -129,7 +161,7 @@ impl Door {
         self.call(rt, pass, Act::Info(comm))
     }
 
-    // One call, at the pass's turn. The first look decides whether the door is exhausted.
+    // One call, at the pass's turn.
     fn call<R: Wait>(&self, rt: &R, pass: &mut Pass, act: Act) -> Answer
         requires door { pass.old.door ≡ self.now }
         requires label { HasKnownLabel self.now.policy act }
@@ -138,13 +170,39 @@ impl Door {
         ensures answered { Answered pass.old act result pass.new }
         ensures named { NamesKnown self.now.policy result }
     {
-        if self.turns.look(&mut pass.seat) >= LAST {
-            return Answer::Exhausted;
-        }
         let call = Call {
             process: pass.process,
             act,
         };
-        Answer::Reply(self.turns.turn(rt, &mut pass.seat, call))
+        match self.carry_out(rt, pass, call) {
+            Some(reply) => Answer::Reply(reply),
+            None => Answer::Exhausted,
+        }
+    }
+
+    // One deed, at the pass's turn; none where the door is exhausted, which the first look decides.
+    fn carry_out<R: Wait, D: Deed + Drop>(
+        &self,
+        rt: &R,
+        pass: &mut Pass,
+        deed: D,
+    ) -> Option<D::Told>
+        requires door { pass.old.door ≡ self.now }
+        requires by { (D.call deed).process ≡ pass.old.process }
+        requires may { D.may self.now.policy deed }
+        ensures same { IsSamePass pass.old pass.new }
+        ensures legal { Legal self.now.policy pass.new.seen }
+        ensures enters { IfSome result (λ told.
+            EntersAnd pass.old (entry (D.call deed) (D.reply told))
+            (λ run. D.tells self.now.policy run deed told) pass.new) }
+        ensures named { IfSome result (λ told. IsKnownReply self.now.policy (D.reply told)) }
+        ensures exhausted { IfNone result (IsTooLate pass.old pass.new) }
+    {
+        if self.turns.look(&mut pass.seat) >= LAST {
+            return None;
+        }
+        let Ended { told, settled } = self.turns.turn(rt, &mut pass.seat, deed);
+        pass.settled = settled;
+        Some(told)
     }
 }

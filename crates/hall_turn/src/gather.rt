@@ -24,11 +24,13 @@ impl Turns<Hall> {
         let Pass {
             mut seat,
             process: _,
+            settled: _,
         } = first;
         while let Some(pass) = passes.pop() {
             let Pass {
                 seat: other,
                 process: _,
+                settled: _,
             } = pass;
             self.table.shared.join_seat::<Gather>(&mut seat, other);
         }

@@ -6,6 +6,7 @@
 
 mod answer;
 mod close;
+mod deed;
 mod door;
 mod gather;
 mod machine;
@@ -17,9 +18,9 @@ mod steps;
 mod tests;
 mod turns;
 
-pub use answer::Answer;
+pub use answer::{Answer, Claimed};
 pub use close::{CloseFault, Unclosed};
 pub use door::Door;
-pub use hall_core::NoMemory;
+pub use hall_core::{Claim, NoMemory, finish};
 pub use note::Note;
 pub use pass::{Pass, Passes};

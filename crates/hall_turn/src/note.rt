@@ -1,6 +1,6 @@
 //! Notes, by which one pass tells another what it has seen.
 ghost use Rattle.std.specs.Prelude.{◌≡◌};
-ghost use Rattle.hall_runs.specs.Replies.{Legal};
+ghost use Rattle.run_model.specs.Replies.{Legal};
 ghost use Rattle.hall_turn.specs.Runs.{Continues};
 ghost use Rattle.hall_turn.specs.Answers.{IsSamePass, SeesOn};
 

@@ -1,6 +1,6 @@
 //! Passes, by which processes call at a door.
 ghost use Rattle.std.specs.Prelude.{◌≡◌, length};
-ghost use Rattle.hall_runs.specs.Replies.{Legal};
+ghost use Rattle.run_model.specs.Replies.{Legal};
 ghost use Rattle.hall_turn.specs.Answers.{IsSamePass, SeesOn};
 
 use crate::door::Door;
@@ -14,6 +14,8 @@ use std::marker::Model;
 pub struct Pass {
     pub(crate) seat: Seat<Option<Hall>, View>,
     pub(crate) process: u32,
+    // The last turn settled an instance. It is a hint.
+    pub(crate) settled: bool,
 }
 
 impl Model for Pass {
@@ -42,6 +44,11 @@ impl Pass {
         ensures legal { Legal self.now.door.policy self.now.seen }
     {
         self.process
+    }
+
+    /// Whether the pass's last turn settled an instance, for those that sleep until one does. It is a hint: nothing is proved of it.
+    pub fn settled(&self) -> bool {
+        self.settled
     }
 }
 

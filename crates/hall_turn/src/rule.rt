@@ -49,7 +49,7 @@ impl<S> Play<S, View> for Draw {
 
 /// A call with its reply.
 pub(crate) trait Saying {
-    ghost use Rattle.hall_runs.specs.Runs.{Entry};
+    ghost use Rattle.run_model.specs.Runs.{Entry};
 
     ghost entry: { Entry };
 }

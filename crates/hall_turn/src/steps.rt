@@ -2,26 +2,45 @@
 ghost use Rattle.std.specs.Prelude.{◌≡◌, ◌^◌, ◌<◌, [], ◌∷◌, true, false, Some, None, length};
 ghost use mathlib.Core.Option.{none};
 ghost use Rattle.atomic_table.specs.Table.{step};
-ghost use Rattle.hall_core.specs.Halls.{entry};
-ghost use Rattle.hall_core.specs.Named.{HasKnownLabel, IsNamed};
+ghost use Rattle.run_model.specs.Runs.{entry};
+ghost use Rattle.run_model.specs.Known.{IsKnownReply};
 ghost use Rattle.hall_turn.specs.Views.{maker_left, next_pass, noted, informed, declared, served, drawn};
-ghost use Rattle.hall_turn.specs.Steps.{Looks, IsAt, IsIdle, IsNote, IsReady, Took, Turned, CanMake};
+ghost use Rattle.hall_turn.specs.Steps.{Looks, IsAt, IsIdle, IsNote, IsReady, Took, Turned, TellsAfter, CanMake};
 
+use crate::deed::Deed;
 use crate::machine::Machine;
 use crate::rule::{AsNote, Declare, Draw, Learn, Look, NextPass, Saying, Serve, View};
 use crate::turns::Turns;
 use atomic_table::Seat;
-use hall_core::{Call, Reply};
 use std::marker::Brand;
 use std::snapshot::Snapshot;
 use std::sync::Wait;
-use std::thread;
+use std::{hint, thread};
 
 const SERVING: usize = 0;
 
 const TICKET: usize = 1;
 
 const SLOT: usize = 0;
+
+/// What a turn told, and whether it settled an instance. That is a hint: nothing is proved of it.
+pub(crate) struct Ended<T> {
+    pub(crate) told: T,
+    pub(crate) settled: bool,
+}
+
+/// How often a seat looks for its turn before it yields between looks.
+const LOOKS: u32 = 2000;
+
+// Between two looks; gives how many there were.
+fn pause(looks: u32) -> u32 {
+    if looks < LOOKS {
+        hint::spin_loop();
+        return looks + 1;
+    }
+    thread::yield_now();
+    looks
+}
 
 impl<M: Machine> Turns<M> {
     // The seat becomes the pass of the next process, and the new one is the pass that it was.
@@ -74,10 +93,9 @@ impl<M: Machine> Turns<M> {
         requires ticket { seat.old.me.0.ticket ≡ None }
         requires out { seat.old.me.0.out ≡ false }
         requires parts { 0 < seat.old.me.0.parts }
-        requires joined { seat.old.me.0.joined ≡ [] }
         requires few { length seat.old.me.0.seen < 2 ^ 62 }
         ensures at { IsAt seat.old seat.new }
-        ensures draws { seat.new.me ≡ (drawn seat.old.me.0 result seat.new.me.0.lates, seat.old.me.1) }
+        ensures draws { seat.new.me ≡ (drawn seat.old.me.0 result, seat.old.me.1) }
     {
         self.table.shared.fetch_add::<Draw>(seat, TICKET, 1)
     }
@@ -93,6 +111,7 @@ impl<M: Machine> Turns<M> {
         ensures at { IsAt seat.old seat.new }
         ensures took { Took M.stands seat.old.me.0 result seat.new.me }
     {
+        let mut looks: u32 = 0;
         for _ in rt.forever() {
             if self.look(seat) == ticket {
                 let Some(machine) = self.table.shared.exchange(seat, SLOT, None) else {
@@ -100,26 +119,26 @@ impl<M: Machine> Turns<M> {
                 };
                 return machine;
             }
-            thread::yield_now();
+            looks = pause(looks);
         }
         unreachable!()
     }
 
     // The call and its reply are what the turn will add to the run.
-    fn declare<J: Saying>(
+    fn declare<J: Saying, D: Deed>(
         &self,
         seat: &mut Seat<Option<M>, View>,
-        call: &Snapshot<Call>,
-        reply: &Reply,
+        deed: &Snapshot<D>,
+        told: &D::Told,
     )
         requires at { seat.old.table_id ≡ self.now.table.shared.table_id }
         requires out { seat.old.me.0.out ≡ true }
-        requires saying { J.entry ≡ entry call.now.value reply.now }
+        requires saying { J.entry ≡ entry (D.call deed.now.value) (D.reply told.now) }
         ensures at { IsAt seat.old seat.new }
-        ensures declares { seat.new.me ≡ (declared seat.old.me.0 (entry call.now.value reply.now), seat.old.me.1) }
+        ensures declares { seat.new.me ≡ (declared seat.old.me.0 (entry (D.call deed.now.value) (D.reply told.now)), seat.old.me.1) }
     {
-        let _ = call;
-        let _ = reply;
+        let _ = deed;
+        let _ = told;
         self.table.shared.load::<Declare<J>>(seat, SERVING);
     }
 
@@ -142,29 +161,34 @@ impl<M: Machine> Turns<M> {
         self.table.shared.fetch_add::<Serve>(seat, SERVING, 1);
     }
 
-    // One turn: the call is applied, and its entry joins the run.
-    pub(crate) fn turn<R: Wait>(
+    // One turn: the deed is carried out, and the entry of its call joins the run.
+    pub(crate) fn turn<R: Wait, D: Deed>(
         &self,
         rt: &R,
         seat: &mut Seat<Option<M>, View>,
-        call: Call,
-    ) -> Reply
+        deed: D,
+    ) -> Ended<D::Told>
         requires at { seat.old.table_id ≡ self.now.table.shared.table_id }
-        requires idle { IsIdle call.process seat.old.me }
+        requires idle { IsIdle (D.call deed).process seat.old.me }
         requires few { length seat.old.me.0.seen < 2 ^ 62 }
-        requires label { HasKnownLabel seat.old.me.0.policy call.act }
+        requires may { D.may seat.old.me.0.policy deed }
         ensures at { IsAt seat.old seat.new }
-        ensures idle { IsIdle call.process seat.new.me }
-        ensures turned { Turned seat.old.me.0 (entry call result) seat.new.me.0 }
-        ensures named { IsNamed seat.old.me.0.policy result }
+        ensures idle { IsIdle (D.call deed).process seat.new.me }
+        ensures turned { Turned seat.old.me.0 (entry (D.call deed) (D.reply result.told))
+            seat.new.me.0 }
+        ensures named { IsKnownReply seat.old.me.0.policy (D.reply result.told) }
+        ensures tells { TellsAfter seat.new.me.0.seen
+            (λ run. D.tells seat.old.me.0.policy run deed result.told) }
     {
         let ticket = self.draw(seat);
         let mut machine = self.take_out(rt, seat, ticket);
-        let asked = Snapshot::of(&call);
-        let reply = machine.apply(call);
-        self.declare::<Brand>(seat, &asked, &reply);
+        let asked = Snapshot::of(&deed);
+        let before = machine.entries();
+        let told = deed.carry_out(&mut machine);
+        let settled = machine.entries().wrapping_sub(before) == 2;
+        self.declare::<Brand, D>(seat, &asked, &told);
         self.put_back(seat, machine);
         self.serve(seat);
-        reply
+        Ended { told, settled }
     }
 }

@@ -1,7 +1,7 @@
 //! Doors of one process and of four. Alpha and beta are rivals.
 ghost use Rattle.std.specs.Prelude.{◌≡◌, IfOk};
 ghost use Rattle.std.specs.List.{All};
-ghost use Rattle.hall_core.specs.Named.{IsKnownLabel};
+ghost use Rattle.run_model.specs.Known.{IsKnownLabel};
 
 use crate::{Answer, CloseFault, Door, Pass, Passes, Unclosed};
 use coll_routes::{Own, Signature};

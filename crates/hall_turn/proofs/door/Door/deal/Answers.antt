@@ -1,5 +1,5 @@
 use Rattle.std.proofs.Common.{◌≡◌, ◌∙◌, ◌+◌, ◌-◌, [], ap, sym, arith}
-use Rattle.audit_book.specs.Comms.{processes}
+use Rattle.run_model.specs.Comms.{processes}
 use Rattle.hall_turn.specs.Known.{Doorway, Known}
 use Rattle.hall_turn.specs.Views.{SeatView, maker_left, next_pass}
 use Rattle.hall_turn.specs.Answers.{new_pass, new_passes}

@@ -1,6 +1,6 @@
 use Rattle.std.proofs.Common.{◌≡◌, ◌≤◌, []}
 use Rattle.std.specs.Prelude.{vec_capacity}
-use Rattle.audit_book.specs.Comms.{processes}
+use Rattle.run_model.specs.Comms.{processes}
 use Rattle.hall_turn.specs.Views.{maker}
 use Rattle.hall_turn.specs.Answers.{new_passes}
 use Rattle.hall_turn.proofs.door.Door.deal.Given as goal

@@ -1,5 +1,5 @@
 use Rattle.std.proofs.Common.{subst, ap, sym, ◌≤◌, length}
-use Rattle.audit_book.specs.Comms.{processes}
+use Rattle.run_model.specs.Comms.{processes}
 use Rattle.wall_policy.specs.Policy.{ChineseWall}
 use Rattle.hall_turn.specs.Known.{Doorway}
 use Rattle.hall_turn.specs.Ending.{Closed}

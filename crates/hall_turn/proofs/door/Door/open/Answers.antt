@@ -1,6 +1,6 @@
 use Rattle.std.proofs.Common.{ap, sym, arith, ◌∙◌}
 use Rattle.wall_policy.specs.Policy.{ChineseWall}
-use Rattle.audit_book.specs.Comms.{processes}
+use Rattle.run_model.specs.Comms.{processes}
 use Rattle.hall_turn.specs.Machines.{Stands}
 use Rattle.hall_turn.proofs.KeepLemmas.{opens}
 use Rattle.hall_turn.proofs.door.Door.open.Goals as goal

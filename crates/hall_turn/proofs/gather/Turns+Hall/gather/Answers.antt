@@ -36,7 +36,8 @@ join_seat-requires c =
       ap (λ (x : Known). x.door.name) c.pass.view_is ∙ door_is all rest c.in-Some-pop.pass t.table.shared.table_id c.in-Some-pop.ensures.items i.of,
       p.slots,
       omega arith,
-      joins_pass Stands t.table.shared.key.value m.id m.me.0 o.id o.me.0 i.gathers.out p.out i.gathers.some_part (omega arith) i.gathers.ticket,
+      joins_pass Stands t.table.shared.key.value m.id m.me.0 o.id o.me.0 i.gathers.out p.out
+          i.gathers.some_part (omega arith) i.gathers.ticket p.ticket,
     )
 
 pub loop-pass-preserved : goal.loop-pass-preserved

@@ -7,5 +7,9 @@ fetch_add-requires g c =
     let t = c.args.self.now in
     let m = c.args.seat.now.me in
     let w = t.counts.0 in
-    let r = c.requires in
-    (r.at, omega arith, draws g.M.Machine.stands t.table.shared.key.value t.table.shared.table_id.slots c.args.seat.now.id m.0 m.1 r.ticket r.out r.parts r.joined r.few)
+    let r = c.requires in (
+      r.at,
+      omega arith,
+      draws g.M.Machine.stands t.table.shared.key.value
+          t.table.shared.table_id.slots c.args.seat.now.id m.0 m.1 r.ticket r.out r.parts r.few,
+    )

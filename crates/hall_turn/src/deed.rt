@@ -1,0 +1,77 @@
+//! What is done with the machine in a turn.
+ghost use Rattle.std.specs.Prelude.{List};
+ghost use Rattle.wall_policy.specs.Policy.{ChineseWall};
+ghost use Rattle.run_model.specs.declared.call.Call.{Call};
+ghost use Rattle.run_model.specs.declared.reply.Reply.{Reply};
+ghost use Rattle.run_model.specs.Runs.{Entry};
+ghost use Rattle.run_model.specs.Replies.{Legal};
+ghost use Rattle.hall_core.specs.Claims.{to_take, claim_reply};
+ghost use Rattle.run_model.specs.Known.{HasKnownLabel};
+ghost use Rattle.hall_turn.specs.Machines.{Carries, ClaimsAfter};
+
+use crate::machine::Machine;
+use hall_core::{Call, Claim, Reply};
+
+/// It is one call. What it tells comes to a reply, which may be one that is not made yet.
+pub(crate) trait Deed {
+    type Told;
+
+    /// The call.
+    ghost call: { Self → Call };
+
+    /// The reply to it.
+    ghost reply: { Self.Told → Reply };
+
+    /// What its maker sees to.
+    ghost may: { ChineseWall → Self → Type 0 };
+
+    /// What else is known of what it tells, after this run.
+    ghost tells: { ChineseWall → List Entry → Self → Self.Told → Type 0 };
+
+    fn carry_out<M: Machine>(self, machine: &mut M) -> Self::Told
+        requires { (wall : ChineseWall) × (run : List Entry)
+            × Legal wall run × M.stands wall machine.old run × may wall self }
+        ensures carries { Carries M.stands machine.old machine.new (call self) (reply result) }
+        ensures tells { (wall : ChineseWall) (run : List Entry) → Legal wall run
+            → M.stands wall machine.old run → tells wall run self result };
+}
+
+impl Deed for Call {
+    type Told = Reply;
+
+    ghost call = { λ call. call };
+
+    ghost reply = { λ reply. reply };
+
+    ghost may = { λ wall call. HasKnownLabel wall call.act };
+
+    ghost tells = { λ _ _ _ _. Unit };
+
+    fn carry_out<M: Machine>(self, machine: &mut M) -> Reply {
+        machine.apply(self)
+    }
+}
+
+/// A claim of a process for its request.
+#[derive(Drop)]
+pub(crate) struct Claiming {
+    pub(crate) process: u32,
+    pub(crate) request: u64,
+}
+
+impl Deed for Claiming {
+    type Told = Claim;
+
+    ghost call = { λ it. to_take it.process it.request };
+
+    ghost reply = { claim_reply };
+
+    ghost may = { λ _ _. Unit };
+
+    ghost tells = { λ wall run it claim. ClaimsAfter wall run it.process it.request claim };
+
+    fn carry_out<M: Machine>(self, machine: &mut M) -> Claim {
+        let Claiming { process, request } = self;
+        machine.claim(process, request)
+    }
+}
