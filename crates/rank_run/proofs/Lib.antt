@@ -1,4 +1,5 @@
 pub mod WaitLemmas
+pub mod CountLemmas
 pub mod PlayLemmas
 pub mod RunLemmas
 pub mod RowProofs

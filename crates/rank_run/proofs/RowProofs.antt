@@ -1,7 +1,7 @@
 -- Worked rows.
 use Rattle.std.proofs.Common.{List, [], ◌∷◌, ◌++◌, length, length-append, refl, ap, arith}
 use Rattle.std.proofs.lemmas.List.{length-replicate}
-use Rattle.hall_runs.specs.Runs.{Entry}
+use Rattle.run_model.specs.Runs.{Entry}
 use Rattle.rank_run.specs.Waits.{pending_takes}
 use Rattle.rank_run.specs.Plays.{Plays}
 use Rattle.rank_run.specs.Rows.{ScriptWaits, ScriptGivesUp, ActsLeftOut, WaitEnds, WaitOnce, WaitGivesUp, waits_for, ends, other}

@@ -1,128 +1,119 @@
 -- Jobs that are handed out and played.
-use Rattle.std.proofs.Common.{◌≡◌, ℕ, zero, suc, ◌<◌, ◌≤◌, List, [], ◌∷◌, ◌++◌, length, map, get_or, reverse, vec_items, vec_capacity, Global, append_assoc, refl, sym, ap, subst, subst₂, ◌∙◌, arith}
-use Rattle.std.specs.List.{All}
+use Rattle.std.proofs.Common.{◌≡◌, ℕ, zero, suc, ◌+◌, ◌*◌, ◌^◌, ◌<◌, ◌≤◌}
+use Rattle.std.proofs.Common.{◌&&◌, Bool, true, false, not, true≢false}
+use Rattle.std.proofs.Common.{List, [], ◌∷◌, ◌++◌, length, map, take, get_or, reverse, append_assoc}
+use Rattle.std.proofs.Common.{vec_items, vec_capacity, Global, refl, sym, ap, subst, subst₂}
+use Rattle.std.proofs.Common.{◌∙◌, arith}
+use Rattle.std.specs.List.{All, sum_by}
 use Rattle.std.specs.Global.{Vec}
-use Rattle.std.proofs.lemmas.List.{get_or-map, length-map, map-append}
+use Rattle.std.proofs.Math.Nat.{mul-le-mul_left, mul-add}
+use Rattle.std.proofs.lemmas.List.{get_or-map, length-map, length-reverse, map-append}
 use Rattle.std.proofs.lemmas.List.Elements.{All-push}
 use Rattle.std.proofs.lemmas.List.FromFn.{get_or-map-range_with_len}
+use Rattle.std.proofs.lemmas.List.Sums.{sum_by_more, sum_by-take-le}
+use Rattle.std.specs.declared.thread.PromisedHandle.{PromisedHandle}
 use Rattle.wall_policy.specs.Policy.{ChineseWall}
-use Rattle.audit_book.specs.Comms.{processes}
-use Rattle.hall_runs.specs.declared.call.Act.{Act}
-use Rattle.hall_runs.specs.declared.reply.Reply.{Reply}
-use Rattle.hall_runs.specs.Replies.{Legal}
-use Rattle.hall_core.specs.Halls.{Kept}
-use Rattle.hall_core.specs.Named.{HasKnownLabel, IsNamed}
-use Rattle.hall_turn.specs.Runs.{calls_of}
+use Rattle.run_model.specs.Comms.{processes}
+use Rattle.run_model.specs.declared.call.Act.{Act}
+use Rattle.run_model.specs.declared.reply.Reply.{Reply}
+use Rattle.run_model.specs.Replies.{Legal}
+use Rattle.hall_core.specs.Halls.{HallValue}
+use Rattle.run_model.specs.Known.{HasKnownLabel, IsKnownReply, ScriptsHaveKnownLabels}
+use Rattle.hall_turn.specs.Runs.{Continues, calls_of}
 use Rattle.hall_turn.specs.Known.{Doorway, Known}
 use Rattle.hall_turn.specs.Answers.{new_pass, new_passes}
 use Rattle.hall_turn.specs.Ending.{HasMade, Closed}
-use Rattle.hall_turn.proofs.DealLemmas.{passes_length}
+use Rattle.hall_turn.proofs.HallTurnLemmas.{passes_length, continues_length}
 use Rattle.rank_run.specs.declared.rank.Job.{Job}
 use Rattle.rank_run.specs.declared.rank.Played.{Played}
-use Rattle.std.specs.Prelude.{Option, Some, IfSome, Result, Ok, Err, IfOk}
-use Rattle.std.specs.declared.thread.PromisedHandle.{PromisedHandle}
 use Rattle.rank_run.specs.declared.run.Playing.{Playing}
+use Rattle.rank_run.specs.Waits.{tries}
 use Rattle.rank_run.specs.Plays.{Plays}
-use Rattle.rank_run.specs.Jobs.{made, IsFresh, HasPlayed, HaveRoom, AllEnded, HaveParts, AllPlayed, handed, passes_of, scripts_of}
-use Rattle.rank_run.specs.Ran.{HaveLabels, Ran}
+use Rattle.rank_run.specs.Jobs.{made, IsFresh, HasPlayed, HaveRoom, AllPlayed, are_whole}
+use Rattle.rank_run.specs.Jobs.{handed, passes_of, scripts_of, passes_in, replies_in}
+use Rattle.rank_run.specs.Ran.{Ran, most_turns}
+use Rattle.rank_run.proofs.CountLemmas.{calls_below, calls_whole, sum_le, both_le}
 
-pub ended_none : (patience : ℕ) (ended : List (Option Played)) → ended ≡ [] → AllEnded patience [] ended
-unfolding AllEnded
-ended_none patience [] e = tt
-ended_none patience (x ∷ ended) e = absurd (cc)
+pub none_played : (patience : ℕ) (all : List Played) → all ≡ [] → AllPlayed patience [] all
+none_played patience [] e = tt
+none_played patience (x ∷ all) e = absurd (cc)
 
-ended_push : (patience : ℕ) (jobs : List Job) (ended : List (Option Played)) (job : Job) (end : Option Played) → AllEnded patience jobs ended
-    → IfSome end (HasPlayed patience job) → AllEnded patience (jobs ++ job ∷ []) (ended ++ end ∷ [])
-unfolding AllEnded
-ended_push patience [] [] job end h new = (new, tt)
-ended_push patience (j ∷ jobs) (x ∷ ended) job end h new = (h.0, ended_push patience jobs ended job end h.1 new)
-ended_push patience [] (x ∷ ended) job end h new = absurd h
-ended_push patience (j ∷ jobs) [] job end h new = absurd h
+push_played : (patience : ℕ) (jobs : List Job) (all : List Played) (job : Job) (played : Played)
+    → AllPlayed patience jobs all → HasPlayed patience job played
+    → AllPlayed patience (jobs ++ job ∷ []) (all ++ played ∷ [])
+push_played patience [] [] job played h new = (new, tt)
+push_played patience (j ∷ jobs) (x ∷ all) job played h new =
+    (h.0, push_played patience jobs all job played h.1 new)
+push_played patience [] (x ∷ all) job played h new = absurd h
+push_played patience (j ∷ jobs) [] job played h new = absurd h
 
-pub ended_more : (patience : ℕ) (handles : List (PromisedHandle (Option Played) Playing)) (handle : PromisedHandle (Option Played) Playing)
-    (ended all : List (Option Played)) (end : Option Played) → AllEnded patience (handed handles) ended
-    → IfSome end (HasPlayed patience handle.promise.0.value) → all ≡ ended ++ end ∷ [] → AllEnded patience (handed (handles ++ handle ∷ [])) all
-ended_more patience handles handle ended all end h new pushed =
-    subst₂ (λ (l : List Job) (m : List (Option Played)). AllEnded patience l m)
-    (sym (map-append (λ (x : PromisedHandle (Option Played) Playing). x.promise.0.value) handles (handle ∷ []))) (sym pushed)
-    (ended_push patience (handed handles) ended handle.promise.0.value end h new)
+pub more_played : (patience : ℕ) (handles : List (PromisedHandle Played Playing))
+    (handle : PromisedHandle Played Playing) (before after : List Played) (played : Played)
+    → AllPlayed patience (handed handles) before → HasPlayed patience handle.promise.0.value played
+    → after ≡ before ++ played ∷ [] → AllPlayed patience (handed (handles ++ handle ∷ [])) after
+more_played patience handles handle before after played h new pushed =
+    subst₂ (λ (l : List Job) (m : List Played). AllPlayed patience l m)
+    (sym (map-append (λ (x : PromisedHandle Played Playing). x.promise.0.value) handles (handle ∷ [])))
+    (sym pushed)
+    (push_played patience (handed handles) before handle.promise.0.value played h new)
 
-pub parts_none : (passes : List Known) (replies : List (Vec Reply)) → passes ≡ [] → replies ≡ [] → HaveParts [] passes replies
-unfolding HaveParts
-parts_none [] [] e f = tt
-parts_none [] (r ∷ replies) e f = absurd (cc)
-parts_none (k ∷ passes) replies e f = absurd (cc)
-
-parts_push : (ended : List (Option Played)) (passes : List Known) (replies : List (Vec Reply)) (end : Option Played) (played : Played)
-    → HaveParts ended passes replies → end ≡ Some played → HaveParts (ended ++ end ∷ []) (passes ++ played.pass ∷ []) (replies ++ played.replies ∷ [])
-unfolding HaveParts
-parts_push [] [] [] end played h new = (new, tt)
-parts_push (x ∷ ended) (k ∷ passes) (r ∷ replies) end played h new = (h.0, parts_push ended passes replies end played h.1 new)
-parts_push [] [] (r ∷ replies) end played h new = absurd h
-parts_push [] (k ∷ passes) [] end played h new = absurd h
-parts_push [] (k ∷ passes) (r ∷ replies) end played h new = absurd h
-parts_push (x ∷ ended) [] [] end played h new = absurd h
-parts_push (x ∷ ended) [] (r ∷ replies) end played h new = absurd h
-parts_push (x ∷ ended) (k ∷ passes) [] end played h new = absurd h
-
-pub parts_more : (ended : List (Option Played)) (passes all : List Known) (replies given : List (Vec Reply)) (end : Option Played) (played : Played)
-    → HaveParts ended passes replies → end ≡ Some played → all ≡ passes ++ played.pass ∷ [] → given ≡ replies ++ played.replies ∷ []
-    → HaveParts (ended ++ end ∷ []) all given
-parts_more ended passes all replies given end played h new one two =
-    subst₂ (λ (l : List Known) (m : List (Vec Reply)). HaveParts (ended ++ end ∷ []) l m) (sym one) (sym two) (parts_push ended passes replies end played h new)
-
--- the parts of what each thread gave are those of the jobs
-pub all_played : (patience : ℕ) (jobs : List Job) (ended : List (Option Played)) (passes : List Known) (replies : List (Vec Reply))
-    → AllEnded patience jobs ended → HaveParts ended passes replies → AllPlayed patience jobs passes replies
-unfolding AllEnded HaveParts AllPlayed
-all_played patience [] [] [] [] a h = tt
-all_played patience (j ∷ jobs) (x ∷ ended) (k ∷ passes) (r ∷ replies) a h =
-    (subst (λ (o : Option Played). IfSome o (HasPlayed patience j)) h.0 a.0, all_played patience jobs ended passes replies a.1 h.1)
-all_played patience [] (x ∷ ended) passes replies a h = absurd a
-all_played patience (j ∷ jobs) [] passes replies a h = absurd a
-all_played patience [] [] [] (r ∷ replies) a h = absurd h
-all_played patience [] [] (k ∷ passes) [] a h = absurd h
-all_played patience [] [] (k ∷ passes) (r ∷ replies) a h = absurd h
-all_played patience (j ∷ jobs) (x ∷ ended) [] [] a h = absurd h
-all_played patience (j ∷ jobs) (x ∷ ended) [] (r ∷ replies) a h = absurd h
-all_played patience (j ∷ jobs) (x ∷ ended) (k ∷ passes) [] a h = absurd h
-
--- the job at a place, with its pass and its replies
-pub record PlayedAt (patience : ℕ) (jobs : List Job) (passes : List Known) (replies : List (Vec Reply)) (i : ℕ) : Type 0 where
+-- the job at a place, with what became of it
+pub record PlayedAt (patience : ℕ) (jobs : List Job) (all : List Played) (i : ℕ) : Type 0 where
   pub job : Job
   pub played : Played
   pub job_is : (d : Job) → get_or jobs i d ≡ job
-  pub pass_is : (d : Known) → get_or passes i d ≡ played.pass
-  pub replies_are : (d : Vec Reply) → get_or replies i d ≡ played.replies
-  pub plays : HasPlayed patience job played
+  pub played_is : (d : Played) → get_or all i d ≡ played
+  pub has : HasPlayed patience job played
 
-pub played_at : (patience : ℕ) (jobs : List Job) (passes : List Known) (replies : List (Vec Reply)) (i : ℕ) → i < length jobs
-    → AllPlayed patience jobs passes replies → PlayedAt patience jobs passes replies i
-unfolding AllPlayed
-played_at patience [] [] [] i lt h = absurd (omega arith)
-played_at patience (j ∷ jobs) (k ∷ passes) (r ∷ replies) zero lt h =
-    record { job = j; played = record { pass = k; replies = r }; job_is = (λ d. refl); pass_is = (λ d. refl); replies_are = (λ d. refl); plays = h.0 }
-played_at patience (j ∷ jobs) (k ∷ passes) (r ∷ replies) (suc i) lt h =
-    let at = played_at patience jobs passes replies i (omega arith) h.1 in
-    record { job = at.job; played = at.played; job_is = at.job_is; pass_is = at.pass_is; replies_are = at.replies_are; plays = at.plays }
-played_at patience [] [] (r ∷ replies) i lt h = absurd h
-played_at patience [] (k ∷ passes) [] i lt h = absurd h
-played_at patience [] (k ∷ passes) (r ∷ replies) i lt h = absurd h
-played_at patience (j ∷ jobs) [] [] i lt h = absurd h
-played_at patience (j ∷ jobs) [] (r ∷ replies) i lt h = absurd h
-played_at patience (j ∷ jobs) (k ∷ passes) [] i lt h = absurd h
+pub played_at : (patience : ℕ) (jobs : List Job) (all : List Played) (i : ℕ) → i < length jobs
+    → AllPlayed patience jobs all → PlayedAt patience jobs all i
+played_at patience [] [] i lt h = absurd (omega arith)
+played_at patience (j ∷ jobs) (x ∷ all) zero lt h =
+    record { job = j; played = x; job_is = (λ d. refl); played_is = (λ d. refl); has = h.0 }
+played_at patience (j ∷ jobs) (x ∷ all) (suc i) lt h =
+    let at = played_at patience jobs all i (omega arith) h.1 in
+    record {
+      job = at.job;
+      played = at.played;
+      job_is = at.job_is;
+      played_is = at.played_is;
+      has = at.has;
+    }
+played_at patience [] (x ∷ all) i lt h = absurd h
+played_at patience (j ∷ jobs) [] i lt h = absurd h
 
-pub played_long : (patience : ℕ) (jobs : List Job) (passes : List Known) (replies : List (Vec Reply)) → AllPlayed patience jobs passes replies
-    → (length passes ≡ length jobs) × (length replies ≡ length jobs)
-unfolding AllPlayed
-played_long patience [] [] [] h = (refl, refl)
-played_long patience (j ∷ jobs) (k ∷ passes) (r ∷ replies) h = let l = played_long patience jobs passes replies h.1 in (omega (arith, l.0), omega (arith, l.1))
-played_long patience [] [] (r ∷ replies) h = absurd h
-played_long patience [] (k ∷ passes) [] h = absurd h
-played_long patience [] (k ∷ passes) (r ∷ replies) h = absurd h
-played_long patience (j ∷ jobs) [] [] h = absurd h
-played_long patience (j ∷ jobs) [] (r ∷ replies) h = absurd h
-played_long patience (j ∷ jobs) (k ∷ passes) [] h = absurd h
+pub played_long : (patience : ℕ) (jobs : List Job) (all : List Played) → AllPlayed patience jobs all
+    → length all ≡ length jobs
+played_long patience [] [] h = refl
+played_long patience (j ∷ jobs) (x ∷ all) h = ap suc (played_long patience jobs all h.1)
+played_long patience [] (x ∷ all) h = absurd h
+played_long patience (j ∷ jobs) [] h = absurd h
+
+-- one of them was cut short
+pub record CutAt (all : List Played) : Type 0 where
+  pub i : ℕ
+  pub low : i < length all
+  pub cut : (d : Played) → (get_or all i d).whole ≡ false
+
+pub cut_at : (all : List Played) → are_whole all ≡ false → CutAt all
+cut_at [] e = absurd (true≢false e)
+cut_at (x ∷ all) e =
+    elim x.whole as (λ b. (x.whole ≡ b) → ((b && are_whole all) ≡ false) → CutAt (x ∷ all)) [
+      | true ↦ λ is f. (let c = cut_at all f in
+          record { i = suc c.i; low = (let l = c.low in omega arith); cut = c.cut })
+      | false ↦ λ is f. record { i = 0; low = omega arith; cut = λ d. is }
+    ] refl e
+
+both_true : (a b : Bool) → (a && b) ≡ true → (a ≡ true) × (b ≡ true)
+both_true true b e = (refl, e)
+both_true false b e = absurd (true≢false (sym e))
+
+pub whole_at : (all : List Played) (i : ℕ) (d : Played) → are_whole all ≡ true → i < length all
+    → (get_or all i d).whole ≡ true
+whole_at [] i d e lt = absurd (omega arith)
+whole_at (x ∷ all) zero d e lt = (both_true x.whole (are_whole all) e).0
+whole_at (x ∷ all) (suc i) d e lt =
+    whole_at all i d (both_true x.whole (are_whole all) e).1 (omega arith)
 
 -- the jobs of a new door: as many as its passes
 pub jobs_long : (door : Doorway) (n : ℕ) (jobs : List Job) → passes_of jobs ≡ new_passes door n → length jobs ≡ n
@@ -141,7 +132,7 @@ script_at jobs scripts i d e are lt = ap (λ (l : List (List Act)). get_or l i e
 
 -- jobs at a new door have not begun
 pub all_fresh : (door : Doorway) (n : ℕ) (jobs : List Job) (scripts : List (List Act)) → passes_of jobs ≡ new_passes door n → scripts_of jobs ≡ scripts
-    → HaveRoom jobs → HaveLabels door.policy scripts → All (IsFresh door) jobs
+    → HaveRoom jobs → ScriptsHaveKnownLabels door.policy scripts → All (IsFresh door) jobs
 all_fresh door n jobs scripts passes are room labels = λ k d lt.
     let pass = pass_at door n jobs k d passes lt in
     let long : k < length scripts = (let a = ap length are in let b = length-map jobs (λ (j : Job). j.script.items) in omega arith) in
@@ -153,63 +144,186 @@ all_fresh door n jobs scripts passes are room labels = λ k d lt.
       labels = subst (All (HasKnownLabel door.policy)) (script_at jobs scripts k d d.script.items are lt) (labels k d.script.items long);
     }
 
--- the passes that come back are those of the door
-pub all_back : (patience : ℕ) (door : Doorway) (jobs : List Job) (passes : List Known) (replies : List (Vec Reply)) → All (IsFresh door) jobs
-    → AllPlayed patience jobs passes replies → All (λ pass. pass.door ≡ door) passes
-all_back patience door jobs passes replies fresh all = λ k d lt.
-    let long = played_long patience jobs passes replies all in
-    let low : k < length jobs = omega (arith, long.0) in
-    let at = played_at patience jobs passes replies k low all in
-    let j = at.job in
-    ap (λ (p : Known). p.door) (at.pass_is d) ∙ at.plays.same.0
-    ∙ sym (ap (λ (x : Job). x.pass.door) (at.job_is j)) ∙ (fresh k j low).door_is
+pub pass_in : (all : List Played) (passes : List Known) (i : ℕ) (d : Known) (x : Played)
+    → passes ≡ passes_in all → i < length all → get_or passes i d ≡ (get_or all i x).pass
+pass_in all passes i d x is lt =
+    ap (λ (l : List Known). get_or l i d) is ∙ get_or-map (λ (y : Played). y.pass) all i x d lt
 
--- the door is closed: the calls of each process are those of its script
-pub ran : (patience : ℕ) (wall : ChineseWall) (door : Doorway) (scripts : List (List Act)) (jobs : List Job) (passes : List Known)
-    (replies : List (Vec Reply)) (hall : Kept) → door.policy ≡ wall → passes_of jobs ≡ new_passes door (processes wall)
-    → scripts_of jobs ≡ scripts → AllPlayed patience jobs passes replies → Closed door.policy hall passes
-    → Ran patience wall scripts (map vec_items replies) hall
-ran patience wall door scripts jobs passes replies hall same are scripts_are all closed =
-    let n = processes wall in
-    let long = jobs_long door n jobs are in
-    let back = played_long patience jobs passes replies all in
-    let a = ap length scripts_are in
-    let b = length-map jobs (λ (j : Job). j.script.items) in
-    let run = closed.run in
-    record {
-      run = run;
-      policy = closed.policy ∙ same;
-      legal = subst (λ w. Legal w run) same closed.legal;
-      stands = closed.stands;
-      scripts_are = omega arith;
-      replies_are = length-map replies vec_items ∙ back.1 ∙ long;
-      each = λ p lt.
-          let low : p < length jobs = omega arith in
-          let at = played_at patience jobs passes replies p low all in
-          let j = at.job in
-          let k = at.played.pass in
-          let own : HasMade run k = subst (HasMade run) (at.pass_is k) (closed.each p k (omega (arith, back.0))) in
-          let job : j.pass ≡ new_pass door p = ap (λ (x : Job). x.pass) (sym (at.job_is j)) ∙ pass_at door n jobs p j are low in
-          let number : k.process ≡ p = at.plays.same.1 ∙ ap (λ (x : Known). x.process) job in
-          let calls : made k ≡ reverse (calls_of p run) = ap reverse (sym own.own ∙ ap (λ q. calls_of q run) number) in
-          let script : get_or scripts p [] ≡ j.script.items = script_at jobs scripts p j [] scripts_are low ∙ ap (λ (x : Job). x.script.items) (at.job_is j) in
-          let given : get_or (map vec_items replies) p [] ≡ at.played.replies.items =
-          get_or-map vec_items replies p at.played.replies [] (omega (arith, back.1)) ∙ ap vec_items (at.replies_are at.played.replies) in
-          subst (λ s. Plays patience p s (get_or (map vec_items replies) p []) (reverse (calls_of p run))) (sym script)
-          (subst (λ r. Plays patience p j.script.items r (reverse (calls_of p run))) (sym given)
-          (subst (λ l. Plays patience p j.script.items at.played.replies.items l) calls
-          (subst (λ q. Plays patience q j.script.items at.played.replies.items (made k)) (ap (λ (x : Known). x.process) job) at.plays.plays)));
-      others = λ p le. closed.others p (subst (λ w. processes w ≤ p) (sym same) le);
-      named = λ p d lt.
-          let low : p < length jobs = (let m = length-map replies (vec_items {X = Reply} {Z = Global}) in omega (arith, back.1)) in
-          let at = played_at patience jobs passes replies p low all in
-          let j = at.job in
-          let job : j.pass ≡ new_pass door p = ap (λ (x : Job). x.pass) (sym (at.job_is j)) ∙ pass_at door n jobs p j are low in
-          let given : get_or (map vec_items replies) p d ≡ at.played.replies.items =
-          get_or-map vec_items replies p at.played.replies d (omega (arith, back.1)) ∙ ap vec_items (at.replies_are at.played.replies) in
-          subst (All (IsNamed wall)) (sym given)
-          (subst (λ w. All (IsNamed w) at.played.replies.items) (ap (λ (x : Known). x.door.policy) job ∙ same) at.plays.named);
-    }
+-- the passes that come back are those of the door
+pub all_back : (patience : ℕ) (door : Doorway) (jobs : List Job) (all : List Played)
+    (passes : List Known) → All (IsFresh door) jobs → AllPlayed patience jobs all
+    → passes ≡ passes_in all → All (λ pass. pass.door ≡ door) passes
+all_back patience door jobs all passes fresh played is = λ k d lt.
+    let back = played_long patience jobs all played in
+    let many = ap length is in
+    let map = length-map all (λ (x : Played). x.pass) in
+    let in_all : k < length all = omega arith in
+    let low : k < length jobs = omega arith in
+    let at = played_at patience jobs all k low played in
+    let j = at.job in
+    ap (λ (p : Known). p.door)
+    (pass_in all passes k d at.played is in_all ∙ ap (λ (x : Played). x.pass) (at.played_is at.played))
+    ∙ at.has.same.0 ∙ sym (ap (λ (x : Job). x.pass.door) (at.job_is j)) ∙ (fresh k j low).door_is
+
+-- a door that was opened, handed to threads and closed
+pub record Story (patience : ℕ) (wall : ChineseWall) (scripts : List (List Act)) (door : Doorway)
+    (jobs : List Job) (all : List Played) (passes : List Known) (hall : HallValue) : Type 0 where
+  pub same : door.policy ≡ wall
+  pub are : passes_of jobs ≡ new_passes door (processes wall)
+  pub scripts_are : scripts_of jobs ≡ scripts
+  pub played : AllPlayed patience jobs all
+  pub back : passes ≡ passes_in all
+  pub closed : Closed door.policy hall passes
+
+module _ (patience : ℕ) (wall : ChineseWall) (scripts : List (List Act)) (door : Doorway)
+    (jobs : List Job) (all : List Played) (passes : List Known) (hall : HallValue)
+    (story : Story patience wall scripts door jobs all passes hall) where
+  -- what became of the script of a process
+  pub record RankAt (p : ℕ) : Type 0 where
+    pub job : Job
+    pub played : Played
+    pub played_is : (d : Played) → get_or all p d ≡ played
+    pub has : HasPlayed patience job played
+    pub number : job.pass.process ≡ p
+    pub door_is : job.pass.door ≡ door
+    pub calls : made played.pass ≡ reverse (calls_of p story.closed.run)
+    pub begins : Continues story.closed.run played.pass.seen
+    pub script : (d : List Act) → get_or scripts p d ≡ job.script.items
+    pub low : p < length all
+
+  pub many_jobs : length jobs ≡ processes wall
+  many_jobs = jobs_long door (processes wall) jobs story.are
+
+  pub many_played : length all ≡ processes wall
+  many_played = played_long patience jobs all story.played ∙ many_jobs
+
+  pub many_scripts : length scripts ≡ processes wall
+  many_scripts =
+      ap length (sym story.scripts_are) ∙ length-map jobs (λ (j : Job). j.script.items) ∙ many_jobs
+
+  pub rank_at : (p : ℕ) → p < processes wall → RankAt p
+  rank_at p lt =
+      let n = processes wall in
+      let run = story.closed.run in
+      let jobs_are = many_jobs in
+      let all_are = many_played in
+      let low : p < length jobs = omega arith in
+      let in_all : p < length all = omega arith in
+      let at = played_at patience jobs all p low story.played in
+      let j = at.job in
+      let k = at.played.pass in
+      let back = ap length story.back in
+      let map = length-map all (λ (x : Played). x.pass) in
+      let in_passes : p < length passes = omega arith in
+      let pass_is : get_or passes p k ≡ k =
+      pass_in all passes p k at.played story.back in_all
+      ∙ ap (λ (x : Played). x.pass) (at.played_is at.played) in
+      let own : HasMade run k = subst (HasMade run) pass_is (story.closed.each p k in_passes) in
+      let pass : j.pass ≡ new_pass door p =
+      ap (λ (x : Job). x.pass) (sym (at.job_is j)) ∙ pass_at door n jobs p j story.are low in
+      let number : j.pass.process ≡ p = ap (λ (x : Known). x.process) pass in
+      record {
+        job = j;
+        played = at.played;
+        played_is = at.played_is;
+        has = at.has;
+        number = number;
+        door_is = ap (λ (x : Known). x.door) pass;
+        calls = ap reverse (sym own.own ∙ ap (λ q. calls_of q run) (at.has.same.1 ∙ number));
+        begins = own.begins;
+        script = λ d. script_at jobs scripts p j d story.scripts_are low
+            ∙ ap (λ (x : Job). x.script.items) (at.job_is j);
+        low = in_all;
+      }
+
+  -- the replies of a process
+  pub replies_at : (p : ℕ) (at : RankAt p) (d : List Reply)
+      → get_or (map vec_items (replies_in all)) p d ≡ at.played.replies.items
+  replies_at p at d =
+      let x = at.played in
+      let low = at.low in
+      let map = length-map all (λ (y : Played). y.replies) in
+      get_or-map vec_items (replies_in all) p x.replies d (omega arith)
+      ∙ ap vec_items (get_or-map (λ (y : Played). y.replies) all p x x.replies low
+      ∙ ap (λ (y : Played). y.replies) (at.played_is x))
+
+  -- where all were played to their ends, the calls of each process are those of its script
+  pub ran : are_whole all ≡ true → Ran patience wall scripts (map vec_items (replies_in all)) hall
+  ran whole = record {
+    run = story.closed.run;
+    policy = story.closed.policy ∙ story.same;
+    legal = subst (λ w. Legal w story.closed.run) story.same story.closed.legal;
+    stands = story.closed.stands;
+    scripts_are = many_scripts;
+    replies_are = length-map (replies_in all) vec_items
+        ∙ length-map all (λ (y : Played). y.replies) ∙ many_played;
+    each = λ p lt.
+        let at = rank_at p lt in
+        let x = at.played in
+        let one : x.whole ≡ true =
+        sym (ap (λ (y : Played). y.whole) (at.played_is x)) ∙ whole_at all p x whole at.low in
+        let calls = reverse (calls_of p story.closed.run) in
+        subst (λ s. Plays patience p s (get_or (map vec_items (replies_in all)) p []) calls)
+        (sym (at.script []))
+        (subst (λ r. Plays patience p at.job.script.items r calls) (sym (replies_at p at []))
+        (subst (λ l. Plays patience p at.job.script.items x.replies.items l) at.calls
+        (subst (λ q. Plays patience q at.job.script.items x.replies.items (made x.pass)) at.number
+        (at.has.whole one))));
+    others = λ p le. story.closed.others p (subst (λ w. processes w ≤ p) (sym story.same) le);
+    named = λ p d lt.
+        let long = length-map (replies_in all) (vec_items {X = Reply} {Z = Global}) in
+        let map = length-map all (λ (y : Played). y.replies) in
+        let many = many_played in
+        let at = rank_at p (omega arith) in
+        subst (All (IsKnownReply wall)) (sym (replies_at p at d))
+        (subst (λ w. All (IsKnownReply w) at.played.replies.items)
+        (ap (λ (x : Doorway). x.policy) at.door_is ∙ story.same) at.has.named);
+  }
+
+  -- the calls of the first processes are no more than their scripts take at most
+  few_below : (n : ℕ) → n ≤ processes wall
+      → calls_below n story.closed.run ≤ tries patience * sum_by length (take n scripts)
+  few_below zero le = omega arith
+  few_below (suc n) le =
+      let t = tries patience in
+      let run = story.closed.run in
+      let at = rank_at n (omega arith) in
+      let many = many_scripts in
+      let low : n < length scripts = omega arith in
+      let before = few_below n (omega arith) in
+      let script = at.job.script.items in
+      let own : length (calls_of n run) ≤ t * length script =
+      subst (λ m. m ≤ t * length script) (ap length at.calls ∙ length-reverse (calls_of n run)) at.has.few in
+      let s = sum_by length (take n scripts) in
+      let e : n + 1 ≡ suc n = omega arith in
+      let one : sum_by length (take (suc n) scripts) ≡ s + length script =
+      ap (λ m. sum_by length (take m scripts)) (sym e) ∙ sum_by_more length scripts n [] low
+      ∙ ap (λ l. s + length l) (at.script []) in
+      subst (λ m. calls_below (suc n) run ≤ t * m) (sym one)
+      (subst (λ m. calls_below (suc n) run ≤ m) (sym (mul-add t s (length script)))
+      (sum_le (calls_below n run) (t * s) (length (calls_of n run)) (t * length script) before own))
+
+  -- where one was not, the scripts could take 2^62 turns
+  pub cut_short : are_whole all ≡ false → 2 ^ 62 ≤ most_turns patience scripts
+  cut_short cut =
+      let c = cut_at all cut in
+      let n = processes wall in
+      let t = tries patience in
+      let run = story.closed.run in
+      let low = c.low in
+      let many = many_played in
+      let at = rank_at c.i (omega arith) in
+      let one : at.played.whole ≡ false =
+      sym (ap (λ (y : Played). y.whole) (at.played_is at.played)) ∙ c.cut at.played in
+      let long = at.has.cut one in
+      let seen = continues_length run at.played.pass.seen at.begins in
+      let all_calls = calls_whole n run
+      (λ p le. story.closed.others p (subst (λ w. processes w ≤ p) (sym story.same) le)) in
+      let few = few_below n (omega arith) in
+      let less = mul-le-mul_left t (sum_by-take-le (λ (x : List Act). length x) scripts n) in
+      both_le (2 ^ 62) (t * sum_by length (take n scripts)) (most_turns patience scripts)
+      (both_le (2 ^ 62) (calls_below n run) (t * sum_by length (take n scripts)) (omega arith) few)
+      less
 
 pub shared_passes : (jobs : List Job) (job : Job) (rest : List Known) → passes_of (jobs ++ job ∷ []) ++ rest ≡ passes_of jobs ++ (job.pass ∷ rest)
 shared_passes jobs job rest =
@@ -223,7 +337,10 @@ pub shared_room : (jobs : List Job) (job : Job) → HaveRoom jobs → job.replie
 shared_room jobs job room none fits =
     All-push (λ (j : Job). (j.replies.items ≡ []) × (length j.script.items ≤ vec_capacity j.replies)) jobs job room (none, fits)
 
-pub played_if_parts : (patience : ℕ) (jobs : List Job) (ended : List (Option Played)) → AllEnded patience jobs ended → {F : Type 0} (r : Result (Vec Known × Vec (Vec Reply)) F)
-    → IfOk r (λ x. HaveParts ended x.0.items x.1.items) → IfOk r (λ x. AllPlayed patience jobs x.0.items x.1.items)
-played_if_parts patience jobs ended a (Ok x) h = all_played patience jobs ended x.0.items x.1.items a h
-played_if_parts patience jobs ended a (Err fault) h = tt
+pub not_true : (b : Bool) → not b ≡ true → b ≡ false
+not_true true e = absurd (true≢false (sym e))
+not_true false e = refl
+
+pub not_false : (b : Bool) → not b ≡ false → b ≡ true
+not_false true e = refl
+not_false false e = absurd (true≢false e)

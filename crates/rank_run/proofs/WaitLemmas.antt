@@ -1,14 +1,14 @@
 -- Takes that are tried again.
 use Rattle.std.proofs.Common.{◌≡◌, ℕ, suc, ◌+◌, ◌^◌, ◌<◌, ◌≤◌, true, false, List, ◌∷◌, ◌++◌, length, refl, sym, ap, subst, ◌∙◌, append_assoc, true≢false, arith}
-use Rattle.hall_runs.specs.declared.call.Act.TheVariants.{Take}
-use Rattle.hall_runs.specs.declared.reply.Reply.TheVariants.{Posted, Barred, Pending, Delivered, NewComm, NullComm, Denied, NoRoom, Info, Refused}
-use Rattle.hall_runs.specs.Runs.{Entry}
+use Rattle.run_model.specs.declared.call.Act.TheVariants.{Take}
+use Rattle.run_model.specs.declared.reply.Reply.TheVariants.{Posted, Barred, Pending, Delivered, NewComm, NullComm, Denied, NoRoom, Info, Refused}
+use Rattle.run_model.specs.Runs.{Entry}
 use Rattle.hall_turn.specs.declared.answer.Answer.{Answer}
 use Rattle.hall_turn.specs.declared.answer.Answer.TheVariants.{Reply as Replied, Exhausted}
 use Rattle.hall_turn.specs.Runs.{Continues, calls_of}
 use Rattle.hall_turn.specs.Known.{Known}
 use Rattle.hall_turn.specs.Answers.{IsSamePass, Answered}
-use Rattle.hall_turn.proofs.RunLemmas.{continues_trans, continues_more, continues_self}
+use Rattle.hall_turn.proofs.HallTurnLemmas.{continues_trans, continues_more, continues_self}
 use Rattle.rank_run.specs.Waits.{asked, pending_takes, last_take, tries, is_pending, Waited}
 
 -- so many takes of the request were answered Pending, and nothing else was called

@@ -1,13 +1,13 @@
 -- What the thread of a process is given, and what it comes to. (Own rules.)
-use Rattle.std.specs.Prelude.{◌≡◌, ℕ, ◌≤◌, List, [], ◌∷◌, ◌++◌, length, map, reverse, vec_capacity}
-use Rattle.std.specs.List.{All}
-use Rattle.std.specs.Prelude.{Option, Some, IfSome}
+use Rattle.std.specs.Prelude.{◌≡◌, ℕ, ◌+◌, ◌*◌, ◌^◌, ◌<◌, ◌≤◌, Bool, true, false}
+use Rattle.std.specs.Prelude.{List, [], ◌++◌, length, map, reverse, vec_capacity}
+use Rattle.std.specs.List.{All, AllZip, list_all}
 use Rattle.std.specs.Global.{Vec}
 use Rattle.std.specs.declared.thread.PromisedHandle.{PromisedHandle}
-use Rattle.hall_runs.specs.declared.call.Act.{Act}
-use Rattle.hall_runs.specs.declared.reply.Reply.{Reply}
-use Rattle.hall_runs.specs.Runs.{Entry}
-use Rattle.hall_core.specs.Named.{HasKnownLabel, IsNamed}
+use Rattle.run_model.specs.declared.call.Act.{Act}
+use Rattle.run_model.specs.declared.reply.Reply.{Reply}
+use Rattle.run_model.specs.Runs.{Entry}
+use Rattle.run_model.specs.Known.{HasKnownLabel, IsKnownReply}
 use Rattle.hall_turn.specs.declared.answer.Answer.{Answer}
 use Rattle.hall_turn.specs.declared.answer.Answer.TheVariants.{Reply as Replied, Exhausted}
 use Rattle.hall_turn.specs.Runs.{calls_of}
@@ -16,19 +16,31 @@ use Rattle.hall_turn.specs.Answers.{IsSamePass}
 use Rattle.rank_run.specs.declared.rank.Job.{Job}
 use Rattle.rank_run.specs.declared.rank.Played.{Played}
 use Rattle.rank_run.specs.declared.run.Playing.{Playing}
+use Rattle.rank_run.specs.declared.run.Ended.{Ended}
+use Rattle.rank_run.specs.Waits.{tries}
 use Rattle.rank_run.specs.Plays.{Performs, Plays}
 
 -- the calls of the process that the pass has seen, the oldest first
 abbrev pub made : Known → List Entry
 made pass = reverse (calls_of pass.process pass.seen)
 
--- The pass made the calls that the act comes to, with this reply. If the door is exhausted, nothing is said.
+-- The door was exhausted before the act had its reply. The pass made fewer calls for it than it may
+-- try, and has seen 2^62 turns.
+pub record Stopped (patience : ℕ) (before after : Known) : Type 0 where
+  pub calls : List Entry
+  pub more : made after ≡ made before ++ calls
+  pub few : length calls < tries patience
+  pub long : 2 ^ 62 ≤ length after.seen
+
+-- The pass made the calls that the act comes to, with this reply; or the door was exhausted.
 abbrev pub Performed : (patience : ℕ) → (before : Known) → Act → Answer → (after : Known) → Type 0
 Performed patience before act (Replied reply) after =
-    (calls : List Entry) × Performs patience before.process act reply calls × (made after ≡ made before ++ calls)
-Performed patience before act Exhausted after = Unit {0}
+    (calls : List Entry) × Performs patience before.process act reply calls
+    × (made after ≡ made before ++ calls)
+Performed patience before act Exhausted after = Stopped patience before after
 
--- a job at the door that has not begun: its pass has seen nothing, it has room for its replies, and the labels of its script are the policy's
+-- A job at the door that has not begun: its pass has seen nothing, it has room for its replies, and
+-- the labels of its script are the policy's.
 pub record IsFresh (door : Doorway) (job : Job) : Type 0 where
   pub door_is : job.pass.door ≡ door
   pub unseen : job.pass.seen ≡ []
@@ -36,11 +48,16 @@ pub record IsFresh (door : Doorway) (job : Job) : Type 0 where
   pub room : length job.script.items ≤ vec_capacity job.replies
   pub labels : All (HasKnownLabel door.policy) job.script.items
 
--- the calls of the job's process are those of its script, with these replies, which name what the policy has
+-- What became of a job. If it was played to its end, the calls of its process are those of its
+-- script, with these replies; if not, its pass has seen 2^62 turns. Its calls are no more than the
+-- acts of its script may be tried, and the replies name what the policy has.
 pub record HasPlayed (patience : ℕ) (job : Job) (played : Played) : Type 0 where
   pub same : IsSamePass job.pass played.pass
-  pub plays : Plays patience job.pass.process job.script.items played.replies.items (made played.pass)
-  pub named : All (IsNamed job.pass.door.policy) played.replies.items
+  pub few : length (made played.pass) ≤ tries patience * length job.script.items
+  pub whole : played.whole ≡ true
+      → Plays patience job.pass.process job.script.items played.replies.items (made played.pass)
+  pub cut : played.whole ≡ false → 2 ^ 62 ≤ length played.pass.seen
+  pub named : All (IsKnownReply job.pass.door.policy) played.replies.items
 
 abbrev pub passes_of : List Job → List Known
 passes_of jobs = map (λ job. job.pass) jobs
@@ -48,40 +65,35 @@ passes_of jobs = map (λ job. job.pass) jobs
 abbrev pub scripts_of : List Job → List (List Act)
 scripts_of jobs = map (λ job. job.script.items) jobs
 
--- the jobs have no replies yet, and room for all
+-- the job has no reply yet, and room for all
+abbrev pub HasRoom : Job → Type 0
+HasRoom job = (job.replies.items ≡ []) × (length job.script.items ≤ vec_capacity job.replies)
+
 abbrev pub HaveRoom : List Job → Type 0
-HaveRoom jobs = All (λ job. (job.replies.items ≡ []) × (length job.script.items ≤ vec_capacity job.replies)) jobs
+HaveRoom jobs = All HasRoom jobs
 
 -- what the threads were given
-abbrev pub handed : List (PromisedHandle (Option Played) Playing) → List Job
+abbrev pub handed : List (PromisedHandle Played Playing) → List Job
 handed handles = map (λ handle. handle.promise.0.value) handles
 
--- each job was played, with what its thread gave, if it gave something
-unfoldable pub AllEnded : (patience : ℕ) → List Job → List (Option Played) → Type 0
-AllEnded patience [] [] = Unit {0}
-AllEnded patience (job ∷ jobs) (end ∷ rest) = IfSome end (HasPlayed patience job) × AllEnded patience jobs rest
-AllEnded patience [] (end ∷ rest) = ⊥
-AllEnded patience (job ∷ jobs) [] = ⊥
+abbrev pub passes_in : List Played → List Known
+passes_in all = map (λ played. played.pass) all
 
--- each thread gave something: the pass and the replies at its place
-unfoldable pub HaveParts : List (Option Played) → (passes : List Known) → (replies : List (Vec Reply)) → Type 0
-HaveParts [] [] [] = Unit {0}
-HaveParts (end ∷ ends) (pass ∷ passes) (replies ∷ rest) = (end ≡ Some (record { pass = pass; replies = replies })) × HaveParts ends passes rest
-HaveParts [] [] (replies ∷ rest) = ⊥
-HaveParts [] (pass ∷ passes) [] = ⊥
-HaveParts [] (pass ∷ passes) (replies ∷ rest) = ⊥
-HaveParts (end ∷ ends) [] [] = ⊥
-HaveParts (end ∷ ends) [] (replies ∷ rest) = ⊥
-HaveParts (end ∷ ends) (pass ∷ passes) [] = ⊥
+abbrev pub replies_in : List Played → List (Vec Reply)
+replies_in all = map (λ played. played.replies) all
 
--- each job was played, with the pass and the replies at its place
-unfoldable pub AllPlayed : (patience : ℕ) → List Job → (passes : List Known) → (replies : List (Vec Reply)) → Type 0
-AllPlayed patience [] [] [] = Unit {0}
-AllPlayed patience (job ∷ jobs) (pass ∷ passes) (replies ∷ rest) =
-    HasPlayed patience job (record { pass = pass; replies = replies }) × AllPlayed patience jobs passes rest
-AllPlayed patience [] [] (replies ∷ rest) = ⊥
-AllPlayed patience [] (pass ∷ passes) [] = ⊥
-AllPlayed patience [] (pass ∷ passes) (replies ∷ rest) = ⊥
-AllPlayed patience (job ∷ jobs) [] [] = ⊥
-AllPlayed patience (job ∷ jobs) [] (replies ∷ rest) = ⊥
-AllPlayed patience (job ∷ jobs) (pass ∷ passes) [] = ⊥
+-- whether each job was played to its end
+abbrev pub are_whole : List Played → Bool
+are_whole all = list_all (λ played. played.whole) all
+
+-- what became of each job
+abbrev pub AllPlayed : (patience : ℕ) → List Job → List Played → Type 0
+AllPlayed patience jobs all = AllZip (HasPlayed patience) jobs all
+
+-- what all threads gave back, sorted
+pub record HaveEnded (patience : ℕ) (jobs : List Job) (ended : Ended) : Type 0 where
+  pub all : List Played
+  pub played : AllPlayed patience jobs all
+  pub passes : ended.passes.items ≡ passes_in all
+  pub replies : ended.replies.items ≡ replies_in all
+  pub whole : ended.whole ≡ are_whole all

@@ -1,10 +1,10 @@
 -- What becomes of the script of a process. (Own rules.)
 use Rattle.std.specs.Prelude.{◌≡◌, ℕ, ◌+◌, ◌<◌, List, [], ◌∷◌, ◌++◌}
-use Rattle.hall_runs.specs.declared.call.Act.{Act}
-use Rattle.hall_runs.specs.declared.call.Act.TheVariants.{Post as ToPost, Take, Info as ToInfo}
-use Rattle.hall_runs.specs.declared.reply.Reply.{Reply}
-use Rattle.hall_runs.specs.declared.reply.Reply.TheVariants.{Pending}
-use Rattle.hall_runs.specs.Runs.{Entry}
+use Rattle.run_model.specs.declared.call.Act.{Act}
+use Rattle.run_model.specs.declared.call.Act.TheVariants.{Post as ToPost, Take, Info as ToInfo}
+use Rattle.run_model.specs.declared.reply.Reply.{Reply}
+use Rattle.run_model.specs.declared.reply.Reply.TheVariants.{Pending}
+use Rattle.run_model.specs.Runs.{Entry}
 use Rattle.rank_run.specs.Waits.{asked, pending_takes, tries}
 
 -- The calls that one act of a script came to, the oldest first, and the reply to the act. A post and an info stand once. A take stands once or

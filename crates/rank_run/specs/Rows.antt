@@ -1,9 +1,9 @@
 -- Worked rows: what waiting and scripts come to, and what they do not.
 use Rattle.std.specs.Prelude.{List, [], ◌∷◌}
-use Rattle.hall_runs.specs.declared.call.Posting.{Posting}
-use Rattle.hall_runs.specs.declared.call.Act.TheVariants.{Post as ToPost, Take, Info as ToInfo}
-use Rattle.hall_runs.specs.declared.reply.Reply.TheVariants.{Posted, Pending, NullComm}
-use Rattle.hall_runs.specs.Runs.{Entry}
+use Rattle.run_model.specs.declared.call.Posting.{Posting}
+use Rattle.run_model.specs.declared.call.Act.TheVariants.{Post as ToPost, Take, Info as ToInfo}
+use Rattle.run_model.specs.declared.reply.Reply.TheVariants.{Posted, Pending, NullComm}
+use Rattle.run_model.specs.Runs.{Entry}
 use Rattle.hall_turn.specs.declared.answer.Answer.TheVariants.{Reply as Replied}
 use Rattle.hall_turn.specs.Known.{Doorway, Known}
 use Rattle.rank_run.specs.Waits.{asked, Waited}

@@ -1,11 +1,10 @@
 -- What waiting for a request does to a pass. (Own rules.)
 use Rattle.std.specs.Prelude.{◌≡◌, ℕ, ◌+◌, ◌^◌, ◌<◌, ◌≤◌, Bool, true, false, List, [], ◌∷◌, ◌++◌, length, max, replicate}
-use Rattle.hall_runs.specs.declared.call.Act.{Act}
-use Rattle.hall_runs.specs.declared.call.Act.TheVariants.{Take}
-use Rattle.hall_runs.specs.declared.reply.Reply.{Reply}
-use Rattle.hall_runs.specs.declared.reply.Reply.TheVariants.{Posted, Barred, Pending, Delivered, NewComm, NullComm, Denied, NoRoom, Info, Refused}
-use Rattle.hall_runs.specs.Runs.{Entry}
-use Rattle.hall_core.specs.Halls.{entry}
+use Rattle.run_model.specs.declared.call.Act.{Act}
+use Rattle.run_model.specs.declared.call.Act.TheVariants.{Take}
+use Rattle.run_model.specs.declared.reply.Reply.{Reply}
+use Rattle.run_model.specs.declared.reply.Reply.TheVariants.{Posted, Barred, Pending, Delivered, NewComm, NullComm, Denied, NoRoom, Info, Refused}
+use Rattle.run_model.specs.Runs.{Entry, entry}
 use Rattle.hall_turn.specs.declared.answer.Answer.{Answer}
 use Rattle.hall_turn.specs.declared.answer.Answer.TheVariants.{Reply as Replied, Exhausted}
 use Rattle.hall_turn.specs.Runs.{Continues, calls_of}

@@ -14,7 +14,8 @@ pub enum RunFault {
     /// A thread was refused. The threads that had started ran their scripts to the end.
     #[error("a thread was refused")]
     NoThread,
-    /// The door had 2^62 turns before the scripts were at their ends.
+    /// The door had 2^62 turns before the scripts were at their ends. So it comes only where the
+    /// scripts' acts, each tried as often as it may be, are as many.
     #[error("the door is exhausted")]
     Exhausted,
     /// A growth of memory was refused. No thread was started.
@@ -39,5 +40,19 @@ impl From<NoMemory> for RunFault {
 
     fn from(_error: NoMemory) -> RunFault {
         RunFault::NoMemory
+    }
+}
+
+/// A thread was refused.
+#[derive(Drop)]
+pub(crate) struct ThreadRefused;
+
+impl From<ThreadRefused> for RunFault {
+    ghost use Rattle.rank_run.specs.declared.fault.RunFault.TheVariants.{NoThread};
+
+    ghost from_gives = { λ error result. result ≡ NoThread };
+
+    fn from(_error: ThreadRefused) -> RunFault {
+        RunFault::NoThread
     }
 }

@@ -3,17 +3,25 @@
 use hall_core::Reply;
 use std::sync::Wait;
 
-/// What the thread of a process calls round its calls, which are numbered from 0. Threads share the gate. Its methods may wait, and hold the thread
-/// that long; they see the replies and change nothing in them.
+/// What the thread of a process calls round its calls, which are numbered from 0. Threads share
+/// the gate. The three calls may wait, and hold the thread that long; they see the replies and
+/// change nothing in them.
 pub trait Gate {
     /// The process is about to make its call of this number.
     fn before_call<R: Wait>(&self, rt: &R, process: u32, number: u64);
 
-    /// The process computes what its call of this number is delivered, outside its turn. No call does so yet: a delivery is filled at its turn.
+    /// The process has claimed the outcome of a request in its call of this number, its turn is
+    /// over, and it is about to work out the reply. It comes at every try of a take.
     fn computing<R: Wait>(&self, rt: &R, process: u32, number: u64);
 
     /// The process got this reply to its call of this number.
     fn answered<R: Wait>(&self, rt: &R, process: u32, number: u64, reply: &Reply);
+
+    /// Whether it may hold a thread until another has got on. Ranks sleep while they wait for an
+    /// outcome only under a gate that does not: one that is held could wait for one that sleeps.
+    fn holds(&self) -> bool {
+        true
+    }
 }
 
 /// A gate that holds nobody.
@@ -26,21 +34,8 @@ impl Gate for OpenGate {
     fn computing<R: Wait>(&self, _rt: &R, _process: u32, _number: u64) {}
 
     fn answered<R: Wait>(&self, _rt: &R, _process: u32, _number: u64, _reply: &Reply) {}
-}
 
-/// The gate of a call within a script: of the tries of a take it hears only what is computed, under the number of the call in the script.
-#[derive(Clone, Copy)]
-pub(crate) struct InScript<'g, G> {
-    pub(crate) gate: &'g G,
-    pub(crate) number: u64,
-}
-
-impl<'g, G: Gate> Gate for InScript<'g, G> {
-    fn before_call<R: Wait>(&self, _rt: &R, _process: u32, _number: u64) {}
-
-    fn computing<R: Wait>(&self, rt: &R, process: u32, _number: u64) {
-        self.gate.computing(rt, process, self.number);
+    fn holds(&self) -> bool {
+        false
     }
-
-    fn answered<R: Wait>(&self, _rt: &R, _process: u32, _number: u64, _reply: &Reply) {}
 }

@@ -1,22 +1,28 @@
 //! Ranks: one thread for each process, each running its script at a door.
 //!
-//! A take in a script is tried again while its answer is Pending ([`wait`]). [`run_ranks`] runs all scripts at the same time, and gives the
-//! replies of each process and the hall at the end.
+//! A take in a script is tried again while its answer is Pending ([`wait`]). [`run_ranks`] runs all
+//! scripts at the same time, and gives the replies of each process and the hall at the end. A rank
+//! that waits for others sleeps; what it is delivered it works out beside the others' calls.
 #![tactic(auto)]
 
 mod fault;
 mod gate;
+#[cfg(test)]
+mod gate_tests;
+mod part;
 mod rank;
 mod replies;
+mod requests;
 mod rows;
 mod run;
+mod stage;
 #[cfg(test)]
 mod tests;
 mod waiting;
 
 pub use fault::RunFault;
 pub use gate::{Gate, OpenGate};
-pub use hall_runs::{Acts, Scripts};
 pub use replies::RunReplies;
 pub use run::{Run, run_ranks};
+pub use run_model::{Acts, Scripts};
 pub use waiting::{PATIENCE, wait};

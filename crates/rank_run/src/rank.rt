@@ -1,29 +1,37 @@
 //! What the thread of a process does.
-ghost use Rattle.std.specs.Prelude.{◌≡◌, IfSome};
-ghost use Rattle.hall_core.specs.Named.{HasKnownLabel};
+ghost use Rattle.std.specs.Prelude.{◌≡◌};
+ghost use Rattle.run_model.specs.Known.{HasKnownLabel};
 ghost use Rattle.hall_turn.specs.Answers.{IsSamePass, NamesKnown};
 ghost use Rattle.rank_run.specs.declared.waiting.TheConstants.{PATIENCE};
 ghost use Rattle.rank_run.specs.Jobs.{Performed, IsFresh, HasPlayed};
 
-use crate::gate::{Gate, InScript};
-use crate::waiting::{PATIENCE, wait};
+use crate::gate::Gate;
+use crate::part::Part;
+use crate::requests::{Requests, comm_of};
+use crate::stage::Stage;
+use crate::waiting::{PATIENCE, wait_with};
 use hall_core::{Act, Reply};
 use hall_turn::{Answer, Door, Pass};
 use std::sync::Wait;
 
-/// What a thread is given: the pass of its process, its script, and room for its replies.
+/// What a thread is given: the pass of its process, its script, and room for its replies and
+/// requests.
 #[derive(Drop)]
 pub(crate) struct Job {
     pub(crate) pass: Pass,
     pub(crate) script: Vec<Act>,
     pub(crate) replies: Vec<Reply>,
+    pub(crate) requests: Requests,
 }
 
-/// What a thread gives back: the pass, and the replies to the acts of the script.
+/// What a thread gives back.
 #[derive(Drop)]
 pub(crate) struct Played {
     pub(crate) pass: Pass,
+    /// The replies to the acts of the script, in order.
     pub(crate) replies: Vec<Reply>,
+    /// Whether all acts were played. If not, the door was exhausted.
+    pub(crate) whole: bool,
 }
 
 // One act of a script.
@@ -32,7 +40,7 @@ fn perform<R: Wait, G: Gate>(
     door: &Door,
     pass: &mut Pass,
     act: Act,
-    gate: &InScript<G>,
+    part: &Part<G>,
 ) -> Answer
     requires door { pass.old.door ≡ door.now }
     requires label { HasKnownLabel door.now.policy act }
@@ -42,31 +50,71 @@ fn perform<R: Wait, G: Gate>(
 {
     match act {
         Act::Post(posting) => door.post(rt, pass, posting),
-        Act::Take(request) => wait(rt, door, pass, request, PATIENCE, gate),
+        Act::Take(request) => wait_with(rt, door, pass, request, PATIENCE, part),
         Act::Info(comm) => door.info(rt, pass, comm),
     }
 }
 
-// A script from its first act to its last; nothing if the door is exhausted before its end. Takes no memory.
-pub(crate) fn play<R: Wait, G: Gate>(rt: &R, door: &Door, job: Job, gate: &G) -> Option<Played>
+// One act of a script, with the gate round it.
+fn play_act<R: Wait, G: Gate>(
+    rt: &R,
+    door: &Door,
+    pass: &mut Pass,
+    act: Act,
+    part: &mut Part<G>,
+) -> Answer
+    requires door { pass.old.door ≡ door.now }
+    requires label { HasKnownLabel door.now.policy act }
+    ensures same { IsSamePass pass.old pass.new }
+    ensures performed { Performed PATIENCE pass.old act result pass.new }
+    ensures named { NamesKnown door.now.policy result }
+{
+    let comm = comm_of(&act);
+    part.before(rt);
+    let answer = perform(rt, door, pass, act, part);
+    if let Answer::Reply(reply) = &answer {
+        part.after(rt, comm, reply, pass.settled());
+    }
+    answer
+}
+
+// A script from its first act to its last, or as far as the door lets it. Takes no memory.
+pub(crate) fn play<R: Wait, G: Gate>(
+    rt: &R,
+    door: &Door,
+    job: Job,
+    gate: &G,
+    stage: &Stage,
+) -> Played
     requires { IsFresh door.now job }
-    ensures { IfSome result (HasPlayed PATIENCE job) }
+    ensures { HasPlayed PATIENCE job result }
 {
     let Job {
         mut pass,
         script,
         mut replies,
+        requests,
     } = job;
-    let process = pass.process();
+    let mut part = Part::new(gate, stage, pass.process(), requests);
+    part.begin(rt);
     for act in script {
-        let number = replies.len() as u64;
-        gate.before_call(rt, process, number);
-        let answer = perform(rt, door, &mut pass, act, &InScript { gate, number });
-        let Answer::Reply(reply) = answer else {
-            return None;
+        part.number = replies.len() as u64;
+        let Answer::Reply(reply) = play_act(rt, door, &mut pass, act, &mut part) else {
+            part.end(rt);
+            let whole = false;
+            return Played {
+                pass,
+                replies,
+                whole,
+            };
         };
-        gate.answered(rt, process, number, &reply);
         replies.push_reserved(reply);
     }
-    Some(Played { pass, replies })
+    part.end(rt);
+    let whole = true;
+    Played {
+        pass,
+        replies,
+        whole,
+    }
 }

@@ -12,7 +12,7 @@ pub struct RunReplies {
 
 impl Model for RunReplies {
     ghost use Rattle.std.specs.Prelude.{List, map, vec_items};
-    ghost use Rattle.hall_runs.specs.declared.reply.Reply.{Reply};
+    ghost use Rattle.run_model.specs.declared.reply.Reply.{Reply};
 
     ghost Value = { List (List Reply) };
 

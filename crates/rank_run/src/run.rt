@@ -1,19 +1,25 @@
 //! All scripts at the same time.
-ghost use Rattle.std.specs.Prelude.{◌≡◌, ◌≢◌, ◌↔◌, ◌≤◌, [], IfOk, IfErr, IfSome, length, map, vec_len, vec_items, vec_capacity};
+ghost use Rattle.std.specs.Prelude.{◌≡◌, ◌≢◌, ◌↔◌, [], ◌≤◌, IfOk, IfErr, length, vec_len};
+ghost use Rattle.std.specs.Prelude.{vec_capacity};
 ghost use Rattle.std.specs.List.{All};
-ghost use Rattle.audit_book.specs.Comms.{processes};
-ghost use Rattle.rank_run.specs.declared.fault.RunFault.TheVariants.{BadScripts, NoThread, Exhausted, NoMemory};
+ghost use Rattle.run_model.specs.Comms.{processes};
+ghost use Rattle.rank_run.specs.declared.fault.RunFault.TheVariants.{BadScripts, Exhausted};
 ghost use Rattle.rank_run.specs.declared.waiting.TheConstants.{PATIENCE};
-ghost use Rattle.rank_run.specs.Jobs.{IsFresh, HasPlayed, HaveRoom, AllEnded, HaveParts, AllPlayed, handed, passes_of, scripts_of};
-ghost use Rattle.rank_run.specs.Ran.{HaveLabels, Ran};
+ghost use Rattle.rank_run.specs.Jobs.{IsFresh, HasPlayed, HaveRoom, AllPlayed, HaveEnded, handed};
+ghost use Rattle.rank_run.specs.Jobs.{passes_of, scripts_of, passes_in, replies_in, are_whole};
+ghost use Rattle.rank_run.specs.Ran.{Ran, MayRunOut};
+ghost use Rattle.run_model.specs.Known.{ScriptsHaveKnownLabels};
 
-use crate::fault::RunFault;
+use crate::fault::{RunFault, ThreadRefused};
 use crate::gate::Gate;
+use crate::part::Setting;
 use crate::rank::{Job, Played, play};
 use crate::replies::RunReplies;
-use hall_core::{Hall, Reply};
-use hall_runs::{Acts, Scripts};
+use crate::requests::Requests;
+use crate::stage::Stage;
+use hall_core::{Hall, NoMemory, Reply};
 use hall_turn::{Door, Passes};
+use run_model::{Acts, Scripts};
 use std::alloc::Global;
 use std::snapshot::Snapshot;
 use std::sync::Wait;
@@ -34,21 +40,28 @@ pub struct Run {
 #[derive(Drop)]
 struct Playing(Snapshot<Job>);
 
-impl Promise<Option<Played>> for Playing {
-    ghost use Rattle.std.specs.Prelude.{IfSome};
+impl Promise<Played> for Playing {
     ghost use Rattle.rank_run.specs.declared.waiting.TheConstants.{PATIENCE};
     ghost use Rattle.rank_run.specs.Jobs.{HasPlayed};
 
-    ghost kept_by = { λ p r. IfSome r (HasPlayed PATIENCE p.0.value) };
+    ghost kept_by = { λ p r. HasPlayed PATIENCE p.0.value r };
 }
 
-// A pass, a script and room for the replies for each process.
-fn share_out(alloc: Global, passes: Passes, scripts: Vec<Acts>) -> Result<Vec<Job>, RunFault>
+// What the threads gave back.
+#[derive(Drop)]
+struct Ended {
+    passes: Passes,
+    replies: Vec<Vec<Reply>>,
+    // Whether all scripts were played to their ends. If not, the door is exhausted.
+    whole: bool,
+}
+
+// A pass, a script and room for replies and requests for each process.
+fn share_out(alloc: Global, passes: Passes, scripts: Vec<Acts>) -> Result<Vec<Job>, NoMemory>
     requires { vec_len passes ≡ vec_len scripts }
     ensures passes { IfOk result (λ jobs. passes_of jobs.items ≡ passes.items) }
     ensures scripts { IfOk result (λ jobs. scripts_of jobs.items ≡ scripts.items) }
     ensures room { IfOk result (λ jobs. HaveRoom jobs.items) }
-    ensures fault { IfErr result (λ fault. fault ≡ NoMemory) }
 {
     let mut jobs = Vec::with_capacity(alloc, passes.len())?;
     let mut passes = passes.into_iter();
@@ -58,23 +71,25 @@ fn share_out(alloc: Global, passes: Passes, scripts: Vec<Acts>) -> Result<Vec<Jo
         };
         let script = acts.into_vec();
         let replies = Vec::with_capacity(alloc, script.len())?;
+        let requests = Requests::new(alloc, &script)?;
         jobs.push_reserved(Job {
             pass,
             script,
             replies,
+            requests,
         });
     }
     Ok(jobs)
 }
 
-// Joins all threads, and keeps what they gave, nothing where one found the door exhausted.
+// Joins all threads, and keeps what they gave.
 fn join_all<R: Threads>(
     rt: &R,
-    handles: Vec<PromisedHandle<Option<Played>, Playing>>,
-    mut ended: Vec<Option<Played>>,
-) -> Vec<Option<Played>>
+    handles: Vec<PromisedHandle<Played, Playing>>,
+    mut ended: Vec<Played>,
+) -> Vec<Played>
     requires { (ended.items ≡ []) × (vec_len handles ≤ vec_capacity ended) }
-    ensures ended { AllEnded PATIENCE (handed handles.items) result.items }
+    ensures played { AllPlayed PATIENCE (handed handles.items) result.items }
     ensures len { vec_len result ≡ vec_len handles }
 {
     for handle in handles {
@@ -83,29 +98,29 @@ fn join_all<R: Threads>(
     ended
 }
 
-// The passes and the replies, if no thread found the door exhausted.
-fn sort_out(
-    ended: Vec<Option<Played>>,
-    mut passes: Passes,
-    mut replies: Vec<Vec<Reply>>,
-) -> Result<(Passes, Vec<Vec<Reply>>), RunFault>
+// The passes and the replies, and whether all scripts were played to their ends.
+fn sort_out(ended: Vec<Played>, mut passes: Passes, mut replies: Vec<Vec<Reply>>) -> Ended
     requires passes { (passes.items ≡ []) × (vec_len ended ≤ vec_capacity passes) }
     requires replies { (replies.items ≡ []) × (vec_len ended ≤ vec_capacity replies) }
-    ensures parts { IfOk result (λ r. HaveParts ended.items r.0.items r.1.items) }
-    ensures fault { IfErr result (λ fault. fault ≡ Exhausted) }
+    ensures passes { result.passes.items ≡ passes_in ended.items }
+    ensures replies { result.replies.items ≡ replies_in ended.items }
+    ensures whole { result.whole ≡ are_whole ended.items }
 {
-    for end in ended {
-        let Some(played) = end else {
-            return Err(RunFault::Exhausted);
-        };
+    let whole = ended.iter().all(|played| played.whole);
+    for played in ended {
         let Played {
             pass,
             replies: given,
+            whole: _,
         } = played;
         passes.push_reserved(pass);
         replies.push_reserved(given);
     }
-    Ok((passes, replies))
+    Ended {
+        passes,
+        replies,
+        whole,
+    }
 }
 
 // A thread for each job. All have ended, and are joined, when it returns.
@@ -113,39 +128,39 @@ fn run_each<R: Threads + Wait + Sync, G: Gate + Sync>(
     rt: &R,
     door: &Door,
     jobs: Vec<Job>,
-    gate: &G,
-    mut handles: Vec<PromisedHandle<Option<Played>, Playing>>,
-    ended: Vec<Option<Played>>,
-) -> Result<Vec<Option<Played>>, RunFault>
+    setting: &Setting<G>,
+    mut handles: Vec<PromisedHandle<Played, Playing>>,
+    ended: Vec<Played>,
+) -> Result<Vec<Played>, ThreadRefused>
     requires fresh { All (IsFresh door.now) jobs.items }
     requires handles { (handles.items ≡ []) × (vec_len jobs ≤ vec_capacity handles) }
     requires ended { (ended.items ≡ []) × (vec_len jobs ≤ vec_capacity ended) }
-    ensures ended { IfOk result (λ v. AllEnded PATIENCE jobs.items v.items) }
+    ensures played { IfOk result (λ v. AllPlayed PATIENCE jobs.items v.items) }
     ensures len { IfOk result (λ v. vec_len v ≡ vec_len jobs) }
-    ensures fault { IfErr result (λ fault. fault ≡ NoThread) }
 {
+    let Setting { gate, stage } = *setting;
     thread::scope(
         thread::scope_env(),
         rt,
-        move |scope| -> Result<Vec<Option<Played>>, RunFault>
+        move |scope| -> Result<Vec<Played>, ThreadRefused>
             requires fresh { All (IsFresh door.now) jobs.items }
             requires handles { (handles.items ≡ []) × (vec_len jobs ≤ vec_capacity handles) }
             requires ended { (ended.items ≡ []) × (vec_len jobs ≤ vec_capacity ended) }
-            ensures ended { IfOk result (λ v. AllEnded PATIENCE jobs.items v.items) }
+            ensures played { IfOk result (λ v. AllPlayed PATIENCE jobs.items v.items) }
             ensures len { IfOk result (λ v. vec_len v ≡ vec_len jobs) }
-            ensures fault { IfErr result (λ fault. fault ≡ NoThread) }
         {
             for job in jobs {
                 let promise = Playing(Snapshot::of(&job));
                 let Ok(handle) = scope.spawn_with(
                     promise,
-                    move || -> Option<Played>
+                    move || -> Played
                         requires { IsFresh door.now job }
-                        ensures { IfSome result (HasPlayed PATIENCE job) }
-                    { play(rt, door, job, gate) },
+                        ensures { HasPlayed PATIENCE job result }
+                    { play(rt, door, job, gate, stage) },
                 ) else {
+                    stage.end_from(rt, handles.len());
                     let _ended = join_all(rt, handles, ended);
-                    return Err(RunFault::NoThread);
+                    return Err(ThreadRefused);
                 };
                 handles.push_reserved(handle);
             }
@@ -154,6 +169,10 @@ fn run_each<R: Threads + Wait + Sync, G: Gate + Sync>(
     )
 }
 
+// How many ranks play at a time. The hall takes one call at a time: two that play wait for each
+// other's turns, which costs more than a rank that stands in line.
+const AT_A_TIME: usize = 1;
+
 // All jobs at the same time.
 fn run_jobs<R: Threads + Wait + Sync, G: Gate + Sync>(
     rt: &R,
@@ -161,18 +180,23 @@ fn run_jobs<R: Threads + Wait + Sync, G: Gate + Sync>(
     door: &Door,
     jobs: Vec<Job>,
     gate: &G,
-) -> Result<(Passes, Vec<Vec<Reply>>), RunFault>
+) -> Result<Ended, RunFault>
     requires { All (IsFresh door.now) jobs.items }
-    ensures played { IfOk result (λ r. AllPlayed PATIENCE jobs.items r.0.items r.1.items) }
-    ensures fault { IfErr result (λ fault. fault ≢ BadScripts) }
+    ensures ended { IfOk result (HaveEnded PATIENCE jobs.items) }
+    ensures fault { IfErr result (λ fault. (fault ≢ BadScripts) × (fault ≢ Exhausted)) }
 {
     let count = jobs.len();
     let passes = Vec::with_capacity(alloc, count)?;
     let replies = Vec::with_capacity(alloc, count)?;
     let ended = Vec::with_capacity(alloc, count)?;
     let handles = Vec::with_capacity(alloc, count)?;
-    let ended = run_each(rt, door, jobs, gate, handles, ended)?;
-    sort_out(ended, passes, replies)
+    let stage = Stage::new(alloc, count, AT_A_TIME, gate.holds())?;
+    let setting = Setting {
+        gate,
+        stage: &stage,
+    };
+    let ended = run_each(rt, door, jobs, &setting, handles, ended)?;
+    Ok(sort_out(ended, passes, replies))
 }
 
 // The scripts are as many as the processes.
@@ -183,30 +207,38 @@ fn run_all<R: Threads + Wait + Sync, G: Gate + Sync>(
     scripts: Scripts,
     gate: &G,
 ) -> Result<Run, RunFault>
-    requires labels { HaveLabels policy scripts }
+    requires labels { ScriptsHaveKnownLabels policy scripts }
     requires long { length scripts ≡ processes policy }
     ensures ran { IfOk result (λ run. Ran PATIENCE policy scripts run.replies run.hall) }
     ensures fault { IfErr result (λ fault. fault ≢ BadScripts) }
+    ensures exhausted { IfErr result (λ fault. fault ≡ Exhausted → MayRunOut PATIENCE scripts) }
 {
     let (door, passes) = Door::open(alloc, policy)?;
     let jobs = share_out(alloc, passes, scripts.into_vec())?;
-    let (passes, replies) = run_jobs(rt, alloc, &door, jobs, gate)?;
-    let Ok(hall) = door.close(passes) else {
+    let ended = run_jobs(rt, alloc, &door, jobs, gate)?;
+    let Ok(hall) = door.close(ended.passes) else {
         unreachable!()
     };
+    if !ended.whole {
+        return Err(RunFault::Exhausted);
+    }
     Ok(Run {
-        replies: RunReplies::from(replies),
+        replies: RunReplies::from(ended.replies),
         hall,
     })
 }
 
-/// Runs the scripts of all processes, each in a thread of its own, at one hall. A take in a script is tried by [`wait`](crate::wait), at most
-/// [`PATIENCE`](crate::PATIENCE) times. Every thread has ended when it returns. The gate is passed round each act of each script; the acts of a
-/// script are numbered from 0.
+/// Runs the scripts of all processes, each in a thread of its own, at one hall. A take in a script
+/// is tried as by [`wait`](crate::wait), at most [`PATIENCE`](crate::PATIENCE) times. Every thread
+/// has ended when it returns. The gate is passed round each act of each script, and `computing` at
+/// each try of a take; the acts of a script are numbered from 0.
 ///
-/// The caller sees to it that the labels of the postings are public or datasets of the policy. `BadScripts` is answered exactly if there is not
-/// one script for each process. `NoThread` is answered where a thread was refused; those that had started have run to their ends. `Exhausted` is
-/// answered after 2^62 turns alone, and `NoMemory` only where a growth was refused, before any thread starts.
+/// The caller sees to it that the labels of the postings are public or datasets of the policy.
+/// `BadScripts` is answered exactly if there is not one script for each process. `NoThread` is
+/// answered where a thread was refused; those that had started have run to their ends. `Exhausted`
+/// is answered only where the door had 2^62 turns, so never where all acts, each tried as often as
+/// it may be, are fewer. `NoMemory` is answered only where a growth was refused, before any thread
+/// starts.
 pub fn run_ranks<R: Threads + Wait + Sync, G: Gate + Sync>(
     rt: &R,
     alloc: Global,
@@ -214,9 +246,11 @@ pub fn run_ranks<R: Threads + Wait + Sync, G: Gate + Sync>(
     scripts: Scripts,
     gate: &G,
 ) -> Result<Run, RunFault>
-    requires { HaveLabels policy scripts }
+    requires { ScriptsHaveKnownLabels policy scripts }
     ensures ran { IfOk result (λ run. Ran PATIENCE policy scripts run.replies run.hall) }
-    ensures bad_scripts { IfErr result (λ fault. (fault ≡ BadScripts) ↔ (length scripts ≢ processes policy)) }
+    ensures bad_scripts { IfErr result (λ fault.
+        (fault ≡ BadScripts) ↔ (length scripts ≢ processes policy)) }
+    ensures exhausted { IfErr result (λ fault. fault ≡ Exhausted → MayRunOut PATIENCE scripts) }
 {
     if scripts.len() != policy.processes() as usize {
         return Err(RunFault::BadScripts);

@@ -2,8 +2,7 @@
 //! sanitised.
 ghost use Rattle.std.specs.Prelude.{◌≡◌, IfOk};
 ghost use Rattle.std.specs.List.{All};
-ghost use Rattle.hall_core.specs.Named.{IsKnownLabel, HasKnownLabel};
-ghost use Rattle.rank_run.specs.Ran.{HaveLabels};
+ghost use Rattle.run_model.specs.Known.{IsKnownLabel, HasKnownLabel, ScriptsHaveKnownLabels};
 
 use crate::{Acts, Gate, OpenGate, Run, RunFault, Scripts, run_ranks, wait};
 use coll_routes::{Own, Signature};
@@ -32,7 +31,7 @@ struct Counting {
     before: AtomicU64,
     computing: AtomicU64,
     answered: AtomicU64,
-    /// The sum of the numbers of the calls that were answered.
+    /// The sum of the numbers of the calls in which something was computed.
     numbers: AtomicU64,
 }
 
@@ -50,13 +49,13 @@ impl Gate for Counting {
         self.before.fetch_add(1, Ordering::SeqCst);
     }
 
-    fn computing<R: Wait>(&self, _rt: &R, _process: u32, _number: u64) {
+    fn computing<R: Wait>(&self, _rt: &R, _process: u32, number: u64) {
         self.computing.fetch_add(1, Ordering::SeqCst);
+        self.numbers.fetch_add(number, Ordering::SeqCst);
     }
 
-    fn answered<R: Wait>(&self, _rt: &R, _process: u32, number: u64, _reply: &Reply) {
+    fn answered<R: Wait>(&self, _rt: &R, _process: u32, _number: u64, _reply: &Reply) {
         self.answered.fetch_add(1, Ordering::SeqCst);
-        self.numbers.fetch_add(number, Ordering::SeqCst);
     }
 }
 
@@ -97,7 +96,7 @@ impl Gate for Meeting {
 }
 
 /// A label of the policy, public if it has none of that name.
-fn label(policy: &Policy, name: &str) -> Label
+pub(crate) fn label(policy: &Policy, name: &str) -> Label
     ensures { IsKnownLabel policy.now result }
 {
     match policy.dataset_named(name) {
@@ -138,10 +137,10 @@ fn script(alloc: Global, policy: &Policy, name: &str, number: i128) -> Result<Ac
 }
 
 /// The scripts and one more.
-fn with(policy: &Policy, mut scripts: Vec<Acts>, script: Acts) -> Result<Vec<Acts>, Fail>
-    requires scripts { HaveLabels policy.now scripts.items }
+pub(crate) fn with(policy: &Policy, mut scripts: Vec<Acts>, script: Acts) -> Result<Vec<Acts>, Fail>
+    requires scripts { ScriptsHaveKnownLabels policy.now scripts.items }
     requires script { All (HasKnownLabel policy.now) script }
-    ensures { IfOk result (λ r. HaveLabels policy.now r.items) }
+    ensures { IfOk result (λ r. ScriptsHaveKnownLabels policy.now r.items) }
 {
     let _ = policy;
     scripts.push(script)?;
@@ -150,7 +149,7 @@ fn with(policy: &Policy, mut scripts: Vec<Acts>, script: Acts) -> Result<Vec<Act
 
 /// The scripts of a0, b0 and c0, and that of n0 if it is wanted.
 fn scripts(alloc: Global, policy: &Policy, all: bool) -> Result<Scripts, Fail>
-    ensures { IfOk result (HaveLabels policy.now) }
+    ensures { IfOk result (ScriptsHaveKnownLabels policy.now) }
 {
     let scripts = with(policy, Vec::new(alloc), script(alloc, policy, "alpha", 5)?)?;
     let scripts = with(policy, scripts, script(alloc, policy, "beta", 6)?)?;
@@ -162,7 +161,7 @@ fn scripts(alloc: Global, policy: &Policy, all: bool) -> Result<Scripts, Fail>
     Ok(Scripts::from(scripts))
 }
 
-fn is_posted(reply: &Reply, request: u64) -> bool {
+pub(crate) fn is_posted(reply: &Reply, request: u64) -> bool {
     match reply {
         Reply::Posted(given) => *given == request,
         _ => false,
@@ -206,8 +205,6 @@ fn four_ranks_run(rt: HostRuntime) -> Result<(), Fail> {
     assert_eq!(&rt; run.hall.book().len(), 5);
     assert_eq!(&rt; gate.before.load(Ordering::SeqCst), 8);
     assert_eq!(&rt; gate.answered.load(Ordering::SeqCst), 8);
-    assert_eq!(&rt; gate.numbers.load(Ordering::SeqCst), 4);
-    assert_eq!(&rt; gate.computing.load(Ordering::SeqCst), 0);
     let replies = run.replies.into_vecs();
     assert_eq!(&rt; replies.len(), 4);
     Ok(())
@@ -249,8 +246,10 @@ fn wait_alone<R: Wait + Abort>(rt: &R, door: &Door, pass: &mut Pass, patience: u
     let gate = new_count();
     let answer = wait(rt, door, pass, 0, patience, &gate);
     assert!(rt; matches!(&answer, Answer::Reply(Reply::Pending)));
-    assert_eq!(rt; gate.before.load(Ordering::SeqCst), tries);
-    assert_eq!(rt; gate.answered.load(Ordering::SeqCst), tries);
+    assert_eq!(rt; gate.computing.load(Ordering::SeqCst), tries);
+    assert_eq!(rt; gate.numbers.load(Ordering::SeqCst), 0);
+    assert_eq!(rt; gate.before.load(Ordering::SeqCst), 0);
+    assert_eq!(rt; gate.answered.load(Ordering::SeqCst), 0);
 }
 
 fn last(door: &Door, passes: &mut Passes) -> Result<Pass, Fail>

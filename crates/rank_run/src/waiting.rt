@@ -1,13 +1,13 @@
 //! Waiting for the outcome of a request.
 ghost use Rattle.std.specs.Prelude.{◌≡◌};
-ghost use Rattle.hall_runs.specs.declared.call.Act.TheVariants.{Take as ToTake};
-ghost use Rattle.hall_runs.specs.Replies.{Legal};
+ghost use Rattle.run_model.specs.declared.call.Act.TheVariants.{Take as ToTake};
+ghost use Rattle.run_model.specs.Replies.{Legal};
 ghost use Rattle.hall_turn.specs.Answers.{Answered, IsSamePass, NamesKnown};
 ghost use Rattle.rank_run.specs.Waits.{Waited, is_pending};
 
 use crate::gate::Gate;
-use hall_core::Reply;
-use hall_turn::{Answer, Door, Pass};
+use hall_core::{Claim, Reply, finish};
+use hall_turn::{Answer, Claimed, Door, Pass};
 use std::sync::Wait;
 use std::thread;
 
@@ -34,13 +34,65 @@ fn is_pending(answer: &Answer) -> bool
     }
 }
 
-/// One take, round which the gate is passed.
-fn take_once<R: Wait, G: Gate>(
+/// What a thread does of its own accord round its tries of a take.
+pub(crate) trait Pause {
+    /// Rests before a try, after so many that were answered `Pending`. False where nothing can
+    /// change any more that is worth a rest.
+    fn rest<R: Wait>(&self, rt: &R, request: u64, tried: u64) -> bool;
+
+    /// Makes room for others while the reply is worked out, if that takes long enough. Gives
+    /// whether it did.
+    fn step_aside<R: Wait>(&self, rt: &R, claim: &Claim) -> bool;
+
+    /// Comes back after it made room.
+    fn step_back<R: Wait>(&self, rt: &R);
+}
+
+/// A gate, and a yield between tries.
+#[derive(Clone, Copy)]
+struct Yields<'g, G> {
+    gate: &'g G,
+}
+
+impl<'g, G> Pause for Yields<'g, G> {
+    fn rest<R: Wait>(&self, _rt: &R, _request: u64, tried: u64) -> bool {
+        if tried > 0 {
+            thread::yield_now();
+        }
+        true
+    }
+
+    fn step_aside<R: Wait>(&self, _rt: &R, _claim: &Claim) -> bool {
+        false
+    }
+
+    fn step_back<R: Wait>(&self, _rt: &R) {}
+}
+
+impl<'g, G: Gate> Gate for Yields<'g, G> {
+    fn before_call<R: Wait>(&self, rt: &R, process: u32, number: u64) {
+        self.gate.before_call(rt, process, number);
+    }
+
+    fn computing<R: Wait>(&self, rt: &R, process: u32, number: u64) {
+        self.gate.computing(rt, process, number);
+    }
+
+    fn answered<R: Wait>(&self, rt: &R, process: u32, number: u64, reply: &Reply) {
+        self.gate.answered(rt, process, number, reply);
+    }
+
+    fn holds(&self) -> bool {
+        self.gate.holds()
+    }
+}
+
+/// One take: a claim at a turn, and its finish after the turn, the gate's `computing` between.
+fn take_once<R: Wait, G: Gate + Pause>(
     rt: &R,
     door: &Door,
     pass: &mut Pass,
     request: u64,
-    number: u64,
     gate: &G,
 ) -> Answer
     requires { pass.old.door ≡ door.now }
@@ -49,21 +101,27 @@ fn take_once<R: Wait, G: Gate>(
     ensures answered { Answered pass.old (ToTake request) result pass.new }
     ensures named { NamesKnown door.now.policy result }
 {
-    let process = pass.process();
-    gate.before_call(rt, process, number);
-    let answer = door.take(rt, pass, request);
-    if let Answer::Reply(reply) = &answer {
-        gate.answered(rt, process, number, reply);
+    match door.claim(rt, pass, request) {
+        Claimed::Claim(claim) => {
+            let aside = gate.step_aside(rt, &claim);
+            gate.computing(rt, pass.process(), 0);
+            let reply = finish(claim);
+            if aside {
+                gate.step_back(rt);
+            }
+            Answer::Reply(reply)
+        }
+        Claimed::Exhausted => Answer::Exhausted,
     }
-    answer
 }
 
-/// Takes the outcome of a request of the pass's process, again and again while the reply is `Pending`: at most `patience` times, and once at
-/// least. Each try is a turn of its own, and between two tries the thread yields its processor to others, so it does not hold up those for whom it
-/// waits; it does not sleep.
+/// Takes the outcome of a request of the pass's process, again and again while the reply is
+/// `Pending`: at most `patience` times, and once at least. Every take but the last was answered
+/// `Pending`; the answer is that of the last.
 ///
-/// The answer is that of the last try. It is `Pending` only after all tries, and `Exhausted` if the door had 2^62 turns before that try. The gate is
-/// passed round each try, the first being number 0.
+/// At every try the gate's `computing` is called between the claim and its finish, with 0 as the
+/// call's number; its other two calls are not called. Between two tries the thread yields. What
+/// the pass has seen since begins with what it had seen, and has of its process these takes more.
 pub fn wait<R: Wait, G: Gate>(
     rt: &R,
     door: &Door,
@@ -78,12 +136,34 @@ pub fn wait<R: Wait, G: Gate>(
     ensures waited { Waited patience pass.old request result pass.new }
     ensures named { NamesKnown door.now.policy result }
 {
+    wait_with(rt, door, pass, request, patience, &Yields { gate })
+}
+
+/// The same, with this gate's pauses.
+pub(crate) fn wait_with<R: Wait, G: Gate + Pause>(
+    rt: &R,
+    door: &Door,
+    pass: &mut Pass,
+    request: u64,
+    patience: u64,
+    gate: &G,
+) -> Answer
+    requires door { pass.old.door ≡ door.now }
+    ensures same { IsSamePass pass.old pass.new }
+    ensures legal { Legal door.now.policy pass.new.seen }
+    ensures waited { Waited patience pass.old request result pass.new }
+    ensures named { NamesKnown door.now.policy result }
+{
+    let mut rests = true;
     for tried in 1..patience {
-        let answer = take_once(rt, door, pass, request, tried - 1, gate);
+        rests = rests && gate.rest(rt, request, tried - 1);
+        let answer = take_once(rt, door, pass, request, gate);
         if !is_pending(&answer) {
             return answer;
         }
-        thread::yield_now();
     }
-    take_once(rt, door, pass, request, patience.max(1) - 1, gate)
+    if rests {
+        gate.rest(rt, request, patience.max(1) - 1);
+    }
+    take_once(rt, door, pass, request, gate)
 }

@@ -1,7 +1,7 @@
 use Rattle.std.proofs.Common.{◌∙◌, ◌++◌, ◌∷◌, [], ap, sym, subst, arith, List, length, append_assoc}
 use Rattle.std.proofs.lemmas.List.{length_push}
 use Rattle.std.specs.Vec.Iter.{into_iter_items}
-use Rattle.hall_runs.specs.declared.reply.Reply.{Reply}
+use Rattle.run_model.specs.declared.reply.Reply.{Reply}
 use Rattle.wall_policy.specs.Policy.{ChineseWall}
 use Rattle.hall_turn.specs.Known.{Doorway}
 use Rattle.hall_turn.specs.Answers.{NamesKnown}
@@ -26,7 +26,7 @@ loop-act-preserved g c =
     let act = c.in-Some.act in
     let done = c.loop-act.yielded in
     let push = c.push_reserved.ensures in
-    let p = c.perform-answer in
+    let p = c.play_act in
     let long = length_push done act in
     let count = i.count in
     record {

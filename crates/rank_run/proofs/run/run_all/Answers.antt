@@ -1,12 +1,16 @@
-use Rattle.std.proofs.Common.{refl, ◌∙◌, ◌<◌, ap, sym, subst, arith, List, length}
-use Rattle.audit_book.specs.Comms.{processes}
+use Rattle.std.proofs.Common.{refl, ◌∙◌, ◌<◌, ap, sym, subst, arith, map, vec_items, List, length}
+use Rattle.std.specs.Global.{Vec}
+use Rattle.std.proofs.lemmas.List.{length-map}
+use Rattle.run_model.specs.Comms.{processes}
 use Rattle.wall_policy.specs.Policy.{ChineseWall}
-use Rattle.hall_runs.specs.declared.call.Act.{Act}
-use Rattle.hall_runs.specs.declared.reply.Reply.{Reply}
-use Rattle.hall_turn.proofs.DealLemmas.{passes_length}
+use Rattle.run_model.specs.declared.call.Act.{Act}
+use Rattle.run_model.specs.declared.reply.Reply.{Reply}
+use Rattle.hall_turn.proofs.HallTurnLemmas.{passes_length}
 use Rattle.rank_run.specs.declared.waiting.TheConstants.{PATIENCE}
-use Rattle.rank_run.specs.Ran.{HaveLabels, Ran}
-use Rattle.rank_run.proofs.RunLemmas.{all_fresh, all_back, jobs_long, played_long, ran}
+use Rattle.rank_run.specs.declared.rank.Played.{Played}
+use Rattle.rank_run.specs.Ran.{Ran}
+use Rattle.run_model.specs.Known.{ScriptsHaveKnownLabels}
+use Rattle.rank_run.proofs.RunLemmas.{all_fresh, all_back, jobs_long, played_long, Story, ran, cut_short, not_true, not_false}
 use Rattle.rank_run.proofs.run.run_all.Goals as goal
 
 pub share_out-requires : goal.share_out-requires
@@ -22,38 +26,68 @@ share_out-requires g c =
 pub run_jobs-requires-after_bounds : goal.run_jobs-requires-after_bounds
 run_jobs-requires-after_bounds g c κs within =
     let door = c.in_ok-door.door in
-    let n = processes c.args.policy in
-    let jobs = c.in_ok-jobs.jobs.items in
     let e = c.in_ok-jobs.ensures in
-    all_fresh door n jobs c.args.scripts (e.passes ∙ c.in_ok-door.ensures.passes) (e.scripts ∙ c.into_vec.ensures) e.room
-    (subst (λ (w : ChineseWall). HaveLabels w c.args.scripts) (sym c.in_ok-door.ensures.policy) c.requires.labels)
+    all_fresh door (processes c.args.policy) c.in_ok-jobs.jobs.items c.args.scripts
+    (e.passes ∙ c.in_ok-door.ensures.passes) (e.scripts ∙ c.into_vec.ensures) e.room
+    (subst (λ (w : ChineseWall). ScriptsHaveKnownLabels w c.args.scripts) (sym c.in_ok-door.ensures.policy)
+    c.requires.labels)
 
 pub close-requires : goal.close-requires
 close-requires g c =
     let door = c.in_ok-door.door in
-    let n = processes c.args.policy in
     let jobs = c.in_ok-jobs.jobs.items in
     let e = c.in_ok-jobs.ensures in
-    let fresh = all_fresh door n jobs c.args.scripts (e.passes ∙ c.in_ok-door.ensures.passes) (e.scripts ∙ c.into_vec.ensures) e.room
-    (subst (λ (w : ChineseWall). HaveLabels w c.args.scripts) (sym c.in_ok-door.ensures.policy) c.requires.labels) in
-    all_back PATIENCE door jobs c.in_ok-passes.passes.items c.in_ok-passes.replies.items fresh c.in_ok-passes.ensures.played
+    let h = c.in_ok-ended.ensures.ended in
+    let fresh = all_fresh door (processes c.args.policy) jobs c.args.scripts
+    (e.passes ∙ c.in_ok-door.ensures.passes) (e.scripts ∙ c.into_vec.ensures) e.room
+    (subst (λ (w : ChineseWall). ScriptsHaveKnownLabels w c.args.scripts) (sym c.in_ok-door.ensures.policy)
+    c.requires.labels) in
+    all_back PATIENCE door jobs h.all c.in_ok-ended.ended.passes.items fresh h.played h.passes
 
 pub unreachable-requires : goal.unreachable-requires
 unreachable-requires g c =
     let door = c.in_ok-door.door in
-    let n = processes c.args.policy in
     let jobs = c.in_ok-jobs.jobs.items in
-    let long = jobs_long door n jobs (c.in_ok-jobs.ensures.passes ∙ c.in_ok-door.ensures.passes) in
-    let back = played_long PATIENCE jobs c.in_ok-passes.passes.items c.in_ok-passes.replies.items c.in_ok-passes.ensures.played in
-    let few : length c.in_ok-passes.passes.items < processes door.policy = c.in_default.ensures.missing.0 refl in
+    let h = c.in_ok-ended.ensures.ended in
+    let passes = c.in_ok-ended.ended.passes.items in
+    let long = jobs_long door (processes c.args.policy) jobs
+    (c.in_ok-jobs.ensures.passes ∙ c.in_ok-door.ensures.passes) in
+    let back = played_long PATIENCE jobs h.all h.played in
+    let many = ap length h.passes ∙ length-map h.all (λ (p : Played). p.pass) in
+    let few : length passes < processes door.policy = c.in_default.ensures.missing.0 refl in
     let same = ap (λ (w : ChineseWall). processes w) c.in_ok-door.ensures.policy in
-    omega (arith, back.0)
+    omega arith
+
+pub returns-then-not-ended-clause-exhausted : goal.returns-then-not-ended-clause-exhausted
+returns-then-not-ended-clause-exhausted g c =
+    let e = c.in_ok-jobs.ensures in
+    let h = c.in_ok-ended.ensures.ended in
+    λ _. cut_short PATIENCE c.args.policy c.args.scripts c.in_ok-door.door c.in_ok-jobs.jobs.items
+    h.all c.in_ok-ended.ended.passes.items c.in-Ok.hall
+    (record {
+      same = c.in_ok-door.ensures.policy;
+      are = e.passes ∙ c.in_ok-door.ensures.passes;
+      scripts_are = e.scripts ∙ c.into_vec.ensures;
+      played = h.played;
+      back = h.passes;
+      closed = c.in-Ok.ensures.hall;
+    })
+    (sym h.whole ∙ not_true c.in_ok-ended.ended.whole c.if-not-ended.true)
 
 pub returns-clause-ran : goal.returns-clause-ran
 returns-clause-ran g c =
-    let door = c.in_ok-door.door in
-    let jobs = c.in_ok-jobs.jobs.items in
     let e = c.in_ok-jobs.ensures in
-    subst (λ (l : List (List Reply)). Ran PATIENCE c.args.policy c.args.scripts l c.in-Ok.hall) (sym c.from.ensures)
-    (ran PATIENCE c.args.policy door c.args.scripts jobs c.in_ok-passes.passes.items c.in_ok-passes.replies.items c.in-Ok.hall c.in_ok-door.ensures.policy
-    (e.passes ∙ c.in_ok-door.ensures.passes) (e.scripts ∙ c.into_vec.ensures) c.in_ok-passes.ensures.played c.in-Ok.ensures.hall)
+    let h = c.in_ok-ended.ensures.ended in
+    subst (λ (l : List (List Reply)). Ran PATIENCE c.args.policy c.args.scripts l c.in-Ok.hall)
+    (sym (c.from.ensures ∙ ap (λ (l : List (Vec Reply)). map vec_items l) h.replies))
+    (ran PATIENCE c.args.policy c.args.scripts c.in_ok-door.door c.in_ok-jobs.jobs.items h.all
+    c.in_ok-ended.ended.passes.items c.in-Ok.hall
+    (record {
+      same = c.in_ok-door.ensures.policy;
+      are = e.passes ∙ c.in_ok-door.ensures.passes;
+      scripts_are = e.scripts ∙ c.into_vec.ensures;
+      played = h.played;
+      back = h.passes;
+      closed = c.in-Ok.ensures.hall;
+    })
+    (sym h.whole ∙ not_false c.in_ok-ended.ended.whole c.if-not-ended.false))

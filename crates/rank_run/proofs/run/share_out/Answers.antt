@@ -1,7 +1,7 @@
 use Rattle.std.proofs.Common.{◌∙◌, ◌++◌, ◌∷◌, [], ap, sym, subst, arith, List, append_assoc}
 use Rattle.std.proofs.lemmas.List.{length_push}
 use Rattle.std.specs.Vec.Iter.{into_iter_items}
-use Rattle.hall_runs.specs.declared.call.Act.{Act}
+use Rattle.run_model.specs.declared.call.Act.{Act}
 use Rattle.rank_run.specs.declared.rank.Job.{Job}
 use Rattle.rank_run.specs.Jobs.{HaveRoom, passes_of, scripts_of}
 use Rattle.rank_run.proofs.RunLemmas.{shared_passes, shared_scripts, shared_room}
@@ -16,7 +16,7 @@ loop-acts-preserved c =
     let jobs = c.loop-acts.jobs.items in
     let push = c.push_reserved.ensures in
     let given = c.in_ok-replies.replies in
-    let job : Job = record { pass = c.in-Some-next.pass; script = script; replies = given } in
+    let job : Job = record { pass = c.in-Some-next.pass; script = script; replies = given; requests = c.in_ok-requests.requests } in
     let long = length_push done acts in
     let count = i.count in
     let none = c.in_ok-replies.ensures.items in

@@ -1,7 +1,7 @@
 use Rattle.std.proofs.Common.{◌-◌, ◌≤◌}
 use Rattle.rank_run.specs.Waits.{tries}
 use Rattle.rank_run.proofs.WaitLemmas.{Waits}
-use Rattle.rank_run.proofs.waiting.wait.Given as goal
+use Rattle.rank_run.proofs.waiting.wait_with.Given as goal
 
 abbrev pub invariant-loop-tried : goal.invariant-loop-tried
 invariant-loop-tried g l = record {

@@ -1,6 +1,6 @@
 use Rattle.std.proofs.Common.{arith, ◌≡◌, ◌+◌, ◌-◌, subst, sym, ◌∙◌}
 use Rattle.rank_run.proofs.WaitLemmas.{waits_more, waited, not_pending, Waits}
-use Rattle.rank_run.proofs.waiting.wait.Goals as goal
+use Rattle.rank_run.proofs.waiting.wait_with.Goals as goal
 
 pub returns-then-not-is_pending-clause-waited : goal.returns-then-not-is_pending-clause-waited
 returns-then-not-is_pending-clause-waited g c =

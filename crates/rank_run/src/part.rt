@@ -1,0 +1,130 @@
+//! The part of a rank in a run: what its thread does round its calls. Nothing is proved of it.
+
+use crate::gate::Gate;
+use crate::requests::Requests;
+use crate::stage::Stage;
+use crate::waiting::Pause;
+use hall_core::{Claim, Reply};
+use std::sync::Wait;
+
+/// What the ranks of a run share, beside the door.
+#[derive(Clone, Copy)]
+pub(crate) struct Setting<'r, G> {
+    pub(crate) gate: &'r G,
+    pub(crate) stage: &'r Stage,
+}
+
+/// A rank: the gate under the number of its call, and its place on the stage.
+#[derive(Drop)]
+pub(crate) struct Part<'r, G> {
+    pub(crate) gate: &'r G,
+    pub(crate) stage: &'r Stage,
+    pub(crate) process: u32,
+    /// The number of its call, in its script.
+    pub(crate) number: u64,
+    pub(crate) requests: Requests,
+}
+
+// A delivery is large if so many elements were given to its instance.
+const LARGE: usize = 4096;
+
+// Whether it takes long to work out the reply.
+fn is_large(claim: &Claim) -> bool {
+    let Claim::Ready { full, .. } = claim else {
+        return false;
+    };
+    let mut given: usize = 0;
+    for part in full.parts.as_slice() {
+        given = given.saturating_add(part.count());
+    }
+    given >= LARGE
+}
+
+impl<'r, G: Gate> Part<'r, G> {
+    pub(crate) fn new(
+        gate: &'r G,
+        stage: &'r Stage,
+        process: u32,
+        requests: Requests,
+    ) -> Part<'r, G> {
+        Part {
+            gate,
+            stage,
+            process,
+            number: 0,
+            requests,
+        }
+    }
+
+    /// It begins, as soon as it may.
+    pub(crate) fn begin<R: Wait>(&self, rt: &R) {
+        self.stage.begin(rt, self.process as usize);
+    }
+
+    /// It has ended.
+    pub(crate) fn end<R: Wait>(&self, rt: &R) {
+        self.stage.end(rt, self.process as usize);
+    }
+
+    /// Before its call.
+    pub(crate) fn before<R: Wait>(&self, rt: &R) {
+        self.gate.before_call(rt, self.process, self.number);
+    }
+
+    /// After its call, of a post on this communicator or of no post, and whether it settled the
+    /// instance. Those who wait for that are called before the gate can hold the rank.
+    pub(crate) fn after<R: Wait>(
+        &mut self,
+        rt: &R,
+        comm: Option<u32>,
+        reply: &Reply,
+        settled: bool,
+    ) {
+        if let Some(comm) = comm {
+            self.requests.heed(comm, reply);
+            if settled {
+                self.stage.settle(rt, comm);
+            }
+        }
+        self.gate.answered(rt, self.process, self.number, reply);
+    }
+}
+
+impl<'r, G: Gate> Gate for Part<'r, G> {
+    fn before_call<R: Wait>(&self, rt: &R, process: u32, _number: u64) {
+        self.gate.before_call(rt, process, self.number);
+    }
+
+    fn computing<R: Wait>(&self, rt: &R, process: u32, _number: u64) {
+        self.gate.computing(rt, process, self.number);
+    }
+
+    fn answered<R: Wait>(&self, rt: &R, process: u32, _number: u64, reply: &Reply) {
+        self.gate.answered(rt, process, self.number, reply);
+    }
+
+    fn holds(&self) -> bool {
+        self.gate.holds()
+    }
+}
+
+impl<'r, G: Gate> Pause for Part<'r, G> {
+    fn rest<R: Wait>(&self, rt: &R, request: u64, _tried: u64) -> bool {
+        match self.requests.instance_of(request) {
+            Some(instance) => self.stage.sleep(rt, self.process as usize, instance),
+            None => true,
+        }
+    }
+
+    fn step_aside<R: Wait>(&self, rt: &R, claim: &Claim) -> bool {
+        if !is_large(claim) {
+            return false;
+        }
+        self.stage.step_aside(rt, self.process as usize);
+        true
+    }
+
+    fn step_back<R: Wait>(&self, rt: &R) {
+        self.stage.step_back(rt, self.process as usize);
+    }
+}
