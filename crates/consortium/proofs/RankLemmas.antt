@@ -3,10 +3,10 @@ use Rattle.std.proofs.Common.{◌≡◌, ℕ, zero, suc, ◌+◌, ◌-◌, ◌�
 use Rattle.std.specs.Io.KnownBytes.{Appends}
 use Rattle.wall_labels.specs.Known.{AppendsFront}
 use Rattle.wall_policy.specs.Policy.{ChineseWall}
-use Rattle.hall_runs.specs.declared.call.Act.{Act}
-use Rattle.hall_runs.specs.declared.reply.Reply.{Reply}
-use Rattle.hall_runs.specs.Runs.{Entry}
-use Rattle.hall_core.specs.Halls.{Kept, StandsFor}
+use Rattle.run_model.specs.declared.call.Act.{Act}
+use Rattle.run_model.specs.declared.reply.Reply.{Reply}
+use Rattle.run_model.specs.Runs.{Entry}
+use Rattle.hall_core.specs.Halls.{HallValue, StandsFor}
 use Rattle.rank_run.specs.declared.waiting.TheConstants.{PATIENCE}
 use Rattle.rank_run.specs.Ran.{Ran}
 use Rattle.consortium.specs.declared.ending.Ending.{Ending}
@@ -91,7 +91,7 @@ ended unwritten none keeps wall script_old script_new out_old out_new script bef
 })
 
 -- the text was written, and the book of each run that the hall stands for was kept so
-pub reached : (unwritten none : Type 0) (keeps : Ending → List Entry → Type 0) (wall : ChineseWall) (script_old script_new out_old out_new : ℕ) (script before after : Option (List ℕ)) (hall : Kept) (ending : Ending)
+pub reached : (unwritten none : Type 0) (keeps : Ending → List Entry → Type 0) (wall : ChineseWall) (script_old script_new out_old out_new : ℕ) (script before after : Option (List ℕ)) (hall : HallValue) (ending : Ending)
     → Reached wall script_old script_new out_old out_new script before after hall → ((run : List Entry) → StandsFor hall run → keeps ending run)
     → Ends unwritten none keeps wall script_old script_new out_old out_new script before after ending
 reached unwritten none keeps wall script_old script_new out_old out_new script before after hall ending r kept = inr (record {
@@ -107,7 +107,7 @@ reached unwritten none keeps wall script_old script_new out_old out_new script b
 })
 
 -- the writer broke off, or memory ran out, in the text
-pub broken : (unwritten : Type 0) (wall named : ChineseWall) (script_old script_new out_old out_new : ℕ) (script before after : Option (List ℕ)) (scripts : List (List Act)) (replies : List (List Reply)) (hall : Kept) (ending : Ending)
+pub broken : (unwritten : Type 0) (wall named : ChineseWall) (script_old script_new out_old out_new : ℕ) (script before after : Option (List ℕ)) (scripts : List (List Act)) (replies : List (List Reply)) (hall : HallValue) (ending : Ending)
     → IsScriptOf wall script scripts → script_new ≡ script_old → Ran PATIENCE wall scripts replies hall → named ≡ hall.policy → IsBreak out_old out_new ending
     → AppendsFront before after (rank_text named replies) → Ends unwritten (Unit {0}) KeepsNothing wall script_old script_new out_old out_new script before after ending
 broken unwritten wall named script_old script_new out_old out_new script before after scripts replies hall ending read went ran is break front = inr (record {
@@ -123,7 +123,7 @@ broken unwritten wall named script_old script_new out_old out_new script before 
 })
 
 -- the text was written
-pub wrote : (wall named : ChineseWall) (script_old script_new out_old out_new : ℕ) (script before after : Option (List ℕ)) (scripts : List (List Act)) (replies : List (List Reply)) (hall : Kept)
+pub wrote : (wall named : ChineseWall) (script_old script_new out_old out_new : ℕ) (script before after : Option (List ℕ)) (scripts : List (List Act)) (replies : List (List Reply)) (hall : HallValue)
     → IsScriptOf wall script scripts → script_new ≡ script_old → Ran PATIENCE wall scripts replies hall → named ≡ hall.policy → out_new ≡ out_old
     → Appends before after (rank_text named replies) → Reached wall script_old script_new out_old out_new script before after hall
 wrote wall named script_old script_new out_old out_new script before after scripts replies hall read went ran is same written = record {

@@ -1,21 +1,20 @@
 -- How a replay ends, when the book of its run was kept so, and when it met a fault.
 use Rattle.std.proofs.Common.{◌≡◌, ◌≢◌, ℕ, ◌+◌, ◌⊎◌, List, Option, Result, Ok, Err, refl, ap}
 use Rattle.wall_policy.specs.Policy.{ChineseWall}
-use Rattle.hall_runs.specs.Runs.{Entry}
-use Rattle.hall_core.specs.Halls.{Kept, StandsFor}
+use Rattle.run_model.specs.Runs.{Entry}
+use Rattle.hall_core.specs.Halls.{HallValue, StandsFor}
 use Rattle.hall_script.specs.declared.fault.ScriptFault.{ScriptFault}
 use Rattle.hall_script.specs.declared.fault.ScriptFault.TheVariants as scripts
-use Rattle.hall_script.specs.declared.script.TheConstants.{SCRIPT_LIMIT}
 use Rattle.hall_script.specs.Devices.{IsTooLong, IsWithin}
-use Rattle.hall_script.specs.Scripts.{Replayed}
+use Rattle.hall_script.specs.Scripts.{script_limit, Replayed}
 use Rattle.consortium.specs.declared.ending.Ending.{Ending}
 use Rattle.consortium.specs.Walls.{IsPolicyOf}
 use Rattle.consortium.specs.Replaying.{script_ending, Begins}
 
-abbrev left : Kept → Result Kept ScriptFault
+abbrev left : HallValue → Result HallValue ScriptFault
 left hall = Ok hall
 
-abbrev broken : ScriptFault → Result Kept ScriptFault
+abbrev broken : ScriptFault → Result HallValue ScriptFault
 broken fault = Err fault
 
 abbrev kept : Ending → Result Ending ScriptFault
@@ -24,7 +23,7 @@ kept ending = Ok ending
 abbrev unkept : ScriptFault → Result Ending ScriptFault
 unkept fault = Err fault
 
-left_well : (hall : Kept) (fault : ScriptFault) → left hall ≡ Err fault → ⊥
+left_well : (hall : HallValue) (fault : ScriptFault) → left hall ≡ Err fault → ⊥
 left_well hall fault e = cc
 
 kept_well : (ending : Ending) (fault : ScriptFault) → kept ending ≡ Err fault → ⊥
@@ -50,8 +49,8 @@ broke_off keeps wall script before after scripts.NoMemory r = record { script = 
 pub after_fault : (keeps : ChineseWall → Ending → List Entry → Type 0) (none : Type 0) (reads_old reads_new writes_old writes_new : ℕ) (policy script before after : Option (List ℕ))
     (wall : ChineseWall) (fault : ScriptFault) (ending : Ending) →
     IsPolicyOf policy wall → Replayed StandsFor wall script before after (broken fault) → ending ≡ script_ending fault → none
-    → (broken fault ≡ Err scripts.Read → (reads_new ≡ reads_old + 1) ⊎ ((reads_new ≡ reads_old) × IsTooLong SCRIPT_LIMIT script))
-    → (broken fault ≢ Err scripts.Read → broken fault ≢ Err scripts.NoMemory → IsWithin SCRIPT_LIMIT script)
+    → (broken fault ≡ Err scripts.Read → (reads_new ≡ reads_old + 1) ⊎ ((reads_new ≡ reads_old) × IsTooLong script_limit script))
+    → (broken fault ≢ Err scripts.Read → broken fault ≢ Err scripts.NoMemory → IsWithin script_limit script)
     → (broken fault ≡ Err scripts.Write → writes_new ≡ writes_old + 1)
     → Begins keeps none reads_old reads_new writes_old writes_new policy script before after ending
 after_fault keeps none reads_old reads_new writes_old writes_new policy script before after wall fault ending read replayed ends untouched read_fault within write_fault = record {
@@ -68,9 +67,9 @@ after_fault keeps none reads_old reads_new writes_old writes_new policy script b
 
 -- the script was answered to its end, and the book of each run that the hall stands for was kept so
 pub after_replay : (keeps : ChineseWall → Ending → List Entry → Type 0) (none : Type 0) (reads_old reads_new writes_old writes_new : ℕ) (policy script before after : Option (List ℕ))
-    (wall : ChineseWall) (hall : Kept) (ending : Ending) →
+    (wall : ChineseWall) (hall : HallValue) (ending : Ending) →
     IsPolicyOf policy wall → Replayed StandsFor wall script before after (left hall) → ((run : List Entry) → StandsFor hall run → keeps wall ending run)
-    → (left hall ≢ Err scripts.Read → left hall ≢ Err scripts.NoMemory → IsWithin SCRIPT_LIMIT script)
+    → (left hall ≢ Err scripts.Read → left hall ≢ Err scripts.NoMemory → IsWithin script_limit script)
     → Begins keeps none reads_old reads_new writes_old writes_new policy script before after ending
 after_replay keeps none reads_old reads_new writes_old writes_new policy script before after wall hall ending read replayed kept_so within = record {
   wall = wall;

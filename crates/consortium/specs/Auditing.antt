@@ -3,14 +3,13 @@ use Rattle.std.specs.Prelude.{◌≡◌, ℕ, ◌+◌, ◌≤◌, ◌⊎◌, Lis
 use Rattle.std.specs.Io.KnownBytes.{Appends}
 use Rattle.wall_labels.specs.Known.{AppendsFront, AreLeft}
 use Rattle.wall_policy.specs.Policy.{ChineseWall}
-use Rattle.audit_book.specs.declared.entry.Entry.{Entry}
-use Rattle.audit_book.specs.Books.{IsSound, IsFirstBad}
-use Rattle.book_text.specs.declared.fault.ReadFault.{ReadFault as TextFault}
-use Rattle.book_text.specs.declared.fault.ReadFault.TheVariants as texts
-use Rattle.book_text.specs.Books.{book_in}
+use Rattle.run_model.specs.declared.entry.Entry.{Entry}
+use Rattle.run_model.specs.Books.{IsSound, IsFirstBad}
+use Rattle.audit_book.specs.declared.fault.ReadFault.{ReadFault as TextFault}
+use Rattle.audit_book.specs.declared.fault.ReadFault.TheVariants as texts
+use Rattle.audit_book.specs.Reading.{book_in}
 use Rattle.hall_script.specs.declared.device.DeviceFault.TheVariants as devices
 use Rattle.hall_script.specs.Devices.{IsReadFault}
-use Rattle.consortium.specs.declared.audit.TheConstants.{BOOK_LIMIT}
 use Rattle.consortium.specs.declared.audit.Finding.{Finding}
 use Rattle.consortium.specs.declared.audit.Finding.TheVariants as findings
 use Rattle.consortium.specs.declared.ending.Ending.{Ending}
@@ -23,19 +22,23 @@ text_ending (texts.BadLine n) = BadBookLine n
 text_ending texts.Cut = CutBook
 text_ending texts.NoMemory = NoMemory
 
+-- the most bytes of a book
+abbrev pub book_limit : ℕ
+book_limit = 134217728
+
 -- the bytes that were left are within the limit, and the text of a book of these entries
 abbrev pub IsBookOf : ChineseWall → Option (List ℕ) → List Entry → Type 0
-IsBookOf wall left entries = (bytes : List ℕ) × AreLeft left bytes × (length bytes ≤ BOOK_LIMIT) × (book_in wall bytes ≡ Ok entries)
+IsBookOf wall left entries = (bytes : List ℕ) × AreLeft left bytes × (length bytes ≤ book_limit) × (book_in wall bytes ≡ Ok entries)
 
 -- they are within the limit, and no text of a book
 abbrev pub IsNoText : ChineseWall → Option (List ℕ) → TextFault → Type 0
-IsNoText wall left fault = (bytes : List ℕ) × AreLeft left bytes × (length bytes ≤ BOOK_LIMIT) × (book_in wall bytes ≡ Err fault)
+IsNoText wall left fault = (bytes : List ℕ) × AreLeft left bytes × (length bytes ≤ book_limit) × (book_in wall bytes ≡ Err fault)
 
 -- no book was checked, by the failures of its reader before and after, and by what was left of it
 abbrev pub IsNoBook : ChineseWall → (old new : ℕ) → Option (List ℕ) → Ending → Type 0
 IsNoBook wall old new left (BadBookLine n) = (new ≡ old) × IsNoText wall left (texts.BadLine n)
 IsNoBook wall old new left CutBook = (new ≡ old) × IsNoText wall left texts.Cut
-IsNoBook wall old new left ReadFault = IsReadFault devices.Read BOOK_LIMIT old new left
+IsNoBook wall old new left ReadFault = IsReadFault devices.Read book_limit old new left
 IsNoBook wall old new left NoMemory = new ≡ old
 IsNoBook wall old new left Done = ⊥
 IsNoBook wall old new left (BadPolicy fault) = ⊥
@@ -59,7 +62,7 @@ abbrev pub finding_ending : Finding → Ending
 finding_ending (findings.Sound n) = Done
 finding_ending (findings.Unsound n) = Unsound n
 
--- The line of a finding was written, and it is the ending; or the writer failed behind a front of the line.
+-- The line of a finding was written, and it is the ending; or the writer failed behind a prefix of the line.
 abbrev pub IsWritten : Finding → (old new : ℕ) → (before after : Option (List ℕ)) → Ending → Type 0
 IsWritten finding old new before after ending =
     ((ending ≡ finding_ending finding) × (new ≡ old) × Appends before after (finding_line finding))

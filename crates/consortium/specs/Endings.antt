@@ -69,7 +69,7 @@ error_line Exhausted = codes "exhausted\n"
 error_line NoMemory = codes "out of memory\n"
 error_line BadArguments = codes "bad arguments\n"
 
--- the bytes were written, or the writer failed behind a front of them
+-- the bytes were written, or the writer failed behind a prefix of them
 abbrev pub IsTold : (old new : ℕ) → (before after : Option (List ℕ)) → List ℕ → Type 0
 IsTold old new before after bytes = ((new ≡ old) × Appends before after bytes) ⊎ ((new ≡ old + 1) × AppendsFront before after bytes)
 

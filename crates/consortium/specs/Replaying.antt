@@ -5,14 +5,13 @@ use Rattle.std.specs.Borrow.{MutBor}
 use Rattle.std.specs.Io.KnownBytes.{Appends}
 use Rattle.wall_labels.specs.Known.{AppendsFront}
 use Rattle.wall_policy.specs.Policy.{ChineseWall}
-use Rattle.audit_book.specs.Books.{book}
-use Rattle.book_text.specs.Text.{book_text}
-use Rattle.hall_runs.specs.Runs.{Entry, posts}
+use Rattle.run_model.specs.Books.{book}
+use Rattle.audit_book.specs.Text.{book_text}
+use Rattle.run_model.specs.Runs.{Entry, posts}
 use Rattle.hall_script.specs.declared.fault.ScriptFault.{ScriptFault}
 use Rattle.hall_script.specs.declared.fault.ScriptFault.TheVariants as scripts
-use Rattle.hall_script.specs.declared.script.TheConstants.{SCRIPT_LIMIT}
 use Rattle.hall_script.specs.Devices.{IsTooLong, IsWithin}
-use Rattle.hall_script.specs.Scripts.{Replayed}
+use Rattle.hall_script.specs.Scripts.{script_limit, Replayed}
 use Rattle.consortium.specs.declared.ending.Ending.{Ending}
 use Rattle.consortium.specs.declared.ending.Ending.TheVariants.{Done, BadPolicy, BadLine, BadBookLine, CutBook, Unsound, ReadFault, WriteFault, NoThread, Exhausted, NoMemory, BadArguments}
 use Rattle.consortium.specs.Walls.{IsPolicyOf, IsNoPolicy}
@@ -34,7 +33,7 @@ replay_ending (Err fault) = script_ending fault
 abbrev pub text_of : ChineseWall → List Entry → List ℕ
 text_of wall run = book_text wall (book wall (posts run))
 
--- The text of the book of the run was written; or its writer failed, or memory ran out, behind a front of it.
+-- The text of the book of the run was written; or its writer failed, or memory ran out, behind a prefix of it.
 abbrev pub Keeps : ChineseWall → (old new : ℕ) → (before after : Option (List ℕ)) → Ending → List Entry → Type 0
 Keeps wall old new before after Done run = (new ≡ old) × Appends before after (text_of wall run)
 Keeps wall old new before after WriteFault run = (new ≡ old + 1) × AppendsFront before after (text_of wall run)
@@ -82,8 +81,8 @@ pub record Begins (keeps : ChineseWall → Ending → List Entry → Type 0) (un
   pub replayed : Replayed (keeps wall) wall script before after result
   pub ends : ending ≡ replay_ending result
   pub no_book : (fault : ScriptFault) → result ≡ Err fault → unkept
-  pub read_fault : result ≡ Err scripts.Read → (reads_new ≡ reads_old + 1) ⊎ ((reads_new ≡ reads_old) × IsTooLong SCRIPT_LIMIT script)
-  pub within : result ≢ Err scripts.Read → result ≢ Err scripts.NoMemory → IsWithin SCRIPT_LIMIT script
+  pub read_fault : result ≡ Err scripts.Read → (reads_new ≡ reads_old + 1) ⊎ ((reads_new ≡ reads_old) × IsTooLong script_limit script)
+  pub within : result ≢ Err scripts.Read → result ≢ Err scripts.NoMemory → IsWithin script_limit script
   pub write_fault : result ≡ Err scripts.Write → writes_new ≡ writes_old + 1
 
 -- how it ended: the policy was not read or refused, with all other devices untouched, or the script was replayed

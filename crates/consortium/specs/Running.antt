@@ -5,15 +5,15 @@ use Rattle.std.specs.Fmt.{decimal}
 use Rattle.std.specs.Io.KnownBytes.{Appends}
 use Rattle.wall_labels.specs.Known.{AppendsFront, AreLeft}
 use Rattle.wall_policy.specs.Policy.{ChineseWall}
-use Rattle.hall_runs.specs.declared.call.Act.{Act}
-use Rattle.hall_runs.specs.declared.reply.Reply.{Reply}
-use Rattle.hall_runs.specs.Runs.{Entry}
-use Rattle.hall_core.specs.Halls.{Kept}
+use Rattle.run_model.specs.declared.call.Act.{Act}
+use Rattle.run_model.specs.declared.reply.Reply.{Reply}
+use Rattle.run_model.specs.Runs.{Entry}
+use Rattle.hall_core.specs.Halls.{HallValue}
 use Rattle.hall_script.specs.declared.device.DeviceFault.TheVariants as devices
-use Rattle.hall_script.specs.declared.script.TheConstants.{SCRIPT_LIMIT}
 use Rattle.hall_script.specs.Devices.{IsReadFault}
-use Rattle.hall_script.specs.Replies.{name_at, reply_line}
-use Rattle.hall_script.specs.Scripts.{members_script, AreActs}
+use Rattle.coll_text.specs.Words.{name_at}
+use Rattle.hall_script.specs.Replies.{reply_line}
+use Rattle.hall_script.specs.Scripts.{script_limit, members_script, AreActs}
 use Rattle.rank_run.specs.declared.waiting.TheConstants.{PATIENCE}
 use Rattle.rank_run.specs.declared.fault.RunFault.{RunFault}
 use Rattle.rank_run.specs.declared.fault.RunFault.TheVariants as runs
@@ -45,14 +45,14 @@ rank_text wall replies = ranks_text wall replies (length replies)
 
 -- the bytes that were left are within the limit, and a script whose calls, by their processes, are these acts
 abbrev pub IsScriptOf : ChineseWall → Option (List ℕ) → List (List Act) → Type 0
-IsScriptOf wall left scripts = (bytes : List ℕ) × AreLeft left bytes × (length bytes ≤ SCRIPT_LIMIT)
+IsScriptOf wall left scripts = (bytes : List ℕ) × AreLeft left bytes × (length bytes ≤ script_limit)
     × AreActs wall (members_script wall bytes).calls scripts × ((members_script wall bytes).fault ≡ None)
 
 -- there is no script, by the failures of its reader before and after, and by what was left of it
 abbrev pub IsNoScript : ChineseWall → (old new : ℕ) → Option (List ℕ) → Ending → Type 0
-IsNoScript wall old new left (BadLine n fault) = (new ≡ old) × ((bytes : List ℕ) × AreLeft left bytes × (length bytes ≤ SCRIPT_LIMIT)
+IsNoScript wall old new left (BadLine n fault) = (new ≡ old) × ((bytes : List ℕ) × AreLeft left bytes × (length bytes ≤ script_limit)
     × ((members_script wall bytes).fault ≡ Some (n, fault)))
-IsNoScript wall old new left ReadFault = IsReadFault devices.Read SCRIPT_LIMIT old new left
+IsNoScript wall old new left ReadFault = IsReadFault devices.Read script_limit old new left
 IsNoScript wall old new left NoMemory = new ≡ old
 IsNoScript wall old new left Done = ⊥
 IsNoScript wall old new left (BadPolicy fault) = ⊥
@@ -88,7 +88,7 @@ IsBreak old new NoThread = ⊥
 IsBreak old new Exhausted = ⊥
 IsBreak old new BadArguments = ⊥
 
--- The text was written whole, and what follows is what became of the book; or a front of it was, and no book was kept.
+-- The text was written whole, and what follows is what became of the book; or a prefix of it was, and no book was kept.
 abbrev pub AreTold : (kept unkept : Type 0) → (text : List ℕ) → (old new : ℕ) → (before after : Option (List ℕ)) → Ending → Type 0
 AreTold kept unkept text old new before after ending =
     ((new ≡ old) × Appends before after text × kept) ⊎ (IsBreak old new ending × AppendsFront before after text × unkept)
@@ -97,7 +97,7 @@ AreTold kept unkept text old new before after ending =
 -- and then the book of that very run was kept so.
 pub record Tells (keeps : Ending → List Entry → Type 0) (unkept : Type 0) (wall : ChineseWall) (scripts : List (List Act)) (old new : ℕ) (before after : Option (List ℕ)) (ending : Ending) : Type 0 where
   pub replies : List (List Reply)
-  pub hall : Kept
+  pub hall : HallValue
   pub ran : Ran PATIENCE wall scripts replies hall
   pub told : AreTold (keeps ending ran.run) unkept (rank_text wall replies) old new before after ending
 
@@ -138,7 +138,7 @@ Happens untouched unwritten unkept keeps policy_old policy_new script_old script
 -- ---- words of private contracts
 
 -- the script was read and its calls were run to their ends, the hall stands for that run, and the text was written
-pub record Reached (wall : ChineseWall) (script_old script_new out_old out_new : ℕ) (script before after : Option (List ℕ)) (hall : Kept) : Type 0 where
+pub record Reached (wall : ChineseWall) (script_old script_new out_old out_new : ℕ) (script before after : Option (List ℕ)) (hall : HallValue) : Type 0 where
   pub scripts : List (List Act)
   pub read : IsScriptOf wall script scripts
   pub went : script_new ≡ script_old

@@ -6,8 +6,8 @@ use Rattle.wall_policy.specs.declared.fault.PolicyFault.TheVariants as policies
 use Rattle.wall_policy.specs.Policy.{ChineseWall}
 use Rattle.wall_policy.specs.Answer.{answer_to}
 use Rattle.hall_script.specs.declared.device.DeviceFault.TheVariants as devices
-use Rattle.hall_script.specs.declared.script.TheConstants.{SCRIPT_LIMIT}
 use Rattle.hall_script.specs.Devices.{IsReadFault}
+use Rattle.hall_script.specs.Scripts.{script_limit}
 use Rattle.consortium.specs.declared.ending.Ending.{Ending}
 use Rattle.consortium.specs.declared.ending.Ending.TheVariants.{Done, BadPolicy, BadLine, BadBookLine, CutBook, Unsound, ReadFault, WriteFault, NoThread, Exhausted, NoMemory, BadArguments}
 
@@ -17,12 +17,12 @@ policy_ending fault = BadPolicy fault
 
 -- the bytes that were left are within the limit, and a policy file of this policy
 abbrev pub IsPolicyOf : Option (List ℕ) → ChineseWall → Type 0
-IsPolicyOf left wall = (bytes : List ℕ) × AreLeft left bytes × (length bytes ≤ SCRIPT_LIMIT) × (answer_to bytes ≡ Ok wall)
+IsPolicyOf left wall = (bytes : List ℕ) × AreLeft left bytes × (length bytes ≤ script_limit) × (answer_to bytes ≡ Ok wall)
 
 -- there is no policy, by the failures of its reader before and after, and by what was left of it
 abbrev pub IsNoPolicy : (old new : ℕ) → Option (List ℕ) → Ending → Type 0
-IsNoPolicy old new left (BadPolicy fault) = (bytes : List ℕ) × AreLeft left bytes × (length bytes ≤ SCRIPT_LIMIT) × (answer_to bytes ≡ Err fault)
-IsNoPolicy old new left ReadFault = IsReadFault devices.Read SCRIPT_LIMIT old new left
+IsNoPolicy old new left (BadPolicy fault) = (bytes : List ℕ) × AreLeft left bytes × (length bytes ≤ script_limit) × (answer_to bytes ≡ Err fault)
+IsNoPolicy old new left ReadFault = IsReadFault devices.Read script_limit old new left
 IsNoPolicy old new left NoMemory = new ≡ old
 IsNoPolicy old new left Done = ⊥
 IsNoPolicy old new left (BadLine n fault) = ⊥

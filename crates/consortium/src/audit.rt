@@ -7,9 +7,7 @@ ghost use Rattle.consortium.specs.Auditing.{text_ending, finding_ending, finding
 
 use crate::ending::{Ending, end, write_numbered};
 use crate::wall::read_wall;
-use audit_book::{Book, BookFault};
-use audit_course::check_book;
-use book_text::{ReadFault, read_book};
+use audit_book::{Book, BookFault, ReadFault, check_book, read_book};
 use hall_script::{DeviceFault, read_device};
 use std::alloc::Global;
 use wall_labels::{Failed, NoMemory, Sink, Source};

@@ -1,13 +1,13 @@
 //! Replays a script on a policy, over any devices.
 ghost use Rattle.std.specs.Prelude.{◌≡◌, List};
-ghost use Rattle.hall_runs.specs.Runs.{Entry};
+ghost use Rattle.run_model.specs.Runs.{Entry};
 ghost use Rattle.hall_core.specs.Halls.{StandsFor};
 ghost use Rattle.consortium.specs.Endings.{EndsSo};
 ghost use Rattle.consortium.specs.Replaying.{script_ending, Keeps, KeepsNone, KeepsIfAsked, IsUntouched, Happens};
 
 use crate::ending::{Ending, end};
 use crate::wall::read_wall;
-use book_text::{WriteFault, write_book};
+use audit_book::{WriteFault, write_book};
 use hall_core::Hall;
 use hall_script::{ScriptFault, replay};
 use std::alloc::Global;

@@ -3,10 +3,9 @@ ghost use Rattle.std.specs.Prelude.{◌≡◌, ◌≢◌, ℕ, ◌<◌, ◌++◌
 ghost use Rattle.std.specs.List.{All};
 ghost use Rattle.std.specs.Io.KnownBytes.{Appends};
 ghost use Rattle.wall_labels.specs.Known.{AppendsFront};
-ghost use Rattle.audit_book.specs.Comms.{processes};
-ghost use Rattle.book_text.specs.Writing.{IsWriteFault};
-ghost use Rattle.hall_core.specs.Named.{IsNamed};
-ghost use Rattle.hall_script.specs.Scripts.{AreNamed};
+ghost use Rattle.run_model.specs.Comms.{processes};
+ghost use Rattle.audit_book.specs.Writing.{IsWriteFault};
+ghost use Rattle.run_model.specs.Known.{IsKnownReply, ScriptsHaveKnownLabels};
 ghost use Rattle.rank_run.specs.declared.fault.RunFault.TheVariants.{BadScripts};
 ghost use Rattle.rank_run.specs.declared.waiting.TheConstants.{PATIENCE};
 ghost use Rattle.rank_run.specs.Ran.{Ran};
@@ -17,7 +16,7 @@ ghost use Rattle.consortium.specs.Running.{rank_line, reply_lines, rank_text, Is
 use crate::ending::{Ending, end};
 use crate::replay::{keep, script_ending};
 use crate::wall::read_wall;
-use book_text::WriteFault;
+use audit_book::WriteFault;
 use hall_core::{Hall, Reply};
 use hall_script::{DeviceFault, SCRIPT_LIMIT, Scripts, read_device, split_script, write_reply};
 use rank_run::{OpenGate, Run, RunFault, RunReplies, run_ranks};
@@ -31,7 +30,7 @@ use wall_policy::Policy;
 fn read_scripts<S: Source>(alloc: Global, wall: &Policy, source: &mut S) -> Result<Scripts, Ending>
     ensures went { OnOk result (S.failures source.new ≡ S.failures source.old) }
     ensures scripts { IfOk result (IsScriptOf wall.now (S.remaining source.old)) }
-    ensures named { IfOk result (AreNamed wall.now) }
+    ensures named { IfOk result (ScriptsHaveKnownLabels wall.now) }
     ensures ending { IfErr result (IsNoScript wall.now (S.failures source.old) (S.failures source.new) (S.remaining source.old)) }
 {
     match read_device(alloc, source, SCRIPT_LIMIT) {
@@ -63,7 +62,7 @@ fn run_scripts<R: Threads + Wait + Sync>(
     wall: Policy,
     scripts: Scripts,
 ) -> Result<Run, Ending>
-    requires named { AreNamed wall scripts }
+    requires named { ScriptsHaveKnownLabels wall scripts }
     requires long { length scripts ≡ processes wall }
     ensures ran { IfOk result (λ run. Ran PATIENCE wall scripts run.replies run.hall) }
     ensures ending { IfErr result IsNoRun }
@@ -98,17 +97,12 @@ fn put_rank(
 }
 
 // Appends the lines of replies.
-fn put_replies(
-    alloc: Global,
-    wall: &Policy,
-    replies: &[Reply],
-    text: &mut Vec<u8>,
-) -> Result<(), NoMemory>
-    requires { All (IsNamed wall.now) replies.now }
+fn put_replies(wall: &Policy, replies: &[Reply], text: &mut Vec<u8>) -> Result<(), NoMemory>
+    requires { All (IsKnownReply wall.now) replies.now }
     ensures { OnOk result (text.new.items ≡ text.old.items ++ reply_lines wall.now replies.now) }
 {
     for reply in replies {
-        write_reply(alloc, wall, reply, text)?;
+        write_reply(wall, reply, text)?;
     }
     Ok(())
 }
@@ -121,12 +115,12 @@ fn process_text(
     replies: &[Reply],
 ) -> Result<Vec<u8>, NoMemory>
     requires process { process < processes wall.now }
-    requires named { All (IsNamed wall.now) replies.now }
+    requires named { All (IsKnownReply wall.now) replies.now }
     ensures { IfOk result (λ text. text.items ≡ rank_line wall.now process ++ reply_lines wall.now replies.now) }
 {
     let mut text = Vec::new(alloc);
     put_rank(alloc, wall, process, &mut text)?;
-    put_replies(alloc, wall, replies, &mut text)?;
+    put_replies(wall, replies, &mut text)?;
     Ok(text)
 }
 
@@ -139,7 +133,7 @@ fn write_process<O: Sink>(
     out: &mut O,
 ) -> Result<(), WriteFault>
     requires process { process < processes wall.now }
-    requires named { All (IsNamed wall.now) replies.now }
+    requires named { All (IsKnownReply wall.now) replies.now }
     ensures went { OnOk result (O.failures out.new ≡ O.failures out.old) }
     ensures fault { IfErr result (λ fault. IsWriteFault fault (O.failures out.old) (O.failures out.new)) }
     ensures written { OnOk result (Appends (O.contents out.old) (O.contents out.new) (rank_line wall.now process ++ reply_lines wall.now replies.now)) }
@@ -163,7 +157,7 @@ fn write_ranks<O: Sink>(
     out: &mut O,
 ) -> Result<(), WriteFault>
     requires long { length replies.now ≡ processes wall.now }
-    requires named { All (All (IsNamed wall.now)) replies.now }
+    requires named { All (All (IsKnownReply wall.now)) replies.now }
     ensures went { OnOk result (O.failures out.new ≡ O.failures out.old) }
     ensures fault { IfErr result (λ fault. IsWriteFault fault (O.failures out.old) (O.failures out.new)) }
     ensures written { OnOk result (Appends (O.contents out.old) (O.contents out.new) (rank_text wall.now replies.now)) }

@@ -179,7 +179,7 @@ fn command_named<'a>(name: &str, matches: &ArgMatches<'a>) -> Option<Command<'a>
     }
 }
 
-// Want of memory is told apart from every other cause.
+// Out of memory is told apart from every other cause.
 fn fault_for(kind: ErrorKind) -> ArgFault
     ensures { result ≡ ArgFault.BadArguments → kind ≢ ErrorKind.OutOfMemory }
 {

@@ -1,6 +1,6 @@
 use Rattle.std.proofs.Common.{◌≡◌, ◌≤◌}
 use Rattle.std.specs.Io.KnownBytes.{Appends}
-use Rattle.audit_book.specs.Comms.{processes}
+use Rattle.run_model.specs.Comms.{processes}
 use Rattle.consortium.specs.Running.{ranks_text}
 use Rattle.consortium.proofs.run.write_ranks.Given as goal
 
