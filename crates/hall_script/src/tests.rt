@@ -377,32 +377,24 @@ fn devices_are_read_to_their_limit(rt: HostRuntime) {
 }
 
 // The lines of the acts of each process, process by process.
-fn put_scripts(
-    rt: &impl AllocGlobal,
-    policy: &Policy,
-    scripts: &Scripts,
-    text: &mut String,
-) -> Result<(), NoMemory>
+fn put_scripts(policy: &Policy, scripts: &Scripts, text: &mut Vec<u8>) -> Result<(), NoMemory>
     requires { ScriptsHaveKnownLabels policy.now scripts.now }
 {
     for (process, acts) in scripts.as_slice().iter().enumerate() {
-        put_acts(rt, policy, process, acts, text)?;
+        let Ok(process) = u32::try_from(process) else {
+            return Err(NoMemory);
+        };
+        put_acts(policy, process, acts, text)?;
     }
     Ok(())
 }
 
-fn put_acts(
-    rt: &impl AllocGlobal,
-    policy: &Policy,
-    process: usize,
-    acts: &Acts,
-    text: &mut String,
-) -> Result<(), NoMemory>
+fn put_acts(policy: &Policy, process: u32, acts: &Acts, text: &mut Vec<u8>) -> Result<(), NoMemory>
     requires { All (HasKnownLabel policy.now) acts.now }
 {
     for act in acts.as_slice() {
-        put_act(rt, policy, process, act, text)?;
-        text.push_str("\n")?;
+        put_act(policy, process, act, text)?;
+        put(text, "\n")?;
     }
     Ok(())
 }
@@ -430,9 +422,9 @@ fn scripts_are_split_by_processes(rt: HostRuntime) {
     let Ok(scripts) = split_script(rt.alloc(), &policy, MIXED) else {
         panic!(&rt; "the script is not split")
     };
-    let mut text = String::new(rt.alloc());
-    let is_put = put_scripts(&rt, &policy, &scripts, &mut text).is_ok();
-    assert!(&rt; is_put && text.as_str() == BY_PROCESS);
+    let mut text = Vec::new(rt.alloc());
+    let is_put = put_scripts(&policy, &scripts, &mut text).is_ok();
+    assert!(&rt; is_put && text.as_slice() == BY_PROCESS.as_bytes());
     let rows = scripts.into_vec();
     assert!(&rt; rows.len() == 4);
 }
