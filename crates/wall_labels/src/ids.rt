@@ -5,11 +5,11 @@ ghost use Rattle.wall_labels.specs.Limits.{process_limit, dataset_limit, class_l
 use std::marker::Model;
 
 /// The most processes that a policy may have.
-pub const PROCESS_LIMIT: u32 = 64;
+pub const PROCESS_LIMIT: u32 = 256;
 /// The most datasets that a policy may have.
-pub const DATASET_LIMIT: u32 = 128;
+pub const DATASET_LIMIT: u32 = 1024;
 /// The most classes that a policy may have.
-pub const CLASS_LIMIT: u32 = 128;
+pub const CLASS_LIMIT: u32 = 1024;
 
 /// A process of the policy, by its place in the file.
 #[derive(Clone, Copy, Debug, PartialEq, Eq, PartialOrd, Ord)]

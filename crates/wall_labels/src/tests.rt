@@ -16,16 +16,16 @@ fn dataset(number: u32) -> DatasetId
 
 #[test]
 fn ids_are_the_numbers_below_their_limits(rt: HostRuntime) {
-    for number in [0, 1, 62, 63] {
+    for number in [0, 1, 63, 64, 254, 255] {
         assert_eq!(rt; ProcessId::new(number).map(|id| id.number()), Some(number));
     }
-    for number in [0, 64, 126, 127] {
+    for number in [0, 64, 127, 128, 1022, 1023] {
         assert_eq!(rt; DatasetId::new(number).map(|id| id.number()), Some(number));
         assert_eq!(rt; ClassId::new(number).map(|id| id.number()), Some(number));
     }
-    assert!(rt; ProcessId::new(64).is_none());
-    assert!(rt; DatasetId::new(128).is_none());
-    assert!(rt; ClassId::new(128).is_none());
+    assert!(rt; ProcessId::new(256).is_none());
+    assert!(rt; DatasetId::new(1024).is_none());
+    assert!(rt; ClassId::new(1024).is_none());
     assert!(rt; ProcessId::new(u32::MAX).is_none());
 }
 
@@ -65,7 +65,7 @@ fn operations_have_their_names(rt: HostRuntime) {
 
 #[test]
 fn label_sets_are_sets(rt: HostRuntime) {
-    let (low, high) = (dataset(0), dataset(127));
+    let (low, high) = (dataset(0), dataset(1023));
     let mut set = LabelSet::empty();
     assert_eq!(rt; set.first_other_than(None), None);
     set.insert(high);
@@ -85,13 +85,13 @@ fn label_sets_are_sets(rt: HostRuntime) {
 // Where words end: each dataset, and the one above it in its place.
 #[test]
 fn sets_hold_the_datasets_at_the_ends_of_words(rt: HostRuntime) {
-    for number in [0, 1, 62, 63, 64, 65, 126, 127] {
+    for number in [0, 1, 62, 63, 64, 65, 126, 127, 128, 959, 960, 1022, 1023] {
         let one = dataset(number);
         let mut alone = LabelSet::empty();
         alone.insert(one);
         assert_eq!(rt; alone.first_other_than(None), Some(one));
         assert_eq!(rt; alone.first_other_than(Some(one)), None);
-        for above in [63, 64, 127] {
+        for above in [63, 64, 127, 960, 1023] {
             let next = dataset(above);
             let mut both = LabelSet::empty();
             both.insert(next);

@@ -7,12 +7,12 @@ use Rattle.wall_policy.specs.declared.fault.PolicyFault.{PolicyFault}
 use Rattle.wall_policy.specs.declared.fault.PolicyFault.TheVariants.{BadVersion, MissingKey, UnknownKey, BadName, DuplicateName, UnknownDataset, BadOp, BadLeast, TooMany}
 use Rattle.wall_policy.specs.Plain.{PolicyText}
 use Rattle.wall_policy.specs.Form.{record_of}
-use Rattle.wall_policy.specs.Keys.{has_known_version, has_known_keys}
+use Rattle.wall_policy.specs.Keys.{version_of, has_known_keys}
 use Rattle.wall_policy.specs.Checks.{has_good_names, has_repeats, has_known_homes, has_known_ops, has_good_leasts, is_small}
 use Rattle.wall_policy.specs.Meaning.{wall_of}
 use Rattle.wall_policy.specs.Policy.{ChineseWall}
-use Rattle.wall_policy.specs.Answer.{tree_of, answer_by, answer_in, answer_to}
-use Rattle.wall_policy.specs.InTurn.{judged, of_record, of_tree, in_turn}
+use Rattle.wall_policy.specs.Answer.{tree_of, answer_by, answer_in, answer_to, record_in}
+use Rattle.wall_policy.specs.InTurn.{judged, of_record, of_version, of_tree, in_turn}
 
 -- a test that holds answers, and one that does not leaves it to the rest
 step : (b : Bool) (f : PolicyFault) (rest : Option PolicyFault) (t : Option PolicyText) (other : Result ChineseWall PolicyFault) → other ≡ answer_by rest t → cond b (Err f) other ≡ answer_by (cond b (Some f) rest) t
@@ -31,18 +31,23 @@ judged_is t =
     (step (not (has_good_leasts t)) BadLeast _ (Some t) _
     (step (not (is_small t)) TooMany None (Some t) (Ok (wall_of t)) refl)))))
 
-in_a_record : (ms : Members) (o : Option PolicyText) → record_of ms ≡ o → of_record ms o ≡ answer_by
-    (cond (is_none o) (Some MissingKey) (cond (not (has_known_keys ms)) (Some UnknownKey)
+in_a_record : (v : ℕ) (ms : Members) (o : Option PolicyText) → record_of v ms ≡ o → of_record v ms o ≡ answer_by
+    (cond (is_none o) (Some MissingKey) (cond (not (has_known_keys v ms)) (Some UnknownKey)
     (cond (option_map_or (λ t. not (has_good_names t)) o false) (Some BadName) (cond (option_map_or has_repeats o false) (Some DuplicateName) (cond (option_map_or (λ t. not (has_known_homes t)) o false) (Some UnknownDataset)
     (cond (option_map_or (λ t. not (has_known_ops t)) o false) (Some BadOp) (cond (option_map_or (λ t. not (has_good_leasts t)) o false) (Some BadLeast) (cond (option_map_or (λ t. not (is_small t)) o false) (Some TooMany) None)))))))) o
 unfolding of_record
-in_a_record ms None e = refl
-in_a_record ms (Some t) e = step (not (has_known_keys ms)) UnknownKey _ (Some t) _ (judged_is t)
+in_a_record v ms None e = refl
+in_a_record v ms (Some t) e = step (not (has_known_keys v ms)) UnknownKey _ (Some t) _ (judged_is t)
+
+in_a_version : (ms : Members) (o : Option ℕ) → version_of ms ≡ o → of_version ms o ≡ answer_in (Some ms)
+unfolding of_version
+in_a_version ms None e = rw e refl
+in_a_version ms (Some v) e = rw e (in_a_record v ms (record_of v ms) refl)
 
 in_a_tree : (tree : Option Members) → of_tree tree ≡ answer_in tree
 unfolding of_tree
 in_a_tree None = refl
-in_a_tree (Some ms) = step (not (has_known_version ms)) BadVersion _ (record_of ms) _ (in_a_record ms (record_of ms) refl)
+in_a_tree (Some ms) = in_a_version ms (version_of ms) refl
 
 pub in_turn-is : (bytes : List ℕ) → in_turn bytes ≡ answer_to bytes
 unfolding in_turn answer_to

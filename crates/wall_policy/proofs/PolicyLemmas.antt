@@ -3,16 +3,16 @@ use Rattle.std.proofs.Common.{◌≡◌, ℕ, ℤ, pos, negsuc, zero, suc, ◌+�
 use Rattle.std.proofs.lemmas.Bool.{cases_Bool, leb-true}
 use Rattle.std.proofs.lemmas.List.{length-map}
 use Rattle.std.proofs.lemmas.List.Folds.{list_all-append, list_all-map}
-use Rattle.std.specs.List.{list_all, position_from}
+use Rattle.std.specs.List.{list_all, position_from, AllZip}
 use Rattle.std.specs.Str.{bytes_eq}
 use Rattle.wall_labels.specs.declared.ids.TheConstants.{PROCESS_LIMIT, DATASET_LIMIT, CLASS_LIMIT}
 use Rattle.wall_labels.specs.declared.op.Op.{Op}
 use Rattle.wall_labels.specs.Ops.{op_of}
 use Rattle.wall_policy.specs.Names.{Name, is_name, is_dataset_name}
 use Rattle.wall_policy.specs.Plain.{ClassText, ProcessText, RuleText, PolicyText}
-use Rattle.wall_policy.specs.Checks.{is_named_class, dataset_names, has_good_names, has_repeats, is_good_least, has_good_leasts, is_small}
-use Rattle.wall_policy.specs.Meaning.{class_numbers, home_in, with_rule, leasts_in, wall_of}
-use Rattle.wall_policy.specs.Policy.{is_least, home_if_any, IsPolicy}
+use Rattle.wall_policy.specs.Checks.{is_named_class, dataset_names, has_good_names, has_repeats, is_good_least, is_good_distinct, is_good_rule, has_good_leasts, is_small}
+use Rattle.wall_policy.specs.Meaning.{class_numbers, home_in, with_rule, leasts_in, distincts_in, wall_of}
+use Rattle.wall_policy.specs.Policy.{is_version, is_least, home_if_any, IsPair, IsPolicy}
 use Rattle.wall_policy.proofs.BuildLemmas.{length-class_numbers}
 use Rattle.wall_policy.proofs.RepeatLemmas.{distinct_names}
 
@@ -70,11 +70,24 @@ good_natural None least rest good later = later
 good_natural (Some op) (pos n) rest good later = both _ _ good later
 good_natural (Some op) (negsuc n) rest good later = absurd cc
 
-leasts_in-good : (rs : List RuleText) → list_all (λ r. is_good_least r.least) rs ≡ true → list_all (λ r. is_least r.1) (leasts_in rs) ≡ true
+leasts_in-good : (rs : List RuleText) → list_all is_good_rule rs ≡ true → list_all (λ r. is_least r.1) (leasts_in rs) ≡ true
 leasts_in-good [] h = refl
 leasts_in-good (r ∷ rs) h =
-    let parts = and_parts (is_good_least r.least) (list_all (λ q. is_good_least q.least) rs) h in
-    good_natural (op_of r.op) r.least (leasts_in rs) parts.0 (leasts_in-good rs parts.1)
+    let parts = and_parts (is_good_rule r) (list_all is_good_rule rs) h in
+    good_natural (op_of r.op) r.least (leasts_in rs) (and_parts (is_good_least r.least) _ parts.0).0 (leasts_in-good rs parts.1)
+
+good_pair : (op : Option Op) (least distinct : ℤ) (leasts distincts : List (Op × ℕ)) → is_good_distinct least distinct ≡ true
+    → AllZip IsPair leasts distincts → AllZip IsPair (with_rule op least leasts) (with_rule op distinct distincts)
+good_pair None least distinct leasts distincts good later = later
+good_pair (Some op) (pos least) (pos n) leasts distincts good later = ((refl, good), later)
+good_pair (Some op) (pos least) (negsuc n) leasts distincts good later = absurd cc
+good_pair (Some op) (negsuc least) distinct leasts distincts good later = absurd cc
+
+distincts_in-good : (rs : List RuleText) → list_all is_good_rule rs ≡ true → AllZip IsPair (leasts_in rs) (distincts_in rs)
+distincts_in-good [] h = tt
+distincts_in-good (r ∷ rs) h =
+    let parts = and_parts (is_good_rule r) (list_all is_good_rule rs) h in
+    good_pair (op_of r.op) r.least r.distinct (leasts_in rs) (distincts_in rs) (and_parts (is_good_least r.least) _ parts.0).1 (distincts_in-good rs parts.1)
 
 pub small_parts : (t : PolicyText) → is_small t ≡ true → (length t.processes ≤ PROCESS_LIMIT) × (length (dataset_names t.classes) ≤ DATASET_LIMIT) × (length t.classes ≤ CLASS_LIMIT)
 unfolding is_small
@@ -83,15 +96,16 @@ small_parts t h =
     let first = and_parts _ _ parts.0 in
     (leb-true _ _ first.0, leb-true _ _ first.1, leb-true _ _ parts.1)
 
-pub wall_of-IsPolicy : (t : PolicyText) → 1 ≤ length t.processes → has_good_names t ≡ true → has_repeats t ≡ false → has_good_leasts t ≡ true → is_small t ≡ true → IsPolicy (wall_of t)
+pub wall_of-IsPolicy : (t : PolicyText) → 1 ≤ length t.processes → has_good_names t ≡ true → has_repeats t ≡ false → has_good_leasts t ≡ true → is_small t ≡ true → is_version t.version ≡ true → IsPolicy (wall_of t)
 unfolding wall_of has_good_names has_good_leasts
-wall_of-IsPolicy t some good once leasts small =
+wall_of-IsPolicy t some good once leasts small version =
     let names = and_parts (list_all is_named_class t.classes) _ good in
     let few = small_parts t small in
     let distinct = distinct_names t once in
     let processes : length (map (λ p. p.name) t.processes) ≡ length t.processes = length-map t.processes (λ p. p.name) in
     let classes : length (map (λ c. c.name) t.classes) ≡ length t.classes = length-map t.classes (λ c. c.name) in
     record {
+      known_version = version;
       some_process = omega (arith, some, processes);
       few_processes = omega (arith, few.0, processes);
       few_datasets = few.1;
@@ -107,4 +121,5 @@ wall_of-IsPolicy t some good once leasts small =
       good_datasets = good_dataset_names t.classes names.0;
       good_processes = list_all-map is_name (λ p. p.name) t.processes ∙ names.1;
       good_leasts = leasts_in-good t.rules leasts;
+      good_distincts = distincts_in-good t.rules leasts;
     }

@@ -8,7 +8,7 @@ use Rattle.wall_policy.specs.declared.fault.PolicyFault.{PolicyFault}
 use Rattle.wall_policy.specs.declared.fault.PolicyFault.TheVariants.{NotToml, BadVersion, MissingKey, UnknownKey, BadName, DuplicateName, UnknownDataset, BadOp, BadLeast, TooMany, NoMemory}
 use Rattle.wall_policy.specs.Plain.{PolicyText}
 use Rattle.wall_policy.specs.Form.{record_of}
-use Rattle.wall_policy.specs.Keys.{has_known_version, has_known_keys}
+use Rattle.wall_policy.specs.Keys.{version_of, has_known_keys}
 use Rattle.wall_policy.specs.Checks.{has_good_names, has_repeats, has_known_homes, has_known_ops, has_good_leasts, is_small}
 use Rattle.wall_policy.specs.Meaning.{wall_of}
 use Rattle.wall_policy.specs.Policy.{ChineseWall}
@@ -17,19 +17,26 @@ use Rattle.wall_policy.specs.Policy.{ChineseWall}
 unfoldable pub tree_of : List ℕ → Option Members
 tree_of bytes = if nat_eq (utf8_valid_len bytes) (length bytes) then parse_document bytes else None
 
--- a test of the tree, and of the record that it says; false where there is none
+-- the record that the tree says, in the form of its version
+abbrev pub record_in : Members → Option PolicyText
+record_in ms = option_and_then (λ version. record_of version ms) (version_of ms)
+
+-- a test of the tree, of its version too, and of the record that it says; false where there is none
 abbrev pub in_tree : (Members → Bool) → Option Members → Bool
 in_tree test tree = option_map_or test tree false
 
+abbrev pub in_version : ((version : ℕ) → Members → Bool) → Option Members → Bool
+in_version test tree = in_tree (λ ms. option_map_or (λ version. test version ms) (version_of ms) false) tree
+
 abbrev pub in_record : (PolicyText → Bool) → Option Members → Bool
-in_record test tree = option_map_or test (option_and_then record_of tree) false
+in_record test tree = option_map_or test (option_and_then record_in tree) false
 
 -- The condition of each fault. Out of memory is no fault of the file.
 abbrev pub holds : Option Members → PolicyFault → Bool
 holds tree NotToml = is_none tree
-holds tree BadVersion = in_tree (λ ms. not (has_known_version ms)) tree
-holds tree MissingKey = in_tree (λ ms. is_none (record_of ms)) tree
-holds tree UnknownKey = in_tree (λ ms. not (has_known_keys ms)) tree
+holds tree BadVersion = in_tree (λ ms. is_none (version_of ms)) tree
+holds tree MissingKey = in_version (λ version ms. is_none (record_of version ms)) tree
+holds tree UnknownKey = in_version (λ version ms. not (has_known_keys version ms)) tree
 holds tree BadName = in_record (λ t. not (has_good_names t)) tree
 holds tree DuplicateName = in_record has_repeats tree
 holds tree UnknownDataset = in_record (λ t. not (has_known_homes t)) tree
@@ -49,7 +56,7 @@ answer_by None (Some t) = Ok (wall_of t)
 answer_by None None = Err NotToml
 
 abbrev pub answer_in : Option Members → Result ChineseWall PolicyFault
-answer_in tree = answer_by (find (holds tree) faults) (option_and_then record_of tree)
+answer_in tree = answer_by (find (holds tree) faults) (option_and_then record_in tree)
 
 -- the answer to the bytes of a file, memory aside
 unfoldable pub answer_to : List ℕ → Result ChineseWall PolicyFault

@@ -4,8 +4,8 @@ use Rattle.std.specs.List.{list_all, flat_map}
 use Rattle.wall_labels.specs.Limits.{process_limit, dataset_limit, class_limit}
 use Rattle.wall_labels.specs.Ops.{op_of}
 use Rattle.wall_policy.specs.Names.{Name, is_name, is_dataset_name, is_in, comes_twice}
-use Rattle.wall_policy.specs.Plain.{ClassText, PolicyText}
-use Rattle.wall_policy.specs.Policy.{is_least}
+use Rattle.wall_policy.specs.Plain.{ClassText, RuleText, PolicyText}
+use Rattle.wall_policy.specs.Policy.{is_least, is_distinct}
 
 abbrev pub is_named_class : ClassText → Bool
 is_named_class c = is_name c.name && list_all is_dataset_name c.datasets
@@ -40,8 +40,17 @@ abbrev pub is_good_least : ℤ → Bool
 is_good_least (pos n) = is_least n
 is_good_least (negsuc n) = false
 
+-- at least 1, and no more than there must be contributors
+abbrev pub is_good_distinct : (least distinct : ℤ) → Bool
+is_good_distinct (pos least) (pos n) = is_distinct least n
+is_good_distinct _ _ = false
+
+abbrev pub is_good_rule : RuleText → Bool
+is_good_rule r = is_good_least r.least && is_good_distinct r.least r.distinct
+
+-- both least numbers of each rule are in their ranges
 unfoldable pub has_good_leasts : PolicyText → Bool
-has_good_leasts t = list_all (λ r. is_good_least r.least) t.rules
+has_good_leasts t = list_all is_good_rule t.rules
 
 -- no limit is passed
 unfoldable pub is_small : PolicyText → Bool

@@ -1,5 +1,5 @@
 -- The keys of a policy file, and what kind of value each holds. (Own format.)
-use Rattle.std.specs.Prelude.{List, [], ◌∷◌, Option, Some, None, codes}
+use Rattle.std.specs.Prelude.{ℕ, ℤ, pos, nat_eq, List, [], ◌∷◌, Option, Some, None, codes, if◌then◌else◌}
 use Rattle.toml.specs.Data.{Data, Members, as_str, as_table}
 use Rattle.wall_policy.specs.Plain.{ClassText, ProcessText, RuleText, PolicyText}
 use Rattle.wall_policy.specs.Tree.{◌>>=◌, list_or_empty, list_at, text_at, number_at, text_if_any}
@@ -18,12 +18,17 @@ process_of d = do
   home ← text_if_any (codes "home") ms
   Some (record { name = name; home = home })
 
-unfoldable pub rule_of : Data → Option RuleText
-rule_of d = do
+-- the number at `distinct`; a file of version 1, which has no such key, is read as if each were 1
+unfoldable pub distinct_at : (version : ℕ) → Members → Option ℤ
+distinct_at version ms = if nat_eq version 1 then Some (pos 1) else number_at (codes "distinct") ms
+
+unfoldable pub rule_of : (version : ℕ) → Data → Option RuleText
+rule_of version d = do
   ms ← as_table d
   op ← text_at (codes "op") ms
   least ← number_at (codes "least") ms
-  Some (record { op = op; least = least })
+  distinct ← distinct_at version ms
+  Some (record { op = op; least = least; distinct = distinct })
 
 -- at least one
 abbrev pub some_of : {Y : Type 0} → List Y → Option (List Y)
@@ -31,9 +36,9 @@ some_of [] = None
 some_of (y ∷ ys) = Some (y ∷ ys)
 
 -- the record that the tree says, where no required key is absent and each has its kind of value
-unfoldable pub record_of : Members → Option PolicyText
-record_of ms = do
+unfoldable pub record_of : (version : ℕ) → Members → Option PolicyText
+record_of version ms = do
   classes ← list_or_empty class_of (codes "class") ms
   processes ← list_at process_of (codes "process") ms >>= some_of
-  rules ← list_or_empty rule_of (codes "sanitise") ms
-  Some (record { classes = classes; processes = processes; rules = rules })
+  rules ← list_or_empty (rule_of version) (codes "sanitise") ms
+  Some (record { version = version; classes = classes; processes = processes; rules = rules })

@@ -5,7 +5,7 @@ use Rattle.wall_policy.specs.declared.fault.PolicyFault.{PolicyFault}
 use Rattle.wall_policy.specs.declared.fault.PolicyFault.TheVariants.{NotToml, BadVersion, MissingKey, UnknownKey, BadName, DuplicateName, UnknownDataset, BadOp, BadLeast, TooMany, NoMemory}
 use Rattle.wall_policy.specs.Plain.{PolicyText}
 use Rattle.wall_policy.specs.Form.{record_of}
-use Rattle.wall_policy.specs.Keys.{has_known_version, has_known_keys}
+use Rattle.wall_policy.specs.Keys.{version_of, has_known_keys}
 use Rattle.wall_policy.specs.Checks.{has_good_names, has_repeats, has_known_homes, has_known_ops, has_good_leasts, is_small}
 use Rattle.wall_policy.specs.Meaning.{wall_of}
 use Rattle.wall_policy.specs.Policy.{ChineseWall}
@@ -27,13 +27,17 @@ judged t =
     else if not (is_small t) then Err TooMany
     else Ok (wall_of t)
 
-unfoldable pub of_record : Members → Option PolicyText → Result ChineseWall PolicyFault
-of_record ms None = Err MissingKey
-of_record ms (Some t) = if not (has_known_keys ms) then Err UnknownKey else judged t
+unfoldable pub of_record : (version : ℕ) → Members → Option PolicyText → Result ChineseWall PolicyFault
+of_record version ms None = Err MissingKey
+of_record version ms (Some t) = if not (has_known_keys version ms) then Err UnknownKey else judged t
+
+unfoldable pub of_version : Members → Option ℕ → Result ChineseWall PolicyFault
+of_version ms None = Err BadVersion
+of_version ms (Some version) = of_record version ms (record_of version ms)
 
 unfoldable pub of_tree : Option Members → Result ChineseWall PolicyFault
 of_tree None = Err NotToml
-of_tree (Some ms) = if not (has_known_version ms) then Err BadVersion else of_record ms (record_of ms)
+of_tree (Some ms) = of_version ms (version_of ms)
 
 unfoldable pub in_turn : List ℕ → Result ChineseWall PolicyFault
 in_turn bytes = of_tree (tree_of bytes)

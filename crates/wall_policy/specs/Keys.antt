@@ -1,9 +1,10 @@
 -- Which keys stand in a policy file, and its version. (Own format.)
-use Rattle.std.specs.Prelude.{ℕ, ℤ, pos, Bool, true, false, ◌&&◌, ◌||◌, List, nat_eq, Option, Some, codes}
+use Rattle.std.specs.Prelude.{ℕ, ℤ, pos, Bool, true, ◌&&◌, ◌||◌, List, nat_eq, Option, Some, None, codes, if◌then◌else◌}
 use Rattle.std.specs.Str.{bytes_eq}
 use Rattle.toml.specs.Data.{Data, Items, no_items, item, Members, no_members, member, array, table, get_member}
 use Rattle.wall_policy.specs.declared.keys.Section.{Section}
-use Rattle.wall_policy.specs.declared.keys.Section.TheVariants.{File, Class, Process, Rule}
+use Rattle.wall_policy.specs.declared.keys.Section.TheVariants.{File, Class, Process, Rule, RuleOfTwo}
+use Rattle.wall_policy.specs.Policy.{is_version}
 use Rattle.wall_policy.specs.Tree.{number_at}
 
 -- the keys of the file, and of a table of each of its arrays
@@ -12,6 +13,11 @@ is_key File k = bytes_eq k (codes "version") || bytes_eq k (codes "class") || by
 is_key Class k = bytes_eq k (codes "name") || bytes_eq k (codes "datasets")
 is_key Process k = bytes_eq k (codes "name") || bytes_eq k (codes "home")
 is_key Rule k = bytes_eq k (codes "op") || bytes_eq k (codes "least")
+is_key RuleOfTwo k = bytes_eq k (codes "op") || bytes_eq k (codes "least") || bytes_eq k (codes "distinct")
+
+-- the tables of `sanitise` have one key more in a file of version 2
+abbrev pub rule_section : (version : ℕ) → Section
+rule_section version = if nat_eq version 2 then RuleOfTwo else Rule
 
 -- each key of the members is one of these
 abbrev pub are_keys : Section → Members → Bool
@@ -32,18 +38,18 @@ array_has_keys section (Some (array ds)) = items_have_keys section ds
 array_has_keys section _ = true
 
 -- no key is outside the list, in the file or in one of its tables
-unfoldable pub has_known_keys : Members → Bool
-has_known_keys ms =
+unfoldable pub has_known_keys : (version : ℕ) → Members → Bool
+has_known_keys version ms =
     are_keys File ms
     && array_has_keys Class (get_member (codes "class") ms)
     && array_has_keys Process (get_member (codes "process") ms)
-    && array_has_keys Rule (get_member (codes "sanitise") ms)
+    && array_has_keys (rule_section version) (get_member (codes "sanitise") ms)
 
--- the versions that are read
-abbrev pub is_known_version : Option ℤ → Bool
-is_known_version (Some (pos n)) = nat_eq n 1
-is_known_version _ = false
+-- the version of a number, if it is one that is read
+abbrev pub known_version : Option ℤ → Option ℕ
+known_version (Some (pos n)) = if is_version n then Some n else None
+known_version _ = None
 
--- the version is an integer, and one that is read
-unfoldable pub has_known_version : Members → Bool
-has_known_version ms = is_known_version (number_at (codes "version") ms)
+-- the version that the file states, if it is an integer and one that is read
+unfoldable pub version_of : Members → Option ℕ
+version_of ms = known_version (number_at (codes "version") ms)

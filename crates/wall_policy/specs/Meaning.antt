@@ -23,20 +23,28 @@ natural (pos n) = n
 natural (negsuc n) = 0
 
 abbrev pub with_rule : Option Op → ℤ → List (Op × ℕ) → List (Op × ℕ)
-with_rule None least leasts = leasts
-with_rule (Some op) least leasts = (op, natural least) ∷ leasts
+with_rule None number numbers = numbers
+with_rule (Some op) number numbers = (op, natural number) ∷ numbers
 
--- the operations that the rules name, each with its number
+-- the operations that the rules name, each with a number of its rule
+abbrev pub numbers_in : (RuleText → ℤ) → List RuleText → List (Op × ℕ)
+numbers_in number [] = []
+numbers_in number (r ∷ rs) = with_rule (op_of r.op) (number r) (numbers_in number rs)
+
 abbrev pub leasts_in : List RuleText → List (Op × ℕ)
-leasts_in [] = []
-leasts_in (r ∷ rs) = with_rule (op_of r.op) r.least (leasts_in rs)
+leasts_in rs = numbers_in (λ r. r.least) rs
+
+abbrev pub distincts_in : List RuleText → List (Op × ℕ)
+distincts_in rs = numbers_in (λ r. r.distinct) rs
 
 unfoldable pub wall_of : PolicyText → ChineseWall
 wall_of t = record {
+  version = t.version;
   class_names = map (λ c. c.name) t.classes;
   dataset_names = dataset_names t.classes;
   process_names = map (λ p. p.name) t.processes;
   classes = class_numbers 0 t.classes;
   homes = map (λ p. home_in (dataset_names t.classes) p.home) t.processes;
   leasts = leasts_in t.rules;
+  distincts = distincts_in t.rules;
 }

@@ -1,15 +1,21 @@
 -- A policy of a Chinese Wall: which datasets are rivals, where each process is at home, and which results count as sanitised.
 -- (Brewer and Nash 1989: company datasets, conflict of interest classes, sanitised information. Homes and least numbers are own rules.)
-use Rattle.std.specs.Prelude.{◌≡◌, ℕ, ◌<◌, ◌≤◌, nat_eq, nat_le, Bool, true, false, ◌&&◌, List, length, find, Option, Some, None, option_map, slice_get}
-use Rattle.std.specs.List.{list_all}
+use Rattle.std.specs.Prelude.{◌≡◌, ℕ, ◌<◌, ◌≤◌, nat_eq, nat_le, Bool, true, false, IsTrue, ◌&&◌, ◌||◌, List, length, find, Option, Some, None, option_map, slice_get}
+use Rattle.std.specs.List.{list_all, AllZip}
 use Rattle.wall_labels.specs.Limits.{process_limit, dataset_limit, class_limit}
 use Rattle.wall_labels.specs.declared.op.Op.{Op}
 use Rattle.wall_labels.specs.Ops.{op_number}
 use Rattle.wall_policy.specs.Names.{Name, is_name, is_dataset_name, comes_twice}
 use Rattle.wall_policy.specs.Rivals.{are_rivals}
 
+-- The versions of a policy file. (Own format: version 2 states how many different datasets a sanitised result takes.)
+abbrev pub is_version : ℕ → Bool
+is_version n = nat_eq n 1 || nat_eq n 2
+
 -- Processes, datasets and classes are numbered from 0: what a list has at a number belongs to the thing of that number.
 pub record ChineseWall : Type 0 where
+  -- the version of the file that says it
+  pub version : ℕ
   pub class_names : List Name
   pub dataset_names : List Name
   pub process_names : List Name
@@ -19,6 +25,8 @@ pub record ChineseWall : Type 0 where
   pub homes : List (Option ℕ)
   -- the operations whose results may be sanitised, each with the least number of contributors from which they are
   pub leasts : List (Op × ℕ)
+  -- the same operations, each with the least number of different datasets among those contributors
+  pub distincts : List (Op × ℕ)
 
 -- the class of a dataset
 abbrev pub class_of : ChineseWall → ℕ → Option ℕ
@@ -37,18 +45,30 @@ abbrev pub home_of : ChineseWall → ℕ → Option ℕ
 home_of w p = home_if_any (slice_get w.homes p)
 
 -- the number stated for an operation, in a finite map from operations to numbers
-abbrev pub least_in : List (Op × ℕ) → Op → Option ℕ
-least_in leasts op = option_map (λ r. r.1) (find (λ r. nat_eq (op_number r.0) (op_number op)) leasts)
+abbrev pub number_in : List (Op × ℕ) → Op → Option ℕ
+number_in numbers op = option_map (λ r. r.1) (find (λ r. nat_eq (op_number r.0) (op_number op)) numbers)
 
 abbrev pub least_of : ChineseWall → Op → Option ℕ
-least_of w op = least_in w.leasts op
+least_of w op = number_in w.leasts op
+
+abbrev pub distinct_of : ChineseWall → Op → Option ℕ
+distinct_of w op = number_in w.distincts op
 
 -- a least number of contributors: two at least, and no more than there can be processes
 abbrev pub is_least : ℕ → Bool
 is_least n = nat_le 2 n && nat_le n process_limit
 
+-- a least number of different datasets: one at least, and no more than the least number of contributors
+abbrev pub is_distinct : (least n : ℕ) → Bool
+is_distinct least n = nat_le 1 n && nat_le n least
+
+-- two numbers of one operation: of contributors, and of different datasets among them
+abbrev pub IsPair : Op × ℕ → Op × ℕ → Type 0
+IsPair least distinct = (least.0 ≡ distinct.0) × IsTrue (is_distinct least.1 distinct.1)
+
 -- What is so of every policy that a file says.
 pub record IsPolicy (w : ChineseWall) : Type 0 where
+  pub known_version : is_version w.version ≡ true
   pub some_process : 1 ≤ length w.process_names
   pub few_processes : length w.process_names ≤ process_limit
   pub few_datasets : length w.dataset_names ≤ dataset_limit
@@ -67,3 +87,5 @@ pub record IsPolicy (w : ChineseWall) : Type 0 where
   pub good_datasets : list_all is_dataset_name w.dataset_names ≡ true
   pub good_processes : list_all is_name w.process_names ≡ true
   pub good_leasts : list_all (λ r. is_least r.1) w.leasts ≡ true
+  -- an operation has both numbers or none
+  pub good_distincts : AllZip IsPair w.leasts w.distincts

@@ -1,9 +1,9 @@
 //! What is asked of the names and numbers of a policy file.
-ghost use Rattle.std.specs.Prelude.{◌≡◌, not, map, is_some};
+ghost use Rattle.std.specs.Prelude.{◌≡◌, not, map, is_some, true};
 ghost use Rattle.std.specs.List.{list_all};
 ghost use Rattle.wall_labels.specs.Ops.{op_of};
 ghost use Rattle.wall_policy.specs.Names.{is_letter, is_name_byte, is_name, is_dataset_name};
-ghost use Rattle.wall_policy.specs.Checks.{is_named_class, is_good_least, is_home};
+ghost use Rattle.wall_policy.specs.Checks.{is_named_class, is_good_least, is_good_distinct, is_good_rule, is_home};
 
 use crate::names::NameTable;
 use crate::plain::{ClassText, ProcessText, RuleText, Word};
@@ -85,10 +85,23 @@ fn is_good_least(rule: &RuleText) -> bool
     2 <= rule.least && rule.least <= i64::from(PROCESS_LIMIT)
 }
 
-pub(crate) fn are_good_leasts(rules: &[RuleText]) -> bool
-    ensures { result ≡ list_all (λ r. is_good_least r.least) rules.now }
+fn is_good_distinct(rule: &RuleText) -> bool
+    requires { is_good_least rule.now.least ≡ true }
+    ensures { result ≡ is_good_distinct rule.now.least rule.now.distinct }
 {
-    rules.iter().all(|rule| is_good_least(rule))
+    1 <= rule.distinct && rule.distinct <= rule.least
+}
+
+fn is_good_rule(rule: &RuleText) -> bool
+    ensures { result ≡ is_good_rule rule.now }
+{
+    is_good_least(rule) && is_good_distinct(rule)
+}
+
+pub(crate) fn are_good_leasts(rules: &[RuleText]) -> bool
+    ensures { result ≡ list_all is_good_rule rules.now }
+{
+    rules.iter().all(|rule| is_good_rule(rule))
 }
 
 fn is_known_rule(rule: &RuleText) -> bool

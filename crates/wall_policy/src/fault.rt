@@ -39,7 +39,7 @@ pub enum PolicyFault {
     /// The bytes are not UTF-8, or not a TOML document as the crate `toml` reads it.
     #[error("NotToml")]
     NotToml,
-    /// `version` is absent, or not an integer that is a known version.
+    /// `version` is absent, or neither the integer 1 nor 2.
     #[error("BadVersion")]
     BadVersion,
     /// A required key is absent, a known key has another kind of value than it should, or there is no process.
@@ -60,7 +60,8 @@ pub enum PolicyFault {
     /// An operation is none of a reduction's.
     #[error("BadOp")]
     BadOp,
-    /// A least number is below 2 or above the most processes.
+    /// A least number of contributors is below 2 or above the most processes, or one of different datasets is below 1 or above that of
+    /// contributors.
     #[error("BadLeast")]
     BadLeast,
     /// There are more processes, datasets or classes than the limits allow.

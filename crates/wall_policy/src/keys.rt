@@ -1,10 +1,12 @@
 //! The version of a policy file, and the keys that it may have.
-ghost use Rattle.std.specs.Prelude.{◌≡◌, string_bytes};
+ghost use Rattle.std.specs.Prelude.{◌≡◌, string_bytes, true, Some, IfSome};
 ghost use Rattle.std.specs.List.{list_all};
 ghost use Rattle.std.specs.BTreeMap.{keys};
 ghost use Rattle.toml.specs.Data.{get_member};
 ghost use Rattle.toml.specs.View.{view, table_view, items_view};
-ghost use Rattle.wall_policy.specs.Keys.{is_key, are_keys, table_has_keys, items_have_keys, array_has_keys, has_known_keys, has_known_version};
+ghost use Rattle.wall_policy.specs.Keys.{is_key, are_keys, table_has_keys, items_have_keys, array_has_keys, rule_section, known_version, has_known_keys, version_of};
+ghost use Rattle.wall_policy.specs.Policy.{is_version};
+ghost use Rattle.wall_policy.specs.declared.keys.Section.TheVariants.{File, RuleOfTwo};
 
 use crate::tree::value_at;
 use toml::{Table, Value};
@@ -15,7 +17,24 @@ pub(crate) enum Section {
     File,
     Class,
     Process,
+    /// A rule of sanitising, in a file of version 1.
     Rule,
+    /// A rule of sanitising, in a file of version 2.
+    RuleOfTwo,
+}
+
+// Whether a file may have the key.
+fn is_known_of_file(key: &str) -> bool
+    ensures { result ≡ is_key File key.now }
+{
+    key == "version" || key == "class" || key == "process" || key == "sanitise"
+}
+
+// Whether a rule of sanitising may have the key, in a file of version 2.
+fn is_known_of_two(key: &str) -> bool
+    ensures { result ≡ is_key RuleOfTwo key.now }
+{
+    key == "op" || key == "least" || key == "distinct"
 }
 
 // Whether tables of this part may have the key.
@@ -23,12 +42,11 @@ fn is_known(section: Section, key: &str) -> bool
     ensures { result ≡ is_key section key.now }
 {
     match section {
-        Section::File => {
-            key == "version" || key == "class" || key == "process" || key == "sanitise"
-        }
+        Section::File => is_known_of_file(key),
         Section::Class => key == "name" || key == "datasets",
         Section::Process => key == "name" || key == "home",
         Section::Rule => key == "op" || key == "least",
+        Section::RuleOfTwo => is_known_of_two(key),
     }
 }
 
@@ -83,27 +101,48 @@ fn array_at_has_keys(section: Section, members: &Table, key: &str) -> bool
     }
 }
 
+// What a rule of sanitising is in a file of this version.
+fn rule_section(version: u32) -> Section
+    ensures { result ≡ rule_section version }
+{
+    if version == 2 {
+        Section::RuleOfTwo
+    } else {
+        Section::Rule
+    }
+}
+
 /// Whether no key is unknown, in the file or in one of its tables.
 #[tactic(auto, unfolding(crate::specs::Keys::has_known_keys))]
-pub(crate) fn are_all_known(members: &Table) -> bool
-    ensures { result ≡ has_known_keys (table_view members.now) }
+pub(crate) fn are_all_known(version: u32, members: &Table) -> bool
+    ensures { result ≡ has_known_keys version (table_view members.now) }
 {
     has_keys(Section::File, members)
         && array_at_has_keys(Section::Class, members, "class")
         && array_at_has_keys(Section::Process, members, "process")
-        && array_at_has_keys(Section::Rule, members, "sanitise")
+        && array_at_has_keys(rule_section(version), members, "sanitise")
 }
 
-/// Whether the version is one that is read.
-#[tactic(auto, unfolding(crate::specs::Keys::has_known_version, crate::specs::Tree::number_at))]
-pub(crate) fn is_known_version(members: &Table) -> bool
-    ensures { result ≡ has_known_version (table_view members.now) }
+// The version of the number, if it is one that is read.
+fn known_version(number: i64) -> Option<u32>
+    ensures version { result ≡ known_version (Some number) }
+    ensures known { IfSome result (λ version. is_version version ≡ true) }
 {
-    match value_at(members, "version") {
-        Some(value) => match value.as_integer() {
-            Some(number) => number == 1,
-            None => false,
-        },
-        None => false,
+    match number {
+        1 => Some(1),
+        2 => Some(2),
+        _ => None,
+    }
+}
+
+/// The version that the file states, if it is one that is read.
+#[tactic(auto, unfolding(crate::specs::Keys::version_of, crate::specs::Tree::number_at))]
+pub(crate) fn version_of(members: &Table) -> Option<u32>
+    ensures version { result ≡ version_of (table_view members.now) }
+    ensures known { IfSome result (λ version. is_version version ≡ true) }
+{
+    match value_at(members, "version")?.as_integer() {
+        Some(number) => known_version(number),
+        None => None,
     }
 }

@@ -93,3 +93,11 @@ impl NameTable {
         Ok(is_new)
     }
 }
+
+/// The names of a record or a policy, each kind in its order.
+#[derive(Drop)]
+pub(crate) struct Tables {
+    pub(crate) class_names: NameTable,
+    pub(crate) dataset_names: NameTable,
+    pub(crate) process_names: NameTable,
+}

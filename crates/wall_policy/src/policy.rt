@@ -3,10 +3,10 @@ ghost use Rattle.std.specs.Prelude.{◌≡◌, ◌<◌, ◌≤◌, ◌↔◌, le
 ghost use Rattle.wall_labels.specs.declared.ids.TheConstants.{PROCESS_LIMIT, DATASET_LIMIT};
 ghost use Rattle.wall_policy.specs.Names.{place_of, is_name, is_dataset_name};
 ghost use Rattle.wall_policy.specs.Rivals.{AreRivals, are_rivals};
-ghost use Rattle.wall_policy.specs.Policy.{home_if_any, least_in};
+ghost use Rattle.wall_policy.specs.Policy.{home_if_any, number_in};
 
-use crate::build::{class_list, home_list, least_list};
-use crate::names::NameTable;
+use crate::build::{Lists, lists_of};
+use crate::names::{NameTable, Tables};
 use crate::plain::PolicyText;
 use std::alloc::{AllocError, Global};
 use std::marker::Model;
@@ -17,12 +17,14 @@ use wall_labels::{ClassId, DatasetId, NoMemory, Op, ProcessId};
 /// No accessor takes memory.
 #[derive(Drop)]
 pub struct Policy {
+    version: u32,
     class_names: NameTable,
     dataset_names: NameTable,
     process_names: NameTable,
     classes: Vec<ClassId>,
     homes: Vec<Option<DatasetId>>,
     leasts: Vec<(Op, u32)>,
+    distincts: Vec<(Op, u32)>,
 }
 
 impl Model for Policy {
@@ -31,27 +33,31 @@ impl Model for Policy {
     ghost Value = { ChineseWall };
 
     ghost view = { λ p. record {
+      version = p.version;
       class_names = p.class_names;
       dataset_names = p.dataset_names;
       process_names = p.process_names;
       classes = p.classes.items;
       homes = p.homes.items;
       leasts = p.leasts.items;
+      distincts = p.distincts.items;
     } };
 
     ghost invariant = { λ p. IsPolicy (record {
+      version = p.version;
       class_names = p.class_names;
       dataset_names = p.dataset_names;
       process_names = p.process_names;
       classes = p.classes.items;
       homes = p.homes.items;
       leasts = p.leasts.items;
+      distincts = p.distincts.items;
     }) };
 }
 
 impl Policy {
     ghost use Rattle.std.specs.Prelude.{map, IfOk};
-    ghost use Rattle.wall_policy.specs.Policy.{IsPolicy, class_of, home_of, least_of, rival};
+    ghost use Rattle.wall_policy.specs.Policy.{IsPolicy, is_version, class_of, home_of, least_of, distinct_of, rival};
     ghost use Rattle.wall_policy.specs.Checks.{dataset_names as dataset_names_of, has_good_names, has_repeats, has_good_leasts, is_small};
     ghost use Rattle.wall_policy.specs.Meaning.{wall_of};
 
@@ -59,31 +65,80 @@ impl Policy {
     #[tactic(auto, unfolding(crate::specs::Meaning::wall_of))]
     pub(crate) fn of_record(
         alloc: Global,
-        class_names: NameTable,
-        dataset_names: NameTable,
-        process_names: NameTable,
+        tables: Tables,
         text: &PolicyText,
     ) -> Result<Policy, AllocError>
-        requires classes { class_names ≡ map (λ c. c.name) text.now.classes }
-        requires datasets { dataset_names ≡ dataset_names_of text.now.classes }
-        requires processes { process_names ≡ map (λ p. p.name) text.now.processes }
+        requires classes { tables.class_names ≡ map (λ c. c.name) text.now.classes }
+        requires datasets { tables.dataset_names ≡ dataset_names_of text.now.classes }
+        requires processes { tables.process_names ≡ map (λ p. p.name) text.now.processes }
         requires some_process { 1 ≤ length text.now.processes }
         requires good_names { has_good_names text.now ≡ true }
         requires distinct { has_repeats text.now ≡ false }
         requires good_leasts { has_good_leasts text.now ≡ true }
         requires small { is_small text.now ≡ true }
+        requires version { is_version text.now.version ≡ true }
         ensures { IfOk result (λ p. p ≡ wall_of text.now) }
     {
-        let classes = class_list(alloc, text.classes())?;
-        let homes = home_list(alloc, &dataset_names, text.processes())?;
-        let leasts = least_list(alloc, text.rules())?;
+        let lists = lists_of(alloc, &tables.dataset_names, text)?;
+        let Tables {
+            class_names,
+            dataset_names,
+            process_names,
+        } = tables;
+        let Lists {
+            classes,
+            homes,
+            leasts,
+            distincts,
+        } = lists;
         Ok(Policy {
+            version: text.version(),
             class_names,
             dataset_names,
             process_names,
             classes,
             homes,
             leasts,
+            distincts,
+        })
+    }
+
+    // The tables of an equal policy.
+    fn copied_tables(&self) -> Result<Tables, AllocError>
+        ensures classes { IfOk result (λ t. t.class_names ≡ self.now.class_names) }
+        ensures datasets { IfOk result (λ t. t.dataset_names ≡ self.now.dataset_names) }
+        ensures processes { IfOk result (λ t. t.process_names ≡ self.now.process_names) }
+    {
+        let class_names = self.class_names.copy()?;
+        let dataset_names = self.dataset_names.copy()?;
+        let process_names = self.process_names.copy()?;
+        Ok(Tables {
+            class_names,
+            dataset_names,
+            process_names,
+        })
+    }
+
+    // The lists of an equal policy.
+    fn copied_lists(&self, alloc: Global) -> Result<Lists, AllocError>
+        ensures classes { IfOk result (λ l. l.classes.items ≡ self.now.classes) }
+        ensures homes { IfOk result (λ l. l.homes.items ≡ self.now.homes) }
+        ensures leasts { IfOk result (λ l. l.leasts.items ≡ self.now.leasts) }
+        ensures distincts { IfOk result (λ l. l.distincts.items ≡ self.now.distincts) }
+    {
+        let mut classes = Vec::new(alloc);
+        classes.extend_from_slice(&self.classes)?;
+        let mut homes = Vec::new(alloc);
+        homes.extend_from_slice(&self.homes)?;
+        let mut leasts = Vec::new(alloc);
+        leasts.extend_from_slice(&self.leasts)?;
+        let mut distincts = Vec::new(alloc);
+        distincts.extend_from_slice(&self.distincts)?;
+        Ok(Lists {
+            classes,
+            homes,
+            leasts,
+            distincts,
         })
     }
 
@@ -91,23 +146,37 @@ impl Policy {
     pub fn copy(&self, alloc: Global) -> Result<Policy, NoMemory>
         ensures { IfOk result (λ copy. copy ≡ self.now) }
     {
-        let class_names = self.class_names.copy()?;
-        let dataset_names = self.dataset_names.copy()?;
-        let process_names = self.process_names.copy()?;
-        let mut classes = Vec::new(alloc);
-        classes.extend_from_slice(&self.classes)?;
-        let mut homes = Vec::new(alloc);
-        homes.extend_from_slice(&self.homes)?;
-        let mut leasts = Vec::new(alloc);
-        leasts.extend_from_slice(&self.leasts)?;
+        let tables = self.copied_tables()?;
+        let lists = self.copied_lists(alloc)?;
+        let Tables {
+            class_names,
+            dataset_names,
+            process_names,
+        } = tables;
+        let Lists {
+            classes,
+            homes,
+            leasts,
+            distincts,
+        } = lists;
         Ok(Policy {
+            version: self.version,
             class_names,
             dataset_names,
             process_names,
             classes,
             homes,
             leasts,
+            distincts,
         })
+    }
+
+    /// The version of the file that says the policy.
+    pub fn version(&self) -> u32
+        ensures version { result ≡ self.now.version }
+        ensures known { is_version result ≡ true }
+    {
+        self.version
     }
 
     /// How many processes there are.
@@ -158,7 +227,15 @@ impl Policy {
     pub fn least(&self, op: Op) -> Option<u32>
         ensures least { result ≡ least_of self.now op }
     {
-        least_in(&self.leasts, op)
+        number_in(&self.leasts, op)
+    }
+
+    /// The least number of different datasets among those contributors, for an operation that has a least number of contributors. It is 1
+    /// for each of these where the file is of version 1.
+    pub fn distinct(&self, op: Op) -> Option<u32>
+        ensures distinct { result ≡ distinct_of self.now op }
+    {
+        number_in(&self.distincts, op)
     }
 
     /// The name of the process.
@@ -242,12 +319,12 @@ pub fn are_rivals(classes: &[ClassId], left: DatasetId, right: DatasetId) -> boo
 }
 
 // The number that the list has for the operation.
-fn least_in(leasts: &[(Op, u32)], op: Op) -> Option<u32>
-    ensures { result ≡ least_in leasts.now op }
+fn number_in(numbers: &[(Op, u32)], op: Op) -> Option<u32>
+    ensures { result ≡ number_in numbers.now op }
 {
-    for (stated, least) in leasts {
+    for (stated, number) in numbers {
         if *stated == op {
-            return Some(*least);
+            return Some(*number);
         }
     }
     None

@@ -1,31 +1,26 @@
 //! Reads a policy file.
-ghost use Rattle.std.specs.Prelude.{◌≡◌, ◌≤◌, not, true, false, length, map, IfOk, IfErr, IfSome, MatchOption, Some, None};
+ghost use Rattle.std.specs.Prelude.{◌≡◌, ◌≤◌, not, true, false, length, map, Ok, IfOk, IfErr, IfSome, MatchOption, Some, None};
 ghost use Rattle.toml.specs.View.{table_view};
 ghost use Rattle.wall_policy.specs.Checks.{dataset_names as dataset_names_of, has_good_names, has_repeats, has_known_homes, has_known_ops, has_good_leasts, is_small};
 ghost use Rattle.wall_policy.specs.InTurn.{IsNoMemoryOr, judged, in_turn, of_tree, of_record};
-ghost use Rattle.wall_policy.specs.Answer.{Gives, answer_to, tree_of};
+ghost use Rattle.wall_policy.specs.Answer.{Gives, Refuses, answer_to, tree_of};
+ghost use Rattle.wall_policy.specs.Meaning.{wall_of};
+ghost use Rattle.wall_policy.specs.Names.{comes_twice};
+ghost use Rattle.wall_policy.specs.Policy.{is_version};
 
 use crate::checks::{
     are_good_classes, are_good_leasts, are_good_processes, are_known_homes, are_known_rules,
 };
 use crate::fault::{FormFault, PolicyFault};
-use crate::keys::{are_all_known, is_known_version};
-use crate::names::NameTable;
+use crate::keys::{are_all_known, version_of};
+use crate::names::{NameTable, Tables};
 use crate::numbering::{dataset_table, table_of};
-use crate::plain::PolicyText;
+use crate::plain::{PolicyText, RuleText};
 use crate::policy::Policy;
 use crate::tree::record_of_tree;
 use std::alloc::{AllocError, Global};
 use toml::Table;
 use wall_labels::{CLASS_LIMIT, DATASET_LIMIT, PROCESS_LIMIT};
-
-// The names of a record, each kind in its order.
-#[derive(Drop)]
-struct Tables {
-    class_names: NameTable,
-    dataset_names: NameTable,
-    process_names: NameTable,
-}
 
 #[tactic(auto, unfolding(crate::specs::Checks::has_good_names))]
 fn are_names_good(text: &PolicyText) -> bool
@@ -34,7 +29,18 @@ fn are_names_good(text: &PolicyText) -> bool
     are_good_classes(text.classes()) && are_good_processes(text.processes())
 }
 
-// The names of the record, or none where one comes twice.
+// Whether two rules name an operation alike.
+fn has_repeated_rule(alloc: Global, rules: &[RuleText]) -> Result<bool, AllocError>
+    ensures { IfOk result (λ repeats. repeats ≡ comes_twice (map (λ r. r.op) rules.now)) }
+{
+    match table_of(alloc, rules)? {
+        Some(_) => Ok(false),
+        None => Ok(true),
+    }
+}
+
+// The names of the record, or none where one comes twice. The rules, whose names are not kept,
+// come first, while no table is held.
 #[tactic(auto, unfolding(crate::specs::Checks::has_repeats))]
 fn tables_of(alloc: Global, text: &PolicyText) -> Result<Option<Tables>, AllocError>
     ensures repeats { IfOk result (λ found. MatchOption found (has_repeats text.now ≡ true) (λ _. has_repeats text.now ≡ false)) }
@@ -42,6 +48,9 @@ fn tables_of(alloc: Global, text: &PolicyText) -> Result<Option<Tables>, AllocEr
     ensures datasets { IfOk result (λ found. IfSome found (λ t. t.dataset_names ≡ dataset_names_of text.now.classes)) }
     ensures processes { IfOk result (λ found. IfSome found (λ t. t.process_names ≡ map (λ p. p.name) text.now.processes)) }
 {
+    if has_repeated_rule(alloc, text.rules())? {
+        return Ok(None);
+    }
     let Some(class_names) = table_of(alloc, text.classes())? else {
         return Ok(None);
     };
@@ -49,9 +58,6 @@ fn tables_of(alloc: Global, text: &PolicyText) -> Result<Option<Tables>, AllocEr
         return Ok(None);
     };
     let Some(process_names) = table_of(alloc, text.processes())? else {
-        return Ok(None);
-    };
-    let Some(_) = table_of(alloc, text.rules())? else {
         return Ok(None);
     };
     Ok(Some(Tables {
@@ -93,19 +99,18 @@ fn is_few(datasets: &NameTable, text: &PolicyText) -> bool
         && text.classes().len() <= CLASS_LIMIT as usize
 }
 
-// The policy of a record, or what is wrong with its names and numbers.
+// What is wrong with a record whose names are good and distinct, if anything is.
 #[tactic(auto, unfolding(crate::specs::InTurn::judged))]
-fn judge(alloc: Global, text: &PolicyText) -> Result<Policy, PolicyFault>
-    requires { 1 ≤ length text.now.processes }
-    ensures { Gives result (judged text.now) }
+fn judge_rest(datasets: &NameTable, text: &PolicyText) -> Result<(), PolicyFault>
+    requires datasets { datasets.now ≡ dataset_names_of text.now.classes }
+    requires good_names { has_good_names text.now ≡ true }
+    requires distinct { has_repeats text.now ≡ false }
+    ensures refused { IfErr result (λ fault. Refuses fault (judged text.now)) }
+    ensures passed { IfOk result (λ _. judged text.now ≡ Ok (wall_of text.now)) }
+    ensures good_leasts { IfOk result (λ _. has_good_leasts text.now ≡ true) }
+    ensures small { IfOk result (λ _. is_small text.now ≡ true) }
 {
-    if !are_names_good(text) {
-        return Err(PolicyFault::BadName);
-    }
-    let Some(tables) = tables_of(alloc, text)? else {
-        return Err(PolicyFault::DuplicateName);
-    };
-    if !are_homes_known(&tables.dataset_names, text) {
+    if !are_homes_known(datasets, text) {
         return Err(PolicyFault::UnknownDataset);
     }
     if !are_ops_known(text) {
@@ -114,15 +119,27 @@ fn judge(alloc: Global, text: &PolicyText) -> Result<Policy, PolicyFault>
     if !are_leasts_good(text) {
         return Err(PolicyFault::BadLeast);
     }
-    if !is_few(&tables.dataset_names, text) {
+    if !is_few(datasets, text) {
         return Err(PolicyFault::TooMany);
     }
-    let Tables {
-        class_names,
-        dataset_names,
-        process_names,
-    } = tables;
-    Ok(Policy::of_record(alloc, class_names, dataset_names, process_names, text)?)
+    Ok(())
+}
+
+// The policy of a record, or what is wrong with its names and numbers.
+#[tactic(auto, unfolding(crate::specs::InTurn::judged))]
+fn judge(alloc: Global, text: &PolicyText) -> Result<Policy, PolicyFault>
+    requires some_process { 1 ≤ length text.now.processes }
+    requires version { is_version text.now.version ≡ true }
+    ensures { Gives result (judged text.now) }
+{
+    if !are_names_good(text) {
+        return Err(PolicyFault::BadName);
+    }
+    let Some(tables) = tables_of(alloc, text)? else {
+        return Err(PolicyFault::DuplicateName);
+    };
+    judge_rest(&tables.dataset_names, text)?;
+    Ok(Policy::of_record(alloc, tables, text)?)
 }
 
 // The tree of a file.
@@ -147,19 +164,19 @@ fn tree_of_bytes(alloc: Global, bytes: &[u8]) -> Result<Table, PolicyFault>
 }
 
 // The policy of a tree, or what is wrong with it.
-#[tactic(auto, unfolding(crate::specs::InTurn::of_tree, crate::specs::InTurn::of_record))]
+#[tactic(auto, unfolding(crate::specs::InTurn::of_tree, crate::specs::InTurn::of_version, crate::specs::InTurn::of_record))]
 fn policy_of_tree(alloc: Global, table: &Table) -> Result<Policy, PolicyFault>
     ensures { Gives result (of_tree (Some (table_view table.now))) }
 {
-    if !is_known_version(table) {
+    let Some(version) = version_of(table) else {
         return Err(PolicyFault::BadVersion);
-    }
-    let text = match record_of_tree(alloc, table) {
+    };
+    let text = match record_of_tree(alloc, version, table) {
         Ok(text) => text,
         Err(FormFault::MissingKey) => return Err(PolicyFault::MissingKey),
         Err(FormFault::NoMemory) => return Err(PolicyFault::NoMemory),
     };
-    if !are_all_known(table) {
+    if !are_all_known(version, table) {
         return Err(PolicyFault::UnknownKey);
     }
     judge(alloc, &text)

@@ -1,10 +1,15 @@
 use crate::{Policy, PolicyFault, read_policy};
 use std::alloc::{AllocError, Global};
+use std::process::Abort;
 use std::test::Fail;
-use wall_labels::{DatasetId, Op, PROCESS_LIMIT};
+use wall_labels::{DatasetId, Op};
 
 const W: &str =
     "version = 1\n[[class]]\nname = \"banks\"\ndatasets = [\"alpha\", \"beta\"]\n[[class]]\nname = \"oil\"\ndatasets = [\"crude\", \"delta\"]\n[[process]]\nname = \"a0\"\nhome = \"alpha\"\n[[process]]\nname = \"b0\"\nhome = \"beta\"\n[[process]]\nname = \"c0\"\nhome = \"crude\"\n[[process]]\nname = \"n0\"\n[[sanitise]]\nop = \"sum\"\nleast = 3\n";
+
+// W in version 2, where a sanitised sum takes three different datasets.
+const Z: &str =
+    "version = 2\n[[class]]\nname = \"banks\"\ndatasets = [\"alpha\", \"beta\"]\n[[class]]\nname = \"oil\"\ndatasets = [\"crude\", \"delta\"]\n[[process]]\nname = \"a0\"\nhome = \"alpha\"\n[[process]]\nname = \"b0\"\nhome = \"beta\"\n[[process]]\nname = \"c0\"\nhome = \"crude\"\n[[process]]\nname = \"n0\"\n[[sanitise]]\nop = \"sum\"\nleast = 3\ndistinct = 3\n";
 
 // What reading answers: nothing for a policy.
 fn fault_of(alloc: Global, bytes: &[u8]) -> Option<PolicyFault> {
@@ -16,11 +21,13 @@ fn fault_of(alloc: Global, bytes: &[u8]) -> Option<PolicyFault> {
 
 #[test]
 fn short_texts(rt: HostRuntime) {
-    let cases: [(&[u8], PolicyFault); 5] = [
+    let cases: [(&[u8], PolicyFault); 7] = [
         (b"\xff", PolicyFault::NotToml),
         (b"version = ", PolicyFault::NotToml),
         (b"", PolicyFault::BadVersion),
-        (b"version = 2", PolicyFault::BadVersion),
+        (b"version = 0", PolicyFault::BadVersion),
+        (b"version = 3", PolicyFault::BadVersion),
+        (b"version = 2", PolicyFault::MissingKey),
         (b"version = 1", PolicyFault::MissingKey),
     ];
     for (bytes, fault) in cases {
@@ -58,18 +65,49 @@ fn changed_policies(rt: HostRuntime) -> Result<(), Fail> {
             PolicyFault::BadName,
         ),
         ("least = 3", "least = 1", PolicyFault::BadLeast),
-        ("least = 3", "least = 65", PolicyFault::BadLeast),
+        ("least = 3", "least = 257", PolicyFault::BadLeast),
         ("least = 3", "least = 3.0", PolicyFault::MissingKey),
         (
             "least = 3",
             "least = 3\ndistinct = 1",
             PolicyFault::UnknownKey,
         ),
+        (
+            "least = 3",
+            "least = 3\ndistinct = \"x\"",
+            PolicyFault::UnknownKey,
+        ),
+        ("version = 1", "version = 2", PolicyFault::MissingKey),
         ("version = 1", "version = 1.0", PolicyFault::BadVersion),
         ("version = 1", "version = true", PolicyFault::BadVersion),
     ];
     for (old, new, fault) in cases {
         let text = W.replace(alloc, old, new)?;
+        assert!(rt; fault_of(alloc, text.as_bytes()) == Some(fault), "{new}");
+    }
+    Ok(())
+}
+
+#[test]
+fn changed_policies_of_version_2(rt: HostRuntime) -> Result<(), Fail> {
+    let alloc = rt.alloc();
+    assert!(rt; fault_of(alloc, Z.as_bytes()).is_none());
+    let cases = [
+        ("distinct = 3", "distinct = 4", PolicyFault::BadLeast),
+        ("distinct = 3", "distinct = 0", PolicyFault::BadLeast),
+        ("distinct = 3", "distinct = -1", PolicyFault::BadLeast),
+        ("distinct = 3\n", "", PolicyFault::MissingKey),
+        ("distinct = 3", "distinct = \"x\"", PolicyFault::MissingKey),
+        (
+            "distinct = 3",
+            "distinct = 3\nx = 1",
+            PolicyFault::UnknownKey,
+        ),
+        ("version = 2", "version = 1", PolicyFault::UnknownKey),
+        ("version = 2", "version = 3", PolicyFault::BadVersion),
+    ];
+    for (old, new, fault) in cases {
+        let text = Z.replace(alloc, old, new)?;
         assert!(rt; fault_of(alloc, text.as_bytes()) == Some(fault), "{new}");
     }
     Ok(())
@@ -82,7 +120,8 @@ fn read(rt: HostRuntime) {
         "version = 1\nclass = []\nsanitise = []\n[[process]]\nname = \"p0\"\n",
         "version = 1\n[[process]]\nname = \"public\"\n",
         "version = 1\n[[process]]\nname = \"p234567890123456789012345678901-\"\n",
-        "version = 1\n[[process]]\nname = \"p\"\n[[sanitise]]\nop = \"max\"\nleast = 64\n",
+        "version = 1\n[[process]]\nname = \"p\"\n[[sanitise]]\nop = \"max\"\nleast = 65\n[[sanitise]]\nop = \"min\"\nleast = 256\n",
+        "version = 2\n[[process]]\nname = \"p\"\n[[sanitise]]\nop = \"max\"\nleast = 256\ndistinct = 256\n",
         "version = 1\n[[class]]\nname = \"a\"\ndatasets = [\"a\"]\n[[process]]\nname = \"a\"\nhome = \"a\"\n",
     ];
     for text in texts {
@@ -96,41 +135,98 @@ fn no_process(rt: HostRuntime) {
     assert!(rt; fault == Some(PolicyFault::MissingKey));
 }
 
-// A policy of that many processes.
-fn processes(alloc: Global, number: u32) -> Result<String, AllocError> {
+// A policy of so many processes, and so many classes of so many datasets each.
+fn many(alloc: Global, processes: u32, classes: u32, datasets: u32) -> Result<String, AllocError> {
     let mut text = String::from_str(alloc, "version = 1\n")?;
-    for process in 0..number {
+    for process in 0..processes {
         write!(text, "[[process]]\nname = \"p{process}\"\n").map_err(|_| AllocError)?;
+    }
+    for class in 0..classes {
+        write!(text, "[[class]]\nname = \"k{class}\"\ndatasets = [").map_err(|_| AllocError)?;
+        for dataset in 0..datasets {
+            write!(text, "\"d{class}_{dataset}\", ").map_err(|_| AllocError)?;
+        }
+        text.push_str("]\n")?;
     }
     Ok(text)
 }
 
+// The most processes, datasets and classes, and one more of each.
 #[test]
-fn many_processes(rt: HostRuntime) -> Result<(), Fail> {
+fn limits(rt: HostRuntime) -> Result<(), Fail> {
     let alloc = rt.alloc();
-    let most = processes(alloc, PROCESS_LIMIT)?;
-    assert!(rt; fault_of(alloc, most.as_bytes()).is_none());
-    let more = processes(alloc, PROCESS_LIMIT + 1)?;
-    assert!(rt; fault_of(alloc, more.as_bytes()) == Some(PolicyFault::TooMany));
+    let rows = [
+        (256, 0, 0, None),
+        (257, 0, 0, Some(PolicyFault::TooMany)),
+        (1, 1, 1024, None),
+        (1, 1, 1025, Some(PolicyFault::TooMany)),
+        (1, 512, 2, None),
+        (1, 205, 5, Some(PolicyFault::TooMany)),
+        (1, 1024, 0, None),
+        (1, 1025, 0, Some(PolicyFault::TooMany)),
+    ];
+    for (processes, classes, datasets, fault) in rows {
+        let text = many(alloc, processes, classes, datasets)?;
+        assert!(rt;
+            fault_of(alloc, text.as_bytes()) == fault,
+            "{processes} {classes} {datasets}"
+        );
+    }
     Ok(())
 }
 
 // The policy W as it is read, and a copy of it.
 fn read_and_copied(alloc: Global) -> Result<[Policy; 2], PolicyFault> {
-    let policy = read_policy(alloc, W.as_bytes())?;
+    both(alloc, W)
+}
+
+// A policy as it is read, and a copy of it.
+fn both(alloc: Global, text: &str) -> Result<[Policy; 2], PolicyFault> {
+    let policy = read_policy(alloc, text.as_bytes())?;
     let copy = policy.copy(alloc).map_err(|_| PolicyFault::NoMemory)?;
     Ok([policy, copy])
+}
+
+// The asserts on a policy stand in functions that only borrow it: no way out of them drops one.
+fn check_numbers(rt: &impl Abort, policy: &Policy) {
+    assert_eq!(rt; policy.processes(), 4);
+    assert_eq!(rt; policy.datasets(), 4);
+    assert!(rt; policy.least(Op::Sum) == Some(3));
+    assert!(rt; policy.least(Op::Max).is_none());
 }
 
 #[test]
 fn numbers(rt: HostRuntime) -> Result<(), PolicyFault> {
     for policy in read_and_copied(rt.alloc())? {
-        assert_eq!(rt; policy.processes(), 4);
-        assert_eq!(rt; policy.datasets(), 4);
-        assert!(rt; policy.least(Op::Sum) == Some(3));
-        assert!(rt; policy.least(Op::Max).is_none());
+        check_numbers(&rt, &policy);
     }
     Ok(())
+}
+
+fn check_version(rt: &impl Abort, policy: &Policy, version: u32, distinct: u32) {
+    assert_eq!(rt; policy.version(), version);
+    assert!(rt; policy.least(Op::Sum) == Some(3));
+    assert!(rt; policy.distinct(Op::Sum) == Some(distinct));
+    assert!(rt; policy.distinct(Op::Max).is_none());
+}
+
+fn check_versions(
+    rt: &impl Abort,
+    alloc: Global,
+    text: &str,
+    version: u32,
+    distinct: u32,
+) -> Result<(), PolicyFault> {
+    for policy in both(alloc, text)? {
+        check_version(rt, &policy, version, distinct);
+    }
+    Ok(())
+}
+
+#[test]
+fn versions(rt: HostRuntime) -> Result<(), PolicyFault> {
+    check_versions(&rt, rt.alloc(), W, 1, 1)?;
+    check_versions(&rt, rt.alloc(), Z, 2, 3)
 }
 
 fn are_rivals(policy: &Policy, left: &str, right: &[u8]) -> Option<bool> {
@@ -139,14 +235,18 @@ fn are_rivals(policy: &Policy, left: &str, right: &[u8]) -> Option<bool> {
     Some(policy.rival(left, right))
 }
 
+fn check_rivals(rt: &impl Abort, policy: &Policy) {
+    assert!(rt; are_rivals(policy, "alpha", b"beta") == Some(true));
+    assert!(rt; are_rivals(policy, "alpha", b"alpha") == Some(false));
+    assert!(rt; are_rivals(policy, "alpha", b"crude") == Some(false));
+    assert!(rt; are_rivals(policy, "gamma", b"crude").is_none());
+    assert!(rt; are_rivals(policy, "alpha", b"\xff").is_none());
+}
+
 #[test]
 fn rivals(rt: HostRuntime) -> Result<(), PolicyFault> {
     for policy in read_and_copied(rt.alloc())? {
-        assert!(rt; are_rivals(&policy, "alpha", b"beta") == Some(true));
-        assert!(rt; are_rivals(&policy, "alpha", b"alpha") == Some(false));
-        assert!(rt; are_rivals(&policy, "alpha", b"crude") == Some(false));
-        assert!(rt; are_rivals(&policy, "gamma", b"crude").is_none());
-        assert!(rt; are_rivals(&policy, "alpha", b"\xff").is_none());
+        check_rivals(&rt, &policy);
     }
     Ok(())
 }
@@ -164,14 +264,18 @@ fn home_of<'a>(policy: &'a Policy, name: &[u8]) -> Option<(&'a str, Option<Datas
     Some((policy.process_name(process), policy.home(process)))
 }
 
+fn check_names(rt: &impl Abort, policy: &Policy) {
+    assert!(rt; class_of(policy, "beta") == Some((0, true)));
+    assert!(rt; class_of(policy, "crude") == Some((1, true)));
+    assert!(rt; home_of(policy, b"b0") == Some(("b0", DatasetId::new(1))));
+    assert!(rt; home_of(policy, b"n0") == Some(("n0", None)));
+    assert!(rt; home_of(policy, b"n1").is_none());
+}
+
 #[test]
 fn names(rt: HostRuntime) -> Result<(), PolicyFault> {
     for policy in read_and_copied(rt.alloc())? {
-        assert!(rt; class_of(&policy, "beta") == Some((0, true)));
-        assert!(rt; class_of(&policy, "crude") == Some((1, true)));
-        assert!(rt; home_of(&policy, b"b0") == Some(("b0", DatasetId::new(1))));
-        assert!(rt; home_of(&policy, b"n0") == Some(("n0", None)));
-        assert!(rt; home_of(&policy, b"n1").is_none());
+        check_names(&rt, &policy);
     }
     Ok(())
 }

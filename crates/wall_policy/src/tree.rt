@@ -1,9 +1,9 @@
 //! Reads the tree of a policy file into plain texts and numbers.
-ghost use Rattle.std.specs.Prelude.{◌≡◌, ◌≤◌, length, IfOk, Option, Some, option_map, option_and_then, codes};
+ghost use Rattle.std.specs.Prelude.{◌≡◌, ◌≤◌, length, IfOk, ℕ, Option, Some, option_map, option_and_then, codes};
 ghost use Rattle.toml.specs.Data.{Data, get_member, as_str, as_table};
 ghost use Rattle.toml.specs.View.{view, table_view, array_view, items_view};
 ghost use Rattle.wall_policy.specs.Tree.{Reads, text_at, number_at, text_if_any, listed, list_at, list_or_empty, each};
-ghost use Rattle.wall_policy.specs.Form.{class_of, process_of, rule_of, record_of};
+ghost use Rattle.wall_policy.specs.Form.{class_of, process_of, distinct_at, rule_of, record_of};
 
 use crate::fault::FormFault;
 use crate::plain::{ClassText, PolicyText, ProcessText, RuleText, Word};
@@ -12,13 +12,13 @@ use toml::{Table, Value};
 
 // What an item of an array is read as.
 trait Item: Drop {
-    // What its data says.
-    ghost said: { Data → Option Self };
+    // What its data says in a file of a version.
+    ghost said: { ℕ → Data → Option Self };
 
-    fn read(alloc: Global, value: &Value) -> Result<Self, FormFault>
+    fn read(alloc: Global, version: u32, value: &Value) -> Result<Self, FormFault>
     where
         Self: Sized,
-        ensures { Reads (λ x. x) result (said (view value.now)) };
+        ensures { Reads (λ x. x) result (said version (view value.now)) };
 }
 
 // What stands at a key.
@@ -36,7 +36,7 @@ fn text_of(alloc: Global, members: &Table, key: &str) -> Result<Word, FormFault>
     let Some(value) = value_at(members, key) else {
         return Err(FormFault::MissingKey);
     };
-    Word::read(alloc, value)
+    Word::of_value(alloc, value)
 }
 
 // The text at a key that may be absent.
@@ -47,7 +47,7 @@ fn text_if_any_of(alloc: Global, members: &Table, key: &str) -> Result<Option<Wo
     let Some(value) = value_at(members, key) else {
         return Ok(None);
     };
-    Ok(Some(Word::read(alloc, value)?))
+    Ok(Some(Word::of_value(alloc, value)?))
 }
 
 // The number at a key that has to hold one.
@@ -64,13 +64,24 @@ fn number_of(members: &Table, key: &str) -> Result<i64, FormFault>
     }
 }
 
+// The number at `distinct`, which files of version 1 do not have: theirs count as 1.
+#[tactic(auto, unfolding(crate::specs::Form::distinct_at))]
+fn distinct_of(version: u32, members: &Table) -> Result<i64, FormFault>
+    ensures { Reads (λ n. n) result (distinct_at version (table_view members.now)) }
+{
+    if version == 1 {
+        return Ok(1);
+    }
+    number_of(members, "distinct")
+}
+
 // What each of the values says.
-fn each_of<T: Item>(alloc: Global, values: &[Value]) -> Result<Vec<T>, FormFault>
-    ensures { Reads (λ v. v.items) result (each T.said (items_view values.now)) }
+fn each_of<T: Item>(alloc: Global, version: u32, values: &[Value]) -> Result<Vec<T>, FormFault>
+    ensures { Reads (λ v. v.items) result (each (T.said version) (items_view values.now)) }
 {
     let mut list = Vec::new(alloc);
     for value in values {
-        let read = T::read(alloc, value)?;
+        let read = T::read(alloc, version, value)?;
         list.push(read)?;
     }
     Ok(list)
@@ -78,41 +89,52 @@ fn each_of<T: Item>(alloc: Global, values: &[Value]) -> Result<Vec<T>, FormFault
 
 // The list of an array.
 #[tactic(auto, unfolding(crate::specs::Tree::listed))]
-fn list_of<T: Item>(alloc: Global, value: &Value) -> Result<Vec<T>, FormFault>
-    ensures { Reads (λ v. v.items) result (listed T.said (view value.now)) }
+fn list_of<T: Item>(alloc: Global, version: u32, value: &Value) -> Result<Vec<T>, FormFault>
+    ensures { Reads (λ v. v.items) result (listed (T.said version) (view value.now)) }
 {
     let Some(array) = value.as_array() else {
         return Err(FormFault::MissingKey);
     };
-    each_of(alloc, array.as_slice())
+    each_of(alloc, version, array.as_slice())
 }
 
 // The list at a key that has to hold one.
 #[tactic(auto, unfolding(crate::specs::Tree::list_at))]
-fn list_at_key<T: Item>(alloc: Global, members: &Table, key: &str) -> Result<Vec<T>, FormFault>
-    ensures { Reads (λ v. v.items) result (list_at T.said key.now (table_view members.now)) }
+fn list_at_key<T: Item>(
+    alloc: Global,
+    version: u32,
+    members: &Table,
+    key: &str,
+) -> Result<Vec<T>, FormFault>
+    ensures { Reads (λ v. v.items) result (list_at (T.said version) key.now (table_view members.now)) }
 {
     let Some(value) = value_at(members, key) else {
         return Err(FormFault::MissingKey);
     };
-    list_of(alloc, value)
+    list_of(alloc, version, value)
 }
 
 // The list at a key that may be absent.
 #[tactic(auto, unfolding(crate::specs::Tree::list_or_empty))]
-fn list_or_empty_at<T: Item>(alloc: Global, members: &Table, key: &str) -> Result<Vec<T>, FormFault>
-    ensures { Reads (λ v. v.items) result (list_or_empty T.said key.now (table_view members.now)) }
+fn list_or_empty_at<T: Item>(
+    alloc: Global,
+    version: u32,
+    members: &Table,
+    key: &str,
+) -> Result<Vec<T>, FormFault>
+    ensures { Reads (λ v. v.items) result (list_or_empty (T.said version) key.now (table_view members.now)) }
 {
     let Some(value) = value_at(members, key) else {
         return Ok(Vec::new(alloc));
     };
-    list_of(alloc, value)
+    list_of(alloc, version, value)
 }
 
-impl Item for Word {
-    ghost said = { as_str };
-
-    fn read(alloc: Global, value: &Value) -> Result<Word, FormFault> {
+impl Word {
+    // The text of a value that has to be one.
+    fn of_value(alloc: Global, value: &Value) -> Result<Word, FormFault>
+        ensures { Reads (λ w. w) result (as_str (view value.now)) }
+    {
         let Some(text) = value.as_str() else {
             return Err(FormFault::MissingKey);
         };
@@ -122,25 +144,33 @@ impl Item for Word {
     }
 }
 
+impl Item for Word {
+    ghost said = { λ _ d. as_str d };
+
+    fn read(alloc: Global, _version: u32, value: &Value) -> Result<Word, FormFault> {
+        Word::of_value(alloc, value)
+    }
+}
+
 impl Item for ClassText {
-    ghost said = { class_of };
+    ghost said = { λ _ d. class_of d };
 
     #[tactic(auto, unfolding(crate::specs::Form::class_of))]
-    fn read(alloc: Global, value: &Value) -> Result<ClassText, FormFault> {
+    fn read(alloc: Global, version: u32, value: &Value) -> Result<ClassText, FormFault> {
         let Some(members) = value.as_table() else {
             return Err(FormFault::MissingKey);
         };
         let name = text_of(alloc, members, "name")?;
-        let datasets = list_at_key(alloc, members, "datasets")?;
+        let datasets = list_at_key(alloc, version, members, "datasets")?;
         Ok(ClassText { name, datasets })
     }
 }
 
 impl Item for ProcessText {
-    ghost said = { process_of };
+    ghost said = { λ _ d. process_of d };
 
     #[tactic(auto, unfolding(crate::specs::Form::process_of))]
-    fn read(alloc: Global, value: &Value) -> Result<ProcessText, FormFault> {
+    fn read(alloc: Global, _version: u32, value: &Value) -> Result<ProcessText, FormFault> {
         let Some(members) = value.as_table() else {
             return Err(FormFault::MissingKey);
         };
@@ -154,29 +184,40 @@ impl Item for RuleText {
     ghost said = { rule_of };
 
     #[tactic(auto, unfolding(crate::specs::Form::rule_of))]
-    fn read(alloc: Global, value: &Value) -> Result<RuleText, FormFault> {
+    fn read(alloc: Global, version: u32, value: &Value) -> Result<RuleText, FormFault> {
         let Some(members) = value.as_table() else {
             return Err(FormFault::MissingKey);
         };
         let op = text_of(alloc, members, "op")?;
         let least = number_of(members, "least")?;
-        Ok(RuleText { op, least })
+        let distinct = distinct_of(version, members)?;
+        Ok(RuleText {
+            op,
+            least,
+            distinct,
+        })
     }
 }
 
-// The record that the tree says.
+// The record that the tree of a file of this version says.
 #[tactic(auto, unfolding(crate::specs::Form::record_of))]
-pub(crate) fn record_of_tree(alloc: Global, members: &Table) -> Result<PolicyText, FormFault>
-    ensures reads { Reads (λ p. p) result (record_of (table_view members.now)) }
+pub(crate) fn record_of_tree(
+    alloc: Global,
+    version: u32,
+    members: &Table,
+) -> Result<PolicyText, FormFault>
+    ensures reads { Reads (λ p. p) result (record_of version (table_view members.now)) }
     ensures some_process { IfOk result (λ p. 1 ≤ length p.processes) }
+    ensures version { IfOk result (λ p. p.version ≡ version) }
 {
-    let classes = list_or_empty_at(alloc, members, "class")?;
-    let processes = list_at_key(alloc, members, "process")?;
+    let classes = list_or_empty_at(alloc, version, members, "class")?;
+    let processes = list_at_key(alloc, version, members, "process")?;
     if processes.is_empty() {
         return Err(FormFault::MissingKey);
     }
-    let rules = list_or_empty_at(alloc, members, "sanitise")?;
+    let rules = list_or_empty_at(alloc, version, members, "sanitise")?;
     Ok(PolicyText {
+        version,
         classes,
         processes,
         rules,

@@ -58,6 +58,7 @@ fn each_process_begins_with_its_home_alone(rt: HostRuntime) -> Result<(), Fail> 
         (process(2), [false, false, true, false]),
         (process(3), [false, false, false, false]),
         (process(63), [false, false, false, false]),
+        (process(255), [false, false, false, false]),
     ];
     for (holder, held) in rows {
         for number in 0..4 {
@@ -92,54 +93,70 @@ fn a_clash_names_the_lowest_rival(rt: HostRuntime) -> Result<(), Fail> {
     assert_eq!(rt; histories.clash(process(3), &of_alpha, beta), Some(alpha));
     assert_eq!(rt; histories.clash(process(0), &nothing, crude), None);
     assert_eq!(rt; histories.clash(process(0), &of_alpha, alpha), None);
-    assert_eq!(rt; histories.clash(process(2), &nothing, dataset(127)), None);
+    assert_eq!(rt; histories.clash(process(2), &nothing, dataset(1023)), None);
     Ok(())
 }
 
-// Classes of two datasets each, 2i and 2i + 1, and two processes with the last of them as homes.
-fn with_most_datasets(alloc: Global) -> Result<Histories, Fail> {
+// So many classes of two datasets each, 2i and 2i + 1, and two processes whose homes are these.
+fn with_pairs(alloc: Global, classes: u32, homes: [u32; 2]) -> Result<Histories, Fail> {
     let mut text = String::from_str(alloc, "version = 1\n")?;
-    for class in 0..64u32 {
-        let low = 2 * class;
+    for class in 0..classes {
+        let low = 2 * u64::from(class);
         let high = low + 1;
         let lines = format!(in alloc;
             "[[class]]\nname = \"k{class}\"\ndatasets = [\"d{low}\", \"d{high}\"]\n"
         )?;
         text.push_str(lines.as_str())?;
     }
-    text.push_str("[[process]]\nname = \"p0\"\nhome = \"d126\"\n")?;
-    text.push_str("[[process]]\nname = \"p1\"\nhome = \"d127\"\n")?;
+    for home in homes {
+        let lines = format!(in alloc; "[[process]]\nname = \"of{home}\"\nhome = \"d{home}\"\n")?;
+        text.push_str(lines.as_str())?;
+    }
     let policy = read_policy(alloc, text.as_bytes())?;
     Ok(Histories::opening(alloc, &policy)?)
 }
 
+// As many datasets as fill two words of a set, and as many as there can be.
 #[test]
 fn a_clash_is_found_up_to_the_last_dataset(rt: HostRuntime) -> Result<(), Fail> {
-    let histories = with_most_datasets(rt.alloc())?;
-    let nothing = LabelSet::empty();
-    // A process, the dataset that is asked for, its rival in the process's history.
-    let rows = [
-        (0, 127, Some(126)),
-        (1, 126, Some(127)),
-        (0, 126, None),
-        (0, 62, None),
-        (2, 127, None),
-    ];
-    for (holder, number, rival) in rows {
-        assert_eq!(rt;
-            histories
-                .clash(process(holder), &nothing, dataset(number))
-                .map(|d| d.number()),
-            rival
-        );
+    for (classes, low, high) in [(64, 126, 127), (512, 1022, 1023)] {
+        let histories = with_pairs(rt.alloc(), classes, [low, high])?;
+        let nothing = LabelSet::empty();
+        // A process, the dataset that is asked for, its rival in the process's history.
+        let rows = [
+            (process(0), dataset(high), Some(dataset(low))),
+            (process(1), dataset(low), Some(dataset(high))),
+            (process(0), dataset(low), None),
+            (process(0), dataset(62), None),
+            (process(2), dataset(high), None),
+        ];
+        for (holder, asked, rival) in rows {
+            assert_eq!(rt; histories.clash(holder, &nothing, asked), rival);
+        }
     }
+    Ok(())
+}
+
+#[test]
+fn the_rivals_of_a_dataset_are_added(rt: HostRuntime) -> Result<(), Fail> {
+    let histories = with_pairs(rt.alloc(), 512, [1022, 1023])?;
     // A dataset, and its rival, which is the only one.
-    for (number, rival) in [(62, 63), (63, 62), (64, 65), (126, 127), (127, 126)] {
+    let rows = [
+        (62, 63),
+        (63, 62),
+        (64, 65),
+        (126, 127),
+        (127, 126),
+        (128, 129),
+        (1022, 1023),
+        (1023, 1022),
+    ];
+    for (number, rival) in rows {
         let mut rivals = LabelSet::empty();
         histories.add_rivals(dataset(number), &mut rivals);
         assert_eq!(rt; rivals.first_other_than(None), Some(dataset(rival)));
         assert_eq!(rt; rivals.first_other_than(Some(dataset(rival))), None);
-        assert_eq!(rt; histories.has_some(process(0), &rivals), rival == 126);
+        assert_eq!(rt; histories.has_some(process(0), &rivals), rival == 1022);
         assert_eq!(rt;
             histories.clash(process(2), &rivals, dataset(number)),
             Some(dataset(rival))

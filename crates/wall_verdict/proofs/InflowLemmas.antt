@@ -1,55 +1,58 @@
 -- What ranks bring, rank by rank and from one receiver to the next.
-use Rattle.std.proofs.Common.{◌≡◌, ℕ, zero, suc, ◌+◌, ◌-◌, ◌<◌, ◌≤◌, Bool, true, false, ◌||◌, List, Option, Some, None, find, slice_get, cond, refl, sym, ap, ◌∙◌, subst, arith, add-one, inl, inr, ⊎_elim, eqb-true, eq-eqb}
-use Rattle.std.specs.Prelude.{IsTrue, is_some, unwrap_or, count_by}
+use Rattle.std.proofs.Common.{◌≡◌, ℕ, zero, suc, ◌+◌, ◌-◌, ◌<◌, ◌≤◌, Bool, true, false, ◌||◌, ◌&&◌, List, Option, Some, None, find, slice_get, cond, refl, sym, ap, ◌∙◌, subst, arith, add-one, inl, inr, ⊎_elim, eqb-true, eq-eqb}
+use Rattle.std.specs.Prelude.{is_some, unwrap_or, count_by}
 use Rattle.std.specs.List.{list_any}
+use Rattle.std.specs.Option.{option_and_then}
 use Rattle.std.specs.Ordering.{nat_cmp}
-use Rattle.std.specs.FinSet.{FinSet, empty, insert, contains, contains-empty}
+use Rattle.std.specs.FinSet.{empty, insert, contains, contains-empty}
 use Rattle.std.proofs.lemmas.Bool.{false≢true, cases_Bool, or_cases, or_left, or_right}
 use Rattle.wall_labels.specs.Rows.{Meet}
-use Rattle.std.specs.Option.{option_and_then}
 use Rattle.wall_policy.specs.Policy.{ChineseWall, least_of}
 use Rattle.wall_policy.specs.Rivals.{are_rivals}
 use Rattle.wall_policy.proofs.WallPolicyLemmas.{are_rivals-Decides}
 use Rattle.wall_rules.specs.Histories.{History, HoldsOneOf}
-use Rattle.wall_rules.specs.Rules.{IsHeldRival, first_rival}
+use Rattle.wall_rules.specs.Rules.{IsHeldRival}
 use Rattle.wall_rules.proofs.WallRulesLemmas.{none-first_rival}
 use Rattle.mpi_cart.specs.Grids.{below}
 use Rattle.coll_routes.specs.declared.roll.Roll.{Roll}
-use Rattle.coll_routes.specs.Signatures.{reduction}
-use Rattle.coll_routes.specs.Rolls.{ranks}
+use Rattle.coll_routes.specs.Rolls.{ranks, places}
+use Rattle.coll_routes.specs.Signatures.{is_neighbourly}
 use Rattle.coll_routes.specs.Fit.{IsFit}
 use Rattle.coll_routes.proofs.CollRoutesLemmas.{any_at, any_found}
 use Rattle.wall_verdict.specs.declared.inflow.Inflow.{Inflow}
-use Rattle.wall_verdict.specs.Charges.{contribution, contributed_below, contributors, is_at_most, is_that, sanitised}
+use Rattle.wall_verdict.specs.Charges.{contribution, contributed_below, contributors, different_datasets, least_for, distinct_for, is_at_most, is_another, is_that, sanitised}
 use Rattle.wall_verdict.specs.Verdicts.{member, meets, meets_rival, offends}
-use Rattle.wall_verdict.specs.Inflows.{start_of, end_of, is_alike, IsInflow, IsInflowOf, IsWhole, Serves}
+use Rattle.wall_verdict.specs.Inflows.{start_of, end_of, is_alike, is_brought, IsInflow, IsInflowOf, IsTakenFromSlots, IsWhole, Serves}
 use Rattle.wall_verdict.proofs.BelowLemmas.{any_more, count_more, count_within}
-use Rattle.wall_verdict.proofs.ChargeLemmas.{AreBrought, brought_more, brought_same, contains_inserted}
+use Rattle.wall_verdict.proofs.ChargeLemmas.{brought_more, brought_same, contains_inserted, different_more, different_same, different_within}
 use Rattle.wall_verdict.proofs.MeetLemmas.{meets_none, sanitised_spares, unsanitised_meets}
 use Rattle.wall_verdict.proofs.PairLemmas.{none_below}
-use Rattle.wall_verdict.proofs.SpanLemmas.{nothing_outside, comes_alike, end_within}
+use Rattle.wall_verdict.proofs.SlotLemmas.{slots_bring_all, near_reduces_not}
+use Rattle.wall_verdict.proofs.SpanLemmas.{nothing_outside, alike_is_plain, comes_alike, end_within}
 
 ---- One rank more.
 
 module _ (classes : List ℕ) (f : ℕ → Option ℕ) (n : ℕ) (v w : Inflow) (before : IsInflow classes f n v) where
-  pub inflow_same : f n ≡ None → w.number ≡ v.number → w.datasets ≡ v.datasets → w.rivals ≡ v.rivals → IsInflow classes f (n + 1) w
-  inflow_same none number datasets rivals = record {
+  pub inflow_same : f n ≡ None → w.number ≡ v.number → w.different ≡ v.different → w.datasets ≡ v.datasets → w.rivals ≡ v.rivals → IsInflow classes f (n + 1) w
+  inflow_same none number different datasets rivals = record {
     number =
         number ∙ before.number
         ∙ (let e : count_by (λ i. is_some (f i)) (below n) ≡ count_by (λ i. is_some (f i)) (below n) + 0 = omega arith in e)
         ∙ ap (λ o. count_by (λ i. is_some (f i)) (below n) + cond (is_some o) 1 0) (sym none)
         ∙ sym (count_more (λ i. is_some (f i)) n);
+    different = different ∙ different_same f n v.different none before.different;
     datasets = λ d. ap (λ s. contains s d) datasets ∙ brought_same f n v.datasets none before.datasets d;
     rivals = λ d e here are. ap (λ s. contains s e) rivals ∙ before.rivals d e (sym (ap (λ s. contains s d) datasets) ∙ here) are;
   }
 
-  pub inflow_more : (own : ℕ) → f n ≡ Some own → w.number ≡ v.number + 1 → w.datasets ≡ insert v.datasets own
+  pub inflow_more : (own : ℕ) → f n ≡ Some own → w.number ≡ v.number + 1 → w.different ≡ v.different + cond (contains v.datasets own) 0 1 → w.datasets ≡ insert v.datasets own
       → ((e : ℕ) → contains w.rivals e ≡ (contains v.rivals e || are_rivals classes own e)) → IsInflow classes f (n + 1) w
-  inflow_more own is number datasets rivals = record {
+  inflow_more own is number different datasets rivals = record {
     number =
         number ∙ ap (λ (k : ℕ). k + 1) before.number
         ∙ ap (λ o. count_by (λ i. is_some (f i)) (below n) + cond (is_some o) 1 0) (sym is)
         ∙ sym (count_more (λ i. is_some (f i)) n);
+    different = different ∙ different_more f n own v.different v.datasets is before.datasets before.different;
     datasets = λ d. ap (λ s. contains s d) datasets ∙ brought_more f n own v.datasets is before.datasets d;
     rivals = λ d e here are.
         rivals e ∙ ⊎_elim
@@ -58,9 +61,10 @@ module _ (classes : List ℕ) (f : ℕ → Option ℕ) (n : ℕ) (v w : Inflow) 
         (or_cases (contains v.datasets d) _ (sym (contains_inserted v.datasets own d) ∙ sym (ap (λ s. contains s d) datasets) ∙ here));
   }
 
-inflow_none : (classes : List ℕ) (f : ℕ → Option ℕ) (v : Inflow) → v.number ≡ 0 → v.datasets ≡ empty → IsInflow classes f 0 v
-inflow_none classes f v number datasets = record {
+pub inflow_none : (classes : List ℕ) (f : ℕ → Option ℕ) (v : Inflow) → v.number ≡ 0 → v.different ≡ 0 → v.datasets ≡ empty → IsInflow classes f 0 v
+inflow_none classes f v number different datasets = record {
   number = number;
+  different = different;
   datasets = λ d. ap (λ s. contains s d) datasets ∙ contains-empty nat_cmp d;
   rivals = λ d e here are. absurd (false≢true (sym (contains-empty nat_cmp d) ∙ sym (ap (λ s. contains s d) datasets) ∙ here));
 }
@@ -72,7 +76,7 @@ inflow_past classes f n zero v none is = let e : n ≡ n + zero = omega arith in
 inflow_past classes f n (suc m) v none is =
     let e : (n + m) + 1 ≡ n + suc m = omega arith in
     subst (λ k. IsInflow classes f k v) e (
-    inflow_same classes f (n + m) v v (inflow_past classes f n m v (λ i le lt. none i le (omega arith)) is) (none (n + m) (omega arith) (omega arith)) refl refl refl
+    inflow_same classes f (n + m) v v (inflow_past classes f n m v (λ i le lt. none i le (omega arith)) is) (none (n + m) (omega arith) (omega arith)) refl refl refl refl
     )
 
 inflow_to : (classes : List ℕ) (f : ℕ → Option ℕ) (n end : ℕ) (v : Inflow) → n ≤ end → ((i : ℕ) → n ≤ i → i < end → f i ≡ None)
@@ -87,7 +91,7 @@ any_alike p q (suc n) same = subst (λ m. list_any p (below m) ≡ list_any q (b
     any_more p n ∙ (λ k. any_alike p q n (λ i lt. same i (omega arith)) k || same n (omega arith) k) ∙ sym (any_more q n)
     )
 
-count_alike : (p q : ℕ → Bool) (n : ℕ) → ((i : ℕ) → i < n → p i ≡ q i) → count_by p (below n) ≡ count_by q (below n)
+pub count_alike : (p q : ℕ → Bool) (n : ℕ) → ((i : ℕ) → i < n → p i ≡ q i) → count_by p (below n) ≡ count_by q (below n)
 count_alike p q zero same = refl
 count_alike p q (suc n) same = subst (λ m. count_by p (below m) ≡ count_by q (below m)) (add-one n) (
     count_more p n ∙ (λ k. count_alike p q n (λ i lt. same i (omega arith)) k + cond (same n (omega arith) k) 1 0) ∙ sym (count_more q n)
@@ -98,6 +102,9 @@ inflow_alike : (classes : List ℕ) (f g : ℕ → Option ℕ) (n : ℕ) (v : In
     → IsInflow classes f n v → IsInflow classes g n v
 inflow_alike classes f g n v same is = record {
   number = is.number ∙ count_alike (λ i. is_some (f i)) (λ i. is_some (g i)) n (λ i lt. ap is_some (same i lt));
+  different = is.different ∙ count_alike (λ i. is_another (λ d. is_brought f i d) (f i)) (λ i. is_another (λ d. is_brought g i d) (g i)) n (
+      λ i lt k. is_another (λ d. any_alike (λ m. is_that (f m) d) (λ m. is_that (g m) d) i (λ m below. ap (λ o. is_that o d) (same m (omega arith))) k) (same i lt k)
+      );
   datasets = λ d. is.datasets d ∙ any_alike (λ i. is_that (f i) d) (λ i. is_that (g i) d) n (λ i lt. ap (λ o. is_that o d) (same i lt));
   rivals = is.rivals;
 }
@@ -106,20 +113,21 @@ inflow_alike classes f g n v same is = record {
 
 -- before the first rank that reaches a receiver
 pub inflow_starts : (classes : List ℕ) (roll : Roll) (j : ℕ) (v : Inflow) → start_of roll.sig roll.shape.size ≤ roll.shape.size
-    → v.ranks ≡ start_of roll.sig roll.shape.size → v.number ≡ 0 → v.datasets ≡ empty → IsInflowOf classes roll j v
-inflow_starts classes roll j v within at number datasets =
+    → v.ranks ≡ start_of roll.sig roll.shape.size → v.number ≡ 0 → v.different ≡ 0 → v.datasets ≡ empty → IsInflowOf classes roll j v
+inflow_starts classes roll j v within at number different datasets =
     inflow_to classes (λ i. contribution roll i j) 0 v.ranks v (omega arith) (
     λ i low lt. nothing_outside roll i j (omega arith) (inl (omega arith))
-    ) (inflow_none classes (λ i. contribution roll i j) v number datasets)
+    ) (inflow_none classes (λ i. contribution roll i j) v number different datasets)
 
 -- after the last rank that reaches it
 pub inflow_whole : (classes : List ℕ) (roll : Roll) (j : ℕ) (v : Inflow) → j < roll.shape.size
     → v.ranks ≡ end_of roll.sig roll.shape.size j → IsInflowOf classes roll j v → IsWhole classes roll j v
 inflow_whole classes roll j v h at is =
     let le : v.ranks ≤ roll.shape.size = omega (arith, end_within roll.sig roll.shape.size j h) in
-    inflow_to classes (λ i. contribution roll i j) v.ranks roll.shape.size v le (
+    let all = inflow_to classes (λ i. contribution roll i j) v.ranks roll.shape.size v le (
     λ i low lt. nothing_outside roll i j lt (inr (omega arith))
-    ) is
+    ) is in
+    record { number = λ plain. all.number; different = λ plain. all.different; datasets = all.datasets; rivals = all.rivals }
 
 pub inflow_serves : (classes : List ℕ) (roll : Roll) (j : ℕ) (v : Inflow) → IsFit roll → j < roll.shape.size
     → v.ranks ≡ end_of roll.sig roll.shape.size j → IsInflowOf classes roll j v → Serves classes roll (j + 1) v
@@ -129,9 +137,22 @@ inflow_serves classes roll j v fit h at is alike k next hk reach =
     λ i lt. comes_alike roll i j k fit alike (omega arith) h hk (omega arith) (omega arith)
     ) is
 
-pub nothing_serves : (classes : List ℕ) (roll : Roll) (v : Inflow) → v.ranks ≡ 0 → v.number ≡ 0 → v.datasets ≡ empty → Serves classes roll 0 v
-nothing_serves classes roll v at number datasets alike k le lt reach =
-    subst (λ n. IsInflow classes (λ i. contribution roll i k) n v) (sym at) (inflow_none classes (λ i. contribution roll i k) v number datasets)
+-- after the last slot of the receiver, where the kind goes between neighbours
+pub slots_whole : (classes : List ℕ) (roll : Roll) (j : ℕ) (v : Inflow) → IsFit roll → is_neighbourly roll.sig ≡ true
+    → IsTakenFromSlots classes roll j (places roll j) v → IsWhole classes roll j v
+slots_whole classes roll j v fit near is = record {
+  number = λ plain. absurd (false≢true (sym plain ∙ near));
+  different = λ plain. absurd (false≢true (sym plain ∙ near));
+  datasets = λ d. is.datasets d ∙ slots_bring_all roll j d fit near;
+  rivals = is.rivals;
+}
+
+pub slots_serve : (classes : List ℕ) (roll : Roll) (j : ℕ) (v : Inflow) → is_neighbourly roll.sig ≡ true → Serves classes roll j v
+slots_serve classes roll j v near alike = absurd (false≢true (sym (alike_is_plain roll.sig alike) ∙ near))
+
+pub nothing_serves : (classes : List ℕ) (roll : Roll) (v : Inflow) → v.ranks ≡ 0 → v.number ≡ 0 → v.different ≡ 0 → v.datasets ≡ empty → Serves classes roll 0 v
+nothing_serves classes roll v at number different datasets alike k le lt reach =
+    subst (λ n. IsInflow classes (λ i. contribution roll i k) n v) (sym at) (inflow_none classes (λ i. contribution roll i k) v number different datasets)
 
 -- the next receiver gets it too
 pub inflow_kept : (classes : List ℕ) (roll : Roll) (j : ℕ) (v : Inflow) → Serves classes roll j v → is_alike roll.sig ≡ true → j < roll.shape.size
@@ -141,6 +162,9 @@ inflow_kept classes roll j v serves alike h reach = serves alike j (omega arith)
 -- so many of the ranks below n bring something
 pub few_bring : (classes : List ℕ) (f : ℕ → Option ℕ) (n : ℕ) (v : Inflow) → IsInflow classes f n v → v.number ≤ n
 few_bring classes f n v is = omega (arith, is.number, count_within (λ i. is_some (f i)) n)
+
+pub few_differ : (classes : List ℕ) (f : ℕ → Option ℕ) (n : ℕ) (v : Inflow) → IsInflow classes f n v → v.different ≤ n
+few_differ classes f n v is = omega (arith, is.different, different_within f n)
 
 ---- A receiver that nothing of it meets.
 
@@ -184,8 +208,15 @@ clear_offends wall has roll j none = ⊎_elim
     (λ f. sym none ∙ unsanitised_meets wall has roll j f)
     (cases_Bool (sanitised wall roll j))
 
--- the test of the number of contributors
-pub enough_is : (wall : ChineseWall) (roll : Roll) (j n : ℕ) → n ≡ contributors roll j
-    → is_at_most (option_and_then (least_of wall) (reduction roll.sig)) n ≡ sanitised wall roll j
+-- The test of both numbers. Between neighbours it fails whatever they are.
+pub enough_is : (wall : ChineseWall) (roll : Roll) (j n m : ℕ)
+    → (is_neighbourly roll.sig ≡ false → n ≡ contributors roll j) → (is_neighbourly roll.sig ≡ false → m ≡ different_datasets roll j)
+    → (is_at_most (least_for wall roll) n && is_at_most (distinct_for wall roll) m) ≡ sanitised wall roll j
 unfolding sanitised
-enough_is wall roll j n is = ap (λ k. is_at_most (option_and_then (least_of wall) (reduction roll.sig)) k) is
+enough_is wall roll j n m number different = ⊎_elim
+    (λ near.
+    let none : least_for wall roll ≡ None = ap (λ o. option_and_then (least_of wall) o) (near_reduces_not roll.sig near) in
+    ap (λ o. is_at_most o n && is_at_most (distinct_for wall roll) m) none
+    ∙ sym (ap (λ o. is_at_most o (contributors roll j) && is_at_most (distinct_for wall roll) (different_datasets roll j)) none))
+    (λ plain k. is_at_most (least_for wall roll) (number plain k) && is_at_most (distinct_for wall roll) (different plain k))
+    (cases_Bool (is_neighbourly roll.sig))

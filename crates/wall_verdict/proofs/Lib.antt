@@ -1,11 +1,13 @@
 pub mod BelowLemmas
 pub mod ChargeLemmas
+pub mod DifferentLemmas
 pub mod GrantLemmas
 pub mod InflowLemmas
 pub mod LawLemmas
 pub mod MeaningLemmas
 pub mod MeetLemmas
 pub mod PairLemmas
+pub mod SlotLemmas
 pub mod SpanLemmas
 pub mod StarLemmas
 pub mod WallVerdictLemmas

@@ -1,5 +1,5 @@
 -- Which ranks reach a receiver, and which reach two receivers alike.
-use Rattle.std.proofs.Common.{◌≡◌, ◌≢◌, ℕ, ◌+◌, ◌*◌, ◌<◌, ◌≤◌, Bool, true, false, not, ◌&&◌, cond, List, Option, Some, None, get_or, take, sum, replicate, refl, sym, ap, ◌∙◌, subst, arith, inl, inr, ◌⊎◌, ⊎_elim, nat_eq, nat_lt, nat_le, ne_eqb, eq-eqb, eqb-true, ltb-true, lt-ltb, IsSome}
+use Rattle.std.proofs.Common.{◌≡◌, ℕ, ◌+◌, ◌*◌, ◌<◌, ◌≤◌, Bool, true, false, ◌&&◌, cond, List, Option, Some, None, get_or, take, sum, replicate, refl, sym, ap, ◌∙◌, subst, arith, inl, inr, ◌⊎◌, ⊎_elim, nat_eq, nat_lt, nat_le, ne_eqb, eq-eqb, eqb-true, ltb-true, lt-ltb, IsSome}
 use Rattle.std.specs.List.{list_any}
 use Rattle.std.proofs.lemmas.Bool.{cases_Bool, false≢true, ltb-false, le-leb, leb-true, and_from}
 use Rattle.mpi_cart.specs.Grids.{below}
@@ -15,7 +15,7 @@ use Rattle.coll_routes.specs.Signatures.{is_neighbourly}
 use Rattle.coll_routes.specs.Rolls.{goes_by, in_block, counts_in, own_counts_in, stated_by, given, goes, places, sends, routed, label_of}
 use Rattle.coll_routes.specs.Lanes.{sends_by, place_by}
 use Rattle.coll_routes.specs.declared.statement.Own.TheVariants.{Plain, Counts, Split as SplitBy}
-use Rattle.coll_routes.specs.Faults.{shape_fault, is_met, asked, gives, stated_type}
+use Rattle.coll_routes.specs.Faults.{is_met, asked, gives, stated_type}
 use Rattle.coll_routes.specs.Fit.{IsFit}
 use Rattle.coll_routes.proofs.CollRoutesLemmas.{any_at, any_none, empty_block, size_more, size_inside, sum_front, even_whole, count_is_good, met, is_there, no_fault, sends_is, by_place}
 use Rattle.wall_verdict.specs.Charges.{contribution, dataset_in}
@@ -146,7 +146,7 @@ module _ (shape : Shape) (i given : ℕ) where
   to_parts op ty sizes (Counts counts) h = absurd (false≢true h)
   to_parts op ty sizes (SplitBy colour key) h = absurd (false≢true h)
 
-alike_is_plain : (sig : Signature) → is_alike sig ≡ true → is_neighbourly sig ≡ false
+pub alike_is_plain : (sig : Signature) → is_alike sig ≡ true → is_neighbourly sig ≡ false
 unfolding is_alike is_neighbourly
 alike_is_plain Barrier e = refl
 alike_is_plain (Bcast r ty n) e = refl

@@ -1,18 +1,18 @@
 -- What comes to the receivers of an instance, one receiver after the other: which ranks can reach
 -- a receiver, and for which kinds what has come to one receiver comes to the next too.
 use Rattle.std.specs.Prelude.{◌≡◌, ℕ, ◌+◌, ◌<◌, ◌≤◌, ◌==◌, nat_lt, Bool, true, false, List, slice_index_or, Option, count_by, is_some, if◌then◌else◌}
-use Rattle.std.specs.List.{list_any}
 use Rattle.std.specs.Option.{option_and_then}
+use Rattle.std.specs.List.{list_any}
 use Rattle.std.specs.FinSet.{contains}
-use Rattle.wall_policy.specs.Policy.{ChineseWall, least_of}
 use Rattle.wall_policy.specs.Rivals.{are_rivals}
 use Rattle.mpi_cart.specs.Grids.{below}
 use Rattle.coll_routes.specs.declared.signature.Signature.{Signature}
-use Rattle.coll_routes.specs.declared.signature.Signature.TheVariants.{Barrier, Bcast, Gather, Gatherv, Scatter, Scatterv, Allgather, Allgatherv, Alltoall, Alltoallv, Reduce, Allreduce, ReduceScatter, ReduceScatterBlock, Scan, Exscan, NeighborAllgather, NeighborAllgatherv, NeighborAlltoall, NeighborAlltoallv, Dup, Split, Create, CartCreate, CartSub}
+use Rattle.coll_routes.specs.declared.signature.Signature.TheVariants.{Bcast, Gather, Gatherv, Scatter, Scatterv, Allgather, Allgatherv, Alltoall, Alltoallv, Reduce, Allreduce, ReduceScatter, ReduceScatterBlock, Scan, Exscan, NeighborAllgather, NeighborAllgatherv, NeighborAlltoall, NeighborAlltoallv}
 use Rattle.coll_routes.specs.declared.roll.Roll.{Roll}
-use Rattle.coll_routes.specs.Signatures.{reduction}
 use Rattle.wall_verdict.specs.declared.inflow.Inflow.{Inflow}
-use Rattle.wall_verdict.specs.Charges.{contribution, is_that}
+use Rattle.coll_routes.specs.Rolls.{neighbour_in}
+use Rattle.coll_routes.specs.Signatures.{is_neighbourly}
+use Rattle.wall_verdict.specs.Charges.{contribution, contributors, contributed, different_datasets, is_that, is_another}
 
 abbrev pub from_root : (root size : ℕ) → ℕ
 from_root root size = if nat_lt root size then root else 0
@@ -65,11 +65,16 @@ is_alike (Scan op ty n) = true
 is_alike (Exscan op ty n) = true
 is_alike _ = false
 
--- The ranks below n have brought this, where rank i brings f i: their number, their datasets, and
--- among others all rivals of these.
+-- some rank below n brings d, where rank i brings f i
+abbrev pub is_brought : (ℕ → Option ℕ) → (n d : ℕ) → Bool
+is_brought f n d = list_any (λ i. is_that (f i) d) (below n)
+
+-- The ranks below n have brought this, where rank i brings f i: their number, how many different
+-- datasets, which ones, and among others all rivals of these.
 pub record IsInflow (classes : List ℕ) (f : ℕ → Option ℕ) (n : ℕ) (v : Inflow) : Type 0 where
   pub number : v.number ≡ count_by (λ i. is_some (f i)) (below n)
-  pub datasets : (d : ℕ) → contains v.datasets d ≡ list_any (λ i. is_that (f i) d) (below n)
+  pub different : v.different ≡ count_by (λ i. is_another (λ d. is_brought f i d) (f i)) (below n)
+  pub datasets : (d : ℕ) → contains v.datasets d ≡ is_brought f n d
   pub rivals : (d e : ℕ) → contains v.datasets d ≡ true → are_rivals classes d e ≡ true
       → contains v.rivals e ≡ true
 
@@ -81,16 +86,25 @@ IsTaken classes roll j n v = IsInflow classes (λ i. contribution roll i j) n v
 abbrev pub IsInflowOf : List ℕ → Roll → (j : ℕ) → Inflow → Type 0
 IsInflowOf classes roll j v = IsInflow classes (λ i. contribution roll i j) v.ranks v
 
--- all that comes to receiver j
-abbrev pub IsWhole : List ℕ → Roll → (j : ℕ) → Inflow → Type 0
-IsWhole classes roll j v = IsInflow classes (λ i. contribution roll i j) roll.shape.size v
+-- what the neighbour of rank j in slot t contributes to j
+abbrev pub from_slot : Roll → (t j : ℕ) → Option ℕ
+from_slot roll t j = option_and_then (λ i. contribution roll i j) (neighbour_in roll.shape.grid j t)
+
+-- so far for receiver j, where the kind goes between neighbours: of its neighbours in the slots below n
+abbrev pub IsTakenFromSlots : List ℕ → Roll → (j n : ℕ) → Inflow → Type 0
+IsTakenFromSlots classes roll j n v = IsInflow classes (λ t. from_slot roll t j) n v
+
+-- All that comes to receiver j. Between neighbours both numbers may be others, since one rank can be
+-- its neighbour in two slots; no such kind reduces, and then they don't matter.
+pub record IsWhole (classes : List ℕ) (roll : Roll) (j : ℕ) (v : Inflow) : Type 0 where
+  pub number : is_neighbourly roll.sig ≡ false → v.number ≡ contributors roll j
+  pub different : is_neighbourly roll.sig ≡ false → v.different ≡ different_datasets roll j
+  pub datasets : (d : ℕ) → contains v.datasets d ≡ contributed roll j d
+  pub rivals : (d e : ℕ) → contains v.datasets d ≡ true → are_rivals classes d e ≡ true
+      → contains v.rivals e ≡ true
 
 -- it serves for each receiver from j on that its ranks can reach
 abbrev pub Serves : List ℕ → Roll → (j : ℕ) → Inflow → Type 0
 Serves classes roll j v =
     is_alike roll.sig ≡ true → (k : ℕ) → j ≤ k → k < roll.shape.size
     → v.ranks ≤ end_of roll.sig roll.shape.size k → IsInflowOf classes roll k v
-
--- the least number that the policy states for the operation of the kind
-abbrev pub least_for : ChineseWall → Roll → Option ℕ
-least_for wall roll = option_and_then (least_of wall) (reduction roll.sig)

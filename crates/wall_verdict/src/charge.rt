@@ -1,9 +1,9 @@
 //! What is charged to a rank for what it gets.
-ghost use Rattle.std.specs.Prelude.{◌≡◌, ℕ, ◌<◌};
+ghost use Rattle.std.specs.Prelude.{◌≡◌, ℕ, ◌<◌, ◌&&◌, if◌then◌else◌};
 ghost use Rattle.std.specs.FinSet as set;
 ghost use Rattle.coll_routes.specs.Fit.{IsFit};
 ghost use Rattle.coll_routes.specs.Rolls.{label_of};
-ghost use Rattle.wall_verdict.specs.Charges.{dataset_in, contribution, contributors, contributed, sanitised, charged};
+ghost use Rattle.wall_verdict.specs.Charges.{dataset_in, contribution, contributors, different_datasets, contributed, least_for, distinct_for, is_at_most, sanitised, charged};
 
 use coll_routes::{Roll, routed};
 use wall_labels::{DatasetId, Label, LabelSet};
@@ -59,21 +59,66 @@ fn contributors(roll: &Roll, to: u32) -> u32
     number
 }
 
-/// Whether what the rank gets is sanitised: the kind reduces, and the policy states for its operation a least number of contributors,
-/// which those of the rank reach.
+/// Adds the dataset to the set. How many more it has then: none if the dataset was there.
+pub fn add_another(seen: &mut LabelSet, dataset: DatasetId) -> u32
+    ensures more { result ≡ (if set.contains seen.old dataset then 0 else 1) }
+    ensures added { seen.new ≡ set.insert seen.old dataset }
+{
+    let more = if seen.contains(dataset) { 0 } else { 1 };
+    seen.insert(dataset);
+    more
+}
+
+/// How many different datasets the ranks contribute to this one.
+fn different_datasets(roll: &Roll, to: u32) -> u32
+    requires fit { IsFit roll.now }
+    requires to { to < roll.now.shape.size }
+    ensures { result ≡ different_datasets roll.now to }
+{
+    let mut number = 0;
+    let mut seen = LabelSet::empty();
+    for from in 0..roll.shape.size {
+        match contribution(roll, from, to) {
+            Some(dataset) => number += add_another(&mut seen, dataset),
+            None => {}
+        }
+    }
+    number
+}
+
+fn reaches(least: Option<u32>, number: u32) -> bool
+    ensures { result ≡ is_at_most least number }
+{
+    match least {
+        Some(least) => least <= number,
+        None => false,
+    }
+}
+
+/// Whether the policy takes what so many ranks contribute to one, of so many different datasets, for sanitised.
+pub fn is_enough(policy: &Policy, roll: &Roll, number: u32, different: u32) -> bool
+    ensures { result ≡ (is_at_most (least_for policy.now roll.now) number && is_at_most (distinct_for policy.now roll.now) different) }
+{
+    let Some(op) = roll.sig.op() else {
+        return false;
+    };
+    reaches(policy.least(op), number) && reaches(policy.distinct(op), different)
+}
+
+/// Whether what the rank gets is sanitised: the kind reduces, and the policy states for its operation two least numbers, which are both
+/// reached: the contributors of the rank the one, and the different datasets among them the other.
 #[tactic(auto, unfolding(crate::specs::Charges::sanitised))]
 pub fn sanitised(policy: &Policy, roll: &Roll, rank: u32) -> bool
     requires fit { IsFit roll.now }
     requires rank { rank < roll.now.shape.size }
     ensures { result ≡ sanitised policy.now roll.now rank }
 {
-    let Some(op) = roll.sig.op() else {
-        return false;
-    };
-    match policy.least(op) {
-        Some(least) => least <= contributors(roll, rank),
-        None => false,
-    }
+    is_enough(
+        policy,
+        roll,
+        contributors(roll, rank),
+        different_datasets(roll, rank),
+    )
 }
 
 /// The datasets that the ranks contribute to this one.

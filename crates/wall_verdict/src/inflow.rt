@@ -1,23 +1,27 @@
 //! What comes to the receivers of an instance, kept from one to the next where it is the same.
-ghost use Rattle.std.specs.Prelude.{◌≡◌, ℕ, ◌+◌, ◌<◌, ◌≤◌, ◌^◌, ◌-◌, slice_index_or};
+ghost use Rattle.std.specs.Prelude.{◌≡◌, ℕ, ◌+◌, ◌<◌, ◌≤◌, ◌^◌, ◌-◌, slice_index_or, if◌then◌else◌, IfSome, true, false};
 ghost use Rattle.std.specs.FinSet as sets;
-ghost use Rattle.coll_routes.specs.Fit.{IsFit};
+ghost use Rattle.coll_routes.specs.Fit.{IsFit, IsSized};
+ghost use Rattle.coll_routes.specs.Rolls.{places as places_of, neighbour_in};
+ghost use Rattle.coll_routes.specs.Signatures.{is_neighbourly};
 ghost use Rattle.wall_rules.specs.Histories.{AddsRivals};
-ghost use Rattle.wall_verdict.specs.Charges.{contributors, contributed, charged, is_at_most};
-ghost use Rattle.wall_verdict.specs.Inflows.{start_of, end_of, is_alike, from_root, past_root, all_at, least_for, IsTaken, IsInflowOf, IsWhole, Serves};
+ghost use Rattle.wall_verdict.specs.Charges.{contributors, different_datasets, contributed, charged};
+ghost use Rattle.wall_verdict.specs.Inflows.{start_of, end_of, is_alike, from_root, past_root, all_at, from_slot, IsTaken, IsTakenFromSlots, IsInflowOf, IsWhole, Serves};
 
-use super::charge::contribution;
-use coll_routes::{Roll, Signature};
+use super::charge::{add_another, contribution, is_enough};
+use coll_routes::{Roll, Shape, Signature, places};
 use wall_labels::{DatasetId, LabelSet};
 use wall_policy::Policy;
 use wall_rules::Histories;
 
-/// What the ranks below one contribute to a receiver.
+/// What the ranks below one contribute to a receiver. Between neighbours, what its neighbours do.
 #[derive(Drop)]
 pub struct Inflow {
     pub ranks: u32,
     /// How many of them contribute.
     pub number: u32,
+    /// How many different datasets they contribute.
+    pub different: u32,
     /// What they contribute, and all rivals of these.
     pub datasets: LabelSet,
     pub rivals: LabelSet,
@@ -28,17 +32,20 @@ impl Inflow {
     pub fn before(ranks: u32) -> Inflow
         ensures ranks { result.ranks ≡ ranks }
         ensures number { result.number ≡ 0 }
+        ensures different { result.different ≡ 0 }
         ensures datasets { result.datasets ≡ sets.empty }
     {
         Inflow {
             ranks,
             number: 0,
+            different: 0,
             datasets: LabelSet::empty(),
             rivals: LabelSet::empty(),
         }
     }
 
-    /// Takes what comes to the next receiver, keeping what comes to it as to the one before.
+    /// Takes what comes to the next receiver, keeping what comes to it as to the one before. Between
+    /// neighbours asks its neighbours alone, and keeps nothing.
     #[tactic(auto, using(crate::proofs::SpanLemmas::end_within))]
     pub fn turn_to(&mut self, histories: &Histories, roll: &Roll, to: u32)
         requires fit { IsFit roll.now }
@@ -47,6 +54,10 @@ impl Inflow {
         ensures whole { IsWhole histories.now.classes roll.now to self.new }
         ensures serves { Serves histories.now.classes roll.now (to + 1) self.new }
     {
+        if roll.sig.is_neighbourly() {
+            self.take_slots(histories, roll, to);
+            return;
+        }
         let end = end_of(&roll.sig, roll.shape.size, to);
         self.drop_others(histories, roll, to, end);
         self.grow(histories, roll, to, end);
@@ -98,42 +109,82 @@ impl Inflow {
         }
     }
 
+    // Takes what comes to the receiver from its neighbours, and nothing else.
+    fn take_slots(&mut self, histories: &Histories, roll: &Roll, to: u32)
+        requires fit { IsFit roll.now }
+        requires to { to < roll.now.shape.size }
+        ensures { IsTakenFromSlots histories.now.classes roll.now to (places_of roll.now to) self.new }
+    {
+        *self = Inflow::before(0);
+        for slot in 0..places(roll, to) {
+            self.take_slot(histories, roll, slot, to);
+        }
+    }
+
+    // Takes what comes to the receiver from its neighbour in the next slot.
+    fn take_slot(&mut self, histories: &Histories, roll: &Roll, slot: u32, to: u32)
+        requires fit { IsFit roll.now }
+        requires to { to < roll.now.shape.size }
+        requires few { slot < 2 ^ 32 - 1 }
+        requires inflow { IsTakenFromSlots histories.now.classes roll.now to slot self.old }
+        ensures { IsTakenFromSlots histories.now.classes roll.now to (slot + 1) self.new }
+    {
+        match from_slot(roll, slot, to) {
+            Some(dataset) => self.add(histories, dataset),
+            None => {}
+        }
+    }
+
     fn add(&mut self, histories: &Histories, dataset: DatasetId)
-        requires { self.old.number < 2 ^ 32 - 1 }
+        requires number { self.old.number < 2 ^ 32 - 1 }
+        requires different { self.old.different < 2 ^ 32 - 1 }
         ensures number { self.new.number ≡ self.old.number + 1 }
+        ensures different { self.new.different ≡ self.old.different + (if sets.contains self.old.datasets dataset then 0 else 1) }
         ensures datasets { self.new.datasets ≡ sets.insert self.old.datasets dataset }
         ensures rivals { AddsRivals histories.now.classes dataset self.old.rivals self.new.rivals }
     {
         self.number += 1;
-        self.datasets.insert(dataset);
         histories.add_rivals(dataset, &mut self.rivals);
+        self.different += add_another(&mut self.datasets, dataset);
     }
 }
 
 /// The datasets that are charged to the receiver.
 pub fn charges(policy: &Policy, roll: &Roll, to: u32, inflow: &Inflow) -> LabelSet
-    requires number { inflow.now.number ≡ contributors roll.now to }
+    requires number { is_neighbourly roll.now.sig ≡ false → inflow.now.number ≡ contributors roll.now to }
+    requires different { is_neighbourly roll.now.sig ≡ false → inflow.now.different ≡ different_datasets roll.now to }
     requires datasets { (d : ℕ) → sets.contains inflow.now.datasets d ≡ contributed roll.now to d }
     requires to { to < roll.now.shape.size }
     ensures { (d : ℕ) → sets.contains result d ≡ charged policy.now roll.now to d }
 {
     let mut datasets = LabelSet::empty();
-    if !is_enough(policy, roll, inflow.number) {
+    if !is_enough(policy, roll, inflow.number, inflow.different) {
         datasets.union_with(&inflow.datasets);
     }
     datasets
 }
 
-/// Whether the policy takes what so many ranks contribute to one for sanitised.
-pub fn is_enough(policy: &Policy, roll: &Roll, number: u32) -> bool
-    ensures { result ≡ is_at_most (least_for policy.now roll.now) number }
+// What the neighbour of the receiver in a slot contributes to it.
+fn from_slot(roll: &Roll, slot: u32, to: u32) -> Option<DatasetId>
+    requires fit { IsFit roll.now }
+    requires to { to < roll.now.shape.size }
+    ensures { result ≡ from_slot roll.now slot to }
 {
-    let Some(op) = roll.sig.op() else {
-        return false;
-    };
-    match policy.least(op) {
-        Some(least) => least <= number,
-        None => false,
+    match neighbour_of(&roll.shape, to, slot) {
+        Some(from) => contribution(roll, from, to),
+        None => None,
+    }
+}
+
+fn neighbour_of(shape: &Shape, rank: u32, slot: u32) -> Option<u32>
+    requires grid { IsSized shape.now }
+    requires rank { rank < shape.now.size }
+    ensures value { result ≡ neighbour_in shape.now.grid rank slot }
+    ensures below { IfSome result (λ q. q < shape.now.size) }
+{
+    match &shape.grid {
+        Some(grid) => grid.neighbour(rank, slot),
+        None => None,
     }
 }
 

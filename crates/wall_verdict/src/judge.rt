@@ -10,8 +10,8 @@ ghost use Rattle.wall_verdict.specs.Inflows.{IsWhole};
 ghost use Rattle.wall_verdict.specs.Meanings.{IsVerdict, MembersStayApart};
 ghost use Rattle.wall_verdict.specs.declared.verdict.Verdict.TheVariants.{Granted};
 
-use super::charge::{contribution, label_of};
-use super::inflow::{Inflow, is_enough};
+use super::charge::{contribution, is_enough, label_of};
+use super::inflow::Inflow;
 use super::verdict::{Rule, Verdict};
 use coll_routes::Roll;
 use wall_labels::{DatasetId, Label, LabelSet, ProcessId};
@@ -86,7 +86,7 @@ fn first_offender(
     ensures least { result ≡ find (offends policy.now (has histories.now) roll.now to) (ranks roll.now) }
     ensures within { IfSome result (λ i. i < roll.now.shape.size) }
 {
-    if is_enough(policy, roll, inflow.number) {
+    if is_enough(policy, roll, inflow.number, inflow.different) {
         return None;
     }
     if is_clear(histories, roll.members.at(to), inflow) {
@@ -172,7 +172,8 @@ fn judge(policy: &Policy, histories: &Histories, roll: &Roll) -> Verdict
 ///
 /// Where all receivers get alike from the ranks that reach them, as in an allreduce, an allgather or
 /// a scan, looks at each rank once, at the masks of each receiver, and, where one offends, at each
-/// rank for it once more. Between neighbours and in an alltoallv looks at each pair of ranks.
+/// rank for it once more. Between neighbours looks at the neighbours of each rank, and, where one
+/// offends, at each rank for it too. In an alltoallv looks at each pair of ranks.
 pub fn decide(policy: &Policy, histories: &Histories, roll: &Roll) -> Verdict
     requires fit { IsFit roll.now }
     requires classes { histories.now.classes ≡ policy.now.classes }

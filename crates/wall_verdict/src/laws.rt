@@ -1,5 +1,10 @@
 //! What holds of all verdicts, for the proofs of callers. These functions do nothing.
-ghost use Rattle.wall_verdict.specs.Laws.{ChargesAreLabels, VerdictsNameTheLeast, GrantsAreJoint};
+ghost use Rattle.wall_verdict.specs.Laws.{DifferentAreCountedOnce, ChargesAreLabels, VerdictsNameTheLeast, GrantsAreJoint};
+
+/// The number of different datasets of a rank's contributors is the number of datasets that some rank contributes to it.
+pub fn different_are_counted_once()
+    ensures { DifferentAreCountedOnce }
+{}
 
 /// What is charged to a rank are the labels of those whose data it gets unsanitised.
 pub fn charges_are_labels()

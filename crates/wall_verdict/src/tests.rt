@@ -1,5 +1,6 @@
 //! Verdicts worked by hand from the rules, under one policy.
 ghost use Rattle.std.specs.Prelude.{◌≡◌, ◌<◌, IfOk};
+ghost use Rattle.coll_routes.specs.Fit.{IsFit};
 
 use super::{Rule, Verdict, charged, decide, enter_label, passes_star, sanitised, settle};
 use coll_routes::{Own, Roll, Shape, Signature, Stated, Statements};
@@ -53,6 +54,13 @@ fn process(number: u32) -> ProcessId
 
 fn policy(alloc: Global) -> Result<Policy, Fail> {
     Ok(read_policy(alloc, POLICY.as_bytes())?)
+}
+
+// The same in version 2, where a sum of three takes two datasets.
+fn policy_of_version_2(alloc: Global) -> Result<Policy, Fail> {
+    let second = POLICY.replace(alloc, "version = 1", "version = 2")?;
+    let text = second.replace(alloc, "least = 3", "least = 3\ndistinct = 2")?;
+    Ok(read_policy(alloc, text.as_bytes())?)
 }
 
 fn label(rt: &impl Abort, gift: Gift) -> Option<Label> {
@@ -240,25 +248,91 @@ fn a_denial_names_the_least_pair(rt: HostRuntime) -> Result<(), Fail> {
     Ok(())
 }
 
+// Of a rank in an instance: whether what it gets is sanitised, and which of the datasets are charged to it.
+fn told_of(policy: &Policy, roll: &Roll, rank: u32) -> (bool, [bool; 4])
+    requires fit { IsFit roll.now }
+    requires rank { rank < roll.now.shape.size }
+{
+    let set = charged(policy, roll, rank);
+    let alpha = set.contains(dataset(0));
+    let beta = set.contains(dataset(1));
+    let crude = set.contains(dataset(2));
+    let delta = set.contains(dataset(3));
+    (sanitised(policy, roll, rank), [alpha, beta, crude, delta])
+}
+
+// A scan in which each but rank 2 contributes its own dataset.
 #[test]
 fn a_part_of_a_scan_is_sanitised(rt: HostRuntime) -> Result<(), Fail> {
     let alloc = rt.alloc();
-    let policy = policy(alloc)?;
     let roll = roll(&rt, alloc, &WORLD, scan(), &[Of(0), Of(2), Public, Of(3)])?;
     assert!(rt; roll.is_fit() && roll.shape.size == 4);
-    let rows = [
-        (0, false, [true, false, false, false]),
-        (1, false, [true, false, true, false]),
-        (2, false, [true, false, true, false]),
-        (3, true, [false, false, false, false]),
-    ];
-    for (rank, is_sanitised, expected) in rows {
-        assert_eq!(rt; sanitised(&policy, &roll, rank), is_sanitised);
-        let set = charged(&policy, &roll, rank);
-        for number in 0..4 {
-            assert_eq!(rt; set.contains(dataset(number)), expected[number as usize]);
-        }
-    }
+    let policy = policy(alloc)?;
+    let first = told_of(&policy, &roll, 0);
+    assert!(rt; first == (false, [true, false, false, false]));
+    let second = told_of(&policy, &roll, 1);
+    assert!(rt; second == (false, [true, false, true, false]));
+    let third = told_of(&policy, &roll, 2);
+    assert!(rt; third == (false, [true, false, true, false]));
+    let last = told_of(&policy, &roll, 3);
+    assert!(rt; last == (true, [false, false, false, false]));
+    Ok(())
+}
+
+// Whether what ranks 1, 2 and 3 of a scan get is sanitised. Rank 2 has three contributors of one bank, and rank 3 one of another firm too.
+fn crowds(rt: &impl Abort, alloc: Global, policy: Policy) -> Result<[bool; 3], Fail> {
+    let roll = roll(rt, alloc, &WORLD, scan(), &[Of(0), Of(0), Of(0), Of(2)])?;
+    assert!(rt; roll.is_fit() && roll.shape.size == 4);
+    let first = sanitised(&policy, &roll, 1);
+    let second = sanitised(&policy, &roll, 2);
+    let third = sanitised(&policy, &roll, 3);
+    Ok([first, second, third])
+}
+
+#[test]
+fn a_crowd_of_one_bank_is_none(rt: HostRuntime) -> Result<(), Fail> {
+    let alloc = rt.alloc();
+    assert_eq!(rt; crowds(&rt, alloc, policy(alloc)?)?, [false, true, true]);
+    assert_eq!(rt;
+        crowds(&rt, alloc, policy_of_version_2(alloc)?)?,
+        [false, false, true]
+    );
+    Ok(())
+}
+
+// What becomes of an instance in which rank 0 alone gives, of alpha.
+fn settled(
+    rt: &impl Abort,
+    alloc: Global,
+    policy: &Policy,
+    histories: &mut Histories,
+    members: &[u32],
+    sig: Signature,
+) -> Result<Verdict, Fail>
+    requires { histories.old.classes ≡ policy.now.classes }
+    ensures { histories.new.classes ≡ histories.old.classes }
+{
+    let roll = roll(rt, alloc, members, sig, &[Of(0)])?;
+    assert!(rt; roll.is_fit());
+    Ok(settle(policy, histories, &roll))
+}
+
+// a0 gives to c0, while n0 is a member too; then to all, b0 among them.
+fn grant_and_denial(
+    rt: &impl Abort,
+    alloc: Global,
+    policy: &Policy,
+    histories: &mut Histories,
+) -> Result<(), Fail>
+    requires { histories.old.classes ≡ policy.now.classes }
+{
+    let granted = settled(rt, alloc, policy, histories, &[0, 2, 3], gatherv(1))?;
+    assert_eq!(rt; granted, Verdict::Granted);
+    assert!(rt; histories.has(process(2), dataset(0)));
+    assert!(rt; !histories.has(process(3), dataset(0)));
+    let denied = settled(rt, alloc, policy, histories, &WORLD, bcast(0))?;
+    assert_eq!(rt; denied, simple(1, 0));
+    assert!(rt; !histories.has(process(3), dataset(0)));
     Ok(())
 }
 
@@ -267,22 +341,7 @@ fn a_grant_charges_receivers_alone(rt: HostRuntime) -> Result<(), Fail> {
     let alloc = rt.alloc();
     let policy = policy(alloc)?;
     let mut histories = Histories::opening(alloc, &policy)?;
-    let members = [0, 2, 3];
-    let granted = roll(&rt, alloc, &members, gatherv(1), &[Of(0), Nothing, Nothing])?;
-    assert!(rt; granted.is_fit());
-    assert_eq!(rt; settle(&policy, &mut histories, &granted), Verdict::Granted);
-    assert!(rt; histories.has(process(2), dataset(0)) && !histories.has(process(3), dataset(0)));
-    let denied = roll(
-        &rt,
-        alloc,
-        &WORLD,
-        bcast(0),
-        &[Of(0), Nothing, Nothing, Nothing],
-    )?;
-    assert!(rt; denied.is_fit());
-    assert_eq!(rt; settle(&policy, &mut histories, &denied), simple(1, 0));
-    assert!(rt; !histories.has(process(3), dataset(0)));
-    Ok(())
+    grant_and_denial(&rt, alloc, &policy, &mut histories)
 }
 
 #[test]

@@ -10,7 +10,7 @@ loop-to-init c = record {
   pairs = under_none c.args.policy.now (has c.args.histories.now) c.args.roll.now;
   processes = refl;
   classes = refl;
-  serves = nothing_serves c.args.histories.now.classes c.args.roll.now c.before-inflow.result c.before-inflow.ensures.ranks c.before-inflow.ensures.number c.before-inflow.ensures.datasets;
+  serves = nothing_serves c.args.histories.now.classes c.args.roll.now c.before-inflow.result c.before-inflow.ensures.ranks c.before-inflow.ensures.number c.before-inflow.ensures.different c.before-inflow.ensures.datasets;
 }
 
 pub enter-requires : goal.enter-requires

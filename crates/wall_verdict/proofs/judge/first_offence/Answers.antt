@@ -8,7 +8,7 @@ use Rattle.wall_verdict.proofs.judge.first_offence.Goals as goal
 pub loop-to-init : goal.loop-to-init
 loop-to-init c = record {
   none = refl;
-  serves = nothing_serves c.args.histories.now.classes c.args.roll.now c.before-inflow.result c.before-inflow.ensures.ranks c.before-inflow.ensures.number c.before-inflow.ensures.datasets;
+  serves = nothing_serves c.args.histories.now.classes c.args.roll.now c.before-inflow.result c.before-inflow.ensures.ranks c.before-inflow.ensures.number c.before-inflow.ensures.different c.before-inflow.ensures.datasets;
 }
 
 pub loop-to-preserved : goal.loop-to-preserved

@@ -9,7 +9,7 @@ use Rattle.wall_verdict.proofs.judge.first_offender.Goals as goal
 pub returns-then-is_enough-clause-least : goal.returns-then-is_enough-clause-least
 returns-then-is_enough-clause-least c =
     sanitised_spares c.args.policy.now (has c.args.histories.now) c.args.roll.now c.args.to (
-    sym (enough_is c.args.policy.now c.args.roll.now c.args.to c.args.inflow.now.number c.requires.whole.number) ∙ sym c.is_enough.ensures ∙ c.if-is_enough.true
+    sym (enough_is c.args.policy.now c.args.roll.now c.args.to c.args.inflow.now.number c.args.inflow.now.different c.requires.whole.number c.requires.whole.different) ∙ sym c.is_enough.ensures ∙ c.if-is_enough.true
     )
 
 pub returns-then-is_clear-clause-least : goal.returns-then-is_clear-clause-least
@@ -22,7 +22,7 @@ returns-then-is_clear-clause-least c =
 
 pub returns-clause-least : goal.returns-clause-least
 returns-clause-least c =
-    let unsanitised = sym (enough_is c.args.policy.now c.args.roll.now c.args.to c.args.inflow.now.number c.requires.whole.number) ∙ sym c.is_enough.ensures ∙ c.if-is_enough.false in
+    let unsanitised = sym (enough_is c.args.policy.now c.args.roll.now c.args.to c.args.inflow.now.number c.args.inflow.now.different c.requires.whole.number c.requires.whole.different) ∙ sym c.is_enough.ensures ∙ c.if-is_enough.false in
     c.first_meeting.ensures.least
     ∙ ap (λ classes. find (meets classes (has c.args.histories.now) c.args.roll.now c.args.to) (ranks c.args.roll.now)) c.requires.classes
     ∙ unsanitised_meets c.args.policy.now (has c.args.histories.now) c.args.roll.now c.args.to unsanitised
