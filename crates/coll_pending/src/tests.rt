@@ -1,6 +1,6 @@
 //! Arrivals on small communicators, worked by hand: the k-th arrivals of the members meet.
 
-use super::{ArrivalFault, Arrived, Next, NoMemory, Pending};
+use super::{ArrivalFault, Arrived, Next, NoMemory, Pending, Unarrived};
 use coll_routes::{Numbers, Own, Shape, Signature, Stated};
 use mpi_elems::ElemType;
 use mpi_group::Group;
@@ -64,23 +64,104 @@ impl Table {
         assert!(rt; rank < self.group.size() && self.pending.arrivals(comm, rank) < 100);
         assert_eq!(rt; self.pending.next(comm, rank, &sig), next);
         let stated = stated_for(sig);
-        match self
+        let answer = self
             .pending
-            .arrive(comm, rank, &self.group, &self.shape, stated, part)
-        {
-            Ok(Arrived::Waiting) => assert!(rt; next != Next::Mismatch && parts.is_empty()),
-            Ok(Arrived::Full(full)) => {
-                assert!(rt; full.roll.is_fit() && full.parts.as_slice() == parts);
-            }
-            Err(refused) => {
-                if refused.fault == ArrivalFault::NoMemory {
-                    return Err(NoMemory);
-                }
-                assert!(rt; next == Next::Mismatch && refused.part == part);
-            }
-        }
-        Ok(())
+            .arrive(comm, rank, &self.group, &self.shape, stated, part);
+        let ended = expect_answer(rt, &answer, part, next, parts);
+        drop(answer);
+        ended
     }
+}
+
+// The answer to an arrival that does this, with this part.
+fn expect_answer(
+    rt: &impl Abort,
+    answer: &Result<Arrived<u64>, Unarrived<u64>>,
+    part: u64,
+    next: Next,
+    parts: &[u64],
+) -> Result<(), NoMemory> {
+    match answer {
+        Ok(Arrived::Waiting) => assert!(rt; next != Next::Mismatch && parts.is_empty()),
+        Ok(Arrived::Full(full)) => {
+            assert!(rt; full.roll.is_fit() && full.parts.as_slice() == parts);
+        }
+        Err(refused) => {
+            if refused.fault == ArrivalFault::NoMemory {
+                return Err(NoMemory);
+            }
+            assert!(rt; next == Next::Mismatch && refused.part == part);
+        }
+    }
+    Ok(())
+}
+
+// Lends a table of so many members to the steps of a test. One that goes out of scope is taken
+// apart in the function that owns it, which costs the prover half a minute; `drop` is one call.
+fn at_a_table<F>(rt: &(impl AllocGlobal + Abort), size: u32, steps: F) -> Result<(), Fail>
+where
+    F: FnOnce(&mut Table) -> Result<(), Fail>,
+    requires { F.IsAlwaysCallable steps }
+{
+    match Table::new(rt, rt.alloc(), size) {
+        Ok(mut table) => {
+            let ended = steps(&mut table);
+            drop(table);
+            ended
+        }
+        Err(fail) => Err(fail),
+    }
+}
+
+// The rank, the operation, the part, what the arrival does, and the parts if it is the last one.
+type Reduction<'a> = (u32, Op, u64, Next, &'a [u64]);
+
+// The communicator, the rank, the part, what the arrival does, and the parts if it is the last one.
+type Bar<'a> = (u32, u32, u64, Next, &'a [u64]);
+
+// Reductions of one number start on communicator 0, in the order of the rows.
+fn reduce_all(rt: &impl Abort, table: &mut Table, rows: &[Reduction]) -> Result<(), NoMemory> {
+    for (rank, op, part, next, parts) in rows {
+        table.arrive(rt, (0, *rank), allreduce(*op), *part, *next, parts)?;
+    }
+    Ok(())
+}
+
+// Barriers start, in the order of the rows; room is made for each before.
+fn bar_all(rt: &impl Abort, table: &mut Table, rows: &[Bar]) -> Result<(), NoMemory> {
+    for (comm, rank, part, next, parts) in rows {
+        table.ready(rt, *comm, *rank)?;
+        table.arrive(rt, (*comm, *rank), Signature::Barrier, *part, *next, parts)?;
+    }
+    Ok(())
+}
+
+// A rank starts 64 barriers on communicator 0, each of which does the same.
+fn bar_often(
+    rt: &impl Abort,
+    table: &mut Table,
+    rank: u32,
+    next: Next,
+    parts: &[u64],
+) -> Result<(), NoMemory> {
+    for _ in 0..64 {
+        table.arrive(rt, (0, rank), Signature::Barrier, rank as u64, next, parts)?;
+    }
+    Ok(())
+}
+
+// A rank starts a reduce_scatter of one number on communicator 5.
+fn scatter(
+    rt: &(impl AllocGlobal + Abort),
+    table: &mut Table,
+    row: (u32, u64, Next),
+    counts: &[u32],
+    parts: &[u64],
+) -> Result<(), Fail> {
+    let (rank, part, next) = row;
+    let sig = listed(rt.alloc(), counts)?;
+    table.arrive(rt, (5, rank), sig, part, next, parts)?;
+    Ok(())
 }
 
 // A statement that gives one element, or none to a barrier.
@@ -118,111 +199,110 @@ fn listed(alloc: Global, counts: &[u32]) -> Result<Signature, Fail> {
 
 #[test]
 fn two_members_meet(rt: HostRuntime) -> Result<(), Fail> {
-    let mut table = Table::new(&rt, rt.alloc(), 2)?;
-    table.ready(&rt, 0, 0)?;
-    assert!(rt; table.pending.arrivals(0, 0) == 0 && table.pending.roll(0, 0).is_none());
-    for (rank, op, part, next, parts) in [
-        (0, Op::Sum, 7, Next::Opens, [].as_slice()),
-        (1, Op::Max, 8, Next::Mismatch, [].as_slice()),
-        (1, Op::Sum, 8, Next::Fills, [7, 8].as_slice()),
-        (0, Op::Max, 9, Next::Opens, [].as_slice()),
-    ] {
-        table.arrive(&rt, (0, rank), allreduce(op), part, next, parts)?;
-    }
-    assert!(rt; table.pending.arrivals(0, 0) == 2 && table.pending.arrivals(0, 1) == 1);
-    assert!(rt; table.pending.roll(0, 0).is_none() && table.pending.roll(0, 1).is_some());
-    Ok(())
+    let rows: [Reduction; 4] = [
+        (0, Op::Sum, 7, Next::Opens, &[]),
+        (1, Op::Max, 8, Next::Mismatch, &[]),
+        (1, Op::Sum, 8, Next::Fills, &[7, 8]),
+        (0, Op::Max, 9, Next::Opens, &[]),
+    ];
+    at_a_table(&rt, 2, |table| {
+        table.ready(&rt, 0, 0)?;
+        assert!(&rt; table.pending.arrivals(0, 0) == 0 && table.pending.roll(0, 0).is_none());
+        reduce_all(&rt, table, &rows)?;
+        assert!(&rt; table.pending.arrivals(0, 0) == 2 && table.pending.arrivals(0, 1) == 1);
+        assert!(&rt; table.pending.roll(0, 0).is_none() && table.pending.roll(0, 1).is_some());
+        Ok(())
+    })
 }
 
 #[test]
 fn two_reductions_cross(rt: HostRuntime) -> Result<(), Fail> {
-    let mut table = Table::new(&rt, rt.alloc(), 4)?;
-    for (rank, op, part, next, parts) in [
-        (0, Op::Sum, 1, Next::Opens, [].as_slice()),
-        (0, Op::Max, 1, Next::Opens, [].as_slice()),
-        (1, Op::Max, 2, Next::Mismatch, [].as_slice()),
-        (1, Op::Sum, 2, Next::Joins, [].as_slice()),
-        (1, Op::Max, 2, Next::Joins, [].as_slice()),
-        (2, Op::Sum, 3, Next::Joins, [].as_slice()),
-        (2, Op::Max, 3, Next::Joins, [].as_slice()),
-        (3, Op::Sum, 4, Next::Fills, [1, 2, 3, 4].as_slice()),
-        (3, Op::Max, 4, Next::Fills, [1, 2, 3, 4].as_slice()),
-    ] {
-        table.arrive(&rt, (0, rank), allreduce(op), part, next, parts)?;
-    }
-    Ok(())
+    let rows: [Reduction; 9] = [
+        (0, Op::Sum, 1, Next::Opens, &[]),
+        (0, Op::Max, 1, Next::Opens, &[]),
+        (1, Op::Max, 2, Next::Mismatch, &[]),
+        (1, Op::Sum, 2, Next::Joins, &[]),
+        (1, Op::Max, 2, Next::Joins, &[]),
+        (2, Op::Sum, 3, Next::Joins, &[]),
+        (2, Op::Max, 3, Next::Joins, &[]),
+        (3, Op::Sum, 4, Next::Fills, &[1, 2, 3, 4]),
+        (3, Op::Max, 4, Next::Fills, &[1, 2, 3, 4]),
+    ];
+    at_a_table(&rt, 4, |table| {
+        reduce_all(&rt, table, &rows)?;
+        Ok(())
+    })
 }
 
 #[test]
 fn parts_stand_by_rank(rt: HostRuntime) -> Result<(), Fail> {
-    let mut table = Table::new(&rt, rt.alloc(), 3)?;
-    for (rank, counts, part, next, parts) in [
-        (2, [1, 0, 0], 30, Next::Opens, [].as_slice()),
-        (0, [1, 0, 0], 10, Next::Joins, [].as_slice()),
-        (1, [0, 1, 0], 20, Next::Mismatch, [].as_slice()),
-        (1, [1, 0, 0], 20, Next::Fills, [10, 20, 30].as_slice()),
-    ] {
-        let sig = listed(rt.alloc(), &counts)?;
-        table.arrive(&rt, (5, rank), sig, part, next, parts)?;
-    }
-    assert!(rt; table.pending.arrivals(4, 2) == 0 && table.pending.arrivals(5, 2) == 1);
-    Ok(())
+    at_a_table(&rt, 3, |table| {
+        scatter(&rt, table, (2, 30, Next::Opens), &[1, 0, 0], &[])?;
+        scatter(&rt, table, (0, 10, Next::Joins), &[1, 0, 0], &[])?;
+        scatter(&rt, table, (1, 20, Next::Mismatch), &[0, 1, 0], &[])?;
+        scatter(&rt, table, (1, 20, Next::Fills), &[1, 0, 0], &[10, 20, 30])?;
+        assert!(&rt; table.pending.arrivals(4, 2) == 0 && table.pending.arrivals(5, 2) == 1);
+        Ok(())
+    })
 }
 
 #[test]
 fn sole_member_opens_and_fills(rt: HostRuntime) -> Result<(), Fail> {
-    let mut table = Table::new(&rt, rt.alloc(), 1)?;
-    for (part, parts) in [(4, [4].as_slice()), (5, [5].as_slice())] {
-        table.arrive(&rt, (1, 0), allreduce(Op::Sum), part, Next::Opens, parts)?;
-    }
-    Ok(())
+    at_a_table(&rt, 1, |table| {
+        table.arrive(&rt, (1, 0), allreduce(Op::Sum), 4, Next::Opens, &[4])?;
+        table.arrive(&rt, (1, 0), allreduce(Op::Sum), 5, Next::Opens, &[5])?;
+        Ok(())
+    })
 }
 
 // Two members of each communicator. Instances of several communicators are full in another order
 // than that of opening, those of one communicator in order.
 #[test]
 fn instances_fill_out_of_order(rt: HostRuntime) -> Result<(), Fail> {
-    let mut table = Table::new(&rt, rt.alloc(), 2)?;
-    for (comm, rank, part, next, parts) in [
-        (2, 0, 20, Next::Opens, [].as_slice()),
-        (0, 1, 1, Next::Opens, [].as_slice()),
-        (2, 0, 30, Next::Opens, [].as_slice()),
-        (1, 1, 11, Next::Opens, [].as_slice()),
-        (1, 0, 10, Next::Fills, [10, 11].as_slice()),
-        (2, 1, 21, Next::Fills, [20, 21].as_slice()),
-        (1, 0, 12, Next::Opens, [].as_slice()),
-        (2, 1, 31, Next::Fills, [30, 31].as_slice()),
-        (0, 0, 0, Next::Fills, [0, 1].as_slice()),
-        (2, 1, 40, Next::Opens, [].as_slice()),
-        (1, 1, 13, Next::Fills, [12, 13].as_slice()),
-    ] {
-        table.ready(&rt, comm, rank)?;
-        table.arrive(&rt, (comm, rank), Signature::Barrier, part, next, parts)?;
-    }
-    assert!(rt; table.pending.roll(2, 1).is_none() && table.pending.roll(2, 2).is_some());
-    assert!(rt; table.pending.roll(0, 0).is_none() && table.pending.roll(1, 0).is_none());
-    assert!(rt; table.pending.arrivals(2, 0) == 2 && table.pending.arrivals(2, 1) == 3);
-    Ok(())
+    let rows: [Bar; 11] = [
+        (2, 0, 20, Next::Opens, &[]),
+        (0, 1, 1, Next::Opens, &[]),
+        (2, 0, 30, Next::Opens, &[]),
+        (1, 1, 11, Next::Opens, &[]),
+        (1, 0, 10, Next::Fills, &[10, 11]),
+        (2, 1, 21, Next::Fills, &[20, 21]),
+        (1, 0, 12, Next::Opens, &[]),
+        (2, 1, 31, Next::Fills, &[30, 31]),
+        (0, 0, 0, Next::Fills, &[0, 1]),
+        (2, 1, 40, Next::Opens, &[]),
+        (1, 1, 13, Next::Fills, &[12, 13]),
+    ];
+    at_a_table(&rt, 2, |table| {
+        bar_all(&rt, table, &rows)?;
+        assert!(&rt; table.pending.roll(2, 1).is_none() && table.pending.roll(2, 2).is_some());
+        assert!(&rt; table.pending.roll(0, 0).is_none() && table.pending.roll(1, 0).is_none());
+        assert!(&rt; table.pending.arrivals(2, 0) == 2 && table.pending.arrivals(2, 1) == 3);
+        Ok(())
+    })
 }
 
 // Each of 64 members starts 64 barriers; those of the last member are full one after another.
+fn bar_each(rt: &impl Abort, table: &mut Table, ranks: &[u64]) -> Result<(), NoMemory> {
+    for rank in 0..64 {
+        let (next, parts) = match rank {
+            0 => (Next::Opens, [].as_slice()),
+            63 => (Next::Fills, ranks),
+            _ => (Next::Joins, [].as_slice()),
+        };
+        bar_often(rt, table, rank, next, parts)?;
+    }
+    Ok(())
+}
+
 #[test]
 fn many_barriers_of_many_members(rt: HostRuntime) -> Result<(), Fail> {
-    let mut table = Table::new(&rt, rt.alloc(), 64)?;
     let mut ranks = Vec::new(rt.alloc());
     for rank in 0..64 {
         ranks.push(rank)?;
     }
-    for rank in 0..64 {
-        let (next, parts) = match rank {
-            0 => (Next::Opens, [].as_slice()),
-            63 => (Next::Fills, ranks.as_slice()),
-            _ => (Next::Joins, [].as_slice()),
-        };
-        for _ in 0..64 {
-            table.arrive(&rt, (0, rank), Signature::Barrier, rank as u64, next, parts)?;
-        }
-    }
-    assert!(rt; table.pending.roll(0, 63).is_none() && table.pending.arrivals(0, 63) == 64);
-    Ok(())
+    at_a_table(&rt, 64, |table| {
+        bar_each(&rt, table, &ranks)?;
+        assert!(&rt; table.pending.roll(0, 63).is_none() && table.pending.arrivals(0, 63) == 64);
+        Ok(())
+    })
 }

@@ -8,7 +8,7 @@ use super::{
 use mpi_cart::Grid;
 use mpi_elems::ElemType;
 use mpi_group::Group;
-use std::alloc::Global;
+use std::alloc::{AllocError, Global};
 use std::process::Abort;
 use std::test::Fail;
 use wall_labels::{DatasetId, Label, Op, ProcessId};
@@ -42,30 +42,91 @@ fn split(colour: Option<i32>) -> Own {
     Own::Split { colour, key: 0 }
 }
 
-fn numbers(alloc: Global, items: &[u32]) -> Result<Numbers, Fail> {
-    Ok(Numbers::from(Vec::from_slice(alloc, items)?))
+// No memory ends a test at once: each way out of a function that owns a wide value costs its proof.
+fn numbers(rt: &impl Abort, alloc: Global, items: &[u32]) -> Numbers {
+    match Vec::from_slice(alloc, items) {
+        Ok(items) => Numbers::from(items),
+        Err(_) => panic!(rt; "no memory"),
+    }
 }
 
-fn flags(alloc: Global, items: &[bool]) -> Result<Flags, Fail> {
-    Ok(Flags::from(Vec::from_slice(alloc, items)?))
+fn flags(rt: &impl Abort, alloc: Global, items: &[bool]) -> Flags {
+    match Vec::from_slice(alloc, items) {
+        Ok(items) => Flags::from(items),
+        Err(_) => panic!(rt; "no memory"),
+    }
 }
 
-fn group(rt: &impl Abort, alloc: Global, size: u32) -> Result<Group, Fail> {
+fn group(rt: &impl Abort, alloc: Global, size: u32) -> Group {
     let mut members = Vec::new(alloc);
     for number in 0..size {
-        members.push(ProcessId::new(number).expect(rt, "a process"))?;
+        let member = ProcessId::new(number).expect(rt, "a process");
+        assert!(rt; members.push(member).is_ok(), "no memory");
     }
-    Ok(Group::from_list(alloc, &members)?)
+    match Group::from_list(alloc, &members) {
+        Ok(group) => group,
+        Err(_) => panic!(rt; "no group"),
+    }
 }
 
-// The shape of a grid, or of so many members without one.
-fn shape(alloc: Global, size: u32, dims: &[u32], periods: &[bool]) -> Result<Shape, Fail> {
-    let grid = if dims.is_empty() {
-        None
-    } else {
-        Some(Grid::new(alloc, dims, periods, size)?)
+// The shape of so many members without a grid.
+fn plain(size: u32) -> Shape {
+    Shape { size, grid: None }
+}
+
+// The shape of a grid.
+fn grid(rt: &impl Abort, alloc: Global, size: u32, dims: &[u32], periods: &[bool]) -> Shape {
+    match Grid::new(alloc, dims, periods, size) {
+        Ok(grid) => Shape {
+            size,
+            grid: Some(grid),
+        },
+        Err(_) => panic!(rt; "no grid"),
+    }
+}
+
+// What a rank states that gives so many elements, as many as its counts say if it has some.
+fn stated(
+    rt: &impl Abort,
+    alloc: Global,
+    sig: &Signature,
+    given: u32,
+    counts: Option<&[u32]>,
+) -> Stated {
+    let own = match counts {
+        Some(counts) => Own::Counts(numbers(rt, alloc, counts)),
+        None => Own::Plain,
     };
-    Ok(Shape { size, grid })
+    match sig.copy(alloc) {
+        Ok(sig) => Stated {
+            sig,
+            own,
+            given,
+            label: None,
+            barred: false,
+        },
+        Err(_) => panic!(rt; "no memory"),
+    }
+}
+
+fn state_all(
+    rt: &impl Abort,
+    alloc: Global,
+    statements: &mut Statements,
+    sig: &Signature,
+    given: &[u32],
+    counts: &[&[u32]],
+) {
+    let Ok(size) = u32::try_from(statements.len()) else {
+        panic!(rt; "too many ranks")
+    };
+    for rank in 0..size {
+        let counts = counts.get(rank as usize).copied();
+        let given = given.get(rank as usize).copied().unwrap_or(0);
+        let statement = stated(rt, alloc, sig, given, counts);
+        assert!(rt; (rank as usize) < statements.len());
+        statements.set(rank, statement);
+    }
 }
 
 // A roll of which each rank gives so many elements, or as many as the counts that it states say.
@@ -76,33 +137,21 @@ fn roll(
     sig: Signature,
     given: &[u32],
     counts: &[&[u32]],
-) -> Result<Roll, Fail> {
-    let mut stated = Statements::vacant(alloc, shape.size)?;
-    for rank in 0..shape.size {
-        let own = match counts.get(rank as usize) {
-            Some(counts) => Own::Counts(numbers(alloc, counts)?),
-            None => Own::Plain,
-        };
-        let statement = Stated {
-            sig: sig.copy(alloc)?,
-            own,
-            given: given.get(rank as usize).copied().unwrap_or(0),
-            label: None,
-            barred: false,
-        };
-        assert!(rt; (rank as usize) < stated.len());
-        stated.set(rank, statement);
-    }
-    Ok(Roll {
-        members: group(rt, alloc, shape.size)?,
+) -> Roll {
+    let Ok(mut statements) = Statements::vacant(alloc, shape.size) else {
+        panic!(rt; "no memory")
+    };
+    state_all(rt, alloc, &mut statements, &sig, given, counts);
+    Roll {
+        members: group(rt, alloc, shape.size),
         shape,
         sig,
-        stated,
-    })
+        stated: statements,
+    }
 }
 
 // A line for each receiver, brackets for each place, and each piece there as `(FROM:START+LEN)`.
-fn shown(rt: &impl Abort, alloc: Global, roll: &Roll) -> Result<String, Fail> {
+fn shown(rt: &impl Abort, alloc: Global, roll: &Roll) -> Result<String, AllocError> {
     let mut text = String::new(alloc);
     assert!(rt; roll.is_fit());
     for to in 0..roll.shape.size {
@@ -166,137 +215,133 @@ fn expect_pieces(
     given: &[u32],
     counts: &[&[u32]],
     expected: &str,
-) -> Result<(), Fail> {
-    let name = sig.kind().name();
-    let roll = roll(rt, alloc, shape, sig, given, counts)?;
-    let text = shown(rt, alloc, &roll)?;
+) {
+    let roll = roll(rt, alloc, shape, sig, given, counts);
+    expect_shown(rt, alloc, &roll, expected);
+    drop(roll);
+}
+
+fn expect_shown(rt: &impl Abort, alloc: Global, roll: &Roll, expected: &str) {
+    let text = match shown(rt, alloc, roll) {
+        Ok(text) => text,
+        Err(AllocError) => panic!(rt; "no memory"),
+    };
+    let name = roll.sig.kind().name();
     assert_eq!(rt; text.as_str(), expected, "{name}");
-    Ok(())
+}
+
+// The pieces of two ranks that give so many elements.
+fn expect_of_two(rt: &(impl AllocGlobal + Abort), sig: Signature, given: [u32; 2], expected: &str) {
+    expect_pieces(rt, rt.alloc(), plain(2), sig, &given, &[], expected);
 }
 
 #[test]
-fn pieces_of_two_ranks(rt: HostRuntime) -> Result<(), Fail> {
-    let alloc = rt.alloc();
+fn pieces_of_two_ranks(rt: HostRuntime) {
     let (elem_type, op, count) = (INT, Op::Sum, 2);
+    let (all, gathered) = ([2, 2], "[(0:0+2)][(1:0+2)]\n[(0:0+2)][(1:0+2)]\n");
+    expect_of_two(&rt, Signature::Barrier, [0, 0], "\n\n");
+    expect_of_two(&rt, bcast(1, 2), [0, 2], "[(1:0+2)]\n\n");
     let gather = Signature::Gather {
         root: 1,
         elem_type,
         count,
     };
+    expect_of_two(&rt, gather, all, "\n[(0:0+2)][(1:0+2)]\n");
+    expect_of_two(&rt, gatherv(1), [3, 0], "\n[(0:0+3)][]\n");
+    expect_of_two(&rt, scatter(1, 2), [0, 4], "[(1:0+2)]\n[(1:2+2)]\n");
+    expect_of_two(
+        &rt,
+        Signature::Allgather { elem_type, count },
+        all,
+        gathered,
+    );
+    expect_of_two(&rt, Signature::Allgatherv { elem_type }, all, gathered);
+    let alltoall = Signature::Alltoall { elem_type, count };
+    let expected = "[(0:0+2)][(1:0+2)]\n[(0:2+2)][(1:2+2)]\n";
+    expect_of_two(&rt, alltoall, [4, 4], expected);
     let reduce = Signature::Reduce {
         root: 1,
         op,
         elem_type,
         count,
     };
+    expect_of_two(&rt, reduce, all, "\n[(0:0+2)(1:0+2)]\n");
+    let allreduce = Signature::Allreduce {
+        op,
+        elem_type,
+        count,
+    };
+    let expected = "[(0:0+2)(1:0+2)]\n[(0:0+2)(1:0+2)]\n";
+    expect_of_two(&rt, allreduce, all, expected);
     let block = Signature::ReduceScatterBlock {
         op,
         elem_type,
         count,
     };
-    let (all, gathered) = ([2, 2], "[(0:0+2)][(1:0+2)]\n[(0:0+2)][(1:0+2)]\n");
-    let rows = [
-        (Signature::Barrier, [0, 0], "\n\n"),
-        (bcast(1, 2), [0, 2], "[(1:0+2)]\n\n"),
-        (gather, all, "\n[(0:0+2)][(1:0+2)]\n"),
-        (gatherv(1), [3, 0], "\n[(0:0+3)][]\n"),
-        (scatter(1, 2), [0, 4], "[(1:0+2)]\n[(1:2+2)]\n"),
-        (Signature::Allgather { elem_type, count }, all, gathered),
-        (Signature::Allgatherv { elem_type }, all, gathered),
-        (
-            Signature::Alltoall { elem_type, count },
-            [4, 4],
-            "[(0:0+2)][(1:0+2)]\n[(0:2+2)][(1:2+2)]\n",
-        ),
-        (reduce, all, "\n[(0:0+2)(1:0+2)]\n"),
-        (
-            Signature::Allreduce {
-                op,
-                elem_type,
-                count,
-            },
-            all,
-            "[(0:0+2)(1:0+2)]\n[(0:0+2)(1:0+2)]\n",
-        ),
-        (block, [4, 4], "[(0:0+2)(1:0+2)]\n[(0:2+2)(1:2+2)]\n"),
-        (
-            Signature::Scan {
-                op,
-                elem_type,
-                count,
-            },
-            all,
-            "[(0:0+2)]\n[(0:0+2)(1:0+2)]\n",
-        ),
-        (
-            Signature::Exscan {
-                op,
-                elem_type,
-                count,
-            },
-            all,
-            "\n[(0:0+2)]\n",
-        ),
-        (Signature::Dup, [0, 0], "\n\n"),
-    ];
-    for (sig, given, expected) in rows {
-        let two = Shape {
-            size: 2,
-            grid: None,
-        };
-        expect_pieces(&rt, alloc, two, sig, &given, &[], expected)?;
+    let expected = "[(0:0+2)(1:0+2)]\n[(0:2+2)(1:2+2)]\n";
+    expect_of_two(&rt, block, [4, 4], expected);
+    let scan = Signature::Scan {
+        op,
+        elem_type,
+        count,
+    };
+    expect_of_two(&rt, scan, all, "[(0:0+2)]\n[(0:0+2)(1:0+2)]\n");
+    let exscan = Signature::Exscan {
+        op,
+        elem_type,
+        count,
+    };
+    expect_of_two(&rt, exscan, all, "\n[(0:0+2)]\n");
+    expect_of_two(&rt, Signature::Dup, [0, 0], "\n\n");
+}
+
+// How the elements of three ranks spread, and what rank 1 is given where they are reduced.
+fn expect_spread(
+    rt: &(impl AllocGlobal + Abort),
+    sig: Signature,
+    given: [u32; 3],
+    expected: Spread,
+) {
+    let roll = roll(rt, rt.alloc(), plain(3), sig, &given, &[]);
+    has_spread(rt, &roll, expected);
+    drop(roll);
+}
+
+fn has_spread(rt: &impl Abort, roll: &Roll, expected: Spread) {
+    assert!(rt; roll.is_fit());
+    assert_eq!(rt; spread_of(roll), expected);
+    if roll.sig.op().is_some() && roll.shape.size > 1 {
+        let until = if expected == Spread::Below { 1 } else { 2 };
+        let piece = Piece { start: 0, len: 1 };
+        assert_eq!(rt; gathered(roll, 1), Gathering { until, piece });
     }
-    Ok(())
 }
 
 #[test]
-fn spreads_of_three_ranks(rt: HostRuntime) -> Result<(), Fail> {
-    let alloc = rt.alloc();
+fn spreads_of_three_ranks(rt: HostRuntime) {
     let (elem_type, op, count) = (INT, Op::Sum, 1);
-    let rows = [
-        (bcast(1, 2), [0, 2, 0], Spread::ToOthers(1)),
-        (gatherv(2), [1, 0, 3], Spread::ToOne(2)),
-        (scatter(1, 1), [0, 3, 0], Spread::ToAll),
-        (
-            Signature::Alltoall { elem_type, count },
-            [3, 3, 3],
-            Spread::ToAll,
-        ),
-        (
-            Signature::Scan {
-                op,
-                elem_type,
-                count,
-            },
-            [1, 1, 1],
-            Spread::UpTo,
-        ),
-        (
-            Signature::Exscan {
-                op,
-                elem_type,
-                count,
-            },
-            [1, 1, 1],
-            Spread::Below,
-        ),
-    ];
-    for (sig, given, expected) in rows {
-        let three = shape(alloc, 3, &[], &[])?;
-        let roll = roll(&rt, alloc, three, sig, &given, &[])?;
-        assert!(rt; roll.is_fit());
-        assert_eq!(rt; spread_of(&roll), expected);
-        if roll.sig.op().is_some() && roll.shape.size > 1 {
-            let until = if expected == Spread::Below { 1 } else { 2 };
-            let piece = Piece { start: 0, len: 1 };
-            assert_eq!(rt; gathered(&roll, 1), Gathering { until, piece });
-        }
-    }
-    let row = shape(alloc, 3, &[3], &[false])?;
-    let sig = Signature::NeighborAllgather { elem_type, count };
-    let roll = roll(&rt, alloc, row, sig, &[1, 1, 1], &[])?;
+    expect_spread(&rt, bcast(1, 2), [0, 2, 0], Spread::ToOthers(1));
+    expect_spread(&rt, gatherv(2), [1, 0, 3], Spread::ToOne(2));
+    expect_spread(&rt, scatter(1, 1), [0, 3, 0], Spread::ToAll);
+    let alltoall = Signature::Alltoall { elem_type, count };
+    expect_spread(&rt, alltoall, [3, 3, 3], Spread::ToAll);
+    let scan = Signature::Scan {
+        op,
+        elem_type,
+        count,
+    };
+    expect_spread(&rt, scan, [1, 1, 1], Spread::UpTo);
+    let exscan = Signature::Exscan {
+        op,
+        elem_type,
+        count,
+    };
+    expect_spread(&rt, exscan, [1, 1, 1], Spread::Below);
+}
+
+fn has_senders(rt: &impl Abort, roll: &Roll) {
     assert!(rt; roll.is_fit() && roll.shape.size == 3);
-    assert_eq!(rt; spread_of(&roll), Spread::ByPlace);
+    assert_eq!(rt; spread_of(roll), Spread::ByPlace);
     let senders = [
         (0, 0, None),
         (0, 1, Some(1)),
@@ -306,41 +351,52 @@ fn spreads_of_three_ranks(rt: HostRuntime) -> Result<(), Fail> {
     ];
     for (to, slot, expected) in senders {
         assert!(rt; to < 3);
-        assert_eq!(rt; sender(&roll, to, slot), expected);
+        assert_eq!(rt; sender(roll, to, slot), expected);
     }
-    Ok(())
 }
 
 #[test]
-fn blocks_of_four_ranks(rt: HostRuntime) -> Result<(), Fail> {
+fn spread_of_a_row_of_three(rt: HostRuntime) {
+    let row = grid(&rt, rt.alloc(), 3, &[3], &[false]);
+    let sig = Signature::NeighborAllgather {
+        elem_type: INT,
+        count: 1,
+    };
+    let roll = roll(&rt, rt.alloc(), row, sig, &[1, 1, 1], &[]);
+    has_senders(&rt, &roll);
+    drop(roll);
+}
+
+#[test]
+fn blocks_of_four_ranks(rt: HostRuntime) {
     let alloc = rt.alloc();
     let elem_type = ElemType::Int32;
     let scatterv = Signature::Scatterv { root: 1, elem_type };
     let counts: [&[u32]; 4] = [&[], &[2, 0, 1, 1], &[], &[]];
     let expected = "[(1:0+2)]\n[]\n[(1:2+1)]\n[(1:3+1)]\n";
-    let four = Shape {
-        size: 4,
-        grid: None,
-    };
-    expect_pieces(&rt, alloc, four, scatterv, &[0, 4, 0, 0], &counts, expected)?;
+    expect_pieces(
+        &rt,
+        alloc,
+        plain(4),
+        scatterv,
+        &[0, 4, 0, 0],
+        &counts,
+        expected,
+    );
     let alltoallv = Signature::Alltoallv { elem_type };
     let counts: [&[u32]; 4] = [&[0, 1, 0, 2], &[0, 0, 0, 0], &[1, 1, 1, 1], &[0, 0, 0, 1]];
     let expected =
         "[][][(2:0+1)][]\n[(0:0+1)][][(2:1+1)][]\n[][][(2:2+1)][]\n[(0:1+2)][][(2:3+1)][(3:0+1)]\n";
-    let four = Shape {
-        size: 4,
-        grid: None,
-    };
     expect_pieces(
         &rt,
         alloc,
-        four,
+        plain(4),
         alltoallv,
         &[3, 0, 4, 1],
         &counts,
         expected,
-    )?;
-    let counts = numbers(alloc, &[1, 0, 2, 1])?;
+    );
+    let counts = numbers(&rt, alloc, &[1, 0, 2, 1]);
     let reduce_scatter = Signature::ReduceScatter {
         op: Op::Max,
         elem_type,
@@ -348,15 +404,11 @@ fn blocks_of_four_ranks(rt: HostRuntime) -> Result<(), Fail> {
     };
     let expected =
         "[(0:0+1)(1:0+1)(2:0+1)(3:0+1)]\n[]\n[(0:1+2)(1:1+2)(2:1+2)(3:1+2)]\n[(0:3+1)(1:3+1)(2:3+1)(3:3+1)]\n";
-    let four = Shape {
-        size: 4,
-        grid: None,
-    };
-    expect_pieces(&rt, alloc, four, reduce_scatter, &[4; 4], &[], expected)
+    expect_pieces(&rt, alloc, plain(4), reduce_scatter, &[4; 4], &[], expected);
 }
 
 #[test]
-fn pieces_between_neighbours(rt: HostRuntime) -> Result<(), Fail> {
+fn pieces_between_neighbours(rt: HostRuntime) {
     let alloc = rt.alloc();
     let elem_type = ElemType::Int32;
     // Two by two, of which the first dimension is periodic: the second has edges.
@@ -366,14 +418,14 @@ fn pieces_between_neighbours(rt: HostRuntime) -> Result<(), Fail> {
     };
     let expected =
         "[(2:0+1)][(2:0+1)][][(1:0+1)]\n[(3:0+1)][(3:0+1)][(0:0+1)][]\n[(0:0+1)][(0:0+1)][][(3:0+1)]\n[(1:0+1)][(1:0+1)][(2:0+1)][]\n";
-    let tube = shape(alloc, 4, &[2, 2], &[true, false])?;
-    expect_pieces(&rt, alloc, tube, gathered, &[1; 4], &[], expected)?;
+    let tube = grid(&rt, alloc, 4, &[2, 2], &[true, false]);
+    expect_pieces(&rt, alloc, tube, gathered, &[1; 4], &[], expected);
     // Periodic dimensions of size 1 and 2: what is given for the positive slot arrives in the negative one.
     let exchanged = Signature::NeighborAlltoall {
         elem_type,
         count: 1,
     };
-    let alone = shape(alloc, 1, &[1], &[true])?;
+    let alone = grid(&rt, alloc, 1, &[1], &[true]);
     expect_pieces(
         &rt,
         alloc,
@@ -382,12 +434,12 @@ fn pieces_between_neighbours(rt: HostRuntime) -> Result<(), Fail> {
         &[2],
         &[],
         "[(0:1+1)][(0:0+1)]\n",
-    )?;
+    );
     let exchanged = Signature::NeighborAlltoall {
         elem_type,
         count: 1,
     };
-    let ring = shape(alloc, 2, &[2], &[true])?;
+    let ring = grid(&rt, alloc, 2, &[2], &[true]);
     expect_pieces(
         &rt,
         alloc,
@@ -396,11 +448,11 @@ fn pieces_between_neighbours(rt: HostRuntime) -> Result<(), Fail> {
         &[2; 2],
         &[],
         "[(1:1+1)][(1:0+1)]\n[(0:1+1)][(0:0+1)]\n",
-    )?;
+    );
     // Not periodic: what is given for a slot without a neighbour goes nowhere.
     let exchanged = Signature::NeighborAlltoallv { elem_type };
     let counts: [&[u32]; 2] = [&[1, 2], &[1, 0]];
-    let line = shape(alloc, 2, &[2], &[false])?;
+    let line = grid(&rt, alloc, 2, &[2], &[false]);
     expect_pieces(
         &rt,
         alloc,
@@ -409,40 +461,40 @@ fn pieces_between_neighbours(rt: HostRuntime) -> Result<(), Fail> {
         &[3, 1],
         &counts,
         "[][(1:0+1)]\n[(0:1+2)][]\n",
-    )
+    );
+}
+
+fn has_one_route(rt: &impl Abort, roll: &Roll) {
+    assert!(rt; roll.is_fit() && roll.shape.size == 2);
+    assert!(rt; routed(roll, 0, 1) && !routed(roll, 1, 0) && !routed(roll, 0, 0));
+    assert!(rt; is_missing(roll, 0, 0) && !is_missing(roll, 0, 1));
 }
 
 #[test]
-fn a_line_of_two(rt: HostRuntime) -> Result<(), Fail> {
-    let alloc = rt.alloc();
+fn a_line_of_two(rt: HostRuntime) {
     let sig = Signature::NeighborAllgatherv {
         elem_type: ElemType::Int32,
     };
-    let line = shape(alloc, 2, &[2], &[false])?;
-    let roll = roll(&rt, alloc, line, sig, &[3, 0], &[])?;
-    assert!(rt; roll.is_fit() && roll.shape.size == 2);
-    assert!(rt; routed(&roll, 0, 1) && !routed(&roll, 1, 0) && !routed(&roll, 0, 0));
-    assert!(rt; is_missing(&roll, 0, 0) && !is_missing(&roll, 0, 1));
-    Ok(())
+    let line = grid(&rt, rt.alloc(), 2, &[2], &[false]);
+    let roll = roll(&rt, rt.alloc(), line, sig, &[3, 0], &[]);
+    has_one_route(&rt, &roll);
+    drop(roll);
 }
 
-// Which ranks are routed to which, of three that give as many elements as the signature's blocks have.
-fn expect_routes(
-    rt: &impl Abort,
-    alloc: Global,
-    sig: Signature,
-    expected: [[bool; 3]; 3],
-) -> Result<(), Fail> {
+// Which ranks are routed to which, of three that give as many elements as the signature's blocks
+// have.
+fn expect_routes(rt: &(impl AllocGlobal + Abort), sig: Signature, expected: [[bool; 3]; 3]) {
     let given = sig.count().unwrap_or(0);
-    let three = Shape {
-        size: 3,
-        grid: None,
-    };
-    let roll = roll(rt, alloc, three, sig, &[given; 3], &[])?;
+    let roll = roll(rt, rt.alloc(), plain(3), sig, &[given; 3], &[]);
+    has_routes(rt, &roll, &expected);
+    drop(roll);
+}
+
+fn has_routes(rt: &impl Abort, roll: &Roll, expected: &[[bool; 3]; 3]) {
     assert!(rt; roll.is_fit() && roll.shape.size == 3);
     for from in 0..3 {
         for to in 0..3 {
-            let found = routed(&roll, from, to);
+            let found = routed(roll, from, to);
             assert_eq!(rt;
                 found,
                 expected[from as usize][to as usize],
@@ -450,60 +502,71 @@ fn expect_routes(
             );
         }
     }
-    Ok(())
 }
 
 #[test]
-fn routes(rt: HostRuntime) -> Result<(), Fail> {
-    let alloc = rt.alloc();
+fn routes(rt: HostRuntime) {
     let (op, elem_type, count) = (Op::Sum, ElemType::Int32, 1);
     let scanned = [
         [true, true, true],
         [false, true, true],
         [false, false, true],
     ];
-    expect_routes(
-        &rt,
-        alloc,
-        Signature::Scan {
-            op,
-            elem_type,
-            count,
-        },
-        scanned,
-    )?;
+    let scan = Signature::Scan {
+        op,
+        elem_type,
+        count,
+    };
+    expect_routes(&rt, scan, scanned);
     let before = [[false, true, true], [false, false, true], [false; 3]];
-    expect_routes(
-        &rt,
-        alloc,
-        Signature::Exscan {
-            op,
-            elem_type,
-            count,
-        },
-        before,
-    )?;
-    expect_routes(
-        &rt,
-        alloc,
-        Signature::Allgather { elem_type, count },
-        [[true; 3]; 3],
-    )?;
+    let exscan = Signature::Exscan {
+        op,
+        elem_type,
+        count,
+    };
+    expect_routes(&rt, exscan, before);
+    let allgather = Signature::Allgather { elem_type, count };
+    expect_routes(&rt, allgather, [[true; 3]; 3]);
     let empty = Signature::Allreduce {
         op,
         elem_type,
         count: 0,
     };
-    expect_routes(&rt, alloc, empty, [[false; 3]; 3])
+    expect_routes(&rt, empty, [[false; 3]; 3]);
+}
+
+// The fault of a rank, on a grid or not, which gives so many elements.
+fn expect_fault(
+    rt: &impl Abort,
+    shape: &Shape,
+    rank: u32,
+    sig: Signature,
+    own: Own,
+    given: usize,
+    expected: Option<ShapeFault>,
+) {
+    let name = sig.kind().name();
+    let fault = shape_fault(shape, rank, &sig, &own, INT, given);
+    assert_eq!(rt; fault, expected, "{name}, {given}");
+    drop(own);
+    drop(sig);
+}
+
+// The fault of a rank of four.
+fn expect_of_four(
+    rt: &impl Abort,
+    rank: u32,
+    sig: Signature,
+    own: Own,
+    given: usize,
+    expected: Option<ShapeFault>,
+) {
+    expect_fault(rt, &plain(4), rank, sig, own, given, expected);
 }
 
 #[test]
 fn faults_of_a_post(rt: HostRuntime) {
     use ShapeFault::{BadColour, BadCount, BadOp, BadRoot, NoTopology};
-    let plain = Shape {
-        size: 4,
-        grid: None,
-    };
     let maxloc = Op::Maxloc;
     let reduce = Signature::Reduce {
         root: 4,
@@ -521,59 +584,44 @@ fn faults_of_a_post(rt: HostRuntime) {
         count: 1,
     };
     // The rank, the signature, what the rank states for itself, and how many elements it gives.
-    let rows = [
-        (0, gather, Own::Plain, 1, Some(NoTopology)),
-        (0, bcast(4, 0), Own::Plain, 0, Some(BadRoot)),
-        (0, reduce, Own::Plain, 1, Some(BadRoot)),
-        (0, allreduce, Own::Plain, 1, Some(BadOp)),
-        (0, bcast(0, 2), Own::Plain, 2, None),
-        (0, bcast(0, 2), Own::Plain, 1, Some(BadCount)),
-        (1, bcast(0, 1), Own::Plain, 1, Some(BadCount)),
-        (1, bcast(0, 65_536), Own::Plain, 0, None),
-        (1, bcast(0, 65_537), Own::Plain, 0, Some(BadCount)),
-        (1, scatter(0, 16_384), Own::Plain, 0, None),
-        (1, scatter(0, 16_385), Own::Plain, 0, Some(BadCount)),
-        // The product is 2 to the power 32, which 32 bits don't hold.
-        (1, scatter(0, 1 << 30), Own::Plain, 0, Some(BadCount)),
-        (0, gatherv(0), Own::Plain, 65_536, None),
-        (0, gatherv(0), Own::Plain, 65_537, Some(BadCount)),
-        (0, gatherv(0), split(None), 0, Some(BadCount)),
-        (0, Signature::Barrier, Own::Plain, 1, Some(BadCount)),
-        (0, Signature::Split, Own::Plain, 0, Some(BadCount)),
-        (0, Signature::Split, split(Some(-3)), 1, Some(BadCount)),
-        (0, Signature::Split, split(Some(-3)), 0, Some(BadColour)),
-        (0, Signature::Split, split(None), 0, None),
-    ];
-    for (row, (rank, sig, own, given, expected)) in rows.iter().enumerate() {
-        let fault = shape_fault(&plain, *rank, sig, own, INT, *given);
-        assert_eq!(rt; fault, *expected, "row {row}");
-    }
-    let other_type = shape_fault(&plain, 1, &bcast(0, 1), &Own::Plain, ElemType::Int8, 0);
+    expect_of_four(&rt, 0, gather, Own::Plain, 1, Some(NoTopology));
+    expect_of_four(&rt, 0, bcast(4, 0), Own::Plain, 0, Some(BadRoot));
+    expect_of_four(&rt, 0, reduce, Own::Plain, 1, Some(BadRoot));
+    expect_of_four(&rt, 0, allreduce, Own::Plain, 1, Some(BadOp));
+    expect_of_four(&rt, 0, bcast(0, 2), Own::Plain, 2, None);
+    expect_of_four(&rt, 0, bcast(0, 2), Own::Plain, 1, Some(BadCount));
+    expect_of_four(&rt, 1, bcast(0, 1), Own::Plain, 1, Some(BadCount));
+    expect_of_four(&rt, 1, bcast(0, 65_536), Own::Plain, 0, None);
+    expect_of_four(&rt, 1, bcast(0, 65_537), Own::Plain, 0, Some(BadCount));
+    expect_of_four(&rt, 1, scatter(0, 16_384), Own::Plain, 0, None);
+    expect_of_four(&rt, 1, scatter(0, 16_385), Own::Plain, 0, Some(BadCount));
+    // The product is 2 to the power 32, which 32 bits don't hold.
+    expect_of_four(&rt, 1, scatter(0, 1 << 30), Own::Plain, 0, Some(BadCount));
+    expect_of_four(&rt, 0, gatherv(0), Own::Plain, 65_536, None);
+    expect_of_four(&rt, 0, gatherv(0), Own::Plain, 65_537, Some(BadCount));
+    expect_of_four(&rt, 0, gatherv(0), split(None), 0, Some(BadCount));
+    expect_of_four(&rt, 0, Signature::Barrier, Own::Plain, 1, Some(BadCount));
+    expect_of_four(&rt, 0, Signature::Split, Own::Plain, 0, Some(BadCount));
+    expect_of_four(&rt, 0, Signature::Split, split(Some(-3)), 1, Some(BadCount));
+    expect_of_four(
+        &rt,
+        0,
+        Signature::Split,
+        split(Some(-3)),
+        0,
+        Some(BadColour),
+    );
+    expect_of_four(&rt, 0, Signature::Split, split(None), 0, None);
+    let other = bcast(0, 1);
+    let other_type = shape_fault(&plain(4), 1, &other, &Own::Plain, ElemType::Int8, 0);
     assert_eq!(rt; other_type, Some(BadCount));
-}
-
-// The fault of rank 0 of four, on a grid or not, which gives so many elements.
-fn expect_fault(
-    rt: &impl Abort,
-    shape: &Shape,
-    sig: Signature,
-    own: Own,
-    given: usize,
-    expected: Option<ShapeFault>,
-) {
-    let name = sig.kind().name();
-    let fault = shape_fault(shape, 0, &sig, &own, INT, given);
-    assert_eq!(rt; fault, expected, "{name}");
+    drop(other);
 }
 
 #[test]
-fn faults_of_counts(rt: HostRuntime) -> Result<(), Fail> {
+fn faults_of_counts(rt: HostRuntime) {
     let alloc = rt.alloc();
     let elem_type = ElemType::Int32;
-    let plain = Shape {
-        size: 4,
-        grid: None,
-    };
     let rows: [(u32, &[u32], usize, Option<ShapeFault>); 5] = [
         (0, &[1, 0, 2, 0], 3, None),
         (0, &[1, 0, 2], 3, Some(ShapeFault::BadCount)),
@@ -582,40 +630,28 @@ fn faults_of_counts(rt: HostRuntime) -> Result<(), Fail> {
         (1, &[0, 0, 0, 0], 0, Some(ShapeFault::BadCount)),
     ];
     for (root, counts, given, expected) in rows {
-        let own = Own::Counts(numbers(alloc, counts)?);
-        expect_fault(
+        let own = Own::Counts(numbers(&rt, alloc, counts));
+        expect_of_four(
             &rt,
-            &plain,
+            0,
             Signature::Scatterv { root, elem_type },
             own,
             given,
             expected,
         );
     }
-    let counts = numbers(alloc, &[1, 1])?;
+    let counts = numbers(&rt, alloc, &[1, 1]);
     let short = Signature::ReduceScatter {
         op: Op::Sum,
         elem_type,
         counts,
     };
-    expect_fault(
-        &rt,
-        &plain,
-        short,
-        Own::Plain,
-        2,
-        Some(ShapeFault::BadCount),
-    );
-    Ok(())
+    expect_of_four(&rt, 0, short, Own::Plain, 2, Some(ShapeFault::BadCount));
 }
 
 #[test]
-fn faults_of_constructors(rt: HostRuntime) -> Result<(), Fail> {
+fn faults_of_constructors(rt: HostRuntime) {
     let alloc = rt.alloc();
-    let plain = Shape {
-        size: 4,
-        grid: None,
-    };
     let rows: [(&[u32], Option<ShapeFault>); 4] = [
         (&[0, 0], Some(ShapeFault::NotSubgroup)),
         (&[4], Some(ShapeFault::NotSubgroup)),
@@ -623,15 +659,8 @@ fn faults_of_constructors(rt: HostRuntime) -> Result<(), Fail> {
         (&[], None),
     ];
     for (ranks, expected) in rows {
-        let ranks = numbers(alloc, ranks)?;
-        expect_fault(
-            &rt,
-            &plain,
-            Signature::Create { ranks },
-            Own::Plain,
-            0,
-            expected,
-        );
+        let ranks = numbers(&rt, alloc, ranks);
+        expect_of_four(&rt, 0, Signature::Create { ranks }, Own::Plain, 0, expected);
     }
     let rows: [(&[u32], &[bool], Option<ShapeFault>); 5] = [
         (&[2, 2], &[true, false], None),
@@ -641,44 +670,53 @@ fn faults_of_constructors(rt: HostRuntime) -> Result<(), Fail> {
         (&[], &[], None),
     ];
     for (dims, periods, expected) in rows {
-        let dims = numbers(alloc, dims)?;
-        let periods = flags(alloc, periods)?;
-        expect_fault(
+        let dims = numbers(&rt, alloc, dims);
+        let periods = flags(&rt, alloc, periods);
+        expect_of_four(
             &rt,
-            &plain,
+            0,
             Signature::CartCreate { dims, periods },
             Own::Plain,
             0,
             expected,
         );
     }
-    let keep = flags(alloc, &[true])?;
-    expect_fault(
+    let keep = flags(&rt, alloc, &[true]);
+    expect_of_four(
         &rt,
-        &plain,
+        0,
         Signature::CartSub { keep },
         Own::Plain,
         0,
         Some(ShapeFault::NoTopology),
     );
-    let grid = shape(alloc, 4, &[2, 2], &[true, false])?;
-    let keep = flags(alloc, &[true])?;
+    let grid = grid(&rt, alloc, 4, &[2, 2], &[true, false]);
+    let keep = flags(&rt, alloc, &[true]);
     expect_fault(
         &rt,
         &grid,
+        0,
         Signature::CartSub { keep },
         Own::Plain,
         0,
         Some(ShapeFault::BadDims),
     );
-    let keep = flags(alloc, &[false, false])?;
-    expect_fault(&rt, &grid, Signature::CartSub { keep }, Own::Plain, 0, None);
-    Ok(())
+    let keep = flags(&rt, alloc, &[false, false]);
+    expect_fault(
+        &rt,
+        &grid,
+        0,
+        Signature::CartSub { keep },
+        Own::Plain,
+        0,
+        None,
+    );
+    drop(grid);
 }
 
 // The copy of what a rank stated that gave one number of dataset 0 to a gather.
 #[test]
-fn copy_of_a_gather(rt: HostRuntime) -> Result<(), Fail> {
+fn copy_of_a_gather(rt: HostRuntime) {
     let alpha = DatasetId::new(0).expect(&rt, "a dataset");
     let stated = Stated {
         sig: Signature::Gather {
@@ -691,56 +729,76 @@ fn copy_of_a_gather(rt: HostRuntime) -> Result<(), Fail> {
         label: Some(Label::Of(alpha)),
         barred: false,
     };
-    let copy = stated.copy(rt.alloc())?;
-    assert!(rt; copy.sig.is_same(&stated.sig) && matches!(&copy.own, Own::Plain));
-    assert!(rt; copy.given == 1 && copy.label == Some(Label::Of(alpha)) && !copy.barred);
-    Ok(())
+    let Ok(copy) = stated.copy(rt.alloc()) else {
+        panic!(&rt; "no memory")
+    };
+    assert!(&rt; copy.sig.is_same(&stated.sig) && matches!(&copy.own, Own::Plain));
+    assert!(&rt; copy.given == 1 && copy.label == Some(Label::Of(alpha)) && !copy.barred);
+    drop(copy);
+    drop(stated);
 }
 
+// The copy of what a rank stated for a grid, which gave three numbers in two blocks.
 #[test]
-fn copies_are_equal(rt: HostRuntime) -> Result<(), Fail> {
-    let alloc = rt.alloc();
-    let dims = numbers(alloc, &[2, 2])?;
-    let periods = flags(alloc, &[true, false])?;
-    let own = Own::Counts(numbers(alloc, &[1, 2])?);
-    let sig = Signature::CartCreate { dims, periods };
+fn copy_of_a_grid_statement(rt: HostRuntime) {
+    let dims = numbers(&rt, rt.alloc(), &[2, 2]);
+    let periods = flags(&rt, rt.alloc(), &[true, false]);
+    let own = Own::Counts(numbers(&rt, rt.alloc(), &[1, 2]));
     let stated = Stated {
-        sig,
+        sig: Signature::CartCreate { dims, periods },
         own,
         given: 3,
         label: None,
         barred: false,
     };
-    let copy = stated.copy(alloc)?;
-    assert!(rt; copy.sig.is_same(&stated.sig) && !copy.sig.is_same(&Signature::Dup));
-    assert_eq!(rt; copy.own.counts(), [1, 2].as_slice());
-    assert!(rt; copy.given == 3 && copy.label.is_none() && !copy.barred);
-    let grid = shape(alloc, 4, &[2, 2], &[true, false])?;
-    let copy = grid.copy(alloc)?;
-    assert!(rt;
-        copy.is_same(&grid)
-            && !copy.is_same(&Shape {
-                size: 4,
-                grid: None
-            })
-    );
-    assert_eq!(rt; stated.fault(&grid, 0), Some(ShapeFault::BadCount));
-    Ok(())
+    let Ok(copy) = stated.copy(rt.alloc()) else {
+        panic!(&rt; "no memory")
+    };
+    let dup = Signature::Dup;
+    assert!(&rt; copy.sig.is_same(&stated.sig) && !copy.sig.is_same(&dup));
+    assert_eq!(&rt; copy.own.counts(), [1, 2].as_slice());
+    assert!(&rt; copy.given == 3 && copy.label.is_none() && !copy.barred);
+    let grid = grid(&rt, rt.alloc(), 4, &[2, 2], &[true, false]);
+    assert_eq!(&rt; stated.fault(&grid, 0), Some(ShapeFault::BadCount));
+    drop(grid);
+    drop(dup);
+    drop(copy);
+    drop(stated);
+}
+
+#[test]
+fn copy_of_a_grid(rt: HostRuntime) {
+    let grid = grid(&rt, rt.alloc(), 4, &[2, 2], &[true, false]);
+    let Ok(copy) = grid.copy(rt.alloc()) else {
+        panic!(&rt; "no memory")
+    };
+    let other = plain(4);
+    assert!(&rt; copy.is_same(&grid) && !copy.is_same(&other));
+    drop(other);
+    drop(copy);
+    drop(grid);
 }
 
 #[test]
 fn lists_are_lists(rt: HostRuntime) -> Result<(), Fail> {
     let alloc = rt.alloc();
-    let list = numbers(alloc, &[5, 6])?;
+    let list = numbers(&rt, alloc, &[5, 6]);
     let copy = list.copy(alloc)?;
     assert!(rt; copy.is_same(&list) && !copy.is_same(&Numbers::from(Vec::new(alloc))));
     assert_eq!(rt; list.into_vec().as_slice(), [5, 6].as_slice());
-    let kept = flags(alloc, &[true, false])?;
+    let kept = flags(&rt, alloc, &[true, false]);
     let copy = kept.copy(alloc)?;
     assert!(rt; copy.is_same(&kept) && !copy.is_same(&Flags::from(Vec::new(alloc))));
     assert_eq!(rt; kept.into_vec().as_slice(), [true, false].as_slice());
-    let mut rows = Statements::vacant(alloc, 2)?;
-    assert!(rt; rows.len() == 2);
+    Ok(())
+}
+
+#[test]
+fn statements_are_set(rt: HostRuntime) {
+    let Ok(mut rows) = Statements::vacant(rt.alloc(), 2) else {
+        panic!(&rt; "no memory")
+    };
+    assert!(&rt; rows.len() == 2);
     rows.set(
         1,
         Stated {
@@ -751,8 +809,9 @@ fn lists_are_lists(rt: HostRuntime) -> Result<(), Fail> {
             barred: false,
         },
     );
-    assert!(rt; rows.get(0).is_none() && rows.get(2).is_none());
-    assert_eq!(rt; rows.get(1).map(|stated| stated.given), Some(7));
-    assert_eq!(rt; rows.into_vec().len(), 2);
-    Ok(())
+    assert!(&rt; rows.get(0).is_none() && rows.get(2).is_none());
+    assert_eq!(&rt; rows.get(1).map(|stated| stated.given), Some(7));
+    let rows = rows.into_vec();
+    assert_eq!(&rt; rows.len(), 2);
+    drop(rows);
 }

@@ -3,6 +3,7 @@ pub mod FrontLemmas
 pub mod DigitLemmas
 pub mod EachLemmas
 pub mod FieldLemmas
+pub mod CheckLemmas
 pub mod NumberLemmas
 pub mod FoundLemmas
 pub mod AgainLemmas

@@ -3,6 +3,7 @@ pub mod Reading
 pub mod Words
 pub mod Table
 pub mod Fields
+pub mod Checks
 pub mod Spellings
 pub mod Spaced
 pub mod Writing

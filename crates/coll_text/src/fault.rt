@@ -4,7 +4,8 @@ use thiserror::Error;
 
 /// Why a line is no call: its first fault from the left. (Own format.)
 ///
-/// `NoMemory` may come in place of any answer, where a growth was refused.
+/// `NoMemory` comes where a growth was refused. A whole line that has a fault is answered its fault
+/// nevertheless: out of memory comes only in place of success.
 #[derive(Clone, Copy, Debug, PartialEq, Eq, Error)]
 pub enum LineFault {
     /// The first word asks for nothing that is known.

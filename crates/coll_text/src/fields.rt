@@ -18,7 +18,7 @@ use std::alloc::Global;
 use wall_labels::Op;
 
 #[tactic(auto, unfolding(crate::specs::Fields::colour_of))]
-fn colour_in(word: &[u8]) -> Option<Option<i32>>
+pub(crate) fn colour_in(word: &[u8]) -> Option<Option<i32>>
     ensures { result ≡ colour_of word.now }
 {
     if word == b"undefined".as_slice() {

@@ -1,6 +1,6 @@
 //! The words of labels and of the wall's rules.
 ghost use Rattle.wall_policy.specs.Known.{IsKnownLabel};
-ghost use Rattle.std.specs.Prelude.{◌≡◌, IfOk};
+ghost use Rattle.std.specs.Prelude.{◌≡◌, ◌≢◌, IfOk, Err};
 ghost use Rattle.coll_text.specs.Words.{label_word, label_of, rule_word};
 
 use crate::fault::LineFault;
@@ -13,6 +13,7 @@ use wall_verdict::Rule;
 pub fn label_in(policy: &Policy, word: &[u8]) -> Result<Label, LineFault>
     ensures label { result ≡ label_of policy.now.dataset_names word.now }
     ensures known { IfOk result (IsKnownLabel policy.now) }
+    ensures memory { result ≢ Err LineFault.NoMemory }
 {
     if word == b"public".as_slice() {
         return Ok(Label::Public);

@@ -8,6 +8,7 @@
 #![tactic(auto)]
 
 mod append;
+mod check;
 mod digits;
 mod fault;
 mod fields;
@@ -25,6 +26,7 @@ mod tests;
 mod words;
 
 pub use append::{put, put_decimal, put_signed};
+pub use check::check_statement;
 pub use digits::{put_number_at, put_spaced};
 pub use fault::LineFault;
 pub use fields::next_statement;

@@ -1,5 +1,5 @@
 //! Lists of numbers and of flags between commas.
-ghost use Rattle.std.specs.Prelude.{◌≡◌};
+ghost use Rattle.std.specs.Prelude.{◌≡◌, ◌≢◌, Err};
 ghost use Rattle.coll_text.specs.Reading.{Gives, each_of, list_of, flag_of, parts as parts_of};
 ghost use Rattle.coll_text.specs.Fields.{number_of};
 
@@ -9,8 +9,9 @@ use crate::words::number_in;
 use coll_routes::{Flags, Numbers};
 use std::alloc::Global;
 
-fn flag_in(word: &[u8]) -> Result<bool, LineFault>
-    ensures { Gives result (flag_of word.now) }
+pub(crate) fn flag_in(word: &[u8]) -> Result<bool, LineFault>
+    ensures flag { Gives result (flag_of word.now) }
+    ensures memory { result ≢ Err LineFault.NoMemory }
 {
     match word {
         b"0" => Ok(false),

@@ -110,16 +110,23 @@ impl<'a> Parts<'a> {
         }
     }
 
+    /// The parts that are left, to be read a second time.
+    pub fn copy(&self) -> Parts<'a>
+        ensures { result ≡ self.now }
+    {
+        Parts {
+            rest: self.rest,
+            separator: self.separator,
+            is_done: self.is_done,
+        }
+    }
+
     /// The parts that are left. None is left here.
     pub fn take(&mut self) -> Parts<'a>
         ensures all { result ≡ self.old }
         ensures none { self.new ≡ [] }
     {
-        let taken = Parts {
-            rest: self.rest,
-            separator: self.separator,
-            is_done: self.is_done,
-        };
+        let taken = self.copy();
         self.is_done = true;
         taken
     }

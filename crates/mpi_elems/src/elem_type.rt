@@ -1,6 +1,9 @@
 //! The types of elements.
 ghost use Rattle.std.specs.Prelude.{◌≡◌};
 ghost use Rattle.mpi_elems.specs.Types.{is_pair as is_pair_type, numbers_per_element as numbers_in_one};
+ghost use Rattle.mpi_elems.specs.Numbers.{is_number_of};
+
+use crate::cells::has_numbers;
 
 /// The type of a buffer's elements.
 #[derive(Clone, Copy, Debug, PartialEq, Eq)]
@@ -68,6 +71,13 @@ impl ElemType {
             ElemType::TwoInt => true,
             _ => false,
         }
+    }
+
+    /// Whether the type has the number. Each number of a pair is signed, of 32 bits.
+    pub fn has(self, number: i128) -> bool
+        ensures { result ≡ is_number_of self number }
+    {
+        has_numbers(self, &[number])
     }
 
     /// How many numbers an element has: 2 for a pair, else 1.
