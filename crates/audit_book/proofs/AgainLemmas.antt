@@ -1,5 +1,5 @@
 -- The lines of entries are read again.
-use Rattle.std.proofs.Common.{◌≡◌, ℕ, ◌^◌, ◌<◌, ◌≤◌, Bool, true, false, not, cond, ◌&&◌, ◌||◌, eqb, leb, ltb, length, List, [], ◌∷◌, ◌++◌, All, Option, Some, None, slice_get, Ok, codes, refl, sym, ap, ◌∙◌, arith}
+use Rattle.std.proofs.Common.{◌≡◌, ℕ, nat_eq, ◌^◌, ◌<◌, ◌≤◌, Bool, true, false, not, cond, ◌&&◌, ◌||◌, eqb, leb, ltb, length, List, [], ◌∷◌, ◌++◌, All, Option, Some, None, slice_get, Ok, codes, refl, sym, ap, ◌∙◌, arith}
 use Rattle.std.specs.Option.{is_none, is_some}
 use Rattle.std.specs.List.{list_all, join_with_byte}
 use Rattle.std.specs.Str.{bytes_eq}
@@ -29,7 +29,7 @@ use Rattle.coll_text.proofs.CollTextLemmas.{decimal_is_number, positive, stateme
 use Rattle.audit_book.specs.declared.line.Line.TheVariants.{Said, End}
 use Rattle.coll_text.specs.Words.{name_at, label_word, rule_word}
 use Rattle.audit_book.specs.Lines.{label_at, given_label, given_at, post_at, came_of, denied_at, made_at, outcome_at, verdict_at, end_at, verb_of, line_in, line_at}
-use Rattle.audit_book.specs.Text.{given_word, passage_word, given_words, post_words, outcome_words, verdict_words, entry_words, end_words}
+use Rattle.audit_book.specs.Text.{given_word, passage_word, given_words, post_words, outcome_words, verdict_words, entry_words, end_words, header_line}
 use Rattle.run_model.specs.Known.{IsKnownProcess, IsKnownIfAny, IsKnownOutcome, IsKnownLabel}
 use Rattle.audit_book.specs.Laws.{IsSpelledPost, HasNumbers, IsSpelledVerdict, IsSpelled}
 
@@ -82,6 +82,14 @@ line_lacks (b ∷ bs) h =
     let far : 10 < b = ltb-true 10 b p.0 in
     let other : b ≡ 10 → ⊥ = λ e. absurd (omega arith) in
     All-cons (λ b. eqb b 10 ≡ false) b bs (ne_eqb b 10 other) (line_lacks bs p.1)
+
+-- the header is a line
+version_whole : (t : Bool) → is_line (join_with_byte 32 (codes "book" ∷ cond t (codes "2") (codes "1") ∷ [])) ≡ true
+version_whole true = refl
+version_whole false = refl
+
+pub header_whole : (version : ℕ) → is_line (header_line version) ≡ true
+header_whole version = version_whole (nat_eq version 2)
 
 letter_solid : (b : ℕ) → is_letter b ≡ true → ltb 32 b ≡ true
 letter_solid b h = let far : 97 ≤ b = leb-true 97 b (and_parts (leb 97 b) (leb b 122) h).0 in lt-ltb 32 b (omega arith)

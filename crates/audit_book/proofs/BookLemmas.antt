@@ -16,7 +16,7 @@ use Rattle.audit_book.specs.declared.fault.ReadFault.TheVariants.{BadLine}
 use Rattle.audit_book.specs.declared.line.Line.{Line}
 use Rattle.audit_book.specs.declared.line.Line.TheVariants.{Said, End}
 use Rattle.audit_book.specs.Lines.{line_at}
-use Rattle.audit_book.specs.Text.{line_of, entry_words, end_words, header_words, entry_lines, book_text}
+use Rattle.audit_book.specs.Text.{line_of, entry_words, end_words, header_words, header_line, entry_lines, book_text}
 use Rattle.audit_book.specs.Reading.{with_front, by_line, ended_at, entries_in, lines_in, book_in}
 use Rattle.audit_book.proofs.FoundLemmas.{line_words, line_found}
 
@@ -106,28 +106,28 @@ lines_are wall [] n = append-nil (line_of (end_words n))
 lines_are wall (e ∷ es) n = ap (λ t. line_of (entry_words wall e) ++ t) (lines_are wall es n) ∙ sym (append_assoc (line_of (entry_words wall e)) (entry_lines wall es) (line_of (end_words n)))
 
 -- the text of a book is that of its lines
-pub text_is : (wall : ChineseWall) (es : List Entry) → ended_lines (codes "book 1" ∷ all_lines wall es (length es)) ≡ book_text wall es
+pub text_is : (wall : ChineseWall) (es : List Entry) → ended_lines (header_line wall.version ∷ all_lines wall es (length es)) ≡ book_text wall es
 unfolding book_text
-text_is wall es = ap (λ t. line_of header_words ++ t) (lines_are wall es (length es))
+text_is wall es = ap (λ t. line_of (header_words wall.version) ++ t) (lines_are wall es (length es))
 
-pub header_step : (wall : ChineseWall) (line next : Word) (more : List Word) (es : List Entry) (t : Bool) → bytes_eq line (codes "book 1") ≡ t
-    → cond t (entries_in wall 0 (next ∷ more)) (Err (BadLine 1)) ≡ Ok es → (line ≡ codes "book 1") × (entries_in wall 0 (next ∷ more) ≡ Ok es)
-header_step wall line next more es true e h = ((bytes_eq-Decides line (codes "book 1")).0 e, h)
+pub header_step : (wall : ChineseWall) (line next : Word) (more : List Word) (es : List Entry) (t : Bool) → bytes_eq line (header_line wall.version) ≡ t
+    → cond t (entries_in wall 0 (next ∷ more)) (Err (BadLine 1)) ≡ Ok es → (line ≡ header_line wall.version) × (entries_in wall 0 (next ∷ more) ≡ Ok es)
+header_step wall line next more es true e h = ((bytes_eq-Decides line (header_line wall.version)).0 e, h)
 header_step wall line next more es false e h = absurd cc
 
-lines_found : (wall : ChineseWall) (ls : List Word) (es : List Entry) → lines_in wall ls ≡ Ok es → ls ≡ (codes "book 1" ∷ all_lines wall es (length es)) ++ ([] ∷ [])
+lines_found : (wall : ChineseWall) (ls : List Word) (es : List Entry) → lines_in wall ls ≡ Ok es → ls ≡ (header_line wall.version ∷ all_lines wall es (length es)) ++ ([] ∷ [])
 lines_found wall [] es h = absurd cc
 lines_found wall (line ∷ []) es h = absurd cc
 lines_found wall (line ∷ next ∷ more) es h =
-    let s = header_step wall line next more es (bytes_eq line (codes "book 1")) refl h in
+    let s = header_step wall line next more es (bytes_eq line (header_line wall.version)) refl h in
     let none : 0 + length es ≡ length es = omega arith in
     (λ i. s.0 i ∷ entries_found wall 0 (next ∷ more) es s.1 i)
-    ∙ ap (λ (n : ℕ). (codes "book 1" ∷ all_lines wall es n) ++ ([] ∷ [])) none
+    ∙ ap (λ (n : ℕ). (header_line wall.version ∷ all_lines wall es n) ++ ([] ∷ [])) none
 
 pub book_found : (wall : ChineseWall) (text : List ℕ) (es : List Entry) → book_in wall text ≡ Ok es → text ≡ book_text wall es
 unfolding book_in
 book_found wall text es h =
     sym (join_with_byte-slice_split 10 text)
     ∙ ap (join_with_byte 10) (lines_found wall (parts 10 text) es h)
-    ∙ join_ended (codes "book 1" ∷ all_lines wall es (length es))
+    ∙ join_ended (header_line wall.version ∷ all_lines wall es (length es))
     ∙ text_is wall es

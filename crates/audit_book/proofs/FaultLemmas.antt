@@ -2,7 +2,7 @@
 use Rattle.std.proofs.Common.{◌≡◌, ◌≢◌, ◌⊎◌, inl, inr, ℕ, suc, ◌+◌, ◌<◌, eqb, Bool, true, false, cond, List, [], ◌∷◌, ◌++◌, length, codes, Result, Ok, Err, refl, sym, ap, subst, ◌∙◌, append_assoc, arith, eq-eqb}
 use Rattle.std.specs.List.{AllByRecursion, join_with_byte, onto_first}
 use Rattle.std.specs.Str.{bytes_eq}
-use Rattle.std.proofs.lemmas.Bool.{eqb-true, ne_eqb}
+use Rattle.std.proofs.lemmas.Bool.{eqb-true, ne_eqb, cond-true}
 use Rattle.std.proofs.lemmas.List.{append-nil, length-append}
 use Rattle.std.proofs.lemmas.List.Elements.{All-nil, All-cons}
 use Rattle.std.proofs.lemmas.List.Splits.{slice_split_none, slice_split_at, join_with_byte-slice_split}
@@ -19,6 +19,8 @@ use Rattle.audit_book.specs.declared.line.Line.TheVariants.{Said, End}
 use Rattle.audit_book.specs.Lines.{line_at}
 use Rattle.audit_book.specs.Reading.{with_front, by_line, ended_at, entries_in, lines_in, book_in}
 use Rattle.audit_book.specs.Faults.{IsLine, IsEntryLine, text_of, IsCut, IsBadAt}
+use Rattle.audit_book.specs.Text.{header_line}
+use Rattle.audit_book.proofs.AgainLemmas.{line_lacks, header_whole}
 use Rattle.audit_book.proofs.BookLemmas.{ended_lines}
 use Rattle.audit_book.proofs.TextAgainLemmas.{step_again, some_behind}
 
@@ -116,24 +118,24 @@ module _ (wall : ChineseWall) where
   abbrev CutLines : List Word → Type 0
   CutLines ls = IsCut wall (join_with_byte 10 ls)
 
-  cut_header : (line next : Word) (more : List Word) (t : Bool) → bytes_eq line (codes "book 1") ≡ t → AreLines (next ∷ more)
+  cut_header : (line next : Word) (more : List Word) (t : Bool) → bytes_eq line (header_line wall.version) ≡ t → AreLines (next ∷ more)
       → cond t (entries_in wall 0 (next ∷ more)) (Err (BadLine 1)) ≡ Err Cut → CutLines (line ∷ next ∷ more)
   cut_header line next more true e ls h =
       let c = cut_rest 0 next more ls h in
-      let header : line ≡ codes "book 1" = (bytes_eq-Decides line (codes "book 1")).0 e in
+      let header : line ≡ header_line wall.version = (bytes_eq-Decides line (header_line wall.version)).0 e in
       inr (record {
         lines = c.front;
         last = c.last;
         entries = c.entries;
         unfinished = c.unfinished;
-        whole = (λ i. header i ++ (10 ∷ join_with_byte 10 (c.split i))) ∙ ap (λ t. codes "book 1" ++ (10 ∷ t)) (join_more c.front c.last []);
+        whole = (λ i. header i ++ (10 ∷ join_with_byte 10 (c.split i))) ∙ ap (λ t. header_line wall.version ++ (10 ∷ t)) (join_more c.front c.last []);
       })
   cut_header line next more false e ls h = absurd cc
 
   cut_lines : (ls : List Word) → AreLines ls → lines_in wall ls ≡ Err Cut → CutLines ls
   cut_lines [] a h = inl (All-nil (λ b. eqb b 10 ≡ false))
   cut_lines (line ∷ []) a h = inl a.0
-  cut_lines (line ∷ next ∷ more) a h = cut_header line next more (bytes_eq line (codes "book 1")) refl a.1 h
+  cut_lines (line ∷ next ∷ more) a h = cut_header line next more (bytes_eq line (header_line wall.version)) refl a.1 h
 
   pub cut_found : (text : List ℕ) → book_in wall text ≡ Err Cut → IsCut wall text
   unfolding book_in
@@ -148,16 +150,21 @@ module _ (wall : ChineseWall) where
   entries_cut k [] last h = refl
   entries_cut k (l ∷ ls) last h = step_again wall k l (ls ++ (last ∷ [])) h.0.1.0 (some_behind ls last) h.0.1.1 ∙ ap (with_front (h.0.1.0 ∷ [])) (entries_cut (k + 1) ls last h.1)
 
-  header_in : (ls : List Word) → 0 < length ls → lines_in wall (codes "book 1" ∷ ls) ≡ entries_in wall 0 ls
+  header_in : (ls : List Word) → 0 < length ls → lines_in wall (header_line wall.version ∷ ls) ≡ entries_in wall 0 ls
   header_in [] some = absurd (omega arith)
-  header_in (next ∷ more) some = refl
+  header_in (next ∷ more) some = cond-true (bytes_eq (header_line wall.version) (header_line wall.version)) (entries_in wall 0 (next ∷ more)) (Err (BadLine 1)) ((bytes_eq-Decides (header_line wall.version) (header_line wall.version)).1 refl)
+
+  -- the parts of a text are its header and those of what is behind it
+  header_first : (rest : List ℕ) → parts 10 (header_line wall.version ++ (10 ∷ rest)) ≡ header_line wall.version ∷ parts 10 rest
+  header_first rest = slice_split_at (λ b. eqb b 10) (header_line wall.version) 10 rest (line_lacks (header_line wall.version) (header_whole wall.version)) refl
 
   pub cut_so : (text : List ℕ) → IsCut wall text → book_in wall text ≡ Err Cut
   unfolding book_in
   cut_so text (inl h) = ap (lines_in wall) (slice_split_none (λ b. eqb b 10) text h)
   cut_so text (inr c) =
       ap (λ (t : List ℕ). lines_in wall (parts 10 t)) c.whole
-      ∙ ap (λ (ls : List Word). lines_in wall (codes "book 1" ∷ ls)) (parts_more c.lines (lines_of c.lines c.entries) c.last ∙ ap (λ (ls : List Word). c.lines ++ ls) (slice_split_none (λ b. eqb b 10) c.last c.unfinished))
+      ∙ ap (lines_in wall) (header_first (ended_lines c.lines ++ c.last))
+      ∙ ap (λ (ls : List Word). lines_in wall (header_line wall.version ∷ ls)) (parts_more c.lines (lines_of c.lines c.entries) c.last ∙ ap (λ (ls : List Word). c.lines ++ ls) (slice_split_none (λ b. eqb b 10) c.last c.unfinished))
       ∙ header_in (c.lines ++ (c.last ∷ [])) (some_behind c.lines c.last)
       ∙ entries_cut 0 c.lines c.last c.entries
 
@@ -240,29 +247,29 @@ module _ (wall : ChineseWall) where
   bad_rest k n line (next ∷ more) ls h = bad_step k n line next more (line_at wall line) refl ls.0 (bad_rest (k + 1) n next more ls.1) h
 
   bad_text : (n : ℕ) (text : List ℕ) (front : List Word) (line next : Word) (more : List Word) → AllByRecursion (IsEntryLine wall) front → IsLine line
-      → text ≡ text_of front (line ++ (10 ∷ join_with_byte 10 (next ∷ more))) → IsWrong (length front) n line next more → IsBadAt wall text n
+      → text ≡ text_of wall front (line ++ (10 ∷ join_with_byte 10 (next ∷ more))) → IsWrong (length front) n line next more → IsBadAt wall text n
   bad_text n text front line next more entries l whole (inl w) =
       inr (inl (record { lines = front; line = line; rest = join_with_byte 10 (next ∷ more); entries = entries; finished = l; no_entry = w.0.0; no_end = w.0.1; whole = whole; place = w.1 }))
   bad_text n text front line next more entries l whole (inr w) =
       inr (inr (record { lines = front; line = line; rest = join_with_byte 10 (next ∷ more); entries = entries; finished = l; is_end = w.0; whole = whole; some = w.2; place = w.1 }))
 
-  bad_header : (n : ℕ) (line next : Word) (more : List Word) (t : Bool) → bytes_eq line (codes "book 1") ≡ t → AreLines (line ∷ next ∷ more)
+  bad_header : (n : ℕ) (line next : Word) (more : List Word) (t : Bool) → bytes_eq line (header_line wall.version) ≡ t → AreLines (line ∷ next ∷ more)
       → cond t (entries_in wall 0 (next ∷ more)) (Err (BadLine 1)) ≡ Err (BadLine n) → IsBadAt wall (join_with_byte 10 (line ∷ next ∷ more)) n
   bad_header n line next more true e ls h =
       let b = bad_rest 0 n next more ls.1 h in
-      let header : line ≡ codes "book 1" = (bytes_eq-Decides line (codes "book 1")).0 e in
+      let header : line ≡ header_line wall.version = (bytes_eq-Decides line (header_line wall.version)).0 e in
       let sum : b.count ≡ 0 + length b.front = b.sum in
       let count : b.count ≡ length b.front = omega (arith, sum) in
       bad_text n (join_with_byte 10 (line ∷ next ∷ more)) b.front b.line b.next b.more b.entries b.finished
-      ((λ i. header i ++ (10 ∷ join_with_byte 10 (b.split i))) ∙ ap (λ t. codes "book 1" ++ (10 ∷ t)) (join_more b.front b.line (b.next ∷ b.more)))
+      ((λ i. header i ++ (10 ∷ join_with_byte 10 (b.split i))) ∙ ap (λ t. header_line wall.version ++ (10 ∷ t)) (join_more b.front b.line (b.next ∷ b.more)))
       (subst (λ (j : ℕ). IsWrong j n b.line b.next b.more) count b.why)
   bad_header n line next more false e ls h =
-      inl (record { line = line; rest = join_with_byte 10 (next ∷ more); finished = ls.0; other = λ q. let t : bytes_eq line (codes "book 1") ≡ true = (bytes_eq-Decides line (codes "book 1")).1 q in absurd cc; whole = refl; place = same_line 1 n h })
+      inl (record { line = line; rest = join_with_byte 10 (next ∷ more); finished = ls.0; other = λ q. let t : bytes_eq line (header_line wall.version) ≡ true = (bytes_eq-Decides line (header_line wall.version)).1 q in absurd cc; whole = refl; place = same_line 1 n h })
 
   bad_lines : (n : ℕ) (ls : List Word) → AreLines ls → lines_in wall ls ≡ Err (BadLine n) → IsBadAt wall (join_with_byte 10 ls) n
   bad_lines n [] a h = absurd (no_bad_cut n h)
   bad_lines n (line ∷ []) a h = absurd (no_bad_cut n h)
-  bad_lines n (line ∷ next ∷ more) a h = bad_header n line next more (bytes_eq line (codes "book 1")) refl a h
+  bad_lines n (line ∷ next ∷ more) a h = bad_header n line next more (bytes_eq line (header_line wall.version)) refl a h
 
   pub bad_found : (text : List ℕ) (n : ℕ) → book_in wall text ≡ Err (BadLine n) → IsBadAt wall text n
   unfolding book_in
@@ -270,12 +277,12 @@ module _ (wall : ChineseWall) where
 
   -- ---- and back
 
-  not_header : (line : Word) (t : Bool) → bytes_eq line (codes "book 1") ≡ t → line ≢ codes "book 1" → t ≡ false
-  not_header line true e other = absurd (other ((bytes_eq-Decides line (codes "book 1")).0 e))
+  not_header : (line : Word) (t : Bool) → bytes_eq line (header_line wall.version) ≡ t → line ≢ header_line wall.version → t ≡ false
+  not_header line true e other = absurd (other ((bytes_eq-Decides line (header_line wall.version)).0 e))
   not_header line false e other = refl
 
-  header_bad : (line : Word) (ls : List Word) → line ≢ codes "book 1" → Parted ls → lines_in wall (line ∷ ls) ≡ Err (BadLine 1)
-  header_bad line ls other p = ap (λ (ls : List Word). lines_in wall (line ∷ ls)) p.2 ∙ rw (not_header line (bytes_eq line (codes "book 1")) refl other) refl
+  header_bad : (line : Word) (ls : List Word) → line ≢ header_line wall.version → Parted ls → lines_in wall (line ∷ ls) ≡ Err (BadLine 1)
+  header_bad line ls other p = ap (λ (ls : List Word). lines_in wall (line ∷ ls)) p.2 ∙ rw (not_header line (bytes_eq line (header_line wall.version)) refl other) refl
 
   entries_bad : (k : ℕ) (front ls : List Word) (f : ReadFault) → AllByRecursion (IsEntryLine wall) front → 0 < length ls → entries_in wall (k + length front) ls ≡ Err f → entries_in wall k (front ++ ls) ≡ Err f
   entries_bad k [] ls f h some e = let none : k ≡ k + 0 = omega arith in ap (λ (j : ℕ). entries_in wall j ls) none ∙ e
@@ -313,11 +320,12 @@ module _ (wall : ChineseWall) where
 
   -- the parts of a text behind its header
   parts_behind : (front : List Word) (line : Word) (rest : List ℕ) → AllByRecursion (IsEntryLine wall) front → IsLine line
-      → parts 10 (text_of front (line ++ (10 ∷ rest))) ≡ codes "book 1" ∷ (front ++ (line ∷ parts 10 rest))
+      → parts 10 (text_of wall front (line ++ (10 ∷ rest))) ≡ header_line wall.version ∷ (front ++ (line ∷ parts 10 rest))
   parts_behind front line rest entries l =
-      ap (λ (ls : List Word). codes "book 1" ∷ ls) (parts_more front (lines_of wall front entries) (line ++ (10 ∷ rest)) ∙ ap (λ (ls : List Word). front ++ ls) (slice_split_at (λ b. eqb b 10) line 10 rest l refl))
+      header_first wall (ended_lines front ++ (line ++ (10 ∷ rest)))
+      ∙ ap (λ (ls : List Word). header_line wall.version ∷ ls) (parts_more front (lines_of wall front entries) (line ++ (10 ∷ rest)) ∙ ap (λ (ls : List Word). front ++ ls) (slice_split_at (λ b. eqb b 10) line 10 rest l refl))
 
-  bad_behind : (n : ℕ) (text : List ℕ) (front : List Word) (line : Word) (rest : List ℕ) → AllByRecursion (IsEntryLine wall) front → IsLine line → text ≡ text_of front (line ++ (10 ∷ rest))
+  bad_behind : (n : ℕ) (text : List ℕ) (front : List Word) (line : Word) (rest : List ℕ) → AllByRecursion (IsEntryLine wall) front → IsLine line → text ≡ text_of wall front (line ++ (10 ∷ rest))
       → ((next : Word) (more : List Word) → join_with_byte 10 (next ∷ more) ≡ rest → IsWrong (length front) n line next more) → book_in wall text ≡ Err (BadLine n)
   unfolding book_in
   bad_behind n text front line rest entries l whole wrong =
@@ -327,7 +335,7 @@ module _ (wall : ChineseWall) where
       let none : 0 + length front ≡ length front = omega arith in
       let all = length-append front ls in
       ap (λ (t : List ℕ). lines_in wall (parts 10 t)) whole
-      ∙ ap (lines_in wall) (parts_behind front line rest entries l ∙ ap (λ (ls : List Word). codes "book 1" ∷ (front ++ (line ∷ ls))) p.2)
+      ∙ ap (lines_in wall) (parts_behind front line rest entries l ∙ ap (λ (ls : List Word). header_line wall.version ∷ (front ++ (line ∷ ls))) p.2)
       ∙ header_in wall (front ++ ls) (omega (arith, all))
       ∙ entries_bad 0 front ls (BadLine n) entries (omega arith) (ap (λ (j : ℕ). entries_in wall j ls) none ∙ wrong_bad (length front) n line p.0 p.1 (wrong p.0 p.1 joined))
 

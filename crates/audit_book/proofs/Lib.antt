@@ -10,3 +10,4 @@ pub mod FormLemmas
 pub mod WriteLemmas
 pub mod NamedLemmas
 pub mod FaultLemmas
+pub mod ScanLemmas

@@ -27,6 +27,7 @@ use Rattle.audit_book.specs.declared.words.Came.TheVariants as came
 use Rattle.audit_book.specs.declared.words.Given.{Given}
 use Rattle.coll_text.specs.Words.{label_of}
 use Rattle.audit_book.specs.Lines.{past_word, known_process, process_at, named_at, label_at, given_label, barred_at, rule_at, given_at, post_at, came_of, denied_at, made_at, came_to, outcome_at, verdict_at, end_at, verb_of, line_behind, line_in, line_at}
+use Rattle.audit_book.specs.Text.{header_line}
 use Rattle.audit_book.specs.Reading.{by_line, ended_at, entries_in, lines_in, book_in}
 use Rattle.run_model.specs.Known.{IsKnownProcess, IsKnownIfAny, IsKnownOutcome, IsKnownEntry, IsKnownLabel}
 use Rattle.audit_book.proofs.FoundLemmas.{end_is}
@@ -209,7 +210,7 @@ module _ (wall : ChineseWall) where
   lines_known : (ls : List Word) (es : List Entry) → lines_in wall ls ≡ Ok es → All (IsKnownEntry wall) es
   lines_known [] es h = absurd cc
   lines_known (line ∷ []) es h = absurd cc
-  lines_known (line ∷ next ∷ more) es h = entries_known 0 (next ∷ more) es (header_step wall line next more es (bytes_eq line (codes "book 1")) refl h).1
+  lines_known (line ∷ next ∷ more) es h = entries_known 0 (next ∷ more) es (header_step wall line next more es (bytes_eq line (header_line wall.version)) refl h).1
 
 -- the processes and datasets of a book that is read are the policy's
 pub book_known : (wall : ChineseWall) (text : List ℕ) (es : List Entry) → book_in wall text ≡ Ok es → All (IsKnownEntry wall) es

@@ -1,22 +1,24 @@
 -- The text of a book is read again, and each proper front of it is cut.
 use Rattle.std.proofs.Common.{◌≡◌, ℕ, zero, suc, ◌+◌, ◌<◌, ◌≤◌, eqb, ltb, true, List, [], ◌∷◌, ◌++◌, length, take, codes, Result, Ok, Err, inl, inr, ◌⊎◌, refl, sym, ap, ◌∙◌, append_assoc, arith, eq-eqb}
 use Rattle.std.specs.List.{AllByRecursion, join_with_byte}
-use Rattle.std.proofs.lemmas.Bool.{and_parts, and_from}
+use Rattle.std.specs.Str.{bytes_eq}
+use Rattle.std.proofs.lemmas.Bool.{and_parts, and_from, cond-true}
+use Rattle.std.proofs.lemmas.Slice.Eq.{bytes_eq-Decides}
 use Rattle.std.proofs.lemmas.List.{length-append}
 use Rattle.std.proofs.lemmas.List.Splits.{slice_split_none, slice_split_at}
 use Rattle.wall_policy.specs.Policy.{ChineseWall, IsPolicy}
 use Rattle.run_model.specs.declared.entry.Entry.{Entry}
 use Rattle.coll_text.specs.Numbers.{Word}
 use Rattle.coll_text.specs.Reading.{parts}
-use Rattle.audit_book.specs.declared.fault.ReadFault.TheVariants.{Cut}
+use Rattle.audit_book.specs.declared.fault.ReadFault.TheVariants.{Cut, BadLine}
 use Rattle.audit_book.specs.declared.line.Line.{Line}
 use Rattle.audit_book.specs.declared.line.Line.TheVariants.{Said}
 use Rattle.audit_book.specs.Lines.{line_at}
-use Rattle.audit_book.specs.Text.{entry_words, end_words, book_text}
+use Rattle.audit_book.specs.Text.{entry_words, end_words, header_line, book_text}
 use Rattle.audit_book.specs.Reading.{with_front, by_line, ended_at, entries_in, lines_in, book_in}
 use Rattle.audit_book.specs.Laws.{IsSpelled}
 use Rattle.audit_book.proofs.BookLemmas.{ended_lines, all_lines, text_is}
-use Rattle.audit_book.proofs.AgainLemmas.{is_line, line_lacks, entry_line_again, end_line_again, entry_line_whole, end_line_whole}
+use Rattle.audit_book.proofs.AgainLemmas.{is_line, line_lacks, header_whole, entry_line_again, end_line_again, entry_line_whole, end_line_whole}
 
 abbrev AreLines : List Word → Type 0
 AreLines ls = AllByRecursion (λ l. is_line l ≡ true) ls
@@ -98,16 +100,16 @@ module _ (wall : ChineseWall) (policy : IsPolicy wall) where
       step_again wall k (join_with_byte 32 (entry_words wall e)) (all_lines wall es n ++ ([] ∷ [])) e (some_behind (all_lines wall es n) []) (entry_line_again wall policy e h.0)
       ∙ ap (with_front (e ∷ [])) (entries_again (k + 1) n es h.1 small (omega (arith, sum)))
 
-  header_again : (ls : List Word) → 0 < length ls → lines_in wall (codes "book 1" ∷ ls) ≡ entries_in wall 0 ls
+  header_again : (ls : List Word) → 0 < length ls → lines_in wall (header_line wall.version ∷ ls) ≡ entries_in wall 0 ls
   header_again [] some = absurd (omega arith)
-  header_again (next ∷ more) some = refl
+  header_again (next ∷ more) some = cond-true (bytes_eq (header_line wall.version) (header_line wall.version)) (entries_in wall 0 (next ∷ more)) (Err (BadLine 1)) ((bytes_eq-Decides (header_line wall.version) (header_line wall.version)).1 refl)
 
   pub book_again : (es : List Entry) → AllByRecursion (IsSpelled wall) es → length es ≤ 18446744073709551615 → book_in wall (book_text wall es) ≡ Ok es
   unfolding book_in
   book_again es h small =
       let n = length es in
       ap (λ (t : List ℕ). lines_in wall (parts 10 t)) (sym (text_is wall es))
-      ∙ ap (lines_in wall) (parts_ended (codes "book 1" ∷ all_lines wall es n) (refl, lines_whole es n h small))
+      ∙ ap (lines_in wall) (parts_ended (header_line wall.version ∷ all_lines wall es n) (header_whole wall.version, lines_whole es n h small))
       ∙ header_again (all_lines wall es n ++ ([] ∷ [])) (some_behind (all_lines wall es n) [])
       ∙ entries_again 0 n es h small (omega arith)
 
@@ -121,7 +123,7 @@ module _ (wall : ChineseWall) (policy : IsPolicy wall) where
       step_again wall k (join_with_byte 32 (entry_words wall e)) (take j (all_lines wall es n) ++ (last ∷ [])) e (some_behind (take j (all_lines wall es n)) last) (entry_line_again wall policy e h.0)
       ∙ ap (with_front (e ∷ [])) (front_cut (k + 1) n j es last h.1 (omega arith))
 
-  lines_cut : (n j : ℕ) (es : List Entry) (last : Word) → AllByRecursion (IsSpelled wall) es → j < length (codes "book 1" ∷ all_lines wall es n) → lines_in wall (take j (codes "book 1" ∷ all_lines wall es n) ++ (last ∷ [])) ≡ Err Cut
+  lines_cut : (n j : ℕ) (es : List Entry) (last : Word) → AllByRecursion (IsSpelled wall) es → j < length (header_line wall.version ∷ all_lines wall es n) → lines_in wall (take j (header_line wall.version ∷ all_lines wall es n) ++ (last ∷ [])) ≡ Err Cut
   lines_cut n zero es last h lt = refl
   lines_cut n (suc j) es last h lt =
       header_again (take j (all_lines wall es n) ++ (last ∷ [])) (some_behind (take j (all_lines wall es n)) last) ∙ front_cut 0 n j es last h (omega arith)
@@ -130,5 +132,5 @@ module _ (wall : ChineseWall) (policy : IsPolicy wall) where
   unfolding book_in
   book_cut es front rest h small e some =
       let n = length es in
-      let f = front_parts (codes "book 1" ∷ all_lines wall es n) (refl, lines_whole es n h small) front rest (e ∙ sym (text_is wall es)) some in
+      let f = front_parts (header_line wall.version ∷ all_lines wall es n) (header_whole wall.version, lines_whole es n h small) front rest (e ∙ sym (text_is wall es)) some in
       ap (lines_in wall) f.lines ∙ lines_cut n f.finished es f.last h f.some

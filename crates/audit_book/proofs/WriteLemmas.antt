@@ -52,7 +52,7 @@ module _ (wall : ChineseWall) (es : List Entry) (text : List ℕ) where
 front_more : (a b : Option (List ℕ)) (bytes more whole : List ℕ) → AppendsFront a b bytes → bytes ++ more ≡ whole → AppendsFront a b whole
 front_more a b bytes more whole f e = (f.0, f.1 ++ more, sym (append_assoc f.0 f.1 more) ∙ ap (λ (t : List ℕ). t ++ more) f.2 ∙ e, f.3)
 
-module _ (wall : ChineseWall) (es given : List Entry) (same : given ≡ es) (empty begun : List ℕ) (none : empty ≡ []) (header : begun ≡ empty ++ line_of header_words) where
+module _ (wall : ChineseWall) (es given : List Entry) (same : given ≡ es) (empty begun : List ℕ) (none : empty ≡ []) (header : begun ≡ empty ++ line_of (header_words wall.version)) where
   abbrev last : List ℕ
   last = line_of (end_words (length es))
 
@@ -60,8 +60,8 @@ module _ (wall : ChineseWall) (es given : List Entry) (same : given ≡ es) (emp
   unfolding book_text
   whole_is =
       append_assoc begun (entry_lines wall given) last
-      ∙ ap (λ (t : List ℕ). t ++ (entry_lines wall given ++ last)) (header ∙ ap (λ (t : List ℕ). t ++ line_of header_words) none)
-      ∙ ap (λ (ls : List Entry). line_of header_words ++ (entry_lines wall ls ++ last)) same
+      ∙ ap (λ (t : List ℕ). t ++ (entry_lines wall given ++ last)) (header ∙ ap (λ (t : List ℕ). t ++ line_of (header_words wall.version)) none)
+      ∙ ap (λ (ls : List Entry). line_of (header_words wall.version) ++ (entry_lines wall ls ++ last)) same
 
   pub book_broken : (a b : Option (List ℕ)) → AppendsFront a b (begun ++ entry_lines wall given) → AppendsFront a b (book_text wall es)
   book_broken a b f = front_more a b (begun ++ entry_lines wall given) last (book_text wall es) f whole_is

@@ -1,11 +1,12 @@
 -- Where and why a text is no book. Line 1 is the header. (Own format.)
-use Rattle.std.specs.Prelude.{◌≡◌, ◌≢◌, ◌⊎◌, ℕ, ◌+◌, ◌<◌, ◌==◌, false, List, [], ◌∷◌, ◌++◌, length, codes, All, Ok}
+use Rattle.std.specs.Prelude.{◌≡◌, ◌≢◌, ◌⊎◌, ℕ, ◌+◌, ◌<◌, ◌==◌, false, List, [], ◌∷◌, ◌++◌, length, All, Ok}
 use Rattle.std.specs.List.{AllByRecursion, flat_map}
 use Rattle.wall_policy.specs.Policy.{ChineseWall}
 use Rattle.run_model.specs.declared.entry.Entry.{Entry}
 use Rattle.coll_text.specs.Numbers.{Word}
 use Rattle.audit_book.specs.declared.line.Line.TheVariants.{Said, End}
 use Rattle.audit_book.specs.Lines.{line_at}
+use Rattle.audit_book.specs.Text.{header_line}
 
 -- no line feed in it
 abbrev pub IsLine : Word → Type 0
@@ -15,8 +16,8 @@ abbrev pub IsEntryLine : ChineseWall → Word → Type 0
 IsEntryLine wall line = IsLine line × ((entry : Entry) × (line_at wall line ≡ Ok (Said entry)))
 
 -- the header, these lines, each with its line feed, and what is behind them
-abbrev pub text_of : List Word → List ℕ → List ℕ
-text_of lines rest = codes "book 1" ++ (10 ∷ (flat_map (λ line. line ++ (10 ∷ [])) lines ++ rest))
+abbrev pub text_of : ChineseWall → List Word → List ℕ → List ℕ
+text_of wall lines rest = header_line wall.version ++ (10 ∷ (flat_map (λ line. line ++ (10 ∷ [])) lines ++ rest))
 
 -- behind the header stand lines of entries alone, and then bytes that no line feed ends
 pub record StopsEarly (wall : ChineseWall) (text : List ℕ) : Type 0 where
@@ -24,18 +25,18 @@ pub record StopsEarly (wall : ChineseWall) (text : List ℕ) : Type 0 where
   pub last : Word
   pub entries : AllByRecursion (IsEntryLine wall) lines
   pub unfinished : IsLine last
-  pub whole : text ≡ text_of lines last
+  pub whole : text ≡ text_of wall lines last
 
 -- the text stops before a finished `end` line, and all its finished lines are in their form
 abbrev pub IsCut : ChineseWall → List ℕ → Type 0
 IsCut wall text = IsLine text ⊎ StopsEarly wall text
 
--- the first line is not the header
-pub record HasBadHeader (text : List ℕ) (number : ℕ) : Type 0 where
+-- the first line is not the header of the policy's version
+pub record HasBadHeader (wall : ChineseWall) (text : List ℕ) (number : ℕ) : Type 0 where
   pub line : Word
   pub rest : List ℕ
   pub finished : IsLine line
-  pub other : line ≢ codes "book 1"
+  pub other : line ≢ header_line wall.version
   pub whole : text ≡ line ++ (10 ∷ rest)
   pub place : number ≡ 1
 
@@ -48,7 +49,7 @@ pub record HasBadEntry (wall : ChineseWall) (text : List ℕ) (number : ℕ) : T
   pub finished : IsLine line
   pub no_entry : (entry : Entry) → line_at wall line ≢ Ok (Said entry)
   pub no_end : line_at wall line ≢ Ok (End (length lines))
-  pub whole : text ≡ text_of lines (line ++ (10 ∷ rest))
+  pub whole : text ≡ text_of wall lines (line ++ (10 ∷ rest))
   pub place : number ≡ length lines + 2
 
 -- something stands behind the end
@@ -59,10 +60,10 @@ pub record HasMore (wall : ChineseWall) (text : List ℕ) (number : ℕ) : Type 
   pub entries : AllByRecursion (IsEntryLine wall) lines
   pub finished : IsLine line
   pub is_end : line_at wall line ≡ Ok (End (length lines))
-  pub whole : text ≡ text_of lines (line ++ (10 ∷ rest))
+  pub whole : text ≡ text_of wall lines (line ++ (10 ∷ rest))
   pub some : 0 < length rest
   pub place : number ≡ length lines + 3
 
 -- the line of this number is the first that should not stand there
 abbrev pub IsBadAt : ChineseWall → List ℕ → (number : ℕ) → Type 0
-IsBadAt wall text number = HasBadHeader text number ⊎ (HasBadEntry wall text number ⊎ HasMore wall text number)
+IsBadAt wall text number = HasBadHeader wall text number ⊎ (HasBadEntry wall text number ⊎ HasMore wall text number)

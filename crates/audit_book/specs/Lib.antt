@@ -14,3 +14,5 @@ pub mod Writing
 pub mod Checks
 -- how lines are read and written one after the other (of private contracts)
 pub mod LineSteps
+-- how a text is gone through where memory ran out (of private contracts)
+pub mod LineChecks

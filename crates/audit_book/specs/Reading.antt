@@ -1,5 +1,5 @@
--- A book, read from the top: its header, its entries, and its end. (Own format.)
-use Rattle.std.specs.Prelude.{◌≡◌, ℕ, ◌+◌, ◌==◌, List, [], ◌∷◌, ◌++◌, length, codes, Result, Ok, Err, if◌then◌else◌}
+-- A book, read from the top: its header, which has the version of the policy, its entries, and its end. (Own format.)
+use Rattle.std.specs.Prelude.{◌≡◌, ℕ, ◌+◌, ◌==◌, List, [], ◌∷◌, ◌++◌, length, Result, Ok, Err, if◌then◌else◌}
 use Rattle.std.specs.Str.{bytes_eq}
 use Rattle.wall_policy.specs.Policy.{ChineseWall}
 use Rattle.run_model.specs.declared.entry.Entry.{Entry}
@@ -11,6 +11,7 @@ use Rattle.audit_book.specs.declared.fault.ReadFault.TheVariants.{BadLine, Cut, 
 use Rattle.audit_book.specs.declared.line.Line.{Line}
 use Rattle.audit_book.specs.declared.line.Line.TheVariants.{Said, End}
 use Rattle.audit_book.specs.Lines.{line_at}
+use Rattle.audit_book.specs.Text.{header_line}
 
 -- What a reader returned is what is said, unless memory ran out.
 abbrev pub IsSaid : {X Y : Type 0} → (X → Y) → Result X ReadFault → Result Y ReadFault → Type 0
@@ -42,7 +43,7 @@ entries_in wall entries (line ∷ next ∷ more) = by_line entries (line_at wall
 abbrev pub lines_in : ChineseWall → List Word → Result (List Entry) ReadFault
 lines_in wall [] = Err Cut
 lines_in wall (line ∷ []) = Err Cut
-lines_in wall (line ∷ next ∷ more) = if bytes_eq line (codes "book 1") then entries_in wall 0 (next ∷ more) else Err (BadLine 1)
+lines_in wall (line ∷ next ∷ more) = if bytes_eq line (header_line wall.version) then entries_in wall 0 (next ∷ more) else Err (BadLine 1)
 
 -- the entries of a text, or its first line that is not in its form, or `Cut` where it stops before a finished `end` line
 unfoldable pub book_in : ChineseWall → List ℕ → Result (List Entry) ReadFault

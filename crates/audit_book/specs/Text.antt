@@ -1,5 +1,5 @@
 -- The text of a book: a line for each entry between a header and an end, a space between two words, and a line feed behind each line. (Own format.)
-use Rattle.std.specs.Prelude.{ℕ, Bool, true, false, List, [], ◌∷◌, ◌++◌, length, codes, Option, Some, None}
+use Rattle.std.specs.Prelude.{ℕ, nat_eq, Bool, true, false, List, [], ◌∷◌, ◌++◌, length, codes, Option, Some, None, if◌then◌else◌}
 use Rattle.std.specs.List.{join_with_byte, flat_map}
 use Rattle.std.specs.Fmt.{decimal}
 use Rattle.wall_labels.specs.declared.label.Label.{Label}
@@ -44,8 +44,17 @@ abbrev pub entry_words : ChineseWall → Entry → List Word
 entry_words wall (Posted process comm stated) = post_words wall process comm stated
 entry_words wall (Settled comm k outcome) = verdict_words wall comm k outcome
 
-abbrev pub header_words : List Word
-header_words = codes "book" ∷ codes "1" ∷ []
+-- a policy file is of version 1 or 2
+abbrev pub version_word : (version : ℕ) → Word
+version_word version = if nat_eq version 2 then codes "2" else codes "1"
+
+-- the header has the version of the policy
+abbrev pub header_words : (version : ℕ) → List Word
+header_words version = codes "book" ∷ version_word version ∷ []
+
+-- the first line, without its end
+abbrev pub header_line : (version : ℕ) → Word
+header_line version = join_with_byte 32 (header_words version)
 
 abbrev pub end_words : ℕ → List Word
 end_words entries = codes "end" ∷ decimal entries ∷ []
@@ -63,4 +72,4 @@ entry_lines wall entries = flat_map (λ entry. line_of (entry_words wall entry))
 
 -- the text of these entries, the oldest first
 unfoldable pub book_text : ChineseWall → List Entry → List ℕ
-book_text wall entries = line_of header_words ++ entry_lines wall entries ++ line_of (end_words (length entries))
+book_text wall entries = line_of (header_words wall.version) ++ (entry_lines wall entries ++ line_of (end_words (length entries)))

@@ -5,6 +5,7 @@ ghost use Rattle.wall_verdict.specs.Star.{star};
 ghost use Rattle.run_model.specs.declared.entry.Entry.{Entry};
 ghost use Rattle.run_model.specs.Posts.{Post, histories};
 ghost use Rattle.run_model.specs.Refusals.{post_fault};
+ghost use Rattle.run_model.specs.PostLaws.{KeepsTheWall};
 ghost use Rattle.run_model.specs.Books.{IsSound, Begins, IsCounted, is_labelled};
 ghost use Rattle.run_model.specs.EntryForms.{HasForm};
 ghost use Rattle.audit_book.specs.declared.check.Stopped.TheVariants.{Wrong};
@@ -29,13 +30,17 @@ use wall_policy::Policy;
 /// or the new communicators. Nothing goes over the entries before it, so the time is linear in
 /// their number. Memory is taken for the communicators and for the instances that wait.
 ///
+/// What is found sound keeps the wall: before each entry and after the last, no process held two rivals, directly or through others.
+///
 /// `BadEntry` has the number, counted from 1, of the first entry that the posts don't give; where
 /// only an entry is missing at the end, the number after the last. `NoMemory` is answered only
 /// where a growth was refused.
 pub fn check_book(alloc: Global, policy: &Policy, book: &Book) -> Result<(), BookFault>
     ensures sound { OnOk result (IsSound policy.now book.now.list) }
+    ensures keeps { OnOk result (KeepsTheWall policy.now book.now.list) }
     ensures fault { IfErr result (IsFaultOf policy.now book.now.list) }
 {
+    let _ = policy.processes();
     match PostState::open(alloc, policy) {
         Ok(mut post_state) => follow_all(alloc, policy, &mut post_state, book),
         Err(_) => Err(BookFault::NoMemory),

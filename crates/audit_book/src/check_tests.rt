@@ -1,7 +1,9 @@
 //! Books of four processes, worked by hand from the rules.
+ghost use Rattle.std.specs.Prelude.{◌<◌};
 
 use super::check_book;
 use crate::check_fault::BookFault;
+use crate::tests::under;
 use coll_routes::{Own, Signature, Stated};
 use mpi_elems::ElemType;
 use run_model::{Entry, Outcome};
@@ -10,15 +12,20 @@ use std::alloc::Global;
 use std::process::Abort;
 use std::test::Fail;
 use wall_labels::{DatasetId, Label, ProcessId};
-use wall_policy::{Policy, read_policy};
+use wall_policy::Policy;
 use wall_verdict::Rule;
 
 // The datasets 0 alpha and 1 beta are rivals. Process 0 is at home at alpha, process 1 at beta, and the others nowhere.
 const POLICY: &str =
     "version = 1\n[[class]]\nname = \"banks\"\ndatasets = [\"alpha\", \"beta\"]\n[[process]]\nname = \"a0\"\nhome = \"alpha\"\n[[process]]\nname = \"b0\"\nhome = \"beta\"\n[[process]]\nname = \"n0\"\n[[process]]\nname = \"n1\"\n";
 
-fn policy(alloc: Global) -> Result<Policy, Fail> {
-    Ok(read_policy(alloc, POLICY.as_bytes())?)
+// What is posted to the world.
+#[derive(Clone, Copy)]
+enum Posts {
+    // Process 0 posts an element with this label to all.
+    Broadcast(u32),
+    // Processes 0 and 3 ask for one colour, process 2 for another, and process 1 for none.
+    Split,
 }
 
 fn process(rt: &impl Abort, number: u32) -> ProcessId {
@@ -45,27 +52,17 @@ fn post(rt: &impl Abort, number: u32, sig: Signature, own: Own, label: Option<La
     }
 }
 
-fn add(rt: &impl Abort, book: &mut Book, entry: Entry) -> Result<(), Fail> {
+// There is room for it.
+fn push(rt: &impl Abort, book: &mut Book, entry: Entry)
+    requires { 0 < book.old.room }
+{
     assert!(rt; entry.has_form());
-    book.reserve(1)?;
     book.push(entry);
-    Ok(())
 }
 
-// The outcome of the first instance of the world.
-fn settle(rt: &impl Abort, book: &mut Book, outcome: Outcome) -> Result<(), Fail> {
-    let entry = Entry::Settled {
-        comm: 0,
-        k: 0,
-        outcome,
-    };
-    add(rt, book, entry)
-}
-
-// Process 0 posts an element with this label to all.
-fn broadcast(rt: &impl Abort, alloc: Global, dataset: u32) -> Result<Book, Fail> {
-    let mut book = Book::new(alloc);
+fn broadcast(rt: &impl Abort, book: &mut Book, dataset: u32) -> Result<(), Fail> {
     for number in 0..4 {
+        book.reserve(1)?;
         let sig = Signature::Bcast {
             root: 0,
             elem_type: ElemType::Int32,
@@ -76,75 +73,119 @@ fn broadcast(rt: &impl Abort, alloc: Global, dataset: u32) -> Result<Book, Fail>
         } else {
             None
         };
-        let entry = post(rt, number, sig, Own::Plain, label);
-        add(rt, &mut book, entry)?;
+        push(rt, book, post(rt, number, sig, Own::Plain, label));
     }
-    Ok(book)
+    Ok(())
 }
 
-// Processes 0 and 3 ask for one colour, process 2 for another, and process 1 for none.
-fn split(rt: &impl Abort, alloc: Global) -> Result<Book, Fail> {
-    let mut book = Book::new(alloc);
+fn split(rt: &impl Abort, book: &mut Book) -> Result<(), Fail> {
     for (number, colour, key) in [
         (0, Some(2), 0),
         (1, None, 0),
         (2, Some(0), 5),
         (3, Some(2), 0),
     ] {
-        let entry = post(
-            rt,
-            number,
-            Signature::Split,
-            Own::Split { colour, key },
-            None,
-        );
-        add(rt, &mut book, entry)?;
+        book.reserve(1)?;
+        let own = Own::Split { colour, key };
+        push(rt, book, post(rt, number, Signature::Split, own, None));
     }
-    Ok(book)
+    Ok(())
+}
+
+// Adds the posts, and the outcome of their instance if one is given.
+fn fill(
+    rt: &impl Abort,
+    book: &mut Book,
+    posts: Posts,
+    outcome: Option<Outcome>,
+) -> Result<(), Fail> {
+    match posts {
+        Posts::Broadcast(dataset) => broadcast(rt, book, dataset)?,
+        Posts::Split => split(rt, book)?,
+    }
+    if let Some(outcome) = outcome {
+        book.reserve(1)?;
+        let settled = Entry::Settled {
+            comm: 0,
+            k: 0,
+            outcome,
+        };
+        push(rt, book, settled);
+    }
+    Ok(())
+}
+
+// Fills an empty book, and checks it.
+fn judge(
+    rt: &(impl AllocGlobal + Abort),
+    policy: &Policy,
+    book: &mut Book,
+    posts: Posts,
+    outcome: Option<Outcome>,
+) -> Result<Result<(), BookFault>, Fail> {
+    fill(rt, book, posts, outcome)?;
+    Ok(check_book(rt.alloc(), policy, book))
+}
+
+// What the check says of a book of these posts and this outcome.
+fn judged(
+    rt: &(impl AllocGlobal + Abort),
+    policy: &Policy,
+    posts: Posts,
+    outcome: Option<Outcome>,
+) -> Result<Result<(), BookFault>, Fail> {
+    let mut book = Book::new(rt.alloc());
+    let answer = judge(rt, policy, &mut book, posts, outcome);
+    drop(book);
+    answer
+}
+
+fn expect_all(
+    rt: &(impl AllocGlobal + Abort),
+    policy: &Policy,
+    rows: &[(Posts, Option<Outcome>, Result<(), BookFault>)],
+) -> Result<(), Fail> {
+    for (posts, outcome, answer) in rows {
+        assert_eq!(rt; judged(rt, policy, *posts, *outcome)?, *answer);
+    }
+    Ok(())
 }
 
 #[test]
 fn a_rival_may_not_hear_it(rt: HostRuntime) -> Result<(), Fail> {
-    let policy = policy(rt.alloc())?;
-    let mut book = broadcast(&rt, rt.alloc(), 0)?;
-    assert_eq!(rt;
-        check_book(rt.alloc(), &policy, &book),
-        Err(BookFault::BadEntry(5))
-    );
     let denied = Outcome::Denied {
         rule: Rule::Simple,
         process: process(&rt, 1),
         label: label(&rt, 0),
     };
-    settle(&rt, &mut book, denied)?;
-    assert_eq!(rt; check_book(rt.alloc(), &policy, &book), Ok(()));
-    let mut book = broadcast(&rt, rt.alloc(), 0)?;
-    settle(&rt, &mut book, Outcome::Granted)?;
-    assert_eq!(rt;
-        check_book(rt.alloc(), &policy, &book),
-        Err(BookFault::BadEntry(5))
-    );
-    Ok(())
+    let posts = Posts::Broadcast(0);
+    let rows = [
+        (posts, None, Err(BookFault::BadEntry(5))),
+        (posts, Some(denied), Ok(())),
+        (posts, Some(Outcome::Granted), Err(BookFault::BadEntry(5))),
+    ];
+    under(&rt, POLICY, |policy| expect_all(&rt, policy, &rows))
 }
 
 #[test]
 fn a_barred_post_is_no_passed_one(rt: HostRuntime) -> Result<(), Fail> {
-    let policy = policy(rt.alloc())?;
-    let book = broadcast(&rt, rt.alloc(), 1)?;
-    assert_eq!(rt;
-        check_book(rt.alloc(), &policy, &book),
-        Err(BookFault::BadEntry(1))
-    );
-    Ok(())
+    let rows = [(Posts::Broadcast(1), None, Err(BookFault::BadEntry(1)))];
+    under(&rt, POLICY, |policy| expect_all(&rt, policy, &rows))
 }
 
 #[test]
 fn a_split_makes_one_for_each_colour(rt: HostRuntime) -> Result<(), Fail> {
-    let policy = policy(rt.alloc())?;
-    for (number, answer) in [(2, Ok(())), (1, Err(BookFault::BadEntry(5)))] {
-        let mut book = split(&rt, rt.alloc())?;
-        settle(&rt, &mut book, Outcome::Made { first: 1, number })?;
-        assert_eq!(rt; check_book(rt.alloc(), &policy, &book), answer);
-    }
-    Ok(())
+    let two = Outcome::Made {
+        first: 1,
+        number: 2,
+    };
+    let one = Outcome::Made {
+        first: 1,
+        number: 1,
+    };
+    let rows = [
+        (Posts::Split, Some(two), Ok(())),
+        (Posts::Split, Some(one), Err(BookFault::BadEntry(5))),
+    ];
+    under(&rt, POLICY, |policy| expect_all(&rt, policy, &rows))
 }

@@ -5,7 +5,7 @@ use wall_labels::NoMemory as OutOfMemory;
 
 /// Why a text is no book. (Own format.)
 ///
-/// `NoMemory` may come in place of any answer, where a growth was refused.
+/// `NoMemory` comes where a growth was refused, and only in place of a book.
 #[derive(Clone, Copy, Debug, PartialEq, Eq, Error)]
 pub enum ReadFault {
     /// The line of this number, from 1, is the first that is not in its form, or that stands behind the end.

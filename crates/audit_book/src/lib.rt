@@ -21,6 +21,7 @@ mod fault;
 pub mod laws;
 mod line;
 mod read;
+mod scan;
 #[cfg(test)]
 mod tests;
 mod words;

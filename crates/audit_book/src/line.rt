@@ -1,5 +1,5 @@
 //! Reads a line of a book.
-ghost use Rattle.std.specs.Prelude.{◌≡◌, IfOk};
+ghost use Rattle.std.specs.Prelude.{◌≡◌, ◌≢◌, IfOk, Err};
 ghost use Rattle.coll_text.specs.Reading.{Gives, Takes};
 ghost use Rattle.run_model.specs.EntryForms.{HasForm};
 ghost use Rattle.audit_book.specs.Lines.{post_at, denied_at, made_at, came_to, outcome_at, verdict_at, end_at, line_behind, line_in, line_at};
@@ -51,7 +51,8 @@ fn next_post(alloc: Global, policy: &Policy, words: &mut Parts) -> Result<Entry,
 
 #[tactic(auto, unfolding(crate::specs::Lines::denied_at))]
 fn next_denied(policy: &Policy, words: &mut Parts) -> Result<Outcome, LineFault>
-    ensures { Takes (λ o. o) result words.new (denied_at policy.now words.old) }
+    ensures outcome { Takes (λ o. o) result words.new (denied_at policy.now words.old) }
+    ensures memory { result ≢ Err LineFault.NoMemory }
 {
     let rule = next_rule(words)?;
     let process = next_named(policy, words)?;
@@ -65,7 +66,8 @@ fn next_denied(policy: &Policy, words: &mut Parts) -> Result<Outcome, LineFault>
 
 #[tactic(auto, unfolding(crate::specs::Lines::made_at))]
 fn next_made(words: &mut Parts) -> Result<Outcome, LineFault>
-    ensures { Takes (λ o. o) result words.new (made_at words.old) }
+    ensures outcome { Takes (λ o. o) result words.new (made_at words.old) }
+    ensures memory { result ≢ Err LineFault.NoMemory }
 {
     let first = next_number32(words)?;
     let number = next_number32(words)?;
@@ -73,7 +75,8 @@ fn next_made(words: &mut Parts) -> Result<Outcome, LineFault>
 }
 
 fn next_came(policy: &Policy, came: Came, words: &mut Parts) -> Result<Outcome, LineFault>
-    ensures { Takes (λ o. o) result words.new (came_to policy.now came words.old) }
+    ensures outcome { Takes (λ o. o) result words.new (came_to policy.now came words.old) }
+    ensures memory { result ≢ Err LineFault.NoMemory }
 {
     match came {
         Came::Granted => Ok(Outcome::Granted),
@@ -85,7 +88,8 @@ fn next_came(policy: &Policy, came: Came, words: &mut Parts) -> Result<Outcome, 
 
 #[tactic(auto, unfolding(crate::specs::Lines::outcome_at))]
 fn next_outcome(policy: &Policy, words: &mut Parts) -> Result<Outcome, LineFault>
-    ensures { Takes (λ o. o) result words.new (outcome_at policy.now words.old) }
+    ensures outcome { Takes (λ o. o) result words.new (outcome_at policy.now words.old) }
+    ensures memory { result ≢ Err LineFault.NoMemory }
 {
     let word = next_word(words)?;
     let came = came_in(word).ok_or(LineFault::BadShape)?;
@@ -94,9 +98,10 @@ fn next_outcome(policy: &Policy, words: &mut Parts) -> Result<Outcome, LineFault
 
 // What stands behind `verdict`.
 #[tactic(auto, unfolding(crate::specs::Lines::verdict_at))]
-fn next_verdict(policy: &Policy, words: &mut Parts) -> Result<Entry, LineFault>
+pub(crate) fn next_verdict(policy: &Policy, words: &mut Parts) -> Result<Entry, LineFault>
     ensures entry { Gives result (verdict_at policy.now words.old) }
     ensures form { IfOk result HasForm }
+    ensures memory { result ≢ Err LineFault.NoMemory }
 {
     let comm = next_number32(words)?;
     let k = next_number(words, u64::MAX)?;
@@ -107,8 +112,9 @@ fn next_verdict(policy: &Policy, words: &mut Parts) -> Result<Entry, LineFault>
 
 // What stands behind `end`.
 #[tactic(auto, unfolding(crate::specs::Lines::end_at))]
-fn next_end(words: &mut Parts) -> Result<u64, LineFault>
-    ensures { Gives result (end_at words.old) }
+pub(crate) fn next_end(words: &mut Parts) -> Result<u64, LineFault>
+    ensures number { Gives result (end_at words.old) }
+    ensures memory { result ≢ Err LineFault.NoMemory }
 {
     let number = next_number(words, u64::MAX)?;
     end_of(words)?;

@@ -1,5 +1,5 @@
 //! Reads a book.
-ghost use Rattle.std.specs.Prelude.{◌≡◌, [], ◌∷◌, All, IfOk};
+ghost use Rattle.std.specs.Prelude.{◌≡◌, ◌≢◌, [], ◌∷◌, All, IfOk, IsOk, Err};
 ghost use Rattle.audit_book.specs.Lines.{line_at};
 ghost use Rattle.audit_book.specs.Reading.{IsSaid, ended_at, entries_in, book_in};
 ghost use Rattle.audit_book.specs.LineSteps.{Adds, Reads};
@@ -8,6 +8,8 @@ ghost use Rattle.run_model.specs.Known.{IsKnownEntry};
 
 use crate::fault::ReadFault;
 use crate::line::{Line, read_line};
+use crate::scan::check_lines;
+use crate::write::header_text;
 use coll_text::{LineFault, Parts};
 use run_state::Book;
 use std::alloc::Global;
@@ -42,8 +44,9 @@ fn take_line(
 }
 
 // Sees that nothing stands behind the end.
-fn end_of(number: u64, rest: &[u8], lines: &mut Parts) -> Result<(), ReadFault>
-    ensures { Reads result [] (ended_at number (rest.now ∷ lines.old)) }
+pub(crate) fn end_of(number: u64, rest: &[u8], lines: &mut Parts) -> Result<(), ReadFault>
+    ensures end { Reads result [] (ended_at number (rest.now ∷ lines.old)) }
+    ensures memory { result ≢ Err ReadFault.NoMemory }
 {
     match lines.next() {
         Some(_) => Err(ReadFault::BadLine(number)),
@@ -80,13 +83,17 @@ fn take_lines(
 
 /// Reads a book of the policy's processes and datasets.
 ///
-/// `BadLine` for the first finished line that is not in its form, a second header, an `end` with another number than that of the entries, or
-/// anything behind the finished `end`; `Cut` where the text stops before a finished `end` line. (Own format.)
+/// `BadLine` for the first finished line that is not in its form, the header of another version
+/// than the policy's, a second header, an `end` with another number than that of the entries, or
+/// anything behind the finished `end`; `Cut` where the text stops before a finished `end` line.
+/// Out of memory comes only in place of a book. (Own format.)
 #[tactic(auto, unfolding(crate::specs::Reading::book_in))]
 pub fn read_book(alloc: Global, policy: &Policy, text: &[u8]) -> Result<Book, ReadFault>
     ensures answer { IsSaid (λ b. b.list) result (book_in policy.now text.now) }
     ensures spelled { IfOk result (λ b. text.now ≡ book_text policy.now b.list) }
     ensures known { IfOk result (λ b. All (IsKnownEntry policy.now) b.list) }
+    // The text is a book's.
+    ensures memory { result ≡ Err ReadFault.NoMemory → IsOk (book_in policy.now text.now) }
 {
     let mut lines = Parts::new(text, b'\n');
     let Some(header) = lines.next() else {
@@ -95,10 +102,17 @@ pub fn read_book(alloc: Global, policy: &Policy, text: &[u8]) -> Result<Book, Re
     let Some(first) = lines.next() else {
         return Err(ReadFault::Cut);
     };
-    if header != b"book 1".as_slice() {
+    if header != header_text(policy).as_bytes() {
         return Err(ReadFault::BadLine(1));
     }
+    let mut again = lines.copy();
     let mut book = Book::new(alloc);
-    take_lines(alloc, policy, first, &mut lines, &mut book)?;
-    Ok(book)
+    match take_lines(alloc, policy, first, &mut lines, &mut book) {
+        Ok(()) => Ok(book),
+        Err(ReadFault::NoMemory) => {
+            check_lines(policy, first, &mut again)?;
+            Err(ReadFault::NoMemory)
+        }
+        Err(fault) => Err(fault),
+    }
 }

@@ -1,5 +1,5 @@
 //! The words of a book's lines that scripts do not have.
-ghost use Rattle.std.specs.Prelude.{◌≡◌, true, IfOk};
+ghost use Rattle.std.specs.Prelude.{◌≡◌, ◌≢◌, true, IfOk, Err};
 ghost use Rattle.run_model.specs.Books.{is_labelled_as};
 ghost use Rattle.coll_text.specs.Reading.{Gives, Takes};
 ghost use Rattle.audit_book.specs.Lines.{past_word, known_process, process_at, named_at, label_at, given_label, either_word, barred_at, rule_at, rule_of, given_at, came_of, verb_of};
@@ -68,7 +68,8 @@ pub(crate) fn came_in(word: &[u8]) -> Option<Came>
 
 // Goes past this very word.
 fn pass_word(words: &mut Parts, word: &[u8]) -> Result<(), LineFault>
-    ensures { Takes (λ w. w) result words.new (past_word word.now words.old) }
+    ensures word { Takes (λ w. w) result words.new (past_word word.now words.old) }
+    ensures memory { result ≢ Err LineFault.NoMemory }
 {
     let next = next_word(words)?;
     if next == word {
@@ -79,7 +80,8 @@ fn pass_word(words: &mut Parts, word: &[u8]) -> Result<(), LineFault>
 }
 
 fn known_process(policy: &Policy, number: u32) -> Result<ProcessId, LineFault>
-    ensures { Gives result (known_process policy.now number) }
+    ensures process { Gives result (known_process policy.now number) }
+    ensures memory { result ≢ Err LineFault.NoMemory }
 {
     if number >= policy.processes() {
         return Err(LineFault::BadField);
@@ -89,7 +91,8 @@ fn known_process(policy: &Policy, number: u32) -> Result<ProcessId, LineFault>
 
 /// A process of the policy, by its number.
 pub(crate) fn next_process(policy: &Policy, words: &mut Parts) -> Result<ProcessId, LineFault>
-    ensures { Takes (λ p. p) result words.new (process_at policy.now words.old) }
+    ensures process { Takes (λ p. p) result words.new (process_at policy.now words.old) }
+    ensures memory { result ≢ Err LineFault.NoMemory }
 {
     let number = next_number32(words)?;
     known_process(policy, number)
@@ -97,7 +100,8 @@ pub(crate) fn next_process(policy: &Policy, words: &mut Parts) -> Result<Process
 
 /// A process by its name.
 pub(crate) fn next_named(policy: &Policy, words: &mut Parts) -> Result<ProcessId, LineFault>
-    ensures { Takes (λ p. p) result words.new (named_at policy.now words.old) }
+    ensures process { Takes (λ p. p) result words.new (named_at policy.now words.old) }
+    ensures memory { result ≢ Err LineFault.NoMemory }
 {
     let word = next_word(words)?;
     match policy.process_named(word) {
@@ -108,7 +112,8 @@ pub(crate) fn next_named(policy: &Policy, words: &mut Parts) -> Result<ProcessId
 
 /// A label.
 pub(crate) fn next_label(policy: &Policy, words: &mut Parts) -> Result<Label, LineFault>
-    ensures { Takes (λ l. l) result words.new (label_at policy.now words.old) }
+    ensures label { Takes (λ l. l) result words.new (label_at policy.now words.old) }
+    ensures memory { result ≢ Err LineFault.NoMemory }
 {
     let word = next_word(words)?;
     label_in(policy, word)
@@ -123,6 +128,7 @@ fn next_given_label(
 ) -> Result<Option<Label>, LineFault>
     ensures label { Takes (λ l. l) result words.new (given_label policy.now given words.old) }
     ensures labelled { IfOk result (λ l. is_labelled_as given l ≡ true) }
+    ensures memory { result ≢ Err LineFault.NoMemory }
 {
     if given == 0 {
         pass_word(words, b"none")?;
@@ -134,7 +140,8 @@ fn next_given_label(
 }
 
 fn either_word(word: &[u8], first: &[u8], second: &[u8]) -> Result<bool, LineFault>
-    ensures { Gives result (either_word first.now second.now word.now) }
+    ensures word { Gives result (either_word first.now second.now word.now) }
+    ensures memory { result ≢ Err LineFault.NoMemory }
 {
     if word == first {
         Ok(false)
@@ -146,7 +153,8 @@ fn either_word(word: &[u8], first: &[u8], second: &[u8]) -> Result<bool, LineFau
 }
 
 fn next_barred(words: &mut Parts) -> Result<bool, LineFault>
-    ensures { Takes (λ b. b) result words.new (barred_at words.old) }
+    ensures word { Takes (λ b. b) result words.new (barred_at words.old) }
+    ensures memory { result ≢ Err LineFault.NoMemory }
 {
     let word = next_word(words)?;
     either_word(word, b"passed", b"barred")
@@ -154,7 +162,8 @@ fn next_barred(words: &mut Parts) -> Result<bool, LineFault>
 
 /// A rule of the wall.
 pub(crate) fn next_rule(words: &mut Parts) -> Result<Rule, LineFault>
-    ensures { Takes (λ r. r) result words.new (rule_at words.old) }
+    ensures rule { Takes (λ r. r) result words.new (rule_at words.old) }
+    ensures memory { result ≢ Err LineFault.NoMemory }
 {
     let word = next_word(words)?;
     if either_word(word, b"star", b"simple")? {
@@ -169,6 +178,7 @@ pub(crate) fn next_rule(words: &mut Parts) -> Result<Rule, LineFault>
 pub(crate) fn next_given(policy: &Policy, words: &mut Parts) -> Result<Given, LineFault>
     ensures given { Takes (λ g. g) result words.new (given_at policy.now words.old) }
     ensures labelled { IfOk result (λ g. is_labelled_as g.given g.label ≡ true) }
+    ensures memory { result ≢ Err LineFault.NoMemory }
 {
     pass_word(words, b"gives")?;
     let given = next_number32(words)?;

@@ -3,7 +3,7 @@ ghost use Rattle.std.specs.Prelude.{◌≡◌, ◌+◌, ◌<◌, ◌++◌, [], A
 ghost use Rattle.std.specs.Fmt.{decimal};
 ghost use Rattle.std.specs.Io.KnownBytes.{Appends};
 ghost use Rattle.wall_labels.specs.Known.{AppendsFront};
-ghost use Rattle.audit_book.specs.Text.{given_word, passage_word, line_of, given_end, post_words, verdict_words, outcome_words, entry_words, header_words, end_words, entry_lines, book_text};
+ghost use Rattle.audit_book.specs.Text.{given_word, passage_word, line_of, given_end, post_words, verdict_words, outcome_words, entry_words, header_words, header_line, end_words, entry_lines, book_text};
 ghost use Rattle.coll_text.specs.Writing.{Moves};
 ghost use Rattle.audit_book.specs.Writing.{IsWriteFault};
 ghost use Rattle.run_model.specs.Known.{IsKnownProcess, IsKnownIfAny, IsKnownOutcome, IsKnownEntry, IsKnownLabel};
@@ -149,10 +149,21 @@ fn put_entry(policy: &Policy, entry: &Entry, text: &mut Vec<u8>) -> Result<(), N
     }
 }
 
-fn put_header(text: &mut Vec<u8>) -> Result<(), AllocError>
-    ensures { OnOk result (text.new.items ≡ text.old.items ++ line_of header_words) }
+/// The first line of a book under the policy, without its end.
+pub(crate) fn header_text(policy: &Policy) -> &'static str
+    ensures { result.now ≡ header_line policy.now.version }
 {
-    put(text, "book 1\n")
+    match policy.version() {
+        2 => "book 2",
+        _ => "book 1",
+    }
+}
+
+fn put_header(policy: &Policy, text: &mut Vec<u8>) -> Result<(), AllocError>
+    ensures { OnOk result (text.new.items ≡ text.old.items ++ line_of (header_words policy.now.version)) }
+{
+    put(text, header_text(policy))?;
+    put(text, "\n")
 }
 
 fn put_end(entries: usize, text: &mut Vec<u8>) -> Result<(), AllocError>
@@ -206,7 +217,7 @@ pub fn write_book<W: Sink>(
     ensures front { OnErr result (AppendsFront (W.contents sink.old) (W.contents sink.new) (book_text policy.now book.now.list)) }
 {
     let mut text = Vec::new(alloc);
-    put_header(&mut text)?;
+    put_header(policy, &mut text)?;
     write_entries(policy, book.as_slice(), &mut text, sink)?;
     put_end(book.len(), &mut text)?;
     match send(&mut text, sink) {

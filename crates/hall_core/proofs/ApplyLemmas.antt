@@ -1,5 +1,5 @@
 -- One call, from what a hall stands for to runs.
-use Rattle.std.proofs.Common.{◌≡◌, ℕ, List, [], ◌∷◌, refl, sym, ap, ◌∙◌, subst, All}
+use Rattle.std.proofs.Common.{◌≡◌, ℕ, List, [], ◌∷◌, refl, sym, ap, ◌∙◌, subst, All, length}
 use Rattle.wall_policy.specs.Policy.{ChineseWall, IsPolicy}
 use Rattle.wall_rules.specs.Histories.{History, NobodyHoldsRivals}
 use Rattle.run_model.specs.Posts.{histories}
@@ -17,6 +17,8 @@ use Rattle.hall_core.specs.declared.claims.Claim.{Claim}
 use Rattle.hall_core.specs.Claims.{HoldsWhatIsKept, Claims}
 use Rattle.hall_core.proofs.ClaimLemmas.{held_claims}
 use Rattle.hall_core.specs.Halls.{HallValue, StandsForEffects, StandsFor, view_of}
+use Rattle.hall_core.specs.Asking.{requests_of}
+use Rattle.hall_core.specs.Settling.{KeepsCount}
 use Rattle.hall_core.specs.Invariant.{IsHallValue}
 use Rattle.hall_core.specs.Moves.{Steps}
 use Rattle.run_model.specs.Known.{HasKnownLabel, IsKnownEntry}
@@ -44,10 +46,11 @@ applied_apart old new call got policy same steps run legal stands =
     nobody_holds_two_rivals_in_runs new.policy [] (entry call got ∷ run) (subst IsPolicy (sym same) policy) (applied old new call got same steps run legal stands).0
 
 -- a hall is one after a call
-pub kept_after : (old new : HallValue) (call : Call) (got : Reply) → IsHallValue old → new.policy ≡ old.policy → Rattle.std.proofs.Common.length new.asked ≡ Rattle.std.proofs.Common.length old.asked → HasKnownLabel old.policy call.act → Steps (view_of old) (view_of new) call.process call.act got → IsHallValue new
-kept_after old new call got is same each known steps = record {
+pub kept_after : (old new : HallValue) (call : Call) (got : Reply) → IsHallValue old → new.policy ≡ old.policy → Rattle.std.proofs.Common.length new.asked ≡ Rattle.std.proofs.Common.length old.asked → KeepsCount (requests_of new.asked) (length new.asked) new.settled → HasKnownLabel old.policy call.act → Steps (view_of old) (view_of new) call.process call.act got → IsHallValue new
+kept_after old new call got is same each counted known steps = record {
   policy = subst IsPolicy (sym same) is.policy;
   each = each ∙ (is.each ∙ ap (λ (w : ChineseWall). Rattle.run_model.specs.Comms.processes w) (sym same));
+  counted = counted;
   stands = is_hall_after (view_of old) (view_of new) call.process call.act got is.stands same known steps;
 }
 

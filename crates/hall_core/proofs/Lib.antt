@@ -1,3 +1,4 @@
+pub mod FrontLemmas
 pub mod AskingLemmas
 pub mod SettlingLemmas
 pub mod LookLemmas
@@ -6,6 +7,8 @@ pub mod InfoLemmas
 pub mod JoinLemmas
 pub mod OpenLemmas
 pub mod TakeLemmas
+pub mod PlaceLemmas
+pub mod CountLemmas
 pub mod TellLemmas
 pub mod ClaimLemmas
 pub mod RecordLemmas

@@ -1,6 +1,6 @@
 -- What a post answers, and what it makes of a hall.
 use Rattle.std.proofs.Common.{◌≡◌, ℕ, ◌<◌, ◌≤◌, Bool, true, false, not, List, ◌++◌, length, refl, sym, ap, ◌∙◌, subst, Option, Some, None, slice_get, option_map, ⊎_elim, inl, inr, cond, ltb-true, lt-ltb}
-use Rattle.std.specs.Prelude.{◌==◌, nat_lt, if◌then◌else◌, IsTrue, IsFalse, IsSome}
+use Rattle.std.specs.Prelude.{nat_lt, if◌then◌else◌}
 use Rattle.std.proofs.lemmas.Bool.{cases_Bool, cond-true, cond-false, and_from}
 use Rattle.wall_labels.specs.declared.label.Label.{Label}
 use Rattle.wall_policy.specs.Policy.{ChineseWall}
@@ -24,7 +24,7 @@ use Rattle.run_model.specs.EntryForms.{HasForm}
 use Rattle.run_model.proofs.RunModelLemmas.{accepted as accepted_by, no_fault_has, fault_spared, taken, given_of, entry_of, after_posted, after_barred, after_refused}
 use Rattle.run_state.specs.declared.entered.Entered.{Entered}
 use Rattle.run_state.specs.declared.entered.Entered.TheVariants.{Waiting, Settled}
-use Rattle.run_model.specs.Contributions.{Contribution, contribution, posts_of}
+use Rattle.run_model.specs.Contributions.{Contribution, posts_of}
 use Rattle.run_state.specs.Views.{PostStateView, fault_of, fault_on, fault_as}
 use Rattle.run_state.specs.Stands.{Tells}
 use Rattle.run_model.specs.declared.call.Posting.{Posting}
@@ -34,7 +34,7 @@ use Rattle.run_model.specs.declared.reply.Reply.TheVariants.{Refused}
 use Rattle.run_model.specs.Runs.{Effects, requests, given_in, label_in, statement, with_contribution, after_entry}
 use Rattle.run_model.specs.Replies.{posts_in, refusal, too_many, is_limit_reached, accepted, reply_to_post, reply_by, may_lack_memory, IsAnswer}
 use Rattle.hall_core.specs.declared.settled.Settlement.{Settlement}
-use Rattle.hall_core.specs.Asking.{is_open}
+use Rattle.hall_core.specs.Asking.{open_number}
 use Rattle.hall_core.specs.Halls.{HallView, StandsForEffects}
 use Rattle.hall_core.specs.Moves.{number_in, IsSettledBy, IsRecorded}
 use Rattle.hall_core.proofs.RequestLemmas.{over_is}
@@ -56,7 +56,7 @@ mapped_none None e = refl
 mapped_none (Some f) e = absurd (cc)
 
 pub refusal_is : (hall : HallView) (m : Effects) → StandsForEffects hall m → (p : ℕ) (posting : Posting) → fault hall.policy (posts_in m) p posting.comm posting.sig posting.own posting.elements.elem_type (given_in posting) ≡ None →
-    cond (is_limit_reached (Rattle.std.specs.Prelude.count_by is_open (hall.asked p)) (length (hall.asked p))) (Some TooManyRequests) None ≡ refusal hall.policy m p posting
+    cond (is_limit_reached (open_number (hall.asked p)) (length (hall.asked p))) (Some TooManyRequests) None ≡ refusal hall.policy m p posting
 refusal_is hall m stands p posting none =
     ap (λ b. cond {A = Option Refusal} b (Some TooManyRequests) None) (over_is hall m stands p)
     ∙ ap (λ o. or_else o (if too_many p m then Some TooManyRequests else None)) (sym none)
@@ -142,7 +142,7 @@ settled_from c entered a b new same h = subst (λ (f : ℕ → ℕ → Option Se
 pub recorded_from : (a b new : HallView) (p c : ℕ) (said stated : Stated) (entered : Entered Contents) → b.policy ≡ a.policy → b.asked ≡ a.asked → b.settled ≡ a.settled → b.book ≡ a.book → said ≡ stated → IsRecorded b new p c said entered → IsRecorded a new p c stated entered
 recorded_from a b new p c said stated entered policy asked settled book same h = record {
   policy = h.policy ∙ policy;
-  asked = h.asked ∙ (λ i. Rattle.hall_core.specs.Asking.with_request (asked i) p c (number_in entered));
+  asked = h.asked ∙ (λ i. Rattle.hall_core.specs.Asking.with_request (asked i) p (record { comm = c; k = number_in entered }));
   settled = settled_from c entered a.settled b.settled new.settled settled h.settled;
   book = h.book ∙ (λ i. book i ++ Rattle.hall_core.specs.Moves.entries_of p c (same i) entered);
 }

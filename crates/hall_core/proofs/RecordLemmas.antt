@@ -1,5 +1,5 @@
 -- What a hall stands for once a post has been entered and recorded.
-use Rattle.std.proofs.Common.{◌≡◌, ◌≢◌, ℕ, false, ◌&&◌, List, [], ◌∷◌, ◌++◌, length, map, refl, sym, ap, ◌∙◌, subst, Option, Some, None, option_map, ⊎_elim, ◌⊎◌, inl, inr, cond, eqb-true, eq-eqb}
+use Rattle.std.proofs.Common.{◌≡◌, ◌≢◌, ℕ, false, ◌&&◌, List, [], ◌∷◌, ◌++◌, ◌+◌, length, length-append, arith, refl, sym, ap, ◌∙◌, subst, Option, Some, None, slice_get, option_map, ⊎_elim, ◌⊎◌, inl, inr, cond, eqb-true, eq-eqb}
 use Rattle.std.specs.Prelude.{◌==◌}
 use Rattle.std.specs.Option.{option_to_list}
 use Rattle.std.proofs.lemmas.Bool.{cases_Bool, cond-true, cond-false, false≢true, and_parts, and_from}
@@ -19,10 +19,12 @@ use Rattle.run_model.specs.Replies.{posts_in, comm_at}
 use Rattle.run_model.proofs.RunModelLemmas.{requests_own, requests_other, settled_now, settled_none, settled_other, instance_stays, filled_at}
 use Rattle.hall_core.specs.declared.requests.Request.{Request}
 use Rattle.hall_core.specs.declared.settled.Settlement.{Settlement}
-use Rattle.hall_core.specs.Asking.{with_request}
-use Rattle.hall_core.specs.Halls.{HallView, StandsForEffects, instance_of, taken_at, settlement, settlement_in}
+use Rattle.hall_core.specs.Asking.{opened, taken_at, with_request}
+use Rattle.hall_core.specs.Halls.{HallView, StandsForEffects, instance_of, settlement, settlement_in}
 use Rattle.hall_core.specs.Moves.{number_in, entries_of, IsSettledBy, IsRecorded}
-use Rattle.hall_core.proofs.RequestLemmas.{updated_same, updated_other, same_or_not, map_more, taken_more}
+use Rattle.run_model.proofs.RunModelLemmas.{request_new}
+use Rattle.hall_core.proofs.RequestLemmas.{get_front, updated_same, updated_other, same_or_not, taken_more, opened_more}
+use Rattle.hall_core.proofs.PlaceLemmas.{unsettled}
 
 outcome_none : (wall : ChineseWall) (x : Post) (past : List Post) → filled (comms wall past) x past ≡ None → outcome wall x past ≡ None
 outcome_none wall x past none = ap (λ o. option_map (Rattle.run_model.specs.Posts.outcome_of wall (Rattle.run_model.specs.Posts.labelled (Rattle.run_model.specs.Posts.histories wall past) x) (length (comms wall past))) o) none
@@ -71,9 +73,13 @@ module _ (wall : ChineseWall) (m : Effects) (g : Contribution Contents) (counts 
         apart (inl a) (inr b) f = inr (λ e. b (sym e))
         apart (inl a) (inl b) f = absurd (false≢true (sym f ∙ and_from (c == g.post.comm) (j == k) (eq-eqb c g.post.comm a) (eq-eqb j k b)))
 
-  settled_by : (old new : (c k : ℕ) → Option Settlement) (entered : Entered Contents) → Tells wall g m.contributions entered → ((c k : ℕ) → old c k ≡ settlement_in wall m c k) → IsSettledBy g.post.comm entered old new → (c k : ℕ) → new c k ≡ settlement_in wall (with_contribution m g) c k
-  settled_by old new (Waiting n) tells before by c k = by c k ∙ (before c k ∙ sym (waiting tells.1 c k))
-  settled_by old new (Settled full n o) tells before by c k = by c k ∙ (ap (λ s. cond (c == g.post.comm && k == n) (Some (settlement full o)) s) (before c k) ∙ sym (now_settled full n o tells c k))
+  settled_by : (old new : (c k : ℕ) → Option Settlement) (entered : Entered Contents) → Tells wall g m.contributions entered → IsSettledBy g.post.comm entered old new → (c k : ℕ) → old c k ≡ settlement_in wall m c k → new c k ≡ settlement_in wall (with_contribution m g) c k
+  settled_by old new (Waiting n) tells by c k before = by c k ∙ (before ∙ sym (waiting tells.1 c k))
+  settled_by old new (Settled full n o) tells by c k before = by c k ∙ (ap (λ s. cond (c == g.post.comm && k == n) (Some (settlement full o)) s) before ∙ sym (now_settled full n o tells c k))
+
+  -- nothing came before of the instance that it belongs to
+  none_before : settlement_in wall m g.post.comm (place g.post (posts_in m)) ≡ None
+  none_before = ap (λ o. option_map (settlement (full_at (comm_at wall (posts_in m) g.post.comm) g.post.comm (place g.post (posts_in m)) m.contributions)) o) (unsettled wall g.post (posts_in m) counts)
 
   -- ## the book
 
@@ -90,33 +96,85 @@ module _ (wall : ChineseWall) (m : Effects) (g : Contribution Contents) (counts 
 -- ## all of it
 
 module _ (old new : HallView) (m : Effects) (g : Contribution Contents) (entered : Entered Contents) (stands : StandsForEffects old m) (counts : IsCounted old.policy g.post (posts_in m))
+    (none : old.settled g.post.comm (place g.post (posts_in m)) ≡ None)
     (post_state : StandsForPosts old.policy new.post_state (g ∷ m.contributions)) (tells : Tells old.policy g m.contributions entered) (recorded : IsRecorded old new g.post.process g.post.comm g.post.stated entered) where
-  asked_own : (q : ℕ) → q ≡ g.post.process → with_request old.asked g.post.process g.post.comm (number_in entered) q ≡ old.asked g.post.process ++ record { comm = g.post.comm; k = number_in entered; taken = false } ∷ []
-  asked_own q is = updated_same old.asked g.post.process q (old.asked g.post.process ++ record { comm = g.post.comm; k = number_in entered; taken = false } ∷ []) is
+  abbrev p : ℕ
+  p = g.post.process
 
-  asked_other : (q : ℕ) → q ≢ g.post.process → with_request old.asked g.post.process g.post.comm (number_in entered) q ≡ old.asked q
-  asked_other q apart = updated_other old.asked g.post.process q (old.asked g.post.process ++ record { comm = g.post.comm; k = number_in entered; taken = false } ∷ []) apart
+  abbrev request : Request
+  request = record { comm = g.post.comm; k = number_in entered }
 
-  requests_now : (q : ℕ) → map instance_of (with_request old.asked g.post.process g.post.comm (number_in entered) q) ≡ requests q (posts_in (with_contribution m g))
-  requests_now q = ⊎_elim
-      (λ is. ap (map instance_of) (asked_own q is)
-      ∙ (map_more (old.asked g.post.process) (record { comm = g.post.comm; k = number_in entered; taken = false })
-      ∙ ((λ i. stands.requests g.post.process i ++ (g.post.comm, number_is old.policy m g counts entered tells i) ∷ [])
-      ∙ (sym (requests_own g.post (posts_in m)) ∙ ap (λ n. requests n (g.post ∷ posts_in m)) (sym is)))))
-      (λ apart. ap (map instance_of) (asked_other q apart) ∙ (stands.requests q ∙ sym (requests_other q g.post (posts_in m) (λ e. apart (sym e)))))
-      (same_or_not q g.post.process)
+  now : (q : ℕ) → new.asked q ≡ with_request old.asked p request q
+  now q = ap (λ (f : ℕ → List (Option Request)). f q) recorded.asked
 
-  taken_now : (q r : ℕ) → taken_at (with_request old.asked g.post.process g.post.comm (number_in entered) q) r ≡ m.taken q r
+  asked_own : (q : ℕ) → q ≡ p → new.asked q ≡ old.asked p ++ Some request ∷ []
+  asked_own q is = now q ∙ updated_same old.asked p q (old.asked p ++ Some request ∷ []) is
+
+  asked_other : (q : ℕ) → q ≢ p → new.asked q ≡ old.asked q
+  asked_other q apart = now q ∙ updated_other old.asked p q (old.asked p ++ Some request ∷ []) apart
+
+  kth : number_in entered ≡ place g.post (posts_in m)
+  kth = number_is old.policy m g counts entered tells
+
+  requests_own_now : (q : ℕ) → q ≡ p → requests q (g.post ∷ posts_in m) ≡ requests p (posts_in m) ++ (g.post.comm, place g.post (posts_in m)) ∷ []
+  requests_own_now q is = ap (λ n. requests n (g.post ∷ posts_in m)) is ∙ requests_own g.post (posts_in m)
+
+  requests_still : (q : ℕ) → q ≢ p → requests q (g.post ∷ posts_in m) ≡ requests q (posts_in m)
+  requests_still q apart = requests_other q g.post (posts_in m) (λ e. apart (sym e))
+
+  given_now : (q : ℕ) → length (new.asked q) ≡ length (requests q (posts_in (with_contribution m g)))
+  given_now q = ⊎_elim
+      (λ is.
+      let a : length (new.asked q) ≡ length (old.asked p) + 1 = ap length (asked_own q is) ∙ length-append (old.asked p) (Some request ∷ []) in
+      let b : length (requests q (g.post ∷ posts_in m)) ≡ length (requests p (posts_in m)) + 1 = ap length (requests_own_now q is) ∙ length-append (requests p (posts_in m)) ((g.post.comm, place g.post (posts_in m)) ∷ []) in
+      let c = stands.given p in omega (arith, a, b, c))
+      (λ apart. ap length (asked_other q apart) ∙ (stands.given q ∙ sym (ap length (requests_still q apart))))
+      (same_or_not q p)
+
+  taken_now : (q r : ℕ) → taken_at (new.asked q) r ≡ m.taken q r
   taken_now q r = ⊎_elim
-      (λ is. ap (λ l. taken_at l r) (asked_own q is) ∙ (taken_more (old.asked g.post.process) g.post.comm (number_in entered) r ∙ (stands.taken g.post.process r ∙ ap (λ n. m.taken n r) (sym is))))
+      (λ is. ap (λ l. taken_at l r) (asked_own q is) ∙ (taken_more (old.asked p) request r ∙ (stands.taken p r ∙ ap (λ n. m.taken n r) (sym is))))
       (λ apart. ap (λ l. taken_at l r) (asked_other q apart) ∙ stands.taken q r)
-      (same_or_not q g.post.process)
+      (same_or_not q p)
+
+  -- what is kept of a request that is open
+  record IsKept (q r : ℕ) (f : Request) : Type 0 where
+    pub at : slice_get (requests q (g.post ∷ posts_in m)) r ≡ Some (instance_of f)
+    pub settled : old.settled f.comm f.k ≡ settlement_in old.policy m f.comm f.k
+
+  kept_new : (q r : ℕ) (f : Request) → q ≡ p → r ≡ length (old.asked p) → request ≡ f → IsKept q r f
+  kept_new q r f is number same =
+      let comm : f.comm ≡ g.post.comm = ap (λ (x : Request). x.comm) (sym same) in
+      let k : f.k ≡ place g.post (posts_in m) = ap (λ (x : Request). x.k) (sym same) ∙ kth in
+      record {
+        at = (λ i. slice_get (requests (is i) (g.post ∷ posts_in m)) ((number ∙ stands.given p) i)) ∙ (request_new g.post (posts_in m) ∙ (λ i. Some (sym comm i, sym k i)));
+        settled = (λ i. old.settled (comm i) (k i)) ∙ (none ∙ (sym (none_before old.policy m g counts) ∙ (λ i. settlement_in old.policy m (sym comm i) (sym k i))));
+      }
+
+  kept_old : (q r : ℕ) (f : Request) → opened (old.asked q) r ≡ Some f → IsKept q r f
+  kept_old q r f e = record {
+    at = ⊎_elim
+        (λ is. ap (λ rs. slice_get rs r) (requests_own_now q is) ∙ get_front (requests p (posts_in m)) ((g.post.comm, place g.post (posts_in m)) ∷ []) r (instance_of f) (ap (λ n. slice_get (requests n (posts_in m)) r) (sym is) ∙ stands.waiting q r f e))
+        (λ apart. ap (λ rs. slice_get rs r) (requests_still q apart) ∙ stands.waiting q r f e)
+        (same_or_not q p);
+    settled = stands.settled q r f e;
+  }
+
+  kept : (q r : ℕ) (f : Request) → opened (new.asked q) r ≡ Some f → IsKept q r f
+  kept q r f e = ⊎_elim
+      (λ is. ⊎_elim
+      (λ before. kept_old q r f (ap (λ n. opened (old.asked n) r) is ∙ before))
+      (λ (new : (r ≡ length (old.asked p)) × (request ≡ f)). kept_new q r f is new.0 new.1)
+      (opened_more (old.asked p) request r f (sym (ap (λ l. opened l r) (asked_own q is)) ∙ e)))
+      (λ apart. kept_old q r f (sym (ap (λ l. opened l r) (asked_other q apart)) ∙ e))
+      (same_or_not q p)
 
   pub stands_recorded : StandsForEffects new (with_contribution m g)
   stands_recorded = record {
     post_state = subst (λ (w : ChineseWall). StandsForPosts w new.post_state (g ∷ m.contributions)) (sym recorded.policy) post_state;
-    requests = λ q. ap (λ (f : ℕ → List Request). map instance_of (f q)) recorded.asked ∙ requests_now q;
-    taken = λ q r. ap (λ (f : ℕ → List Request). taken_at (f q) r) recorded.asked ∙ taken_now q r;
-    settled = λ c j. settled_by old.policy m g counts old.settled new.settled entered tells stands.settled recorded.settled c j ∙ ap (λ (w : ChineseWall). settlement_in w (with_contribution m g) c j) (sym recorded.policy);
+    given = given_now;
+    taken = taken_now;
+    waiting = λ q r f e. (kept q r f e).at;
+    settled = λ q r f e. settled_by old.policy m g counts old.settled new.settled entered tells recorded.settled f.comm f.k (kept q r f e).settled ∙ ap (λ (w : ChineseWall). settlement_in w (with_contribution m g) f.comm f.k) (sym recorded.policy);
     book = recorded.book ∙ (ap (λ es. es ++ entries_of g.post.process g.post.comm g.post.stated entered) stands.book ∙ (booked old.policy m g counts entered tells ∙ ap (λ (w : ChineseWall). book w (g.post ∷ posts_in m)) (sym recorded.policy)));
   }

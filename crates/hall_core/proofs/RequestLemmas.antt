@@ -1,55 +1,43 @@
 -- Requests that a hall has, and those that a run has made.
-use Rattle.std.proofs.Common.{◌≡◌, ◌≢◌, ℕ, zero, suc, ◌+◌, ◌<◌, Bool, true, false, not, ◌||◌, List, [], ◌∷◌, ◌++◌, length, set, map, refl, sym, ap, ◌∙◌, arith, Option, Some, None, slice_get, option_map, ⊎_elim, ◌⊎◌, inl, inr, cond, eqb-true, eq-eqb, ne_eqb}
-use Rattle.std.specs.Prelude.{◌==◌, count_by}
+use Rattle.std.proofs.Common.{◌≡◌, ◌≢◌, ℕ, zero, suc, ◌+◌, ◌<◌, ◌≤◌, Bool, true, false, not, ◌||◌, List, [], ◌∷◌, ◌++◌, length, set, refl, sym, ap, ◌∙◌, arith, Option, Some, None, slice_get, ⊎_elim, ◌⊎◌, inl, inr, cond, eqb-true, eq-eqb, ne_eqb}
+use Rattle.std.specs.Prelude.{◌==◌, count_by, is_some, is_none}
 use Rattle.std.specs.Option.{option_map_or}
 use Rattle.std.specs.List.{range_with_len}
-use Rattle.std.proofs.lemmas.Bool.{cases_Bool, cond-true, cond-false, false≢true}
-use Rattle.std.proofs.lemmas.Option.{slice_get-map}
+use Rattle.std.proofs.lemmas.Bool.{cases_Bool, cases_lt, cond-true, cond-false, false≢true}
+use Rattle.std.proofs.lemmas.Option.{slice_get_past, slice_get-get_or}
 use Rattle.std.proofs.lemmas.List.Sums.{sum_by-append}
 use Rattle.mpi_cart.specs.Grids.{below}
 use Rattle.run_model.specs.Runs.{Effects, requests}
 use Rattle.run_model.specs.Replies.{posts_in, open_requests, is_limit_reached, too_many}
 use Rattle.hall_core.specs.declared.requests.Request.{Request}
-use Rattle.hall_core.specs.Asking.{is_open, opened, closed, IsOpen, updated}
-use Rattle.hall_core.specs.Halls.{HallView, StandsForEffects, instance_of, taken_at}
-use Rattle.hall_core.proofs.SettlingLemmas.{set_there, set_apart}
+use Rattle.hall_core.specs.Asking.{opened, taken_at, open_number, updated}
+use Rattle.hall_core.specs.Halls.{HallView, StandsForEffects}
+use Rattle.hall_core.proofs.AskingLemmas.{place_of}
 
--- ## a request that is open
+-- another thing at one number of a list
+pub set_there : {X : Type 0} (xs : List X) (n : ℕ) (x : X) → n < length xs → slice_get (set xs n x) n ≡ Some x
+set_there [] n x low = absurd (omega (arith, low))
+set_there (y ∷ xs) zero x low = refl
+set_there (y ∷ xs) (suc n) x low = set_there xs n x (omega (arith, low))
 
-pub record IsFound (list : List Request) (request : ℕ) (ck : ℕ × ℕ) : Type 0 where
-  pub found : Request
-  pub at : slice_get list request ≡ Some found
-  pub waits : found.taken ≡ false
-  pub is : instance_of found ≡ ck
+pub set_apart : {X : Type 0} (xs : List X) (n m : ℕ) (x : X) → m ≢ n → slice_get (set xs n x) m ≡ slice_get xs m
+set_apart [] n m x apart = refl
+set_apart (y ∷ xs) zero zero x apart = absurd (apart refl)
+set_apart (y ∷ xs) zero (suc m) x apart = refl
+set_apart (y ∷ xs) (suc n) zero x apart = refl
+set_apart (y ∷ xs) (suc n) (suc m) x apart = set_apart xs n m x (λ e. apart (ap suc e))
 
-pub found_open : (list : List Request) (r : ℕ) (ck : ℕ × ℕ) → opened (slice_get list r) ≡ Some ck → IsFound list r ck
-found_open list r ck e = go (slice_get list r) refl e
-  where
-    by_flag : (q : Request) → slice_get list r ≡ Some q → (b : Bool) → q.taken ≡ b → cond {A = Option (ℕ × ℕ)} b None (Some (q.comm, q.k)) ≡ Some ck → IsFound list r ck
-    by_flag q at true t e = absurd (cc)
-    by_flag q at false f e = record { found = q; at = at; waits = f; is = cc }
-
-    go : (o : Option Request) → slice_get list r ≡ o → opened o ≡ Some ck → IsFound list r ck
-    go None at e = absurd (cc)
-    go (Some q) at e = by_flag q at q.taken refl e
-
-pub is_open_found : (list : List Request) (r : ℕ) (ck : ℕ × ℕ) → opened (slice_get list r) ≡ Some ck → IsOpen list r
-is_open_found list r ck e = let f = found_open list r ck e in record { found = f.found; given = f.at; waits = f.waits }
-
--- a request that is not open is unknown, or taken
-pub not_open : (q : Request) → opened (Some q) ≡ None → q.taken ≡ true
-not_open q e = go q.taken refl e
-  where
-    go : (b : Bool) → q.taken ≡ b → cond {A = Option (ℕ × ℕ)} b None (Some (q.comm, q.k)) ≡ None → q.taken ≡ true
-    go true t e = t
-    go false f e = absurd (cc)
+pub get_front : {X : Type 0} (xs ys : List X) (k : ℕ) (x : X) → slice_get xs k ≡ Some x → slice_get (xs ++ ys) k ≡ Some x
+get_front [] ys k x e = absurd (cc)
+get_front (y ∷ xs) ys zero x e = e
+get_front (y ∷ xs) ys (suc k) x e = get_front xs ys k x e
 
 -- ## one process's list, changed
 
-pub updated_same : (asked : (p : ℕ) → List Request) (p q : ℕ) (list : List Request) → q ≡ p → updated asked p list q ≡ list
+pub updated_same : (asked : (p : ℕ) → List (Option Request)) (p q : ℕ) (list : List (Option Request)) → q ≡ p → updated asked p list q ≡ list
 updated_same asked p q list is = cond-true (q == p) list (asked q) (eq-eqb q p is)
 
-pub updated_other : (asked : (p : ℕ) → List Request) (p q : ℕ) (list : List Request) → q ≢ p → updated asked p list q ≡ asked q
+pub updated_other : (asked : (p : ℕ) → List (Option Request)) (p q : ℕ) (list : List (Option Request)) → q ≢ p → updated asked p list q ≡ asked q
 updated_other asked p q list apart = cond-false (q == p) list (asked q) (ne_eqb q p apart)
 
 pub same_or_not : (a b : ℕ) → (a ≡ b) ⊎ (a ≢ b)
@@ -57,40 +45,42 @@ same_or_not a b = ⊎_elim (λ t. inl (eqb-true a b t)) (λ f. inr (λ e. false�
 
 -- ## a request more
 
-pub map_more : (list : List Request) (q : Request) → map instance_of (list ++ q ∷ []) ≡ map instance_of list ++ instance_of q ∷ []
-map_more [] q = refl
-map_more (x ∷ list) q = ap (λ rest. instance_of x ∷ rest) (map_more list q)
-
 -- a new request is not taken
-pub taken_more : (list : List Request) (c k r : ℕ) → taken_at (list ++ record { comm = c; k = k; taken = false } ∷ []) r ≡ taken_at list r
-taken_more [] c k zero = refl
-taken_more [] c k (suc r) = refl
-taken_more (x ∷ list) c k zero = refl
-taken_more (x ∷ list) c k (suc r) = taken_more list c k r
+pub taken_more : (list : List (Option Request)) (q : Request) (r : ℕ) → taken_at (list ++ Some q ∷ []) r ≡ taken_at list r
+taken_more [] q zero = refl
+taken_more [] q (suc r) = refl
+taken_more (x ∷ list) q zero = refl
+taken_more (x ∷ list) q (suc r) = taken_more list q r
+
+-- an open request after that was open before, or is the new one
+pub opened_more : (list : List (Option Request)) (q : Request) (r : ℕ) (f : Request) → opened (list ++ Some q ∷ []) r ≡ Some f → (opened list r ≡ Some f) ⊎ ((r ≡ length list) × (q ≡ f))
+opened_more [] q zero f e = inr (refl, cc)
+opened_more [] q (suc r) f e = absurd (cc)
+opened_more (x ∷ list) q zero f e = inl e
+opened_more (x ∷ list) q (suc r) f e = ⊎_elim (λ h. inl h) (λ (h : (r ≡ length list) × (q ≡ f)). inr (ap suc h.0, h.1)) (opened_more list q r f e)
 
 -- ## a request that is taken
 
-pub map_closed : (list : List Request) (n : ℕ) (q : Request) → slice_get list n ≡ Some q → map instance_of (set list n (closed q)) ≡ map instance_of list
-map_closed [] n q e = refl
-map_closed (x ∷ list) zero q e = let same : x ≡ q = cc in ap (λ (y : Request). instance_of y ∷ map instance_of list) (sym same)
-map_closed (x ∷ list) (suc n) q e = ap (λ rest. instance_of x ∷ rest) (map_closed list n q e)
-
-pub taken_closed : (list : List Request) (n r : ℕ) (q : Request) → n < length list → taken_at (set list n (closed q)) r ≡ ((n == r) || taken_at list r)
-taken_closed list n r q low = ⊎_elim
+pub taken_closed : (list : List (Option Request)) (n r : ℕ) → n < length list → taken_at (set list n None) r ≡ ((n == r) || taken_at list r)
+taken_closed list n r low = ⊎_elim
     (λ t.
     let is : n ≡ r = eqb-true n r t in
-    ap (λ o. option_map_or (λ (x : Request). x.taken) o false) (ap (λ i. slice_get (set list n (closed q)) i) (sym is) ∙ set_there list n (closed q) low)
+    ap (λ o. option_map_or is_none o false) (ap (λ i. slice_get (set list n None) i) (sym is) ∙ set_there list n None low)
     ∙ ap (λ b. b || taken_at list r) (sym t))
     (λ f.
-    ap (λ o. option_map_or (λ (x : Request). x.taken) o false) (set_apart list n r (closed q) (λ e. false≢true (sym f ∙ eq-eqb n r (sym e))))
+    ap (λ o. option_map_or is_none o false) (set_apart list n r None (λ e. false≢true (sym f ∙ eq-eqb n r (sym e))))
     ∙ ap (λ b. b || taken_at list r) (sym f))
     (cases_Bool (n == r))
 
--- ## how many wait
+-- an open request after that was open before
+pub opened_closed : (list : List (Option Request)) (n r : ℕ) (f : Request) → opened (set list n None) r ≡ Some f → opened list r ≡ Some f
+opened_closed [] n r f e = e
+opened_closed (x ∷ list) zero zero f e = absurd (cc)
+opened_closed (x ∷ list) zero (suc r) f e = e
+opened_closed (x ∷ list) (suc n) zero f e = e
+opened_closed (x ∷ list) (suc n) (suc r) f e = opened_closed list n r f e
 
-range_more : (a n : ℕ) → range_with_len a (suc n) ≡ range_with_len a n ++ (a + n) ∷ []
-range_more a zero = ap (λ m. m ∷ []) (let z : a ≡ a + zero = omega arith in z)
-range_more a (suc n) = ap (λ rest. a ∷ rest) (range_more (a + 1) n ∙ ap (λ m. range_with_len (a + 1) n ++ m ∷ []) (let z : (a + 1) + n ≡ a + suc n = omega arith in z))
+-- ## how many wait
 
 range_next : (f : ℕ → Bool) (a n : ℕ) → count_by f (range_with_len (suc a) n) ≡ count_by (λ i. f (suc i)) (range_with_len a n)
 range_next f a zero = refl
@@ -100,30 +90,35 @@ range_next f a (suc n) =
     ∙ (ap (λ (k : ℕ). (0 + cond {A = ℕ} (f (suc a)) 1 0) + k) (ap (λ m. count_by f (range_with_len m n)) s ∙ range_next f (a + 1) n)
     ∙ sym (sum_by-append (λ i. cond {A = ℕ} (f (suc i)) 1 0) (a ∷ []) (range_with_len (a + 1) n)))
 
+same_count : (o : Option Request) → cond {A = ℕ} (not (is_none o)) 1 0 ≡ cond {A = ℕ} (is_some o) 1 0
+same_count (Some r) = refl
+same_count None = refl
+
 -- the requests that are not taken are those that are open
-count_open : (list : List Request) → count_by (λ r. not (taken_at list r)) (below (length list)) ≡ count_by is_open list
+count_open : (list : List (Option Request)) → count_by (λ r. not (taken_at list r)) (below (length list)) ≡ open_number list
 count_open [] = refl
 count_open (x ∷ list) =
     sum_by-append (λ r. cond {A = ℕ} (not (taken_at (x ∷ list) r)) 1 0) (0 ∷ []) (range_with_len 1 (length list))
-    ∙ (ap (λ (k : ℕ). (0 + cond {A = ℕ} (is_open x) 1 0) + k) (range_next (λ r. not (taken_at (x ∷ list) r)) 0 (length list) ∙ count_open list)
-    ∙ sym (sum_by-append (λ r. cond {A = ℕ} (is_open r) 1 0) (x ∷ []) list))
+    ∙ ((λ i. (0 + same_count x i) + (range_next (λ r. not (taken_at (x ∷ list) r)) 0 (length list) ∙ count_open list) i)
+    ∙ sym (sum_by-append (λ o. cond {A = ℕ} (is_some o) 1 0) (x ∷ []) list))
 
-length_map : {X Y : Type 0} (f : X → Y) (xs : List X) → length (map f xs) ≡ length xs
-length_map f [] = refl
-length_map f (x ∷ xs) = ap suc (length_map f xs)
+-- ## what a hall knows of a request
 
 module _ (hall : HallView) (m : Effects) (stands : StandsForEffects hall m) (p : ℕ) where
-  -- how many requests were given
-  pub number_is : length (hall.asked p) ≡ length (requests p (posts_in m))
-  number_is = sym (length_map instance_of (hall.asked p)) ∙ ap length (stands.requests p)
-
-  -- the request of a number
-  pub request_at : (r : ℕ) → slice_get (requests p (posts_in m)) r ≡ option_map instance_of (slice_get (hall.asked p) r)
-  request_at r = ap (λ rs. slice_get rs r) (sym (stands.requests p)) ∙ slice_get-map instance_of (hall.asked p) r
-
-  waiting_is : count_by is_open (hall.asked p) ≡ open_requests p m
+  waiting_is : open_number (hall.asked p) ≡ open_requests p m
   waiting_is = sym (count_open (hall.asked p))
-      ∙ ((λ i. count_by (λ r. not (stands.taken p r i)) (below (number_is i))))
+      ∙ ((λ i. count_by (λ r. not (stands.taken p r i)) (below (stands.given p i))))
 
-  pub over_is : is_limit_reached (count_by is_open (hall.asked p)) (length (hall.asked p)) ≡ too_many p m
-  over_is = λ i. is_limit_reached (waiting_is i) (number_is i)
+  pub over_is : is_limit_reached (open_number (hall.asked p)) (length (hall.asked p)) ≡ too_many p m
+  over_is = λ i. is_limit_reached (waiting_is i) (stands.given p i)
+
+  -- an open request is not taken
+  pub not_taken : (r : ℕ) (q : Request) → opened (hall.asked p) r ≡ Some q → m.taken p r ≡ false
+  not_taken r q e = sym (stands.taken p r) ∙ ap (λ o. option_map_or is_none o false) (place_of (hall.asked p) r q e)
+
+  -- a request that is not open is unknown, or taken
+  pub unknown_or_taken : (r : ℕ) → opened (hall.asked p) r ≡ None → (slice_get (requests p (posts_in m)) r ≡ None) ⊎ (m.taken p r ≡ true)
+  unknown_or_taken r e = ⊎_elim
+      (λ (low : r < length (hall.asked p)). inr (sym (stands.taken p r) ∙ ap (λ o. option_map_or is_none o false) (slice_get-get_or (hall.asked p) r None low ∙ ap (λ o. Some o) e)))
+      (λ (past : length (hall.asked p) ≤ r). inl (slice_get_past (requests p (posts_in m)) r (let same = stands.given p in omega (arith, same, past))))
+      (cases_lt r (length (hall.asked p)))

@@ -1,9 +1,8 @@
 -- What a take answers, and what it makes of a hall.
-use Rattle.std.proofs.Common.{◌≡◌, ◌≢◌, ℕ, ◌+◌, true, false, ◌&&◌, ◌||◌, List, [], ◌∷◌, set, map, refl, sym, ap, ◌∙◌, subst, Option, Some, None, slice_get, option_map, ⊎_elim, inl, inr, eq-eqb, ne_eqb}
+use Rattle.std.proofs.Common.{◌≡◌, ◌≢◌, ℕ, ◌+◌, ◌<◌, true, ◌&&◌, ◌||◌, List, [], ◌∷◌, set, length, refl, sym, ap, ◌∙◌, subst, Option, Some, None, slice_get, option_map, ⊎_elim, inl, inr, eq-eqb, ne_eqb}
 use Rattle.std.specs.Prelude.{◌==◌}
-use Rattle.std.specs.Option.{option_map_or}
 use Rattle.std.proofs.lemmas.Bool.{cond-true, cond-false, false≢true, and_left}
-use Rattle.std.proofs.lemmas.Option.{slice_get_within}
+use Rattle.std.proofs.lemmas.List.{length-set}
 use Rattle.wall_policy.specs.Policy.{ChineseWall}
 use Rattle.mpi_elems.specs.Contents.{Contents}
 use Rattle.mpi_group.specs.Groups.{rank_in}
@@ -23,12 +22,16 @@ use Rattle.run_model.specs.Replies.{posts_in, comm_at, reply_to_take, reply_by_o
 use Rattle.run_model.proofs.RunModelLemmas.{request_member, after_nothing, after_outcome, comm_at_is}
 use Rattle.hall_core.specs.declared.requests.Request.{Request}
 use Rattle.hall_core.specs.declared.settled.Settlement.{Settlement}
-use Rattle.hall_core.specs.Asking.{opened, closed, closed_at, with_closed}
-use Rattle.hall_core.specs.Halls.{HallView, StandsForEffects, instance_of, taken_at, settlement}
+use Rattle.hall_core.specs.Asking.{opened, taken_at, with_closed}
+use Rattle.hall_core.specs.Halls.{HallView, StandsForEffects, settlement, settlement_in}
+use Rattle.run_state.specs.Views.{PostStateView}
+use Rattle.run_state.specs.Stands.{StandsForPosts}
+use Rattle.run_model.specs.Books.{book}
 use Rattle.run_model.specs.Proper.{IsProper}
 use Rattle.hall_core.specs.Invariant.{IsHallView}
-use Rattle.hall_core.specs.Moves.{after_take, Steps}
-use Rattle.hall_core.proofs.RequestLemmas.{found_open, not_open, updated_same, updated_other, same_or_not, map_closed, taken_closed, request_at}
+use Rattle.hall_core.specs.Moves.{Closes, Steps}
+use Rattle.hall_core.proofs.AskingLemmas.{is_within}
+use Rattle.hall_core.proofs.RequestLemmas.{updated_same, updated_other, same_or_not, taken_closed, opened_closed, not_taken, unknown_or_taken}
 
 -- ## calls that change nothing
 
@@ -41,30 +44,29 @@ quiet_steps old new p act got same nothing due = λ m is stands. (
 -- ## the reply to a take
 
 module _ (hall : HallView) (m : Effects) (stands : StandsForEffects hall m) (p r : ℕ) where
-  pub refused_due : opened (slice_get (hall.asked p) r) ≡ None → reply_by hall.policy m p (Take r) ≡ Refused NoSuchRequest
-  refused_due e = go (slice_get (hall.asked p) r) refl e
+  pub refused_due : opened (hall.asked p) r ≡ None → reply_by hall.policy m p (Take r) ≡ Refused NoSuchRequest
+  refused_due e = ⊎_elim
+      (λ unknown. ap (λ q. reply_to_take hall.policy m p r q) unknown)
+      (λ flag. by_request flag (slice_get (requests p (posts_in m)) r))
+      (unknown_or_taken hall m stands p r e)
     where
-      go : (o : Option Request) → slice_get (hall.asked p) r ≡ o → opened o ≡ None → reply_by hall.policy m p (Take r) ≡ Refused NoSuchRequest
-      go None at e = ap (λ q. reply_to_take hall.policy m p r q) (request_at hall m stands p r ∙ ap (option_map instance_of) at)
-      go (Some q) at e =
-          let flag : m.taken p r ≡ true = sym (stands.taken p r) ∙ (ap (λ o. option_map_or (λ (x : Request). x.taken) o false) at ∙ not_open q e) in
-          ap (λ o. reply_to_take hall.policy m p r o) (request_at hall m stands p r ∙ ap (option_map instance_of) at)
-          ∙ cond-true (m.taken p r) (Refused NoSuchRequest) (reply_by_outcome p (full_at (comm_at hall.policy (posts_in m) q.comm) q.comm q.k m.contributions) (outcome_at hall.policy q.comm q.k (posts_in m))) flag
+      by_request : m.taken p r ≡ true → (o : Option (ℕ × ℕ)) → reply_to_take hall.policy m p r o ≡ Refused NoSuchRequest
+      by_request flag None = refl
+      by_request flag (Some ck) = cond-true (m.taken p r) (Refused NoSuchRequest) (reply_by_outcome p (full_at (comm_at hall.policy (posts_in m) ck.0) ck.0 ck.1 m.contributions) (outcome_at hall.policy ck.0 ck.1 (posts_in m))) flag
 
-  module _ (ck : ℕ × ℕ) (waits : opened (slice_get (hall.asked p) r) ≡ Some ck) where
-    pub open_at : slice_get (requests p (posts_in m)) r ≡ Some ck
-    open_at = let f = found_open (hall.asked p) r ck waits in request_at hall m stands p r ∙ (ap (option_map instance_of) f.at ∙ ap (λ q. Some q) f.is)
+  module _ (q : Request) (waits : opened (hall.asked p) r ≡ Some q) where
+    pub open_at : slice_get (requests p (posts_in m)) r ≡ Some (q.comm, q.k)
+    open_at = stands.waiting p r q waits
 
-    pub open_due : reply_by hall.policy m p (Take r) ≡ reply_by_outcome p (full_at (comm_at hall.policy (posts_in m) ck.0) ck.0 ck.1 m.contributions) (outcome_at hall.policy ck.0 ck.1 (posts_in m))
+    pub open_due : reply_by hall.policy m p (Take r) ≡ reply_by_outcome p (full_at (comm_at hall.policy (posts_in m) q.comm) q.comm q.k m.contributions) (outcome_at hall.policy q.comm q.k (posts_in m))
     open_due =
-        let f = found_open (hall.asked p) r ck waits in
-        let flag : m.taken p r ≡ false = sym (stands.taken p r) ∙ (ap (λ o. option_map_or (λ (x : Request). x.taken) o false) f.at ∙ f.waits) in
-        ap (λ q. reply_to_take hall.policy m p r q) open_at ∙ cond-false (m.taken p r) (Refused NoSuchRequest) _ flag
+        ap (λ ck. reply_to_take hall.policy m p r ck) open_at
+        ∙ cond-false (m.taken p r) (Refused NoSuchRequest) _ (not_taken hall m stands p r q waits)
 
-    pub pending_due : hall.settled ck.0 ck.1 ≡ None → reply_by hall.policy m p (Take r) ≡ Pending
-    pending_due none = open_due ∙ ap (λ o. reply_by_outcome p (full_at (comm_at hall.policy (posts_in m) ck.0) ck.0 ck.1 m.contributions) o) (unsettled (outcome_at hall.policy ck.0 ck.1 (posts_in m)) (sym (stands.settled ck.0 ck.1) ∙ none))
+    pub pending_due : hall.settled q.comm q.k ≡ None → reply_by hall.policy m p (Take r) ≡ Pending
+    pending_due none = open_due ∙ ap (λ o. reply_by_outcome p (full_at (comm_at hall.policy (posts_in m) q.comm) q.comm q.k m.contributions) o) (unsettled (outcome_at hall.policy q.comm q.k (posts_in m)) (sym (stands.settled p r q waits) ∙ none))
       where
-        unsettled : (o : Option Outcome) → option_map (settlement (full_at (comm_at hall.policy (posts_in m) ck.0) ck.0 ck.1 m.contributions)) o ≡ None → o ≡ None
+        unsettled : (o : Option Outcome) → option_map (settlement (full_at (comm_at hall.policy (posts_in m) q.comm) q.comm q.k m.contributions)) o ≡ None → o ≡ None
         unsettled None e = refl
         unsettled (Some o) e = absurd (cc)
 
@@ -73,46 +75,50 @@ pub record IsKnownAs (wall : ChineseWall) (m : Effects) (c k : ℕ) (s : Settlem
   pub came : outcome_at wall c k (posts_in m) ≡ Some s.outcome
   pub full : full_at (comm_at wall (posts_in m) c) c k m.contributions ≡ s.full
 
-pub known_as : (hall : HallView) (m : Effects) → StandsForEffects hall m → (c k : ℕ) (s : Settlement) → hall.settled c k ≡ Some s → IsKnownAs hall.policy m c k s
-known_as hall m stands c k s e = go (outcome_at hall.policy c k (posts_in m)) refl (sym (stands.settled c k) ∙ e)
+settled_as : (wall : ChineseWall) (m : Effects) (c k : ℕ) (s : Settlement) → settlement_in wall m c k ≡ Some s → IsKnownAs wall m c k s
+settled_as wall m c k s e = go (outcome_at wall c k (posts_in m)) refl e
   where
-    go : (o : Option Outcome) → outcome_at hall.policy c k (posts_in m) ≡ o → option_map (settlement (full_at (comm_at hall.policy (posts_in m) c) c k m.contributions)) o ≡ Some s → IsKnownAs hall.policy m c k s
+    go : (o : Option Outcome) → outcome_at wall c k (posts_in m) ≡ o → option_map (settlement (full_at (comm_at wall (posts_in m) c) c k m.contributions)) o ≡ Some s → IsKnownAs wall m c k s
     go None is e = absurd (cc)
     go (Some o) is e =
-        let same : settlement (full_at (comm_at hall.policy (posts_in m) c) c k m.contributions) o ≡ s = cc in
+        let same : settlement (full_at (comm_at wall (posts_in m) c) c k m.contributions) o ≡ s = cc in
         record { came = is ∙ ap (λ (t : Settlement). Some t.outcome) same; full = ap (λ (t : Settlement). t.full) same }
 
-pub settled_due : (hall : HallView) (m : Effects) → StandsForEffects hall m → (p r : ℕ) (ck : ℕ × ℕ) (s : Settlement) → opened (slice_get (hall.asked p) r) ≡ Some ck → hall.settled ck.0 ck.1 ≡ Some s →
+-- of the instance of an open request
+pub known_as : (hall : HallView) (m : Effects) → StandsForEffects hall m → (p r : ℕ) (q : Request) (s : Settlement) → opened (hall.asked p) r ≡ Some q → hall.settled q.comm q.k ≡ Some s → IsKnownAs hall.policy m q.comm q.k s
+known_as hall m stands p r q s waits e = settled_as hall.policy m q.comm q.k s (sym (stands.settled p r q waits) ∙ e)
+
+pub settled_due : (hall : HallView) (m : Effects) → StandsForEffects hall m → (p r : ℕ) (q : Request) (s : Settlement) → opened (hall.asked p) r ≡ Some q → hall.settled q.comm q.k ≡ Some s →
     reply_by hall.policy m p (Take r) ≡ reply_by_outcome p s.full (Some s.outcome)
-settled_due hall m stands p r ck s waits e =
-    let is = known_as hall m stands ck.0 ck.1 s e in
-    open_due hall m stands p r ck waits ∙ (λ i. reply_by_outcome p (is.full i) (is.came i))
+settled_due hall m stands p r q s waits e =
+    let is = known_as hall m stands p r q s waits e in
+    open_due hall m stands p r q waits ∙ (λ i. reply_by_outcome p (is.full i) (is.came i))
 
 -- ## a request that is taken
 
-module _ (hall : HallView) (m : Effects) (stands : StandsForEffects hall m) (p r : ℕ) (q : Request) (at : slice_get (hall.asked p) r ≡ Some q) where
-  abbrev list : List Request
-  list = set (hall.asked p) r (closed q)
+module _ (old new : HallView) (m : Effects) (stands : StandsForEffects old m) (p r : ℕ) (low : r < length (old.asked p)) (closes : Closes old new p r) where
+  abbrev list : List (Option Request)
+  list = set (old.asked p) r None
 
-  now : closed_at (hall.asked p) r (slice_get (hall.asked p) r) ≡ list
-  now = ap (λ o. closed_at (hall.asked p) r o) at
+  now : (n : ℕ) → new.asked n ≡ with_closed old.asked p r n
+  now n = ap (λ (f : ℕ → List (Option Request)). f n) closes.asked
 
-  own : (n : ℕ) → n ≡ p → with_closed hall.asked p r n ≡ list
-  own n is = updated_same hall.asked p n (closed_at (hall.asked p) r (slice_get (hall.asked p) r)) is ∙ now
+  own : (n : ℕ) → n ≡ p → new.asked n ≡ list
+  own n is = now n ∙ updated_same old.asked p n list is
 
-  other : (n : ℕ) → n ≢ p → with_closed hall.asked p r n ≡ hall.asked n
-  other n apart = updated_other hall.asked p n (closed_at (hall.asked p) r (slice_get (hall.asked p) r)) apart
+  other : (n : ℕ) → n ≢ p → new.asked n ≡ old.asked n
+  other n apart = now n ∙ updated_other old.asked p n list apart
 
-  requests_taken : (n : ℕ) → map instance_of (with_closed hall.asked p r n) ≡ requests n (posts_in m)
-  requests_taken n = ⊎_elim
-      (λ is. ap (map instance_of) (own n is) ∙ (map_closed (hall.asked p) r q at ∙ (stands.requests p ∙ ap (λ j. requests j (posts_in m)) (sym is))))
-      (λ apart. ap (map instance_of) (other n apart) ∙ stands.requests n)
+  given_now : (n : ℕ) → length (new.asked n) ≡ length (requests n (posts_in m))
+  given_now n = ⊎_elim
+      (λ is. ap length (own n is) ∙ (length-set (old.asked p) r None ∙ (stands.given p ∙ ap (λ j. length (requests j (posts_in m))) (sym is))))
+      (λ apart. ap length (other n apart) ∙ stands.given n)
       (same_or_not n p)
 
-  taken_taken : (n s : ℕ) → taken_at (with_closed hall.asked p r n) s ≡ (with_taken m p r).taken n s
-  taken_taken n s = ⊎_elim
+  taken_now : (n s : ℕ) → taken_at (new.asked n) s ≡ (with_taken m p r).taken n s
+  taken_now n s = ⊎_elim
       (λ is. ap (λ l. taken_at l s) (own n is)
-      ∙ (taken_closed (hall.asked p) r s q (slice_get_within (hall.asked p) r q at)
+      ∙ (taken_closed (old.asked p) r s low
       ∙ (ap (λ b. (r == s) || b) (stands.taken p s ∙ ap (λ j. m.taken j s) (sym is))
       ∙ ap (λ b. (b && r == s) || m.taken n s) (sym (eq-eqb p n (sym is))))))
       (λ apart. ap (λ l. taken_at l s) (other n apart)
@@ -120,8 +126,22 @@ module _ (hall : HallView) (m : Effects) (stands : StandsForEffects hall m) (p r
       ∙ ap (λ b. b || m.taken n s) (sym (and_left (p == n) (r == s) (ne_eqb p n (λ e. apart (sym e)))))))
       (same_or_not n p)
 
-  pub stands_taken : StandsForEffects (after_take hall p r) (with_taken m p r)
-  stands_taken = record { post_state = stands.post_state; requests = requests_taken; taken = taken_taken; settled = stands.settled; book = stands.book }
+  -- who waits has waited before
+  waited : (n s : ℕ) (f : Request) → opened (new.asked n) s ≡ Some f → opened (old.asked n) s ≡ Some f
+  waited n s f e = ⊎_elim
+      (λ is. ap (λ j. opened (old.asked j) s) is ∙ opened_closed (old.asked p) r s f (sym (ap (λ l. opened l s) (own n is)) ∙ e))
+      (λ apart. sym (ap (λ l. opened l s) (other n apart)) ∙ e)
+      (same_or_not n p)
+
+  pub stands_taken : StandsForEffects new (with_taken m p r)
+  stands_taken = record {
+    post_state = subst (λ (w : ChineseWall). StandsForPosts w new.post_state m.contributions) (sym closes.policy) (subst (λ (k : PostStateView Contents). StandsForPosts old.policy k m.contributions) (sym closes.post_state) stands.post_state);
+    given = given_now;
+    taken = taken_now;
+    waiting = λ n s f e. stands.waiting n s f (waited n s f e);
+    settled = λ n s f e. closes.kept n s f e ∙ (stands.settled n s f (waited n s f e) ∙ ap (λ (w : ChineseWall). settlement_in w m f.comm f.k) (sym closes.policy));
+    book = closes.book ∙ (stands.book ∙ ap (λ (w : ChineseWall). book w (posts_in m)) (sym closes.policy));
+  }
 
 join_is : (first : ℕ) (comm : Comm) (o : Option ℕ) (others : Reply) → is_outcome others ≡ true → is_outcome (join first comm o others) ≡ true
 join_is first comm (Some rank) others h = refl
@@ -152,23 +172,23 @@ not_quiet (Refused refusal) h quiet = false≢true h
 pub told_not_quiet : (p : ℕ) (s : Settlement) (got : Reply) → got ≡ reply_by_outcome p s.full (Some s.outcome) → MakesNothing got → ⊥
 told_not_quiet p s got e quiet = not_quiet got (ap is_outcome e ∙ outcome_is p s.full s.outcome) quiet
 
-pub taken_steps : (old new : HallView) (p r : ℕ) (ck : ℕ × ℕ) (s : Settlement) (got : Reply) → opened (slice_get (old.asked p) r) ≡ Some ck → old.settled ck.0 ck.1 ≡ Some s →
-    got ≡ reply_by_outcome p s.full (Some s.outcome) → new ≡ after_take old p r → Steps old new p (Take r) got
-taken_steps old new p r ck s got waits e told now = λ m is stands. (
-  inl (told ∙ sym (settled_due old m stands p r ck s waits e)),
+pub taken_steps : (old new : HallView) (p r : ℕ) (q : Request) (s : Settlement) (got : Reply) → opened (old.asked p) r ≡ Some q → old.settled q.comm q.k ≡ Some s →
+    got ≡ reply_by_outcome p s.full (Some s.outcome) → Closes old new p r → Steps old new p (Take r) got
+taken_steps old new p r q s got waits e told closes = λ m is stands. (
+  inl (told ∙ sym (settled_due old m stands p r q s waits e)),
   subst (λ (n : Effects). StandsForEffects new n) (sym (after_outcome m p r got (ap is_outcome told ∙ outcome_is p s.full s.outcome)))
-      (subst (λ (t : HallView). StandsForEffects t (with_taken m p r)) (sym now) (let f = found_open (old.asked p) r ck waits in stands_taken old m stands p r f.found f.at)),
+      (stands_taken old new m stands p r (is_within (old.asked p) r q waits) closes),
 )
 
-pub wanting : (hall : HallView) (m : Effects) → StandsForEffects hall m → (p r : ℕ) (ck : ℕ × ℕ) (s : Settlement) → opened (slice_get (hall.asked p) r) ≡ Some ck → hall.settled ck.0 ck.1 ≡ Some s → s.outcome ≡ Granted → IsAnswer (reply_by hall.policy m p (Take r)) (Refused NoMemory)
-wanting hall m stands p r ck s waits e granted =
-    subst (λ due. IsAnswer due (Refused NoMemory)) (sym (settled_due hall m stands p r ck s waits e ∙ ap (λ o. reply_by_outcome p s.full (Some o)) granted)) (inr (refl, refl))
+pub wanting : (hall : HallView) (m : Effects) → StandsForEffects hall m → (p r : ℕ) (q : Request) (s : Settlement) → opened (hall.asked p) r ≡ Some q → hall.settled q.comm q.k ≡ Some s → s.outcome ≡ Granted → IsAnswer (reply_by hall.policy m p (Take r)) (Refused NoMemory)
+wanting hall m stands p r q s waits e granted =
+    subst (λ due. IsAnswer due (Refused NoMemory)) (sym (settled_due hall m stands p r q s waits e ∙ ap (λ o. reply_by_outcome p s.full (Some o)) granted)) (inr (refl, refl))
 
 -- whose request it is is a member of its instance
-pub rank_there : (hall : HallView) → IsHallView hall → (p r : ℕ) (ck : ℕ × ℕ) (s : Settlement) → opened (slice_get (hall.asked p) r) ≡ Some ck → hall.settled ck.0 ck.1 ≡ Some s → rank_in s.full.roll.members p ≢ None
-rank_there hall is p r ck s waits e none =
-    let known = known_as hall is.effects is.stands ck.0 ck.1 s e in
-    let member = request_member hall.policy (posts_in is.effects) p r ck is.is_made.proper.posts (open_at hall is.effects is.stands p r ck waits) in
-    let same : s.full.roll.members ≡ member.comm.members = ap (λ (f : Full Contents). f.roll.members) (sym known.full) ∙ ap (λ (n : Comm). n.members) (comm_at_is hall.policy (posts_in is.effects) ck.0 member.comm member.at) in
+pub rank_there : (hall : HallView) → IsHallView hall → (p r : ℕ) (q : Request) (s : Settlement) → opened (hall.asked p) r ≡ Some q → hall.settled q.comm q.k ≡ Some s → rank_in s.full.roll.members p ≢ None
+rank_there hall is p r q s waits e none =
+    let known = known_as hall is.effects is.stands p r q s waits e in
+    let member = request_member hall.policy (posts_in is.effects) p r (q.comm, q.k) is.is_made.proper.posts (open_at hall is.effects is.stands p r q waits) in
+    let same : s.full.roll.members ≡ member.comm.members = ap (λ (f : Full Contents). f.roll.members) (sym known.full) ∙ ap (λ (n : Comm). n.members) (comm_at_is hall.policy (posts_in is.effects) q.comm member.comm member.at) in
     let both : Some member.rank ≡ None = sym member.is_member ∙ (ap (λ ms. rank_in ms p) (sym same) ∙ none) in
     absurd (cc)

@@ -17,7 +17,9 @@ use Rattle.run_model.specs.Comms.{Comm, new_comms, added}
 use Rattle.run_model.specs.Posts.{Post, comms, outcome_of, constructor_outcome, by_verdict, labelled, histories, instance, kth_posts, is_full, roll_by}
 use Rattle.run_model.proofs.RunModelLemmas.{filled_is, comms_stay, comm_stays, IsSettled, settled_from, kth_later, comm_at_is, granted_whole}
 use Rattle.run_model.specs.Replies.{posts_in, comm_at}
+use Rattle.hall_core.specs.declared.requests.Request.{Request}
 use Rattle.hall_core.specs.declared.settled.Settlement.{Settlement}
+use Rattle.hall_core.specs.Asking.{opened}
 use Rattle.hall_core.specs.Halls.{HallView}
 use Rattle.hall_core.specs.Invariant.{IsHallView}
 use Rattle.hall_core.specs.Moves.{IsTellable, row_at}
@@ -86,9 +88,11 @@ roll_now wall posts c k o h =
 
 -- ## what a hall may tell
 
-pub tellable : (hall : HallView) → IsPolicy hall.policy → IsHallView hall → (c k : ℕ) (s : Settlement) → hall.settled c k ≡ Some s → IsTellable hall.post_state.comms s
-tellable hall policy is c k s e =
-    let known = known_as hall is.effects is.stands c k s e in
+pub tellable : (hall : HallView) → IsPolicy hall.policy → IsHallView hall → (p r : ℕ) (q : Request) (s : Settlement) → opened (hall.asked p) r ≡ Some q → hall.settled q.comm q.k ≡ Some s → IsTellable hall.post_state.comms s
+tellable hall policy is p r q s waits e =
+    let c = q.comm in
+    let k = q.k in
+    let known = known_as hall is.effects is.stands p r q s waits e in
     let proper = is.is_made.proper in
     let row : (first number : ℕ) → s.outcome ≡ MadeComms first number → AreThere hall.post_state.comms first number (new_comms s.full.roll) =
     (λ first number o.

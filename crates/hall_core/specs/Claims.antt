@@ -20,6 +20,7 @@ use Rattle.run_model.specs.Runs.{Entry, Effects, requests, entry}
 use Rattle.run_model.specs.Replies.{posts_in, comm_at}
 use Rattle.hall_core.specs.declared.claims.Claim.{Claim}
 use Rattle.hall_core.specs.declared.claims.Claim.TheVariants.{Done, Ready}
+use Rattle.hall_core.specs.declared.requests.Request.{Request}
 use Rattle.hall_core.specs.declared.settled.Settlement.{Settlement}
 use Rattle.hall_core.specs.Asking.{opened}
 use Rattle.hall_core.specs.Halls.{HallView, settlement}
@@ -94,10 +95,9 @@ IsClaimOn s p (Ready shared rank room) = IsShare s p (arc_value shared) rank
 
 -- what such a claim holds stands in the hall
 pub record IsHeld (hall : HallView) (p request : ℕ) (full : Full Contents) (rank : ℕ) : Type 0 where
-  pub comm : ℕ
-  pub k : ℕ
-  pub waits : opened (slice_get (hall.asked p) request) ≡ Some (comm, k)
-  pub granted : hall.settled comm k ≡ Some (settlement full Granted)
+  pub asked : Request
+  pub waits : opened (hall.asked p) request ≡ Some asked
+  pub granted : hall.settled asked.comm asked.k ≡ Some (settlement full Granted)
   pub is_member : rank_in full.roll.members p ≡ Some rank
 
 abbrev pub HoldsWhatIsKept : HallView → (p request : ℕ) → Claim → Type 0

@@ -1,7 +1,6 @@
 -- What a hall keeps, and the runs that it stands for.
-use Rattle.std.specs.Prelude.{◌≡◌, ℕ, Bool, false, List, Option, map, reverse, slice_get}
-use Rattle.std.specs.Option.{option_map, option_map_or}
-use Rattle.std.specs.List.{zip}
+use Rattle.std.specs.Prelude.{◌≡◌, ℕ, List, Option, Some, length, slice_get}
+use Rattle.std.specs.Option.{option_map}
 use Rattle.wall_policy.specs.Policy.{ChineseWall}
 use Rattle.mpi_elems.specs.Contents.{Contents}
 use Rattle.coll_values.specs.declared.full.Full.{Full}
@@ -13,22 +12,19 @@ use Rattle.run_state.specs.Entries.{Entries}
 use Rattle.run_model.specs.Contributions.{full_at}
 use Rattle.run_state.specs.Views.{PostStateView, PostStateValue, view_of as seen}
 use Rattle.run_state.specs.Stands.{StandsForPosts}
-use Rattle.run_model.specs.declared.call.Call.{Call}
-use Rattle.run_model.specs.declared.reply.Reply.{Reply}
-use Rattle.run_model.specs.declared.reply.Reply.TheVariants.{Posted, Barred, Pending, Delivered, NewComm, NullComm, Denied, NoRoom, Info, Refused}
 use Rattle.run_model.specs.Runs.{Entry, Effects, effects, requests}
 use Rattle.run_model.specs.Replies.{posts_in, comm_at}
 use Rattle.hall_core.specs.declared.requests.Request.{Request}
 use Rattle.hall_core.specs.declared.settled.Settlement.{Settlement}
-use Rattle.hall_core.specs.Asking.{Asked, requests_of}
-use Rattle.hall_core.specs.Settling.{settlement_at}
+use Rattle.hall_core.specs.Asking.{Asked, opened, taken_at, requests_of}
+use Rattle.hall_core.specs.Settling.{Places, settlement_at}
 
 -- the value of a hall in clauses; read it by `policy` and by the words below alone
 pub record HallValue : Type 0 where
   pub policy : ChineseWall
   pub post_state : PostStateValue Contents
   pub asked : List Asked
-  pub settled : List (List (Option Settlement))
+  pub settled : List Places
   pub book : Entries
 
 -- What callers can tell of a hall, by look-ups.
@@ -36,9 +32,9 @@ pub record HallView : Type 0 where
   pub policy : ChineseWall
   -- communicators, histories, and instances that wait
   pub post_state : PostStateView Contents
-  -- the requests of p in order
-  pub asked : (p : ℕ) → List Request
-  -- instance k of communicator c and its outcome, once it was filled
+  -- the requests of p in order, and nothing of one that was taken
+  pub asked : (p : ℕ) → List (Option Request)
+  -- instance k of communicator c and its outcome, once it was filled, until it is let go
   pub settled : (c k : ℕ) → Option Settlement
   pub book : List BookEntry
 
@@ -57,10 +53,6 @@ view_of hall = record {
 abbrev pub instance_of : Request → ℕ × ℕ
 instance_of r = (r.comm, r.k)
 
--- the request of this number was taken
-abbrev pub taken_at : List Request → (request : ℕ) → Bool
-taken_at list request = option_map_or (λ r. r.taken) (slice_get list request) false
-
 abbrev pub settlement : Full Contents → Outcome → Settlement
 settlement full outcome = record { full = full; outcome = outcome }
 
@@ -68,13 +60,19 @@ settlement full outcome = record { full = full; outcome = outcome }
 abbrev pub settlement_in : ChineseWall → Effects → (c k : ℕ) → Option Settlement
 settlement_in wall effects c k = option_map (settlement (full_at (comm_at wall (posts_in effects) c) c k effects.contributions)) (outcome_at wall c k (posts_in effects))
 
--- A hall stands for what a run has made: its state for the counted posts with their elements; each process has the requests of its posts, of
--- which those are marked that were taken; each instance that was filled is kept with its outcome; and the book is that of the posts.
+-- A hall stands for what a run has made: its state for the counted posts with their elements; each
+-- process has as many requests as it was given, of which those are marked that were taken; of each
+-- that is not taken it has the instance that it is for, and what came of that instance once it was
+-- filled; and the book is that of the posts. Of an instance whose outcome no request waits for,
+-- nothing is asked.
 pub record StandsForEffects (hall : HallView) (effects : Effects) : Type 0 where
   pub post_state : StandsForPosts hall.policy hall.post_state effects.contributions
-  pub requests : (p : ℕ) → map instance_of (hall.asked p) ≡ requests p (posts_in effects)
+  pub given : (p : ℕ) → length (hall.asked p) ≡ length (requests p (posts_in effects))
   pub taken : (p request : ℕ) → taken_at (hall.asked p) request ≡ effects.taken p request
-  pub settled : (c k : ℕ) → hall.settled c k ≡ settlement_in hall.policy effects c k
+  pub waiting : (p request : ℕ) (r : Request) → opened (hall.asked p) request ≡ Some r →
+      slice_get (requests p (posts_in effects)) request ≡ Some (instance_of r)
+  pub settled : (p request : ℕ) (r : Request) → opened (hall.asked p) request ≡ Some r →
+      hall.settled r.comm r.k ≡ settlement_in hall.policy effects r.comm r.k
   pub book : hall.book ≡ book hall.policy (posts_in effects)
 
 -- the hall stands for the run

@@ -1,14 +1,15 @@
 -- What is so of every hall.
-use Rattle.std.specs.Prelude.{◌≡◌, List, [], ◌∷◌, length}
+use Rattle.std.specs.Prelude.{◌≡◌, length}
 use Rattle.wall_policy.specs.Policy.{ChineseWall, IsPolicy}
 use Rattle.run_model.specs.Comms.{processes}
-use Rattle.run_model.specs.Posts.{Post}
 use Rattle.run_model.specs.Runs.{Effects}
 use Rattle.run_model.specs.Proper.{IsProper}
 use Rattle.run_model.specs.Replies.{posts_in}
 use Rattle.hall_core.specs.declared.records.Records.{Records}
+use Rattle.hall_core.specs.Asking.{requests_of}
+use Rattle.hall_core.specs.Settling.{KeepsCount}
 use Rattle.hall_core.specs.Halls.{HallValue, HallView, StandsForEffects, view_of}
-use Rattle.run_model.specs.Known.{IsKnownIfAny, PostsHaveKnownLabels}
+use Rattle.run_model.specs.Known.{PostsHaveKnownLabels}
 
 -- what a hall may stand for: posts that count and bring what they state, whose labels the policy has
 pub record IsMade (wall : ChineseWall) (effects : Effects) : Type 0 where
@@ -34,8 +35,15 @@ value_in records = record {
 abbrev pub view_in : Records → HallView
 view_in records = view_of (value_in records)
 
--- the policy is one, each process of it has its requests, and the hall stands for something
+-- the places of these records count their open requests
+abbrev pub AreCounted : Records → Type 0
+AreCounted records =
+    KeepsCount (requests_of records.requests.items) (length records.requests.items) records.settled
+
+-- the policy is one, each process of it has its requests, the places count those that are open, and
+-- the hall stands for something
 pub record IsHallValue (hall : HallValue) : Type 0 where
   pub policy : IsPolicy hall.policy
   pub each : length hall.asked ≡ processes hall.policy
+  pub counted : KeepsCount (requests_of hall.asked) (length hall.asked) hall.settled
   pub stands : IsHallView (view_of hall)

@@ -1,5 +1,5 @@
 -- What a call makes of a hall, by what callers can tell. (The contracts of the hall's own steps.)
-use Rattle.std.specs.Prelude.{◌≡◌, ◌==◌, ◌&&◌, ◌+◌, ◌≤◌, ◌<◌, ℕ, List, [], ◌∷◌, ◌++◌, Option, Some, length, slice_get, take, drop, nat_lt, if◌then◌else◌}
+use Rattle.std.specs.Prelude.{◌≡◌, ◌==◌, ◌&&◌, ◌+◌, ◌≤◌, ◌<◌, ◌^◌, ℕ, List, [], ◌∷◌, ◌++◌, Option, Some, length, slice_get, take, drop, nat_lt, if◌then◌else◌}
 use Rattle.mpi_elems.specs.Contents.{Contents}
 use Rattle.coll_routes.specs.declared.statement.Stated.{Stated}
 use Rattle.coll_values.specs.Instances.{IsWhole}
@@ -16,13 +16,14 @@ use Rattle.run_model.specs.declared.reply.Reply.TheVariants.{Refused}
 use Rattle.run_model.specs.Runs.{after_entry, with_contribution, Effects}
 use Rattle.run_model.specs.Replies.{info_on, reply_by, IsAnswer, posts_in}
 use Rattle.hall_core.specs.declared.settled.Settlement.{Settlement}
-use Rattle.hall_core.specs.Asking.{room_of, with_request, with_closed}
+use Rattle.hall_core.specs.declared.requests.Request.{Request}
+use Rattle.hall_core.specs.Asking.{opened, room_of, requests_of, with_request, with_closed}
 use Rattle.hall_core.specs.Halls.{HallView, StandsForEffects, settlement}
 use Rattle.run_model.specs.Proper.{IsProper}
 use Rattle.run_model.specs.Books.{IsCounted}
 use Rattle.run_model.specs.Contributions.{Contribution}
 use Rattle.hall_core.specs.declared.records.Records.{Records}
-use Rattle.hall_core.specs.Settling.{HasPlace}
+use Rattle.hall_core.specs.Settling.{HasPlace, open_at}
 
 -- ## infos
 
@@ -49,15 +50,18 @@ IsSettledBy c (Settled full k outcome) old new = (d j : ℕ) → new d j ≡ (if
 -- a post that the state has entered has been recorded
 pub record IsRecorded (old new : HallView) (p c : ℕ) (stated : Stated) (entered : Entered Contents) : Type 0 where
   pub policy : new.policy ≡ old.policy
-  pub asked : new.asked ≡ with_request old.asked p c (number_in entered)
+  pub asked : new.asked ≡ with_request old.asked p (record { comm = c; k = number_in entered })
   pub settled : IsSettledBy c entered old.settled new.settled
   pub book : new.book ≡ old.book ++ entries_of p c stated entered
 
--- there is room for a post of a process to instance k of communicator c
+-- there is room for a post of a process to instance k of communicator c, also in what counts its
+-- requests and those for the instance
 pub record HasRoom (records : Records) (p c k : ℕ) : Type 0 where
   pub request : 0 < room_of records.requests.items p
   pub entries : 2 ≤ records.book.room
   pub place : HasPlace records.settled c k
+  pub few : length (requests_of records.requests.items p) < 2 ^ 62
+  pub few_open : open_at records.settled c k < 2 ^ 62
 
 -- a post with its part has been counted, whatever the hall stood for
 abbrev pub Counts : (old new : HallView) → Contribution Contents → Type 0
@@ -65,9 +69,15 @@ Counts old new g = (m : Effects) → StandsForEffects old m → IsCounted old.po
 
 -- ## takes
 
--- the request of p is marked as taken
-abbrev pub after_take : HallView → (p request : ℕ) → HallView
-after_take hall p request = record hall { asked = with_closed hall.asked p request }
+-- The request of p is taken, and nothing else has changed but instances for which no request is
+-- open.
+pub record Closes (old new : HallView) (p request : ℕ) : Type 0 where
+  pub policy : new.policy ≡ old.policy
+  pub post_state : new.post_state ≡ old.post_state
+  pub asked : new.asked ≡ with_closed old.asked p request
+  pub kept : (q number : ℕ) (r : Request) → opened (new.asked q) number ≡ Some r →
+      new.settled r.comm r.k ≡ old.settled r.comm r.k
+  pub book : new.book ≡ old.book
 
 -- the communicators of a table from this number on, so many
 abbrev pub row_at : List Comm → (first number : ℕ) → List Comm

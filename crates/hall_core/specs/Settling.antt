@@ -1,26 +1,79 @@
--- Instances that were filled, looked up by communicator and number.
-use Rattle.std.specs.Prelude.{◌≡◌, ℕ, ◌<◌, ◌==◌, ◌&&◌, List, length, slice_get, Option, Some, if◌then◌else◌}
-use Rattle.std.specs.Option.{option_and_then}
+-- The places of instances, looked up by communicator and number.
+use Rattle.std.specs.Prelude.{◌≡◌, ℕ, ◌+◌, ◌-◌, ◌<◌, ◌≤◌, ◌==◌, ◌&&◌, List, [], length, slice_index_or, slice_set, Option, None, Some, if◌then◌else◌}
 use Rattle.hall_core.specs.declared.settled.Settlement.{Settlement}
+use Rattle.hall_core.specs.declared.settled.Place.{Place}
+use Rattle.hall_core.specs.Asking.{open_for}
+use Rattle.hall_core.specs.declared.requests.Request.{Request}
 
--- the place of one instance in a row, if something stands there
-abbrev pub settlement_in_row : List (Option Settlement) → (k : ℕ) → Option Settlement
-settlement_in_row row k = option_and_then (λ place. place) (slice_get row k)
+-- The places of one communicator's instances by number. Nothing stands before the first of these.
+pub record Places : Type 0 where
+  pub first : ℕ
+  pub list : List Place
 
--- the settlement of instance k of communicator c, if it was filled
-abbrev pub settlement_at : List (List (Option Settlement)) → (c k : ℕ) → Option Settlement
-settlement_at rows c k = option_and_then (λ row. settlement_in_row row k) (slice_get rows c)
+-- a place where nothing stands
+abbrev pub nothing : Place
+nothing = record { waiting = 0; settlement = None }
+
+abbrev pub no_places : Places
+no_places = record { first = 0; list = [] }
+
+abbrev pub place_in : List Place → (k : ℕ) → Place
+place_in list k = slice_index_or list k nothing
+
+abbrev pub places_of : List Places → (c : ℕ) → Places
+places_of rows c = slice_index_or rows c no_places
+
+-- the place of instance k of communicator c
+abbrev pub place_at : List Places → (c k : ℕ) → Place
+place_at rows c k = place_in (places_of rows c).list k
+
+-- how many of the requests for it are open, as its place counts them
+abbrev pub open_at : List Places → (c k : ℕ) → ℕ
+open_at rows c k = (place_at rows c k).waiting
+
+-- what came of it, if it was filled and was not let go
+abbrev pub settlement_at : List Places → (c k : ℕ) → Option Settlement
+settlement_at rows c k = (place_at rows c k).settlement
 
 -- there is a place for instance k of communicator c
-pub record HasPlace (rows : List (List (Option Settlement))) (c k : ℕ) : Type 0 where
-  pub row : List (Option Settlement)
-  pub there : slice_get rows c ≡ Some row
-  pub within : k < length row
+pub record HasPlace (rows : List Places) (c k : ℕ) : Type 0 where
+  pub there : c < length rows
+  pub low : (places_of rows c).first ≤ k
+  pub within : k < length (places_of rows c).list
 
--- two tables have the same settlements
-abbrev pub AreSame : (old new : List (List (Option Settlement))) → Type 0
-AreSame old new = (c k : ℕ) → settlement_at new c k ≡ settlement_at old c k
+-- ## changes
 
--- and one more
-abbrev pub HasOneMore : (old new : List (List (Option Settlement))) → (c k : ℕ) → Settlement → Type 0
-HasOneMore old new c k s = (d j : ℕ) → settlement_at new d j ≡ (if d == c && j == k then Some s else settlement_at old d j)
+-- one request for the instance more
+abbrev pub one_more : Place → Place
+one_more place = record { waiting = place.waiting + 1; settlement = place.settlement }
+
+-- one open request fewer; with the last of them the instance is let go
+abbrev pub one_fewer : Place → Place
+one_fewer place =
+    if place.waiting == 1 then nothing
+    else record { waiting = place.waiting - 1; settlement = place.settlement }
+
+-- this came of the instance
+abbrev pub settled_as : Place → Settlement → Place
+settled_as place s = record { waiting = place.waiting; settlement = Some s }
+
+abbrev pub with_place : Places → (k : ℕ) → Place → Places
+with_place row k place = record { first = row.first; list = slice_set row.list k place }
+
+-- two tables have the same in each place
+abbrev pub AreSame : (old new : List Places) → Type 0
+AreSame old new = (c k : ℕ) → place_at new c k ≡ place_at old c k
+
+-- and but for this in one
+abbrev pub IsPlaced : (old new : List Places) → (c k : ℕ) → Place → Type 0
+IsPlaced old new c k place =
+    (d j : ℕ) → place_at new d j ≡ (if d == c && j == k then place else place_at old d j)
+
+-- ## what the places count
+
+-- Each place counts the open requests for its instance, and holds nothing where there are none.
+pub record KeepsCount (asked : (p : ℕ) → List (Option Request)) (processes : ℕ)
+    (rows : List Places) : Type 0 where
+  pub waiting : (c k : ℕ) → open_at rows c k ≡ open_for asked processes c k
+  pub held : (c k : ℕ) (s : Settlement) → settlement_at rows c k ≡ Some s →
+      0 < open_at rows c k

@@ -51,9 +51,10 @@ impl Hall {
         ensures policy { IfOk result (λ hall. hall.policy ≡ policy) }
     {
         let _ = policy.processes();
-        Ok(Hall {
-            records: Records::open(alloc, policy)?,
-        })
+        match Records::open(alloc, policy) {
+            Ok(records) => Ok(Hall { records }),
+            Err(_) => Err(NoMemory),
+        }
     }
 
     /// Applies one call, and answers it. The caller sees to it that a posting's label is public or a dataset of the policy; all else is judged here.
@@ -129,5 +130,21 @@ impl Hall {
         ensures named { All (IsKnownEntry self.now.policy) result.now.list }
     {
         &self.records.book
+    }
+}
+
+#[cfg(test)]
+impl Hall {
+    /// How many places are kept for instances of a communicator.
+    pub(crate) fn kept_places(&self, comm: u32) -> usize {
+        self.records.settled.kept(comm)
+    }
+
+    /// How many requests are kept for a process.
+    pub(crate) fn kept_requests(&self, process: u32) -> usize {
+        match self.records.requests.get(process as usize) {
+            Some(asked) => asked.kept(),
+            None => 0,
+        }
     }
 }

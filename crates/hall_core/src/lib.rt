@@ -4,6 +4,8 @@
 mod claims;
 mod hall;
 mod instance;
+#[cfg(test)]
+mod kept_tests;
 mod posts;
 mod records;
 mod requests;

@@ -1,5 +1,5 @@
 //! All that a hall keeps.
-ghost use Rattle.std.specs.Prelude.{◌≡◌, ◌<◌, ◌+◌, ◌^◌, ◌++◌, [], ◌∷◌, length, slice_get, not, IfOk, OnOk, IfNone, IsTrue, IsFalse, Some, None};
+ghost use Rattle.std.specs.Prelude.{◌≡◌, ◌<◌, ◌+◌, ◌^◌, ◌++◌, ◌==◌, ◌&&◌, if◌then◌else◌, [], ◌∷◌, ℕ, length, not, IfOk, OnOk, IfNone, IsTrue, IsFalse, Some, None};
 ghost use Rattle.std.specs.Option.{option_map};
 ghost use Rattle.wall_policy.specs.Policy.{IsPolicy};
 ghost use Rattle.wall_rules.specs.Histories.{has};
@@ -17,14 +17,14 @@ ghost use Rattle.run_model.specs.Runs.{effects, given_in, Effects, MakesNothing}
 ghost use Rattle.run_model.specs.Replies.{refusal};
 ghost use Rattle.hall_core.specs.Claims.{claim_reply, CanFinish, HoldsWhatIsKept};
 ghost use Rattle.hall_core.specs.Asking.{opened, requests_of, room_of, with_request};
-ghost use Rattle.hall_core.specs.Settling.{HasPlace, HasOneMore};
+ghost use Rattle.hall_core.specs.Settling.{HasPlace, open_at, settlement_at};
 ghost use Rattle.hall_core.specs.Halls.{StandsForEffects};
-ghost use Rattle.hall_core.specs.Invariant.{IsHallView, view_in};
-ghost use Rattle.hall_core.specs.Moves.{info_of, number_in, IsRecorded, HasRoom, Counts, Steps};
+ghost use Rattle.hall_core.specs.Invariant.{AreCounted, IsHallView, view_in};
+ghost use Rattle.hall_core.specs.Moves.{info_of, number_in, IsRecorded, HasRoom, Counts, Closes, Steps};
 
 use crate::claims::{Claim, finish};
 use crate::instance::Instance;
-use crate::requests::Requests;
+use crate::requests::{Request, Requests};
 use crate::settled::{Settlement, Settlements};
 use crate::takes::claimed;
 use crate::{posts, requests};
@@ -53,10 +53,16 @@ impl Records {
     pub fn open(alloc: Global, policy: Policy) -> Result<Records, NoMemory>
         ensures policy { IfOk result (λ records. records.policy ≡ policy) }
         ensures each { IfOk result (λ records. length records.requests.items ≡ processes policy) }
+        ensures counted { IfOk result AreCounted }
         ensures stands { IfOk result (λ records. StandsForEffects (view_in records) (effects [])) }
     {
-        let post_state = PostState::open(alloc, &policy)?;
-        let requests = requests::no_requests(alloc, policy.processes())?;
+        // Not by `?`, which would be proved at the whole types of the state and the records.
+        let Ok(requests) = first_requests(alloc, &policy) else {
+            return Err(NoMemory);
+        };
+        let Ok(post_state) = PostState::open(alloc, &policy) else {
+            return Err(NoMemory);
+        };
         Ok(Records {
             alloc,
             policy,
@@ -71,9 +77,11 @@ impl Records {
     pub fn step(&mut self, process: u32, act: Act) -> Reply
         requires policy { IsPolicy self.old.policy }
         requires each { length self.old.requests.items ≡ processes self.old.policy }
+        requires counted { AreCounted self.old }
         requires hall { IsHallView (view_in self.old) }
         ensures policy { self.new.policy ≡ self.old.policy }
         ensures each { length self.new.requests.items ≡ length self.old.requests.items }
+        ensures counted { AreCounted self.new }
         ensures steps { Steps (view_in self.old) (view_in self.new) process act result }
         ensures unchanged { MakesNothing result → view_in self.new ≡ view_in self.old }
     {
@@ -105,9 +113,11 @@ impl Records {
     pub fn take(&mut self, process: u32, request: u64) -> Reply
         requires policy { IsPolicy self.old.policy }
         requires each { length self.old.requests.items ≡ processes self.old.policy }
+        requires counted { AreCounted self.old }
         requires hall { IsHallView (view_in self.old) }
         ensures policy { self.new.policy ≡ self.old.policy }
         ensures each { length self.new.requests.items ≡ length self.old.requests.items }
+        ensures counted { AreCounted self.new }
         ensures steps { Steps (view_in self.old) (view_in self.new) process (ToTake request) result }
         ensures unchanged { MakesNothing result → view_in self.new ≡ view_in self.old }
     {
@@ -118,9 +128,11 @@ impl Records {
     pub fn claim(&mut self, process: u32, request: u64) -> Claim
         requires policy { IsPolicy self.old.policy }
         requires each { length self.old.requests.items ≡ processes self.old.policy }
+        requires counted { AreCounted self.old }
         requires hall { IsHallView (view_in self.old) }
         ensures policy { self.new.policy ≡ self.old.policy }
         ensures each { length self.new.requests.items ≡ length self.old.requests.items }
+        ensures counted { AreCounted self.new }
         ensures steps { Steps (view_in self.old) (view_in self.new) process (ToTake request)
             (claim_reply result) }
         ensures unchanged { MakesNothing (claim_reply result) → view_in self.new ≡ view_in self.old }
@@ -128,58 +140,78 @@ impl Records {
         ensures holds { HoldsWhatIsKept (view_in self.old) process request result }
     {
         let number = request as usize;
-        let Some((comm, k)) = requests::opened_by(&self.requests, process, number) else {
+        let Some(asked) = requests::opened_by(&self.requests, process, number) else {
             return Claim::Done(Reply::Refused(Refusal::NoSuchRequest));
         };
-        self.freeze(comm, k);
-        self.claim_of(process, request, comm, k)
+        self.freeze(asked.comm, asked.k);
+        self.claim_of(process, request, asked)
     }
 
     // Shares an instance, where it was granted and there is memory. Callers can tell no difference.
+    #[tactic(auto, using(crate::proofs::CountLemmas::counted_ready, crate::proofs::CountLemmas::settled_same))]
     fn freeze(&mut self, comm: u32, k: u64)
+        requires counted { AreCounted self.old }
         ensures policy { self.new.policy ≡ self.old.policy }
         ensures requests { self.new.requests ≡ self.old.requests }
+        ensures counted { AreCounted self.new }
         ensures same { view_in self.new ≡ view_in self.old }
     {
         self.settled.freeze(comm, k);
     }
 
     // A claim for an open request of this instance.
-    fn claim_of(&mut self, process: u32, request: u64, comm: u32, k: u64) -> Claim
+    fn claim_of(&mut self, process: u32, request: u64, asked: Request) -> Claim
         requires policy { IsPolicy self.old.policy }
         requires each { length self.old.requests.items ≡ processes self.old.policy }
+        requires counted { AreCounted self.old }
         requires hall { IsHallView (view_in self.old) }
         requires process { process < length self.old.requests.items }
-        requires waits { opened (slice_get (requests_of self.old.requests.items process) request)
-            ≡ Some (comm, k) }
+        requires waits { opened (requests_of self.old.requests.items process) request ≡ Some asked }
         ensures policy { self.new.policy ≡ self.old.policy }
         ensures each { length self.new.requests.items ≡ length self.old.requests.items }
+        ensures counted { AreCounted self.new }
         ensures steps { Steps (view_in self.old) (view_in self.new) process (ToTake request)
             (claim_reply result) }
         ensures unchanged { MakesNothing (claim_reply result) → view_in self.new ≡ view_in self.old }
         ensures can { CanFinish result }
         ensures holds { HoldsWhatIsKept (view_in self.old) process request result }
     {
-        let Some(settlement) = self.settled.get(comm, k) else {
+        let Some(settlement) = self.settled.get(asked.comm, asked.k) else {
             return Claim::Done(Reply::Pending);
         };
         let member = posts::member(&self.policy, process);
         match claimed(self.alloc, &self.post_state, member, settlement) {
             Err(_) => Claim::Done(Reply::Refused(Refusal::NoMemory)),
             Ok(claim) => {
-                requests::take(&mut self.requests, process, request as usize);
+                self.close(process, request as usize, asked);
                 claim
             }
         }
+    }
+
+    // An open request is taken; with the last that is open for its instance, that is let go.
+    fn close(&mut self, process: u32, number: usize, asked: Request)
+        requires process { process < length self.old.requests.items }
+        requires waits { opened (requests_of self.old.requests.items process) number ≡ Some asked }
+        requires counted { AreCounted self.old }
+        ensures policy { self.new.policy ≡ self.old.policy }
+        ensures each { length self.new.requests.items ≡ length self.old.requests.items }
+        ensures counted { AreCounted self.new }
+        ensures closes { Closes (view_in self.old) (view_in self.new) process number }
+    {
+        requests::take(&mut self.requests, process, number);
+        self.settled.leave(asked.comm, asked.k);
     }
 
     /// Counts a post, or says why it is refused.
     pub fn post(&mut self, process: u32, posting: Posting) -> Reply
         requires policy { IsPolicy self.old.policy }
         requires each { length self.old.requests.items ≡ processes self.old.policy }
+        requires counted { AreCounted self.old }
         requires hall { IsHallView (view_in self.old) }
         ensures policy { self.new.policy ≡ self.old.policy }
         ensures each { length self.new.requests.items ≡ length self.old.requests.items }
+        ensures counted { AreCounted self.new }
         ensures steps { Steps (view_in self.old) (view_in self.new) process (ToPost posting) result }
         ensures unchanged { MakesNothing result → view_in self.new ≡ view_in self.old }
     {
@@ -216,6 +248,7 @@ impl Records {
     fn accept(&mut self, process: u32, posting: Posting) -> Reply
         requires policy { IsPolicy self.old.policy }
         requires each { length self.old.requests.items ≡ processes self.old.policy }
+        requires counted { AreCounted self.old }
         requires hall { IsHallView (view_in self.old) }
         requires none { (m : Effects) → StandsForEffects (view_in self.old) m → refusal self.old.policy m process posting ≡ None }
         requires free { fault_of self.old.policy (seen self.old.post_state) process posting.comm posting.sig posting.own posting.elements.elem_type (given_in posting) ≡ None }
@@ -223,6 +256,7 @@ impl Records {
         requires few { length (requests_of self.old.requests.items process) < 2 ^ 62 }
         ensures policy { self.new.policy ≡ self.old.policy }
         ensures each { length self.new.requests.items ≡ length self.old.requests.items }
+        ensures counted { AreCounted self.new }
         ensures steps { Steps (view_in self.old) (view_in self.new) process (ToPost posting) result }
         ensures unchanged { MakesNothing result → view_in self.new ≡ view_in self.old }
     {
@@ -252,7 +286,9 @@ impl Records {
 
     // Counts a post with what it states and its part; false, and nothing has changed, where memory runs out.
     fn enter(&mut self, member: ProcessId, comm: u32, stated: Stated, part: Buffer) -> bool
+        requires policy { IsPolicy self.old.policy }
         requires each { length self.old.requests.items ≡ processes self.old.policy }
+        requires counted { AreCounted self.old }
         requires hall { IsHallView (view_in self.old) }
         requires process { member < processes self.old.policy }
         requires free { fault_of self.old.policy (seen self.old.post_state) member comm stated.sig stated.own (stated_type stated.sig) stated.given ≡ None }
@@ -261,6 +297,7 @@ impl Records {
         requires form { HasForm (EntryPosted member comm stated) }
         ensures policy { self.new.policy ≡ self.old.policy }
         ensures each { length self.new.requests.items ≡ length self.old.requests.items }
+        ensures counted { AreCounted self.new }
         ensures entered { IsTrue result → Counts (view_in self.old) (view_in self.new) (contribution member comm stated part) }
         ensures unchanged { IsFalse result → view_in self.new ≡ view_in self.old }
     {
@@ -284,11 +321,17 @@ impl Records {
     }
 
     // Makes the room that a post of a process to instance k of a communicator takes.
+    #[tactic(auto, using(crate::proofs::CountLemmas::counted_ready, crate::proofs::CountLemmas::settled_same))]
     fn make_room(&mut self, process: u32, comm: u32, k: u64) -> Result<(), NoMemory>
         requires process { process < length self.old.requests.items }
+        requires few { length (requests_of self.old.requests.items process) < 2 ^ 62 }
+        requires low { k < 2 ^ 62 }
+        requires few_open { open_at self.old.settled comm k < 2 ^ 62 }
+        requires counted { AreCounted self.old }
         ensures policy { self.new.policy ≡ self.old.policy }
         ensures post_state { self.new.post_state ≡ self.old.post_state }
         ensures each { length self.new.requests.items ≡ length self.old.requests.items }
+        ensures counted { AreCounted self.new }
         ensures same { view_in self.new ≡ view_in self.old }
         ensures room { OnOk result (HasRoom self.new process comm k) }
     {
@@ -302,8 +345,10 @@ impl Records {
         requires process { member < length self.old.requests.items }
         requires form { HasForm (EntryPosted member comm stated) }
         requires room { HasRoom self.old member comm (number_in entered) }
+        requires counted { AreCounted self.old }
         ensures post_state { self.new.post_state ≡ self.old.post_state }
         ensures each { length self.new.requests.items ≡ length self.old.requests.items }
+        ensures counted { AreCounted self.new }
         ensures recorded { IsRecorded (view_in self.old) (view_in self.new) member comm stated entered }
     {
         match entered {
@@ -320,17 +365,24 @@ impl Records {
     fn note(&mut self, member: ProcessId, comm: u32, k: u64, stated: Stated)
         requires process { member < length self.old.requests.items }
         requires form { HasForm (EntryPosted member comm stated) }
-        requires request { 0 < room_of self.old.requests.items member }
-        requires entry { 0 < self.old.book.room }
+        requires room { HasRoom self.old member comm k }
+        requires counted { AreCounted self.old }
         ensures policy { self.new.policy ≡ self.old.policy }
         ensures post_state { self.new.post_state ≡ self.old.post_state }
-        ensures settled { self.new.settled ≡ self.old.settled }
+        ensures settled { (c j : ℕ) →
+            settlement_at self.new.settled c j ≡ settlement_at self.old.settled c j }
+        ensures place { HasPlace self.new.settled comm k }
+        ensures waits { 0 < open_at self.new.settled comm k }
         ensures each { length self.new.requests.items ≡ length self.old.requests.items }
-        ensures requests { requests_of self.new.requests.items ≡ with_request (requests_of self.old.requests.items) member comm k }
+        ensures counted { AreCounted self.new }
+        ensures requests { requests_of self.new.requests.items
+            ≡ with_request (requests_of self.old.requests.items) member
+            (record { comm = comm; k = k }) }
         ensures book { self.new.book.list ≡ self.old.book.list ++ EntryPosted member comm stated ∷ [] }
         ensures room { self.new.book.room + 1 ≡ self.old.book.room }
     {
-        requests::push(&mut self.requests, member.number(), comm, k);
+        requests::push(&mut self.requests, member.number(), Request { comm, k });
+        self.settled.join(comm, k);
         self.book.push(Entry::Posted {
             process: member,
             comm,
@@ -341,11 +393,16 @@ impl Records {
     // Records the outcome of an instance.
     fn settle(&mut self, comm: u32, k: u64, settlement: Settlement)
         requires place { HasPlace self.old.settled comm k }
+        requires waits { 0 < open_at self.old.settled comm k }
         requires entry { 0 < self.old.book.room }
+        requires counted { AreCounted self.old }
         ensures policy { self.new.policy ≡ self.old.policy }
         ensures post_state { self.new.post_state ≡ self.old.post_state }
         ensures requests { self.new.requests ≡ self.old.requests }
-        ensures settled { HasOneMore self.old.settled self.new.settled comm k settlement }
+        ensures counted { AreCounted self.new }
+        ensures settled { (d j : ℕ) → settlement_at self.new.settled d j
+            ≡ (if d == comm && j == k then Some settlement
+            else settlement_at self.old.settled d j) }
         ensures book { self.new.book.list ≡ self.old.book.list ++ EntrySettled comm k settlement.outcome ∷ [] }
         ensures room { self.new.book.room + 1 ≡ self.old.book.room }
     {
@@ -356,6 +413,14 @@ impl Records {
         });
         self.settled.put(comm, k, settlement);
     }
+}
+
+// No request for each process of the policy.
+fn first_requests(alloc: Global, policy: &Policy) -> Result<Vec<Requests>, NoMemory>
+    ensures none { IfOk result (λ v. requests_of v.items ≡ (λ p. [])) }
+    ensures each { IfOk result (λ v. length v.items ≡ processes policy.now) }
+{
+    Ok(requests::no_requests(alloc, policy.processes())?)
 }
 
 fn described(shape: &Shape, rank: u32) -> Reply

@@ -1,37 +1,48 @@
 //! Requests.
-ghost use Rattle.std.specs.Prelude.{◌≡◌, ◌<◌, [], ◌∷◌, ◌++◌, length, slice_get, ◌^◌, false, count_by, IfOk, IfNone, OnOk, IsSome, IsFalse, Some, None, if◌then◌else◌};
+ghost use Rattle.std.specs.Prelude.{◌≡◌, ◌<◌, ◌≤◌, ◌+◌, [], ◌∷◌, ◌++◌, length, replicate, drop, slice_set, ◌^◌, IfOk, IfNone, OnOk, IsSome, IsTrue, IsFalse, Some, None, if◌then◌else◌};
+ghost use Rattle.std.specs.VecDeque.{deque_len};
 ghost use Rattle.run_model.specs.declared.refusal.Refusal.TheVariants.{TooManyRequests};
 ghost use Rattle.run_model.specs.Replies.{is_limit_reached as is_over_test};
-ghost use Rattle.hall_core.specs.Asking.{is_open, opened, closed_at, IsOpen, requests_of, room_of, with_request, with_closed};
+ghost use Rattle.hall_core.specs.Asking.{opened, open_number, requests_of, room_of, with_request, with_closed};
 
 use run_model::Refusal;
 use std::alloc::{AllocError, Global};
+use std::collections::VecDeque;
 use std::marker::Model;
 
-/// A request: the instance that its post belongs to, and whether its outcome was taken.
+/// The instance that a request is for: the communicator, and its number there.
 #[derive(Clone, Copy)]
 pub struct Request {
     pub comm: u32,
     pub k: u64,
-    pub taken: bool,
 }
 
-/// The requests of one process in order, and room for more.
+/// The requests of one process in order, and room for more. One that was taken is forgotten but for
+/// its number: all before the window were taken, and the window has nothing in its place.
 #[derive(Drop)]
 pub struct Requests {
-    list: Vec<Request>,
+    first: usize,
+    window: VecDeque<Option<Request>>,
     waiting: usize,
 }
 
 impl Model for Requests {
-    ghost use Rattle.std.specs.Prelude.{◌≡◌, ◌-◌, count_by, vec_capacity, vec_len};
-    ghost use Rattle.hall_core.specs.Asking.{Asked, is_open};
+    ghost use Rattle.std.specs.Prelude.{◌≡◌, ◌≤◌, ◌-◌, ◌+◌, ◌++◌, ◌^◌, None, length, replicate};
+    ghost use Rattle.std.specs.VecDeque.{deque_len, deque_capacity};
+    ghost use Rattle.hall_core.specs.Asking.{Asked, open_number};
 
     ghost Value = { Asked };
 
-    ghost view = { λ r. record { list = r.list.items; room = vec_capacity r.list - vec_len r.list } };
+    ghost view = { λ r. record {
+      list = replicate r.first None ++ r.window.items;
+      room = deque_capacity r.window - deque_len r.window;
+    } };
 
-    ghost invariant = { λ r. r.waiting ≡ count_by is_open r.list.items };
+    ghost invariant = { λ r. record {
+      waiting : r.waiting ≡ open_number r.window.items;
+      few : r.first + length r.window.items ≤ 2 ^ 62;
+      counted : deque_len r.window ≡ length r.window.items;
+    } };
 }
 
 impl Requests {
@@ -39,7 +50,8 @@ impl Requests {
         ensures { result.list ≡ [] }
     {
         Requests {
-            list: Vec::new(alloc),
+            first: 0,
+            window: VecDeque::new(alloc),
             waiting: 0,
         }
     }
@@ -48,28 +60,25 @@ impl Requests {
     pub fn given(&self) -> usize
         ensures { result ≡ length self.now.list }
     {
-        self.list.len()
+        self.first + self.window.len()
     }
 
     /// How many are not taken.
     pub fn waiting(&self) -> usize
-        ensures { result ≡ count_by is_open self.now.list }
+        ensures { result ≡ open_number self.now.list }
     {
         self.waiting
     }
 
-    /// The instance of a request that was given and is not taken.
-    pub fn opened(&self, request: usize) -> Option<(u32, u64)>
-        ensures { result ≡ opened (slice_get self.now.list request) }
+    /// The request of that number, if it was given and is not taken.
+    pub fn opened(&self, number: usize) -> Option<Request>
+        ensures { result ≡ opened self.now.list number }
     {
-        match self.list.get(request) {
-            Some(found) => {
-                if found.taken {
-                    None
-                } else {
-                    Some((found.comm, found.k))
-                }
-            }
+        if number < self.first {
+            return None;
+        }
+        match self.window.get(number - self.first) {
+            Some(place) => *place,
             None => None,
         }
     }
@@ -79,31 +88,70 @@ impl Requests {
         ensures list { self.new.list ≡ self.old.list }
         ensures room { OnOk result (0 < self.new.room) }
     {
-        self.list.reserve(1)
+        self.window.reserve(1)
     }
 
-    /// Gives one more, for instance k of a communicator.
-    #[tactic(auto, using(crate::proofs::AskingLemmas::count_pushed))]
-    pub fn push(&mut self, comm: u32, k: u64)
-        requires { 0 < self.old.room }
-        ensures { self.new.list ≡ self.old.list ++ record { comm = comm; k = k; taken = false } ∷ [] }
+    /// Gives one more.
+    pub fn push(&mut self, request: Request)
+        requires room { 0 < self.old.room }
+        requires few { length self.old.list < 2 ^ 62 }
+        ensures { self.new.list ≡ self.old.list ++ Some request ∷ [] }
     {
-        self.list.push_reserved(Request {
-            comm,
-            k,
-            taken: false,
-        });
+        self.window.push_back_reserved(Some(request));
         self.waiting += 1;
     }
 
-    /// Marks an open request as taken.
-    #[tactic(auto, using(crate::proofs::AskingLemmas::count_taken, crate::proofs::AskingLemmas::some_open))]
-    pub fn take(&mut self, request: usize)
-        requires { IsOpen self.old.list request }
-        ensures { self.new.list ≡ closed_at self.old.list request (slice_get self.old.list request) }
+    /// An open request is taken, and forgotten but for its number. Takes no memory.
+    #[tactic(auto, using(crate::proofs::FrontLemmas::front_all, crate::proofs::FrontLemmas::front_count))]
+    pub fn take(&mut self, number: usize)
+        requires { IsSome (opened self.old.list number) }
+        ensures { self.new.list ≡ slice_set self.old.list number None }
     {
-        self.list[request].taken = true;
+        self.close(number);
+        self.first += drop_taken(&mut self.window);
+    }
+
+    // Puts nothing in the place of an open request.
+    fn close(&mut self, number: usize)
+        requires { IsSome (opened self.old.list number) }
+        ensures { self.new.list ≡ slice_set self.old.list number None }
+    {
+        let at = number - self.first;
+        self.window[at] = None;
         self.waiting -= 1;
+    }
+}
+
+#[cfg(test)]
+impl Requests {
+    /// How many are kept.
+    pub fn kept(&self) -> usize {
+        self.window.len()
+    }
+}
+
+// Drops those in front that were taken, and says how many.
+#[tactic(auto, using(crate::proofs::FrontLemmas::taken_off))]
+fn drop_taken(window: &mut VecDeque<Option<Request>>) -> usize
+    ensures front { window.old.items ≡ replicate result None ++ window.new.items }
+    ensures number { length window.old.items ≡ result + length window.new.items }
+    ensures counted { deque_len window.new ≡ length window.new.items }
+{
+    let mut dropped = 0;
+    while is_taken_first(window) {
+        let _ = window.pop_front();
+        dropped += 1;
+    }
+    dropped
+}
+
+// Whether there is a first one, and it was taken.
+fn is_taken_first(window: &VecDeque<Option<Request>>) -> bool
+    ensures { IsTrue result → window.now.items ≡ None ∷ drop 1 window.now.items }
+{
+    match window.front() {
+        Some(place) => place.is_none(),
+        None => false,
     }
 }
 
@@ -135,7 +183,8 @@ pub fn given_to(requests: &[Requests], process: u32) -> usize
 // Whether the process may not have one more request.
 fn is_over(requests: &[Requests], process: u32) -> bool
     requires { process < length requests.now }
-    ensures test { result ≡ is_over_test (count_by is_open (requests_of requests.now process)) (length (requests_of requests.now process)) }
+    ensures test { result ≡ is_over_test (open_number (requests_of requests.now process))
+        (length (requests_of requests.now process)) }
     ensures few { IsFalse result → length (requests_of requests.now process) < 2 ^ 62 }
 {
     let asked = &requests[process as usize];
@@ -145,7 +194,8 @@ fn is_over(requests: &[Requests], process: u32) -> bool
 /// The refusal of a process that may not have one more request.
 pub fn refusal(requests: &[Requests], process: u32) -> Option<Refusal>
     requires { process < length requests.now }
-    ensures test { result ≡ (if is_over_test (count_by is_open (requests_of requests.now process)) (length (requests_of requests.now process)) then Some TooManyRequests else None) }
+    ensures test { result ≡ (if is_over_test (open_number (requests_of requests.now process))
+        (length (requests_of requests.now process)) then Some TooManyRequests else None) }
     ensures few { IfNone result (length (requests_of requests.now process) < 2 ^ 62) }
 {
     if is_over(requests, process) {
@@ -155,13 +205,13 @@ pub fn refusal(requests: &[Requests], process: u32) -> Option<Refusal>
     }
 }
 
-/// The instance of a request that the process was given and has not taken.
-pub fn opened_by(requests: &[Requests], process: u32, request: usize) -> Option<(u32, u64)>
-    ensures instance { result ≡ opened (slice_get (requests_of requests.now process) request) }
+/// The request of that number, if the process was given it and has not taken it.
+pub fn opened_by(requests: &[Requests], process: u32, number: usize) -> Option<Request>
+    ensures request { result ≡ opened (requests_of requests.now process) number }
     ensures process { IsSome result → process < length requests.now }
 {
     match requests.get(process as usize) {
-        Some(asked) => asked.opened(request),
+        Some(asked) => asked.opened(number),
         None => None,
     }
 }
@@ -178,23 +228,26 @@ pub fn reserve(requests: &mut Vec<Requests>, process: u32) -> Result<(), AllocEr
 }
 
 /// Gives the process its next request, for which there is room.
-pub fn push(requests: &mut Vec<Requests>, process: u32, comm: u32, k: u64)
+pub fn push(requests: &mut Vec<Requests>, process: u32, request: Request)
     requires process { process < length requests.old.items }
     requires room { 0 < room_of requests.old.items process }
-    ensures requests { requests_of requests.new.items ≡ with_request (requests_of requests.old.items) process comm k }
+    requires few { length (requests_of requests.old.items process) < 2 ^ 62 }
+    ensures requests { requests_of requests.new.items
+        ≡ with_request (requests_of requests.old.items) process request }
     ensures number { length requests.new.items ≡ length requests.old.items }
 {
     let asked = &mut requests[process as usize];
-    asked.push(comm, k);
+    asked.push(request);
 }
 
-/// Marks an open request as taken.
-pub fn take(requests: &mut Vec<Requests>, process: u32, request: usize)
+/// An open request is taken. Takes no memory.
+pub fn take(requests: &mut Vec<Requests>, process: u32, number: usize)
     requires process { process < length requests.old.items }
-    requires open { IsOpen (requests_of requests.old.items process) request }
-    ensures requests { requests_of requests.new.items ≡ with_closed (requests_of requests.old.items) process request }
+    requires open { IsSome (opened (requests_of requests.old.items process) number) }
+    ensures requests { requests_of requests.new.items
+        ≡ with_closed (requests_of requests.old.items) process number }
     ensures number { length requests.new.items ≡ length requests.old.items }
 {
     let asked = &mut requests[process as usize];
-    asked.take(request);
+    asked.take(number);
 }

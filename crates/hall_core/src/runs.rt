@@ -1,8 +1,9 @@
 //! Whole runs.
-ghost use Rattle.std.specs.Prelude.{◌≡◌, length, IfOk};
+ghost use Rattle.std.specs.Prelude.{◌≡◌, [], length, IfOk};
 ghost use Rattle.run_model.specs.Replies.{Legal};
 ghost use Rattle.run_model.specs.Runs.{run_of};
 ghost use Rattle.run_model.specs.Known.{HaveKnownLabels};
+ghost use Rattle.hall_core.specs.Halls.{StandsFor};
 
 use crate::hall::Hall;
 use run_model::{Call, Reply};
@@ -58,6 +59,23 @@ impl Replies {
     }
 }
 
+// Applies the calls in order to a hall that was opened for them, and gives one reply for each, in
+// order.
+pub(crate) fn apply_each(alloc: Global, hall: &mut Hall, calls: Calls) -> Result<Replies, NoMemory>
+    requires labels { HaveKnownLabels hall.old.policy calls }
+    requires begins { StandsFor hall.old [] }
+    ensures policy { hall.new.policy ≡ hall.old.policy }
+    ensures run { IfOk result (λ replies. Legal hall.old.policy (run_of calls replies)) }
+    ensures each { IfOk result (λ replies. length replies ≡ length calls) }
+{
+    let mut list = Vec::new(alloc);
+    for call in calls.list {
+        let reply = hall.apply(call);
+        list.push(reply)?;
+    }
+    Ok(Replies { list })
+}
+
 /// Applies the calls in order to a hall that was opened for them, and gives one reply for each, in order.
 ///
 /// `NoMemory` is answered where the hall could not be opened or the list of replies could not grow; a call's own out of memory is its reply.
@@ -66,11 +84,13 @@ pub fn run_calls(alloc: Global, policy: Policy, calls: Calls) -> Result<Replies,
     ensures run { IfOk result (λ replies. Legal policy (run_of calls replies)) }
     ensures each { IfOk result (λ replies. length replies ≡ length calls) }
 {
-    let mut hall = Hall::open(alloc, policy)?;
-    let mut list = Vec::new(alloc);
-    for call in calls.list {
-        let reply = hall.apply(call);
-        list.push(reply)?;
+    match Hall::open(alloc, policy) {
+        Ok(mut hall) => {
+            let replies = apply_each(alloc, &mut hall, calls);
+            // By a call: at the end of a block the proof would take the hall apart.
+            drop(hall);
+            replies
+        }
+        Err(_) => Err(NoMemory),
     }
-    Ok(Replies { list })
 }

@@ -1,15 +1,18 @@
 //! Worked lists of calls with their replies. Alpha and beta are rivals, crude and delta too.
+//!
+//! A hall, a policy, calls and replies are let go by a call of `drop`, not by the end of a block:
+//! there the proof would take the value apart, field by field, which takes a minute for a hall.
 ghost use Rattle.std.specs.Prelude.{◌≡◌, IfOk, List};
 ghost use Rattle.wall_policy.specs.Policy.{ChineseWall};
 ghost use Rattle.run_model.specs.Known.{IsKnownLabel, HasKnownLabel, HaveKnownLabels};
 
 use crate::{
-    Act, Block, Call, Calls, Claim, Delivery, Hall, Posting, Replies, Reply, finish, run_calls,
+    Act, Block, Call, Calls, Claim, Delivery, Hall, NoMemory, Posting, Replies, Reply, finish,
+    run_calls,
 };
 use coll_routes::{Numbers, Own, Signature};
 use mpi_elems::{Buffer, ElemType};
 use std::alloc::{AllocError, Global};
-use std::process::Abort;
 use std::test::Fail;
 use wall_labels::{DatasetId, Label, Op, ProcessId};
 use wall_policy::{Policy, read_policy};
@@ -19,7 +22,7 @@ pub(crate) const RIVALS: &str =
     "version = 1\n[[class]]\nname = \"banks\"\ndatasets = [\"alpha\", \"beta\"]\n[[class]]\nname = \"oil\"\ndatasets = [\"crude\", \"delta\"]\n[[process]]\nname = \"a0\"\nhome = \"alpha\"\n[[process]]\nname = \"b0\"\nhome = \"beta\"\n[[process]]\nname = \"c0\"\nhome = \"crude\"\n[[process]]\nname = \"n0\"\n[[sanitise]]\nop = \"sum\"\nleast = 3\n";
 
 /// Four processes, all at home with alpha.
-const FRIENDS: &str =
+pub(crate) const FRIENDS: &str =
     "version = 1\n[[class]]\nname = \"banks\"\ndatasets = [\"alpha\", \"beta\"]\n[[process]]\nname = \"p0\"\nhome = \"alpha\"\n[[process]]\nname = \"p1\"\nhome = \"alpha\"\n[[process]]\nname = \"p2\"\nhome = \"alpha\"\n[[process]]\nname = \"p3\"\nhome = \"alpha\"\n";
 
 /// What a process does: a broadcast on a communicator from a root of so many numbers, with its own under a label; a sum over all, of its own
@@ -139,6 +142,7 @@ fn label(policy: &Policy, name: &str) -> Label
     }
 }
 
+/// A post. Each number of the rows fits the type, so that there is one wherever memory was given.
 fn posted(
     alloc: Global,
     comm: u32,
@@ -146,20 +150,34 @@ fn posted(
     own: Own,
     label: Label,
     numbers: &[i128],
-) -> Result<Act, Fail>
+) -> Result<Act, NoMemory>
     ensures { IfOk result (λ act. (wall : ChineseWall) → IsKnownLabel wall label → HasKnownLabel wall act) }
 {
-    let elements = Buffer::from_numbers(alloc, ElemType::Int32, numbers)?;
-    Ok(Act::Post(Posting {
-        comm,
-        sig,
-        own,
-        label,
-        elements,
-    }))
+    match Buffer::from_numbers(alloc, ElemType::Int32, numbers) {
+        Ok(elements) => Ok(Act::Post(Posting {
+            comm,
+            sig,
+            own,
+            label,
+            elements,
+        })),
+        Err(_) => {
+            drop(sig);
+            Err(NoMemory)
+        }
+    }
 }
 
-fn act(alloc: Global, doing: Doing, label: Label) -> Result<Act, Fail>
+fn group(alloc: Global, ranks: &[u32]) -> Result<Signature, NoMemory> {
+    match ranks.to_vec(alloc) {
+        Ok(ranks) => Ok(Signature::Create {
+            ranks: Numbers::from(ranks),
+        }),
+        Err(_) => Err(NoMemory),
+    }
+}
+
+fn act(alloc: Global, doing: Doing, label: Label) -> Result<Act, NoMemory>
     ensures { IfOk result (λ act. (wall : ChineseWall) → IsKnownLabel wall label → HasKnownLabel wall act) }
 {
     let elem_type = ElemType::Int32;
@@ -180,11 +198,10 @@ fn act(alloc: Global, doing: Doing, label: Label) -> Result<Act, Fail>
             };
             posted(alloc, 0, sig, Own::Plain, label, numbers)
         }
-        Group(ranks) => {
-            let ranks = Numbers::from(ranks.to_vec(alloc)?);
-            let sig = Signature::Create { ranks };
-            posted(alloc, 0, sig, Own::Plain, label, &[])
-        }
+        Group(ranks) => match group(alloc, ranks) {
+            Ok(sig) => posted(alloc, 0, sig, Own::Plain, label, &[]),
+            Err(_) => Err(NoMemory),
+        },
         Share(comm, _, numbers) => {
             let sig = Signature::Allgather {
                 elem_type,
@@ -223,12 +240,14 @@ fn label_name(doing: &Doing) -> &'static str {
     }
 }
 
-fn call(alloc: Global, policy: &Policy, process: u32, doing: Doing) -> Result<Call, Fail>
+fn call(alloc: Global, policy: &Policy, process: u32, doing: Doing) -> Result<Call, NoMemory>
     ensures { IfOk result (λ call. HasKnownLabel policy.now call.act) }
 {
     let label = label(policy, label_name(&doing));
-    let act = act(alloc, doing, label)?;
-    Ok(Call { process, act })
+    match act(alloc, doing, label) {
+        Ok(act) => Ok(Call { process, act }),
+        Err(_) => Err(NoMemory),
+    }
 }
 
 fn dataset_number(label: &Label) -> i32 {
@@ -295,75 +314,159 @@ fn reply_text(alloc: Global, reply: &Reply) -> Result<String, AllocError> {
     }
 }
 
-pub(crate) fn calls(alloc: Global, policy: &Policy, lines: &[Line]) -> Result<Vec<Call>, Fail>
-    ensures { IfOk result (λ v. HaveKnownLabels policy.now v.items) }
+fn push_call(
+    alloc: Global,
+    policy: &Policy,
+    calls: &mut Vec<Call>,
+    line: &Line,
+) -> Result<(), NoMemory>
+    requires { HaveKnownLabels policy.now calls.old.items }
+    ensures { HaveKnownLabels policy.now calls.new.items }
 {
-    let mut calls = Vec::new(alloc);
-    for line in lines {
-        calls.push(call(alloc, policy, line.0, line.1)?)?;
+    match call(alloc, policy, line.0, line.1) {
+        Ok(call) => match calls.push(call) {
+            Ok(()) => Ok(()),
+            Err(refused) => {
+                drop(refused);
+                Err(NoMemory)
+            }
+        },
+        Err(_) => Err(NoMemory),
     }
-    Ok(calls)
 }
 
-fn is_told(alloc: Global, reply: &Reply, text: &str) -> Result<bool, AllocError> {
-    let told = reply_text(alloc, reply)?;
-    Ok(told.as_str() == text)
-}
-
-fn replies(alloc: Global, policy: &str, lines: &[Line]) -> Result<Replies, Fail> {
-    let policy = read_policy(alloc, policy.as_bytes())?;
-    let calls = calls(alloc, &policy, lines)?;
-    Ok(run_calls(alloc, policy, Calls::from(calls))?)
-}
-
-pub(crate) fn told(
-    rt: &(impl Abort + AllocGlobal),
+/// Adds the calls of the lines.
+fn push_calls(
+    alloc: Global,
+    policy: &Policy,
+    calls: &mut Vec<Call>,
     lines: &[Line],
-    replies: &Replies,
-) -> Result<(), Fail> {
-    let alloc = rt.alloc();
-    assert_eq!(rt; replies.as_slice().len(), lines.len());
-    for (line, reply) in lines.iter().zip(replies.as_slice()) {
-        assert!(rt; is_told(alloc, reply, line.2)?);
+) -> Result<(), NoMemory>
+    requires { HaveKnownLabels policy.now calls.old.items }
+    ensures { HaveKnownLabels policy.now calls.new.items }
+{
+    for line in lines {
+        push_call(alloc, policy, calls, line)?;
     }
     Ok(())
 }
 
-fn run(rt: &(impl Abort + AllocGlobal), policy: &str, lines: &[Line]) -> Result<(), Fail> {
-    let replies = replies(rt.alloc(), policy, lines)?;
-    told(rt, lines, &replies)
+/// The calls of the lines.
+pub(crate) fn calls(alloc: Global, policy: &Policy, lines: &[Line]) -> Result<Calls, NoMemory>
+    ensures { IfOk result (λ calls. HaveKnownLabels policy.now calls) }
+{
+    let mut calls = Vec::new(alloc);
+    match push_calls(alloc, policy, &mut calls, lines) {
+        Ok(()) => Ok(Calls::from(calls)),
+        Err(_) => {
+            drop(calls);
+            Err(NoMemory)
+        }
+    }
+}
+
+fn is_told(alloc: Global, reply: &Reply, text: &str) -> Result<bool, NoMemory> {
+    let told = reply_text(alloc, reply)?;
+    Ok(told.as_str() == text)
+}
+
+/// Whether there is a reply for each line, and it is the line's.
+pub(crate) fn told(alloc: Global, lines: &[Line], replies: &Replies) -> Result<bool, NoMemory> {
+    if replies.as_slice().len() != lines.len() {
+        return Ok(false);
+    }
+    for (line, reply) in lines.iter().zip(replies.as_slice()) {
+        if !is_told(alloc, reply, line.2)? {
+            return Ok(false);
+        }
+    }
+    Ok(true)
+}
+
+/// Whether `run_calls` answers the calls as the lines say.
+fn told_all(alloc: Global, policy: Policy, calls: Calls, lines: &[Line]) -> Result<bool, NoMemory>
+    requires { HaveKnownLabels policy calls }
+{
+    match run_calls(alloc, policy, calls) {
+        Ok(replies) => {
+            let same = told(alloc, lines, &replies);
+            drop(replies);
+            same
+        }
+        Err(_) => Err(NoMemory),
+    }
+}
+
+/// Whether `run_calls` answers the lines' calls as they say. The text is a policy: it is read
+/// wherever memory was given.
+fn runs(alloc: Global, policy: &str, lines: &[Line]) -> Result<bool, NoMemory> {
+    let Ok(policy) = read_policy(alloc, policy.as_bytes()) else {
+        return Err(NoMemory);
+    };
+    match calls(alloc, &policy, lines) {
+        Ok(calls) => told_all(alloc, policy, calls, lines),
+        Err(_) => {
+            drop(policy);
+            Err(NoMemory)
+        }
+    }
 }
 
 #[test]
 fn rivals_get_no_numbers(rt: HostRuntime) -> Result<(), Fail> {
-    run(&rt, RIVALS, &denied_to_all())?;
-    run(&rt, RIVALS, &barred())
+    assert!(rt; runs(rt.alloc(), RIVALS, &denied_to_all())?);
+    assert!(rt; runs(rt.alloc(), RIVALS, &barred())?);
+    Ok(())
 }
 
 #[test]
 fn all_get_a_sanitised_sum(rt: HostRuntime) -> Result<(), Fail> {
-    run(&rt, RIVALS, &sum_of_four())
+    assert!(rt; runs(rt.alloc(), RIVALS, &sum_of_four())?);
+    Ok(())
 }
 
 #[test]
 fn friends_split_and_get_numbers(rt: HostRuntime) -> Result<(), Fail> {
-    run(&rt, FRIENDS, &refused())?;
-    run(&rt, FRIENDS, &split())
+    assert!(rt; runs(rt.alloc(), FRIENDS, &refused())?);
+    assert!(rt; runs(rt.alloc(), FRIENDS, &split())?);
+    Ok(())
 }
 
-fn opened(alloc: Global, policy: &str) -> Result<Hall, Fail> {
-    let policy = read_policy(alloc, policy.as_bytes())?;
-    Ok(Hall::open(alloc, policy)?)
+/// Whether it holds in a hall that is opened with the policy.
+pub(crate) fn at_a_hall<F: FnOnce(Global, &mut Hall) -> Result<bool, NoMemory> + Drop>(
+    alloc: Global,
+    policy: &str,
+    holds: F,
+) -> Result<bool, NoMemory>
+    requires { F.IsAlwaysCallable holds }
+{
+    let Ok(policy) = read_policy(alloc, policy.as_bytes()) else {
+        return Err(NoMemory);
+    };
+    match Hall::open(alloc, policy) {
+        Ok(mut hall) => {
+            let held = holds(alloc, &mut hall);
+            drop(hall);
+            held
+        }
+        Err(_) => Err(NoMemory),
+    }
 }
 
 /// Whether the hall answers the line's call as the line says.
-fn answers(alloc: Global, hall: &mut Hall, line: &Line) -> Result<bool, Fail> {
-    let call = call(alloc, hall.policy(), line.0, line.1)?;
-    let reply = hall.apply(call);
-    Ok(is_told(alloc, &reply, line.2)?)
+pub(crate) fn answers(alloc: Global, hall: &mut Hall, line: &Line) -> Result<bool, NoMemory> {
+    match call(alloc, hall.policy(), line.0, line.1) {
+        Ok(call) => {
+            let reply = hall.apply(call);
+            let same = is_told(alloc, &reply, line.2);
+            drop(reply);
+            same
+        }
+        Err(_) => Err(NoMemory),
+    }
 }
 
-fn answers_all(alloc: Global, hall: &mut Hall, lines: &[Line]) -> Result<bool, Fail> {
+fn answers_all(alloc: Global, hall: &mut Hall, lines: &[Line]) -> Result<bool, NoMemory> {
     for line in lines {
         if !answers(alloc, hall, line)? {
             return Ok(false);
@@ -384,16 +487,19 @@ fn holds(hall: &Hall, process: u32, dataset: u32) -> bool {
 }
 
 /// The histories and the book after a denial: n0 has had access to nothing.
+fn keeps_a_denial(alloc: Global, hall: &mut Hall) -> Result<bool, NoMemory> {
+    let told = answers_all(alloc, hall, &denied_to_all())?;
+    let held = holds(hall, 0, 0) && !holds(hall, 3, 0) && !holds(hall, 1, 0);
+    Ok(told && held && hall.book().len() == 5)
+}
+
 #[test]
 fn histories_and_book_of_a_denial(rt: HostRuntime) -> Result<(), Fail> {
-    let mut hall = opened(rt.alloc(), RIVALS)?;
-    assert!(rt; answers_all(rt.alloc(), &mut hall, &denied_to_all())?);
-    assert!(rt; holds(&hall, 0, 0) && !holds(&hall, 3, 0) && !holds(&hall, 1, 0));
-    assert_eq!(rt; hall.book().len(), 5);
+    assert!(rt; at_a_hall(rt.alloc(), RIVALS, keeps_a_denial)?);
     Ok(())
 }
 
-fn takes_256_requests(alloc: Global, hall: &mut Hall) -> Result<bool, Fail> {
+fn takes_256_requests(alloc: Global, hall: &mut Hall) -> Result<bool, NoMemory> {
     for _ in 0..255 {
         answers(alloc, hall, &(0, Cast(0, 0, 0, "public", &[]), "any"))?;
     }
@@ -402,8 +508,7 @@ fn takes_256_requests(alloc: Global, hall: &mut Hall) -> Result<bool, Fail> {
 
 #[test]
 fn no_more_than_256_requests_wait(rt: HostRuntime) -> Result<(), Fail> {
-    let mut hall = opened(rt.alloc(), FRIENDS)?;
-    assert!(rt; takes_256_requests(rt.alloc(), &mut hall)?);
+    assert!(rt; at_a_hall(rt.alloc(), FRIENDS, takes_256_requests)?);
     Ok(())
 }
 
@@ -429,15 +534,16 @@ fn ready_rank(claim: &Claim) -> Option<u32> {
 type Claimed = (u32, u64, Option<u32>, &'static str);
 
 /// Whether the claim is ready with the line's rank, or not ready, and comes to the line's reply.
-fn claims(alloc: Global, hall: &mut Hall, line: &Claimed) -> Result<bool, Fail> {
+fn claims(alloc: Global, hall: &mut Hall, line: &Claimed) -> Result<bool, NoMemory> {
     let claim = hall.claim(line.0, line.1);
     let same = ready_rank(&claim) == line.2;
     let reply = finish(claim);
-    let told = is_told(alloc, &reply, line.3)?;
-    Ok(same && told)
+    let told = is_told(alloc, &reply, line.3);
+    drop(reply);
+    Ok(told? && same)
 }
 
-fn claims_all(alloc: Global, hall: &mut Hall, lines: &[Claimed]) -> Result<bool, Fail> {
+fn claims_all(alloc: Global, hall: &mut Hall, lines: &[Claimed]) -> Result<bool, NoMemory> {
     for line in lines {
         if !claims(alloc, hall, line)? {
             return Ok(false);
@@ -456,7 +562,7 @@ fn claimed() -> [Claimed; 4] {
     ]
 }
 
-fn claims_gathered(alloc: Global, hall: &mut Hall) -> Result<bool, Fail> {
+fn claims_gathered(alloc: Global, hall: &mut Hall) -> Result<bool, NoMemory> {
     if !answers_all(alloc, hall, &gathered())? {
         return Ok(false);
     }
@@ -466,31 +572,30 @@ fn claims_gathered(alloc: Global, hall: &mut Hall) -> Result<bool, Fail> {
 /// A claim that is ready holds the caller's rank. The request is taken by the claim.
 #[test]
 fn a_claim_is_a_take(rt: HostRuntime) -> Result<(), Fail> {
-    let mut hall = opened(rt.alloc(), FRIENDS)?;
-    assert!(rt; claims_gathered(rt.alloc(), &mut hall)?);
+    assert!(rt; at_a_hall(rt.alloc(), FRIENDS, claims_gathered)?);
     Ok(())
 }
 
-/// The members of communicators 1 to 5, by their ranks in the world.
-const GROUPS: [&[u32]; 5] = [&[0, 2, 3], &[0, 1, 3], &[0, 3], &[1, 3], &[2, 3]];
+/// The members of communicators 1 to 5, by their ranks in the world, and what their creators are
+/// told.
+pub(crate) const GROUPS: [(&[u32], &str); 5] = [
+    (&[0, 2, 3], "posted 0"),
+    (&[0, 1, 3], "posted 1"),
+    (&[0, 3], "posted 2"),
+    (&[1, 3], "posted 3"),
+    (&[2, 3], "posted 4"),
+];
 
-fn create(alloc: Global, ranks: &[u32]) -> Result<Act, Fail>
-    ensures { IfOk result (λ act. (wall : ChineseWall) → HasKnownLabel wall act) }
-{
-    let ranks = Numbers::from(ranks.to_vec(alloc)?);
-    let sig = Signature::Create { ranks };
-    posted(alloc, 0, sig, Own::Plain, Label::Public, &[])
-}
-
-/// All four processes create one communicator of each group.
-fn create_all(alloc: Global, hall: &mut Hall) -> Result<(), Fail> {
-    for ranks in GROUPS {
+/// Whether all four processes create one communicator of each group.
+fn creates_all(alloc: Global, hall: &mut Hall) -> Result<bool, NoMemory> {
+    for (ranks, reply) in GROUPS {
         for process in 0..4 {
-            let act = create(alloc, ranks)?;
-            hall.apply(Call { process, act });
+            if !answers(alloc, hall, &(process, Group(ranks), reply))? {
+                return Ok(false);
+            }
         }
     }
-    Ok(())
+    Ok(true)
 }
 
 /// A gather of a bank's numbers at a0. Before its last post n0 asks for an oil firm's.
@@ -511,9 +616,8 @@ fn claimed_by_the_root() -> [Claimed; 2] {
     ]
 }
 
-fn claims_in_groups(alloc: Global, hall: &mut Hall) -> Result<bool, Fail> {
-    create_all(alloc, hall)?;
-    if !answers_all(alloc, hall, &gathered_by_two())? {
+fn claims_in_groups(alloc: Global, hall: &mut Hall) -> Result<bool, NoMemory> {
+    if !creates_all(alloc, hall)? || !answers_all(alloc, hall, &gathered_by_two())? {
         return Ok(false);
     }
     claims_all(alloc, hall, &claimed_by_the_root())
@@ -521,7 +625,6 @@ fn claims_in_groups(alloc: Global, hall: &mut Hall) -> Result<bool, Fail> {
 
 #[test]
 fn a_root_claims_what_its_group_gathered(rt: HostRuntime) -> Result<(), Fail> {
-    let mut hall = opened(rt.alloc(), RIVALS)?;
-    assert!(rt; claims_in_groups(rt.alloc(), &mut hall)?);
+    assert!(rt; at_a_hall(rt.alloc(), RIVALS, claims_in_groups)?);
     Ok(())
 }

@@ -1,25 +1,17 @@
 //! Worked pairs of lists of calls that differ in some numbers alone.
+ghost use Rattle.std.specs.Prelude.{IfOk};
+ghost use Rattle.run_model.specs.Known.{HaveKnownLabels};
 
 use crate::tests::Doing::{Cast, Group, Share, Sum, Take};
-use crate::tests::{Line, RIVALS, calls, told};
+use crate::tests::{GROUPS, Line, RIVALS, calls, told};
 use crate::{Calls, TwoRuns, run_two};
 use std::alloc::Global;
-use std::process::Abort;
 use std::test::Fail;
 use wall_labels::NoMemory;
-use wall_policy::read_policy;
-
-/// The members of communicators 1 to 5, by their ranks in the world, and what their creators are told.
-const GROUPS: [(&[u32], &str); 5] = [
-    (&[0, 2, 3], "posted 0"),
-    (&[0, 1, 3], "posted 1"),
-    (&[0, 3], "posted 2"),
-    (&[1, 3], "posted 3"),
-    (&[2, 3], "posted 4"),
-];
+use wall_policy::{Policy, read_policy};
 
 /// The lines, after all four processes have created the five groups.
-fn after_groups(alloc: Global, lines: &[Line]) -> Result<Vec<Line>, Fail> {
+fn after_groups(alloc: Global, lines: &[Line]) -> Result<Vec<Line>, NoMemory> {
     let mut all = Vec::new(alloc);
     for (ranks, reply) in GROUPS {
         for process in 0..4 {
@@ -93,48 +85,109 @@ fn barred(numbers: &'static [i128]) -> [Line; 12] {
     ]
 }
 
-/// What `run_two` answers to the calls of the lines.
-fn two_runs(
-    alloc: Global,
-    first: &[Line],
-    second: &[Line],
-) -> Result<Result<TwoRuns, NoMemory>, Fail> {
-    let policy = read_policy(alloc, RIVALS.as_bytes())?;
-    let one = calls(alloc, &policy, first)?;
-    let other = calls(alloc, &policy, second)?;
-    Ok(run_two(alloc, policy, Calls::from(one), Calls::from(other)))
+/// Two lists of lines.
+type Pair<'a> = (&'a [Line], &'a [Line]);
+
+/// What is looked at in the replies of two runs.
+#[derive(Clone, Copy)]
+enum Looked {
+    /// Each reply.
+    Replies,
+    /// How many there are. There may be none at all, for out of memory.
+    Number,
 }
 
-fn both(rt: &(impl Abort + AllocGlobal), first: &[Line], second: &[Line]) -> Result<(), Fail> {
-    let two = two_runs(rt.alloc(), first, second)??;
-    told(rt, first, &two.first)?;
-    told(rt, second, &two.second)
+/// Whether the answer is as the lines say.
+fn is_answer(
+    alloc: Global,
+    pair: Pair,
+    looked: Looked,
+    answer: &Result<TwoRuns, NoMemory>,
+) -> Result<bool, NoMemory> {
+    match (answer, looked) {
+        (Ok(two), Looked::Replies) => {
+            Ok(told(alloc, pair.0, &two.first)? && told(alloc, pair.1, &two.second)?)
+        }
+        (Ok(two), Looked::Number) => Ok(
+            two.first.as_slice().len() == pair.0.len()
+                && two.second.as_slice().len() == pair.1.len(),
+        ),
+        (Err(_), Looked::Replies) => Err(NoMemory),
+        (Err(_), Looked::Number) => Ok(true),
+    }
+}
+
+/// Whether `run_two` answers the calls as the lines say.
+fn run_both(
+    alloc: Global,
+    policy: Policy,
+    calls: (Calls, Calls),
+    pair: Pair,
+    looked: Looked,
+) -> Result<bool, NoMemory>
+    requires first { HaveKnownLabels policy calls.0 }
+    requires second { HaveKnownLabels policy calls.1 }
+{
+    let (first, second) = calls;
+    let answer = run_two(alloc, policy, first, second);
+    let same = is_answer(alloc, pair, looked, &answer);
+    drop(answer);
+    same
+}
+
+/// The calls of both lists.
+fn both_calls(alloc: Global, policy: &Policy, pair: Pair) -> Result<(Calls, Calls), NoMemory>
+    ensures first { IfOk result (λ both. HaveKnownLabels policy.now both.0) }
+    ensures second { IfOk result (λ both. HaveKnownLabels policy.now both.1) }
+{
+    let Ok(first) = calls(alloc, policy, pair.0) else {
+        return Err(NoMemory);
+    };
+    match calls(alloc, policy, pair.1) {
+        Ok(second) => Ok((first, second)),
+        Err(_) => {
+            drop(first);
+            Err(NoMemory)
+        }
+    }
+}
+
+/// Whether `run_two` answers the lines' calls as they say.
+fn both(alloc: Global, pair: Pair, looked: Looked) -> Result<bool, NoMemory> {
+    let Ok(policy) = read_policy(alloc, RIVALS.as_bytes()) else {
+        return Err(NoMemory);
+    };
+    match both_calls(alloc, &policy, pair) {
+        Ok(calls) => run_both(alloc, policy, calls, pair, looked),
+        Err(_) => {
+            drop(policy);
+            Err(NoMemory)
+        }
+    }
+}
+
+/// The same of lines that come after the groups were created.
+fn both_in_groups(alloc: Global, first: &[Line], second: &[Line]) -> Result<bool, NoMemory> {
+    let first = after_groups(alloc, first)?;
+    let second = after_groups(alloc, second)?;
+    both(alloc, (&first, &second), Looked::Replies)
 }
 
 /// In both lists the lines of b0, or of all who hold nothing of c0's firm, have the same replies.
 #[test]
 fn two_worlds_differ_in_deliveries_alone(rt: HostRuntime) -> Result<(), Fail> {
     let alloc = rt.alloc();
-    both(
-        &rt,
-        &after_groups(alloc, &two_offers(&[10], "delivered [10]"))?,
-        &after_groups(alloc, &two_offers(&[99], "delivered [99]"))?,
-    )?;
-    both(
-        &rt,
-        &after_groups(alloc, &relay(&[10], "delivered [10]"))?,
-        &after_groups(alloc, &relay(&[99], "delivered [99]"))?,
-    )?;
-    both(
-        &rt,
-        &summed(&[5], "delivered [19]"),
-        &summed(&[6], "delivered [20]"),
-    )?;
-    both(
-        &rt,
-        &after_groups(alloc, &barred(&[4]))?,
-        &after_groups(alloc, &barred(&[8]))?,
-    )
+    let first = two_offers(&[10], "delivered [10]");
+    let second = two_offers(&[99], "delivered [99]");
+    assert!(rt; both_in_groups(alloc, &first, &second)?);
+    let first = relay(&[10], "delivered [10]");
+    let second = relay(&[99], "delivered [99]");
+    assert!(rt; both_in_groups(alloc, &first, &second)?);
+    let first = summed(&[5], "delivered [19]");
+    let second = summed(&[6], "delivered [20]");
+    assert!(rt; both(alloc, (&first, &second), Looked::Replies)?);
+    assert!(rt; both_in_groups(alloc, &barred(&[4]), &barred(&[8]))?);
+    Ok(())
 }
 
 /// With an allocation of `run_two` refused (`rt try --test --fail-alloc N`) there is no answer, or
@@ -143,12 +196,6 @@ fn two_worlds_differ_in_deliveries_alone(rt: HostRuntime) -> Result<(), Fail> {
 fn a_refused_growth_loses_no_reply(rt: HostRuntime) -> Result<(), Fail> {
     let first = relay(&[10], "any");
     let second = relay(&[99], "any");
-    match two_runs(rt.alloc(), &first, &second)? {
-        Ok(two) => {
-            assert_eq!(rt; two.first.as_slice().len(), first.len());
-            assert_eq!(rt; two.second.as_slice().len(), second.len());
-        }
-        Err(NoMemory) => {}
-    }
+    assert!(rt; both(rt.alloc(), (&first, &second), Looked::Number)?);
     Ok(())
 }

@@ -1,16 +1,12 @@
 -- Calls that are spelled so are read.
-use Rattle.std.proofs.Common.{◌≡◌, ℕ, ◌%◌, ◌^◌, ◌<◌, ◌≤◌, Bool, true, false, not, cond, ◌&&◌, eqb, length, List, [], ◌∷◌, ◌++◌, Option, Some, None, slice_get, get_or, unwrap_or, Ok, ℤ, pos, negsuc, codes, map, refl, sym, ap, arith}
+use Rattle.std.proofs.Common.{◌≡◌, ℕ, ◌%◌, ◌^◌, ◌<◌, ◌≤◌, Bool, true, false, not, cond, ◌&&◌, eqb, length, List, [], ◌∷◌, ◌++◌, Option, Some, None, unwrap_or, Ok, ℤ, pos, negsuc, map, refl, sym, ap, arith}
 use Rattle.std.specs.List.{list_all}
-use Rattle.std.specs.Str.{bytes_eq}
 use Rattle.std.specs.Fmt.{decimal, signed_decimal}
 use Rattle.std.proofs.lemmas.Bool.{and_parts}
 use Rattle.std.proofs.lemmas.Bool.Decides.{nat_tests}
-use Rattle.std.proofs.lemmas.Option.{slice_get-get_or}
 use Rattle.wall_labels.specs.declared.label.Label.{Label}
 use Rattle.wall_labels.specs.declared.label.Label.TheVariants as labels
-use Rattle.wall_policy.specs.Names.{Name, is_name, is_dataset_name, place_of}
 use Rattle.wall_policy.specs.Policy.{ChineseWall, IsPolicy}
-use Rattle.wall_policy.proofs.WallPolicyLemmas.{place_of-name, list_all-place}
 use Rattle.mpi_elems.specs.declared.elem_type.ElemType.{ElemType}
 use Rattle.mpi_elems.specs.declared.elem_type.ElemType.TheVariants.{Int8, Int16, Int32, Int64, Uint8, Uint16, Uint32, Uint64, TwoInt}
 use Rattle.mpi_elems.specs.declared.fault.BufferFault.{BufferFault}
@@ -21,16 +17,16 @@ use Rattle.mpi_elems.specs.Elements.{elements_of, pairs_of}
 use Rattle.mpi_elems.specs.Contents.{Contents, contents}
 use Rattle.mpi_elems.specs.Faults.{fault_of}
 use Rattle.coll_routes.specs.Signatures.{elem_type}
-use Rattle.coll_text.specs.Numbers.{Word, IsBetween, is_number}
+use Rattle.coll_text.specs.Numbers.{Word, IsBetween}
 use Rattle.coll_text.specs.Spellings.{statement_words}
 use Rattle.coll_text.specs.Reading.{each_of, number_at}
-use Rattle.coll_text.proofs.CollTextLemmas.{decimal_is_number, signed_is_read, form, positive, statement_again, decimal_some, label_some, label_again}
+use Rattle.coll_text.proofs.CollTextLemmas.{decimal_is_number, signed_is_read, positive, statement_again, decimal_some, label_some, label_again}
 use Rattle.run_model.specs.declared.call.Posting.{Posting}
 use Rattle.run_model.specs.declared.call.Act.{Act}
 use Rattle.run_model.specs.declared.call.Act.TheVariants.{Post, Take, Info}
 use Rattle.run_model.specs.Known.{IsKnownLabel}
 use Rattle.hall_script.specs.Lines.{value_of, buffer_of, values_of, labelled, given_of, post_of, last_number, act_of, verb_of, call_of}
-use Rattle.coll_text.specs.Words.{name_at, label_word}
+use Rattle.coll_text.specs.Words.{label_word}
 use Rattle.hall_script.proofs.KnownLemmas.{is_label}
 use Rattle.hall_script.specs.Spellings.{given_words, act_words, IsSayable, IsSayableAct}
 

@@ -1,13 +1,12 @@
 -- Calls that are read are spelled so.
-use Rattle.std.proofs.Common.{◌≡◌, ℕ, suc, ◌+◌, ◌%◌, ◌^◌, ◌<◌, Bool, true, false, not, cond, ◌&&◌, eqb, length, List, [], ◌∷◌, ◌++◌, Option, Some, None, option_map, unwrap_or, Ok, Err, ℤ, codes, map, inl, inr, refl, sym, ap, subst, ◌∙◌, append_assoc, arith}
-use Rattle.std.specs.List.{position_from, list_all}
+use Rattle.std.proofs.Common.{◌≡◌, ℕ, ◌%◌, ◌^◌, ◌<◌, Bool, true, false, not, cond, ◌&&◌, eqb, length, List, [], ◌∷◌, ◌++◌, Option, Some, None, unwrap_or, Ok, Err, ℤ, codes, map, inl, inr, refl, sym, ap, subst, ◌∙◌, append_assoc, arith}
+use Rattle.std.specs.List.{list_all}
 use Rattle.std.specs.Str.{bytes_eq}
 use Rattle.std.specs.Fmt.{decimal, signed_decimal}
 use Rattle.std.proofs.lemmas.List.Splits.{join_with_byte-slice_split}
 use Rattle.std.proofs.lemmas.Slice.Eq.{bytes_eq-Decides}
 use Rattle.wall_labels.specs.declared.label.Label.{Label}
 use Rattle.wall_labels.specs.declared.label.Label.TheVariants as labels
-use Rattle.wall_policy.specs.Names.{place_of}
 use Rattle.mpi_elems.specs.declared.elem_type.ElemType.{ElemType}
 use Rattle.mpi_elems.specs.declared.elem_type.ElemType.TheVariants.{Int8}
 use Rattle.mpi_elems.specs.Types.{is_pair}
@@ -15,7 +14,7 @@ use Rattle.mpi_elems.specs.Numbers.{is_number_of}
 use Rattle.mpi_elems.specs.Elements.{elements_of}
 use Rattle.mpi_elems.specs.Contents.{Contents, contents}
 use Rattle.coll_routes.specs.Signatures.{elem_type}
-use Rattle.coll_text.specs.declared.fault.LineFault.TheVariants.{BadVerb, BadShape, BadField, BadLabel, BadNumber, OddPair}
+use Rattle.coll_text.specs.declared.fault.LineFault.TheVariants.{BadVerb, BadShape, BadField, BadNumber, OddPair}
 use Rattle.coll_text.specs.Numbers.{Word, number_within, signed_within}
 use Rattle.coll_text.specs.Reading.{◌>>=◌, some_or, parts, each_of, word_at, number_at, number_up_to, ended, is_printable}
 use Rattle.coll_text.specs.Fields.{statement_at}
@@ -27,7 +26,7 @@ use Rattle.run_model.specs.declared.call.Call.{Call}
 use Rattle.hall_script.specs.declared.line.Verb.{Verb}
 use Rattle.hall_script.specs.declared.line.Verb.TheVariants as verbs
 use Rattle.hall_script.specs.Lines.{typed, value_of, buffer_of, values_of, labelled, given_of, post_of, last_number, act_of, verb_of, call_of, answer_to}
-use Rattle.coll_text.specs.Words.{name_at, label_word, label_of}
+use Rattle.coll_text.specs.Words.{label_word, label_of}
 use Rattle.hall_script.specs.Spellings.{given_words, act_words, call_words, GivesNothing, IsSpelled, IsLineOf}
 
 -- ---- numbers

@@ -4,6 +4,7 @@ pub mod KnownLemmas
 pub mod ReplyLemmas
 pub mod SplitLemmas
 pub mod CallLemmas
+pub mod CheckLemmas
 pub mod AgainLemmas
 pub mod PlainLemmas
 pub mod LineLemmas

@@ -1,19 +1,16 @@
 -- The line of a call is read.
-use Rattle.std.proofs.Common.{◌≡◌, ℕ, ◌%◌, ◌^◌, ◌<◌, ◌≤◌, Bool, true, false, not, ◌&&◌, ◌||◌, leb, ltb, eqb, length, get_or, unwrap_or, List, [], ◌∷◌, ◌++◌, Ok, ℤ, codes, map, refl, sym, ap, ◌∙◌, arith}
+use Rattle.std.proofs.Common.{◌≡◌, ℕ, ◌%◌, ◌^◌, ◌<◌, ◌≤◌, Bool, true, false, not, ◌&&◌, ◌||◌, leb, ltb, eqb, length, List, [], ◌∷◌, ◌++◌, Ok, ℤ, codes, map, refl, sym, ap, ◌∙◌, arith}
 use Rattle.std.specs.List.{All, list_all, join_with_byte}
-use Rattle.std.specs.Str.{bytes_eq}
 use Rattle.std.specs.Fmt.{decimal, signed_decimal}
 use Rattle.std.proofs.lemmas.Bool.{and_parts, and_from, eqb-true, leb-true, le-leb, ne_eqb}
 use Rattle.std.proofs.lemmas.List.Elements.{All-nil, All-cons}
 use Rattle.std.proofs.lemmas.List.Folds.{list_all-append}
 use Rattle.std.proofs.lemmas.List.Splits.{slice_split_none, slice_split_at}
-use Rattle.std.proofs.lemmas.Option.{slice_get-get_or}
 use Rattle.wall_labels.specs.declared.label.Label.{Label}
 use Rattle.wall_labels.specs.declared.label.Label.TheVariants as labels
-use Rattle.wall_policy.specs.Names.{Name, is_name, is_letter, is_digit, is_name_byte, is_dataset_name}
+use Rattle.wall_policy.specs.Names.{Name, is_name, is_letter, is_digit, is_name_byte}
 use Rattle.wall_policy.specs.declared.checks.TheConstants.{NAME_LIMIT}
 use Rattle.wall_policy.specs.Policy.{ChineseWall, IsPolicy}
-use Rattle.wall_policy.proofs.WallPolicyLemmas.{list_all-place}
 use Rattle.mpi_elems.specs.declared.elem_type.ElemType.{ElemType}
 use Rattle.mpi_elems.specs.declared.fault.BufferFault.TheVariants as faults
 use Rattle.mpi_elems.specs.Types.{is_pair}

@@ -1,5 +1,6 @@
 -- Scripts that are answered line by line.
 use Rattle.std.proofs.Common.{◌≡◌, ℕ, ◌+◌, List, [], ◌∷◌, ◌++◌, Option, Some, None, Result, Ok, Err, refl, sym, ap, ◌∙◌, subst, append_assoc}
+use Rattle.std.specs.Prelude.{IfOk, IfErr}
 use Rattle.std.proofs.lemmas.List.{append-nil}
 use Rattle.std.specs.Io.KnownBytes.{Appends}
 use Rattle.wall_labels.specs.Known.{AppendsFront, AreLeft}
@@ -13,9 +14,10 @@ use Rattle.coll_text.specs.Writing.{Moves}
 use Rattle.coll_text.proofs.CollTextLemmas.{Appends-none}
 use Rattle.hall_script.specs.declared.fault.ScriptFault.{ScriptFault}
 use Rattle.hall_script.specs.declared.fault.ScriptFault.TheVariants.{Read, Line, Write, NoMemory}
+use Rattle.hall_script.specs.Devices.{Used, bytes_before, bytes_after, IsUntouched, NeverFailed, FailedOnce, IsRead}
 use Rattle.hall_script.specs.Replies.{reply_line}
-use Rattle.hall_script.specs.Scripts.{Script, with_line, line_call, script_from, script_of, calls_in, reply_lines, Answers, Stops, Replays, Replayed}
-use Rattle.hall_script.specs.Answering.{AnswersLine, FailsLine, line_fault, Told, SoFar, no_more, fault_at, Ends, Finishes}
+use Rattle.hall_script.specs.Scripts.{Script, with_line, line_call, script_from, script_of, calls_in, reply_lines, Answers, Stops, IsReplayed, StopsWith, script_limit}
+use Rattle.hall_script.specs.Answering.{AnswersLine, FailsLine, line_fault, Told, SoFar, no_more, fault_at, Ends, Finishes, HasFinished, HasStopped}
 
 module _ (wall : ChineseWall) (before now : Option (List ℕ)) (text : List ℕ) (whole rest : Script) (run : List Entry) (told : Told wall before now text whole rest run) where
   -- a prefix of the text is written
@@ -205,27 +207,96 @@ some_left (Some bytes) = (bytes, refl)
 stops_first : (wall : ChineseWall) (w : Option (List ℕ)) (calls : List Call) → Stops wall w w calls
 stops_first wall w calls = record { run = []; rest = calls; legal = tt; first = refl; written = ([], [], refl, Appends-none w) }
 
-pub not_begun : {H : Type 0} (stands : H → List Entry → Type 0) (wall : ChineseWall) (left w : Option (List ℕ)) → Replayed stands wall left w w (Err Read)
-not_begun stands wall left w = let s = some_left left in record { script = s.0; whole = s.1; outcome = refl }
+-- memory ran out before the first line
+pub short_of_memory : {R W : Type 0} (wall : ChineseWall) (source : Used R) (sink : Used W) → NeverFailed source → IsUntouched sink
+    → StopsWith wall source sink NoMemory
+short_of_memory wall source sink went same =
+    let s = some_left (bytes_before source) in (
+      s.0,
+      went,
+      ap sink.failures same,
+      (
+        s.1,
+        subst (λ w. Stops wall (bytes_before sink) (sink.bytes w) (script_of wall.dataset_names s.0).calls) (sym same)
+            (stops_first wall (bytes_before sink) (script_of wall.dataset_names s.0).calls),
+      ),
+    )
 
-pub short_of_memory : {H : Type 0} (stands : H → List Entry → Type 0) (wall : ChineseWall) (left w : Option (List ℕ)) → Replayed stands wall left w w (Err NoMemory)
-short_of_memory stands wall left w = let s = some_left left in record { script = s.0; whole = s.1; outcome = stops_first wall w (script_of wall.dataset_names s.0).calls }
+-- ---- a script that was read
 
--- ---- a script that ended with a fault
+abbrev failed : ScriptFault → Result (Unit {0}) ScriptFault
+failed f = Err f
 
-ended_so : {M : Type 0} (stands : M → List Entry → Type 0) (wall : ChineseWall) (machine : M) (before after : Option (List ℕ)) (script : Script) (fault : ScriptFault)
-    → Finishes {X = Unit {0}} stands wall machine before after script (Err fault) → Replays stands wall before after script (Err fault)
-ended_so stands wall machine before after script (Line n f) h = h
-ended_so stands wall machine before after script Write h = h
-ended_so stands wall machine before after script NoMemory h = h
-ended_so stands wall machine before after script Read h = absurd h
+line_is_no_write : (n : ℕ) (e : LineFault) → failed (Line n e) ≡ failed Write → ⊥
+line_is_no_write n e k = cc
 
-pub ended : {M : Type 0} (stands : M → List Entry → Type 0) (policy wall : ChineseWall) (left before after : Option (List ℕ)) (script bytes : List ℕ) (machine : M) (fault : ScriptFault)
-    → wall ≡ policy → AreLeft left script → bytes ≡ script
-    → Finishes {X = Unit {0}} stands wall machine before after (script_of wall.dataset_names bytes) (Err fault) → Replayed stands policy left before after (Err fault)
-ended {M = M} stands policy wall left before after script bytes machine fault same whole read h =
-    let P : ChineseWall → Type 0 = λ w. Finishes {M = M} {X = Unit {0}} stands w machine before after (script_of w.dataset_names bytes) (Err fault) in
-    let mine : P policy = subst P same h in
-    let Q : List ℕ → Type 0 = λ bs. Finishes {M = M} {X = Unit {0}} stands policy machine before after (script_of policy.dataset_names bs) (Err fault) in
-    let of_script : Q script = subst Q read mine in
-    record { script = script; whole = whole; outcome = ended_so stands policy machine before after (script_of policy.dataset_names script) fault of_script }
+memory_is_no_write : failed NoMemory ≡ failed Write → ⊥
+memory_is_no_write k = cc
+
+module _ {R W M : Type 0} (stands : M → List Entry → Type 0) (policy : ChineseWall) (source : Used R) (sink : Used W) (machine : M) where
+  abbrev pub Finished : List ℕ → Result (Unit {0}) ScriptFault → Type 0
+  Finished script r = Finishes {X = Unit {0}} stands policy machine (bytes_before sink) (bytes_after sink) (script_of policy.dataset_names script) r
+
+  -- the same of the policy and the bytes under other names
+  finished : (wall : ChineseWall) (script bytes : List ℕ) (r : Result (Unit {0}) ScriptFault) → wall ≡ policy → bytes ≡ script
+      → Finishes {X = Unit {0}} stands wall machine (bytes_before sink) (bytes_after sink) (script_of wall.dataset_names bytes) r → Finished script r
+  finished wall script bytes r same is h =
+      let P : ChineseWall → Type 0 = λ w. Finishes {M = M} {X = Unit {0}} stands w machine (bytes_before sink) (bytes_after sink) (script_of w.dataset_names bytes) r in
+      let mine : P policy = subst P same h in
+      let Q : List ℕ → Type 0 = λ bs. Finished bs r in
+      subst Q is mine
+
+  -- it was answered to its end
+  answered_so : (script : List ℕ) → IsRead source script_limit script → NeverFailed sink → Finished script (Ok tt)
+      → (run : List Entry) × stands machine run × IsReplayed policy source sink run
+  answered_so script read went h = (h.0, h.2, record { script = script; read = read; faultless = h.3; went = went; answers = h.1 })
+
+  -- it ended with a fault
+  stopped_so : (script : List ℕ) (fault : ScriptFault) → IsRead source script_limit script → ((failed fault ≡ failed Write → ⊥) → NeverFailed sink)
+      → (failed fault ≡ failed Write → FailedOnce sink) → Finished script (Err fault) → StopsWith policy source sink fault
+  stopped_so script Read read went broke h = absurd h
+  stopped_so script (Line n e) read went broke h = (script, read, (h.0, went (line_is_no_write n e), h.1, h.2))
+  stopped_so script Write read went broke h = (script, read, broke refl, (read.1, h))
+  stopped_so script NoMemory read went broke h = (script, read.0, went memory_is_no_write, (read.1, h))
+
+  pub answered : (wall : ChineseWall) (script bytes : List ℕ) → wall ≡ policy → bytes ≡ script → IsRead source script_limit script → NeverFailed sink
+      → Finishes {X = Unit {0}} stands wall machine (bytes_before sink) (bytes_after sink) (script_of wall.dataset_names bytes) (Ok tt)
+      → (run : List Entry) × stands machine run × IsReplayed policy source sink run
+  answered wall script bytes same is read went h = answered_so script read went (finished wall script bytes (Ok tt) same is h)
+
+  pub stopped : (wall : ChineseWall) (script bytes : List ℕ) (fault : ScriptFault) → wall ≡ policy → bytes ≡ script → IsRead source script_limit script
+      → ((failed fault ≡ failed Write → ⊥) → NeverFailed sink) → (failed fault ≡ failed Write → FailedOnce sink)
+      → Finishes {X = Unit {0}} stands wall machine (bytes_before sink) (bytes_after sink) (script_of wall.dataset_names bytes) (Err fault)
+      → StopsWith policy source sink fault
+  stopped wall script bytes fault same is read went broke h = stopped_so script fault read went broke (finished wall script bytes (Err fault) same is h)
+
+-- ---- what came of a machine that was handed over
+
+module _ {R W M : Type 0} (stands : M → List Entry → Type 0) (wall_of : M → ChineseWall)
+    (policy : ChineseWall) (source : Used R) (sink : Used W) (wall : ChineseWall)
+    (script bytes : List ℕ) (same : wall ≡ policy) (is : bytes ≡ script)
+    (read : IsRead source script_limit script) where
+  pub handed_back : (r : Result M ScriptFault)
+      → IfOk r (HasFinished stands wall_of wall (bytes_before sink) (bytes_after sink)
+      (sink.failures sink.old) (sink.failures sink.new) (script_of wall.dataset_names bytes))
+      → IfOk r (λ machine. (run : List Entry) × stands machine run
+      × IsReplayed policy source sink run)
+  handed_back (Ok machine) h =
+      answered stands policy source sink machine wall script bytes same is read h.went h.finishes
+  handed_back (Err fault) h = tt
+
+  pub same_policy : (r : Result M ScriptFault)
+      → IfOk r (HasFinished stands wall_of wall (bytes_before sink) (bytes_after sink)
+      (sink.failures sink.old) (sink.failures sink.new) (script_of wall.dataset_names bytes))
+      → IfOk r (λ machine. wall_of machine ≡ policy)
+  same_policy (Ok machine) h = h.wall_is ∙ same
+  same_policy (Err fault) h = tt
+
+  pub not_handed_back : (r : Result M ScriptFault)
+      → IfErr r (HasStopped stands wall (bytes_before sink) (bytes_after sink)
+      (sink.failures sink.old) (sink.failures sink.new) (script_of wall.dataset_names bytes))
+      → IfErr r (StopsWith policy source sink)
+  not_handed_back (Ok machine) h = tt
+  not_handed_back (Err fault) h =
+      stopped stands policy source sink h.machine wall script bytes fault same is read h.went h.broke
+      h.finishes

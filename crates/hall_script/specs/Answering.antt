@@ -1,5 +1,5 @@
 -- How a script is answered line by line: words of private contracts.
-use Rattle.std.specs.Prelude.{◌≡◌, ℕ, List, [], ◌∷◌, ◌++◌, Option, Some, None, Result, Ok, Err}
+use Rattle.std.specs.Prelude.{◌≡◌, ◌+◌, ℕ, List, [], ◌∷◌, ◌++◌, Option, Some, None, Result, Ok, Err}
 use Rattle.std.specs.Io.KnownBytes.{Appends}
 use Rattle.wall_policy.specs.Policy.{ChineseWall}
 use Rattle.run_model.specs.declared.call.Call.{Call}
@@ -82,3 +82,23 @@ Finishes stands wall machine before after script (Err (Line n fault)) = (run : L
 Finishes stands wall machine before after script (Err Write) = Stops wall before after script.calls
 Finishes stands wall machine before after script (Err NoMemory) = Stops wall before after script.calls
 Finishes stands wall machine before after script (Err Read) = ⊥
+
+-- a machine that has answered the whole script, by a writer with so many failures before and after
+pub record HasFinished {M : Type 0} (stands : M → List Entry → Type 0) (wall_of : M → ChineseWall)
+    (wall : ChineseWall) (before after : Option (List ℕ)) (fewer failures : ℕ)
+    (script : Script) (machine : M) : Type 0 where
+  pub wall_is : wall_of machine ≡ wall
+  pub went : failures ≡ fewer
+  pub finishes : Finishes {X = Unit {0}} stands wall machine before after script (Ok tt)
+
+abbrev pub stopped_by : ScriptFault → Result (Unit {0}) ScriptFault
+stopped_by fault = Err fault
+
+-- some machine has stopped with this fault
+pub record HasStopped {M : Type 0} (stands : M → List Entry → Type 0) (wall : ChineseWall)
+    (before after : Option (List ℕ)) (fewer failures : ℕ)
+    (script : Script) (fault : ScriptFault) : Type 0 where
+  pub machine : M
+  pub went : (stopped_by fault ≡ stopped_by Write → ⊥) → failures ≡ fewer
+  pub broke : stopped_by fault ≡ stopped_by Write → failures ≡ fewer + 1
+  pub finishes : Finishes stands wall machine before after script (stopped_by fault)

@@ -1,4 +1,5 @@
 pub mod Lines
+pub mod Checking
 pub mod Replies
 pub mod Devices
 pub mod Scripts

@@ -1,5 +1,5 @@
 -- What a script says, and what becomes of it. (Own format.)
-use Rattle.std.specs.Prelude.{◌≡◌, ℕ, ◌+◌, ◌-◌, ◌<◌, nat_lt, Bool, true, ◌==◌, List, [], ◌∷◌, ◌++◌, length, take, slice_index, slice_get, All, Option, Some, None, Result, Ok, Err, if◌then◌else◌}
+use Rattle.std.specs.Prelude.{◌≡◌, ℕ, ◌+◌, ◌-◌, ◌<◌, nat_lt, Bool, true, ◌==◌, List, [], ◌∷◌, ◌++◌, length, take, slice_index, slice_get, Option, Some, None, Result, Ok, Err, if◌then◌else◌}
 use Rattle.std.specs.Io.KnownBytes.{Appends}
 use Rattle.wall_labels.specs.Known.{AppendsFront, AreLeft}
 use Rattle.wall_policy.specs.Policy.{ChineseWall}
@@ -9,11 +9,11 @@ use Rattle.run_model.specs.Runs.{Entry}
 use Rattle.run_model.specs.Replies.{Legal}
 use Rattle.coll_text.specs.declared.fault.LineFault.{LineFault}
 use Rattle.coll_text.specs.declared.fault.LineFault.TheVariants.{BadField}
-use Rattle.run_model.specs.Known.{HasKnownLabel}
 use Rattle.hall_script.specs.declared.fault.ScriptFault.{ScriptFault}
 use Rattle.hall_script.specs.declared.fault.ScriptFault.TheVariants.{Read, Line, Write, NoMemory}
 use Rattle.coll_text.specs.Numbers.{Word}
 use Rattle.coll_text.specs.Reading.{◌>>=◌, parts}
+use Rattle.hall_script.specs.Devices.{Used, bytes_before, bytes_after, IsUntouched, NeverFailed, FailedOnce, IsRead, IsUnreadable}
 use Rattle.hall_script.specs.Lines.{answer_to}
 use Rattle.hall_script.specs.Replies.{reply_line}
 
@@ -25,7 +25,8 @@ script_limit = 16777216
 
 -- without one CR at the end
 abbrev pub trimmed : List ℕ → List ℕ
-trimmed line = if slice_index line (length line - 1) == 13 then take (length line - 1) line else line
+trimmed line =
+    if slice_index line (length line - 1) == 13 then take (length line - 1) line else line
 
 -- an empty line, and one that begins with `#`
 abbrev pub is_skipped : List ℕ → Bool
@@ -35,7 +36,8 @@ is_skipped (b ∷ bs) = b == 35
 -- the call of a line, none where it is skipped
 unfoldable pub line_call : List Word → List ℕ → Result (Option Call) LineFault
 line_call datasets line =
-    if is_skipped (trimmed line) then Ok None else (answer_to datasets (trimmed line) >>= λ call. Ok (Some call))
+    if is_skipped (trimmed line) then Ok None
+    else (answer_to datasets (trimmed line) >>= λ call. Ok (Some call))
 
 -- ---- scripts
 
@@ -71,39 +73,66 @@ reply_lines wall [] = []
 reply_lines wall (e ∷ run) = reply_lines wall run ++ reply_line wall e.reply
 
 -- this legal run answers the calls, and the lines of its replies were written
-pub record Answers (wall : ChineseWall) (before after : Option (List ℕ)) (calls : List Call) (run : List Entry) : Type 0 where
+pub record Answers (wall : ChineseWall) (before after : Option (List ℕ))
+    (calls : List Call) (run : List Entry) : Type 0 where
   pub legal : Legal wall run
   pub answered : calls_in run ≡ calls
   pub written : Appends before after (reply_lines wall run)
 
--- some legal run answers the first of the calls, and a prefix of the lines of its replies was written
-pub record Stops (wall : ChineseWall) (before after : Option (List ℕ)) (calls : List Call) : Type 0 where
+-- some legal run answers the first of the calls, and a prefix of the lines of its replies was
+-- written
+pub record Stops (wall : ChineseWall) (before after : Option (List ℕ))
+    (calls : List Call) : Type 0 where
   pub run : List Entry
   pub rest : List Call
   pub legal : Legal wall run
   pub first : calls_in run ++ rest ≡ calls
   pub written : AppendsFront before after (reply_lines wall run)
 
--- what becomes of a script, by how replaying it ended; a hall that it leaves stands for the run
-abbrev pub Replays : {H : Type 0} → (H → List Entry → Type 0) → ChineseWall → (before after : Option (List ℕ)) → Script → Result H ScriptFault → Type 0
-Replays stands wall before after script (Ok hall) = (run : List Entry) × Answers wall before after script.calls run × stands hall run × (script.fault ≡ None)
-Replays stands wall before after script (Err (Line n fault)) = (run : List Entry) × Answers wall before after script.calls run × (script.fault ≡ Some (n, fault))
-Replays stands wall before after script (Err Write) = Stops wall before after script.calls
-Replays stands wall before after script (Err NoMemory) = Stops wall before after script.calls
-Replays stands wall before after script (Err Read) = after ≡ before
-
--- the script is what was left of the source, and this became of it
-pub record Replayed {H : Type 0} (stands : H → List Entry → Type 0) (wall : ChineseWall) (left before after : Option (List ℕ)) (result : Result H ScriptFault) : Type 0 where
+-- The script was read and has no bad line. This legal run answers its calls, and the lines of its
+-- replies were written.
+pub record IsReplayed {R W : Type 0} (wall : ChineseWall)
+    (source : Used R) (sink : Used W) (run : List Entry) : Type 0 where
   pub script : List ℕ
-  pub whole : AreLeft left script
-  pub outcome : Replays stands wall before after (script_of wall.dataset_names script) result
+  pub read : IsRead source script_limit script
+  pub faultless : (script_of wall.dataset_names script).fault ≡ None
+  pub went : NeverFailed sink
+  pub answers : Answers wall (bytes_before sink) (bytes_after sink)
+      (script_of wall.dataset_names script).calls run
+
+-- a legal run answers the calls before the bad line of this number
+abbrev pub StopsAtLine : {W : Type 0} → ChineseWall → Used W → Script → ℕ → LineFault → Type 0
+StopsAtLine wall sink script n fault =
+    (run : List Entry) × NeverFailed sink
+    × Answers wall (bytes_before sink) (bytes_after sink) script.calls run
+    × (script.fault ≡ Some (n, fault))
+
+-- a legal run answers the first calls of what the reader had to give
+abbrev pub StopsWithin : {R W : Type 0} → ChineseWall → Used R → Used W → List ℕ → Type 0
+StopsWithin wall source sink script =
+    AreLeft (bytes_before source) script
+    × Stops wall (bytes_before sink) (bytes_after sink) (script_of wall.dataset_names script).calls
+
+-- what a replay leaves that ended with this fault
+abbrev pub StopsWith : {R W : Type 0} → ChineseWall → Used R → Used W → ScriptFault → Type 0
+StopsWith wall source sink Read = IsUnreadable source script_limit × IsUntouched sink
+StopsWith wall source sink (Line n fault) =
+    (script : List ℕ) × IsRead source script_limit script
+    × StopsAtLine wall sink (script_of wall.dataset_names script) n fault
+StopsWith wall source sink Write =
+    (script : List ℕ) × IsRead source script_limit script
+    × FailedOnce sink × StopsWithin wall source sink script
+StopsWith wall source sink NoMemory =
+    (script : List ℕ) × NeverFailed source
+    × NeverFailed sink × StopsWithin wall source sink script
 
 -- ---- the acts of each process
 
 -- the call of a line, if the policy has its process
 abbrev pub of_member : ChineseWall → Option Call → Result (Option Call) LineFault
 of_member wall None = Ok None
-of_member wall (Some call) = if nat_lt call.process (length wall.process_names) then Ok (Some call) else Err BadField
+of_member wall (Some call) =
+    if nat_lt call.process (length wall.process_names) then Ok (Some call) else Err BadField
 
 -- a line's own fault comes first
 unfoldable pub member_call : ChineseWall → List ℕ → Result (Option Call) LineFault
@@ -119,11 +148,13 @@ acts_of p [] = []
 acts_of p (call ∷ calls) = if call.process == p then call.act ∷ acts_of p calls else acts_of p calls
 
 -- for each process of the policy the acts of its calls
-pub record AreActs (wall : ChineseWall) (calls : List Call) (scripts : List (List Act)) : Type 0 where
+pub record AreActs (wall : ChineseWall) (calls : List Call)
+    (scripts : List (List Act)) : Type 0 where
   pub count : length scripts ≡ length wall.process_names
   pub each : (p : ℕ) → p < length wall.process_names → slice_get scripts p ≡ Some (acts_of p calls)
 
--- what splitting a script gives: the acts of all its calls, or its first fault, or out of memory in place of either
+-- what splitting a script gives: the acts of all its calls, or its first fault, or out of memory in
+-- place of either
 abbrev pub IsSplit : ChineseWall → Script → Result (List (List Act)) ScriptFault → Type 0
 IsSplit wall script (Ok scripts) = AreActs wall script.calls scripts × (script.fault ≡ None)
 IsSplit wall script (Err (Line n fault)) = script.fault ≡ Some (n, fault)

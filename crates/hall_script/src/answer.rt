@@ -1,11 +1,11 @@
 //! Answers the lines of a script.
-ghost use Rattle.std.specs.Prelude.{◌≡◌, ◌≢◌, ◌+◌, ◌≤◌, [], length, IfOk, IfSome, OnOk, OnErr, Err};
+ghost use Rattle.std.specs.Prelude.{◌≡◌, ◌≢◌, ◌+◌, ◌≤◌, [], length, IfOk, IfErr, IfSome, OnOk, OnErr, Err};
 ghost use Rattle.std.specs.Io.KnownBytes.{Appends};
 ghost use Rattle.wall_labels.specs.Known.{AppendsFront};
 ghost use Rattle.run_model.specs.Known.{HasKnownLabel};
 ghost use Rattle.coll_text.specs.Reading.{Gives};
 ghost use Rattle.hall_script.specs.Scripts.{trimmed, is_skipped, line_call, script_of};
-ghost use Rattle.hall_script.specs.Answering.{AnswersCall, AnswersLine, line_fault, Ends, Finishes};
+ghost use Rattle.hall_script.specs.Answering.{AnswersCall, AnswersLine, line_fault, Ends, Finishes, HasFinished, HasStopped};
 
 use crate::fault::ScriptFault;
 use crate::line::read_call;
@@ -157,5 +157,29 @@ pub(crate) fn answer_script<M: Machine, W: Sink>(
                 Err(_) => Err(ScriptFault::Write),
             },
         },
+    }
+}
+
+/// Answers the lines of a script, writes their replies, and gives the machine back.
+// For every machine, not for a hall alone: the proof would take a hall apart where it is let go.
+pub(crate) fn answered<M: Machine + Drop, W: Sink>(
+    alloc: Global,
+    machine: M,
+    script: &[u8],
+    sink: &mut W,
+) -> Result<M, ScriptFault>
+    requires bounded { length script.now ≤ 16777216 }
+    requires begins { M.stands machine [] }
+    ensures finished { let wall = M.wall machine in
+        IfOk result (HasFinished M.stands M.wall wall (W.contents sink.old) (W.contents sink.new)
+        (W.failures sink.old) (W.failures sink.new) (script_of wall.dataset_names script.now)) }
+    ensures stopped { let wall = M.wall machine in
+        IfErr result (HasStopped M.stands wall (W.contents sink.old) (W.contents sink.new)
+        (W.failures sink.old) (W.failures sink.new) (script_of wall.dataset_names script.now)) }
+{
+    let mut machine = machine;
+    match answer_script(alloc, &mut machine, script, sink) {
+        Ok(()) => Ok(machine),
+        Err(fault) => Err(fault),
     }
 }

@@ -1,7 +1,6 @@
 //! Reads a whole device.
-ghost use Rattle.std.specs.Prelude.{◌≡◌, ◌≤◌, length, IfOk, IfErr, OnOk};
-ghost use Rattle.wall_labels.specs.Known.{AreLeft};
-ghost use Rattle.hall_script.specs.Devices.{IsReadFault};
+ghost use Rattle.std.specs.Prelude.{IfOk, IfErr};
+ghost use Rattle.hall_script.specs.Devices.{used, IsRead, IsReadFault};
 
 use std::alloc::{AllocError, Global};
 use thiserror::Error;
@@ -37,10 +36,10 @@ pub fn read_device<R: Source>(
     source: &mut R,
     limit: usize,
 ) -> Result<Vec<u8>, DeviceFault>
-    ensures went { OnOk result (R.failures source.new ≡ R.failures source.old) }
-    ensures whole { IfOk result (λ bytes. AreLeft (R.remaining source.old) bytes.items) }
-    ensures within { IfOk result (λ bytes. length bytes.items ≤ limit) }
-    ensures fault { IfErr result (λ fault. IsReadFault fault limit (R.failures source.old) (R.failures source.new) (R.remaining source.old)) }
+    ensures whole { let device = used R.failures R.remaining source.old source.new in
+        IfOk result (λ bytes. IsRead device limit bytes.items) }
+    ensures fault { let device = used R.failures R.remaining source.old source.new in
+        IfErr result (IsReadFault device limit) }
 {
     let mut bytes = Vec::new(alloc);
     let mut buffer = [0u8; 1024];

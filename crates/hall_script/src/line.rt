@@ -1,9 +1,10 @@
 //! Reads a line: the call that it says, or its first fault from the left.
-ghost use Rattle.std.specs.Prelude.{◌≡◌, ◌≢◌, ◌≤◌, IfOk, Ok, Err};
+ghost use Rattle.std.specs.Prelude.{◌≡◌, ◌≢◌, ◌≤◌, IfOk, IsOk, Ok, Err};
 ghost use Rattle.coll_text.specs.Reading.{Gives};
 ghost use Rattle.run_model.specs.Known.{IsKnownLabel, HasKnownLabel};
 ghost use Rattle.hall_script.specs.Lines.{labelled, given_of, post_of, last_number, act_of, verb_of, verb_at, call_of, answer_to, IsPost};
 
+use crate::check::check_call;
 use crate::elements::values;
 use coll_text::{
     LineFault, Parts, are_printable, end_of, label_in, next_number, next_number32, next_statement,
@@ -80,7 +81,7 @@ fn next_post(alloc: Global, policy: &Policy, words: &mut Parts) -> Result<Act, L
 
 // The last number of a line, up to this one.
 #[tactic(auto, unfolding(crate::specs::Lines::last_number))]
-fn last_number_in(words: &mut Parts, most: u64) -> Result<u64, LineFault>
+pub(crate) fn last_number_in(words: &mut Parts, most: u64) -> Result<u64, LineFault>
     ensures number { Gives result (last_number most words.old) }
     ensures below { IfOk result (λ n. n ≤ most) }
     ensures memory { result ≢ Err LineFault.NoMemory }
@@ -99,7 +100,7 @@ pub(crate) enum Verb {
 }
 
 #[tactic(auto, unfolding(crate::specs::Lines::verb_of))]
-fn verb_in(word: &[u8]) -> Option<Verb>
+pub(crate) fn verb_in(word: &[u8]) -> Option<Verb>
     ensures { result ≡ verb_of word.now }
 {
     match word {
@@ -147,17 +148,26 @@ fn next_call(alloc: Global, policy: &Policy, words: &mut Parts) -> Result<Call, 
 /// or `info P C`, with one space between two fields. P and C are numbers of 32 bits, REQUEST is one
 /// of 64 bits, V are numbers of the type.
 ///
-/// Out of memory may come in place of either for a post, whose elements and lists take memory; no
-/// other line takes any.
+/// Out of memory comes only in place of the call of a post, whose elements and lists take memory: a
+/// line that has a fault is answered its fault, and no other line takes memory.
 #[tactic(auto, unfolding(crate::specs::Lines::answer_to))]
 pub fn read_call(alloc: Global, policy: &Policy, line: &[u8]) -> Result<Call, LineFault>
     ensures call { Gives result (answer_to policy.now.dataset_names line.now) }
     ensures known { IfOk result (λ call. HasKnownLabel policy.now call.act) }
     ensures memory { result ≡ Err LineFault.NoMemory → IsPost line.now }
+    // The line has no fault.
+    ensures sound { result ≡ Err LineFault.NoMemory → IsOk (answer_to policy.now.dataset_names line.now) }
 {
     if !are_printable(line) {
         return Err(LineFault::BadShape);
     }
     let mut words = Parts::new(line, b' ');
-    next_call(alloc, policy, &mut words)
+    match next_call(alloc, policy, &mut words) {
+        Ok(call) => Ok(call),
+        Err(LineFault::NoMemory) => {
+            check_call(policy, &mut Parts::new(line, b' '))?;
+            Err(LineFault::NoMemory)
+        }
+        Err(fault) => Err(fault),
+    }
 }

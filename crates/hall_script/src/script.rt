@@ -1,10 +1,11 @@
 //! Answers a script.
-ghost use Rattle.std.specs.Prelude.{◌≡◌, ◌≢◌, ◌+◌, ◌⊎◌, IfOk, Err};
+ghost use Rattle.std.specs.Prelude.{◌≡◌, List, IfOk, IfErr};
+ghost use Rattle.run_model.specs.Runs.{Entry};
 ghost use Rattle.hall_core.specs.Halls.{StandsFor};
-ghost use Rattle.hall_script.specs.Devices.{IsTooLong, IsWithin};
-ghost use Rattle.hall_script.specs.Scripts.{script_limit, Replayed};
+ghost use Rattle.hall_script.specs.Devices.{used};
+ghost use Rattle.hall_script.specs.Scripts.{IsReplayed, StopsWith};
 
-use crate::answer::answer_script;
+use crate::answer::answered;
 use crate::device::{DeviceFault, read_device};
 use crate::fault::ScriptFault;
 use crate::machine::Machine;
@@ -41,30 +42,22 @@ pub fn replay<R: Source, W: Sink>(
     source: &mut R,
     sink: &mut W,
 ) -> Result<Hall, ScriptFault>
-    // The reader failed, or the script is too long. Nothing was written.
-    ensures read { result ≡ Err ScriptFault.Read →
-        ((R.failures source.new ≡ R.failures source.old + 1)
-        ⊎ ((R.failures source.new ≡ R.failures source.old) × IsTooLong script_limit (R.remaining source.old)))
-        × (sink.new ≡ sink.old) }
-    ensures reader { result ≢ Err ScriptFault.Read → R.failures source.new ≡ R.failures source.old }
-    ensures within { result ≢ Err ScriptFault.Read → result ≢ Err ScriptFault.NoMemory → IsWithin script_limit (R.remaining source.old) }
-    // The writer failed.
-    ensures write { result ≡ Err ScriptFault.Write → W.failures sink.new ≡ W.failures sink.old + 1 }
-    ensures writer { result ≢ Err ScriptFault.Write → W.failures sink.new ≡ W.failures sink.old }
     ensures policy { IfOk result (λ hall. hall.policy ≡ policy) }
-    // The lines of the replies of a legal run are written.
-    ensures replayed { Replayed StandsFor policy (R.remaining source.old) (W.contents sink.old) (W.contents sink.new) result }
+    ensures replayed { let reader = used R.failures R.remaining source.old source.new in
+        let writer = used W.failures W.contents sink.old sink.new in
+        IfOk result (λ hall. (run : List Entry) × StandsFor hall run
+        × IsReplayed policy reader writer run) }
+    ensures fault { let reader = used R.failures R.remaining source.old source.new in
+        let writer = used W.failures W.contents sink.old sink.new in
+        IfErr result (StopsWith policy reader writer) }
 {
     let script = match read_device(alloc, source, SCRIPT_LIMIT) {
         Ok(script) => script,
         Err(DeviceFault::Read) => return Err(ScriptFault::Read),
         Err(DeviceFault::NoMemory) => return Err(ScriptFault::NoMemory),
     };
-    let Ok(mut hall) = Hall::open(alloc, policy) else {
-        return Err(ScriptFault::NoMemory);
-    };
-    match answer_script(alloc, &mut hall, &script, sink) {
-        Ok(()) => Ok(hall),
-        Err(fault) => Err(fault),
+    match Hall::open(alloc, policy) {
+        Ok(hall) => answered(alloc, hall, &script, sink),
+        Err(_) => Err(ScriptFault::NoMemory),
     }
 }

@@ -1,4 +1,8 @@
-//! Lines of every form with the calls that they say, their faults, replies, and scripts split by processes.
+//! Lines of every form with the calls that they say, their faults, replies, and scripts split by
+//! processes.
+//!
+//! What is wide, as a policy, is handed to `drop`: where it goes out of scope by itself it is taken
+//! apart in the function's own proof, which costs half a minute.
 ghost use Rattle.std.specs.Prelude.{◌≡◌, ◌<◌, IfOk, All, length};
 ghost use Rattle.wall_policy.specs.Policy.{ChineseWall};
 ghost use Rattle.run_model.specs.Known.{HasKnownLabel, IsKnownReply, ScriptsHaveKnownLabels, IsKnownLabel};
@@ -7,7 +11,7 @@ use super::*;
 use coll_text::{label_text, put, put_decimal, put_spaced, write_statement};
 use mpi_elems::{Buffer, ElemType};
 use run_model::{Act, Block, Call, Delivery, Integers, Posting, Refusal, Reply, Rule};
-use std::alloc::AllocError;
+use std::alloc::{AllocError, Global};
 use std::process::Abort;
 use std::test::Fail;
 use wall_labels::memory::{Fuse, MemorySource};
@@ -45,62 +49,63 @@ pub(crate) fn wall(rt: &(impl AllocGlobal + Abort)) -> Policy {
     }
 }
 
+const FAULTS: &[(&str, LineFault)] = &[
+    ("", LineFault::BadShape),
+    ("pst 0", LineFault::BadVerb),
+    ("pst  0", LineFault::BadVerb),
+    (" take 0 0", LineFault::BadShape),
+    ("take 0", LineFault::BadShape),
+    ("take 0 0 0", LineFault::BadShape),
+    ("take 0 0 ", LineFault::BadShape),
+    ("take\t0 0", LineFault::BadShape),
+    ("pst 0\r", LineFault::BadShape),
+    ("take 0 x", LineFault::BadField),
+    ("take 0 18446744073709551616", LineFault::BadField),
+    ("info 0", LineFault::BadShape),
+    ("info 0 0 0", LineFault::BadShape),
+    ("info 0 4294967296", LineFault::BadField),
+    ("post x 0 barrier", LineFault::BadField),
+    ("post 00 0 barrier", LineFault::BadField),
+    ("post 4294967296 0 barrier", LineFault::BadField),
+    ("post 0 0", LineFault::BadShape),
+    ("post 0 0 bcst", LineFault::BadKind),
+    ("post 0 0 bcast -1 int32 1", LineFault::BadField),
+    ("post 0 0 bcast 0 int33 1", LineFault::BadType),
+    ("post 0 0 bcast 0 int32", LineFault::BadShape),
+    ("post 0 0 bcast 0 int32 2 ", LineFault::BadShape),
+    ("post 0 0 allreduce avg int32 1", LineFault::UnknownOp),
+    ("post 0 0 split 0 undefined", LineFault::BadField),
+    ("post 0 0 cart_create 2 2", LineFault::BadField),
+    ("post 0 0 barrier 0", LineFault::BadShape),
+    ("post 0 0 barrier as alpha", LineFault::BadShape),
+    ("post 0 0 bcast 0 int32 1 to alpha 1", LineFault::BadShape),
+    ("post 0 0 bcast 0 int32 1 as", LineFault::BadShape),
+    ("post 0 0 bcast 0 int8 1 as gamma 1", LineFault::BadLabel),
+    ("post 0 0 bcast 0 int8 1 as none 1", LineFault::BadLabel),
+    ("post 0 0 bcast 0 int8 1 as alpha  1", LineFault::BadShape),
+    ("post 0 0 bcast 0 int8 1 as alpha 7 -", LineFault::BadNumber),
+    ("post 0 0 bcast 0 int8 1 as alpha -0", LineFault::BadNumber),
+    ("post 0 0 bcast 0 int8 1 as alpha 01", LineFault::BadNumber),
+    ("post 0 0 bcast 0 int8 1 as alpha 128", LineFault::BadNumber),
+    ("post 0 0 bcast 0 uint8 1 as alpha -1", LineFault::BadNumber),
+    (
+        "post 0 0 bcast 0 uint64 1 as alpha 18446744073709551616",
+        LineFault::BadNumber,
+    ),
+    ("post 0 0 allgather 2int 1 as alpha 5", LineFault::OddPair),
+    (
+        "post 0 0 allgather 2int 1 as alpha 5 x",
+        LineFault::BadNumber,
+    ),
+    (
+        "post 0 0 allgather 2int 1 as alpha 5 2147483648",
+        LineFault::BadNumber,
+    ),
+];
+
 #[test]
 fn lines_have_their_first_fault(rt: HostRuntime) {
-    let rows = [
-        ("", LineFault::BadShape),
-        ("pst 0", LineFault::BadVerb),
-        ("pst  0", LineFault::BadVerb),
-        (" take 0 0", LineFault::BadShape),
-        ("take 0", LineFault::BadShape),
-        ("take 0 0 0", LineFault::BadShape),
-        ("take 0 0 ", LineFault::BadShape),
-        ("take\t0 0", LineFault::BadShape),
-        ("pst 0\r", LineFault::BadShape),
-        ("take 0 x", LineFault::BadField),
-        ("take 0 18446744073709551616", LineFault::BadField),
-        ("info 0", LineFault::BadShape),
-        ("info 0 0 0", LineFault::BadShape),
-        ("info 0 4294967296", LineFault::BadField),
-        ("post x 0 barrier", LineFault::BadField),
-        ("post 00 0 barrier", LineFault::BadField),
-        ("post 4294967296 0 barrier", LineFault::BadField),
-        ("post 0 0", LineFault::BadShape),
-        ("post 0 0 bcst", LineFault::BadKind),
-        ("post 0 0 bcast -1 int32 1", LineFault::BadField),
-        ("post 0 0 bcast 0 int33 1", LineFault::BadType),
-        ("post 0 0 bcast 0 int32", LineFault::BadShape),
-        ("post 0 0 bcast 0 int32 2 ", LineFault::BadShape),
-        ("post 0 0 allreduce avg int32 1", LineFault::UnknownOp),
-        ("post 0 0 split 0 undefined", LineFault::BadField),
-        ("post 0 0 cart_create 2 2", LineFault::BadField),
-        ("post 0 0 barrier 0", LineFault::BadShape),
-        ("post 0 0 barrier as alpha", LineFault::BadShape),
-        ("post 0 0 bcast 0 int32 1 to alpha 1", LineFault::BadShape),
-        ("post 0 0 bcast 0 int32 1 as", LineFault::BadShape),
-        ("post 0 0 bcast 0 int8 1 as gamma 1", LineFault::BadLabel),
-        ("post 0 0 bcast 0 int8 1 as none 1", LineFault::BadLabel),
-        ("post 0 0 bcast 0 int8 1 as alpha  1", LineFault::BadShape),
-        ("post 0 0 bcast 0 int8 1 as alpha 7 -", LineFault::BadNumber),
-        ("post 0 0 bcast 0 int8 1 as alpha -0", LineFault::BadNumber),
-        ("post 0 0 bcast 0 int8 1 as alpha 01", LineFault::BadNumber),
-        ("post 0 0 bcast 0 int8 1 as alpha 128", LineFault::BadNumber),
-        ("post 0 0 bcast 0 uint8 1 as alpha -1", LineFault::BadNumber),
-        (
-            "post 0 0 bcast 0 uint64 1 as alpha 18446744073709551616",
-            LineFault::BadNumber,
-        ),
-        ("post 0 0 allgather 2int 1 as alpha 5", LineFault::OddPair),
-        (
-            "post 0 0 allgather 2int 1 as alpha 5 x",
-            LineFault::BadNumber,
-        ),
-        (
-            "post 0 0 allgather 2int 1 as alpha 5 2147483648",
-            LineFault::BadNumber,
-        ),
-    ];
-    for (line, fault) in &rows {
+    for (line, fault) in FAULTS {
         assert!(&rt; fault_of(&rt, line) == Some(*fault), "{line}");
     }
 }
@@ -108,7 +113,15 @@ fn lines_have_their_first_fault(rt: HostRuntime) {
 // The fault of a line, none where it says a call.
 fn fault_of(rt: &(impl AllocGlobal + Abort), line: &str) -> Option<LineFault> {
     let policy = wall(rt);
-    read_call(rt.alloc(), &policy, line.as_bytes()).err()
+    let answer = read_call(rt.alloc(), &policy, line.as_bytes());
+    drop(policy);
+    match answer {
+        Ok(call) => {
+            drop(call);
+            None
+        }
+        Err(fault) => Some(fault),
+    }
 }
 
 // The part of a post from `as` on, where it gives elements.
@@ -163,12 +176,24 @@ fn put_act(policy: &Policy, process: u32, act: &Act, line: &mut Vec<u8>) -> Resu
 // Whether the line is read, and its call is spelled as the line.
 fn is_spelled(rt: &(impl AllocGlobal + Abort), line: &str) -> bool {
     let policy = wall(rt);
-    let Ok(call) = read_call(rt.alloc(), &policy, line.as_bytes()) else {
-        return false;
+    let is_so = match read_call(rt.alloc(), &policy, line.as_bytes()) {
+        Ok(call) => {
+            let is_put = is_put_as(rt.alloc(), &policy, &call, line);
+            drop(call);
+            is_put
+        }
+        Err(_) => false,
     };
-    let mut text = Vec::new(rt.alloc());
-    let Call { process, act } = call;
-    let is_put = put_act(&policy, process, &act, &mut text).is_ok();
+    drop(policy);
+    is_so
+}
+
+// Whether the call is spelled as the line.
+fn is_put_as(alloc: Global, policy: &Policy, call: &Call, line: &str) -> bool
+    requires { HasKnownLabel policy.now call.now.act }
+{
+    let mut text = Vec::new(alloc);
+    let is_put = put_act(policy, call.process, &call.act, &mut text).is_ok();
     is_put && text.as_slice() == line.as_bytes()
 }
 
@@ -217,8 +242,17 @@ fn has_line(rt: &(impl AllocGlobal + Abort), reply: Reply, line: &str) -> bool
 {
     let policy = wall(rt);
     assert!(rt; 1 < policy.processes() && 0 < policy.datasets());
-    let mut bytes = Vec::new(rt.alloc());
-    let is_written = bytes.push(b'>').is_ok() && write_reply(&policy, &reply, &mut bytes).is_ok();
+    let is_so = is_written_as(rt.alloc(), &policy, &reply, line);
+    drop(reply);
+    drop(policy);
+    is_so
+}
+
+fn is_written_as(alloc: Global, policy: &Policy, reply: &Reply, line: &str) -> bool
+    requires { IsKnownReply policy.now reply.now }
+{
+    let mut bytes = Vec::new(alloc);
+    let is_written = bytes.push(b'>').is_ok() && write_reply(policy, reply, &mut bytes).is_ok();
     is_written && bytes.as_slice() == line.as_bytes()
 }
 
@@ -416,33 +450,69 @@ post 3 0 allreduce sum int32 1 as public 1
 take 3 0
 ";
 
+// Whether the acts of the scripts, process by process, are this text.
+fn are_put_as(alloc: Global, policy: &Policy, scripts: &Scripts, acts: &str) -> bool
+    requires { ScriptsHaveKnownLabels policy.now scripts.now }
+{
+    let mut text = Vec::new(alloc);
+    let is_put = put_scripts(policy, scripts, &mut text).is_ok();
+    is_put && text.as_slice() == acts.as_bytes()
+}
+
+// The scripts have these acts, for so many processes.
+fn expect_scripts(
+    rt: &(impl AllocGlobal + Abort),
+    policy: &Policy,
+    script: &[u8],
+    acts: &str,
+    processes: usize,
+) {
+    match split_script(rt.alloc(), policy, script) {
+        Ok(scripts) => {
+            assert!(rt; are_put_as(rt.alloc(), policy, &scripts, acts));
+            let rows = scripts.into_vec();
+            assert!(rt; rows.len() == processes);
+            drop(rows);
+        }
+        Err(_) => panic!(rt; "the script is not split"),
+    }
+}
+
 #[test]
 fn scripts_are_split_by_processes(rt: HostRuntime) {
     let policy = wall(&rt);
-    let Ok(scripts) = split_script(rt.alloc(), &policy, MIXED) else {
-        panic!(&rt; "the script is not split")
-    };
-    let mut text = Vec::new(rt.alloc());
-    let is_put = put_scripts(&policy, &scripts, &mut text).is_ok();
-    assert!(&rt; is_put && text.as_slice() == BY_PROCESS.as_bytes());
-    let rows = scripts.into_vec();
-    assert!(&rt; rows.len() == 4);
+    expect_scripts(&rt, &policy, MIXED, BY_PROCESS, 4);
+    drop(policy);
+}
+
+// The fault of a script, none where it is split.
+fn fault_of_script(alloc: Global, policy: &Policy, script: &[u8]) -> Option<ScriptFault> {
+    match split_script(alloc, policy, script) {
+        Ok(scripts) => {
+            drop(scripts);
+            None
+        }
+        Err(fault) => Some(fault),
+    }
+}
+
+const BROKEN: &[(&[u8], u64, LineFault)] = &[
+    (b"take 7 0", 1, LineFault::BadField),
+    (b"take 0 0\n#\ntake 4 0\npst\n", 3, LineFault::BadField),
+    (b"\npst 7\ntake 7 0\n", 2, LineFault::BadVerb),
+    (b"post 4 0 bcst\n", 1, LineFault::BadKind),
+];
+
+fn expect_faults(rt: &(impl AllocGlobal + Abort), policy: &Policy) {
+    for (script, line, fault) in BROKEN {
+        let ended = fault_of_script(rt.alloc(), policy, script);
+        assert!(rt; ended == Some(ScriptFault::Line(*line, *fault)));
+    }
 }
 
 #[test]
 fn scripts_are_split_up_to_their_first_fault(rt: HostRuntime) {
     let policy = wall(&rt);
-    for (script, line, fault) in [
-        (b"take 7 0".as_slice(), 1, LineFault::BadField),
-        (
-            b"take 0 0\n#\ntake 4 0\npst\n".as_slice(),
-            3,
-            LineFault::BadField,
-        ),
-        (b"\npst 7\ntake 7 0\n".as_slice(), 2, LineFault::BadVerb),
-        (b"post 4 0 bcst\n".as_slice(), 1, LineFault::BadKind),
-    ] {
-        let ended = split_script(rt.alloc(), &policy, script).err();
-        assert!(&rt; ended == Some(ScriptFault::Line(line, fault)));
-    }
+    expect_faults(&rt, &policy);
+    drop(policy);
 }

@@ -14,7 +14,7 @@ use Rattle.run_model.specs.Runs.{Entry}
 use Rattle.run_model.specs.Replies.{Legal}
 use Rattle.hall_turn.specs.Runs.{Continues, calls_of}
 use Rattle.hall_turn.specs.Views.{Told, SeatView, parts_of, tickets_of, number_of, every, numbers, newcomer, saw, drawn, declared, served}
-use Rattle.hall_turn.specs.Turns.{total, FitsTold, Fits, Apart, TookTurn, HoldsTicket, HasNumber, HasOneLate, AtHome, IsOut, Ruled}
+use Rattle.hall_turn.specs.Turns.{FitsTold, Fits, Apart, TookTurn, HoldsTicket, HasNumber, HasOneLate, AtHome, IsOut, Ruled}
 use Rattle.hall_turn.specs.Steps.{Saw, Looks, Draws, Declares, Serves}
 use Rattle.hall_turn.proofs.RunLemmas.{continues_self, continues_none, continues_more, total_set, calls_of-other}
 use Rattle.hall_turn.proofs.AgreeLemmas.{agree_set, set_at, at_first}

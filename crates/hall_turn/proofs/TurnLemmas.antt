@@ -1,5 +1,5 @@
 -- A turn, step by step, for the seat that takes it.
-use Rattle.std.proofs.Common.{◌≡◌, ◌≢◌, ℕ, true, false, List, [], ◌∷◌, Option, Some, None, refl, sym, ap, ◌∙◌, subst}
+use Rattle.std.proofs.Common.{◌≡◌, ◌≢◌, ℕ, true, false, List, [], ◌∷◌, Option, Some, refl, sym, ap, ◌∙◌, subst}
 use Rattle.atomic_table.specs.Table.{Me, Step, rest}
 use Rattle.wall_policy.specs.Policy.{ChineseWall}
 use Rattle.run_model.specs.declared.call.Call.{Call}
@@ -11,7 +11,7 @@ use Rattle.hall_turn.specs.Known.{Doorway}
 use Rattle.hall_turn.specs.Answers.{SeesOn, EntersAnd}
 use Rattle.hall_turn.specs.Machines.{Carries}
 use Rattle.hall_turn.specs.Views.{SeatView, saw, drawn, declared}
-use Rattle.hall_turn.specs.Steps.{Looks, Turning, Took, Turned, TellsAfter, IsReady, IsIdle}
+use Rattle.hall_turn.specs.Steps.{Looks, HoldsMachine, MayCarryOut, Turned, TellsAfter, IsReady, IsIdle}
 use Rattle.hall_turn.proofs.RunLemmas.{continues_self, continues_trans, calls_of-own}
 
 -- the view m, of a seat that had the view v and has looked since, with its ticket not served
@@ -33,13 +33,6 @@ module _ {M : Type 0} where
   }
 
 module _ {M : Type 0} (stands : ChineseWall → M → List Entry → Type 0) where
-  pub record Found (v : SeatView) (m : Me (Option M) SeatView) : Type 0 where
-    pub run : List Entry
-    pub machine : M
-    pub is : m ≡ (saw v run true, (0, Some machine) ∷ [])
-    pub seen : Turning v run
-    pub stood : stands v.policy machine run
-
   pub away : (v : SeatView) (t r : ℕ) (st : Step (Option M)) (m m' : Me (Option M) SeatView) → v.ticket ≡ Some t → Waits v m → Looks stands st m r m' → r ≢ t → Waits v m'
   away v t r st m m' ticket w l ne =
       let view = ap (λ (x : Me (Option M) SeatView). x.0) w.is in
@@ -50,7 +43,7 @@ module _ {M : Type 0} (stands : ChineseWall → M → List Entry → Type 0) whe
         own = w.own ∙ subst (λ n. calls_of n m.0.seen ≡ calls_of n m'.0.seen) process l.0.own;
       }
 
-  pub found : (v : SeatView) (t r : ℕ) (st : Step (Option M)) (m m' : Me (Option M) SeatView) → v.ticket ≡ Some t → Waits v m → Looks stands st m r m' → r ≡ t → Found v m'
+  pub found : (v : SeatView) (t r : ℕ) (st : Step (Option M)) (m m' : Me (Option M) SeatView) → v.ticket ≡ Some t → Waits v m → Looks stands st m r m' → r ≡ t → HoldsMachine stands v m'
   found v t r st m m' ticket w l same =
       let view = ap (λ (x : Me (Option M) SeatView). x.0) w.is in
       let mine : m.0.ticket ≡ Some r = ap (λ (x : SeatView). x.ticket) view ∙ ticket ∙ ap Some (sym same) in
@@ -68,50 +61,71 @@ module _ {M : Type 0} (stands : ChineseWall → M → List Entry → Type 0) whe
         stood = subst (λ x. stands x took.0 m'.0.seen) policy took.2;
       }
 
-  pub holds_one : (v : SeatView) (m : Me (Option M) SeatView) → Found v m → (old : Option M) × (m.1 ≡ (0, old) ∷ rest m.1)
+  pub holds_one : (v : SeatView) (m : Me (Option M) SeatView) → HoldsMachine stands v m
+      → (old : Option M) × (m.1 ≡ (0, old) ∷ rest m.1)
   holds_one v m f = let e = ap (λ (x : Me (Option M) SeatView). x.1) f.is in (Some f.machine, e ∙ ap (λ l. (0, Some f.machine) ∷ rest l) (sym e))
 
-  pub was_machine : (v : SeatView) (m : Me (Option M) SeatView) (old : Option M) → (f : Found v m) → m.1 ≡ (0, old) ∷ rest m.1 → old ≡ Some f.machine
+  pub was_machine : (v : SeatView) (m : Me (Option M) SeatView) (old : Option M)
+      → (f : HoldsMachine stands v m) → m.1 ≡ (0, old) ∷ rest m.1 → old ≡ Some f.machine
   unfolding first_value
   was_machine v m old f e = let a = ap (λ (x : Me (Option M) SeatView). x.1) f.is in ap (first_value (Some f.machine)) (sym e ∙ a)
 
-  pub took : (v : SeatView) (m m' : Me (Option M) SeatView) (h : M) → (f : Found v m) → m.1 ≡ (0, Some h) ∷ rest m.1 → m' ≡ (m.0, (0, None) ∷ rest m.1) → Took stands v h m'
-  took v m m' h f e then =
-      let same : f.machine ≡ h = cc (was_machine v m (Some h) f e) in record {
-        run = f.run;
-        is = then ∙ (λ i. ((f.is i).0, (0, None) ∷ rest (f.is i).1));
-        seen = f.seen;
-        stood = subst (λ x. stands v.policy x f.run) same f.stood;
-      }
-
-  -- what the machine is asked in its turn is what it can answer
-  pub may_apply : (v : SeatView) (m1 m2 : Me (Option M) SeatView) (h : M) (May : ChineseWall → Type 0) → m1.0.policy ≡ v.policy → Took stands m1.0 h m2 → May v.policy
-      → (wall : ChineseWall) × (run : List Entry) × Legal wall run × stands wall h run × May wall
-  may_apply v m1 m2 h May policy took may =
-      (v.policy, took.run, subst (λ p. Legal p took.run) policy took.seen.legal, subst (λ p. stands p h took.run) policy took.stood, may)
+  -- what the machine in the slot is asked in its turn is what it can answer
+  pub may_apply : (v : SeatView) (m1 m2 : Me (Option M) SeatView) (old : Option M)
+      → (May : ChineseWall → Type 0) → m1.0.policy ≡ v.policy → HoldsMachine stands m1.0 m2
+      → m2.1 ≡ (0, old) ∷ rest m2.1 → May v.policy
+      → (machine : M) × (old ≡ Some machine) × MayCarryOut stands machine May
+  may_apply v m1 m2 old May policy holds in_slot may = (
+    holds.machine,
+    was_machine m1.0 m2 old holds in_slot,
+    (
+      v.policy,
+      holds.run,
+      subst (λ p. Legal p holds.run) policy holds.seen.legal,
+      subst (λ p. stands p holds.machine holds.run) policy holds.stood,
+      may,
+    ),
+  )
 
   -- what is known of what it told
-  pub tells_after : (v : SeatView) (m1 m2 : Me (Option M) SeatView) (h : M) (Told : ChineseWall → List Entry → Type 0) → m1.0.policy ≡ v.policy → (took : Took stands m1.0 h m2)
-      → ((wall : ChineseWall) (run : List Entry) → Legal wall run → stands wall h run → Told wall run)
-      → (last : Entry) (seen : List Entry) → seen ≡ last ∷ took.run → TellsAfter seen (Told v.policy)
-  tells_after v m1 m2 h Told policy took told last seen is e run also =
-      let same : took.run ≡ run = cc (is, also) in
-      subst (Told v.policy) same (told v.policy took.run (subst (λ p. Legal p took.run) policy took.seen.legal) (subst (λ p. stands p h took.run) policy took.stood))
+  pub tells_after : (v : SeatView) (m1 m2 : Me (Option M) SeatView) (old : Option M)
+      → (Told : ChineseWall → List Entry → Type 0) → m1.0.policy ≡ v.policy
+      → (holds : HoldsMachine stands m1.0 m2) → m2.1 ≡ (0, old) ∷ rest m2.1
+      → ((h : M) (wall : ChineseWall) (run : List Entry) → old ≡ Some h → Legal wall run
+      → stands wall h run → Told wall run)
+      → (last : Entry) (seen : List Entry) → seen ≡ last ∷ holds.run → TellsAfter seen (Told v.policy)
+  tells_after v m1 m2 old Told policy holds in_slot told last seen is e run also =
+      let same : holds.run ≡ run = cc (is, also) in
+      subst (Told v.policy) same (told holds.machine v.policy holds.run
+      (was_machine m1.0 m2 old holds in_slot)
+      (subst (λ p. Legal p holds.run) policy holds.seen.legal)
+      (subst (λ p. stands p holds.machine holds.run) policy holds.stood))
 
   -- before the turn ends
-  pub ready : (v : SeatView) (t : ℕ) (m1 m2 m3 m4 : Me (Option M) SeatView) (h h' : M) (call : Call) (reply : Reply)
-      → m1 ≡ (drawn v t, []) → Took stands m1.0 h m2
-      → m3 ≡ (declared m2.0 (entry call reply), m2.1) → m4 ≡ (m3.0, (0, Some h') ∷ [])
-      → call.process ≡ v.process → v.joined ≡ [] → Carries stands h h' call reply
+  pub ready : (v : SeatView) (t : ℕ) (m1 m2 m3 m4 : Me (Option M) SeatView) (in_slot after : Option M)
+      → (call : Call) (reply : Reply)
+      → m1 ≡ (drawn v t, []) → HoldsMachine stands m1.0 m2 → m2.1 ≡ (0, in_slot) ∷ rest m2.1
+      → m3 ≡ (m2.0, (0, after) ∷ rest m2.1)
+      → m4 ≡ (declared m3.0 (entry call reply), m3.1)
+      → call.process ≡ v.process → v.joined ≡ []
+      → (old : M) × (new : M) × (in_slot ≡ Some old) × (after ≡ Some new) × Carries stands old new call reply
       → IsReady stands m4
-  ready v t m1 m2 m3 m4 h h' call reply draws took declares puts by joined applied =
+  ready v t m1 m2 m3 m4 in_slot after call reply draws holds slot writes declares by joined carries =
       let e = entry call reply in
+      let h = carries.0 in
+      let h' = carries.1 in
+      let same : holds.machine ≡ h = cc (was_machine m1.0 m2 in_slot holds slot, carries.2) in
       let target : Me (Option M) SeatView =
-      (declared (saw (drawn v t) took.run true) e, (0, Some h') ∷ []) in
+      (declared (saw (drawn v t) holds.run true) e, (0, Some h') ∷ []) in
       let is : m4 ≡ target =
-      puts ∙ (λ i. ((declares i).0, (0, Some h') ∷ [])) ∙ (λ i. (declared (took.is i).0 e, (0, Some h') ∷ [])) ∙ (λ i. (declared (saw (draws i).0 took.run true) e, (0, Some h') ∷ [])) in
+      declares
+      ∙ (λ i. (declared (writes i).0 e, (writes i).1))
+      ∙ (λ i. (declared (holds.is i).0 e, (0, carries.3 i) ∷ rest (holds.is i).1))
+      ∙ (λ i. (declared (saw (draws i).0 holds.run true) e, (0, Some h') ∷ [])) in
       let policy : m1.0.policy ≡ v.policy = λ i. (draws i).0.policy in
-      let more = applied v.policy took.run (subst (λ p. Legal p took.run) policy took.seen.legal) (subst (λ p. stands p h took.run) policy took.stood) in
+      let more = carries.4 v.policy holds.run
+      (subst (λ p. Legal p holds.run) policy holds.seen.legal)
+      (subst (λ x. stands v.policy x holds.run) same (subst (λ p. stands p holds.machine holds.run) policy holds.stood)) in
       subst (IsReady stands) (sym is) (record { entry = e; machine = h'; out = refl; said = refl; held = refl; joined = joined; by = by; legal = more.0; stood = more.1 })
 
   -- a look of a seat between two calls

@@ -5,7 +5,6 @@ use Rattle.mpi_cart.specs.Grids.{below}
 use Rattle.run_model.specs.Runs.{Entry, entry}
 use Rattle.run_model.specs.Known.{IsKnownReply}
 use Rattle.wall_policy.specs.Policy.{ChineseWall}
-use Rattle.hall_core.specs.declared.claims.Claim.{Claim}
 use Rattle.hall_core.specs.Claims.{claim_reply, claim_entry, CanFinish}
 use Rattle.hall_turn.specs.declared.answer.Claimed.{Claimed}
 use Rattle.hall_turn.specs.declared.answer.Claimed.TheVariants as claimed

@@ -92,12 +92,18 @@ abbrev pub TellsAfter : (seen : List Entry) → (List Entry → Type 0) → Type
 TellsAfter seen Told = (e : Entry) (run : List Entry) → seen ≡ e ∷ run → Told run
 
 module _ {M : Type 0} (stands : ChineseWall → M → List Entry → Type 0) where
-  -- v after its wait, with the machine in hand, and the slot empty
-  pub record Took (v : SeatView) (h : M) (m : Me (Option M) SeatView) : Type 0 where
+  -- v after its wait: the machine, which stands for the run so far, is out with the seat
+  pub record HoldsMachine (v : SeatView) (m : Me (Option M) SeatView) : Type 0 where
     pub run : List Entry
-    pub is : m ≡ (saw v run true, (0, None) ∷ [])
+    pub machine : M
+    pub is : m ≡ (saw v run true, (0, Some machine) ∷ [])
     pub seen : Turning v run
-    pub stood : stands v.policy h run
+    pub stood : stands v.policy machine run
+
+  -- the machine stands for a legal run, under a policy under which the deed may be carried out
+  abbrev pub MayCarryOut : M → (May : ChineseWall → Type 0) → Type 0
+  MayCarryOut machine May =
+      (wall : ChineseWall) × (run : List Entry) × Legal wall run × stands wall machine run × May wall
 
   -- a seat that may end its turn
   pub record IsReady (m : Me (Option M) SeatView) : Type 0 where

@@ -1,7 +1,7 @@
 -- The rule of the turns.
 -- Word 0, SERVING, is the length of the run so far. Word 1, TICKET, is the next ticket. The slot has the machine, which is out only while some
 -- view's ticket is SERVING.
-use Rattle.std.specs.Prelude.{◌≡◌, ◌≢◌, ◌⊎◌, ℕ, ◌+◌, ◌^◌, ◌<◌, ◌≤◌, true, eqb, List, [], ◌∷◌, ◌++◌, length, Option, Some, None}
+use Rattle.std.specs.Prelude.{◌≡◌, ◌≢◌, ◌⊎◌, ℕ, ◌+◌, ◌^◌, ◌<◌, ◌≤◌, true, eqb, List, [], ◌∷◌, ◌++◌, length, Option, Some}
 use Rattle.std.specs.List.{IsDistinct}
 use mathlib.Core.Option as opt
 use lib.ListN.{get_elem?}

@@ -30,7 +30,16 @@ pub record SeatView : Type 0 where
   pub joined : List Told
 
 abbrev pub no_wall : ChineseWall
-no_wall = record { class_names = []; dataset_names = []; process_names = []; classes = []; homes = []; leasts = [] }
+no_wall = record {
+  version = 1;
+  class_names = [];
+  dataset_names = [];
+  process_names = [];
+  classes = [];
+  homes = [];
+  leasts = [];
+  distincts = [];
+}
 
 -- no call's entry: what a declaration has where none is picked
 abbrev pub no_entry : Entry

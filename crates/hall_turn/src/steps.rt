@@ -1,11 +1,14 @@
 //! The steps of a turn.
-ghost use Rattle.std.specs.Prelude.{◌≡◌, ◌^◌, ◌<◌, [], ◌∷◌, true, false, Some, None, length};
+ghost use Rattle.std.specs.Prelude.{◌≡◌, ◌^◌, ◌<◌, List, [], ◌∷◌, true, false, Some, None, length};
 ghost use mathlib.Core.Option.{none};
 ghost use Rattle.atomic_table.specs.Table.{step};
-ghost use Rattle.run_model.specs.Runs.{entry};
+ghost use Rattle.wall_policy.specs.Policy.{ChineseWall};
+ghost use Rattle.run_model.specs.Runs.{Entry, entry};
+ghost use Rattle.run_model.specs.Replies.{Legal};
 ghost use Rattle.run_model.specs.Known.{IsKnownReply};
 ghost use Rattle.hall_turn.specs.Views.{maker_left, next_pass, noted, informed, declared, served, drawn};
-ghost use Rattle.hall_turn.specs.Steps.{Looks, IsAt, IsIdle, IsNote, IsReady, Took, Turned, TellsAfter, CanMake};
+ghost use Rattle.hall_turn.specs.Machines.{Carries};
+ghost use Rattle.hall_turn.specs.Steps.{Looks, IsAt, IsIdle, IsNote, IsReady, HoldsMachine, MayCarryOut, Turned, TellsAfter, CanMake};
 
 use crate::deed::Deed;
 use crate::machine::Machine;
@@ -40,6 +43,21 @@ fn pause(looks: u32) -> u32 {
     }
     thread::yield_now();
     looks
+}
+
+// The machine in the slot carries out the deed, where it lies.
+fn carry_out_in<M: Machine, D: Deed>(slot: &mut Option<M>, deed: D) -> Ended<D::Told>
+    requires { (machine : M) × (slot.old ≡ Some machine) × MayCarryOut M.stands machine (λ wall. D.may wall deed) }
+    ensures carries { (old : M) × (new : M) × (slot.old ≡ Some old) × (slot.new ≡ Some new)
+        × Carries M.stands old new (D.call deed) (D.reply result.told) }
+    ensures tells { (old : M) (wall : ChineseWall) (run : List Entry) → slot.old ≡ Some old
+        → Legal wall run → M.stands wall old run → D.tells wall run deed result.told }
+{
+    let Some(machine) = slot else { unreachable!() };
+    let before = machine.entries();
+    let told = deed.carry_out(machine);
+    let settled = machine.entries().wrapping_sub(before) == 2;
+    Ended { told, settled }
 }
 
 impl<M: Machine> Turns<M> {
@@ -100,8 +118,8 @@ impl<M: Machine> Turns<M> {
         self.table.shared.fetch_add::<Draw>(seat, TICKET, 1)
     }
 
-    // Waits until the ticket is served.
-    fn take_out<R: Wait>(&self, rt: &R, seat: &mut Seat<Option<M>, View>, ticket: u64) -> M
+    // Waits until the ticket is served: then the machine is out with the seat.
+    fn await_turn<R: Wait>(&self, rt: &R, seat: &mut Seat<Option<M>, View>, ticket: u64)
         requires at { seat.old.table_id ≡ self.now.table.shared.table_id }
         requires ticket { seat.old.me.0.ticket ≡ Some ticket }
         requires out { seat.old.me.0.out ≡ false }
@@ -109,15 +127,12 @@ impl<M: Machine> Turns<M> {
         requires told { seat.old.me.0.told ≡ [] }
         requires slots { seat.old.me.1 ≡ [] }
         ensures at { IsAt seat.old seat.new }
-        ensures took { Took M.stands seat.old.me.0 result seat.new.me }
+        ensures holds { HoldsMachine M.stands seat.old.me.0 seat.new.me }
     {
         let mut looks: u32 = 0;
         for _ in rt.forever() {
             if self.look(seat) == ticket {
-                let Some(machine) = self.table.shared.exchange(seat, SLOT, None) else {
-                    unreachable!()
-                };
-                return machine;
+                return;
             }
             looks = pause(looks);
         }
@@ -140,16 +155,6 @@ impl<M: Machine> Turns<M> {
         let _ = deed;
         let _ = told;
         self.table.shared.load::<Declare<J>>(seat, SERVING);
-    }
-
-    fn put_back(&self, seat: &mut Seat<Option<M>, View>, machine: M)
-        requires at { seat.old.table_id ≡ self.now.table.shared.table_id }
-        requires slots { seat.old.me.1 ≡ (0, None) ∷ [] }
-        ensures at { IsAt seat.old seat.new }
-        ensures put { seat.new.me ≡ (seat.old.me.0, (0, Some machine) ∷ []) }
-    {
-        let found = self.table.shared.exchange(seat, SLOT, Some(machine));
-        let None = found else { unreachable!() };
     }
 
     fn serve(&self, seat: &mut Seat<Option<M>, View>)
@@ -181,14 +186,12 @@ impl<M: Machine> Turns<M> {
             (λ run. D.tells seat.old.me.0.policy run deed result.told) }
     {
         let ticket = self.draw(seat);
-        let mut machine = self.take_out(rt, seat, ticket);
+        self.await_turn(rt, seat, ticket);
         let asked = Snapshot::of(&deed);
-        let before = machine.entries();
-        let told = deed.carry_out(&mut machine);
-        let settled = machine.entries().wrapping_sub(before) == 2;
-        self.declare::<Brand, D>(seat, &asked, &told);
-        self.put_back(seat, machine);
+        let slot = seat.slot_mut(&self.table.shared, SLOT);
+        let ended = carry_out_in(slot, deed);
+        self.declare::<Brand, D>(seat, &asked, &ended.told);
         self.serve(seat);
-        Ended { told, settled }
+        ended
     }
 }

@@ -1,17 +1,19 @@
 //! Doors of one process and of four. Alpha and beta are rivals.
-ghost use Rattle.std.specs.Prelude.{◌≡◌, IfOk};
+//!
+//! A way out that lets a wide value go by itself, as a door or an answer, takes the prover half a
+//! minute. So `expect` stands in place of `?`, and what is wide is handed to `drop` at the end.
+ghost use Rattle.std.specs.Prelude.{◌≡◌};
 ghost use Rattle.std.specs.List.{All};
 ghost use Rattle.run_model.specs.Known.{IsKnownLabel};
 
 use crate::{Answer, CloseFault, Door, Pass, Passes, Unclosed};
 use coll_routes::{Own, Signature};
 use coll_values::{Block, Integers};
-use hall_core::{Act, Call, Posting, Refusal, Reply};
+use hall_core::{Act, Call, Hall, Posting, Refusal, Reply};
 use mpi_elems::{Buffer, ElemType};
 use std::alloc::Global;
 use std::process::Abort;
 use std::sync::Wait;
-use std::test::Fail;
 use std::thread::{Threads, join};
 use wall_labels::{Label, Op};
 use wall_policy::{Policy, read_policy};
@@ -38,68 +40,79 @@ fn label(policy: &Policy, name: &str) -> Label
     }
 }
 
-/// A post on the communicator of all processes.
-fn posting(alloc: Global, sig: Signature, label: Label, numbers: &[i128]) -> Result<Posting, Fail>
-    ensures { IfOk result (λ posting. posting.label ≡ label) }
+/// The policy of this text.
+fn wall<R: Abort>(rt: &R, alloc: Global, text: &str) -> Policy {
+    read_policy(alloc, text.as_bytes()).expect(rt, "the policy is not read")
+}
+
+/// A door, and its passes.
+fn open<R: Abort>(rt: &R, alloc: Global, policy: Policy) -> (Door, Passes)
+    ensures policy { result.0.policy ≡ policy }
+    ensures passes { All (λ pass. pass.door ≡ result.0) result.1.items }
 {
-    let elements = Buffer::from_numbers(alloc, ElemType::Int32, numbers)?;
-    Ok(Posting {
+    Door::open(alloc, policy).expect(rt, "the door is not opened")
+}
+
+/// A post on the communicator of all processes.
+fn posting<R: Abort>(
+    rt: &R,
+    alloc: Global,
+    sig: Signature,
+    label: Label,
+    numbers: &[i128],
+) -> Posting
+    ensures { result.label ≡ label }
+{
+    let elements = Buffer::from_numbers(alloc, ElemType::Int32, numbers).expect(rt, "no elements");
+    Posting {
         comm: 0,
         sig,
         own: Own::Plain,
         label,
         elements,
-    })
+    }
 }
 
-/// A broadcast to all processes.
-fn broadcast(
-    alloc: Global,
-    root: u32,
-    count: u32,
-    label: Label,
-    numbers: &[i128],
-) -> Result<Posting, Fail>
-    ensures { IfOk result (λ posting. posting.label ≡ label) }
+/// A broadcast of two numbers of the first process to all.
+fn broadcast<R: Abort>(rt: &R, alloc: Global, label: Label, numbers: &[i128]) -> Posting
+    ensures { result.label ≡ label }
 {
     let sig = Signature::Bcast {
-        root,
+        root: 0,
         elem_type: ElemType::Int32,
-        count,
+        count: 2,
     };
-    posting(alloc, sig, label, numbers)
+    posting(rt, alloc, sig, label, numbers)
 }
 
 /// A sum of one number of each process.
-fn sum(alloc: Global, label: Label, number: i128) -> Result<Posting, Fail>
-    ensures { IfOk result (λ posting. posting.label ≡ label) }
+fn sum<R: Abort>(rt: &R, alloc: Global, label: Label, number: i128) -> Posting
+    ensures { result.label ≡ label }
 {
     let sig = Signature::Allreduce {
         op: Op::Sum,
         elem_type: ElemType::Int32,
         count: 1,
     };
-    posting(alloc, sig, label, &[number])
+    posting(rt, alloc, sig, label, &[number])
 }
 
 /// The last of the passes.
-fn last(door: &Door, passes: &mut Passes) -> Result<Pass, Fail>
+fn last<R: Abort>(rt: &R, door: &Door, passes: &mut Passes) -> Pass
     requires { All (λ pass. pass.door ≡ door.now) passes.old.items }
-    ensures pass { IfOk result (λ pass. pass.door ≡ door.now) }
+    ensures pass { result.door ≡ door.now }
     ensures rest { All (λ pass. pass.door ≡ door.now) passes.new.items }
 {
-    let pass = passes.pop().ok_or("no pass is left")?;
-    Ok(pass)
+    passes.pop().expect(rt, "no pass is left")
 }
 
-/// The passes and one more.
-fn with(door: &Door, mut passes: Passes, pass: Pass) -> Result<Passes, Fail>
-    requires passes { All (λ pass. pass.door ≡ door.now) passes.items }
+/// The pass is put back behind the others.
+fn put<R: Abort>(rt: &R, door: &Door, passes: &mut Passes, pass: Pass)
+    requires passes { All (λ pass. pass.door ≡ door.now) passes.old.items }
     requires pass { pass.door ≡ door.now }
-    ensures { IfOk result (λ v. All (λ pass. pass.door ≡ door.now) v.items) }
+    ensures { All (λ pass. pass.door ≡ door.now) passes.new.items }
 {
-    passes.push(pass)?;
-    Ok(passes)
+    passes.push(pass).ok().expect(rt, "no memory");
 }
 
 fn are(given: &Integers, numbers: &[i128]) -> bool {
@@ -152,6 +165,7 @@ fn post<R: Wait + Abort>(rt: &R, door: &Door, pass: &mut Pass, posting: Posting,
 {
     let answer = door.post(rt, pass, posting);
     assert!(rt; is_posted(&answer, request));
+    drop(answer);
 }
 
 /// The take brings these numbers.
@@ -161,6 +175,7 @@ fn take<R: Wait + Abort>(rt: &R, door: &Door, pass: &mut Pass, request: u64, num
 {
     let answer = door.take(rt, pass, request);
     assert!(rt; is_delivered(&answer, numbers));
+    drop(answer);
 }
 
 /// So many turns have ended.
@@ -168,7 +183,38 @@ fn front<R: Abort>(rt: &R, door: &Door, pass: &mut Pass, turns: u64)
     requires { pass.old.door ≡ door.now }
     ensures { pass.new.door ≡ door.now }
 {
-    assert_eq!(rt; door.front(pass), turns);
+    let ended = door.front(pass);
+    assert!(rt; ended == turns);
+}
+
+/// A take is refused: the request is not known.
+fn take_unknown<R: Wait + Abort>(rt: &R, door: &Door, pass: &mut Pass, request: u64)
+    requires { pass.old.door ≡ door.now }
+    ensures { pass.new.door ≡ door.now }
+{
+    let answer = door.take(rt, pass, request);
+    assert!(rt; is_refused(&answer, Refusal::NoSuchRequest));
+    drop(answer);
+}
+
+/// The info of the communicator of all, of which this process alone is a member.
+fn info_alone<R: Wait + Abort>(rt: &R, door: &Door, pass: &mut Pass)
+    requires { pass.old.door ≡ door.now }
+    ensures { pass.new.door ≡ door.now }
+{
+    let answer = door.info(rt, pass, 0);
+    assert!(rt; is_info(&answer, 1, 0));
+    drop(answer);
+}
+
+/// An info is refused: the communicator is not known.
+fn info_unknown<R: Wait + Abort>(rt: &R, door: &Door, pass: &mut Pass, comm: u32)
+    requires { pass.old.door ≡ door.now }
+    ensures { pass.new.door ≡ door.now }
+{
+    let answer = door.info(rt, pass, comm);
+    assert!(rt; is_refused(&answer, Refusal::NoSuchComm));
+    drop(answer);
 }
 
 /// A door of one process: each call that takes a turn, and each refusal of a take and of an info.
@@ -179,58 +225,23 @@ fn call_alone<R: Wait + Abort>(rt: &R, door: &Door, pass: &mut Pass, posting: Po
 {
     post(rt, door, pass, posting, 0);
     take(rt, door, pass, 0, &[]);
-    let again = door.take(rt, pass, 0);
-    let here = door.info(rt, pass, 0);
-    let there = door.info(rt, pass, 9);
+    take_unknown(rt, door, pass, 0);
+    info_alone(rt, door, pass);
+    info_unknown(rt, door, pass, 9);
     front(rt, door, pass, 5);
-    assert!(rt; is_refused(&again, Refusal::NoSuchRequest));
-    assert!(rt; is_info(&here, 1, 0));
-    assert!(rt; is_refused(&there, Refusal::NoSuchComm));
 }
 
 #[test]
-fn one_process_calls(rt: HostRuntime) -> Result<(), Fail> {
-    let policy = read_policy(rt.alloc(), ALONE.as_bytes())?;
-    let barrier = posting(rt.alloc(), Signature::Barrier, Label::Public, &[])?;
-    let (door, mut passes) = Door::open(rt.alloc(), policy)?;
-    let mut pass = last(&door, &mut passes)?;
-    assert_eq!(&rt; (passes.len(), pass.process()), (0, 0));
+fn one_process_calls(rt: HostRuntime) {
+    let policy = wall(&rt, rt.alloc(), ALONE);
+    let barrier = posting(&rt, rt.alloc(), Signature::Barrier, Label::Public, &[]);
+    let (door, mut passes) = open(&rt, rt.alloc(), policy);
+    let mut pass = last(&rt, &door, &mut passes);
+    assert!(&rt; passes.len() == 0 && pass.process() == 0);
     call_alone(&rt, &door, &mut pass, barrier);
-    Ok(())
-}
-
-/// A door of four processes, and its passes in order.
-#[derive(Drop)]
-struct Four {
-    door: Door,
-    a0: Pass,
-    b0: Pass,
-    c0: Pass,
-    n0: Pass,
-    ghost of: { (a0.door ≡ door) × (b0.door ≡ door) × (c0.door ≡ door) × (n0.door ≡ door) },
-}
-
-/// The door is opened, and its label alpha.
-fn open_four(alloc: Global) -> Result<(Four, Label), Fail>
-    ensures { IfOk result (λ r. IsKnownLabel r.0.door.policy r.1) }
-{
-    let policy = read_policy(alloc, RIVALS.as_bytes())?;
-    let alpha = label(&policy, "alpha");
-    let (door, mut passes) = Door::open(alloc, policy)?;
-    let n0 = last(&door, &mut passes)?;
-    let c0 = last(&door, &mut passes)?;
-    let b0 = last(&door, &mut passes)?;
-    let a0 = last(&door, &mut passes)?;
-    Ok((
-        Four {
-            door,
-            a0,
-            b0,
-            c0,
-            n0,
-        },
-        alpha,
-    ))
+    drop(pass);
+    drop(passes);
+    drop(door);
 }
 
 /// What fronts and notes tell: a pass that learnt nothing looks for itself.
@@ -261,73 +272,142 @@ fn tell<R: Wait + Abort>(
     front(rt, door, c0, 1);
 }
 
-/// A door is closed by all passes alone. The hall then has the one post, which stands in its book, and whose request waits.
-fn end<R: Abort>(rt: &R, door: Door, passes: Passes, missing: Pass) -> Result<(), Fail>
-    requires passes { All (λ pass. pass.door ≡ door) passes.items }
-    requires missing { missing.door ≡ door }
+/// The first three of four passes: they tell one another of a post, and are put back. The fourth
+/// is kept apart.
+fn tell_three<R: Wait + Abort>(rt: &R, door: &Door, passes: &mut Passes, posting: Posting) -> Pass
+    requires passes { All (λ pass. pass.door ≡ door.now) passes.old.items }
+    requires label { IsKnownLabel door.now.policy posting.label }
+    ensures apart { result.door ≡ door.now }
+    ensures passes { All (λ pass. pass.door ≡ door.now) passes.new.items }
 {
-    let Err(unclosed) = door.close(passes) else {
-        panic!(rt; "a pass is missing")
-    };
+    let n0 = last(rt, door, passes);
+    let mut c0 = last(rt, door, passes);
+    let mut b0 = last(rt, door, passes);
+    let mut a0 = last(rt, door, passes);
+    tell(rt, door, &mut a0, &mut b0, &mut c0, posting);
+    put(rt, door, passes, a0);
+    put(rt, door, passes, b0);
+    put(rt, door, passes, c0);
+    n0
+}
+
+/// A door is not closed where a pass is missing: it comes back, with the passes.
+fn refuse<R: Abort>(rt: &R, door: Door, passes: Passes) -> (Door, Passes)
+    requires { All (λ pass. pass.door ≡ door) passes.items }
+    ensures door { result.0 ≡ door }
+    ensures passes { result.1.items ≡ passes.items }
+{
+    let unclosed = door.close(passes).err().expect(rt, "a pass is missing");
     let Unclosed {
         fault,
         door,
         passes,
     } = unclosed;
-    assert_eq!(rt; fault, CloseFault::MissingPass);
-    let passes = with(&door, passes, missing)?;
-    let Ok(mut hall) = door.close(passes) else {
-        panic!(rt; "no pass is missing")
-    };
-    assert_eq!(rt; hall.book().len(), 1);
+    assert!(rt; fault == CloseFault::MissingPass);
+    (door, passes)
+}
+
+/// The hall of a door that is closed by all passes.
+fn close<R: Abort>(rt: &R, door: Door, passes: Passes) -> Hall
+    requires { All (λ pass. pass.door ≡ door) passes.items }
+{
+    door.close(passes).ok().expect(rt, "no pass is missing")
+}
+
+/// The hall has one post, which stands in its book, and whose request waits.
+fn has_one<R: Abort>(rt: &R, hall: &mut Hall) {
+    assert!(rt; hall.book().len() == 1);
     let reply = hall.apply(Call {
         process: 0,
         act: Act::Take(0),
     });
-    assert!(rt; matches!(reply, Reply::Pending));
-    Ok(())
+    assert!(rt; matches!(&reply, Reply::Pending));
+    drop(reply);
+}
+
+/// A door is closed by all passes alone.
+fn end<R: Abort>(rt: &R, door: Door, passes: Passes, missing: Pass)
+    requires passes { All (λ pass. pass.door ≡ door) passes.items }
+    requires missing { missing.door ≡ door }
+{
+    let (door, mut passes) = refuse(rt, door, passes);
+    put(rt, &door, &mut passes, missing);
+    let mut hall = close(rt, door, passes);
+    has_one(rt, &mut hall);
+    drop(hall);
 }
 
 #[test]
-fn door_is_closed_by_all(rt: HostRuntime) -> Result<(), Fail> {
-    let alloc = rt.alloc();
-    let (four, alpha) = open_four(alloc)?;
-    let posting = broadcast(alloc, 0, 2, alpha, &[7, -1])?;
-    let Four {
-        door,
-        mut a0,
-        mut b0,
-        mut c0,
-        n0,
-    } = four;
-    tell(&rt, &door, &mut a0, &mut b0, &mut c0, posting);
-    let passes = with(&door, Vec::new(alloc), a0)?;
-    let passes = with(&door, passes, b0)?;
-    let passes = with(&door, passes, c0)?;
-    end(&rt, door, passes, n0)
-}
-
-/// Four passes post in turn: their posts meet in one hall, and a sum of them all is sanitised for all.
-#[test]
-fn posts_meet(rt: HostRuntime) -> Result<(), Fail> {
-    let alloc = rt.alloc();
-    let policy = read_policy(alloc, RIVALS.as_bytes())?;
+fn door_is_closed_by_all(rt: HostRuntime) {
+    let policy = wall(&rt, rt.alloc(), RIVALS);
     let alpha = label(&policy, "alpha");
-    let beta = label(&policy, "beta");
-    let crude = label(&policy, "crude");
-    let (door, mut passes) = Door::open(alloc, policy)?;
-    let mut n0 = last(&door, &mut passes)?;
-    let mut c0 = last(&door, &mut passes)?;
-    let mut b0 = last(&door, &mut passes)?;
-    let mut a0 = last(&door, &mut passes)?;
-    post(&rt, &door, &mut a0, sum(alloc, alpha, 5)?, 0);
-    post(&rt, &door, &mut b0, sum(alloc, beta, 6)?, 0);
-    post(&rt, &door, &mut c0, sum(alloc, crude, 7)?, 0);
-    post(&rt, &door, &mut n0, sum(alloc, Label::Public, 1)?, 0);
-    take(&rt, &door, &mut a0, 0, &[19]);
-    take(&rt, &door, &mut n0, 0, &[19]);
-    front(&rt, &door, &mut c0, 6);
-    Ok(())
+    let posting = broadcast(&rt, rt.alloc(), alpha, &[7, -1]);
+    let (door, mut passes) = open(&rt, rt.alloc(), policy);
+    let n0 = tell_three(&rt, &door, &mut passes, posting);
+    end(&rt, door, passes, n0);
+}
+
+/// The posts of four processes.
+#[derive(Drop)]
+struct Posts {
+    a0: Posting,
+    b0: Posting,
+    c0: Posting,
+    n0: Posting,
+}
+
+/// A number of each process, to be summed.
+fn sums<R: Abort>(rt: &R, alloc: Global, policy: &Policy) -> Posts
+    ensures a0 { IsKnownLabel policy.now result.a0.label }
+    ensures b0 { IsKnownLabel policy.now result.b0.label }
+    ensures c0 { IsKnownLabel policy.now result.c0.label }
+    ensures n0 { IsKnownLabel policy.now result.n0.label }
+{
+    let alpha = label(policy, "alpha");
+    let beta = label(policy, "beta");
+    let crude = label(policy, "crude");
+    Posts {
+        a0: sum(rt, alloc, alpha, 5),
+        b0: sum(rt, alloc, beta, 6),
+        c0: sum(rt, alloc, crude, 7),
+        n0: sum(rt, alloc, Label::Public, 1),
+    }
+}
+
+/// Four passes post in turn: their posts meet in one hall, and a sum of them all is sanitised for
+/// all.
+fn meet<R: Wait + Abort>(rt: &R, door: &Door, passes: &mut Passes, posts: Posts)
+    requires passes { All (λ pass. pass.door ≡ door.now) passes.old.items }
+    requires a0 { IsKnownLabel door.now.policy posts.a0.label }
+    requires b0 { IsKnownLabel door.now.policy posts.b0.label }
+    requires c0 { IsKnownLabel door.now.policy posts.c0.label }
+    requires n0 { IsKnownLabel door.now.policy posts.n0.label }
+{
+    let mut n0 = last(rt, door, passes);
+    let mut c0 = last(rt, door, passes);
+    let mut b0 = last(rt, door, passes);
+    let mut a0 = last(rt, door, passes);
+    post(rt, door, &mut a0, posts.a0, 0);
+    post(rt, door, &mut b0, posts.b0, 0);
+    post(rt, door, &mut c0, posts.c0, 0);
+    post(rt, door, &mut n0, posts.n0, 0);
+    take(rt, door, &mut a0, 0, &[19]);
+    take(rt, door, &mut n0, 0, &[19]);
+    front(rt, door, &mut c0, 6);
+    drop(a0);
+    drop(b0);
+    drop(c0);
+    drop(n0);
+}
+
+#[test]
+fn posts_meet(rt: HostRuntime) {
+    let policy = wall(&rt, rt.alloc(), RIVALS);
+    let posts = sums(&rt, rt.alloc(), &policy);
+    let (door, mut passes) = open(&rt, rt.alloc(), policy);
+    meet(&rt, &door, &mut passes, posts);
+    drop(passes);
+    drop(door);
 }
 
 fn post_as<R: Wait>(rt: &R, door: &Door, mut pass: Pass, posting: Posting) -> Pass
@@ -335,7 +415,7 @@ fn post_as<R: Wait>(rt: &R, door: &Door, mut pass: Pass, posting: Posting) -> Pa
     requires label { IsKnownLabel door.now.policy posting.label }
     ensures { result.door ≡ door.now }
 {
-    let _posted = door.post(rt, &mut pass, posting);
+    drop(door.post(rt, &mut pass, posting));
     pass
 }
 
@@ -367,18 +447,36 @@ fn post_both<R: Threads + Wait + Sync>(
     )
 }
 
+/// Two threads post, and each pass then takes what both posts brought.
+fn meet_by_threads<R: Threads + Wait + Sync + Abort>(
+    rt: &R,
+    door: &Door,
+    passes: &mut Passes,
+    mine: Posting,
+    theirs: Posting,
+)
+    requires passes { All (λ pass. pass.door ≡ door.now) passes.old.items }
+    requires mine { IsKnownLabel door.now.policy mine.label }
+    requires theirs { IsKnownLabel door.now.policy theirs.label }
+{
+    let second = last(rt, door, passes);
+    let first = last(rt, door, passes);
+    let (mut first, mut second) = post_both(rt, door, first, second, mine, theirs);
+    front(rt, door, &mut first, 2);
+    take(rt, door, &mut second, 0, &[7, -1]);
+    take(rt, door, &mut first, 0, &[]);
+    drop(first);
+    drop(second);
+}
+
 #[test]
-fn threads_post(rt: HostRuntime) -> Result<(), Fail> {
-    let policy = read_policy(rt.alloc(), FRIENDS.as_bytes())?;
+fn threads_post(rt: HostRuntime) {
+    let policy = wall(&rt, rt.alloc(), FRIENDS);
     let alpha = label(&policy, "alpha");
-    let mine = broadcast(rt.alloc(), 0, 2, alpha, &[7, -1])?;
-    let theirs = broadcast(rt.alloc(), 0, 2, Label::Public, &[])?;
-    let (door, mut passes) = Door::open(rt.alloc(), policy)?;
-    let second = last(&door, &mut passes)?;
-    let first = last(&door, &mut passes)?;
-    let (mut first, mut second) = post_both(&rt, &door, first, second, mine, theirs);
-    front(&rt, &door, &mut first, 2);
-    take(&rt, &door, &mut second, 0, &[7, -1]);
-    take(&rt, &door, &mut first, 0, &[]);
-    Ok(())
+    let mine = broadcast(&rt, rt.alloc(), alpha, &[7, -1]);
+    let theirs = broadcast(&rt, rt.alloc(), Label::Public, &[]);
+    let (door, mut passes) = open(&rt, rt.alloc(), policy);
+    meet_by_threads(&rt, &door, &mut passes, mine, theirs);
+    drop(passes);
+    drop(door);
 }

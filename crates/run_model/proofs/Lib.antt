@@ -25,5 +25,6 @@ pub mod RunRowProofs
 pub mod WallRowProofs
 pub mod KindRowProofs
 pub mod TypeRowProofs
+pub mod RoomRowProofs
 pub mod WorldRowProofs
 pub mod RunModelLemmas

@@ -5,8 +5,8 @@ use Rattle.coll_values.specs.declared.delivery.Block.TheVariants.{Numbers}
 use Rattle.wall_verdict.specs.declared.verdict.Rule.TheVariants.{Star, Simple}
 use Rattle.run_model.specs.declared.refusal.Refusal.TheVariants.{Mismatch, NoSuchRequest}
 use Rattle.run_model.specs.declared.reply.Reply.TheVariants.{Posted, Barred, Pending, Delivered, Denied, Refused}
-use Rattle.run_model.specs.RunRows.{LegalList, banks_and_oil, four_of_alpha, alpha, beta, crude}
-use Rattle.run_model.specs.WallRows.{charged_before_it_is_taken, charged_in_the_other_order, star_rule_at_the_post, label_enters_at_the_post, sum_of_too_few, prefix_of_too_few, lowest_barred_is_named, barred_before_offences, several_outstanding}
+use Rattle.run_model.specs.RunRows.{LegalList, banks_and_oil, banks_and_oil_in_version_2, four_of_alpha, alpha, beta, crude}
+use Rattle.run_model.specs.WallRows.{charged_before_it_is_taken, charged_in_the_other_order, star_rule_at_the_post, label_enters_at_the_post, sum_of_too_few, sum_of_two_datasets, written_after_a_sum, prefix_of_too_few, lowest_barred_is_named, barred_before_offences, several_outstanding}
 use Rattle.run_model.proofs.RunRowProofs.{opened, due_is_legal}
 
 pub charged_before_it_is_taken_is_legal : LegalList banks_and_oil (charged_before_it_is_taken (Denied Simple 3 beta))
@@ -148,3 +148,35 @@ several_outstanding_is_wrong_2 h = ⊎_elim (λ e. absurd (cc e)) (λ e. absurd 
 pub several_outstanding_is_wrong_3 : LegalList four_of_alpha (several_outstanding (Delivered (Numbers (pos 1 ∷ []) ∷ Numbers (pos 2 ∷ pos 3 ∷ []) ∷ Numbers (pos 4 ∷ []) ∷ []))) → ⊥
 unfolding opened
 several_outstanding_is_wrong_3 h = ⊎_elim (λ e. absurd (cc e)) (λ e. absurd (let no = e.1 in cc)) h.1
+
+pub sum_of_two_datasets_is_legal : LegalList banks_and_oil (sum_of_two_datasets (Delivered (Numbers (pos 6 ∷ []) ∷ [])))
+unfolding opened
+sum_of_two_datasets_is_legal = due_is_legal banks_and_oil (sum_of_two_datasets (Delivered (Numbers (pos 6 ∷ []) ∷ []))) refl
+
+pub sum_of_two_datasets_is_legal_in_version_2 : LegalList banks_and_oil_in_version_2 (sum_of_two_datasets (Denied Simple 0 beta))
+unfolding opened
+sum_of_two_datasets_is_legal_in_version_2 = due_is_legal banks_and_oil_in_version_2 (sum_of_two_datasets (Denied Simple 0 beta)) refl
+
+pub sum_of_two_datasets_is_wrong_1 : LegalList banks_and_oil (sum_of_two_datasets (Denied Simple 0 beta)) → ⊥
+unfolding opened
+sum_of_two_datasets_is_wrong_1 h = ⊎_elim (λ e. absurd (cc e)) (λ e. absurd (let no = e.1 in cc)) h.1
+
+pub sum_of_two_datasets_is_wrong_2 : LegalList banks_and_oil_in_version_2 (sum_of_two_datasets (Delivered (Numbers (pos 6 ∷ []) ∷ []))) → ⊥
+unfolding opened
+sum_of_two_datasets_is_wrong_2 h = ⊎_elim (λ e. absurd (cc e)) (λ e. absurd (let no = e.1 in cc)) h.1
+
+pub written_after_a_sum_is_legal : LegalList banks_and_oil (written_after_a_sum (Posted 2))
+unfolding opened
+written_after_a_sum_is_legal = due_is_legal banks_and_oil (written_after_a_sum (Posted 2)) refl
+
+pub written_after_a_sum_is_legal_in_version_2 : LegalList banks_and_oil_in_version_2 (written_after_a_sum (Barred 2 alpha))
+unfolding opened
+written_after_a_sum_is_legal_in_version_2 = due_is_legal banks_and_oil_in_version_2 (written_after_a_sum (Barred 2 alpha)) refl
+
+pub written_after_a_sum_is_wrong_1 : LegalList banks_and_oil (written_after_a_sum (Barred 2 alpha)) → ⊥
+unfolding opened
+written_after_a_sum_is_wrong_1 h = ⊎_elim (λ e. absurd (cc e)) (λ e. absurd (let no = e.1 in cc)) h.1
+
+pub written_after_a_sum_is_wrong_2 : LegalList banks_and_oil_in_version_2 (written_after_a_sum (Posted 2)) → ⊥
+unfolding opened
+written_after_a_sum_is_wrong_2 h = ⊎_elim (λ e. absurd (cc e)) (λ e. absurd (let no = e.1 in cc)) h.1

@@ -17,23 +17,27 @@ use Rattle.run_model.specs.declared.entry.Entry.TheVariants.{Posted, Settled}
 -- Two classes: the banks alpha and beta, and the oil firms crude and delta. Process a0 has home alpha, b0 beta, c0 crude, n0 none.
 abbrev pub banks_and_oil : ChineseWall
 banks_and_oil = record {
+  version = 1;
   class_names = codes "banks" ∷ codes "oil" ∷ [];
   dataset_names = codes "alpha" ∷ codes "beta" ∷ codes "crude" ∷ codes "delta" ∷ [];
   process_names = codes "a0" ∷ codes "b0" ∷ codes "c0" ∷ codes "n0" ∷ [];
   classes = 0 ∷ 0 ∷ 1 ∷ 1 ∷ [];
   homes = Some 0 ∷ Some 1 ∷ Some 2 ∷ None ∷ [];
   leasts = (Sum, 3) ∷ [];
+  distincts = (Sum, 1) ∷ [];
 }
 
 -- one class, the banks, and four processes at home at alpha
 abbrev pub four_of_a_bank : ChineseWall
 four_of_a_bank = record {
+  version = 1;
   class_names = codes "banks" ∷ [];
   dataset_names = codes "alpha" ∷ codes "beta" ∷ [];
   process_names = codes "p0" ∷ codes "p1" ∷ codes "p2" ∷ codes "p3" ∷ [];
   classes = 0 ∷ 0 ∷ [];
   homes = Some 0 ∷ Some 0 ∷ Some 0 ∷ Some 0 ∷ [];
   leasts = [];
+  distincts = [];
 }
 
 abbrev pub alpha : Label

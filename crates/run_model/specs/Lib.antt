@@ -40,3 +40,5 @@ pub mod KindRows
 pub mod TypeRows
 -- worked runs of rules and denials
 pub mod WallRows
+-- where the last communicators are made
+pub mod RoomRows

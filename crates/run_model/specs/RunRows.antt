@@ -23,37 +23,56 @@ use Rattle.run_model.specs.Runs.{Entry, posts}
 use Rattle.run_model.specs.Replies.{Legal}
 
 -- the banks alpha and beta, the oil companies crude and delta; a0, b0 and c0 at home at alpha, beta and crude, n0 nowhere; a sum of three
--- datasets or more is sanitised
+-- contributors or more is sanitised
 abbrev pub banks_and_oil : ChineseWall
 banks_and_oil = record {
+  version = 1;
   class_names = codes "banks" ∷ codes "oil" ∷ [];
   dataset_names = codes "alpha" ∷ codes "beta" ∷ codes "crude" ∷ codes "delta" ∷ [];
   process_names = codes "a0" ∷ codes "b0" ∷ codes "c0" ∷ codes "n0" ∷ [];
   classes = 0 ∷ 0 ∷ 1 ∷ 1 ∷ [];
   homes = Some 0 ∷ Some 1 ∷ Some 2 ∷ None ∷ [];
   leasts = (Sum, 3) ∷ [];
+  distincts = (Sum, 1) ∷ [];
+}
+
+-- the same in version 2, where a sum takes three different datasets too
+abbrev pub banks_and_oil_in_version_2 : ChineseWall
+banks_and_oil_in_version_2 = record {
+  version = 2;
+  class_names = codes "banks" ∷ codes "oil" ∷ [];
+  dataset_names = codes "alpha" ∷ codes "beta" ∷ codes "crude" ∷ codes "delta" ∷ [];
+  process_names = codes "a0" ∷ codes "b0" ∷ codes "c0" ∷ codes "n0" ∷ [];
+  classes = 0 ∷ 0 ∷ 1 ∷ 1 ∷ [];
+  homes = Some 0 ∷ Some 1 ∷ Some 2 ∷ None ∷ [];
+  leasts = (Sum, 3) ∷ [];
+  distincts = (Sum, 3) ∷ [];
 }
 
 -- the banks alpha and beta, and four processes at home at alpha
 abbrev pub four_of_alpha : ChineseWall
 four_of_alpha = record {
+  version = 1;
   class_names = codes "banks" ∷ [];
   dataset_names = codes "alpha" ∷ codes "beta" ∷ [];
   process_names = codes "p0" ∷ codes "p1" ∷ codes "p2" ∷ codes "p3" ∷ [];
   classes = 0 ∷ 0 ∷ [];
   homes = Some 0 ∷ Some 0 ∷ Some 0 ∷ Some 0 ∷ [];
   leasts = [];
+  distincts = [];
 }
 
 -- the same with two processes
 abbrev pub two_of_alpha : ChineseWall
 two_of_alpha = record {
+  version = 1;
   class_names = codes "banks" ∷ [];
   dataset_names = codes "alpha" ∷ codes "beta" ∷ [];
   process_names = codes "p0" ∷ codes "p1" ∷ [];
   classes = 0 ∷ 0 ∷ [];
   homes = Some 0 ∷ Some 0 ∷ [];
   leasts = [];
+  distincts = [];
 }
 
 abbrev pub alpha : Label
@@ -162,7 +181,7 @@ four_rivals =
     ∷ gave 3 0 (Allgather Int32 1) Plain Public (pos 4 ∷ []) (Posted 0)
     ∷ all_took 0 (Denied Simple 0 beta)
 
--- a sum of three datasets is sanitised: all get it, and it is charged to nobody; with these numbers
+-- a sum of three contributors, of three datasets, is sanitised: all get it, and it is charged to nobody; with these numbers
 -- of a0 and of c0
 abbrev pub summed : (first third total : ℤ) → List Entry
 summed first third total =

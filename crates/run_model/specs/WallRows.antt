@@ -1,9 +1,9 @@
 -- Worked runs that show the wall: when charges bite, what a post adds, and who is named.
-use Rattle.std.specs.Prelude.{List, [], ◌∷◌, pos, Some}
+use Rattle.std.specs.Prelude.{List, [], ◌∷◌, ◌++◌, pos, Some}
 use Rattle.wall_labels.specs.declared.op.Op.TheVariants.{Max, Sum}
 use Rattle.wall_labels.specs.declared.label.Label.TheVariants.{Public}
 use Rattle.mpi_elems.specs.declared.elem_type.ElemType.TheVariants.{Int32}
-use Rattle.coll_routes.specs.declared.signature.Signature.TheVariants.{Barrier, Bcast, Gather, Allgather, Allgatherv, Reduce, Allreduce, Scan, Dup, Split}
+use Rattle.coll_routes.specs.declared.signature.Signature.TheVariants.{Barrier, Bcast, Gather, Allgather, Allgatherv, Reduce, Allreduce, Scan, Create, Dup, Split}
 use Rattle.coll_routes.specs.declared.statement.Own.TheVariants.{Plain, Split as SplitBy}
 use Rattle.coll_values.specs.declared.delivery.Block.TheVariants.{Numbers}
 use Rattle.wall_verdict.specs.declared.verdict.Rule.TheVariants.{Star, Simple}
@@ -11,7 +11,7 @@ use Rattle.run_model.specs.declared.refusal.Refusal.TheVariants.{Mismatch, NoSuc
 use Rattle.run_model.specs.declared.reply.Reply.TheVariants.{Posted, Barred, Pending, Delivered, Denied, Refused}
 use Rattle.run_model.specs.declared.reply.Reply.{Reply}
 use Rattle.run_model.specs.Runs.{Entry}
-use Rattle.run_model.specs.RunRows.{alpha, beta, crude, gave, stated, came, took}
+use Rattle.run_model.specs.RunRows.{alpha, beta, crude, gave, stated, came, took, all_came}
 
 -- n0 is granted alpha, and has not taken it, when beta would reach it too: denied, and alpha is delivered
 abbrev pub charged_before_it_is_taken : Reply → List Entry
@@ -106,6 +106,27 @@ sum_of_too_few reply =
     ∷ gave 2 0 (Allreduce Max Int32 1) Plain crude (pos 7 ∷ []) (Posted 1)
     ∷ gave 3 0 (Allreduce Max Int32 1) Plain Public (pos 1 ∷ []) (Posted 1)
     ∷ took 2 1 reply
+    ∷ []
+
+-- three contribute to a sum, and two of them the same bank's numbers
+abbrev pub sum_of_two_datasets : Reply → List Entry
+sum_of_two_datasets reply =
+    all_came 0 (Create (0 ∷ 1 ∷ 3 ∷ [])) 0
+    ++ gave 0 1 (Allreduce Sum Int32 1) Plain alpha (pos 1 ∷ []) (Posted 1)
+    ∷ gave 1 1 (Allreduce Sum Int32 1) Plain beta (pos 2 ∷ []) (Posted 1)
+    ∷ gave 3 1 (Allreduce Sum Int32 1) Plain alpha (pos 3 ∷ []) (Posted 1)
+    ∷ took 0 1 reply
+    ∷ []
+
+-- the same of a bank and an oil firm, which are no rivals: all get the sum, and a0 writes of its bank again
+abbrev pub written_after_a_sum : Reply → List Entry
+written_after_a_sum reply =
+    all_came 0 (Create (0 ∷ 2 ∷ 3 ∷ [])) 0
+    ++ gave 0 1 (Allreduce Sum Int32 1) Plain alpha (pos 5 ∷ []) (Posted 1)
+    ∷ gave 2 1 (Allreduce Sum Int32 1) Plain crude (pos 7 ∷ []) (Posted 1)
+    ∷ gave 3 1 (Allreduce Sum Int32 1) Plain alpha (pos 1 ∷ []) (Posted 1)
+    ∷ took 0 1 (Delivered (Numbers (pos 13 ∷ []) ∷ []))
+    ∷ gave 0 1 (Allgather Int32 1) Plain alpha (pos 5 ∷ []) reply
     ∷ []
 
 -- rank 1 has two contributors, and three are asked

@@ -28,6 +28,7 @@ mod outcome;
 pub mod post_laws;
 mod refusal;
 mod reply;
+pub mod room_rows;
 pub mod run_laws;
 pub mod run_rows;
 mod scripts;

@@ -5,8 +5,8 @@ ghost use Rattle.coll_values.specs.declared.delivery.Block.TheVariants.{Numbers}
 ghost use Rattle.wall_verdict.specs.declared.verdict.Rule.TheVariants.{Star, Simple};
 ghost use Rattle.run_model.specs.declared.refusal.Refusal.TheVariants.{Mismatch, NoSuchRequest};
 ghost use Rattle.run_model.specs.declared.reply.Reply.TheVariants.{Posted, Barred, Pending, Delivered, Denied, Refused};
-ghost use Rattle.run_model.specs.RunRows.{LegalList, banks_and_oil, four_of_alpha, alpha, beta, crude};
-ghost use Rattle.run_model.specs.WallRows.{charged_before_it_is_taken, charged_in_the_other_order, star_rule_at_the_post, label_enters_at_the_post, sum_of_too_few, prefix_of_too_few, lowest_barred_is_named, barred_before_offences, several_outstanding};
+ghost use Rattle.run_model.specs.RunRows.{LegalList, banks_and_oil, banks_and_oil_in_version_2, four_of_alpha, alpha, beta, crude};
+ghost use Rattle.run_model.specs.WallRows.{charged_before_it_is_taken, charged_in_the_other_order, star_rule_at_the_post, label_enters_at_the_post, sum_of_too_few, sum_of_two_datasets, written_after_a_sum, prefix_of_too_few, lowest_barred_is_named, barred_before_offences, several_outstanding};
 
 /// A grant is charged at once: what n0 may get of beta goes by what it was granted of alpha, taken or not.
 pub fn charged_before_it_is_taken()
@@ -58,6 +58,31 @@ pub fn sum_of_too_few()
         (sum_of_too_few (Delivered (Numbers (pos 7 ∷ []) ∷ [])))) }
     ensures wrong_2 { ¬ (LegalList banks_and_oil (sum_of_too_few (Denied Simple 1 alpha))) }
     ensures wrong_3 { ¬ (LegalList banks_and_oil (sum_of_too_few (Denied Simple 2 alpha))) }
+{}
+
+/// Three contributors of two datasets are a crowd where a policy of version 1 asks for three of them, and none where one of version 2 asks
+/// for three different datasets.
+pub fn sum_of_two_datasets()
+    ensures legal { LegalList banks_and_oil
+        (sum_of_two_datasets (Delivered (Numbers (pos 6 ∷ []) ∷ []))) }
+    ensures legal_in_version_2 { LegalList banks_and_oil_in_version_2
+        (sum_of_two_datasets (Denied Simple 0 beta)) }
+    ensures wrong_1 { ¬ (LegalList banks_and_oil
+        (sum_of_two_datasets (Denied Simple 0 beta))) }
+    ensures wrong_2 { ¬ (LegalList banks_and_oil_in_version_2
+        (sum_of_two_datasets (Delivered (Numbers (pos 6 ∷ []) ∷ [])))) }
+{}
+
+/// A sum that is no crowd is charged to all who get it, who may then not write of their own firm; one that is a crowd is charged to nobody.
+pub fn written_after_a_sum()
+    ensures legal { LegalList banks_and_oil
+        (written_after_a_sum (Posted 2)) }
+    ensures legal_in_version_2 { LegalList banks_and_oil_in_version_2
+        (written_after_a_sum (Barred 2 alpha)) }
+    ensures wrong_1 { ¬ (LegalList banks_and_oil
+        (written_after_a_sum (Barred 2 alpha))) }
+    ensures wrong_2 { ¬ (LegalList banks_and_oil_in_version_2
+        (written_after_a_sum (Posted 2))) }
 {}
 
 /// In a scan each rank has contributors of its own: the lower ranks and itself.

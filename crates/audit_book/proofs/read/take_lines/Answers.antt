@@ -17,7 +17,7 @@ returns-in_err-take_line c =
 pub returns-then-not-branch : goal.returns-then-not-branch
 returns-then-not-branch c =
     let h = subst (λ (b : Bool). Adds (Ok b) c.loop-next.book.list c.take_line.new.book.list (line_at c.args.policy.now c.loop-next.line.now)) c.if-not-branch.true c.in_ok-take_line.ensures in
-    at_end c.args.policy.now c.loop-next.book.list c.take_line.new.book.list c.loop-next.line.now c.in-Some.next.now c.loop-next.lines c.next.new.self (entries_in c.args.policy.now 0 (c.args.first.now ∷ c.args.lines.now)) c.in-Some.ensures c.loop-next.invariant c.end_of.result h (subst (λ (n : ℕ). Reads c.end_of.result [] (ended_at (n + 3) (c.in-Some.next.now ∷ c.next.new.self))) c.len.ensures.value c.end_of.ensures)
+    at_end c.args.policy.now c.loop-next.book.list c.take_line.new.book.list c.loop-next.line.now c.in-Some.next.now c.loop-next.lines c.next.new.self (entries_in c.args.policy.now 0 (c.args.first.now ∷ c.args.lines.now)) c.in-Some.ensures c.loop-next.invariant c.end_of.result h (subst (λ (n : ℕ). Reads c.end_of.result [] (ended_at (n + 3) (c.in-Some.next.now ∷ c.next.new.self))) c.len.ensures.value c.end_of.ensures.end)
 
 pub loop-next-preserved : goal.loop-next-preserved
 loop-next-preserved c =

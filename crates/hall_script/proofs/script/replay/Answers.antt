@@ -1,16 +1,38 @@
-use Rattle.hall_core.specs.Halls.{StandsFor}
-use Rattle.hall_script.proofs.RunLemmas.{not_begun, short_of_memory, ended}
+use Rattle.std.proofs.Common.{refl}
+use Rattle.hall_core.specs.Halls.{StandsFor, HallValue}
+use Rattle.hall_script.specs.Devices.{used}
+use Rattle.hall_script.proofs.RunLemmas.{short_of_memory, handed_back, same_policy, not_handed_back}
 use Rattle.hall_script.proofs.script.replay.Goals as goal
 
-pub returns-in-Err-Read-clause-replayed : goal.returns-in-Err-Read-clause-replayed
-returns-in-Err-Read-clause-replayed g c = not_begun StandsFor c.args.policy (g.R.Source.remaining c.args.source.now) (g.W.Sink.contents c.args.sink.now)
+pub returns-in-Err-NoMemory-clause-fault : goal.returns-in-Err-NoMemory-clause-fault
+returns-in-Err-NoMemory-clause-fault g c =
+    let source = used g.R.Source.failures g.R.Source.remaining c.args.source.now c.read_device.new.source in
+    let sink = used g.W.Sink.failures g.W.Sink.contents c.args.sink.now c.args.sink.now in
+    short_of_memory c.args.policy source sink (rw c.in-Err-NoMemory.field-0-is at c.in-Err-NoMemory.ensures.fault) refl
 
-pub returns-in-Err-NoMemory-clause-replayed : goal.returns-in-Err-NoMemory-clause-replayed
-returns-in-Err-NoMemory-clause-replayed g c = short_of_memory StandsFor c.args.policy (g.R.Source.remaining c.args.source.now) (g.W.Sink.contents c.args.sink.now)
+pub returns-clause-fault : goal.returns-clause-fault
+returns-clause-fault g c =
+    let source = used g.R.Source.failures g.R.Source.remaining c.args.source.now c.read_device.new.source in
+    let sink = used g.W.Sink.failures g.W.Sink.contents c.args.sink.now c.args.sink.now in
+    short_of_memory c.args.policy source sink c.in-Ok.ensures.whole.0 refl
 
-pub returns-in_default-clause-replayed : goal.returns-in_default-clause-replayed
-returns-in_default-clause-replayed g c = short_of_memory StandsFor c.args.policy (g.R.Source.remaining c.args.source.now) (g.W.Sink.contents c.args.sink.now)
+pub returns-in-Ok-open-clause-fault : goal.returns-in-Ok-open-clause-fault
+returns-in-Ok-open-clause-fault g c =
+    let source = used g.R.Source.failures g.R.Source.remaining c.args.source.now c.read_device.new.source in
+    let sink = used g.W.Sink.failures g.W.Sink.contents c.args.sink.now c.answered.new.sink in
+    not_handed_back StandsFor (λ (h : HallValue). h.policy) c.args.policy source sink c.in-Ok-open.hall.policy c.in-Ok.script.items c.deref.result.now
+    c.in-Ok-open.ensures.policy c.deref.ensures.value c.in-Ok.ensures.whole c.answered.result c.answered.ensures.stopped
 
-pub returns-clause-replayed : goal.returns-clause-replayed
-returns-clause-replayed g c =
-    ended StandsFor c.args.policy c.in-Ok-open.hall.policy (g.R.Source.remaining c.args.source.now) (g.W.Sink.contents c.args.sink.now) (g.W.Sink.contents c.answer_script.new.sink) c.in-Ok.script.items c.deref.result.now c.answer_script.new.machine c.in-Err.fault c.in-Ok-open.ensures.policy c.in-Ok.ensures.whole c.deref.ensures.value c.in-Err.ensures.replays
+pub returns-in-Ok-open-clause-replayed : goal.returns-in-Ok-open-clause-replayed
+returns-in-Ok-open-clause-replayed g c =
+    let source = used g.R.Source.failures g.R.Source.remaining c.args.source.now c.read_device.new.source in
+    let sink = used g.W.Sink.failures g.W.Sink.contents c.args.sink.now c.answered.new.sink in
+    handed_back StandsFor (λ (h : HallValue). h.policy) c.args.policy source sink c.in-Ok-open.hall.policy c.in-Ok.script.items c.deref.result.now
+    c.in-Ok-open.ensures.policy c.deref.ensures.value c.in-Ok.ensures.whole c.answered.result c.answered.ensures.finished
+
+pub returns-in-Ok-open-clause-policy : goal.returns-in-Ok-open-clause-policy
+returns-in-Ok-open-clause-policy g c =
+    let source = used g.R.Source.failures g.R.Source.remaining c.args.source.now c.read_device.new.source in
+    let sink = used g.W.Sink.failures g.W.Sink.contents c.args.sink.now c.answered.new.sink in
+    same_policy StandsFor (λ (h : HallValue). h.policy) c.args.policy source sink c.in-Ok-open.hall.policy c.in-Ok.script.items c.deref.result.now
+    c.in-Ok-open.ensures.policy c.deref.ensures.value c.in-Ok.ensures.whole c.answered.result c.answered.ensures.finished

@@ -8,7 +8,7 @@ use Rattle.hall_core.proofs.hall.Hall.apply.Goals as goal
 
 pub invariant_of-self : goal.invariant_of-self
 invariant_of-self c =
-    kept_after (value_in c.self.inside.records) (value_in c.step.new.self) c.args.call c.step.result c.self.invariant c.step.ensures.policy c.step.ensures.each
+    kept_after (value_in c.self.inside.records) (value_in c.step.new.self) c.args.call c.step.result c.self.invariant c.step.ensures.policy c.step.ensures.each c.step.ensures.counted
     (subst (λ (h : HallValue). HasKnownLabel h.policy c.args.call.act) (sym c.self.view_is) c.requires) c.step.ensures.steps
 
 pub returns-clause-runs : goal.returns-clause-runs

@@ -9,7 +9,7 @@ pub invariant_of-self : goal.invariant_of-self
 invariant_of-self c =
     kept_after (value_in c.self.inside.records) (value_in c.claim.new.self)
     (to_take c.args.process c.args.request) (claim_reply c.claim.result)
-    c.self.invariant c.claim.ensures.policy c.claim.ensures.each tt c.claim.ensures.steps
+    c.self.invariant c.claim.ensures.policy c.claim.ensures.each c.claim.ensures.counted tt c.claim.ensures.steps
 
 pub returns-clause-runs : goal.returns-clause-runs
 returns-clause-runs c =

@@ -15,7 +15,6 @@ use Rattle.run_model.proofs.RunModelLemmas.{taken, given_of}
 use Rattle.hall_core.specs.Asking.{Asked, requests_of}
 use Rattle.hall_core.specs.Halls.{HallView, StandsForEffects}
 use Rattle.hall_core.specs.Invariant.{view_in}
-use Rattle.hall_core.proofs.RequestLemmas.{number_is}
 use Rattle.hall_core.proofs.PostLemmas.{few_elements, free_stated, has_form_of, due, post_counted, post_wanted}
 use Rattle.hall_core.proofs.records.Records.accept.Goals as goal
 
@@ -45,7 +44,7 @@ returns-clause-steps c = λ m is stands.
     let word : c.passes-passed.result ≡ star (histories c.args.self.now.policy (posts_in m)) c.args.process (label_in c.args.posting) =
     c.passes-passed.ensures.posts c.args.self.now.policy m.contributions stands.post_state ∙ (λ i. star (histories c.args.self.now.policy (posts_in m)) (c.member-member.ensures i) (c.label-label.ensures i)) in
     let number : c.given_to-request.result ≡ length (requests c.args.process (posts_in m)) =
-    c.given_to-request.ensures ∙ (ap (λ (a : List Asked). length (requests_of a c.args.process)) c.deref.ensures.value ∙ number_is (view_in c.args.self.now) m stands c.args.process) in
+    c.given_to-request.ensures ∙ (ap (λ (a : List Asked). length (requests_of a c.args.process)) c.deref.ensures.value ∙ stands.given c.args.process) in
     let owed = due c.args.self.now.policy m c.args.process c.args.posting c.passes-passed.result c.given_to-request.result none word number in
     let counts : IsCounted c.args.self.now.policy (record { process = c.args.process; comm = c.args.posting.comm; stated = statement c.args.posting (not c.passes-passed.result) }) (posts_in m) =
     taken c.args.self.now.policy m c.args.process c.args.posting (not c.passes-passed.result) none (ap not word) in

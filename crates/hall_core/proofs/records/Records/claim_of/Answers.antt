@@ -16,42 +16,41 @@ use Rattle.hall_core.proofs.records.Records.claim_of.Goals as goal
 pub claimed-requires-clause-tellable : goal.claimed-requires-clause-tellable
 claimed-requires-clause-tellable c =
     let s = c.in-Some.settlement.now in
-    let there : settlement_at c.args.self.now.settled c.args.comm c.args.k ≡ Some s =
+    let there : settlement_at c.args.self.now.settled c.args.asked.comm c.args.asked.k ≡ Some s =
     sym c.get.ensures ∙ ap option_copied c.in-Some.is in
-    tellable (view_in c.args.self.now) c.requires.policy c.requires.hall c.args.comm c.args.k s
-    there
+    tellable (view_in c.args.self.now) c.requires.policy c.requires.hall c.args.process
+    c.args.request c.args.asked s c.requires.waits there
 
 pub claimed-requires-clause-member : goal.claimed-requires-clause-member
 claimed-requires-clause-member c =
     let s = c.in-Some.settlement.now in
-    let there : settlement_at c.args.self.now.settled c.args.comm c.args.k ≡ Some s =
+    let there : settlement_at c.args.self.now.settled c.args.asked.comm c.args.asked.k ≡ Some s =
     sym c.get.ensures ∙ ap option_copied c.in-Some.is in
     subst (λ (p : ℕ). rank_in s.full.roll.members p ≢ None) (sym c.member-member.ensures)
     (rank_there (view_in c.args.self.now) c.requires.hall c.args.process c.args.request
-    (c.args.comm, c.args.k) s c.requires.waits there)
+    c.args.asked s c.requires.waits there)
 
 pub returns-in-Err-clause-steps : goal.returns-in-Err-clause-steps
 returns-in-Err-clause-steps c =
     let s = c.in-Some.settlement.now in
     let hall = view_in c.args.self.now in
-    let there : settlement_at c.args.self.now.settled c.args.comm c.args.k ≡ Some s =
+    let there : settlement_at c.args.self.now.settled c.args.asked.comm c.args.asked.k ≡ Some s =
     sym c.get.ensures ∙ ap option_copied c.in-Some.is in
     quiet_steps hall hall c.args.process (ToTake c.args.request) (Refused NoMemory) refl tt
-    (λ m is stands. wanting hall m stands c.args.process c.args.request (c.args.comm, c.args.k) s
+    (λ m is stands. wanting hall m stands c.args.process c.args.request c.args.asked s
     c.requires.waits there (c.in-Err.ensures.memory refl))
 
 pub returns-in-Ok-clause-steps : goal.returns-in-Ok-clause-steps
 returns-in-Ok-clause-steps c =
     let s = c.in-Some.settlement.now in
-    let there : settlement_at c.args.self.now.settled c.args.comm c.args.k ≡ Some s =
+    let there : settlement_at c.args.self.now.settled c.args.asked.comm c.args.asked.k ≡ Some s =
     sym c.get.ensures ∙ ap option_copied c.in-Some.is in
-    taken_steps (view_in c.args.self.now)
-    (view_in (record c.args.self.now { requests = c.take.new.requests }))
-    c.args.process c.args.request (c.args.comm, c.args.k) s (claim_reply c.in-Ok.claim)
+    taken_steps (view_in c.args.self.now) (view_in c.close.new.self)
+    c.args.process c.args.request c.args.asked s (claim_reply c.in-Ok.claim)
     c.requires.waits there
     (c.in-Ok.ensures.told
     ∙ ap (λ (p : ℕ). reply_by_outcome p s.full (Some s.outcome)) c.member-member.ensures)
-    (λ i. record (view_in c.args.self.now) { asked = c.take.ensures.requests i })
+    c.close.ensures.closes
 
 pub returns-in-Ok-clause-unchanged : goal.returns-in-Ok-clause-unchanged
 returns-in-Ok-clause-unchanged c = λ quiet.
@@ -61,8 +60,8 @@ returns-in-Ok-clause-unchanged c = λ quiet.
 pub returns-in-Ok-clause-holds : goal.returns-in-Ok-clause-holds
 returns-in-Ok-clause-holds c =
     let s = c.in-Some.settlement.now in
-    let there : settlement_at c.args.self.now.settled c.args.comm c.args.k ≡ Some s =
+    let there : settlement_at c.args.self.now.settled c.args.asked.comm c.args.asked.k ≡ Some s =
     sym c.get.ensures ∙ ap option_copied c.in-Some.is in
-    of_held (view_in c.args.self.now) c.args.process c.args.request (c.args.comm, c.args.k) s
+    of_held (view_in c.args.self.now) c.args.process c.args.request c.args.asked s
     c.in-Ok.claim c.requires.waits there
     (subst (λ (p : ℕ). IsClaimOn s p c.in-Ok.claim) c.member-member.ensures c.in-Ok.ensures.of)

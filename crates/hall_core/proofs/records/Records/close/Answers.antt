@@ -1,0 +1,34 @@
+use Rattle.std.proofs.Common.{length, refl}
+use Rattle.hall_core.specs.Asking.{requests_of}
+use Rattle.hall_core.proofs.CountLemmas.{some_open, counted_left, counted_as, kept_open, nobody_asks}
+use Rattle.hall_core.proofs.records.Records.close.Goals as goal
+
+pub leave-requires : goal.leave-requires
+leave-requires c =
+    some_open (requests_of c.args.self.now.requests.items)
+    (length c.args.self.now.requests.items) c.args.self.now.settled c.args.self.now.settled
+    c.args.process c.args.number c.args.asked c.requires.process c.requires.waits
+    c.requires.counted
+
+pub returns-clause-counted : goal.returns-clause-counted
+returns-clause-counted c =
+    counted_as _ _ _ _ _ c.take.ensures.requests c.take.ensures.number
+    (counted_left (requests_of c.args.self.now.requests.items)
+    (length c.args.self.now.requests.items) c.args.self.now.settled c.leave.new.self
+    c.args.process c.args.number c.args.asked c.requires.process c.requires.waits
+    c.requires.counted c.leave.ensures)
+
+pub returns-clause-closes : goal.returns-clause-closes
+returns-clause-closes c = record {
+  policy = refl;
+  post_state = refl;
+  asked = c.take.ensures.requests;
+  kept = kept_open (requests_of c.args.self.now.requests.items)
+      (length c.args.self.now.requests.items) c.args.self.now.settled c.leave.new.self
+      c.args.process c.args.number c.args.asked c.requires.process c.requires.waits
+      c.requires.counted c.leave.ensures (requests_of c.take.new.requests.items)
+      c.take.ensures.requests
+      (λ q past. nobody_asks c.take.new.requests.items (length c.args.self.now.requests.items) q
+      c.take.ensures.number past);
+  book = refl;
+}

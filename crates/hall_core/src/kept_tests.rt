@@ -1,0 +1,148 @@
+//! What a hall keeps: an instance until its last member has taken its outcome, and the requests of
+//! a process from the first on that it has not taken. So its tables do not grow with the calls.
+
+use crate::Hall;
+use crate::tests::Doing::{Cast, Sum, Take};
+use crate::tests::{FRIENDS, Line, RIVALS, answers, at_a_hall};
+use std::alloc::Global;
+use std::test::Fail;
+use wall_labels::NoMemory;
+
+/// How many rounds are played, of two collectives each.
+const ROUNDS: u64 = 100;
+
+/// What all four post in a round: a broadcast of a bank's numbers, which its rival may not get, and
+/// a sum of all. The takes show that each was posted.
+fn round() -> [Line; 8] {
+    [
+        (0, Cast(0, 0, 2, "alpha", &[7, -1]), "any"),
+        (1, Cast(0, 0, 2, "public", &[]), "any"),
+        (2, Cast(0, 0, 2, "public", &[]), "any"),
+        (3, Cast(0, 0, 2, "public", &[]), "any"),
+        (0, Sum("alpha", &[5]), "any"),
+        (1, Sum("beta", &[6]), "any"),
+        (2, Sum("crude", &[7]), "any"),
+        (3, Sum("public", &[1]), "any"),
+    ]
+}
+
+/// Makes the calls of the lines, whatever they are told.
+fn asks_all(alloc: Global, hall: &mut Hall, lines: &[Line]) -> Result<(), NoMemory> {
+    for line in lines {
+        answers(alloc, hall, line)?;
+    }
+    Ok(())
+}
+
+/// Whether all four take the request of that number, and are told that the broadcast of its round
+/// was denied, or the sum of its round.
+fn all_take(alloc: Global, hall: &mut Hall, request: u64) -> Result<bool, NoMemory> {
+    let reply = if request % 2 == 0 {
+        "denied Simple 1 0"
+    } else {
+        "delivered [19]"
+    };
+    for process in 0..4 {
+        if !answers(alloc, hall, &(process, Take(request), reply))? {
+            return Ok(false);
+        }
+    }
+    Ok(true)
+}
+
+/// Whether so many places are kept for the world's instances, and so many requests of each process.
+fn keeps(hall: &Hall, number: usize) -> bool {
+    for process in 0..4 {
+        if hall.kept_requests(process) != number {
+            return false;
+        }
+    }
+    hall.kept_places(0) == number
+}
+
+fn takes_in_order(alloc: Global, hall: &mut Hall) -> Result<bool, NoMemory> {
+    for number in 0..ROUNDS {
+        asks_all(alloc, hall, &round())?;
+        if !all_take(alloc, hall, 2 * number)? || !all_take(alloc, hall, 2 * number + 1)? {
+            return Ok(false);
+        }
+    }
+    Ok(keeps(hall, 0))
+}
+
+/// All rounds are posted before the first take, and the last request is taken first.
+fn takes_backwards(alloc: Global, hall: &mut Hall) -> Result<bool, NoMemory> {
+    for _ in 0..ROUNDS {
+        asks_all(alloc, hall, &round())?;
+    }
+    let all = keeps(hall, 200);
+    for after in 0..2 * ROUNDS {
+        if !all_take(alloc, hall, 2 * ROUNDS - 1 - after)? {
+            return Ok(false);
+        }
+    }
+    Ok(all && keeps(hall, 0))
+}
+
+#[test]
+fn nothing_is_kept_of_what_all_took(rt: HostRuntime) -> Result<(), Fail> {
+    assert!(rt; at_a_hall(rt.alloc(), RIVALS, takes_in_order)?);
+    assert!(rt; at_a_hall(rt.alloc(), RIVALS, takes_backwards)?);
+    Ok(())
+}
+
+/// A broadcast that all four may get.
+fn broadcast() -> [Line; 4] {
+    [
+        (0, Cast(0, 0, 1, "alpha", &[5]), "any"),
+        (1, Cast(0, 0, 1, "public", &[]), "any"),
+        (2, Cast(0, 0, 1, "public", &[]), "any"),
+        (3, Cast(0, 0, 1, "public", &[]), "any"),
+    ]
+}
+
+/// Whether it is granted to process 1, 2 and 3, as their request of that number.
+fn all_but_one_take(alloc: Global, hall: &mut Hall, request: u64) -> Result<bool, NoMemory> {
+    asks_all(alloc, hall, &broadcast())?;
+    for process in 1..4 {
+        if !answers(alloc, hall, &(process, Take(request), "delivered [5]"))? {
+            return Ok(false);
+        }
+    }
+    Ok(true)
+}
+
+/// How many places for instances of the world there are after process 0 took a request, if it keeps
+/// as many requests.
+fn kept_after(alloc: Global, hall: &mut Hall, request: u64) -> Result<Option<usize>, NoMemory> {
+    if !answers(alloc, hall, &(0, Take(request), "delivered none"))? {
+        return Ok(None);
+    }
+    let kept = hall.kept_places(0);
+    if hall.kept_requests(0) == kept {
+        Ok(Some(kept))
+    } else {
+        Ok(None)
+    }
+}
+
+/// Process 0 alone has not taken three outcomes. It takes the last first, and then the first.
+fn waits_for_one(alloc: Global, hall: &mut Hall) -> Result<bool, NoMemory> {
+    for request in 0..3 {
+        if !all_but_one_take(alloc, hall, request)? {
+            return Ok(false);
+        }
+    }
+    let others = hall.kept_requests(1) == 0 && hall.kept_requests(3) == 0;
+    let three = hall.kept_places(0) == 3 && hall.kept_requests(0) == 3;
+    let third = kept_after(alloc, hall, 2)? == Some(3);
+    let first = kept_after(alloc, hall, 0)? == Some(2);
+    let second = kept_after(alloc, hall, 1)? == Some(0);
+    Ok(others && three && third && first && second)
+}
+
+#[test]
+fn what_one_has_not_taken_is_kept(rt: HostRuntime) -> Result<(), Fail> {
+    assert!(rt; at_a_hall(rt.alloc(), FRIENDS, waits_for_one)?);
+    Ok(())
+}
