@@ -1,3 +1,3 @@
 pub mod KnownLemmas
-pub mod ReplayLemmas
 pub mod RankLemmas
+pub mod PerformLemmas

@@ -1,16 +1,20 @@
 -- The text of a run, process by process, and what becomes of a script whose scripts were run.
-use Rattle.std.proofs.Common.{◌≡◌, ℕ, zero, suc, ◌+◌, ◌-◌, ◌≤◌, ◌⊎◌, inl, inr, List, [], ◌++◌, length, slice_index_or, Option, refl, sym, ap, subst, subst₂, ◌∙◌, append_assoc, append-nil, arith}
+use Rattle.std.proofs.Common.{◌≡◌, ℕ, zero, suc, ◌+◌, ◌-◌, ◌≤◌, ◌⊎◌, inl, inr, List, [], ◌++◌, length, slice_index_or, Option, None, sym, ap, subst, subst₂, ◌∙◌, append_assoc, append-nil, arith}
 use Rattle.std.specs.Io.KnownBytes.{Appends}
 use Rattle.wall_labels.specs.Known.{AppendsFront}
 use Rattle.wall_policy.specs.Policy.{ChineseWall}
 use Rattle.run_model.specs.declared.call.Act.{Act}
 use Rattle.run_model.specs.declared.reply.Reply.{Reply}
 use Rattle.run_model.specs.Runs.{Entry}
+use Rattle.audit_book.specs.declared.fault.WriteFault.{WriteFault}
+use Rattle.audit_book.specs.declared.fault.WriteFault.TheVariants as writes
 use Rattle.hall_core.specs.Halls.{HallValue, StandsFor}
+use Rattle.hall_script.specs.Devices.{Used, used, IsUntouched}
 use Rattle.rank_run.specs.declared.waiting.TheConstants.{PATIENCE}
 use Rattle.rank_run.specs.Ran.{Ran}
 use Rattle.consortium.specs.declared.ending.Ending.{Ending}
-use Rattle.consortium.specs.Running.{rank_line, reply_lines, ranks_text, rank_text, IsScriptOf, IsNoScript, IsNoRun, Plays, Tells, AreTold, IsBreak, Ends, Reached, KeepsNothing}
+use Rattle.consortium.specs.Replaying.{IsKept, IsUnkept, no_book}
+use Rattle.consortium.specs.Running.{rank_line, reply_lines, ranks_text, rank_text, break_ending, IsScriptOf, IsNoRun, Tells, Breaks, Runs, RunEnds, Reached, FellShort}
 use Rattle.consortium.proofs.KnownLemmas.{appends_none, appends_then, front_more, front_then}
 
 -- the text of one process more
@@ -60,78 +64,70 @@ pub ranks_done : (wall : ChineseWall) (rows : List (List Reply)) (n : ℕ) (a b 
     → Appends a b (rank_text wall rows)
 ranks_done wall rows n a b e written = subst (λ m. Appends a b (ranks_text wall rows m)) e written
 
+-- in the lines of process n the writer failed, or memory ran out
+pub ranks_fell_short : {O : Type 0} (failures : O → ℕ) (contents : O → Option (List ℕ)) (wall : ChineseWall) (rows : List (List Reply)) (n p : ℕ) (given : List Reply) (a b c : O) (fault : WriteFault)
+    → p ≡ n → given ≡ slice_index_or rows n [] → n + 1 ≤ length rows → failures b ≡ failures a → Appends (contents a) (contents b) (ranks_text wall rows n)
+    → Breaks (used failures contents b c) (rank_line wall p ++ reply_lines wall given) (break_ending fault)
+    → Breaks (used failures contents a c) (ranks_text wall rows (length rows)) (break_ending fault)
+ranks_fell_short failures contents wall rows n p given a b c writes.Write is are lt same before broke =
+    (broke.0 ∙ ap (λ (m : ℕ). m + 1) same, ranks_broken wall rows n p given (contents a) (contents b) (contents c) is are lt before broke.1)
+ranks_fell_short failures contents wall rows n p given a b c writes.NoMemory is are lt same before broke =
+    (broke.0 ∙ same, ranks_broken wall rows n p given (contents a) (contents b) (contents c) is are lt before broke.1)
+
 -- ---- a run that ended before its book
 
-told : (kept none : Type 0) (text : List ℕ) (old new : ℕ) (before after : Option (List ℕ)) (ending : Ending) → AreTold ⊥ (Unit {0}) text old new before after ending → none
-    → AreTold kept none text old new before after ending
-told kept none text old new before after ending (inl a) n = absurd a.2
-told kept none text old new before after ending (inr b) n = inr (b.0, b.1, n)
+module _ {S O : Type 0} (wall : ChineseWall) (script : Used S) (out : Used O) where
+  -- the writer failed, or memory ran out, in the text
+  pub broken : (named : ChineseWall) (scripts : List (List Act)) (replies : List (List Reply)) (hall : HallValue) (fault : WriteFault) (ending : Ending)
+      → IsScriptOf wall script scripts → Ran PATIENCE wall scripts replies hall → named ≡ hall.policy → ending ≡ break_ending fault
+      → Breaks out (rank_text named replies) (break_ending fault) → FellShort wall script out ending
+  broken named scripts replies hall fault ending read ran is so breaks = inr (
+    scripts,
+    read,
+    inr (replies, hall, ran, subst₂ (λ w e. Breaks out (rank_text w replies) e) (is ∙ ran.policy) (sym so) breaks),
+  )
 
-tells : (unwritten none : Type 0) (keeps : Ending → List Entry → Type 0) (wall : ChineseWall) (scripts : List (List Act)) (old new : ℕ) (before after : Option (List ℕ)) (ending : Ending)
-    → (IsNoRun ending × unwritten × Unit {0}) ⊎ Tells KeepsNothing (Unit {0}) wall scripts old new before after ending → none
-    → (IsNoRun ending × unwritten × none) ⊎ Tells keeps none wall scripts old new before after ending
-tells unwritten none keeps wall scripts old new before after ending (inl a) n = inl (a.0, a.1, n)
-tells unwritten none keeps wall scripts old new before after ending (inr t) n = inr (record {
-  replies = t.replies;
-  hall = t.hall;
-  ran = t.ran;
-  told = told (keeps ending t.ran.run) none (rank_text wall t.replies) old new before after ending t.told n;
-})
+  short : {B : Type 0} (book : Option (Used B)) (scripts : List (List Act)) (ending : Ending) → IsUnkept book
+      → (IsNoRun ending × IsUntouched out) ⊎ ((replies : List (List Reply)) × (hall : HallValue) × Ran PATIENCE wall scripts replies hall × Breaks out (rank_text wall replies) ending)
+      → (IsNoRun ending × IsUntouched out × IsUnkept book) ⊎ Tells wall scripts out book ending
+  short book scripts ending none (inl a) = inl (a.0, a.1, none)
+  short book scripts ending none (inr a) = inr (record { replies = a.0; hall = a.1; ran = a.2; told = inr (a.3, none) })
 
--- the run ended before the book was looked at
-pub ended : (unwritten none : Type 0) (keeps : Ending → List Entry → Type 0) (wall : ChineseWall) (script_old script_new out_old out_new : ℕ) (script before after : Option (List ℕ)) (ending : Ending)
-    → Ends unwritten (Unit {0}) KeepsNothing wall script_old script_new out_old out_new script before after ending → none
-    → Ends unwritten none keeps wall script_old script_new out_old out_new script before after ending
-ended unwritten none keeps wall script_old script_new out_old out_new script before after ending (inl a) n = inl (a.0, a.1, n)
-ended unwritten none keeps wall script_old script_new out_old out_new script before after ending (inr p) n = inr (record {
-  scripts = p.scripts;
-  read = p.read;
-  went = p.went;
-  played = tells unwritten none keeps wall p.scripts out_old out_new before after ending p.played n;
-})
+  -- the run ended before the book was looked at
+  pub ended : {B : Type 0} (book : Option (Used B)) (ending : Ending) → FellShort wall script out ending → IsUnkept book → Runs wall script out book ending
+  ended book ending (inl a) none = inl (a.0, a.1, none)
+  ended book ending (inr a) none = inr (a.0, a.1, short book a.0 ending none a.2)
 
--- the text was written, and the book of each run that the hall stands for was kept so
-pub reached : (unwritten none : Type 0) (keeps : Ending → List Entry → Type 0) (wall : ChineseWall) (script_old script_new out_old out_new : ℕ) (script before after : Option (List ℕ)) (hall : HallValue) (ending : Ending)
-    → Reached wall script_old script_new out_old out_new script before after hall → ((run : List Entry) → StandsFor hall run → keeps ending run)
-    → Ends unwritten none keeps wall script_old script_new out_old out_new script before after ending
-reached unwritten none keeps wall script_old script_new out_old out_new script before after hall ending r kept = inr (record {
-  scripts = r.scripts;
-  read = r.read;
-  went = r.went;
-  played = inr (record {
-    replies = r.replies;
-    hall = hall;
-    ran = r.ran;
-    told = inl (r.same, r.written, kept r.ran.run r.ran.stands);
-  });
-})
+  -- the text was written, and the book of each run that the hall stands for was kept so
+  pub reached : {B : Type 0} (book : Option (Used B)) (hall : HallValue) (ending : Ending) → Reached wall script out hall
+      → ((run : List Entry) → StandsFor hall run → IsKept wall run book ending) → Runs wall script out book ending
+  reached book hall ending r kept = inr (
+    r.scripts,
+    r.read,
+    inr (record { replies = r.replies; hall = hall; ran = r.ran; told = inl (r.written, kept r.ran.run r.ran.stands) }),
+  )
 
--- the writer broke off, or memory ran out, in the text
-pub broken : (unwritten : Type 0) (wall named : ChineseWall) (script_old script_new out_old out_new : ℕ) (script before after : Option (List ℕ)) (scripts : List (List Act)) (replies : List (List Reply)) (hall : HallValue) (ending : Ending)
-    → IsScriptOf wall script scripts → script_new ≡ script_old → Ran PATIENCE wall scripts replies hall → named ≡ hall.policy → IsBreak out_old out_new ending
-    → AppendsFront before after (rank_text named replies) → Ends unwritten (Unit {0}) KeepsNothing wall script_old script_new out_old out_new script before after ending
-broken unwritten wall named script_old script_new out_old out_new script before after scripts replies hall ending read went ran is break front = inr (record {
-  scripts = scripts;
-  read = read;
-  went = went;
-  played = inr (record {
-    replies = replies;
-    hall = hall;
-    ran = ran;
-    told = inr (break, subst (λ w. AppendsFront before after (rank_text w replies)) (is ∙ ran.policy) front, tt);
-  });
-})
+-- ---- a run without a book, whichever kind of writer there is none of
 
--- the text was written
-pub wrote : (wall named : ChineseWall) (script_old script_new out_old out_new : ℕ) (script before after : Option (List ℕ)) (scripts : List (List Act)) (replies : List (List Reply)) (hall : HallValue)
-    → IsScriptOf wall script scripts → script_new ≡ script_old → Ran PATIENCE wall scripts replies hall → named ≡ hall.policy → out_new ≡ out_old
-    → Appends before after (rank_text named replies) → Reached wall script_old script_new out_old out_new script before after hall
-wrote wall named script_old script_new out_old out_new script before after scripts replies hall read went ran is same written = record {
-  scripts = scripts;
-  read = read;
-  went = went;
-  replies = replies;
-  ran = ran;
-  same = same;
-  written = subst (λ w. Appends before after (rank_text w replies)) (is ∙ ran.policy) written;
-}
+abbrev no_writer : (W : Type 0) → Option (Used W)
+no_writer W = None
+
+module _ {S O : Type 0} (A B : Type 0) (wall : ChineseWall) (script : Used S) (out : Used O) (ending : Ending) where
+  told_bookless : (scripts : List (List Act)) → (IsNoRun ending × IsUntouched out × IsUnkept (no_writer A)) ⊎ Tells wall scripts out (no_writer A) ending
+      → (IsNoRun ending × IsUntouched out × IsUnkept (no_writer B)) ⊎ Tells wall scripts out (no_writer B) ending
+  told_bookless scripts (inl a) = inl a
+  told_bookless scripts (inr t) = inr (record { replies = t.replies; hall = t.hall; ran = t.ran; told = t.told })
+
+  run_bookless : Runs wall script out (no_writer A) ending → Runs wall script out (no_writer B) ending
+  run_bookless (inl a) = inl a
+  run_bookless (inr a) = inr (a.0, a.1, told_bookless a.0 a.2)
+
+pub kept_nowhere : {P S O A B : Type 0} (policy : Used P) (script : Used S) (out : Used O) (ending : Ending)
+    → RunEnds {B = A} policy script out None ending → RunEnds {B = B} policy script out None ending
+kept_nowhere policy script out ending (inl a) = inl a
+kept_nowhere {A = A} {B = B} policy script out ending (inr a) = inr (a.0, a.1, run_bookless A B a.0 script out ending a.2)
+
+pub bookless : {P S O B : Type 0} (policy : Used P) (script : Used S) (out : Used O) (ending : Ending) (book : Option (Used B)) → book ≡ None
+    → RunEnds policy script out no_book ending → RunEnds policy script out book ending
+bookless {B = B} policy script out ending book is ends =
+    subst (λ b. RunEnds policy script out b ending) (sym is) (kept_nowhere {A = Unit {0}} {B = B} policy script out ending ends)

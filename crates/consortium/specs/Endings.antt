@@ -1,8 +1,7 @@
 -- How the program ends: the status and the line on standard error. (Own format.)
-use Rattle.std.specs.Prelude.{◌≡◌, ℕ, ◌+◌, ◌⊎◌, List, [], ◌++◌, codes, Option}
+use Rattle.std.specs.Prelude.{◌≡◌, ℕ, ◌⊎◌, List, [], ◌++◌, codes}
 use Rattle.std.specs.Fmt.{decimal}
-use Rattle.std.specs.Io.KnownBytes.{Appends}
-use Rattle.wall_labels.specs.Known.{AppendsFront}
+use Rattle.hall_script.specs.Devices.{Used, IsWritten, IsBegun, BrokeOff}
 use Rattle.wall_policy.specs.declared.fault.PolicyFault.{PolicyFault}
 use Rattle.wall_policy.specs.declared.fault.PolicyFault.TheVariants as policies
 use Rattle.coll_text.specs.declared.fault.LineFault.{LineFault}
@@ -58,7 +57,8 @@ numbered_line words n = words ++ (decimal n ++ codes "\n")
 abbrev pub error_line : Ending → List ℕ
 error_line Done = []
 error_line (BadPolicy fault) = codes "policy: " ++ policy_fault_text fault
-error_line (BadLine n fault) = (codes "script: line " ++ decimal n) ++ (codes ": " ++ line_fault_text fault)
+error_line (BadLine n fault) =
+    (codes "script: line " ++ decimal n) ++ (codes ": " ++ line_fault_text fault)
 error_line (BadBookLine n) = numbered_line (codes "book: line ") n
 error_line CutBook = codes "book: cut\n"
 error_line (Unsound n) = []
@@ -69,11 +69,21 @@ error_line Exhausted = codes "exhausted\n"
 error_line NoMemory = codes "out of memory\n"
 error_line BadArguments = codes "bad arguments\n"
 
--- the bytes were written, or the writer failed behind a prefix of them
-abbrev pub IsTold : (old new : ℕ) → (before after : Option (List ℕ)) → List ℕ → Type 0
-IsTold old new before after bytes = ((new ≡ old) × Appends before after bytes) ⊎ ((new ≡ old + 1) × AppendsFront before after bytes)
+-- ---- what is written
 
--- it ended so, with this status and the line on standard error
-abbrev pub EndsSo : (Ending → Type 0) → (err_old err_new : ℕ) → (before after : Option (List ℕ)) → (status : ℕ) → Type 0
-EndsSo happens err_old err_new before after status =
-    (ending : Ending) × happens ending × (status ≡ status_of ending) × IsTold err_old err_new before after (error_line ending)
+-- the line was written, or the writer failed behind a prefix of it
+abbrev pub IsTold : {E : Type 0} → Used E → List ℕ → Type 0
+IsTold err line = IsWritten err line ⊎ BrokeOff err line
+
+-- the bytes were written; or the writer failed, or memory ran out, behind a prefix of them
+abbrev pub Writes : {W : Type 0} → Used W → List ℕ → Ending → Type 0
+Writes writer bytes Done = IsWritten writer bytes
+Writes writer bytes WriteFault = BrokeOff writer bytes
+Writes writer bytes NoMemory = IsBegun writer bytes
+Writes writer bytes ending = ⊥
+
+-- it ended so, with this status, and with the ending's line on standard error
+abbrev pub EndsSo : {E : Type 0} → (Ending → Type 0) → Used E → (status : ℕ) → Type 0
+EndsSo happens err status =
+    (ending : Ending) × happens ending × (status ≡ status_of ending)
+    × IsTold err (error_line ending)

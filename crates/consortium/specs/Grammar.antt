@@ -7,6 +7,8 @@ use Rattle.consortium.specs.declared.words.RunPaths.{RunPaths}
 use Rattle.consortium.specs.declared.words.AuditPaths.{AuditPaths}
 use Rattle.consortium.specs.declared.words.Command.{Command}
 use Rattle.consortium.specs.declared.words.Command.TheVariants.{Replay, Run, Audit}
+use Rattle.consortium.specs.declared.ending.Ending.{Ending}
+use Rattle.consortium.specs.declared.ending.Ending.TheVariants as endings
 use Rattle.consortium.specs.declared.words.ArgFault.{ArgFault}
 use Rattle.consortium.specs.declared.words.ArgFault.TheVariants.{BadArguments, NoMemory}
 
@@ -19,11 +21,16 @@ optional_rule name = record (new_rule name) { long = Some name }
 
 -- NAME POLICY SCRIPT [--book FILE]
 abbrev pub script_app : Text → App
-script_app name = with_rule (with_rule (with_rule (new_app name) (required_rule (codes "policy"))) (required_rule (codes "script"))) (optional_rule (codes "book"))
+script_app name =
+    let with_policy = with_rule (new_app name) (required_rule (codes "policy")) in
+    let with_script = with_rule with_policy (required_rule (codes "script")) in
+    with_rule with_script (optional_rule (codes "book"))
 
 -- audit POLICY BOOK
 abbrev pub audit_app : App
-audit_app = with_rule (with_rule (new_app (codes "audit")) (required_rule (codes "policy"))) (required_rule (codes "book"))
+audit_app =
+    let with_policy = with_rule (new_app (codes "audit")) (required_rule (codes "policy")) in
+    with_rule with_policy (required_rule (codes "book"))
 
 -- the words after the program's name
 abbrev pub bare_app : App
@@ -33,7 +40,9 @@ bare_app =
 
 -- replay and run, with files alike
 unfoldable pub scripts_app : App
-scripts_app = with_subcommand (with_subcommand bare_app (script_app (codes "replay")).top) (script_app (codes "run")).top
+scripts_app =
+    let with_replay = with_subcommand bare_app (script_app (codes "replay")).top in
+    with_subcommand with_replay (script_app (codes "run")).top
 
 unfoldable pub program_app : App
 program_app = with_subcommand scripts_app audit_app.top
@@ -63,12 +72,14 @@ pub data Asked : Type 0 where
 
 abbrev pub replay_in : List Row → Option ReplayFiles
 replay_in rows =
-    option_and_then (λ p. option_and_then (λ s. Some (record { policy = p; script = s; book = first_of (codes "book") rows }))
+    option_and_then (λ p. option_and_then (λ s.
+    Some (record { policy = p; script = s; book = first_of (codes "book") rows }))
     (first_of (codes "script") rows)) (first_of (codes "policy") rows)
 
 abbrev pub run_in : List Row → Option RunFiles
 run_in rows =
-    option_and_then (λ p. option_and_then (λ s. Some (record { policy = p; script = s; book = first_of (codes "book") rows }))
+    option_and_then (λ p. option_and_then (λ s.
+    Some (record { policy = p; script = s; book = first_of (codes "book") rows }))
     (first_of (codes "script") rows)) (first_of (codes "policy") rows)
 
 abbrev pub audit_in : List Row → Option AuditFiles
@@ -94,13 +105,16 @@ unless_refused (k ∷ ks) said = None
 
 -- what the words ask for, where clap does not refuse them
 unfoldable pub asked : List Text → Option Asked
-asked words = unless_refused (fault_of program_app words) (command_of (subcommand_of program_app words))
+asked words =
+    unless_refused (fault_of program_app words) (command_of (subcommand_of program_app words))
 
 abbrev pub replay_files : ReplayPaths → ReplayFiles
-replay_files r = record { policy = r.policy.now; script = r.script.now; book = option_map (λ b. b.now) r.book }
+replay_files r =
+    record { policy = r.policy.now; script = r.script.now; book = option_map (λ b. b.now) r.book }
 
 abbrev pub run_files : RunPaths → RunFiles
-run_files r = record { policy = r.policy.now; script = r.script.now; book = option_map (λ b. b.now) r.book }
+run_files r =
+    record { policy = r.policy.now; script = r.script.now; book = option_map (λ b. b.now) r.book }
 
 abbrev pub audit_files : AuditPaths → AuditFiles
 audit_files r = record { policy = r.policy.now; book = r.book.now }
@@ -118,3 +132,8 @@ Refuses NoMemory said = Unit {0}
 abbrev pub SaysCommand : Result Command ArgFault → Option Asked → Type 0
 SaysCommand (Ok command) said = said ≡ Some (asked_by command)
 SaysCommand (Err fault) said = Refuses fault said
+
+-- how the program ends where its words are refused
+abbrev pub refusal_ending : ArgFault → Ending
+refusal_ending BadArguments = endings.BadArguments
+refusal_ending NoMemory = endings.NoMemory

@@ -4,3 +4,5 @@ pub mod Replaying
 pub mod Running
 pub mod Auditing
 pub mod Grammar
+pub mod Files
+pub mod Performing

@@ -1,19 +1,18 @@
--- What becomes of a policy and a script, and of the book of its run.
-use Rattle.std.specs.Prelude.{◌≡◌, ◌≢◌, ℕ, ◌+◌, ◌⊎◌, List, Option, Some, None, Result, Ok, Err}
+-- How a replay ends.
+use Rattle.std.specs.Prelude.{◌≡◌, ℕ, ◌⊎◌, List, Option, Some, None}
 use Rattle.std.proofs.Common.{inl, inr}
 use Rattle.std.specs.Borrow.{MutBor}
-use Rattle.std.specs.Io.KnownBytes.{Appends}
-use Rattle.wall_labels.specs.Known.{AppendsFront}
 use Rattle.wall_policy.specs.Policy.{ChineseWall}
 use Rattle.run_model.specs.Books.{book}
-use Rattle.audit_book.specs.Text.{book_text}
 use Rattle.run_model.specs.Runs.{Entry, posts}
+use Rattle.audit_book.specs.Text.{book_text}
 use Rattle.hall_script.specs.declared.fault.ScriptFault.{ScriptFault}
 use Rattle.hall_script.specs.declared.fault.ScriptFault.TheVariants as scripts
-use Rattle.hall_script.specs.Devices.{IsTooLong, IsWithin}
-use Rattle.hall_script.specs.Scripts.{script_limit, Replayed}
+use Rattle.hall_script.specs.Devices.{Used, used, IsUntouched}
+use Rattle.hall_script.specs.Scripts.{IsReplayed, StopsWith}
 use Rattle.consortium.specs.declared.ending.Ending.{Ending}
-use Rattle.consortium.specs.declared.ending.Ending.TheVariants.{Done, BadPolicy, BadLine, BadBookLine, CutBook, Unsound, ReadFault, WriteFault, NoThread, Exhausted, NoMemory, BadArguments}
+use Rattle.consortium.specs.declared.ending.Ending.TheVariants.{Done, BadLine, ReadFault, WriteFault, NoMemory}
+use Rattle.consortium.specs.Endings.{Writes}
 use Rattle.consortium.specs.Walls.{IsPolicyOf, IsNoPolicy}
 
 abbrev pub script_ending : ScriptFault → Ending
@@ -22,71 +21,51 @@ script_ending (scripts.Line n fault) = BadLine n fault
 script_ending scripts.Write = WriteFault
 script_ending scripts.NoMemory = NoMemory
 
--- a script that was answered to its end ends as the keeping of the book does
-abbrev pub replay_ending : Result Ending ScriptFault → Ending
-replay_ending (Ok kept) = kept
-replay_ending (Err fault) = script_ending fault
-
 -- ---- the book
 
 -- the text of the book of a run
 abbrev pub text_of : ChineseWall → List Entry → List ℕ
 text_of wall run = book_text wall (book wall (posts run))
 
--- The text of the book of the run was written; or its writer failed, or memory ran out, behind a prefix of it.
-abbrev pub Keeps : ChineseWall → (old new : ℕ) → (before after : Option (List ℕ)) → Ending → List Entry → Type 0
-Keeps wall old new before after Done run = (new ≡ old) × Appends before after (text_of wall run)
-Keeps wall old new before after WriteFault run = (new ≡ old + 1) × AppendsFront before after (text_of wall run)
-Keeps wall old new before after NoMemory run = (new ≡ old) × AppendsFront before after (text_of wall run)
-Keeps wall old new before after (BadPolicy fault) run = ⊥
-Keeps wall old new before after (BadLine n fault) run = ⊥
-Keeps wall old new before after (BadBookLine n) run = ⊥
-Keeps wall old new before after CutBook run = ⊥
-Keeps wall old new before after (Unsound n) run = ⊥
-Keeps wall old new before after ReadFault run = ⊥
-Keeps wall old new before after NoThread run = ⊥
-Keeps wall old new before after Exhausted run = ⊥
-Keeps wall old new before after BadArguments run = ⊥
-
--- no book was asked for
-abbrev pub KeepsNone : Ending → List Entry → Type 0
-KeepsNone ending run = ending ≡ Done
-
 -- what an `Option<&mut B>` is at the return
 abbrev pub Left : Type 0 → Type 0
 Left B = Unit {0} ⊎ ((MutBor B × Unit {0}) ⊎ ⊥)
 
--- the same of a writer that may be missing, as it comes in and as it is left
-module _ {B : Type 0} (failures : B → ℕ) (contents : B → Option (List ℕ)) where
-  -- the book of the run was kept, if it was asked for
-  abbrev pub KeepsIfAsked : Option (MutBor B) → Left B → ChineseWall → Ending → List Entry → Type 0
-  KeepsIfAsked (Some sink) (inr (inl left)) wall ending run = Keeps wall (failures sink.now) (failures left.0.now) (contents sink.now) (contents left.0.now) ending run
-  KeepsIfAsked (Some sink) _ wall ending run = ⊥
-  KeepsIfAsked None _ wall ending run = KeepsNone ending run
+-- a writer that may be missing
+abbrev pub perhaps : {B : Type 0} → (failures : B → ℕ) → (bytes : B → Option (List ℕ))
+    → Option (MutBor B) → Left B → Option (Used B)
+perhaps failures bytes (Some sink) (inr (inl left)) = Some (used failures bytes sink.now left.0.now)
+perhaps failures bytes sink left = None
 
--- a writer that may be missing is as it was
-abbrev pub IsUntouched : {B : Type 0} → Option (MutBor B) → Left B → Type 0
-IsUntouched (Some sink) (inr (inl left)) = left.0.now ≡ sink.now
-IsUntouched (Some sink) _ = ⊥
-IsUntouched None _ = Unit {0}
+-- no writer of a book was given
+abbrev pub no_book : Option (Used (Unit {0}))
+no_book = None
+
+-- no book was looked at
+abbrev pub IsUnkept : {B : Type 0} → Option (Used B) → Type 0
+IsUnkept None = Unit {0}
+IsUnkept (Some book) = IsUntouched book
+
+-- the book of the run was kept, where one was asked for, and it ended so
+abbrev pub IsKept : {B : Type 0} → ChineseWall → List Entry → Option (Used B) → Ending → Type 0
+IsKept wall run None ending = ending ≡ Done
+IsKept wall run (Some book) ending = Writes book (text_of wall run) ending
 
 -- ---- replays
 
--- The policy was read, and the script was replayed on it. Where it was answered to its end, the book of that very run was kept so; after a
--- fault none was.
-pub record Begins (keeps : ChineseWall → Ending → List Entry → Type 0) (unkept : Type 0) (reads_old reads_new writes_old writes_new : ℕ) (policy script before after : Option (List ℕ)) (ending : Ending) : Type 0 where
-  pub wall : ChineseWall
-  pub read : IsPolicyOf policy wall
-  pub result : Result Ending ScriptFault
-  pub replayed : Replayed (keeps wall) wall script before after result
-  pub ends : ending ≡ replay_ending result
-  pub no_book : (fault : ScriptFault) → result ≡ Err fault → unkept
-  pub read_fault : result ≡ Err scripts.Read → (reads_new ≡ reads_old + 1) ⊎ ((reads_new ≡ reads_old) × IsTooLong script_limit script)
-  pub within : result ≢ Err scripts.Read → result ≢ Err scripts.NoMemory → IsWithin script_limit script
-  pub write_fault : result ≡ Err scripts.Write → writes_new ≡ writes_old + 1
+-- How the replay of a script ends: it met a fault, and no book was kept; or all lines were
+-- answered, and the book of that very run was kept.
+abbrev pub Replays : {S O B : Type 0}
+    → ChineseWall → Used S → Used O → Option (Used B) → Ending → Type 0
+Replays wall script out book ending =
+    ((fault : ScriptFault) × StopsWith wall script out fault
+    × (ending ≡ script_ending fault) × IsUnkept book)
+    ⊎ ((run : List Entry) × IsReplayed wall script out run × IsKept wall run book ending)
 
--- how it ended: the policy was not read or refused, with all other devices untouched, or the script was replayed
-abbrev pub Happens : (untouched : Type 0) → (keeps : ChineseWall → Ending → List Entry → Type 0) → (unkept : Type 0) → (policy_old policy_new script_old script_new out_old out_new : ℕ) → (policy script before after : Option (List ℕ)) → Ending → Type 0
-Happens untouched keeps unkept policy_old policy_new script_old script_new out_old out_new policy script before after ending =
-    (IsNoPolicy policy_old policy_new policy ending × untouched × unkept)
-    ⊎ Begins keeps unkept script_old script_new out_old out_new policy script before after ending
+-- How `replay` ends: there is no policy, and no other device was touched; or its script was
+-- replayed.
+abbrev pub ReplayEnds : {P S O B : Type 0}
+    → Used P → Used S → Used O → Option (Used B) → Ending → Type 0
+ReplayEnds policy script out book ending =
+    (IsNoPolicy policy ending × IsUntouched script × IsUntouched out × IsUnkept book)
+    ⊎ ((wall : ChineseWall) × IsPolicyOf policy wall × Replays wall script out book ending)

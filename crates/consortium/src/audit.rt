@@ -1,9 +1,8 @@
 //! Audits a book under a policy, over any devices.
-ghost use Rattle.std.specs.Prelude.{◌≡◌, ◌+◌, IfOk, IfErr, OnOk, OnErr};
-ghost use Rattle.std.specs.Io.KnownBytes.{Appends};
-ghost use Rattle.wall_labels.specs.Known.{AppendsFront};
+ghost use Rattle.std.specs.Prelude.{◌≡◌, IfOk, IfErr, OnOk, OnErr};
+ghost use Rattle.hall_script.specs.Devices.{used, IsWritten, BrokeOff};
 ghost use Rattle.consortium.specs.Endings.{EndsSo};
-ghost use Rattle.consortium.specs.Auditing.{text_ending, finding_ending, finding_line, IsBookOf, IsNoBook, IsFound, IsWritten, Audits, Happens};
+ghost use Rattle.consortium.specs.Auditing.{text_ending, finding_ending, finding_line, IsBookOf, IsNoBook, IsFound, Announces, Audits, AuditEnds};
 
 use crate::ending::{Ending, end, write_numbered};
 use crate::wall::read_wall;
@@ -44,9 +43,10 @@ fn finding_ending(finding: Finding) -> Ending
 
 // Reads a book whole.
 fn read_entries<B: Source>(alloc: Global, wall: &Policy, source: &mut B) -> Result<Book, Ending>
-    ensures went { OnOk result (B.failures source.new ≡ B.failures source.old) }
-    ensures book { IfOk result (λ book. IsBookOf wall.now (B.remaining source.old) book.list) }
-    ensures ending { IfErr result (IsNoBook wall.now (B.failures source.old) (B.failures source.new) (B.remaining source.old)) }
+    ensures book { let device = used B.failures B.remaining source.old source.new in
+        IfOk result (λ book. IsBookOf wall.now device book.list) }
+    ensures ending { let device = used B.failures B.remaining source.old source.new in
+        IfErr result (IsNoBook wall.now device) }
 {
     match read_device(alloc, source, BOOK_LIMIT) {
         Ok(bytes) => match read_book(alloc, wall, &bytes) {
@@ -71,10 +71,10 @@ fn judge(alloc: Global, wall: &Policy, book: &Book) -> Result<Finding, NoMemory>
 
 // Writes the finding's line.
 fn write_finding<O: Sink>(out: &mut O, finding: Finding) -> Result<(), Failed>
-    ensures went { OnOk result (O.failures out.new ≡ O.failures out.old) }
-    ensures failed { OnErr result (O.failures out.new ≡ O.failures out.old + 1) }
-    ensures written { OnOk result (Appends (O.contents out.old) (O.contents out.new) (finding_line finding)) }
-    ensures front { OnErr result (AppendsFront (O.contents out.old) (O.contents out.new) (finding_line finding)) }
+    ensures written { let device = used O.failures O.contents out.old out.new in
+        OnOk result (IsWritten device (finding_line finding)) }
+    ensures broken { let device = used O.failures O.contents out.old out.new in
+        OnErr result (BrokeOff device (finding_line finding)) }
 {
     match finding {
         Finding::Sound(number) => write_numbered(out, b"sound ", number),
@@ -84,7 +84,7 @@ fn write_finding<O: Sink>(out: &mut O, finding: Finding) -> Result<(), Failed>
 
 // Tells the finding.
 fn tell<O: Sink>(out: &mut O, finding: Finding) -> Ending
-    ensures { IsWritten finding (O.failures out.old) (O.failures out.new) (O.contents out.old) (O.contents out.new) result }
+    ensures { Announces finding (used O.failures O.contents out.old out.new) result }
 {
     match write_finding(out, finding) {
         Ok(()) => finding_ending(finding),
@@ -99,15 +99,18 @@ fn audit_under<B: Source, O: Sink>(
     book: &mut B,
     out: &mut O,
 ) -> Ending
-    ensures { Audits (out.new ≡ out.old) wall.now
-        (B.failures book.old) (B.failures book.new) (O.failures out.old) (O.failures out.new)
-        (B.remaining book.old) (O.contents out.old) (O.contents out.new) result }
+    ensures { Audits wall.now
+        (used B.failures B.remaining book.old book.new)
+        (used O.failures O.contents out.old out.new)
+        result }
 {
     let entries = match read_entries(alloc, wall, book) {
         Ok(entries) => entries,
         Err(ending) => return ending,
     };
-    match judge(alloc, wall, &entries) {
+    let judged = judge(alloc, wall, &entries);
+    drop(entries);
+    match judged {
         Ok(finding) => tell(out, finding),
         Err(_) => Ending::NoMemory,
     }
@@ -120,15 +123,19 @@ fn audit_devices<P: Source, B: Source, O: Sink>(
     book: &mut B,
     out: &mut O,
 ) -> Ending
-    ensures { Happens ((book.new ≡ book.old) × (out.new ≡ out.old)) (out.new ≡ out.old)
-        (P.failures policy.old) (P.failures policy.new) (B.failures book.old) (B.failures book.new) (O.failures out.old) (O.failures out.new)
-        (P.remaining policy.old) (B.remaining book.old) (O.contents out.old) (O.contents out.new) result }
+    ensures { AuditEnds
+        (used P.failures P.remaining policy.old policy.new)
+        (used B.failures B.remaining book.old book.new)
+        (used O.failures O.contents out.old out.new)
+        result }
 {
     let wall = match read_wall(alloc, policy) {
         Ok(wall) => wall,
         Err(ending) => return ending,
     };
-    audit_under(alloc, &wall, book, out)
+    let ending = audit_under(alloc, &wall, book, out);
+    drop(wall);
+    ending
 }
 
 /// Reads the policy and a book, checks that the book is what its posts give under the policy, and writes `sound N`, with the number of its
@@ -143,10 +150,13 @@ pub fn audit_on<P: Source, B: Source, O: Sink, E: Sink>(
     out: &mut O,
     err: &mut E,
 ) -> u8
-    ensures { EndsSo (Happens ((book.new ≡ book.old) × (out.new ≡ out.old)) (out.new ≡ out.old)
-        (P.failures policy.old) (P.failures policy.new) (B.failures book.old) (B.failures book.new) (O.failures out.old) (O.failures out.new)
-        (P.remaining policy.old) (B.remaining book.old) (O.contents out.old) (O.contents out.new))
-        (E.failures err.old) (E.failures err.new) (E.contents err.old) (E.contents err.new) result }
+    ensures { EndsSo
+        (AuditEnds
+        (used P.failures P.remaining policy.old policy.new)
+        (used B.failures B.remaining book.old book.new)
+        (used O.failures O.contents out.old out.new))
+        (used E.failures E.contents err.old err.new)
+        result }
 {
     let ending = audit_devices(alloc, policy, book, out);
     end(err, ending)

@@ -1,5 +1,7 @@
 //! Devices over std's files and streams, with a count of failures that takes no bytes.
-ghost use Rattle.std.specs.Prelude.{◌≡◌, ◌+◌, ◌<◌, ◌≤◌, length, IfOk, OnOk, OnErr, Ok};
+ghost use Rattle.std.specs.Prelude.{◌≡◌, ℕ, ◌+◌, ◌<◌, ◌≤◌, List, Option, length, IsSome, IfOk, OnOk, OnErr, Ok};
+ghost use Rattle.std.specs.Io.KnownBytes.{ReadConsumes, WriteAppends};
+ghost use Rattle.consortium.specs.Files.{bytes_of};
 
 use std::fs::File;
 use std::io;
@@ -46,7 +48,7 @@ impl<L: Ledger> Count<L> {
     }
 }
 
-/// A file that is opened at its first read.
+/// A file that is opened at its first read, and never again. A file that is missing is a read that failed.
 #[derive(Drop)]
 pub struct FileSource<'a, R: Files, L: Ledger> {
     pub rt: &'a R,
@@ -62,21 +64,38 @@ fn read_opened<R: Files>(
     file: &mut Option<R::File>,
     buffer: &mut [u8],
 ) -> io::Result<usize>
-    ensures { IfOk result (λ n. n ≤ length buffer.new) }
+    ensures within { IfOk result (λ n. n ≤ length buffer.new) }
+    ensures opened { OnOk result (IsSome file.new) }
+    ensures bytes { let left = bytes_of R.File.remaining in
+        ReadConsumes (left file.old) (left file.new) result buffer.new }
 {
-    if file.is_none() {
-        *file = Some(File::open(rt, path)?);
-    }
     match file {
         Some(opened) => opened.read(buffer),
-        None => Ok(0),
+        None => {
+            let mut opened = File::open(rt, path)?;
+            let outcome = opened.read(buffer);
+            *file = Some(opened);
+            outcome
+        }
     }
 }
 
 impl<'a, R: Files, L: Ledger> Source for FileSource<'a, R, L> {
+    ghost use Rattle.consortium.specs.Files.{bytes_of};
+
     ghost failures = { λ s. s.failures };
 
-    fn read(&mut self, buffer: &mut [u8]) -> Result<usize, Failed> {
+    ghost remaining = { λ s. bytes_of R.File.remaining s.file };
+
+    fn read(&mut self, buffer: &mut [u8]) -> Result<usize, Failed>
+        ensures within { IfOk result (λ n. n ≤ length buffer.new) }
+        ensures went { OnOk result (self.new.failures ≡ self.old.failures) }
+        ensures failed { OnErr result (self.new.failures ≡ self.old.failures + 1) }
+        ensures bytes { let left = bytes_of R.File.remaining in
+            ReadConsumes (left self.old.file) (left self.new.file) result buffer.new }
+        ensures opened { OnOk result (IsSome self.new.file) }
+        ensures path { self.new.path ≡ self.old.path }
+    {
         match read_opened(self.rt, self.path, &mut self.file, buffer) {
             Ok(n) => Ok(n),
             Err(_) => {
@@ -92,6 +111,8 @@ fn counted<L: Ledger>(outcome: io::Result<usize>, failures: &mut Count<L>) -> Re
     ensures went { OnOk result (failures.new ≡ failures.old) }
     ensures failed { OnErr result (failures.new ≡ failures.old + 1) }
     ensures some { IfOk result (λ n. 0 < n) }
+    ensures bytes { (old : Option (List ℕ)) → (new : Option (List ℕ)) → (given : List ℕ) →
+        WriteAppends old new outcome given → WriteAppends old new result given }
     ensures same { IfOk result (λ n. outcome ≡ Ok n) }
 {
     match outcome {
@@ -109,7 +130,7 @@ fn counted<L: Ledger>(outcome: io::Result<usize>, failures: &mut Count<L>) -> Re
     }
 }
 
-/// A file that is made at its first write, in place of one that was there.
+/// A file that is made at its first write, in place of one that was there, and never again.
 #[derive(Drop)]
 pub struct FileSink<'a, R: Files, L: Ledger> {
     pub rt: &'a R,
@@ -125,21 +146,39 @@ fn write_made<R: Files>(
     file: &mut Option<R::File>,
     bytes: &[u8],
 ) -> io::Result<usize>
-    ensures { IfOk result (λ n. n ≤ length bytes.now) }
+    ensures within { IfOk result (λ n. n ≤ length bytes.now) }
+    ensures made { OnOk result (IsSome file.new) }
+    ensures bytes { let held = bytes_of R.File.contents in
+        WriteAppends (held file.old) (held file.new) result bytes.now }
 {
-    if file.is_none() {
-        *file = Some(File::create(rt, path)?);
-    }
     match file {
         Some(made) => made.write(bytes),
-        None => Ok(0),
+        None => {
+            let mut made = File::create(rt, path)?;
+            let outcome = made.write(bytes);
+            *file = Some(made);
+            outcome
+        }
     }
 }
 
 impl<'a, R: Files, L: Ledger> Sink for FileSink<'a, R, L> {
+    ghost use Rattle.consortium.specs.Files.{bytes_of};
+
     ghost failures = { λ s. s.failures };
 
-    fn write(&mut self, bytes: &[u8]) -> Result<usize, Failed> {
+    ghost contents = { λ s. bytes_of R.File.contents s.file };
+
+    fn write(&mut self, bytes: &[u8]) -> Result<usize, Failed>
+        ensures within { IfOk result (λ n. n ≤ length bytes.now) }
+        ensures some { IfOk result (λ n. 0 < length bytes.now → 0 < n) }
+        ensures went { OnOk result (self.new.failures ≡ self.old.failures) }
+        ensures failed { OnErr result (self.new.failures ≡ self.old.failures + 1) }
+        ensures bytes { let held = bytes_of R.File.contents in
+            WriteAppends (held self.old.file) (held self.new.file) result bytes.now }
+        ensures made { OnOk result (0 < length bytes.now → IsSome self.new.file) }
+        ensures path { self.new.path ≡ self.old.path }
+    {
         if bytes.is_empty() {
             return Ok(0);
         }
@@ -157,6 +196,8 @@ pub struct StreamSink<W: io::Write + Drop, L: Ledger> {
 
 impl<W: io::Write + Drop, L: Ledger> Sink for StreamSink<W, L> {
     ghost failures = { λ s. s.failures };
+
+    ghost contents = { λ s. W.contents s.stream };
 
     fn write(&mut self, bytes: &[u8]) -> Result<usize, Failed> {
         if bytes.is_empty() {

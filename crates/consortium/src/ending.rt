@@ -1,7 +1,6 @@
 //! How the program ends: its status, and its line on standard error. (Own format.)
-ghost use Rattle.std.specs.Prelude.{◌≡◌, ◌+◌, ◌++◌, OnOk, OnErr, decimal};
-ghost use Rattle.std.specs.Io.KnownBytes.{Appends};
-ghost use Rattle.wall_labels.specs.Known.{AppendsFront};
+ghost use Rattle.std.specs.Prelude.{◌≡◌, ◌++◌, OnOk, OnErr};
+ghost use Rattle.hall_script.specs.Devices.{used, IsWritten, BrokeOff};
 ghost use Rattle.consortium.specs.Endings.{status_of, error_line, numbered_line, policy_fault_text, line_fault_text, IsTold};
 
 use coll_text::LineFault;
@@ -92,10 +91,10 @@ fn line_fault(fault: LineFault) -> &'static str
 
 // Writes one after the other.
 fn write_two<W: Sink>(sink: &mut W, first: &[u8], second: &[u8]) -> Result<(), Failed>
-    ensures went { OnOk result (W.failures sink.new ≡ W.failures sink.old) }
-    ensures failed { OnErr result (W.failures sink.new ≡ W.failures sink.old + 1) }
-    ensures written { OnOk result (Appends (W.contents sink.old) (W.contents sink.new) (first.now ++ second.now)) }
-    ensures front { OnErr result (AppendsFront (W.contents sink.old) (W.contents sink.new) (first.now ++ second.now)) }
+    ensures written { let device = used W.failures W.contents sink.old sink.new in
+        OnOk result (IsWritten device (first.now ++ second.now)) }
+    ensures broken { let device = used W.failures W.contents sink.old sink.new in
+        OnErr result (BrokeOff device (first.now ++ second.now)) }
 {
     match write_all(sink, first) {
         Ok(()) => match write_all(sink, second) {
@@ -108,10 +107,10 @@ fn write_two<W: Sink>(sink: &mut W, first: &[u8], second: &[u8]) -> Result<(), F
 
 // Writes the words, the number and the end of the line.
 pub(crate) fn write_numbered<W: Sink>(sink: &mut W, words: &[u8], number: u64) -> Result<(), Failed>
-    ensures went { OnOk result (W.failures sink.new ≡ W.failures sink.old) }
-    ensures failed { OnErr result (W.failures sink.new ≡ W.failures sink.old + 1) }
-    ensures written { OnOk result (Appends (W.contents sink.old) (W.contents sink.new) (numbered_line words.now number)) }
-    ensures front { OnErr result (AppendsFront (W.contents sink.old) (W.contents sink.new) (numbered_line words.now number)) }
+    ensures written { let device = used W.failures W.contents sink.old sink.new in
+        OnOk result (IsWritten device (numbered_line words.now number)) }
+    ensures broken { let device = used W.failures W.contents sink.old sink.new in
+        OnErr result (BrokeOff device (numbered_line words.now number)) }
 {
     let mut buffer = itoa::Buffer::new();
     let digits = buffer.format(number);
@@ -126,10 +125,10 @@ pub(crate) fn write_numbered<W: Sink>(sink: &mut W, words: &[u8], number: u64) -
 
 // Writes `script: line N: NAME`.
 fn write_bad_line<W: Sink>(sink: &mut W, number: u64, fault: LineFault) -> Result<(), Failed>
-    ensures went { OnOk result (W.failures sink.new ≡ W.failures sink.old) }
-    ensures failed { OnErr result (W.failures sink.new ≡ W.failures sink.old + 1) }
-    ensures written { OnOk result (Appends (W.contents sink.old) (W.contents sink.new) (error_line (Ending.BadLine number fault))) }
-    ensures front { OnErr result (AppendsFront (W.contents sink.old) (W.contents sink.new) (error_line (Ending.BadLine number fault))) }
+    ensures written { let device = used W.failures W.contents sink.old sink.new in
+        OnOk result (IsWritten device (error_line (Ending.BadLine number fault))) }
+    ensures broken { let device = used W.failures W.contents sink.old sink.new in
+        OnErr result (BrokeOff device (error_line (Ending.BadLine number fault))) }
 {
     let mut buffer = itoa::Buffer::new();
     let digits = buffer.format(number);
@@ -144,10 +143,10 @@ fn write_bad_line<W: Sink>(sink: &mut W, number: u64, fault: LineFault) -> Resul
 
 // Writes the ending's line, if it has one.
 fn write_ending<W: Sink>(sink: &mut W, ending: Ending) -> Result<(), Failed>
-    ensures went { OnOk result (W.failures sink.new ≡ W.failures sink.old) }
-    ensures failed { OnErr result (W.failures sink.new ≡ W.failures sink.old + 1) }
-    ensures written { OnOk result (Appends (W.contents sink.old) (W.contents sink.new) (error_line ending)) }
-    ensures front { OnErr result (AppendsFront (W.contents sink.old) (W.contents sink.new) (error_line ending)) }
+    ensures written { let device = used W.failures W.contents sink.old sink.new in
+        OnOk result (IsWritten device (error_line ending)) }
+    ensures broken { let device = used W.failures W.contents sink.old sink.new in
+        OnErr result (BrokeOff device (error_line ending)) }
 {
     match ending {
         Ending::Done | Ending::Unsound(_) => Ok(()),
@@ -167,7 +166,7 @@ fn write_ending<W: Sink>(sink: &mut W, ending: Ending) -> Result<(), Failed>
 /// Writes the ending's line, if it has one, and gives the status. A writer that fails changes nothing of that.
 pub fn end<W: Sink>(err: &mut W, ending: Ending) -> u8
     ensures status { result ≡ status_of ending }
-    ensures told { IsTold (W.failures err.old) (W.failures err.new) (W.contents err.old) (W.contents err.new) (error_line ending) }
+    ensures told { IsTold (used W.failures W.contents err.old err.new) (error_line ending) }
 {
     match write_ending(err, ending) {
         Ok(()) => status(ending),

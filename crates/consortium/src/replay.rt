@@ -1,9 +1,10 @@
 //! Replays a script on a policy, over any devices.
-ghost use Rattle.std.specs.Prelude.{◌≡◌, List};
+ghost use Rattle.std.specs.Prelude.{◌≡◌, Some, List};
 ghost use Rattle.run_model.specs.Runs.{Entry};
 ghost use Rattle.hall_core.specs.Halls.{StandsFor};
-ghost use Rattle.consortium.specs.Endings.{EndsSo};
-ghost use Rattle.consortium.specs.Replaying.{script_ending, Keeps, KeepsNone, KeepsIfAsked, IsUntouched, Happens};
+ghost use Rattle.consortium.specs.Endings.{Writes, EndsSo};
+ghost use Rattle.hall_script.specs.Devices.{used};
+ghost use Rattle.consortium.specs.Replaying.{script_ending, text_of, perhaps, no_book, ReplayEnds};
 
 use crate::ending::{Ending, end};
 use crate::wall::read_wall;
@@ -26,8 +27,8 @@ pub(crate) fn script_ending(fault: ScriptFault) -> Ending
 
 // Writes the hall's book.
 pub(crate) fn keep<B: Sink>(alloc: Global, hall: &Hall, book: &mut B) -> Ending
-    ensures { (run : List Entry) → StandsFor hall.now run →
-        Keeps hall.now.policy (B.failures book.old) (B.failures book.new) (B.contents book.old) (B.contents book.new) result run }
+    ensures { (run : List Entry) → StandsFor hall.now run → Writes
+        (used B.failures B.contents book.old book.new) (text_of hall.now.policy run) result }
 {
     match write_book(alloc, hall.policy(), hall.book(), book) {
         Ok(()) => Ending::Done,
@@ -43,16 +44,19 @@ fn replay_devices<P: Source, S: Source, O: Sink>(
     script: &mut S,
     out: &mut O,
 ) -> Ending
-    ensures { Happens ((script.new ≡ script.old) × (out.new ≡ out.old)) (λ _. KeepsNone) (Unit {0})
-        (P.failures policy.old) (P.failures policy.new) (S.failures script.old) (S.failures script.new) (O.failures out.old) (O.failures out.new)
-        (P.remaining policy.old) (S.remaining script.old) (O.contents out.old) (O.contents out.new) result }
+    ensures { ReplayEnds
+        (used P.failures P.remaining policy.old policy.new)
+        (used S.failures S.remaining script.old script.new)
+        (used O.failures O.contents out.old out.new)
+        no_book
+        result }
 {
     let wall = match read_wall(alloc, policy) {
         Ok(wall) => wall,
         Err(ending) => return ending,
     };
     match replay(alloc, wall, script, out) {
-        Ok(_) => {}
+        Ok(hall) => drop(hall),
         Err(fault) => return script_ending(fault),
     }
     Ending::Done
@@ -66,10 +70,12 @@ fn replay_keeping<P: Source, S: Source, O: Sink, B: Sink>(
     out: &mut O,
     book: &mut B,
 ) -> Ending
-    ensures { Happens ((script.new ≡ script.old) × (out.new ≡ out.old))
-        (λ wall. Keeps wall (B.failures book.old) (B.failures book.new) (B.contents book.old) (B.contents book.new)) (book.new ≡ book.old)
-        (P.failures policy.old) (P.failures policy.new) (S.failures script.old) (S.failures script.new) (O.failures out.old) (O.failures out.new)
-        (P.remaining policy.old) (S.remaining script.old) (O.contents out.old) (O.contents out.new) result }
+    ensures { ReplayEnds
+        (used P.failures P.remaining policy.old policy.new)
+        (used S.failures S.remaining script.old script.new)
+        (used O.failures O.contents out.old out.new)
+        (Some (used B.failures B.contents book.old book.new))
+        result }
 {
     let wall = match read_wall(alloc, policy) {
         Ok(wall) => wall,
@@ -79,7 +85,9 @@ fn replay_keeping<P: Source, S: Source, O: Sink, B: Sink>(
         Ok(hall) => hall,
         Err(fault) => return script_ending(fault),
     };
-    keep(alloc, &hall, book)
+    let ending = keep(alloc, &hall, book);
+    drop(hall);
+    ending
 }
 
 /// Reads the policy, replays the script on it, writes the replies to `out` and the line of a fault to `err`, and gives the status. Where
@@ -94,11 +102,14 @@ pub fn replay_on<P: Source, S: Source, O: Sink, E: Sink, B: Sink>(
     err: &mut E,
     book: Option<&mut B>,
 ) -> u8
-    ensures { EndsSo (Happens ((script.new ≡ script.old) × (out.new ≡ out.old))
-        (KeepsIfAsked B.failures B.contents book.entry book.exit) (IsUntouched book.entry book.exit)
-        (P.failures policy.old) (P.failures policy.new) (S.failures script.old) (S.failures script.new) (O.failures out.old) (O.failures out.new)
-        (P.remaining policy.old) (S.remaining script.old) (O.contents out.old) (O.contents out.new))
-        (E.failures err.old) (E.failures err.new) (E.contents err.old) (E.contents err.new) result }
+    ensures { EndsSo
+        (ReplayEnds
+        (used P.failures P.remaining policy.old policy.new)
+        (used S.failures S.remaining script.old script.new)
+        (used O.failures O.contents out.old out.new)
+        (perhaps B.failures B.contents book.entry book.exit))
+        (used E.failures E.contents err.old err.new)
+        result }
 {
     match book {
         Some(book) => {

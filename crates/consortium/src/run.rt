@@ -1,17 +1,15 @@
 //! Runs the calls of a script, each process's in a thread of its own, over any devices.
-ghost use Rattle.std.specs.Prelude.{◌≡◌, ◌≢◌, ℕ, ◌<◌, ◌++◌, IfOk, IfErr, OnOk, OnErr, length, codes, decimal, string_bytes};
+ghost use Rattle.std.specs.Prelude.{◌≡◌, ◌≢◌, ◌<◌, ◌++◌, Some, IfOk, IfErr, OnOk, OnErr, length, codes, decimal, string_bytes};
 ghost use Rattle.std.specs.List.{All};
-ghost use Rattle.std.specs.Io.KnownBytes.{Appends};
-ghost use Rattle.wall_labels.specs.Known.{AppendsFront};
 ghost use Rattle.run_model.specs.Comms.{processes};
-ghost use Rattle.audit_book.specs.Writing.{IsWriteFault};
 ghost use Rattle.run_model.specs.Known.{IsKnownReply, ScriptsHaveKnownLabels};
 ghost use Rattle.rank_run.specs.declared.fault.RunFault.TheVariants.{BadScripts};
 ghost use Rattle.rank_run.specs.declared.waiting.TheConstants.{PATIENCE};
 ghost use Rattle.rank_run.specs.Ran.{Ran};
 ghost use Rattle.consortium.specs.Endings.{EndsSo};
-ghost use Rattle.consortium.specs.Replaying.{Keeps, KeepsNone, KeepsIfAsked, IsUntouched};
-ghost use Rattle.consortium.specs.Running.{rank_line, reply_lines, rank_text, IsScriptOf, IsNoScript, IsRunEnding, IsNoRun, IsBreak, Ends, Happens, Reached, KeepsNothing};
+ghost use Rattle.hall_script.specs.Devices.{used, IsWritten};
+ghost use Rattle.consortium.specs.Replaying.{perhaps, no_book};
+ghost use Rattle.consortium.specs.Running.{rank_line, reply_lines, rank_text, IsScriptOf, IsNoScript, IsRunEnding, IsNoRun, break_ending, Breaks, FellShort, Reached, RunEnds};
 
 use crate::ending::{Ending, end};
 use crate::replay::{keep, script_ending};
@@ -28,10 +26,11 @@ use wall_policy::Policy;
 
 // Reads a script whole, and gives each process its acts.
 fn read_scripts<S: Source>(alloc: Global, wall: &Policy, source: &mut S) -> Result<Scripts, Ending>
-    ensures went { OnOk result (S.failures source.new ≡ S.failures source.old) }
-    ensures scripts { IfOk result (IsScriptOf wall.now (S.remaining source.old)) }
+    ensures scripts { let device = used S.failures S.remaining source.old source.new in
+        IfOk result (IsScriptOf wall.now device) }
     ensures named { IfOk result (ScriptsHaveKnownLabels wall.now) }
-    ensures ending { IfErr result (IsNoScript wall.now (S.failures source.old) (S.failures source.new) (S.remaining source.old)) }
+    ensures ending { let device = used S.failures S.remaining source.old source.new in
+        IfErr result (IsNoScript wall.now device) }
 {
     match read_device(alloc, source, SCRIPT_LIMIT) {
         Ok(bytes) => match split_script(alloc, wall, &bytes) {
@@ -75,7 +74,8 @@ fn run_scripts<R: Threads + Wait + Sync>(
 
 // Puts the line of a process.
 fn put_line(line: &mut String, number: u32, name: &str) -> Result<(), AllocError>
-    ensures { OnOk result (string_bytes line.new ≡ string_bytes line.old ++ (codes "rank " ++ decimal number ++ codes " " ++ name.now ++ codes "\n")) }
+    ensures { OnOk result (string_bytes line.new ≡ string_bytes line.old
+        ++ (codes "rank " ++ decimal number ++ codes " " ++ name.now ++ codes "\n")) }
 {
     write!(line, "rank {number} {name}\n")
 }
@@ -116,7 +116,8 @@ fn process_text(
 ) -> Result<Vec<u8>, NoMemory>
     requires process { process < processes wall.now }
     requires named { All (IsKnownReply wall.now) replies.now }
-    ensures { IfOk result (λ text. text.items ≡ rank_line wall.now process ++ reply_lines wall.now replies.now) }
+    ensures { IfOk result (λ text.
+        text.items ≡ rank_line wall.now process ++ reply_lines wall.now replies.now) }
 {
     let mut text = Vec::new(alloc);
     put_rank(alloc, wall, process, &mut text)?;
@@ -134,10 +135,12 @@ fn write_process<O: Sink>(
 ) -> Result<(), WriteFault>
     requires process { process < processes wall.now }
     requires named { All (IsKnownReply wall.now) replies.now }
-    ensures went { OnOk result (O.failures out.new ≡ O.failures out.old) }
-    ensures fault { IfErr result (λ fault. IsWriteFault fault (O.failures out.old) (O.failures out.new)) }
-    ensures written { OnOk result (Appends (O.contents out.old) (O.contents out.new) (rank_line wall.now process ++ reply_lines wall.now replies.now)) }
-    ensures front { OnErr result (AppendsFront (O.contents out.old) (O.contents out.new) (rank_line wall.now process ++ reply_lines wall.now replies.now)) }
+    ensures written { let device = used O.failures O.contents out.old out.new in
+        let lines = rank_line wall.now process ++ reply_lines wall.now replies.now in
+        OnOk result (IsWritten device lines) }
+    ensures broken { let device = used O.failures O.contents out.old out.new in
+        let lines = rank_line wall.now process ++ reply_lines wall.now replies.now in
+        IfErr result (λ fault. Breaks device lines (break_ending fault)) }
 {
     let text = match process_text(alloc, wall, process, replies) {
         Ok(text) => text,
@@ -158,10 +161,11 @@ fn write_ranks<O: Sink>(
 ) -> Result<(), WriteFault>
     requires long { length replies.now ≡ processes wall.now }
     requires named { All (All (IsKnownReply wall.now)) replies.now }
-    ensures went { OnOk result (O.failures out.new ≡ O.failures out.old) }
-    ensures fault { IfErr result (λ fault. IsWriteFault fault (O.failures out.old) (O.failures out.new)) }
-    ensures written { OnOk result (Appends (O.contents out.old) (O.contents out.new) (rank_text wall.now replies.now)) }
-    ensures front { OnErr result (AppendsFront (O.contents out.old) (O.contents out.new) (rank_text wall.now replies.now)) }
+    ensures written { let device = used O.failures O.contents out.old out.new in
+        OnOk result (IsWritten device (rank_text wall.now replies.now)) }
+    ensures broken { let device = used O.failures O.contents out.old out.new in
+        let text = rank_text wall.now replies.now in
+        IfErr result (λ fault. Breaks device text (break_ending fault)) }
 {
     for number in 0..wall.processes() {
         let Some(process) = ProcessId::new(number) else {
@@ -176,7 +180,7 @@ fn write_ranks<O: Sink>(
 }
 
 fn break_ending(fault: WriteFault) -> Ending
-    ensures { (old : ℕ) → (new : ℕ) → IsWriteFault fault old new → IsBreak old new result }
+    ensures { result ≡ break_ending fault }
 {
     match fault {
         WriteFault::Write => Ending::WriteFault,
@@ -192,25 +196,33 @@ fn play<R: Threads + Wait + Sync, S: Source, O: Sink>(
     script: &mut S,
     out: &mut O,
 ) -> Result<Hall, Ending>
-    ensures reached { IfOk result (λ hall. Reached wall
-        (S.failures script.old) (S.failures script.new) (O.failures out.old) (O.failures out.new)
-        (S.remaining script.old) (O.contents out.old) (O.contents out.new) hall) }
-    ensures ended { IfErr result (λ ending. Ends (out.new ≡ out.old) (Unit {0}) KeepsNothing wall
-        (S.failures script.old) (S.failures script.new) (O.failures out.old) (O.failures out.new)
-        (S.remaining script.old) (O.contents out.old) (O.contents out.new) ending) }
+    ensures reached { let script = used S.failures S.remaining script.old script.new in
+        let out = used O.failures O.contents out.old out.new in
+        IfOk result (Reached wall script out) }
+    ensures ended { let script = used S.failures S.remaining script.old script.new in
+        let out = used O.failures O.contents out.old out.new in
+        IfErr result (FellShort wall script out) }
 {
     let scripts = match read_scripts(alloc, &wall, script) {
         Ok(scripts) => scripts,
-        Err(ending) => return Err(ending),
+        Err(ending) => {
+            drop(wall);
+            return Err(ending);
+        }
     };
     let run = match run_scripts(rt, alloc, wall, scripts) {
         Ok(run) => run,
         Err(ending) => return Err(ending),
     };
     let Run { replies, hall } = run;
-    match write_ranks(alloc, hall.policy(), &replies, out) {
+    let written = write_ranks(alloc, hall.policy(), &replies, out);
+    drop(replies);
+    match written {
         Ok(()) => Ok(hall),
-        Err(fault) => Err(break_ending(fault)),
+        Err(fault) => {
+            drop(hall);
+            Err(break_ending(fault))
+        }
     }
 }
 
@@ -222,16 +234,19 @@ fn run_devices<R: Threads + Wait + Sync, P: Source, S: Source, O: Sink>(
     script: &mut S,
     out: &mut O,
 ) -> Ending
-    ensures { Happens ((script.new ≡ script.old) × (out.new ≡ out.old)) (out.new ≡ out.old) (Unit {0}) (λ _. KeepsNone)
-        (P.failures policy.old) (P.failures policy.new) (S.failures script.old) (S.failures script.new) (O.failures out.old) (O.failures out.new)
-        (P.remaining policy.old) (S.remaining script.old) (O.contents out.old) (O.contents out.new) result }
+    ensures { RunEnds
+        (used P.failures P.remaining policy.old policy.new)
+        (used S.failures S.remaining script.old script.new)
+        (used O.failures O.contents out.old out.new)
+        no_book
+        result }
 {
     let wall = match read_wall(alloc, policy) {
         Ok(wall) => wall,
         Err(ending) => return ending,
     };
     match play(rt, alloc, wall, script, out) {
-        Ok(_) => {}
+        Ok(hall) => drop(hall),
         Err(ending) => return ending,
     }
     Ending::Done
@@ -246,10 +261,12 @@ fn run_keeping<R: Threads + Wait + Sync, P: Source, S: Source, O: Sink, B: Sink>
     out: &mut O,
     book: &mut B,
 ) -> Ending
-    ensures { Happens ((script.new ≡ script.old) × (out.new ≡ out.old)) (out.new ≡ out.old) (book.new ≡ book.old)
-        (λ wall. Keeps wall (B.failures book.old) (B.failures book.new) (B.contents book.old) (B.contents book.new))
-        (P.failures policy.old) (P.failures policy.new) (S.failures script.old) (S.failures script.new) (O.failures out.old) (O.failures out.new)
-        (P.remaining policy.old) (S.remaining script.old) (O.contents out.old) (O.contents out.new) result }
+    ensures { RunEnds
+        (used P.failures P.remaining policy.old policy.new)
+        (used S.failures S.remaining script.old script.new)
+        (used O.failures O.contents out.old out.new)
+        (Some (used B.failures B.contents book.old book.new))
+        result }
 {
     let wall = match read_wall(alloc, policy) {
         Ok(wall) => wall,
@@ -259,7 +276,9 @@ fn run_keeping<R: Threads + Wait + Sync, P: Source, S: Source, O: Sink, B: Sink>
         Ok(hall) => hall,
         Err(ending) => return ending,
     };
-    keep(alloc, &hall, book)
+    let ending = keep(alloc, &hall, book);
+    drop(hall);
+    ending
 }
 
 /// Reads the policy and the script, runs the calls of each process in a thread of its own, all at the same time, and writes to `out` for each
@@ -278,11 +297,14 @@ pub fn run_on<R: Threads + Wait + Sync, P: Source, S: Source, O: Sink, E: Sink, 
     err: &mut E,
     book: Option<&mut B>,
 ) -> u8
-    ensures { EndsSo (Happens ((script.new ≡ script.old) × (out.new ≡ out.old)) (out.new ≡ out.old) (IsUntouched book.entry book.exit)
-        (KeepsIfAsked B.failures B.contents book.entry book.exit)
-        (P.failures policy.old) (P.failures policy.new) (S.failures script.old) (S.failures script.new) (O.failures out.old) (O.failures out.new)
-        (P.remaining policy.old) (S.remaining script.old) (O.contents out.old) (O.contents out.new))
-        (E.failures err.old) (E.failures err.new) (E.contents err.old) (E.contents err.new) result }
+    ensures { EndsSo
+        (RunEnds
+        (used P.failures P.remaining policy.old policy.new)
+        (used S.failures S.remaining script.old script.new)
+        (used O.failures O.contents out.old out.new)
+        (perhaps B.failures B.contents book.entry book.exit))
+        (used E.failures E.contents err.old err.new)
+        result }
 {
     match book {
         Some(book) => {

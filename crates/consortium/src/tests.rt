@@ -7,7 +7,7 @@ use wall_labels::memory::{ExpectingSink, Fuse, MemorySource};
 use wall_policy::PolicyFault;
 
 // Two banks and two oil firms; the fourth process has no home.
-const WALL: &str = "version = 1
+pub(crate) const WALL: &str = "version = 1
 [[class]]
 name = \"banks\"
 datasets = [\"alpha\", \"beta\"]
@@ -30,6 +30,31 @@ op = \"sum\"
 least = 3
 ";
 
+// The same in version 2, where a sanitised sum takes the data of three firms.
+const WALL_IN_VERSION_2: &str = "version = 2
+[[class]]
+name = \"banks\"
+datasets = [\"alpha\", \"beta\"]
+[[class]]
+name = \"oil\"
+datasets = [\"crude\", \"delta\"]
+[[process]]
+name = \"a0\"
+home = \"alpha\"
+[[process]]
+name = \"b0\"
+home = \"beta\"
+[[process]]
+name = \"c0\"
+home = \"crude\"
+[[process]]
+name = \"n0\"
+[[sanitise]]
+op = \"sum\"
+least = 3
+distinct = 3
+";
+
 // Four processes of one bank.
 const BANK: &str = "version = 1
 [[class]]
@@ -49,11 +74,11 @@ name = \"p3\"
 home = \"alpha\"
 ";
 
-fn source<'a>(rest: &'a [u8], fuse: Fuse) -> MemorySource<'a> {
+pub(crate) fn source<'a>(rest: &'a [u8], fuse: Fuse) -> MemorySource<'a> {
     MemorySource { rest, fuse }
 }
 
-fn sink<'a>(rest: &'a [u8], fuse: Fuse) -> ExpectingSink<'a> {
+pub(crate) fn sink<'a>(rest: &'a [u8], fuse: Fuse) -> ExpectingSink<'a> {
     ExpectingSink {
         rest,
         is_same: true,
@@ -80,7 +105,7 @@ fn status_of(
 }
 
 // Whether replaying the script writes these replies and this line on standard error, with this status.
-fn ends_so(
+pub(crate) fn ends_so(
     rt: &impl AllocGlobal,
     policy: &str,
     script: &[u8],
@@ -209,6 +234,67 @@ refused NoSuchRequest
     );
 }
 
+// Who makes a group of three, and what three then give to a sum.
+const SUM_OF_RIVALS: &str = "post 0 0 create 0,1,3
+post 1 0 create 0,1,3
+post 2 0 create 0,1,3
+post 3 0 create 0,1,3
+post 0 1 allreduce sum int32 1 as alpha 1
+post 1 1 allreduce sum int32 1 as beta 2
+post 3 1 allreduce sum int32 1 as alpha 3
+take 0 1
+take 1 1
+take 3 1
+";
+
+const SUM_OF_OTHERS: &str = "post 0 0 create 0,2,3
+post 1 0 create 0,2,3
+post 2 0 create 0,2,3
+post 3 0 create 0,2,3
+post 0 1 allreduce sum int32 1 as alpha 5
+post 2 1 allreduce sum int32 1 as crude 7
+post 3 1 allreduce sum int32 1 as alpha 1
+take 0 1
+take 2 1
+take 3 1
+post 0 1 allgather int32 1 as alpha 5
+";
+
+const SUM_OF_ALL: &str = "post 0 0 allreduce sum int32 1 as alpha 5
+post 1 0 allreduce sum int32 1 as beta 6
+post 2 0 allreduce sum int32 1 as crude 7
+post 3 0 allreduce sum int32 1 as public 1
+take 0 0
+take 3 0
+post 3 0 bcast 3 int32 1 as public 2
+";
+
+// Three contributors of two firms are a crowd in version 1 only; three firms are one in version 2 too.
+#[test]
+fn sums_of_few_firms_are_charged(rt: HostRuntime) -> Result<(), Fail> {
+    let got = "delivered [6]\ndelivered [6]\ndelivered [6]\n";
+    let denied = "denied simple a0 beta\ndenied simple a0 beta\ndenied simple a0 beta\n";
+    let freely = "delivered [13]\ndelivered [13]\ndelivered [13]\nposted 2\n";
+    let charged = "delivered [13]\ndelivered [13]\ndelivered [13]\nbarred 2 alpha\n";
+    for (policy, script, replies) in [
+        (WALL, SUM_OF_RIVALS, got),
+        (WALL_IN_VERSION_2, SUM_OF_RIVALS, denied),
+        (WALL, SUM_OF_OTHERS, freely),
+        (WALL_IN_VERSION_2, SUM_OF_OTHERS, charged),
+    ] {
+        let all = format!(in rt.alloc(); "{POSTED}posted 1\nposted 1\nposted 1\n{replies}")?;
+        assert!(&rt;
+            ends_so(&rt, policy, script.as_bytes(), &all, "", 0),
+            "{replies}"
+        );
+    }
+    let all = format!(in rt.alloc(); "{POSTED}delivered [19]\ndelivered [19]\nposted 1\n")?;
+    for policy in [WALL, WALL_IN_VERSION_2] {
+        assert!(&rt; ends_so(&rt, policy, SUM_OF_ALL.as_bytes(), &all, "", 0));
+    }
+    Ok(())
+}
+
 #[test]
 fn lines_are_cut_at_their_ends(rt: HostRuntime) {
     let mixed = b"# a comment\r\ntake 0 0\r\n\n\r\n#\xff\ntake 1 0";
@@ -323,12 +409,24 @@ fn books_are_audited(rt: HostRuntime) -> Result<(), Fail> {
         (BANK, SPLITS, "end 4\n", "unsound at entry 5\n", "", 2),
         (WALL, barred, GATHERERS, "sound 5\n", "", 0),
         (WALL, passed, GATHERERS, "unsound at entry 1\n", "", 2),
+        (
+            WALL_IN_VERSION_2,
+            BROADCASTS,
+            denied,
+            "",
+            "book: line 1\n",
+            2,
+        ),
         ("version = ", BROADCASTS, denied, "", "policy: NotToml\n", 1),
     ];
     for (policy, front, rest, said, line, status) in rows {
         let book = format!(in rt.alloc(); "{front}{rest}")?;
         assert!(&rt; audits_so(&rt, policy, &book, said, line, status), "{book}");
     }
+    let book = format!(in rt.alloc(); "{BROADCASTS}{denied}")?;
+    let second = book.replace(rt.alloc(), "book 1", "book 2")?;
+    assert!(&rt; audits_so(&rt, WALL_IN_VERSION_2, &second, "sound 5\n", "", 0));
+    assert!(&rt; audits_so(&rt, WALL, &second, "", "book: line 1\n", 2));
     Ok(())
 }
 
@@ -446,6 +544,12 @@ take 2 0
             "refused NoSuchRequest\nrefused NoSuchComm\n",
             "book 1\nend 0\n",
         ),
+        (
+            WALL_IN_VERSION_2,
+            "take 0 0\n",
+            "refused NoSuchRequest\n",
+            "book 2\nend 0\n",
+        ),
     ];
     for (policy, script, replies, book) in rows {
         assert!(&rt;
@@ -502,161 +606,6 @@ fn writers_of_books_fail_at_each_write(rt: HostRuntime) -> Result<(), Fail> {
     }
     assert!(&rt; 0 < writes && writes < 99);
     Ok(())
-}
-
-// One process.
-const ALONE: &str = "version = 1
-[[class]]
-name = \"banks\"
-datasets = [\"alpha\", \"beta\"]
-[[process]]
-name = \"p0\"
-home = \"alpha\"
-";
-
-// Whether running the script writes these lines, and this one on standard error, with this status.
-fn runs_so<R: AllocGlobal + Threads + Wait + Sync>(
-    rt: &R,
-    policy: &str,
-    script: &str,
-    said: &str,
-    line: &str,
-    status: u8,
-) -> bool {
-    let mut policy = source(policy.as_bytes(), Fuse::Whole);
-    let mut script = source(script.as_bytes(), Fuse::Whole);
-    let mut out = sink(said.as_bytes(), Fuse::Whole);
-    let mut err = sink(line.as_bytes(), Fuse::Whole);
-    let given = run_on(
-        rt,
-        rt.alloc(),
-        &mut policy,
-        &mut script,
-        &mut out,
-        &mut err,
-        None::<&mut ExpectingSink>,
-    );
-    let is_all = out.rest.is_empty() && err.rest.is_empty();
-    given == status && is_all && out.is_same && err.is_same
-}
-
-#[test]
-fn processes_run_at_the_same_time(rt: HostRuntime) {
-    // each take waits for the posts of the others
-    assert!(&rt;
-        runs_so(
-            &rt,
-            WALL,
-            "post 0 0 allreduce sum int32 1 as alpha 5
-take 0 0
-post 1 0 allreduce sum int32 1 as beta 6
-take 1 0
-post 2 0 allreduce sum int32 1 as crude 7
-take 2 0
-post 3 0 allreduce sum int32 1 as public 1
-take 3 0
-",
-            "rank 0 a0
-posted 0
-delivered [19]
-rank 1 b0
-posted 0
-delivered [19]
-rank 2 c0
-posted 0
-delivered [19]
-rank 3 n0
-posted 0
-delivered [19]
-",
-            "",
-            0,
-        )
-    );
-    let idle = "rank 0 a0\nrank 1 b0\nrank 2 c0\nrank 3 n0\n";
-    assert!(&rt; runs_so(&rt, WALL, "", idle, "", 0));
-    let rows = [
-        (WALL, "take 0 0\npst\n", "script: line 2: BadVerb\n", 2),
-        (
-            WALL,
-            "take 0 0\ntake 4 0\n",
-            "script: line 2: BadField\n",
-            2,
-        ),
-        (ALONE, "take 7 0\n", "script: line 1: BadField\n", 2),
-        ("version = ", "pst", "policy: NotToml\n", 1),
-    ];
-    for (policy, script, line, status) in rows {
-        assert!(&rt; runs_so(&rt, policy, script, "", line, status), "{line}");
-    }
-}
-
-#[test]
-fn books_of_runs_are_kept(rt: HostRuntime) {
-    let rows = [
-        (
-            "post 0 0 bcast 0 int32 1 as alpha 5\ntake 0 0\ntake 0 0\n",
-            "rank 0 p0\nposted 0\ndelivered none\nrefused NoSuchRequest\n",
-            "book 1\npost 0 0 bcast 0 int32 1 gives 1 as alpha passed\nverdict 0 0 granted\nend 2\n",
-            "",
-            0,
-        ),
-        ("", "rank 0 p0\n", "book 1\nend 0\n", "", 0),
-        ("take 7 0\n", "", "", "script: line 1: BadField\n", 2),
-    ];
-    for (script, said, book, line, status) in rows {
-        let mut policy = source(ALONE.as_bytes(), Fuse::Whole);
-        let mut script = source(script.as_bytes(), Fuse::Whole);
-        let mut out = sink(said.as_bytes(), Fuse::Whole);
-        let mut err = sink(line.as_bytes(), Fuse::Whole);
-        let mut kept = sink(book.as_bytes(), Fuse::Whole);
-        let given = run_on(
-            &rt,
-            rt.alloc(),
-            &mut policy,
-            &mut script,
-            &mut out,
-            &mut err,
-            Some(&mut kept),
-        );
-        assert_eq!(&rt; given, status, "{said}");
-        assert!(&rt; out.is_same && err.is_same && kept.is_same, "{said}");
-        assert!(&rt;
-            out.rest.is_empty() && err.rest.is_empty() && kept.rest.is_empty(),
-            "{said}"
-        );
-    }
-}
-
-#[test]
-fn writers_of_runs_fail_at_each_write(rt: HostRuntime) {
-    let said = "rank 0 a0\nrank 1 b0\nrank 2 c0\nrefused NoSuchRequest\nrank 3 n0\n";
-    let mut writes: u64 = 0;
-    for k in 0..100u64 {
-        let mut policy = source(WALL.as_bytes(), Fuse::Whole);
-        let mut script = source(b"take 2 0", Fuse::Whole);
-        let mut out = sink(said.as_bytes(), Fuse::After(k));
-        let mut err = sink(b"write fault\n", Fuse::Whole);
-        let mut kept = sink(b"book 1\nend 0\n", Fuse::Whole);
-        let status = run_on(
-            &rt,
-            rt.alloc(),
-            &mut policy,
-            &mut script,
-            &mut out,
-            &mut err,
-            Some(&mut kept),
-        );
-        assert!(&rt; out.is_same && kept.is_same);
-        if status != 3 {
-            assert!(&rt; status == 0 && out.rest.is_empty() && kept.rest.is_empty());
-            break;
-        }
-        assert!(&rt; err.is_same && err.rest.is_empty());
-        assert_eq!(&rt; kept.rest.len(), 13);
-        writes = k + 1;
-    }
-    assert!(&rt; 0 < writes && writes < 99);
 }
 
 #[test]
@@ -820,72 +769,4 @@ fn writers_fail_at_each_write(rt: HostRuntime) -> Result<(), Fail> {
     }
     assert!(&rt; 0 < writes && writes < 99);
     Ok(())
-}
-
-// Whether the words are bad arguments.
-fn is_bad(rt: &impl AllocGlobal, words: &[&str]) -> bool {
-    match read_words(rt.alloc(), words) {
-        Ok(_) => false,
-        Err(fault) => fault == ArgFault::BadArguments,
-    }
-}
-
-// Whether the words ask for a replay of `s` on `w` whose book goes to `b`.
-fn keeps_words(rt: &impl AllocGlobal, words: &[&str]) -> bool {
-    match read_words(rt.alloc(), words) {
-        Ok(Command::Replay(paths)) => {
-            paths.policy == "w" && paths.script == "s" && paths.book == Some("b")
-        }
-        _ => false,
-    }
-}
-
-#[test]
-fn words_ask_for_a_command(rt: HostRuntime) {
-    match read_words(rt.alloc(), ["replay", "w", "s"].as_slice()) {
-        Ok(Command::Replay(paths)) => {
-            assert!(&rt; paths.policy == "w" && paths.script == "s" && paths.book.is_none());
-        }
-        _ => assert!(&rt; false),
-    }
-    assert!(&rt; keeps_words(&rt, ["replay", "w", "s", "--book", "b"].as_slice()));
-    assert!(&rt; keeps_words(&rt, ["replay", "w", "--book", "b", "s"].as_slice()));
-    assert!(&rt; keeps_words(&rt, ["replay", "--book", "b", "w", "s"].as_slice()));
-    match read_words(rt.alloc(), ["run", "w", "s"].as_slice()) {
-        Ok(Command::Run(paths)) => {
-            assert!(&rt; paths.policy == "w" && paths.script == "s" && paths.book.is_none());
-        }
-        _ => assert!(&rt; false),
-    }
-    match read_words(rt.alloc(), ["run", "--book", "b", "w", "s"].as_slice()) {
-        Ok(Command::Run(paths)) => {
-            assert!(&rt; paths.policy == "w" && paths.script == "s" && paths.book == Some("b"));
-        }
-        _ => assert!(&rt; false),
-    }
-    match read_words(rt.alloc(), ["audit", "w", "b"].as_slice()) {
-        Ok(Command::Audit(paths)) => assert!(&rt; paths.policy == "w" && paths.book == "b"),
-        _ => assert!(&rt; false),
-    }
-    assert!(&rt; is_bad(&rt, [].as_slice()));
-    assert!(&rt; is_bad(&rt, ["replay", "w"].as_slice()));
-    assert!(&rt; is_bad(&rt, ["replay", "w", "s", "t"].as_slice()));
-    assert!(&rt; is_bad(&rt, ["replay", "w", "s", "--book"].as_slice()));
-    assert!(&rt;
-        is_bad(
-            &rt,
-            ["replay", "w", "s", "--book", "b", "--book", "c"].as_slice()
-        )
-    );
-    assert!(&rt; is_bad(&rt, ["--book", "b", "replay", "w", "s"].as_slice()));
-    assert!(&rt; is_bad(&rt, ["audit", "w", "b", "--book", "c"].as_slice()));
-    assert!(&rt; is_bad(&rt, ["audit", "w"].as_slice()));
-    assert!(&rt; is_bad(&rt, ["audit", "w", "b", "c"].as_slice()));
-    assert!(&rt; is_bad(&rt, ["run", "w"].as_slice()));
-    assert!(&rt; is_bad(&rt, ["run", "w", "s", "t"].as_slice()));
-    assert!(&rt; is_bad(&rt, ["run", "--help"].as_slice()));
-    assert!(&rt; is_bad(&rt, ["--help"].as_slice()));
-    assert!(&rt; is_bad(&rt, ["help"].as_slice()));
-    assert!(&rt; is_bad(&rt, ["replay", "--help"].as_slice()));
-    assert!(&rt; is_bad(&rt, ["audit", "--help"].as_slice()));
 }

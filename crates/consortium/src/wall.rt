@@ -1,5 +1,6 @@
 //! Reads and judges the policy.
 ghost use Rattle.std.specs.Prelude.{◌≡◌, IfOk, IfErr};
+ghost use Rattle.hall_script.specs.Devices.{used};
 ghost use Rattle.consortium.specs.Walls.{policy_ending, IsPolicyOf, IsNoPolicy};
 
 use crate::ending::Ending;
@@ -19,8 +20,10 @@ fn policy_ending(fault: PolicyFault) -> Ending
 
 // Reads a policy file whole, and judges it.
 pub(crate) fn read_wall<P: Source>(alloc: Global, source: &mut P) -> Result<Policy, Ending>
-    ensures policy { IfOk result (IsPolicyOf (P.remaining source.old)) }
-    ensures ending { IfErr result (IsNoPolicy (P.failures source.old) (P.failures source.new) (P.remaining source.old)) }
+    ensures policy { let device = used P.failures P.remaining source.old source.new in
+        IfOk result (IsPolicyOf device) }
+    ensures ending { let device = used P.failures P.remaining source.old source.new in
+        IfErr result (IsNoPolicy device) }
 {
     match read_device(alloc, source, SCRIPT_LIMIT) {
         Ok(bytes) => match read_policy(alloc, &bytes) {

@@ -193,7 +193,8 @@ fn fault_for(kind: ErrorKind) -> ArgFault
 fn matches_of<'a>(alloc: Global, words: &'a [&'a str]) -> Result<ArgMatches<'a>, ArgFault>
     ensures ok { IfOk result (λ m. (fault_of program_app (map (λ w. w.now) words.entry.now) ≡ [])
         × (subcommand_rows_of m ≡ subcommand_of program_app (map (λ w. w.now) words.entry.now))) }
-    ensures bad { result ≡ Err ArgFault.BadArguments → fault_of program_app (map (λ w. w.now) words.entry.now) ≢ [] }
+    ensures bad { result ≡ Err ArgFault.BadArguments →
+        fault_of program_app (map (λ w. w.now) words.entry.now) ≢ [] }
 {
     let Ok(command) = program_command(alloc) else {
         return Err(ArgFault::NoMemory);

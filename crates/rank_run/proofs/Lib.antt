@@ -3,3 +3,4 @@ pub mod CountLemmas
 pub mod PlayLemmas
 pub mod RunLemmas
 pub mod RowProofs
+pub mod AskedLemmas

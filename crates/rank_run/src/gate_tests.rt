@@ -1,11 +1,12 @@
 //! What a gate hears, and what it may hold. Four processes at home with one dataset; each gives a
 //! number to all and takes what all gave, and process 1 then posts a barrier.
-ghost use Rattle.std.specs.Prelude.{IfOk};
+ghost use Rattle.std.specs.Prelude.{◌≡◌};
 ghost use Rattle.std.specs.List.{All};
-ghost use Rattle.run_model.specs.Known.{HasKnownLabel, ScriptsHaveKnownLabels};
+ghost use Rattle.wall_labels.specs.declared.label.Label.TheVariants.{Public};
+ghost use Rattle.run_model.specs.Known.{HasKnownLabel, IsKnownLabel, ScriptsHaveKnownLabels};
 
-use crate::tests::{is_posted, label, with};
-use crate::{Acts, Gate, Run, Scripts, run_ranks};
+use crate::tests::{add, is_posted, label, put, stands, wall};
+use crate::{Acts, Gate, RunReplies, Scripts, run_ranks};
 use coll_routes::{Own, Signature};
 use coll_values::Block;
 use hall_core::{Act, Posting, Reply};
@@ -14,25 +15,14 @@ use std::alloc::Global;
 use std::process::Abort;
 use std::sync::atomic::{AtomicU64, Ordering};
 use std::sync::{Mutex, Wait};
-use std::test::Fail;
 use std::thread;
 use std::thread::Threads;
 use wall_labels::Label;
-use wall_policy::{Policy, read_policy};
+use wall_policy::Policy;
 
 /// The policy of the four.
-fn four(alloc: Global) -> Result<Policy, Fail> {
-    let mut text = String::new(alloc);
-    text.push_str("version = 1\n[[class]]\nname = \"banks\"\ndatasets = [\"alpha\"]\n")?;
-    for process in 0..4u32 {
-        write!(
-            text,
-            "[[process]]\nname = \"p{process}\"\nhome = \"alpha\"\n"
-        )?;
-    }
-    let policy = read_policy(alloc, text.as_bytes())?;
-    Ok(policy)
-}
+const FOUR: &str =
+    "version = 1\n[[class]]\nname = \"banks\"\ndatasets = [\"alpha\"]\n[[process]]\nname = \"p0\"\nhome = \"alpha\"\n[[process]]\nname = \"p1\"\nhome = \"alpha\"\n[[process]]\nname = \"p2\"\nhome = \"alpha\"\n[[process]]\nname = \"p3\"\nhome = \"alpha\"\n";
 
 /// How often a gate is looked through before it gives up.
 const LOOKS: u64 = 10_000_000;
@@ -185,45 +175,59 @@ impl Gate for Listening {
     }
 }
 
-/// A number for all, as alpha, and then what all gave; of process 1 a barrier after that.
-fn script(alloc: Global, policy: &Policy, process: u32) -> Result<Acts, Fail>
-    ensures { IfOk result (λ script. All (HasKnownLabel policy.now) script) }
+/// A number of a process for all, as alpha.
+fn number<R: Abort>(rt: &R, alloc: Global, policy: &Policy, process: u32) -> Posting
+    ensures { IsKnownLabel policy.now result.label }
 {
-    let sig = Signature::Allgather {
-        elem_type: ElemType::Int32,
-        count: 1,
-    };
     let number = process as i128 + 1;
-    let elements = Buffer::from_numbers(alloc, ElemType::Int32, &[number])?;
-    let mut script = Acts::from(Vec::new(alloc));
-    script.push(Act::Post(Posting {
+    let elements = Buffer::from_numbers(alloc, ElemType::Int32, &[number]).expect(rt, "no number");
+    Posting {
         comm: 0,
-        sig,
+        sig: Signature::Allgather {
+            elem_type: ElemType::Int32,
+            count: 1,
+        },
         own: Own::Plain,
         label: label(policy, "alpha"),
         elements,
-    }))?;
-    script.push(Act::Take(0))?;
-    if process == 1 {
-        script.push(Act::Post(Posting {
-            comm: 0,
-            sig: Signature::Barrier,
-            own: Own::Plain,
-            label: Label::Public,
-            elements: Buffer::empty(alloc, ElemType::Int8),
-        }))?;
     }
-    Ok(script)
 }
 
-fn scripts(alloc: Global, policy: &Policy) -> Result<Scripts, Fail>
-    ensures { IfOk result (ScriptsHaveKnownLabels policy.now) }
+fn barrier(alloc: Global) -> Posting
+    ensures { result.label ≡ Public }
 {
-    let scripts = with(policy, Vec::new(alloc), script(alloc, policy, 0)?)?;
-    let scripts = with(policy, scripts, script(alloc, policy, 1)?)?;
-    let scripts = with(policy, scripts, script(alloc, policy, 2)?)?;
-    let scripts = with(policy, scripts, script(alloc, policy, 3)?)?;
-    Ok(Scripts::from(scripts))
+    Posting {
+        comm: 0,
+        sig: Signature::Barrier,
+        own: Own::Plain,
+        label: Label::Public,
+        elements: Buffer::empty(alloc, ElemType::Int8),
+    }
+}
+
+/// A number for all, and then what all gave; of process 1 a barrier after that.
+fn script<R: Abort>(rt: &R, alloc: Global, policy: &Policy, process: u32) -> Acts
+    ensures { All (HasKnownLabel policy.now) result }
+{
+    let number = number(rt, alloc, policy, process);
+    let mut script = Acts::from(Vec::new(alloc));
+    add(rt, policy, &mut script, Act::Post(number));
+    add(rt, policy, &mut script, Act::Take(0));
+    if process == 1 {
+        add(rt, policy, &mut script, Act::Post(barrier(alloc)));
+    }
+    script
+}
+
+fn scripts<R: Abort>(rt: &R, alloc: Global, policy: &Policy) -> Scripts
+    ensures { ScriptsHaveKnownLabels policy.now result }
+{
+    let mut scripts = Vec::new(alloc);
+    put(rt, policy, &mut scripts, script(rt, alloc, policy, 0));
+    put(rt, policy, &mut scripts, script(rt, alloc, policy, 1));
+    put(rt, policy, &mut scripts, script(rt, alloc, policy, 2));
+    put(rt, policy, &mut scripts, script(rt, alloc, policy, 3));
+    Scripts::from(scripts)
 }
 
 fn is_block(block: &Block, number: i128) -> bool {
@@ -255,28 +259,33 @@ fn are(replies: &[Reply], process: usize) -> bool {
     }
 }
 
-fn check<R: Abort>(rt: &R, run: &Run) {
-    assert_eq!(rt; run.replies.len(), 4);
-    for process in 0..run.replies.len() {
-        assert!(rt; are(run.replies.of(process), process));
+fn check<R: Abort>(rt: &R, replies: &RunReplies) {
+    assert!(rt; replies.len() == 4);
+    for process in 0..replies.len() {
+        assert!(rt; are(replies.of(process), process));
     }
+}
+
+/// The scripts are run under a gate, and each process has its replies.
+fn run<R: Threads + Wait + Sync + Abort, G: Gate + Sync>(rt: &R, alloc: Global, gate: &G) {
+    let policy = wall(rt, alloc, FOUR);
+    let scripts = scripts(rt, alloc, &policy);
+    let run = run_ranks(rt, alloc, policy, scripts, gate).expect(rt, "the ranks did not run");
+    check(rt, &run.replies);
+    drop(run);
 }
 
 /// A rank computes what it is delivered outside its turn: others take turns meanwhile.
 #[test]
-fn others_call_while_one_computes(rt: HostRuntime) -> Result<(), Fail> {
-    let policy = four(rt.alloc())?;
-    let scripts = scripts(rt.alloc(), &policy)?;
+fn others_call_while_one_computes(rt: HostRuntime) {
     let gate = Crossing {
         posted: AtomicU64::new(0),
         computing: AtomicU64::new(0),
         barrier: AtomicU64::new(0),
         late: AtomicU64::new(0),
     };
-    let run = run_ranks(&rt, rt.alloc(), policy, scripts, &gate)?;
-    check(&rt, &run);
-    assert_eq!(&rt; gate.late.load(Ordering::SeqCst), 0);
-    Ok(())
+    run(&rt, rt.alloc(), &gate);
+    stands(&rt, &gate.late, 0);
 }
 
 /// How many calls the gate was told to the end, of a process.
@@ -288,26 +297,20 @@ fn heard_of<R: Wait>(rt: &R, gate: &Listening, process: usize) -> Option<u64> {
     Some(heard.number)
 }
 
-fn hear_all<R: Threads + Wait + Sync + Abort>(rt: &R, alloc: Global) -> Result<(), Fail> {
-    let policy = four(alloc)?;
-    let scripts = scripts(alloc, &policy)?;
+fn hear_all<R: Threads + Wait + Sync + Abort>(rt: &R, alloc: Global) {
     let gate = new_listening();
-    let run = run_ranks(rt, alloc, policy, scripts, &gate)?;
-    check(rt, &run);
-    assert_eq!(rt; gate.wrong.load(Ordering::SeqCst), 0);
-    assert_eq!(rt; heard_of(rt, &gate, 0), Some(2));
-    assert_eq!(rt; heard_of(rt, &gate, 1), Some(3));
-    assert_eq!(rt; heard_of(rt, &gate, 2), Some(2));
-    assert_eq!(rt; heard_of(rt, &gate, 3), Some(2));
-    Ok(())
+    run(rt, alloc, &gate);
+    stands(rt, &gate.wrong, 0);
+    for (process, calls) in [(0, 2), (1, 3), (2, 2), (3, 2)] {
+        assert!(rt; heard_of(rt, &gate, process) == Some(calls));
+    }
 }
 
 /// A gate that holds nobody hears each call once before it and once after it, with its reply, in
 /// order, and in a take, and only there, that something is computed between.
 #[test]
-fn a_gate_hears_all_calls(rt: HostRuntime) -> Result<(), Fail> {
+fn a_gate_hears_all_calls(rt: HostRuntime) {
     for _ in 0..50 {
-        hear_all(&rt, rt.alloc())?;
+        hear_all(&rt, rt.alloc());
     }
-    Ok(())
 }

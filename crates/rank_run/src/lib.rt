@@ -5,6 +5,7 @@
 //! that waits for others sleeps; what it is delivered it works out beside the others' calls.
 #![tactic(auto)]
 
+mod board;
 mod fault;
 mod gate;
 #[cfg(test)]
@@ -16,6 +17,8 @@ mod requests;
 mod rows;
 mod run;
 mod stage;
+#[cfg(test)]
+mod stop_tests;
 #[cfg(test)]
 mod tests;
 mod waiting;

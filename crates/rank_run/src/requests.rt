@@ -1,9 +1,11 @@
-//! Which instance each request of a rank is for, so that the rank can wait for it. Nothing is
-//! proved of it.
+//! Which instance each request of a rank is for, so that the rank can wait for it.
+ghost use Rattle.std.specs.Prelude.{◌≡◌, ℕ, [], IfOk, IfSome, slice_index_or};
+ghost use Rattle.rank_run.specs.Asked.{AreCounted, CountsAll, no_instance};
 
-use crate::stage::{COMMUNICATORS, Instance};
+use crate::board::Instance;
+use crate::stage::COMMUNICATORS;
 use hall_core::{Act, NoMemory, Reply};
-use std::alloc::Global;
+use std::alloc::{AllocError, Global};
 
 /// The requests that a rank was given.
 #[derive(Drop)]
@@ -12,6 +14,19 @@ pub(crate) struct Requests {
     entered: Vec<u64>,
     // The instance of each request, by the request's number.
     instances: Vec<Instance>,
+    ghost counts: { CountsAll entered.items instances.items },
+    ghost counted: { AreCounted instances.items },
+}
+
+// So many zeros.
+fn zeros(alloc: Global, count: usize) -> Result<Vec<u64>, AllocError>
+    ensures { IfOk result (λ v. (i : ℕ) → slice_index_or v.items i 0 ≡ 0) }
+{
+    let mut all = Vec::with_capacity(alloc, count)?;
+    for _ in 0..count {
+        all.push(0)?;
+    }
+    Ok(all)
 }
 
 /// The communicator of a post.
@@ -42,32 +57,45 @@ impl Requests {
                 comms = comms.max((comm as usize).saturating_add(1));
             }
         }
-        let comms = comms.min(COMMUNICATORS);
-        let mut entered = Vec::with_capacity(alloc, comms)?;
-        for _ in 0..comms {
-            entered.push(0)?;
-        }
+        let requests = Requests::with_room(alloc, comms.min(COMMUNICATORS), posts)?;
+        Ok(requests)
+    }
+
+    fn with_room(alloc: Global, comms: usize, posts: usize) -> Result<Requests, AllocError>
+        ensures { IfOk result (λ requests. requests.instances.items ≡ []) }
+    {
+        let entered = zeros(alloc, comms)?;
         let instances = Vec::with_capacity(alloc, posts)?;
         Ok(Requests { entered, instances })
     }
 
-    /// After a post on a communicator that got this reply. The k-th post of each member that is
-    /// entered belongs to instance k.
-    pub(crate) fn heed(&mut self, comm: u32, reply: &Reply) {
-        if request_of(reply) != Some(self.instances.len() as u64) {
-            return;
-        }
+    // A post on a communicator was entered. The k-th post of each member that is entered belongs to
+    // instance k.
+    fn enter(&mut self, comm: u32) {
         let Some(entered) = self.entered.get_mut(comm as usize) else {
             return;
         };
         let number = *entered;
-        *entered = number.saturating_add(1);
+        let Some(more) = number.checked_add(1) else {
+            return;
+        };
         // There is room: it was made for all posts of the script.
-        let _ = self.instances.push(Instance { comm, number });
+        if self.instances.push(Instance { comm, number }).is_ok() {
+            *entered = more;
+        }
+    }
+
+    /// After a post on a communicator that got this reply.
+    pub(crate) fn heed(&mut self, comm: u32, reply: &Reply) {
+        if request_of(reply) == Some(self.instances.len() as u64) {
+            self.enter(comm);
+        }
     }
 
     /// The instance of a request.
-    pub(crate) fn instance_of(&self, request: u64) -> Option<Instance> {
+    pub(crate) fn instance_of(&self, request: u64) -> Option<Instance>
+        ensures { IfSome result (λ it. it ≡ slice_index_or self.now.instances.items request no_instance) }
+    {
         self.instances.get(request as usize).copied()
     }
 }

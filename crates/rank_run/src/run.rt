@@ -169,10 +169,6 @@ fn run_each<R: Threads + Wait + Sync, G: Gate + Sync>(
     )
 }
 
-// How many ranks play at a time. The hall takes one call at a time: two that play wait for each
-// other's turns, which costs more than a rank that stands in line.
-const AT_A_TIME: usize = 1;
-
 // All jobs at the same time.
 fn run_jobs<R: Threads + Wait + Sync, G: Gate + Sync>(
     rt: &R,
@@ -190,7 +186,7 @@ fn run_jobs<R: Threads + Wait + Sync, G: Gate + Sync>(
     let replies = Vec::with_capacity(alloc, count)?;
     let ended = Vec::with_capacity(alloc, count)?;
     let handles = Vec::with_capacity(alloc, count)?;
-    let stage = Stage::new(alloc, count, AT_A_TIME, gate.holds())?;
+    let stage = Stage::new(alloc, count, gate.holds())?;
     let setting = Setting {
         gate,
         stage: &stage,

@@ -1,25 +1,29 @@
 //! Four processes: a0 at home with alpha, b0 with beta, c0 with crude, n0 nowhere. Alpha and beta are rivals; sums of three contributors are
 //! sanitised.
-ghost use Rattle.std.specs.Prelude.{◌≡◌, IfOk};
+//!
+//! A way out that lets a wide value go by itself, as a door, a run or an answer, takes the prover
+//! half a minute. So `expect` stands in place of `?`, and what is wide is handed to `drop` at the
+//! end.
+ghost use Rattle.std.specs.Prelude.{◌≡◌};
 ghost use Rattle.std.specs.List.{All};
 ghost use Rattle.run_model.specs.Known.{IsKnownLabel, HasKnownLabel, ScriptsHaveKnownLabels};
 
-use crate::{Acts, Gate, OpenGate, Run, RunFault, Scripts, run_ranks, wait};
+use crate::{Acts, Gate, OpenGate, Run, RunFault, RunReplies, Scripts, run_ranks, wait};
 use coll_routes::{Own, Signature};
 use coll_values::Block;
-use hall_core::{Act, Posting, Reply};
+use hall_core::{Act, Hall, Posting, Reply};
 use hall_turn::{Answer, Door, Pass, Passes};
 use mpi_elems::{Buffer, ElemType};
 use std::alloc::Global;
 use std::process::Abort;
 use std::sync::Wait;
 use std::sync::atomic::{AtomicU64, Ordering};
-use std::test::Fail;
 use std::thread;
+use std::thread::Threads;
 use wall_labels::{Label, Op};
 use wall_policy::{Policy, read_policy};
 
-const RIVALS: &str =
+pub(crate) const RIVALS: &str =
     "version = 1\n[[class]]\nname = \"banks\"\ndatasets = [\"alpha\", \"beta\"]\n[[class]]\nname = \"oil\"\ndatasets = [\"crude\", \"delta\"]\n[[process]]\nname = \"a0\"\nhome = \"alpha\"\n[[process]]\nname = \"b0\"\nhome = \"beta\"\n[[process]]\nname = \"c0\"\nhome = \"crude\"\n[[process]]\nname = \"n0\"\n[[sanitise]]\nop = \"sum\"\nleast = 3\n";
 
 /// How often a gate is looked through before it gives up.
@@ -105,60 +109,92 @@ pub(crate) fn label(policy: &Policy, name: &str) -> Label
     }
 }
 
-/// A post on the communicator of all processes.
-fn posting(alloc: Global, sig: Signature, label: Label, number: i128) -> Result<Posting, Fail>
-    ensures { IfOk result (λ posting. posting.label ≡ label) }
+/// The policy of this text.
+pub(crate) fn wall<R: Abort>(rt: &R, alloc: Global, text: &str) -> Policy {
+    read_policy(alloc, text.as_bytes()).expect(rt, "the policy is not read")
+}
+
+/// A post of one number for the sum of all processes' numbers.
+fn posting<R: Abort>(rt: &R, alloc: Global, label: Label, number: i128) -> Posting
+    ensures { result.label ≡ label }
 {
-    let elements = Buffer::from_numbers(alloc, ElemType::Int32, &[number])?;
-    Ok(Posting {
+    let elements = Buffer::from_numbers(alloc, ElemType::Int32, &[number]).expect(rt, "no number");
+    Posting {
         comm: 0,
-        sig,
+        sig: Signature::Allreduce {
+            op: Op::Sum,
+            elem_type: ElemType::Int32,
+            count: 1,
+        },
         own: Own::Plain,
         label,
         elements,
-    })
+    }
+}
+
+/// The script and one more act.
+pub(crate) fn add<R: Abort>(rt: &R, policy: &Policy, script: &mut Acts, act: Act)
+    requires script { All (HasKnownLabel policy.now) script.old }
+    requires act { HasKnownLabel policy.now act }
+    ensures { All (HasKnownLabel policy.now) script.new }
+{
+    let _ = policy;
+    script.push(act).expect(rt, "no memory");
 }
 
 /// A sum of one number of each process, and then its outcome.
-fn script(alloc: Global, policy: &Policy, name: &str, number: i128) -> Result<Acts, Fail>
-    ensures { IfOk result (λ script. All (HasKnownLabel policy.now) script) }
+fn script<R: Abort>(rt: &R, alloc: Global, policy: &Policy, name: &str, number: i128) -> Acts
+    ensures { All (HasKnownLabel policy.now) result }
 {
-    let sig = Signature::Allreduce {
-        op: Op::Sum,
-        elem_type: ElemType::Int32,
-        count: 1,
-    };
-    let label = label(policy, name);
-    let posting = posting(alloc, sig, label, number)?;
+    let posting = posting(rt, alloc, label(policy, name), number);
     let mut script = Acts::from(Vec::new(alloc));
-    script.push(Act::Post(posting))?;
-    script.push(Act::Take(0))?;
-    Ok(script)
+    add(rt, policy, &mut script, Act::Post(posting));
+    add(rt, policy, &mut script, Act::Take(0));
+    script
 }
 
 /// The scripts and one more.
-pub(crate) fn with(policy: &Policy, mut scripts: Vec<Acts>, script: Acts) -> Result<Vec<Acts>, Fail>
-    requires scripts { ScriptsHaveKnownLabels policy.now scripts.items }
+pub(crate) fn put<R: Abort>(rt: &R, policy: &Policy, scripts: &mut Vec<Acts>, script: Acts)
+    requires scripts { ScriptsHaveKnownLabels policy.now scripts.old.items }
     requires script { All (HasKnownLabel policy.now) script }
-    ensures { IfOk result (λ r. ScriptsHaveKnownLabels policy.now r.items) }
+    ensures { ScriptsHaveKnownLabels policy.now scripts.new.items }
 {
     let _ = policy;
-    scripts.push(script)?;
-    Ok(scripts)
+    scripts.push(script).ok().expect(rt, "no memory");
 }
 
 /// The scripts of a0, b0 and c0, and that of n0 if it is wanted.
-fn scripts(alloc: Global, policy: &Policy, all: bool) -> Result<Scripts, Fail>
-    ensures { IfOk result (ScriptsHaveKnownLabels policy.now) }
+pub(crate) fn scripts<R: Abort>(rt: &R, alloc: Global, policy: &Policy, all: bool) -> Scripts
+    ensures { ScriptsHaveKnownLabels policy.now result }
 {
-    let scripts = with(policy, Vec::new(alloc), script(alloc, policy, "alpha", 5)?)?;
-    let scripts = with(policy, scripts, script(alloc, policy, "beta", 6)?)?;
-    let scripts = with(policy, scripts, script(alloc, policy, "crude", 7)?)?;
-    if !all {
-        return Ok(Scripts::from(scripts));
+    let mut scripts = Vec::new(alloc);
+    put(
+        rt,
+        policy,
+        &mut scripts,
+        script(rt, alloc, policy, "alpha", 5),
+    );
+    put(
+        rt,
+        policy,
+        &mut scripts,
+        script(rt, alloc, policy, "beta", 6),
+    );
+    put(
+        rt,
+        policy,
+        &mut scripts,
+        script(rt, alloc, policy, "crude", 7),
+    );
+    if all {
+        put(
+            rt,
+            policy,
+            &mut scripts,
+            script(rt, alloc, policy, "public", 1),
+        );
     }
-    let scripts = with(policy, scripts, script(alloc, policy, "public", 1)?)?;
-    Ok(Scripts::from(scripts))
+    Scripts::from(scripts)
 }
 
 pub(crate) fn is_posted(reply: &Reply, request: u64) -> bool {
@@ -187,55 +223,84 @@ fn are(replies: &[Reply], number: i128) -> bool {
 }
 
 /// Each process posted and was delivered the sum.
-fn check<R: Abort>(rt: &R, run: &Run) {
-    assert_eq!(rt; run.replies.len(), 4);
-    for process in 0..run.replies.len() {
-        assert!(rt; are(run.replies.of(process), 19));
+fn check<R: Abort>(rt: &R, replies: &RunReplies) {
+    assert!(rt; replies.len() == 4);
+    for process in 0..replies.len() {
+        assert!(rt; are(replies.of(process), 19));
     }
+}
+
+/// The run of the four scripts under a gate: each process is delivered the sum.
+pub(crate) fn run_four<R: Threads + Wait + Sync + Abort, G: Gate + Sync>(
+    rt: &R,
+    alloc: Global,
+    gate: &G,
+) -> Run {
+    let policy = wall(rt, alloc, RIVALS);
+    let scripts = scripts(rt, alloc, &policy, true);
+    let run = run_ranks(rt, alloc, policy, scripts, gate).expect(rt, "the ranks did not run");
+    check(rt, &run.replies);
+    run
+}
+
+/// The counter stands at this number.
+pub(crate) fn stands<R: Abort>(rt: &R, counter: &AtomicU64, number: u64) {
+    let counted = counter.load(Ordering::SeqCst);
+    assert!(rt; counted == number);
+}
+
+/// The replies are given up as vectors, one for each process.
+fn give_up<R: Abort>(rt: &R, replies: RunReplies) {
+    let replies = replies.into_vecs();
+    assert!(rt; replies.len() == 4);
+    drop(replies);
+}
+
+/// The book has this many entries.
+fn has_book<R: Abort>(rt: &R, hall: &Hall, entries: usize) {
+    assert!(rt; hall.book().len() == entries);
 }
 
 /// Each process runs its script, and is delivered the sum.
 #[test]
-fn four_ranks_run(rt: HostRuntime) -> Result<(), Fail> {
-    let policy = read_policy(rt.alloc(), RIVALS.as_bytes())?;
-    let scripts = scripts(rt.alloc(), &policy, true)?;
+fn four_ranks_run(rt: HostRuntime) {
     let gate = new_count();
-    let run = run_ranks(&rt, rt.alloc(), policy, scripts, &gate)?;
-    check(&rt, &run);
-    assert_eq!(&rt; run.hall.book().len(), 5);
-    assert_eq!(&rt; gate.before.load(Ordering::SeqCst), 8);
-    assert_eq!(&rt; gate.answered.load(Ordering::SeqCst), 8);
-    let replies = run.replies.into_vecs();
-    assert_eq!(&rt; replies.len(), 4);
-    Ok(())
+    let Run { replies, hall } = run_four(&rt, rt.alloc(), &gate);
+    has_book(&rt, &hall, 5);
+    stands(&rt, &gate.before, 8);
+    stands(&rt, &gate.answered, 8);
+    give_up(&rt, replies);
+    drop(hall);
 }
 
 /// All ranks run at the same time: none is before its second call while another has not made its first.
 #[test]
-fn ranks_meet(rt: HostRuntime) -> Result<(), Fail> {
-    let policy = read_policy(rt.alloc(), RIVALS.as_bytes())?;
-    let scripts = scripts(rt.alloc(), &policy, true)?;
+fn ranks_meet(rt: HostRuntime) {
     let gate = Meeting {
         met: AtomicU64::new(0),
         late: AtomicU64::new(0),
     };
-    let run = run_ranks(&rt, rt.alloc(), policy, scripts, &gate)?;
-    check(&rt, &run);
-    assert_eq!(&rt; gate.late.load(Ordering::SeqCst), 0);
-    Ok(())
+    let run = run_four(&rt, rt.alloc(), &gate);
+    stands(&rt, &gate.late, 0);
+    drop(run);
 }
 
 #[test]
-fn each_process_has_a_script(rt: HostRuntime) -> Result<(), Fail> {
-    let policy = read_policy(rt.alloc(), RIVALS.as_bytes())?;
-    let scripts = scripts(rt.alloc(), &policy, false)?;
+fn each_process_has_a_script(rt: HostRuntime) {
+    let alloc = rt.alloc();
+    let policy = wall(&rt, alloc, RIVALS);
+    let scripts = scripts(&rt, alloc, &policy, false);
     let gate = new_count();
-    let Err(fault) = run_ranks(&rt, rt.alloc(), policy, scripts, &gate) else {
-        panic!(&rt; "a script is missing")
-    };
-    assert_eq!(&rt; fault, RunFault::BadScripts);
-    assert_eq!(&rt; gate.before.load(Ordering::SeqCst), 0);
-    Ok(())
+    let ran = run_ranks(&rt, alloc, policy, scripts, &gate);
+    let fault = ran.err().expect(&rt, "a script is missing");
+    assert!(&rt; fault == RunFault::BadScripts);
+    stands(&rt, &gate.before, 0);
+}
+
+/// The answer is Pending, and nothing else.
+fn is_pending<R: Abort>(rt: &R, answer: Answer) {
+    assert!(rt; matches!(&answer, Answer::Reply(Reply::Pending)));
+    drop(answer);
 }
 
 /// A take of a post that waits for the others is tried as often as the patience says.
@@ -244,40 +309,81 @@ fn wait_alone<R: Wait + Abort>(rt: &R, door: &Door, pass: &mut Pass, patience: u
     ensures { pass.new.door ≡ door.now }
 {
     let gate = new_count();
-    let answer = wait(rt, door, pass, 0, patience, &gate);
-    assert!(rt; matches!(&answer, Answer::Reply(Reply::Pending)));
-    assert_eq!(rt; gate.computing.load(Ordering::SeqCst), tries);
-    assert_eq!(rt; gate.numbers.load(Ordering::SeqCst), 0);
-    assert_eq!(rt; gate.before.load(Ordering::SeqCst), 0);
-    assert_eq!(rt; gate.answered.load(Ordering::SeqCst), 0);
+    is_pending(rt, wait(rt, door, pass, 0, patience, &gate));
+    stands(rt, &gate.computing, tries);
+    stands(rt, &gate.numbers, 0);
+    stands(rt, &gate.before, 0);
+    stands(rt, &gate.answered, 0);
 }
 
-fn last(door: &Door, passes: &mut Passes) -> Result<Pass, Fail>
-    requires { All (λ pass. pass.door ≡ door.now) passes.old.items }
-    ensures { IfOk result (λ pass. pass.door ≡ door.now) }
+/// A door, and its passes.
+fn open<R: Abort>(rt: &R, alloc: Global, policy: Policy) -> (Door, Passes)
+    ensures policy { result.0.policy ≡ policy }
+    ensures passes { All (λ pass. pass.door ≡ result.0) result.1.items }
 {
-    let pass = passes.pop().ok_or("no pass is left")?;
-    Ok(pass)
+    Door::open(alloc, policy).expect(rt, "the door is not opened")
+}
+
+/// The last of the passes.
+fn last<R: Abort>(rt: &R, door: &Door, passes: &mut Passes) -> Pass
+    requires { All (λ pass. pass.door ≡ door.now) passes.old.items }
+    ensures { result.door ≡ door.now }
+{
+    let _ = door;
+    passes.pop().expect(rt, "no pass is left")
+}
+
+/// So many turns have ended.
+fn front<R: Abort>(rt: &R, door: &Door, pass: &mut Pass, turns: u64)
+    requires { pass.old.door ≡ door.now }
+    ensures { pass.new.door ≡ door.now }
+{
+    let ended = door.front(pass);
+    assert!(rt; ended == turns);
+}
+
+/// The post is counted, with the first request.
+fn post<R: Wait + Abort>(rt: &R, door: &Door, pass: &mut Pass, posting: Posting)
+    requires door { pass.old.door ≡ door.now }
+    requires label { IsKnownLabel door.now.policy posting.label }
+    ensures { pass.new.door ≡ door.now }
+{
+    let posted = door.post(rt, pass, posting);
+    assert!(rt; matches!(&posted, Answer::Reply(Reply::Posted(0))));
+    drop(posted);
+}
+
+/// A take of a request that is not known is refused at once.
+fn wait_unknown<R: Wait + Abort>(rt: &R, door: &Door, pass: &mut Pass)
+    requires { pass.old.door ≡ door.now }
+    ensures { pass.new.door ≡ door.now }
+{
+    let unknown = wait(rt, door, pass, 7, 5, &OpenGate);
+    assert!(rt; matches!(&unknown, Answer::Reply(Reply::Refused(_))));
+    drop(unknown);
+}
+
+/// A pass posts, and waits for the others in vain.
+fn wait_in_vain<R: Wait + Abort>(rt: &R, door: &Door, pass: &mut Pass, posting: Posting)
+    requires door { pass.old.door ≡ door.now }
+    requires label { IsKnownLabel door.now.policy posting.label }
+{
+    post(rt, door, pass, posting);
+    wait_alone(rt, door, pass, 2, 2);
+    wait_alone(rt, door, pass, 0, 1);
+    front(rt, door, pass, 4);
+    wait_unknown(rt, door, pass);
+    front(rt, door, pass, 5);
 }
 
 #[test]
-fn patience_ends(rt: HostRuntime) -> Result<(), Fail> {
-    let policy = read_policy(rt.alloc(), RIVALS.as_bytes())?;
-    let sig = Signature::Allreduce {
-        op: Op::Sum,
-        elem_type: ElemType::Int32,
-        count: 1,
-    };
-    let posting = posting(rt.alloc(), sig, Label::Public, 1)?;
-    let (door, mut passes) = Door::open(rt.alloc(), policy)?;
-    let mut pass = last(&door, &mut passes)?;
-    let posted = door.post(&rt, &mut pass, posting);
-    assert!(&rt; matches!(&posted, Answer::Reply(Reply::Posted(0))));
-    wait_alone(&rt, &door, &mut pass, 2, 2);
-    wait_alone(&rt, &door, &mut pass, 0, 1);
-    assert_eq!(&rt; door.front(&mut pass), 4);
-    let unknown = wait(&rt, &door, &mut pass, 7, 5, &OpenGate);
-    assert!(&rt; matches!(&unknown, Answer::Reply(Reply::Refused(_))));
-    assert_eq!(&rt; door.front(&mut pass), 5);
-    Ok(())
+fn patience_ends(rt: HostRuntime) {
+    let policy = wall(&rt, rt.alloc(), RIVALS);
+    let posting = posting(&rt, rt.alloc(), Label::Public, 1);
+    let (door, mut passes) = open(&rt, rt.alloc(), policy);
+    let mut pass = last(&rt, &door, &mut passes);
+    wait_in_vain(&rt, &door, &mut pass, posting);
+    drop(pass);
+    drop(passes);
+    drop(door);
 }

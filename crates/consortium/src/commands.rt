@@ -1,0 +1,253 @@
+//! Does what the words of the command line ask for, over the files of a system.
+ghost use Rattle.std.specs.Prelude.{◌≡◌, Some, None, map};
+ghost use Rattle.hall_script.specs.Devices.{used};
+ghost use Rattle.consortium.specs.Endings.{EndsSo};
+ghost use Rattle.consortium.specs.Grammar.{asked, replay_files, run_files, audit_files, refusal_ending};
+ghost use Rattle.consortium.specs.Replaying.{ReplayEnds};
+ghost use Rattle.consortium.specs.Running.{RunEnds};
+ghost use Rattle.consortium.specs.Performing.{file_kind, path_unopened, ReplaysFiles, RunsFiles, AuditsFiles, Performs};
+
+use crate::audit::audit_on;
+use crate::devices::{Count, FileSink, FileSource};
+use crate::ending::{Ending, end};
+use crate::replay::replay_on;
+use crate::run::run_on;
+use crate::words::{ArgFault, AuditPaths, Command, ReplayPaths, RunPaths, read_words};
+use std::alloc::Global;
+use std::rt::Files;
+use std::sync::Wait;
+use std::sync::ledger::Ledger;
+use std::thread::Threads;
+use wall_labels::{Sink, Source};
+
+/// The counts of what fails at the files of a command.
+#[derive(Drop)]
+pub struct Counts<P: Ledger, S: Ledger, B: Ledger> {
+    /// At its policy.
+    pub policy: Count<P>,
+    /// At its script, or at the book that it audits.
+    pub second: Count<S>,
+    /// At the book that it keeps.
+    pub kept: Count<B>,
+}
+
+/// Does what the words behind the program's name ask for, and gives the status. Each file is opened at its first use, and once.
+pub fn perform<'a, R, F: Files, P: Ledger, S: Ledger, B: Ledger, O: Sink, E: Sink>(
+    rt: &R,
+    files: &'a F,
+    words: &[&str],
+    counts: Counts<P, S, B>,
+    out: &mut O,
+    err: &mut E,
+) -> u8
+where
+    R: AllocGlobal + Threads + Wait + Sync,
+    ensures { let policies = file_kind ⟦<FileSource<'a, F, P> as Source>⟧.failures
+        ⟦<FileSource<'a, F, P> as Source>⟧.remaining
+        (λ d. path_unopened d.path.now d.file) counts.policy in
+        let seconds = file_kind ⟦<FileSource<'a, F, S> as Source>⟧.failures
+        ⟦<FileSource<'a, F, S> as Source>⟧.remaining
+        (λ d. path_unopened d.path.now d.file) counts.second in
+        let books = file_kind ⟦<FileSink<'a, F, B> as Sink>⟧.failures
+        ⟦<FileSink<'a, F, B> as Sink>⟧.contents
+        (λ d. path_unopened d.path.now d.file) counts.kept in
+        let outs = used O.failures O.contents out.old out.new in
+        let errs = used E.failures E.contents err.old err.new in
+        Performs policies seconds books (asked (map (λ w. w.now) words.now)) outs errs result }
+{
+    match read_words(rt.alloc(), words) {
+        Ok(Command::Replay(paths)) => replay_files(rt.alloc(), files, paths, counts, out, err),
+        Ok(Command::Run(paths)) => run_files(rt, files, paths, counts, out, err),
+        Ok(Command::Audit(paths)) => audit_files(rt.alloc(), files, paths, counts, out, err),
+        Err(fault) => end(err, fault_ending(fault)),
+    }
+}
+
+fn replay_files<'a, F: Files, P: Ledger, S: Ledger, B: Ledger, O: Sink, E: Sink>(
+    alloc: Global,
+    files: &'a F,
+    paths: ReplayPaths<'a>,
+    counts: Counts<P, S, B>,
+    out: &mut O,
+    err: &mut E,
+) -> u8
+    ensures { let policies = file_kind ⟦<FileSource<'a, F, P> as Source>⟧.failures
+        ⟦<FileSource<'a, F, P> as Source>⟧.remaining
+        (λ d. path_unopened d.path.now d.file) counts.policy in
+        let seconds = file_kind ⟦<FileSource<'a, F, S> as Source>⟧.failures
+        ⟦<FileSource<'a, F, S> as Source>⟧.remaining
+        (λ d. path_unopened d.path.now d.file) counts.second in
+        let books = file_kind ⟦<FileSink<'a, F, B> as Sink>⟧.failures
+        ⟦<FileSink<'a, F, B> as Sink>⟧.contents
+        (λ d. path_unopened d.path.now d.file) counts.kept in
+        let outs = used O.failures O.contents out.old out.new in
+        let errs = used E.failures E.contents err.old err.new in
+        ReplaysFiles policies seconds books (replay_files paths.entry) outs errs result }
+{
+    let Counts {
+        policy,
+        second,
+        kept,
+    } = counts;
+    let mut policy = unopened(files, paths.policy, policy);
+    let mut script = unopened(files, paths.script, second);
+    match paths.book {
+        Some(path) => {
+            let mut book = unmade(files, path, kept);
+            replay_to(alloc, &mut policy, &mut script, out, err, &mut book)
+        }
+        None => replay_on::<_, _, _, _, O>(alloc, &mut policy, &mut script, out, err, None),
+    }
+}
+
+fn replay_to<P: Source, S: Source, O: Sink, E: Sink, B: Sink>(
+    alloc: Global,
+    policy: &mut P,
+    script: &mut S,
+    out: &mut O,
+    err: &mut E,
+    book: &mut B,
+) -> u8
+    ensures { EndsSo
+        (ReplayEnds
+        (used P.failures P.remaining policy.old policy.new)
+        (used S.failures S.remaining script.old script.new)
+        (used O.failures O.contents out.old out.new)
+        (Some (used B.failures B.contents book.old book.new)))
+        (used E.failures E.contents err.old err.new)
+        result }
+{
+    replay_on(alloc, policy, script, out, err, Some(book))
+}
+
+fn run_files<'a, R, F: Files, P: Ledger, S: Ledger, B: Ledger, O: Sink, E: Sink>(
+    rt: &R,
+    files: &'a F,
+    paths: RunPaths<'a>,
+    counts: Counts<P, S, B>,
+    out: &mut O,
+    err: &mut E,
+) -> u8
+where
+    R: AllocGlobal + Threads + Wait + Sync,
+    ensures { let policies = file_kind ⟦<FileSource<'a, F, P> as Source>⟧.failures
+        ⟦<FileSource<'a, F, P> as Source>⟧.remaining
+        (λ d. path_unopened d.path.now d.file) counts.policy in
+        let seconds = file_kind ⟦<FileSource<'a, F, S> as Source>⟧.failures
+        ⟦<FileSource<'a, F, S> as Source>⟧.remaining
+        (λ d. path_unopened d.path.now d.file) counts.second in
+        let books = file_kind ⟦<FileSink<'a, F, B> as Sink>⟧.failures
+        ⟦<FileSink<'a, F, B> as Sink>⟧.contents
+        (λ d. path_unopened d.path.now d.file) counts.kept in
+        let outs = used O.failures O.contents out.old out.new in
+        let errs = used E.failures E.contents err.old err.new in
+        RunsFiles policies seconds books (run_files paths.entry) outs errs result }
+{
+    let Counts {
+        policy,
+        second,
+        kept,
+    } = counts;
+    let mut policy = unopened(files, paths.policy, policy);
+    let mut script = unopened(files, paths.script, second);
+    match paths.book {
+        Some(path) => {
+            let mut book = unmade(files, path, kept);
+            run_to(rt, &mut policy, &mut script, out, err, &mut book)
+        }
+        None => {
+            let (policy, script) = (&mut policy, &mut script);
+            run_on::<_, _, _, _, _, O>(rt, rt.alloc(), policy, script, out, err, None)
+        }
+    }
+}
+
+fn run_to<R, P: Source, S: Source, O: Sink, E: Sink, B: Sink>(
+    rt: &R,
+    policy: &mut P,
+    script: &mut S,
+    out: &mut O,
+    err: &mut E,
+    book: &mut B,
+) -> u8
+where
+    R: AllocGlobal + Threads + Wait + Sync,
+    ensures { EndsSo
+        (RunEnds
+        (used P.failures P.remaining policy.old policy.new)
+        (used S.failures S.remaining script.old script.new)
+        (used O.failures O.contents out.old out.new)
+        (Some (used B.failures B.contents book.old book.new)))
+        (used E.failures E.contents err.old err.new)
+        result }
+{
+    run_on(rt, rt.alloc(), policy, script, out, err, Some(book))
+}
+
+fn audit_files<'a, F: Files, P: Ledger, S: Ledger, B: Ledger, O: Sink, E: Sink>(
+    alloc: Global,
+    files: &'a F,
+    paths: AuditPaths<'a>,
+    counts: Counts<P, S, B>,
+    out: &mut O,
+    err: &mut E,
+) -> u8
+    ensures { let policies = file_kind ⟦<FileSource<'a, F, P> as Source>⟧.failures
+        ⟦<FileSource<'a, F, P> as Source>⟧.remaining
+        (λ d. path_unopened d.path.now d.file) counts.policy in
+        let seconds = file_kind ⟦<FileSource<'a, F, S> as Source>⟧.failures
+        ⟦<FileSource<'a, F, S> as Source>⟧.remaining
+        (λ d. path_unopened d.path.now d.file) counts.second in
+        let outs = used O.failures O.contents out.old out.new in
+        let errs = used E.failures E.contents err.old err.new in
+        AuditsFiles policies seconds (audit_files paths.entry) outs errs result }
+{
+    let Counts { policy, second, .. } = counts;
+    let mut policy = unopened(files, paths.policy, policy);
+    let mut book = unopened(files, paths.book, second);
+    audit_on(alloc, &mut policy, &mut book, out, err)
+}
+
+fn unopened<'a, F: Files, L: Ledger>(
+    files: &'a F,
+    path: &'a str,
+    failures: Count<L>,
+) -> FileSource<'a, F, L>
+    ensures path { result.path.now ≡ path.now }
+    ensures unopened { result.file ≡ None }
+    ensures count { result.failures ≡ failures }
+{
+    FileSource {
+        rt: files,
+        path,
+        file: None,
+        failures,
+    }
+}
+
+fn unmade<'a, F: Files, L: Ledger>(
+    files: &'a F,
+    path: &'a str,
+    failures: Count<L>,
+) -> FileSink<'a, F, L>
+    ensures path { result.path.now ≡ path.now }
+    ensures unmade { result.file ≡ None }
+    ensures count { result.failures ≡ failures }
+{
+    FileSink {
+        rt: files,
+        path,
+        file: None,
+        failures,
+    }
+}
+
+/// How the program ends where its words are refused.
+pub(crate) fn fault_ending(fault: ArgFault) -> Ending
+    ensures { result ≡ refusal_ending fault }
+{
+    match fault {
+        ArgFault::BadArguments => Ending::BadArguments,
+        ArgFault::NoMemory => Ending::NoMemory,
+    }
+}

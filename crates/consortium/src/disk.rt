@@ -1,0 +1,266 @@
+//! A system in memory, for tests: its words, four files, and streams that keep what they are given.
+use std::alloc::Allocator;
+use std::cell::{Cell, RefCell};
+use std::env::FillError;
+use std::fs::{Metadata, OpenFile, OpenOptions};
+use std::io;
+use std::io::{ErrorKind, Read, Seek, SeekFrom, Write};
+use std::rt::{Env, Files};
+
+/// The files: three to be read, `w`, `s` and `b`, and one to be written, `k`. There are no others.
+#[derive(Clone, Copy, Debug, PartialEq, Eq)]
+pub enum Name {
+    Policy,
+    Script,
+    Book,
+    Kept,
+}
+
+/// What the files hold, how they give and take it, and what was done with them.
+#[derive(Drop)]
+pub struct Disk<'a> {
+    pub words: &'a [&'a [u8]],
+    pub policy: &'a [u8],
+    pub script: &'a [u8],
+    pub book: &'a [u8],
+    /// What was written to `k` since it was made last.
+    pub kept: RefCell<Vec<u8>>,
+    /// The most bytes that one read gives, or one write takes.
+    pub step: usize,
+    /// How many calls go well before one fails.
+    pub left: Cell<u64>,
+    /// The file at which it failed.
+    pub failed: Cell<Option<Name>>,
+    /// A letter for each file that was opened, `k` where it was made.
+    pub opened: RefCell<Vec<u8>>,
+}
+
+fn refused() -> io::Error {
+    io::Error::from(ErrorKind::Other)
+}
+
+impl<'a> Disk<'a> {
+    // One more call at this file; the last one fails.
+    fn turn(&self, name: Name) -> io::Result<()> {
+        let left = self.left.get();
+        if left == 0 {
+            self.failed.set(Some(name));
+            self.left.set(u64::MAX);
+            return Err(refused());
+        }
+        self.left.set(left - 1);
+        Ok(())
+    }
+
+    fn named(&self, path: &str) -> io::Result<(Name, u8)> {
+        match path {
+            "w" => Ok((Name::Policy, b'w')),
+            "s" => Ok((Name::Script, b's')),
+            "b" => Ok((Name::Book, b'b')),
+            "k" => Ok((Name::Kept, b'k')),
+            _ => Err(io::Error::from(ErrorKind::NotFound)),
+        }
+    }
+
+    // Gives the file anew where it is made, and refuses one that is opened otherwise than its use wants.
+    fn admit(&self, name: Name, how: &OpenOptions) -> io::Result<()> {
+        if name != Name::Kept {
+            return if how.asks_write() {
+                Err(refused())
+            } else {
+                Ok(())
+            };
+        }
+        if !how.asks_write() || !how.asks_create() || !how.asks_truncate() {
+            return Err(refused());
+        }
+        match self.kept.try_borrow_mut() {
+            Ok(mut kept) => {
+                kept.clear();
+                Ok(())
+            }
+            Err(_) => Err(refused()),
+        }
+    }
+}
+
+/// One of the files, opened.
+#[derive(Drop)]
+pub struct Opened<'a> {
+    disk: &'a Disk<'a>,
+    name: Name,
+    rest: &'a [u8],
+}
+
+impl<'a> Read for Opened<'a> {
+    fn read(&mut self, buffer: &mut [u8]) -> io::Result<usize> {
+        self.disk.turn(self.name)?;
+        let rest = self.rest;
+        let count = rest.len().min(buffer.len()).min(self.disk.step);
+        let (front, after) = rest.split_at(count);
+        buffer[..count].copy_from_slice(front);
+        self.rest = after;
+        Ok(count)
+    }
+}
+
+impl<'a> Write for Opened<'a> {
+    fn write(&mut self, bytes: &[u8]) -> io::Result<usize> {
+        self.disk.turn(self.name)?;
+        let count = bytes.len().min(self.disk.step);
+        match self.disk.kept.try_borrow_mut() {
+            Ok(mut kept) => {
+                kept.extend_from_slice(&bytes[..count])?;
+                Ok(count)
+            }
+            Err(_) => Err(refused()),
+        }
+    }
+
+    fn flush(&mut self) -> io::Result<()> {
+        Ok(())
+    }
+}
+
+impl<'a> Seek for Opened<'a> {
+    fn seek(&mut self, _to: SeekFrom) -> io::Result<u64> {
+        Err(refused())
+    }
+}
+
+impl<'a> OpenFile for Opened<'a> {
+    fn metadata(&self) -> io::Result<Metadata> {
+        Err(refused())
+    }
+
+    fn set_len(&self, _size: u64) -> io::Result<()> {
+        Err(refused())
+    }
+
+    fn sync_all(&self) -> io::Result<()> {
+        Err(refused())
+    }
+
+    fn sync_data(&self) -> io::Result<()> {
+        Err(refused())
+    }
+}
+
+/// The files and words of a disk.
+#[derive(Drop)]
+pub struct System<'a> {
+    pub disk: &'a Disk<'a>,
+}
+
+impl<'a> Files for System<'a> {
+    type File = Opened<'a>;
+
+    type Dir = Opened<'a>;
+
+    fn open_file(&self, how: &OpenOptions, path: &str) -> io::Result<Opened<'a>> {
+        let disk = self.disk;
+        let (name, letter) = disk.named(path)?;
+        disk.turn(name)?;
+        disk.admit(name, how)?;
+        match disk.opened.try_borrow_mut() {
+            Ok(mut opened) => opened.push(letter)?,
+            Err(_) => return Err(refused()),
+        }
+        let rest = match name {
+            Name::Policy => disk.policy,
+            Name::Script => disk.script,
+            Name::Book => disk.book,
+            Name::Kept => b"".as_slice(),
+        };
+        Ok(Opened { disk, name, rest })
+    }
+
+    fn open_dir(&self, _path: &str) -> io::Result<Opened<'a>> {
+        Err(refused())
+    }
+
+    fn metadata(&self, _path: &str) -> io::Result<Metadata> {
+        Err(refused())
+    }
+
+    fn symlink_metadata(&self, _path: &str) -> io::Result<Metadata> {
+        Err(refused())
+    }
+
+    fn copy(&self, _from: &str, _to: &str) -> io::Result<u64> {
+        Err(refused())
+    }
+
+    fn rename(&self, _from: &str, _to: &str) -> io::Result<()> {
+        Err(refused())
+    }
+
+    fn remove_file(&self, _path: &str) -> io::Result<()> {
+        Err(refused())
+    }
+
+    fn create_dir(&self, _path: &str) -> io::Result<()> {
+        Err(refused())
+    }
+
+    fn remove_dir(&self, _path: &str) -> io::Result<()> {
+        Err(refused())
+    }
+
+    fn remove_dir_all<B: Allocator>(&self, _alloc: B, _path: &str) -> io::Result<()> {
+        Err(refused())
+    }
+}
+
+impl<'a> Env for System<'a> {
+    fn arg(&self, i: usize, buffer: &mut [u8]) -> Result<usize, FillError> {
+        let words = self.disk.words;
+        if i >= words.len() {
+            return Err(FillError::NotPresent);
+        }
+        let word = words[i];
+        if word.len() > buffer.len() {
+            return Err(FillError::TooLong);
+        }
+        buffer[..word.len()].copy_from_slice(word);
+        Ok(word.len())
+    }
+
+    fn var(&self, _name: &str, _buffer: &mut [u8]) -> Result<usize, FillError> {
+        Err(FillError::NotPresent)
+    }
+
+    fn var_at(&self, _i: usize, _buffer: &mut [u8]) -> Result<usize, FillError> {
+        Err(FillError::NotPresent)
+    }
+}
+
+/// A stream that keeps what it is given, in pieces of no more than `step` bytes, until a call fails.
+#[derive(Drop)]
+pub struct Stream<'a> {
+    pub kept: &'a RefCell<Vec<u8>>,
+    pub step: usize,
+    /// How many calls go well before all fail.
+    pub left: u64,
+}
+
+impl<'a> Write for Stream<'a> {
+    fn write(&mut self, bytes: &[u8]) -> io::Result<usize> {
+        if self.left == 0 {
+            return Err(refused());
+        }
+        self.left -= 1;
+        let count = bytes.len().min(self.step);
+        match self.kept.try_borrow_mut() {
+            Ok(mut kept) => {
+                kept.extend_from_slice(&bytes[..count])?;
+                Ok(count)
+            }
+            Err(_) => Err(refused()),
+        }
+    }
+
+    fn flush(&mut self) -> io::Result<()> {
+        Ok(())
+    }
+}

@@ -1,0 +1,424 @@
+//! The commands over a system in memory: long files, short reads and writes, and each call at a file failing in turn.
+use super::*;
+use crate::disk::{Disk, Name, Stream, System};
+use crate::serving::Blanks;
+use std::alloc::Global;
+use std::cell::{Cell, RefCell};
+use std::process::Abort;
+use std::sync::Wait;
+use std::test::Fail;
+use std::thread::Threads;
+
+// One process of one bank.
+const ALONE: &[u8] = b"version = 1
+[[class]]
+name = \"banks\"
+datasets = [\"alpha\", \"beta\"]
+[[process]]
+name = \"p0\"
+home = \"alpha\"
+";
+
+// One use of the program: its words and files, and what it is to write and to open.
+#[derive(Clone, Copy)]
+struct Case<'a> {
+    words: &'a [&'a [u8]],
+    policy: &'a [u8],
+    script: &'a [u8],
+    book: &'a [u8],
+    out: &'a [u8],
+    err: &'a [u8],
+    kept: &'a [u8],
+    opened: &'a [u8],
+    status: u8,
+}
+
+// How the devices of a use fail: the most bytes of a call, and how many calls go well at the files and at each stream.
+#[derive(Clone, Copy)]
+struct Faults {
+    step: usize,
+    files: u64,
+    out: u64,
+    err: u64,
+}
+
+const NONE: Faults = Faults {
+    step: usize::MAX,
+    files: u64::MAX,
+    out: u64::MAX,
+    err: u64::MAX,
+};
+
+// What a use of the program came to.
+#[derive(Drop)]
+struct Ended {
+    status: u8,
+    out: Vec<u8>,
+    err: Vec<u8>,
+    kept: Vec<u8>,
+    opened: Vec<u8>,
+    failed: Option<Name>,
+}
+
+fn taken(cell: &RefCell<Vec<u8>>, alloc: Global) -> Result<Vec<u8>, Fail> {
+    match cell.try_replace(Vec::new(alloc)) {
+        Ok(bytes) => Ok(bytes),
+        Err(_) => Err(Fail::from("a cell is in use")),
+    }
+}
+
+fn used<R>(rt: &R, case: &Case, faults: Faults) -> Result<Ended, Fail>
+where
+    R: AllocGlobal + Threads + Wait + Sync,
+{
+    let alloc = rt.alloc();
+    let (out, err) = (RefCell::new(Vec::new(alloc)), RefCell::new(Vec::new(alloc)));
+    let disk = Disk {
+        words: case.words,
+        policy: case.policy,
+        script: case.script,
+        book: case.book,
+        kept: RefCell::new(Vec::new(alloc)),
+        step: faults.step,
+        left: Cell::new(faults.files),
+        failed: Cell::new(None),
+        opened: RefCell::new(Vec::new(alloc)),
+    };
+    let status = status_of(
+        rt,
+        &disk,
+        Stream {
+            kept: &out,
+            step: faults.step,
+            left: faults.out,
+        },
+        Stream {
+            kept: &err,
+            step: faults.step,
+            left: faults.err,
+        },
+    );
+    Ok(Ended {
+        status,
+        out: taken(&out, alloc)?,
+        err: taken(&err, alloc)?,
+        kept: taken(&disk.kept, alloc)?,
+        opened: taken(&disk.opened, alloc)?,
+        failed: disk.failed.get(),
+    })
+}
+
+fn status_of<R>(rt: &R, disk: &Disk, out: Stream, err: Stream) -> u8
+where
+    R: AllocGlobal + Threads + Wait + Sync,
+{
+    let blanks = Blanks {
+        policy: Blank::new(1),
+        second: Blank::new(1),
+        kept: Blank::new(1),
+        out: Blank::new(1),
+        err: Blank::new(1),
+    };
+    let system = System { disk };
+    serve::<R, System, Stream, Stream, Brand, Brand, Brand, Brand, Brand>(
+        rt, &system, out, err, blanks,
+    )
+}
+
+fn is_as_told(ended: &Ended, case: &Case) -> bool {
+    let is_written = ended.out.as_slice() == case.out && ended.err.as_slice() == case.err;
+    let is_kept = ended.kept.as_slice() == case.kept && ended.opened.as_slice() == case.opened;
+    ended.status == case.status && is_written && is_kept
+}
+
+// The texts of a long run of one process: so many barriers that script, replies and book are longer than a piece that is read or written.
+#[derive(Drop)]
+struct Long {
+    script: String,
+    replies: String,
+    run: String,
+    book: String,
+    sound: String,
+}
+
+fn long_texts(rt: &impl AllocGlobal, posts: u64) -> Result<Long, Fail> {
+    let mut script = String::new(rt.alloc());
+    let mut replies = String::new(rt.alloc());
+    let mut book = String::new(rt.alloc());
+    book.push_str("book 1\n")?;
+    for k in 0..posts {
+        write!(script, "post 0 0 barrier\ntake 0 {k}\n")?;
+        write!(replies, "posted {k}\ndelivered none\n")?;
+        write!(
+            book,
+            "post 0 0 barrier gives 0 as none passed\nverdict 0 {k} granted\n"
+        )?;
+    }
+    let entries = posts.wrapping_mul(2);
+    write!(book, "end {entries}\n")?;
+    let run = format!(in rt.alloc(); "rank 0 p0\n{replies}")?;
+    let sound = format!(in rt.alloc(); "sound {entries}\n")?;
+    Ok(Long {
+        script,
+        replies,
+        run,
+        book,
+        sound,
+    })
+}
+
+// Each command that has files, over these texts.
+fn commands<'a>(long: &'a Long) -> [Case<'a>; 5] {
+    let quiet = Case {
+        words: &[],
+        policy: ALONE,
+        script: long.script.as_bytes(),
+        book: long.book.as_bytes(),
+        out: long.replies.as_bytes(),
+        err: b"",
+        kept: b"",
+        opened: b"ws",
+        status: 0,
+    };
+    [
+        Case {
+            words: &[b"consortium", b"replay", b"w", b"s"],
+            ..quiet
+        },
+        Case {
+            words: &[b"consortium", b"replay", b"w", b"--book", b"k", b"s"],
+            kept: long.book.as_bytes(),
+            opened: b"wsk",
+            ..quiet
+        },
+        Case {
+            words: &[b"consortium", b"run", b"w", b"s"],
+            out: long.run.as_bytes(),
+            ..quiet
+        },
+        Case {
+            words: &[b"consortium", b"run", b"--book", b"k", b"w", b"s"],
+            out: long.run.as_bytes(),
+            kept: long.book.as_bytes(),
+            opened: b"wsk",
+            ..quiet
+        },
+        Case {
+            words: &[b"consortium", b"audit", b"w", b"b"],
+            out: long.sound.as_bytes(),
+            opened: b"wb",
+            ..quiet
+        },
+    ]
+}
+
+#[test]
+fn long_files_are_read_and_written_whole(rt: HostRuntime) -> Result<(), Fail> {
+    for (posts, step) in [(2500, usize::MAX), (1100, 1000), (30, 1)] {
+        let long = long_texts(&rt, posts)?;
+        for case in commands(&long) {
+            let ended = used(&rt, &case, Faults { step, ..NONE })?;
+            assert!(&rt; is_as_told(&ended, &case), "{step}");
+        }
+    }
+    Ok(())
+}
+
+// Each call at a file fails once: the line and the status are of that file, and what is written is a prefix.
+#[test]
+fn each_call_at_a_file_fails(rt: HostRuntime) -> Result<(), Fail> {
+    let long = long_texts(&rt, 30)?;
+    for case in commands(&long) {
+        let mut calls: u64 = 0;
+        for files in 0..4000u64 {
+            let step = 97;
+            let ended = used(
+                &rt,
+                &case,
+                Faults {
+                    step,
+                    files,
+                    ..NONE
+                },
+            )?;
+            let Some(name) = ended.failed else {
+                assert!(&rt; is_as_told(&ended, &case));
+                break;
+            };
+            calls = files + 1;
+            assert_eq!(&rt; ended.status, 3);
+            assert!(&rt; case.kept.starts_with(&ended.kept));
+            assert!(&rt; case.opened.starts_with(&ended.opened));
+            if name == Name::Kept {
+                assert!(&rt; ended.err.as_slice() == b"write fault\n".as_slice());
+                assert!(&rt; ended.out.as_slice() == case.out);
+            } else {
+                assert!(&rt; ended.err.as_slice() == b"read fault\n".as_slice());
+                assert!(&rt; ended.out.is_empty() && ended.kept.is_empty());
+            }
+        }
+        assert!(&rt; 10 < calls && calls < 4000);
+    }
+    Ok(())
+}
+
+// Each call at standard output fails in turn. Standard error that fails changes nothing.
+#[test]
+fn each_call_at_a_stream_fails(rt: HostRuntime) -> Result<(), Fail> {
+    let long = long_texts(&rt, 30)?;
+    for case in commands(&long) {
+        let mut calls: u64 = 0;
+        for out in 0..4000u64 {
+            let step = 53;
+            let ended = used(&rt, &case, Faults { step, out, ..NONE })?;
+            if ended.status != 3 {
+                assert!(&rt; is_as_told(&ended, &case));
+                break;
+            }
+            calls = out + 1;
+            assert!(&rt; ended.err.as_slice() == b"write fault\n".as_slice());
+            assert!(&rt; case.out.starts_with(&ended.out));
+            assert!(&rt; ended.kept.is_empty() && case.opened.starts_with(&ended.opened));
+        }
+        assert!(&rt; 0 < calls && calls < 4000);
+    }
+    let bad = refused(&[b"consortium", b"help"], b"bad arguments\n", b"", 5);
+    for err in 0..2u64 {
+        let ended = used(
+            &rt,
+            &bad,
+            Faults {
+                step: 5,
+                err,
+                ..NONE
+            },
+        )?;
+        assert!(&rt; ended.status == 5 && bad.err.starts_with(&ended.err) && ended.out.is_empty());
+    }
+    Ok(())
+}
+
+// A use that writes nothing but a line on standard error.
+fn refused<'a>(words: &'a [&'a [u8]], err: &'a [u8], opened: &'a [u8], status: u8) -> Case<'a> {
+    Case {
+        words,
+        policy: ALONE,
+        script: b"take 0 0\n",
+        book: b"book 1\nend 0",
+        out: b"",
+        err,
+        kept: b"",
+        opened,
+        status,
+    }
+}
+
+#[test]
+fn faults_of_words_and_files_are_told(rt: HostRuntime) -> Result<(), Fail> {
+    let rows: [(&[&[u8]], &str, &str, u8); 17] = [
+        (&[], "bad arguments\n", "", 5),
+        (&[b"consortium"], "bad arguments\n", "", 5),
+        (&[b"consortium", b"replay", b"w"], "bad arguments\n", "", 5),
+        (
+            &[b"consortium", b"play", b"w", b"s"],
+            "bad arguments\n",
+            "",
+            5,
+        ),
+        (
+            &[b"consortium", b"replay", b"w", b"\xff"],
+            "bad arguments\n",
+            "",
+            5,
+        ),
+        (
+            &[b"consortium", b"run", b"--help"],
+            "bad arguments\n",
+            "",
+            5,
+        ),
+        (
+            &[b"consortium", b"audit", b"w", b"b", b"--book", b"k"],
+            "bad arguments\n",
+            "",
+            5,
+        ),
+        (
+            &[b"consortium", b"replay", b"x", b"s"],
+            "read fault\n",
+            "",
+            3,
+        ),
+        (
+            &[b"consortium", b"replay", b"w", b"x"],
+            "read fault\n",
+            "w",
+            3,
+        ),
+        (&[b"consortium", b"run", b"x", b"s"], "read fault\n", "", 3),
+        (&[b"consortium", b"run", b"w", b"x"], "read fault\n", "w", 3),
+        (
+            &[b"consortium", b"audit", b"x", b"b"],
+            "read fault\n",
+            "",
+            3,
+        ),
+        (
+            &[b"consortium", b"audit", b"w", b"x"],
+            "read fault\n",
+            "w",
+            3,
+        ),
+        (
+            &[b"consortium", b"audit", b"w", b"b"],
+            "book: cut\n",
+            "wb",
+            2,
+        ),
+        (
+            &[b"consortium", b"audit", b"s", b"b"],
+            "policy: NotToml\n",
+            "s",
+            1,
+        ),
+        (
+            &[b"consortium", b"run", b"s", b"w"],
+            "policy: NotToml\n",
+            "s",
+            1,
+        ),
+        (
+            &[b"consortium", b"replay", b"w", b"w"],
+            "script: line 1: BadVerb\n",
+            "ww",
+            2,
+        ),
+    ];
+    for (words, err, opened, status) in rows {
+        let case = refused(words, err.as_bytes(), opened.as_bytes(), status);
+        let ended = used(&rt, &case, NONE)?;
+        assert!(&rt; is_as_told(&ended, &case), "{err} {opened}");
+    }
+    // a book that can't be made
+    let rows: [(&[u8], &[u8]); 2] = [
+        (b"replay", b"refused NoSuchRequest\n"),
+        (b"run", b"rank 0 p0\nrefused NoSuchRequest\n"),
+    ];
+    for (command, out) in rows {
+        let words = [
+            b"consortium".as_slice(),
+            command,
+            b"w",
+            b"s",
+            b"--book",
+            b"x",
+        ];
+        let case = Case {
+            out,
+            ..refused(&words, b"write fault\n", b"ws", 3)
+        };
+        let ended = used(&rt, &case, NONE)?;
+        assert!(&rt; is_as_told(&ended, &case));
+    }
+    Ok(())
+}

@@ -1,0 +1,23 @@
+use Rattle.std.proofs.Common.{◌≡◌, arith, ap, sym, length}
+use Rattle.std.proofs.lemmas.List.Elements.{All-head, All-push, All-rest, All-same}
+use Rattle.std.specs.Vec.Iter.{into_iter_items}
+use Rattle.joint_sum.specs.declared.firm.Firm.{Firm}
+use Rattle.hall_turn.specs.Known.{Known}
+use Rattle.joint_sum.proofs.sort_out.Goals as goal
+
+pub loop-firm-preserved : goal.loop-firm-preserved
+loop-firm-preserved c =
+    let i = c.loop-firm.invariant in
+    let firm = c.in-Some.firm in
+    let rest = into_iter_items c.next.new.self in
+    let split = c.in-Some.ensures.steps.0 in
+    let one = c.push_reserved.ensures in
+    let two = c.push_reserved-in-loop-firm.ensures in
+    let Back = λ (f : Firm). f.pass.door ≡ c.args.door.now in
+    record {
+      rest = All-rest Back firm rest _ split i.rest;
+      passes = rw one.items (All-push (λ (p : Known). p.door ≡ c.args.door.now) _ _ i.passes
+          (All-head Back firm rest (All-same Back _ _ (sym split) i.rest)));
+      passes_fit = omega (arith, one.len, one.capacity, i.passes_fit, ap length split);
+      told_fit = omega (arith, two.len, two.capacity, i.told_fit, ap length split);
+    }

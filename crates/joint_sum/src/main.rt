@@ -1,0 +1,189 @@
+//! Four processes compute a sum together through the library: a policy, a door, a thread for each
+//! process, and the audit of the book. `README.md` walks through it.
+#![tactic(auto)]
+
+ghost use Rattle.std.specs.Prelude.{◌≡◌, ◌≤◌, ◌++◌, [], IfOk, OnOk, length, codes, decimal, string_bytes, vec_len, vec_capacity};
+ghost use Rattle.std.specs.List.{All};
+ghost use Rattle.run_model.specs.Books.{IsSound};
+
+mod firm;
+
+use anyhow::{Result, bail};
+use audit_book::{Book, check_book};
+use firm::{Firm, play};
+use hall_core::Hall;
+use hall_turn::{Door, Passes};
+use std::alloc::Global;
+use std::io::Write;
+use std::rt::{Env, Files};
+use std::sync::Wait;
+use std::thread::Threads;
+use std::{env, fs, thread};
+use wall_labels::ProcessId;
+use wall_policy::{Policy, read_policy};
+
+// What the processes came to.
+#[derive(Drop)]
+struct Ended {
+    passes: Passes,
+    // What each was told.
+    told: Vec<Result<Vec<u8>>>,
+}
+
+// The policy of the file that the first word names.
+fn named_policy<R: Files + Env + AllocGlobal>(rt: &R) -> Result<Policy> {
+    let Some(path) = env::args(rt)?.nth(1) else {
+        bail!("no policy file is named");
+    };
+    let bytes = fs::read(rt, path.as_str())?;
+    Ok(read_policy(rt.alloc(), &bytes)?)
+}
+
+// Parts the passes from what was told.
+fn sort_out(
+    door: &Door,
+    firms: Vec<Firm>,
+    mut passes: Passes,
+    mut told: Vec<Result<Vec<u8>>>,
+) -> Ended
+    requires of { All (λ firm. firm.pass.door ≡ door.now) firms.items }
+    requires passes { (passes.items ≡ []) × (vec_len firms ≤ vec_capacity passes) }
+    requires told { (told.items ≡ []) × (vec_len firms ≤ vec_capacity told) }
+    ensures { All (λ pass. pass.door ≡ door.now) result.passes.items }
+{
+    for firm in firms {
+        passes.push_reserved(firm.pass);
+        told.push_reserved(firm.told);
+    }
+    Ended { passes, told }
+}
+
+// All processes at the same time, each in a thread of its own.
+fn play_all<R: Threads + Wait + Sync>(
+    rt: &R,
+    alloc: Global,
+    door: &Door,
+    policy: &Policy,
+    passes: Passes,
+) -> Result<Ended>
+    requires policy { policy.now ≡ door.now.policy }
+    requires passes { All (λ pass. pass.door ≡ door.now) passes.items }
+    ensures { IfOk result (λ ended. All (λ pass. pass.door ≡ door.now) ended.passes.items) }
+{
+    let back = Vec::with_capacity(alloc, passes.len())?;
+    let told = Vec::with_capacity(alloc, passes.len())?;
+    let firms = thread::map_vec(
+        rt,
+        passes,
+        &|pass| -> Firm
+            requires policy { policy.now ≡ door.now.policy }
+            requires pass { pass.door ≡ door.now }
+            ensures { result.pass.door ≡ door.entry.now }
+        { play(rt, alloc, door, policy, pass) },
+    )?;
+    Ok(sort_out(door, firms, back, told))
+}
+
+// The line of a book that is sound. For any other there is none.
+fn audit_line(alloc: Global, policy: &Policy, book: &Book) -> Result<String>
+    ensures sound { OnOk result (IsSound policy.now book.now.list) }
+    ensures line { IfOk result (λ line. string_bytes line ≡ codes "book: sound, "
+        ++ decimal (length book.now.list) ++ codes " entries\n") }
+{
+    check_book(alloc, policy, book)?;
+    Ok(format!(in alloc; "book: sound, {} entries\n", book.len())?)
+}
+
+// The name of a process.
+fn name(policy: &Policy, process: u32) -> &str {
+    match ProcessId::new(process) {
+        Some(id) if process < policy.processes() => policy.process_name(id),
+        _ => "nobody",
+    }
+}
+
+// Appends the name of a process, and what it was told.
+fn put(policy: &Policy, process: u32, told: &[u8], text: &mut Vec<u8>) -> Result<()> {
+    text.extend_from_slice(name(policy, process).as_bytes())?;
+    text.extend_from_slice(b":\n")?;
+    text.extend_from_slice(told)?;
+    Ok(())
+}
+
+// What all processes were told, in order, and the line of the audit.
+fn report(alloc: Global, hall: &Hall, told: &[Result<Vec<u8>>]) -> Result<Vec<u8>> {
+    let mut text = Vec::new(alloc);
+    for process in 0..hall.policy().processes() {
+        match told.get(process as usize) {
+            Some(Ok(told)) => put(hall.policy(), process, told, &mut text)?,
+            Some(Err(fault)) => bail!("{fault}"),
+            None => bail!("a process is missing"),
+        }
+    }
+    let line = audit_line(alloc, hall.policy(), hall.book())?;
+    text.extend_from_slice(line.as_bytes())?;
+    Ok(text)
+}
+
+// The door of a policy, with its passes. The door keeps a copy.
+fn open(alloc: Global, policy: &Policy) -> Result<(Door, Passes)>
+    ensures policy { IfOk result (λ opened. policy.now ≡ opened.0.policy) }
+    ensures of { IfOk result (λ opened. All (λ pass. pass.door ≡ opened.0) opened.1.items) }
+{
+    let Ok(copy) = policy.copy(alloc) else {
+        bail!("out of memory");
+    };
+    match Door::open(alloc, copy) {
+        Ok(opened) => Ok(opened),
+        Err(_) => bail!("out of memory"),
+    }
+}
+
+// Closes the door, to which all passes have come back.
+fn close(alloc: Global, door: Door, ended: Ended) -> Result<Vec<u8>>
+    requires { All (λ pass. pass.door ≡ door) ended.passes.items }
+{
+    match door.close(ended.passes) {
+        Ok(hall) => report(alloc, &hall, &ended.told),
+        Err(_) => bail!("a pass is missing"),
+    }
+}
+
+// All processes at this door, and what they were told.
+fn meet<R: Threads + Wait + Sync>(
+    rt: &R,
+    alloc: Global,
+    door: Door,
+    policy: &Policy,
+    passes: Passes,
+) -> Result<Vec<u8>>
+    requires policy { policy.now ≡ door.policy }
+    requires passes { All (λ pass. pass.door ≡ door) passes.items }
+{
+    match play_all(rt, alloc, &door, policy, passes) {
+        Ok(ended) => close(alloc, door, ended),
+        Err(fault) => Err(fault),
+    }
+}
+
+// A door under the policy, and all that happens there.
+fn run<R: Threads + Wait + Sync>(rt: &R, alloc: Global, policy: &Policy) -> Result<Vec<u8>> {
+    match open(alloc, policy) {
+        Ok((door, passes)) => meet(rt, alloc, door, policy, passes),
+        Err(fault) => Err(fault),
+    }
+}
+
+// What there is to print.
+fn text<R: Files + Env + AllocGlobal + Threads + Wait + Sync>(rt: &R) -> Result<Vec<u8>> {
+    match named_policy(rt) {
+        Ok(policy) => run(rt, rt.alloc(), &policy),
+        Err(fault) => Err(fault),
+    }
+}
+
+fn main(rt: HostRuntime) -> Result<()> {
+    let text = text(&rt)?;
+    rt.stdout().write_all(&text)?;
+    Ok(())
+}

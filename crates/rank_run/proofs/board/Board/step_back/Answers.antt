@@ -1,0 +1,23 @@
+use Rattle.std.proofs.Common.{◌≡◌, true, true≢false, sym, ap, ◌∙◌, arith, refl}
+use Rattle.std.proofs.lemmas.Grind.{common_steps}
+use Rattle.rank_run.specs.declared.board.Place.TheVariants.{Plays, InLine}
+use Rattle.rank_run.specs.Boards.{place_of, is_awake}
+use Rattle.rank_run.proofs.board.Board.step_back.Goals as goal
+
+pub returns-then-is_some-clause-orderly : goal.returns-then-is_some-clause-orderly
+returns-then-is_some-clause-orderly c =
+    let own : place_of c.set.new.self c.args.rank ≡ InLine = grind (arith, common_steps) in record {
+      heard = grind (arith, common_steps);
+      one = grind (arith, common_steps);
+      watched = λ rank it e none. true≢false (sym (ap is_awake own) ∙ none c.args.rank);
+      served = grind (arith, common_steps);
+    }
+
+pub returns-clause-orderly : goal.returns-clause-orderly
+returns-clause-orderly c =
+    let own : place_of c.set-2.new.self c.args.rank ≡ Plays = grind (arith, common_steps) in record {
+      heard = grind (arith, common_steps);
+      one = grind (arith, common_steps);
+      watched = λ rank it e none. true≢false (sym (ap is_awake own) ∙ none c.args.rank);
+      served = grind (arith, common_steps);
+    }

@@ -1,0 +1,66 @@
+-- Where the ranks of a run stand, and what may be said of it at any time. (Own rules.)
+use Rattle.std.specs.Prelude.{◌≡◌, ◌≢◌, ◌↔◌, ◌⊎◌, ℕ, ◌+◌, ◌<◌, ◌≤◌, Bool, true, false, List, Option, Some, None, IfSome, IsSome, min, slice_index_or}
+use Rattle.rank_run.specs.declared.board.Instance.{Instance}
+use Rattle.rank_run.specs.declared.board.Place.{Place}
+use Rattle.rank_run.specs.declared.board.Place.TheVariants.{Plays, InLine, Aside, Sleeps, Ended}
+use Rattle.rank_run.specs.declared.board.Board.{Board}
+
+-- where the rank stands; what is no rank has ended
+abbrev pub place_of : Board → (rank : ℕ) → Place
+place_of board rank = slice_index_or board.places.items rank Ended
+
+-- how many instances have settled on the communicator
+abbrev pub settled_on : Board → (comm : ℕ) → ℕ
+settled_on board comm = slice_index_or board.settled.items comm 0
+
+-- the rank plays, stands in line, or has stepped aside
+abbrev pub is_awake : Place → Bool
+is_awake Plays = true
+is_awake InLine = true
+is_awake Aside = true
+is_awake (Sleeps it) = false
+is_awake Ended = false
+
+-- the place is in line, or is that of no rank
+abbrev pub IsInLineOrNone : Place → Type 0
+IsInLineOrNone place = (place ≡ InLine) ⊎ (place ≡ Ended)
+
+-- nobody sleeps for what has settled
+abbrev pub IsHeard : Board → Type 0
+IsHeard board = (rank : ℕ) (it : Instance) → place_of board rank ≡ Sleeps it
+    → settled_on board it.comm ≤ it.number
+
+-- who plays is the one that has the place
+abbrev pub PlaysAlone : Board → Type 0
+PlaysAlone board = (rank : ℕ) → (place_of board rank ≡ Plays) ↔ (board.player ≡ Some rank)
+
+-- nobody is awake
+abbrev pub AllSleep : Board → Type 0
+AllSleep board = (rank : ℕ) → is_awake (place_of board rank) ≡ false
+
+-- where somebody sleeps, somebody is awake
+abbrev pub IsWatched : Board → Type 0
+IsWatched board = (rank : ℕ) (it : Instance) → place_of board rank ≡ Sleeps it → AllSleep board → ⊥
+
+-- where somebody stands in line, somebody plays
+abbrev pub IsServed : Board → Type 0
+IsServed board = (rank : ℕ) → place_of board rank ≡ InLine → IsSome board.player
+
+pub record IsOrderly (board : Board) : Type 0 where
+  pub heard : IsHeard board
+  pub one : PlaysAlone board
+  pub watched : IsWatched board
+  pub served : IsServed board
+
+-- Whoever has come to play is the one to call, and whoever is to be called plays.
+pub record Calls (before after : Board) (called : Option ℕ) : Type 0 where
+  pub all : (rank : ℕ) → place_of after rank ≡ Plays → place_of before rank ≢ Plays
+      → called ≡ Some rank
+  pub only : IfSome called (λ rank. place_of after rank ≡ Plays)
+
+-- the rank slept for an instance that has settled, and now stands in line
+pub record HasComeToLine (before after : Board) (rank : ℕ) : Type 0 where
+  pub it : Instance
+  pub slept : place_of before rank ≡ Sleeps it
+  pub settled : it.number < settled_on after it.comm
+  pub stands : place_of after rank ≡ InLine

@@ -1,0 +1,451 @@
+//! Where the ranks of a run stand: who plays, who waits for the place, and who sleeps for what.
+ghost use Rattle.std.specs.Prelude.{◌≡◌, ◌≢◌, ℕ, Option, ◌+◌, ◌-◌, ◌^◌, ◌<◌, ◌≤◌, IfOk, IfSome, IfNone, None, Some, true, false, length, slice_set, slice_index_or};
+ghost use Rattle.rank_run.specs.declared.board.Place.TheVariants.{Plays, InLine, Aside, Sleeps as AtRest, Ended};
+ghost use Rattle.rank_run.specs.declared.board.Lying.TheVariants.{Stays, Sleeps};
+ghost use Rattle.rank_run.specs.declared.board.Instance.{Instance};
+ghost use Rattle.rank_run.specs.Boards.{IsInLineOrNone, place_of, settled_on, is_awake, IsHeard, PlaysAlone, IsWatched, IsOrderly, Calls, HasComeToLine};
+
+use std::alloc::{AllocError, Global};
+
+/// An instance: the communicator, and how many there were before it.
+#[derive(Clone, Copy)]
+pub(crate) struct Instance {
+    pub(crate) comm: u32,
+    pub(crate) number: u64,
+}
+
+/// Where a rank stands.
+#[derive(Clone, Copy)]
+pub(crate) enum Place {
+    Plays,
+    /// It plays as soon as nobody else does.
+    InLine,
+    /// It works out a delivery, and makes no call.
+    Aside,
+    /// It sleeps until the instance settles.
+    Sleeps(Instance),
+    Ended,
+}
+
+/// Where all ranks stand. One plays at a time.
+#[derive(Drop)]
+pub(crate) struct Board {
+    pub(crate) places: Vec<Place>,
+    // How many instances have settled on each communicator.
+    pub(crate) settled: Vec<u64>,
+    pub(crate) player: Option<usize>,
+    // Where the search for one in line starts, so that each has its turn.
+    pub(crate) next: usize,
+}
+
+// So many places in line.
+fn places_in_line(alloc: Global, ranks: usize) -> Result<Vec<Place>, AllocError>
+    ensures { IfOk result (λ places. (rank : ℕ) → IsInLineOrNone (slice_index_or places.items rank Ended)) }
+{
+    let mut places = Vec::with_capacity(alloc, ranks)?;
+    for _ in 0..ranks {
+        places.push(Place::InLine)?;
+    }
+    Ok(places)
+}
+
+fn no_counts(alloc: Global, communicators: usize) -> Result<Vec<u64>, AllocError> {
+    let mut counts = Vec::with_capacity(alloc, communicators)?;
+    for _ in 0..communicators {
+        counts.push(0)?;
+    }
+    Ok(counts)
+}
+
+impl Board {
+    fn place_of(&self, rank: usize) -> Place
+        ensures { result ≡ place_of self.now rank }
+    {
+        match self.places.get(rank) {
+            Some(place) => *place,
+            None => Place::Ended,
+        }
+    }
+
+    fn set(&mut self, rank: usize, place: Place)
+        requires { rank < length self.old.places.items }
+        ensures places { self.new.places.items ≡ slice_set self.old.places.items rank place }
+        ensures settled { self.new.settled ≡ self.old.settled }
+        ensures player { self.new.player ≡ self.old.player }
+    {
+        self.places[rank] = place;
+    }
+
+    pub(crate) fn has_settled(&self, it: Instance) -> bool
+        ensures yes { result ≡ true → it.number < settled_on self.now it.comm }
+        ensures no { result ≡ false → settled_on self.now it.comm ≤ it.number }
+    {
+        match self.settled.get(it.comm as usize) {
+            Some(count) => it.number < *count,
+            None => false,
+        }
+    }
+
+    fn is_in_line(&self, rank: usize) -> bool
+        ensures yes { result ≡ true → place_of self.now rank ≡ InLine }
+        ensures no { result ≡ false → place_of self.now rank ≢ InLine }
+    {
+        match self.place_of(rank) {
+            Place::InLine => true,
+            Place::Plays | Place::Aside | Place::Sleeps(_) | Place::Ended => false,
+        }
+    }
+
+    fn is_awake(&self, rank: usize) -> bool
+        ensures { result ≡ is_awake (place_of self.now rank) }
+    {
+        match self.place_of(rank) {
+            Place::Plays | Place::InLine | Place::Aside => true,
+            Place::Sleeps(_) | Place::Ended => false,
+        }
+    }
+
+    fn first_in_line(&self) -> Option<usize>
+        ensures found { IfSome result (λ rank. place_of self.now rank ≡ InLine) }
+        ensures none { IfNone result ((rank : ℕ) → place_of self.now rank ≢ InLine) }
+    {
+        let (len, next) = (self.places.len(), self.next);
+        for rank in next..len {
+            if self.is_in_line(rank) {
+                return Some(rank);
+            }
+        }
+        for rank in 0..len {
+            if self.is_in_line(rank) {
+                return Some(rank);
+            }
+        }
+        None
+    }
+
+    // The place, which is free, goes to the next in line. Gives whom to call.
+    fn cast(&mut self) -> Option<usize>
+        requires free { self.old.player ≡ None }
+        requires heard { IsHeard self.old }
+        requires one { PlaysAlone self.old }
+        requires watched { IsWatched self.old }
+        ensures orderly { IsOrderly self.new }
+        ensures calls { Calls self.old self.new result }
+        ensures stays { (rank : ℕ) → place_of self.new rank ≢ Plays → place_of self.new rank ≡ place_of self.old rank }
+        ensures from { (rank : ℕ) → place_of self.new rank ≡ Plays → place_of self.old rank ≡ InLine }
+        ensures settled { self.new.settled ≡ self.old.settled }
+    {
+        let rank = self.first_in_line()?;
+        self.next = rank.wrapping_add(1);
+        self.player = Some(rank);
+        self.set(rank, Place::Plays);
+        Some(rank)
+    }
+
+    // Whether a rank but this one is awake.
+    fn others_are_awake(&self, rank: usize) -> bool
+        ensures yes { result ≡ true → (other : ℕ) × (other ≢ rank) × (is_awake (place_of self.now other) ≡ true) }
+    {
+        for other in 0..self.places.len() {
+            if other != rank && self.is_awake(other) {
+                return true;
+            }
+        }
+        false
+    }
+
+    fn plays(&self, rank: usize) -> bool
+        ensures yes { result ≡ true → place_of self.now rank ≡ Plays }
+        ensures no { result ≡ false → place_of self.now rank ≢ Plays }
+    {
+        match self.place_of(rank) {
+            Place::Plays => true,
+            Place::InLine | Place::Aside | Place::Sleeps(_) | Place::Ended => false,
+        }
+    }
+
+    fn first_asleep(&self) -> Option<usize>
+        ensures found { IfSome result (λ rank. (it : Instance) × (place_of self.now rank ≡ AtRest it)) }
+        ensures none { IfNone result ((rank : ℕ) (it : Instance) → place_of self.now rank ≢ AtRest it) }
+    {
+        for rank in 0..self.places.len() {
+            if let Place::Sleeps(_) = self.place_of(rank) {
+                return Some(rank);
+            }
+        }
+        None
+    }
+
+    // The rank that plays leaves the place. Gives whom to call.
+    fn leave(&mut self, rank: usize, place: Place) -> Option<usize>
+        requires orderly { IsOrderly self.old }
+        requires plays { place_of self.old rank ≡ Plays }
+        requires goes { (place ≢ Plays) × (place ≢ InLine) }
+        requires heard { (it : Instance) → place ≡ AtRest it → settled_on self.old it.comm ≤ it.number }
+        requires watched { is_awake place ≡ false → (other : ℕ) × (other ≢ rank) × (is_awake (place_of self.old other) ≡ true) }
+        ensures orderly { IsOrderly self.new }
+        ensures calls { Calls self.old self.new result }
+        ensures place { place_of self.new rank ≡ place }
+        ensures stays { (other : ℕ) → other ≢ rank → place_of self.new other ≢ Plays → place_of self.new other ≡ place_of self.old other }
+    {
+        self.set(rank, place);
+        self.player = None;
+        self.cast()
+    }
+
+    /// The rank, if it plays, steps aside: it makes no call for a while. Gives whom to call.
+    pub(crate) fn step_aside(&mut self, rank: usize) -> Option<usize>
+        requires { IsOrderly self.old }
+        ensures orderly { IsOrderly self.new }
+        ensures calls { Calls self.old self.new result }
+        ensures aside { place_of self.old rank ≡ Plays → place_of self.new rank ≡ Aside }
+        ensures stays { (other : ℕ) → other ≢ rank → place_of self.new other ≢ Plays → place_of self.new other ≡ place_of self.old other }
+    {
+        if !self.plays(rank) {
+            return None;
+        }
+        self.leave(rank, Place::Aside)
+    }
+
+    /// A rank that had stepped aside comes back: it plays at once, or stands in line. Gives whether it plays.
+    pub(crate) fn step_back(&mut self, rank: usize) -> bool
+        requires { IsOrderly self.old }
+        ensures orderly { IsOrderly self.new }
+        ensures plays { result ≡ true → place_of self.new rank ≡ Plays }
+        ensures in_line { result ≡ false → place_of self.old rank ≡ Aside → place_of self.new rank ≡ InLine }
+        ensures others { (other : ℕ) → other ≢ rank → place_of self.new other ≡ place_of self.old other }
+    {
+        let Place::Aside = self.place_of(rank) else {
+            return self.plays(rank);
+        };
+        if self.player.is_some() {
+            self.set(rank, Place::InLine);
+            return false;
+        }
+        self.player = Some(rank);
+        self.set(rank, Place::Plays);
+        true
+    }
+
+    /// The rank, if it plays, lies down to sleep until the instance settles. It does not where that
+    /// has settled, or where no other rank is awake.
+    pub(crate) fn lie_down(&mut self, rank: usize, it: Instance) -> Lying
+        requires { IsOrderly self.old }
+        ensures orderly { IsOrderly self.new }
+        ensures lies { (called : Option ℕ) → result ≡ Sleeps called
+            → Calls self.old self.new called × (place_of self.new rank ≡ AtRest it) }
+        ensures awake { result ≡ Stays → self.new ≡ self.old }
+        ensures stays { (other : ℕ) → other ≢ rank → place_of self.new other ≢ Plays → place_of self.new other ≡ place_of self.old other }
+    {
+        if !self.plays(rank) || self.has_settled(it) || !self.others_are_awake(rank) {
+            return Lying::Stays;
+        }
+        Lying::Sleeps(self.leave(rank, Place::Sleeps(it)))
+    }
+
+    // It stands in line if it sleeps for what has settled.
+    fn call_if_settled(&mut self, rank: usize)
+        requires { rank < length self.old.places.items }
+        ensures heard { (it : Instance) → place_of self.new rank ≡ AtRest it → settled_on self.new it.comm ≤ it.number }
+        ensures only { place_of self.new rank ≢ place_of self.old rank → HasComeToLine self.old self.new rank }
+        ensures one { PlaysAlone self.old → PlaysAlone self.new }
+        ensures awake { (r : ℕ) → is_awake (place_of self.old r) ≡ true → is_awake (place_of self.new r) ≡ true }
+        ensures others { (other : ℕ) → other ≢ rank → place_of self.new other ≡ place_of self.old other }
+        ensures settled { self.new.settled ≡ self.old.settled }
+        ensures player { self.new.player ≡ self.old.player }
+        ensures len { length self.new.places.items ≡ length self.old.places.items }
+    {
+        let Place::Sleeps(it) = self.place_of(rank) else {
+            return;
+        };
+        if self.has_settled(it) {
+            self.set(rank, Place::InLine);
+        }
+    }
+
+    // Those who sleep for what has settled stand in line, and nobody else moves.
+    fn call_sleepers(&mut self)
+        requires one { PlaysAlone self.old }
+        requires watched { IsWatched self.old }
+        ensures heard { IsHeard self.new }
+        ensures one { PlaysAlone self.new }
+        ensures watched { IsWatched self.new }
+        ensures only { (rank : ℕ) → place_of self.new rank ≢ place_of self.old rank → HasComeToLine self.old self.new rank }
+        ensures settled { self.new.settled ≡ self.old.settled }
+        ensures player { self.new.player ≡ self.old.player }
+    {
+        for rank in 0..self.places.len() {
+            self.call_if_settled(rank);
+        }
+    }
+
+    // One more instance has settled on the communicator.
+    fn count(&mut self, comm: u32)
+        ensures more { settled_on self.old comm < 2 ^ 64 - 1 → comm < length self.old.settled.items → settled_on self.new comm ≡ settled_on self.old comm + 1 }
+        ensures others { (other : ℕ) → other ≢ comm → settled_on self.new other ≡ settled_on self.old other }
+        ensures places { self.new.places ≡ self.old.places }
+        ensures player { self.new.player ≡ self.old.player }
+    {
+        if let Some(count) = self.settled.get_mut(comm as usize) {
+            *count = count.saturating_add(1);
+        }
+    }
+
+    // Where nobody is awake, one that sleeps stands in line.
+    fn call_one(&mut self)
+        requires heard { IsHeard self.old }
+        requires one { PlaysAlone self.old }
+        ensures heard { IsHeard self.new }
+        ensures one { PlaysAlone self.new }
+        ensures watched { IsWatched self.new }
+        ensures ended { (rank : ℕ) → place_of self.old rank ≡ Ended → place_of self.new rank ≡ Ended }
+        ensures stays { (rank : ℕ) → place_of self.new rank ≡ Plays → place_of self.old rank ≡ Plays }
+        ensures player { self.new.player ≡ self.old.player }
+    {
+        if let Some(rank) = self.first_asleep() {
+            self.set(rank, Place::InLine);
+        }
+    }
+
+    // The rank has no place any more.
+    fn take_off(&mut self, rank: usize)
+        requires orderly { IsOrderly self.old }
+        ensures heard { IsHeard self.new }
+        ensures one { PlaysAlone self.new }
+        ensures ended { place_of self.new rank ≡ Ended }
+        ensures others { (other : ℕ) → other ≢ rank → place_of self.new other ≡ place_of self.old other }
+    {
+        if rank < self.places.len() {
+            self.set(rank, Place::Ended);
+        }
+        if self.player == Some(rank) {
+            self.player = None;
+        }
+    }
+
+    /// The rank has ended, wherever it stood. Where that was the last that was awake, one that
+    /// sleeps is to play. Gives whom to call.
+    pub(crate) fn end(&mut self, rank: usize) -> Option<usize>
+        requires { IsOrderly self.old }
+        ensures orderly { IsOrderly self.new }
+        ensures ended { place_of self.new rank ≡ Ended }
+        ensures calls { Calls self.old self.new result }
+    {
+        self.take_off(rank);
+        if !self.others_are_awake(rank) {
+            self.call_one();
+        }
+        if self.player.is_some() {
+            return None;
+        }
+        self.cast()
+    }
+
+    /// One more instance has settled on the communicator: whoever sleeps for it stands in line, and
+    /// nobody else moves. Gives whom to call.
+    pub(crate) fn settle(&mut self, comm: u32) -> Option<usize>
+        requires { IsOrderly self.old }
+        ensures orderly { IsOrderly self.new }
+        ensures calls { Calls self.old self.new result }
+        ensures only { (rank : ℕ) → place_of self.new rank ≢ Plays → place_of self.new rank ≢ place_of self.old rank → HasComeToLine self.old self.new rank }
+        ensures more { settled_on self.old comm < 2 ^ 64 - 1 → comm < length self.old.settled.items → settled_on self.new comm ≡ settled_on self.old comm + 1 }
+    {
+        self.count(comm);
+        self.call_sleepers();
+        if self.player.is_some() {
+            return None;
+        }
+        self.cast()
+    }
+}
+
+/// Whom to call. It has no `Drop`, so whoever gets one calls that rank by [`Call::rank`].
+pub(crate) struct Call(Option<usize>);
+
+impl Call {
+    /// The rank to call, if there is one.
+    pub(crate) fn rank(self) -> Option<usize> {
+        let Call(rank) = self;
+        rank
+    }
+}
+
+/// What came of a rank that would sleep.
+pub(crate) enum Rest {
+    /// It need not, or should not, sleep.
+    Stays,
+    /// It sleeps, and the call is to be made.
+    Sleeps(Call),
+}
+
+/// The board as it lies under its lock, where it is always orderly.
+#[derive(Drop)]
+pub(crate) struct Standing {
+    board: Board,
+    ghost orderly: { IsOrderly board },
+}
+
+impl Standing {
+    /// All ranks stand in line, but for the first, which plays and is to be called.
+    pub(crate) fn new(
+        alloc: Global,
+        ranks: usize,
+        communicators: usize,
+    ) -> Result<(Standing, Call), AllocError> {
+        let places = places_in_line(alloc, ranks)?;
+        let settled = no_counts(alloc, communicators)?;
+        let mut board = Board {
+            places,
+            settled,
+            player: None,
+            next: 0,
+        };
+        let called = board.cast();
+        Ok((Standing { board }, Call(called)))
+    }
+
+    /// The rank, if it plays, steps aside: it makes no call for a while.
+    pub(crate) fn step_aside(&mut self, rank: usize) -> Call {
+        Call(self.board.step_aside(rank))
+    }
+
+    /// A rank that had stepped aside comes back: it plays at once, or stands in line. Gives whether
+    /// it plays.
+    pub(crate) fn step_back(&mut self, rank: usize) -> bool {
+        self.board.step_back(rank)
+    }
+
+    /// The rank, if it plays, lies down to sleep until the instance settles. It does not where that
+    /// has settled, or where no other rank is awake.
+    pub(crate) fn lie_down(&mut self, rank: usize, it: Instance) -> Rest {
+        match self.board.lie_down(rank, it) {
+            Lying::Stays => Rest::Stays,
+            Lying::Sleeps(called) => Rest::Sleeps(Call(called)),
+        }
+    }
+
+    /// Whether the instance has settled.
+    pub(crate) fn has_settled(&self, it: Instance) -> bool {
+        self.board.has_settled(it)
+    }
+
+    /// One more instance has settled on the communicator: whoever sleeps for it stands in line.
+    pub(crate) fn settle(&mut self, comm: u32) -> Call {
+        Call(self.board.settle(comm))
+    }
+
+    /// The rank has ended, wherever it stood. Where that was the last that was awake, one that
+    /// sleeps is to play.
+    pub(crate) fn end(&mut self, rank: usize) -> Call {
+        Call(self.board.end(rank))
+    }
+}
+
+/// What came of a rank that would sleep.
+#[derive(Drop)]
+pub(crate) enum Lying {
+    /// It need not, or should not, sleep.
+    Stays,
+    /// It sleeps; this rank is to be called.
+    Sleeps(Option<usize>),
+}
