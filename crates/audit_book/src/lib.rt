@@ -14,16 +14,12 @@
 
 mod check;
 mod check_fault;
-#[cfg(test)]
-mod check_tests;
 mod due;
 mod fault;
 pub mod laws;
 mod line;
 mod read;
 mod scan;
-#[cfg(test)]
-mod tests;
 mod words;
 mod write;
 

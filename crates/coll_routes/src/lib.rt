@@ -13,8 +13,6 @@ mod route;
 mod signature;
 mod spread;
 mod statement;
-#[cfg(test)]
-mod tests;
 
 pub use fault::{ELEMENT_LIMIT, ShapeFault, shape_fault};
 pub use kind::Kind;

@@ -21,8 +21,6 @@ mod parts;
 mod pieces;
 mod spell;
 mod table;
-#[cfg(test)]
-mod tests;
 mod words;
 
 pub use append::{put, put_decimal, put_signed};

@@ -12,8 +12,6 @@ mod parts;
 mod sizes;
 mod source;
 mod space;
-#[cfg(test)]
-mod tests;
 
 pub use delivery::{Block, Delivery, Integers};
 pub use filling::{deliver, fill, room};

@@ -22,8 +22,3 @@ pub use reply::write_reply;
 pub use run_model::{Acts, Scripts};
 pub use script::{SCRIPT_LIMIT, replay};
 pub use split::split_script;
-
-#[cfg(test)]
-mod replays;
-#[cfg(test)]
-mod tests;

@@ -14,8 +14,6 @@ mod note;
 mod pass;
 mod rule;
 mod steps;
-#[cfg(test)]
-mod tests;
 mod turns;
 
 pub use answer::{Answer, Claimed};

@@ -9,8 +9,6 @@ mod grid;
 pub mod laws;
 mod lists;
 mod nearby;
-#[cfg(test)]
-mod tests;
 
 pub use fault::{BadCoord, BadDirection, GridFault, fault_of};
 pub use grid::{DIMENSION_LIMIT, Grid, Shift};

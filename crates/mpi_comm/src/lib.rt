@@ -8,8 +8,6 @@
 mod fault;
 mod split;
 mod table;
-#[cfg(test)]
-mod tests;
 mod values;
 
 pub use fault::CommFault;

@@ -7,8 +7,6 @@
 mod compare;
 mod fault;
 mod group;
-#[cfg(test)]
-mod tests;
 
 pub use compare::GroupCompare;
 pub use fault::GroupFault;

@@ -8,8 +8,6 @@
 mod board;
 mod fault;
 mod gate;
-#[cfg(test)]
-mod gate_tests;
 mod part;
 mod rank;
 mod replies;
@@ -17,10 +15,6 @@ mod requests;
 mod rows;
 mod run;
 mod stage;
-#[cfg(test)]
-mod stop_tests;
-#[cfg(test)]
-mod tests;
 mod waiting;
 
 pub use fault::RunFault;

@@ -21,8 +21,6 @@ mod making;
 mod parts;
 mod post_state;
 mod steps;
-#[cfg(test)]
-mod tests;
 
 pub use book::Book;
 pub use entered::{Entered, Unentered};

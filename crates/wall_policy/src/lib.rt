@@ -19,6 +19,3 @@ pub use checks::NAME_LIMIT;
 pub use fault::PolicyFault;
 pub use policy::{Policy, are_rivals};
 pub use read::read_policy;
-
-#[cfg(test)]
-mod tests;

@@ -9,8 +9,6 @@ mod inflow;
 mod judge;
 pub mod laws;
 mod star;
-#[cfg(test)]
-mod tests;
 mod verdict;
 
 pub use charge::{charged, sanitised};

@@ -5,12 +5,12 @@ ghost use Rattle.std.specs.List.{All};
 ghost use Rattle.wall_labels.specs.declared.label.Label.TheVariants.{Public};
 ghost use Rattle.run_model.specs.Known.{HasKnownLabel, IsKnownLabel, ScriptsHaveKnownLabels};
 
-use crate::tests::{add, is_posted, label, put, stands, wall};
-use crate::{Acts, Gate, RunReplies, Scripts, run_ranks};
+use crate::ranks::{add, is_posted, label, put, stands, wall};
 use coll_routes::{Own, Signature};
 use coll_values::Block;
 use hall_core::{Act, Posting, Reply};
 use mpi_elems::{Buffer, ElemType};
+use rank_run::{Acts, Gate, RunReplies, Scripts, run_ranks};
 use std::alloc::Global;
 use std::process::Abort;
 use std::sync::atomic::{AtomicU64, Ordering};

@@ -2,8 +2,8 @@
 ghost use Rattle.std.specs.Prelude.{◌≡◌};
 ghost use Rattle.run_model.specs.EntryForms.{HasForm};
 
-use super::{Book, Entry, Outcome};
 use coll_routes::{Own, Signature, Stated};
+use run_state::{Book, Entry, Outcome};
 use std::process::Abort;
 use std::test::Fail;
 use wall_labels::ProcessId;

@@ -1,6 +1,6 @@
 //! Statements as scripts and books spell them, and words that are refused.
 
-use super::*;
+use coll_text::*;
 use mpi_elems::{Buffer, ElemType};
 use std::alloc::Global;
 use std::process::Abort;

@@ -1,9 +1,8 @@
 //! Books of four processes, worked by hand from the rules.
 ghost use Rattle.std.specs.Prelude.{◌<◌};
 
-use super::check_book;
-use crate::check_fault::BookFault;
-use crate::tests::under;
+use crate::books::under;
+use audit_book::{BookFault, check_book};
 use coll_routes::{Own, Signature, Stated};
 use mpi_elems::ElemType;
 use run_model::{Entry, Outcome};

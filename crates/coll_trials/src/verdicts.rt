@@ -2,7 +2,6 @@
 ghost use Rattle.std.specs.Prelude.{◌≡◌, ◌<◌, IfOk};
 ghost use Rattle.coll_routes.specs.Fit.{IsFit};
 
-use super::{Rule, Verdict, charged, decide, enter_label, passes_star, sanitised, settle};
 use coll_routes::{Own, Roll, Shape, Signature, Stated, Statements};
 use mpi_elems::ElemType;
 use mpi_group::Group;
@@ -12,6 +11,7 @@ use std::test::Fail;
 use wall_labels::{DATASET_LIMIT, DatasetId, Label, Op, PROCESS_LIMIT, ProcessId};
 use wall_policy::{Policy, read_policy};
 use wall_rules::Histories;
+use wall_verdict::{Rule, Verdict, charged, decide, enter_label, passes_star, sanitised, settle};
 
 // Datasets: 0 alpha and 1 beta of banks, 2 crude and 3 delta of oil. Processes: 0 a0, 1 b0, 2 c0, 3 n0. A sum of three is sanitised.
 const POLICY: &str =

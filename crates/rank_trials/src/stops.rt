@@ -1,8 +1,8 @@
 //! Each rank stopped once at each place, until the others have gone on or ended. Four processes
 //! give a number each, and take the sum.
-use crate::Gate;
-use crate::tests::{run_four, stands};
+use crate::ranks::{run_four, stands};
 use hall_core::Reply;
+use rank_run::Gate;
 use std::alloc::Global;
 use std::process::Abort;
 use std::sync::Wait;

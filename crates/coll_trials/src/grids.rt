@@ -1,6 +1,6 @@
 //! Worked rows. Expected values are worked by hand from the standard's rules.
 
-use super::{BadCoord, BadDirection, Grid, GridFault, Shift, fault_of};
+use mpi_cart::{BadCoord, BadDirection, Grid, GridFault, Shift, fault_of};
 use std::test::Fail;
 
 // Two dimensions of sizes 2 and 3, of which the second is periodic, over seven processes.

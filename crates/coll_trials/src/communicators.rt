@@ -2,7 +2,7 @@
 ghost use Rattle.std.specs.Prelude.{◌≡◌, length};
 ghost use Rattle.mpi_comm.specs.Comms.{group_at};
 
-use super::{Ask, CommCompare, CommFault, CommInfo, CommTable, Made};
+use mpi_comm::{Ask, CommCompare, CommFault, CommInfo, CommTable, Made};
 use mpi_group::Group;
 use std::alloc::Global;
 use std::process::Abort;

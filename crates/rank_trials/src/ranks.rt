@@ -8,12 +8,12 @@ ghost use Rattle.std.specs.Prelude.{◌≡◌};
 ghost use Rattle.std.specs.List.{All};
 ghost use Rattle.run_model.specs.Known.{IsKnownLabel, HasKnownLabel, ScriptsHaveKnownLabels};
 
-use crate::{Acts, Gate, OpenGate, Run, RunFault, RunReplies, Scripts, run_ranks, wait};
 use coll_routes::{Own, Signature};
 use coll_values::Block;
 use hall_core::{Act, Hall, Posting, Reply};
 use hall_turn::{Answer, Door, Pass, Passes};
 use mpi_elems::{Buffer, ElemType};
+use rank_run::{Acts, Gate, OpenGate, Run, RunFault, RunReplies, Scripts, run_ranks, wait};
 use std::alloc::Global;
 use std::process::Abort;
 use std::sync::Wait;

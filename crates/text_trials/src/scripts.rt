@@ -7,8 +7,8 @@ ghost use Rattle.std.specs.Prelude.{◌≡◌, ◌<◌, IfOk, All, length};
 ghost use Rattle.wall_policy.specs.Policy.{ChineseWall};
 ghost use Rattle.run_model.specs.Known.{HasKnownLabel, IsKnownReply, ScriptsHaveKnownLabels, IsKnownLabel};
 
-use super::*;
 use coll_text::{label_text, put, put_decimal, put_spaced, write_statement};
+use hall_script::*;
 use mpi_elems::{Buffer, ElemType};
 use run_model::{Act, Block, Call, Delivery, Integers, Posting, Refusal, Reply, Rule};
 use std::alloc::{AllocError, Global};

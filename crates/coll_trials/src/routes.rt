@@ -1,6 +1,6 @@
 //! The examples of small communicators, with pieces worked by hand from the standard's rules.
 
-use super::{
+use coll_routes::{
     Flags, Gathering, Kind, Numbers, Own, Piece, Roll, Shape, ShapeFault, Signature, Spread,
     Stated, Statements, gathered, is_missing, piece, places, routed, sender, shape_fault,
     spread_of,

@@ -1,7 +1,7 @@
 //! Deliveries of small communicators, worked by hand from the standard's rules.
 
-use super::{Block, Delivery, Full, Integers, Parts, deliver, fill, room};
 use coll_routes::{Numbers, Own, Roll, Shape, Signature, Stated, Statements};
+use coll_values::{Block, Delivery, Full, Integers, Parts, deliver, fill, room};
 use mpi_cart::Grid;
 use mpi_elems::{Buffer, ElemType};
 use mpi_group::Group;

@@ -2,7 +2,7 @@
 ghost use Rattle.std.specs.List.{All};
 ghost use Rattle.run_model.specs.Known.{IsKnownEntry};
 
-use super::*;
+use audit_book::*;
 use std::alloc::Global;
 use std::process::Abort;
 use std::test::Fail;

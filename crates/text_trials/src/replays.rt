@@ -1,7 +1,7 @@
 //! Scripts that are replayed over devices in memory.
 
-use super::*;
-use crate::tests::wall;
+use crate::scripts::wall;
+use hall_script::*;
 use std::process::Abort;
 use std::test::Fail;
 use wall_labels::memory::{ExpectingSink, Fuse, MemorySource};

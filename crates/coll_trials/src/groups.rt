@@ -1,5 +1,5 @@
 //! The examples of two groups of four processes, with one order of ranks each.
-use super::{Group, GroupCompare, GroupFault};
+use mpi_group::{Group, GroupCompare, GroupFault};
 use std::alloc::Global;
 use std::process::Abort;
 use std::test::Fail;

@@ -6,10 +6,10 @@ ghost use Rattle.std.specs.Prelude.{◌≡◌};
 ghost use Rattle.std.specs.List.{All};
 ghost use Rattle.run_model.specs.Known.{IsKnownLabel};
 
-use crate::{Answer, CloseFault, Door, Pass, Passes, Unclosed};
 use coll_routes::{Own, Signature};
 use coll_values::{Block, Integers};
 use hall_core::{Act, Call, Hall, Posting, Refusal, Reply};
+use hall_turn::{Answer, CloseFault, Door, Pass, Passes, Unclosed};
 use mpi_elems::{Buffer, ElemType};
 use std::alloc::Global;
 use std::process::Abort;

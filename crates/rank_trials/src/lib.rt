@@ -1,0 +1,14 @@
+//! The tests of the door and of the ranks, through their public calls.
+//!
+//! They stand in a crate of their own, since a check of a crate's tests proves the crate once more;
+//! here there is nothing to prove but the tests.
+#![tactic(auto)]
+
+#[cfg(test)]
+mod doors;
+#[cfg(test)]
+mod gates;
+#[cfg(test)]
+mod ranks;
+#[cfg(test)]
+mod stops;

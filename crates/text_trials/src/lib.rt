@@ -1,0 +1,16 @@
+//! The tests of scripts, replies and books as text, through their public calls.
+//!
+//! They stand in a crate of their own, since a check of a crate's tests proves the crate once more;
+//! here there is nothing to prove but the tests.
+#![tactic(auto)]
+
+#[cfg(test)]
+mod books;
+#[cfg(test)]
+mod checks;
+#[cfg(test)]
+mod replays;
+#[cfg(test)]
+mod scripts;
+#[cfg(test)]
+mod statements;
