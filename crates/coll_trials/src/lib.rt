@@ -9,6 +9,8 @@ mod books;
 #[cfg(test)]
 mod communicators;
 #[cfg(test)]
+mod entries;
+#[cfg(test)]
 mod grids;
 #[cfg(test)]
 mod groups;

@@ -32,8 +32,6 @@ pub mod room_rows;
 pub mod run_laws;
 pub mod run_rows;
 mod scripts;
-#[cfg(test)]
-mod tests;
 pub mod type_rows;
 pub mod wall_rows;
 pub mod worlds;

@@ -1,7 +1,7 @@
 //! Entries with and without their form.
 
-use super::Entry;
 use coll_routes::{Numbers, Own, Signature, Stated};
+use run_model::Entry;
 use std::process::Abort;
 use std::test::Fail;
 use wall_labels::{Label, ProcessId};
