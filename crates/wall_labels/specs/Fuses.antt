@@ -1,5 +1,6 @@
 -- When a device that fails at most once fails, and what a writer that expects some bytes notices.
-use Rattle.std.specs.Prelude.{ℕ, zero, suc, Bool, true, false, ◌&&◌, List, length, take, drop, if◌then◌else◌}
+use Rattle.std.specs.Prelude.{ℕ, zero, suc, Bool, true, false, ◌&&◌, List, length, take, drop}
+use Rattle.std.specs.Prelude.{if◌then◌else◌}
 use Rattle.std.specs.Str.{bytes_eq}
 use Rattle.wall_labels.specs.declared.memory.Fuse.{Fuse}
 use Rattle.wall_labels.specs.declared.memory.Fuse.TheVariants.{Whole, After, Blown}

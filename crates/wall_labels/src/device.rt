@@ -1,5 +1,6 @@
 //! Readers and writers that count their failures, and that may tell their bytes.
-ghost use Rattle.std.specs.Prelude.{◌≡◌, ℕ, ◌+◌, ◌<◌, ◌≤◌, List, Option, None, length, IfOk, OnOk, OnErr};
+ghost use Rattle.std.specs.Prelude.{◌≡◌, ℕ, ◌+◌, ◌<◌, ◌≤◌, List, Option, None, length, IfOk, OnOk};
+ghost use Rattle.std.specs.Prelude.{OnErr};
 ghost use Rattle.std.specs.Io.KnownBytes.{ReadConsumes, WriteAppends, Appends};
 ghost use Rattle.wall_labels.specs.Known.{AppendsFront};
 
@@ -15,7 +16,8 @@ pub trait Source {
     /// The bytes that are still to be read, where they are known.
     ghost remaining: { Self → Option (List ℕ) } = { λ _. None };
 
-    /// Reads some bytes into the front of the buffer; none only at the end, or where the buffer is empty.
+    /// Reads some bytes into the front of the buffer; none only at the end, or where the buffer is
+    /// empty.
     fn read(&mut self, buffer: &mut [u8]) -> Result<usize, Failed>
         ensures within { IfOk result (λ n. n ≤ length buffer.new) }
         ensures went { OnOk result (failures self.new ≡ failures self.old) }
@@ -45,7 +47,8 @@ pub fn write_all<W: Sink>(sink: &mut W, bytes: &[u8]) -> Result<(), Failed>
     ensures went { OnOk result (W.failures sink.new ≡ W.failures sink.old) }
     ensures failed { OnErr result (W.failures sink.new ≡ W.failures sink.old + 1) }
     ensures written { OnOk result (Appends (W.contents sink.old) (W.contents sink.new) bytes.now) }
-    ensures front { OnErr result (AppendsFront (W.contents sink.old) (W.contents sink.new) bytes.now) }
+    ensures front { OnErr result
+        (AppendsFront (W.contents sink.old) (W.contents sink.new) bytes.now) }
 {
     let mut rest = bytes;
     while !rest.is_empty() {

@@ -1,9 +1,11 @@
 //! A set of datasets, in a row of bits.
-ghost use Rattle.std.specs.Prelude.{◌≡◌, ◌≢◌, ℕ, ◌+◌, ◌*◌, ◌/◌, ◌<◌, ◌≤◌, ◌||◌, ◌&&◌, ◌↔◌, Some, IfSome, IfNone, IsTrue, false};
+ghost use Rattle.std.specs.Prelude.{◌≡◌, ◌≢◌, ℕ, ◌+◌, ◌*◌, ◌/◌, ◌<◌, ◌≤◌, ◌||◌, ◌&&◌, ◌↔◌, Some};
+ghost use Rattle.std.specs.Prelude.{IfSome, IfNone, IsTrue, false};
 ghost use Rattle.std.specs.Ordering.{nat_cmp};
 ghost use Rattle.std.specs.FinSet as set;
 ghost use Rattle.std.specs.Int.{trailing_zeros, w64};
-ghost use Rattle.wall_labels.specs.Rows.{HoldsDatasets, IsClearFrom, is_set, is_bit, differs, is_in_one};
+ghost use Rattle.wall_labels.specs.Rows.{HoldsDatasets, IsClearFrom, is_set, is_bit, differs};
+ghost use Rattle.wall_labels.specs.Rows.{is_in_one};
 
 use super::ids::{DATASET_LIMIT, DatasetId};
 use std::marker::Model;
@@ -79,7 +81,8 @@ impl LabelSet {
     /// The lowest member other than the given one.
     pub fn first_other_than(&self, other: Option<DatasetId>) -> Option<DatasetId>
         ensures found { IfSome result (λ d. IsTrue (set.contains self.now d) × (other ≢ Some d)) }
-        ensures lowest { IfSome result (λ d. (e : ℕ) → e < d → IsTrue (set.contains self.now e) → other ≡ Some e) }
+        ensures lowest { IfSome result
+            (λ d. (e : ℕ) → e < d → IsTrue (set.contains self.now e) → other ≡ Some e) }
         ensures members { HoldsDatasets self.now }
         ensures none { IfNone result ((e : ℕ) → IsTrue (set.contains self.now e) → other ≡ Some e) }
     {

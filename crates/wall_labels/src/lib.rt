@@ -1,6 +1,8 @@
-//! The names and small values that every layer speaks of: ids, labels, operations, sets of datasets, and devices.
+//! The names and small values that every layer speaks of: ids, labels, operations, sets of
+//! datasets, and devices.
 //!
-//! Nothing here takes memory, so no call can answer want of it; [`NoMemory`] is the answer of the calls above that may.
+//! Nothing here takes memory, so no call can answer want of it; [`NoMemory`] is the answer of the
+//! calls above that may.
 #![tactic(auto)]
 
 mod device;

@@ -1,6 +1,8 @@
-//! Devices over bytes at hand, which can be told to fail at one call: for tests, and for callers that hold the bytes.
+//! Devices over bytes at hand, which can be told to fail at one call: for tests, and for callers
+//! that hold the bytes.
 
-ghost use Rattle.std.specs.Prelude.{◌≡◌, ◌<◌, ◌≤◌, ◌+◌, ◌↔◌, length, min, IsTrue, IsErr, IfOk, OnOk, OnErr};
+ghost use Rattle.std.specs.Prelude.{◌≡◌, ◌<◌, ◌≤◌, ◌+◌, ◌↔◌, length, min, IsTrue, IsErr, IfOk};
+ghost use Rattle.std.specs.Prelude.{OnOk, OnErr};
 ghost use Rattle.std.specs.Io.KnownBytes.{ReadConsumes, WriteAppends};
 ghost use Rattle.wall_labels.specs.Fuses.{fails, after_call, failures_of, notices, rest_after};
 
@@ -58,7 +60,8 @@ impl<'a> Source for MemorySource<'a> {
         ensures within { IfOk result (λ n. n ≤ length buffer.new) }
         ensures went { OnOk result (failures_of self.new.fuse ≡ failures_of self.old.fuse) }
         ensures failed { OnErr result (failures_of self.new.fuse ≡ failures_of self.old.fuse + 1) }
-        ensures bytes { ReadConsumes (Some self.old.rest.now) (Some self.new.rest.now) result buffer.new }
+        ensures bytes { ReadConsumes (Some self.old.rest.now) (Some self.new.rest.now) result
+            buffer.new }
         ensures fails { IsErr result ↔ IsTrue (fails self.old.fuse) }
         ensures fuse { self.new.fuse ≡ after_call self.old.fuse }
         ensures all { IfOk result (λ n. n ≡ min (length self.old.rest.now) (length buffer.old)) }
@@ -100,7 +103,8 @@ impl<'a> Sink for ExpectingSink<'a> {
         ensures fails { IsErr result ↔ IsTrue (fails self.old.fuse) }
         ensures fuse { self.new.fuse ≡ after_call self.old.fuse }
         ensures all { IfOk result (λ n. n ≡ length bytes.now) }
-        ensures noticed { OnOk result (self.new.is_same ≡ notices self.old.is_same self.old.rest.now bytes.now) }
+        ensures noticed { OnOk result
+            (self.new.is_same ≡ notices self.old.is_same self.old.rest.now bytes.now) }
         ensures rest { OnOk result (self.new.rest.now ≡ rest_after self.old.rest.now bytes.now) }
         ensures kept { OnErr result (self.new.is_same ≡ self.old.is_same) }
         ensures same { OnErr result (self.new.rest.now ≡ self.old.rest.now) }

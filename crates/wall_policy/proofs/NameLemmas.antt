@@ -1,5 +1,6 @@
 -- The names of a table, over the keys of the set that keeps them.
-use Rattle.std.proofs.Common.{◌≡◌, ℕ, ◌+◌, cond, ◌||◌, List, [], ◌∷◌, map, Some, None, String, string_bytes, refl, sym, ap, ◌∙◌, subst, inl, inr}
+use Rattle.std.proofs.Common.{◌≡◌, ℕ, ◌+◌, cond, ◌||◌, List, [], ◌∷◌, map, Some, None, String}
+use Rattle.std.proofs.Common.{string_bytes, refl, sym, ap, ◌∙◌, subst, inl, inr}
 use Rattle.std.proofs.lemmas.Bool.{cases_Bool}
 use Rattle.std.proofs.lemmas.Slice.Eq.{bytes_eq-Decides}
 use Rattle.std.proofs.lemmas.Str.{IsUtf8-string_bytes}
@@ -9,33 +10,46 @@ use Rattle.std.specs.String.{string_eq}
 use Rattle.wall_policy.specs.Names.{Name, place_of, is_in}
 
 module _ {Z : Type 0} where
-  place_from : (name : Name) (i : ℕ) (ks : List (String Z)) → position_from (λ k. bytes_eq name (string_bytes k)) i ks ≡ position_from (bytes_eq name) i (map string_bytes ks)
+  place_from : (name : Name) (i : ℕ) (ks : List (String Z)) →
+      position_from (λ k. bytes_eq name (string_bytes k)) i ks
+      ≡ position_from (bytes_eq name) i (map string_bytes ks)
   place_from name i [] = refl
-  place_from name i (k ∷ ks) = ap (cond (bytes_eq name (string_bytes k)) (Some i)) (place_from name (i + 1) ks)
+  place_from name i (k ∷ ks) =
+      ap (cond (bytes_eq name (string_bytes k)) (Some i)) (place_from name (i + 1) ks)
 
-  pub place_of-view : (name : Name) (ks : List (String Z)) → position_from (λ k. bytes_eq name (string_bytes k)) 0 ks ≡ place_of name (map string_bytes ks)
+  pub place_of-view : (name : Name) (ks : List (String Z)) →
+      position_from (λ k. bytes_eq name (string_bytes k)) 0 ks ≡ place_of name (map string_bytes ks)
   place_of-view name ks = place_from name 0 ks
 
-  pub is_in-view : (name : Name) (ks : List (String Z)) → list_any (λ k. bytes_eq name (string_bytes k)) ks ≡ is_in (map string_bytes ks) name
+  pub is_in-view : (name : Name) (ks : List (String Z)) →
+      list_any (λ k. bytes_eq name (string_bytes k)) ks ≡ is_in (map string_bytes ks) name
   is_in-view name [] = refl
   is_in-view name (k ∷ ks) = ap (λ b. bytes_eq name (string_bytes k) || b) (is_in-view name ks)
 
-  pub has-view : (key : String Z) (name : Name) (ks : List (String Z)) (names : List Name) → string_bytes key ≡ name → map string_bytes ks ≡ names → list_any (string_eq key) ks ≡ is_in names name
+  pub has-view : (key : String Z) (name : Name) (ks : List (String Z)) (names : List Name) →
+      string_bytes key ≡ name → map string_bytes ks ≡ names →
+      list_any (string_eq key) ks ≡ is_in names name
   has-view key name ks names e f = is_in-view (string_bytes key) ks ∙ (λ i. is_in (f i) (e i))
 
   -- bytes that are no text are no name
-  none_from : (name : Name) (i : ℕ) (ks : List (String Z)) → ¬ IsUtf8 name → position_from (bytes_eq name) i (map string_bytes ks) ≡ None
+  none_from : (name : Name) (i : ℕ) (ks : List (String Z)) → ¬ IsUtf8 name →
+      position_from (bytes_eq name) i (map string_bytes ks) ≡ None
   none_from name i [] not_text = refl
   none_from name i (k ∷ ks) not_text = elim (cases_Bool (bytes_eq name (string_bytes k))) [
-    | inl same ↦ absurd (not_text (subst IsUtf8 (sym ((bytes_eq-Decides name (string_bytes k)).0 same)) (IsUtf8-string_bytes k)))
+    | inl same
+        ↦ absurd (not_text (subst IsUtf8 (sym ((bytes_eq-Decides name (string_bytes k)).0 same))
+        (IsUtf8-string_bytes k)))
     | inr other ↦ rw other (none_from name (i + 1) ks not_text)
   ]
 
-  pub place_of-not_text : (name : Name) (ks : List (String Z)) → ¬ IsUtf8 name → place_of name (map string_bytes ks) ≡ None
+  pub place_of-not_text : (name : Name) (ks : List (String Z)) → ¬ IsUtf8 name →
+      place_of name (map string_bytes ks) ≡ None
   place_of-not_text name ks not_text = none_from name 0 ks not_text
 
   -- clones of texts have their bytes
-  pub clones-same : (xs ys : List (String Z)) → AllZip (λ s t. string_bytes t ≡ string_bytes s) xs ys → map string_bytes ys ≡ map string_bytes xs
+  pub clones-same : (xs ys : List (String Z)) →
+      AllZip (λ s t. string_bytes t ≡ string_bytes s) xs ys →
+      map string_bytes ys ≡ map string_bytes xs
   clones-same [] [] h = refl
   clones-same [] (y ∷ ys) h = absurd h
   clones-same (x ∷ xs) [] h = absurd h

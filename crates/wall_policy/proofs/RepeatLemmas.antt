@@ -1,5 +1,6 @@
 -- Names that come twice, over lists that are walked in parts.
-use Rattle.std.proofs.Common.{◌≡◌, ℕ, ◌+◌, ◌<◌, Bool, true, false, ◌||◌, not, List, [], ◌∷◌, ◌++◌, length, get_or, drop, map, refl, sym, ap, ◌∙◌, append_assoc}
+use Rattle.std.proofs.Common.{◌≡◌, ℕ, ◌+◌, ◌<◌, Bool, true, false, ◌||◌, not, List, [], ◌∷◌, ◌++◌}
+use Rattle.std.proofs.Common.{length, get_or, drop, map, refl, sym, ap, ◌∙◌, append_assoc}
 use Rattle.std.proofs.Common.{cond, Option, Some, None, inl, inr}
 use Rattle.std.proofs.lemmas.Bool.{cases_Bool}
 use Rattle.std.proofs.lemmas.List.{drop_more, append-nil}
@@ -17,11 +18,13 @@ or_assoc : (a b c : Bool) → (a || b || c) ≡ (a || (b || c))
 or_assoc true b c = refl
 or_assoc false b c = refl
 
-pub repeats_after-append : (seen xs ys : List Name) → repeats_after seen (xs ++ ys) ≡ (repeats_after seen xs || repeats_after (seen ++ xs) ys)
+pub repeats_after-append : (seen xs ys : List Name) →
+    repeats_after seen (xs ++ ys) ≡ (repeats_after seen xs || repeats_after (seen ++ xs) ys)
 repeats_after-append seen [] ys = ap (λ s. repeats_after s ys) (sym (append-nil seen))
 repeats_after-append seen (x ∷ xs) ys =
     ap (λ b. is_in seen x || b) (repeats_after-append (seen ++ x ∷ []) xs ys)
-    ∙ ap (λ s. is_in seen x || (repeats_after (seen ++ x ∷ []) xs || repeats_after s ys)) (append_assoc seen (x ∷ []) xs)
+    ∙ ap (λ s. is_in seen x || (repeats_after (seen ++ x ∷ []) xs || repeats_after s ys))
+    (append_assoc seen (x ∷ []) xs)
     ∙ sym (or_assoc (is_in seen x) _ _)
 
 -- a name of the list is among `seen ++ x ∷ []` if it is among `seen` or is x
@@ -31,12 +34,14 @@ regroup_last false true true s = refl
 regroup_last false true false s = refl
 regroup_last false false r s = refl
 
-any_with_last : (seen ys : List Name) (x : Name) → list_any (is_in (seen ++ x ∷ [])) ys ≡ (list_any (is_in seen) ys || is_in ys x)
+any_with_last : (seen ys : List Name) (x : Name) →
+    list_any (is_in (seen ++ x ∷ [])) ys ≡ (list_any (is_in seen) ys || is_in ys x)
 any_with_last seen [] x = refl
 any_with_last seen (y ∷ ys) x =
     (λ i. list_any-append (bytes_eq y) seen (x ∷ []) i || any_with_last seen ys x i)
     ∙ regroup_last (is_in seen y) (bytes_eq y x) (list_any (is_in seen) ys) (is_in ys x)
-    ∙ ap (λ b. (is_in seen y || list_any (is_in seen) ys) || (b || is_in ys x)) (bytes_eq-symmetric y x)
+    ∙ ap (λ b. (is_in seen y || list_any (is_in seen) ys) || (b || is_in ys x))
+    (bytes_eq-symmetric y x)
 
 regroup_rest : (a b c d : Bool) → (a || ((b || c) || d)) ≡ ((a || b) || (c || d))
 regroup_rest true b c d = refl
@@ -44,10 +49,12 @@ regroup_rest false true c d = refl
 regroup_rest false false c d = refl
 
 -- a walk that remembers the names seen finds the same
-repeats_after-is : (seen ns : List Name) → repeats_after seen ns ≡ (list_any (is_in seen) ns || comes_twice ns)
+repeats_after-is : (seen ns : List Name) →
+    repeats_after seen ns ≡ (list_any (is_in seen) ns || comes_twice ns)
 repeats_after-is seen [] = refl
 repeats_after-is seen (n ∷ ns) =
-    ap (λ b. is_in seen n || b) (repeats_after-is (seen ++ n ∷ []) ns ∙ ap (λ b. b || comes_twice ns) (any_with_last seen ns n))
+    ap (λ b. is_in seen n || b) (repeats_after-is (seen ++ n ∷ []) ns
+    ∙ ap (λ b. b || comes_twice ns) (any_with_last seen ns n))
     ∙ regroup_rest (is_in seen n) (list_any (is_in seen) ns) (is_in ns n) (comes_twice ns)
 
 none_seen : (ns : List Name) → list_any (is_in []) ns ≡ false
@@ -61,26 +68,42 @@ same_names : (xs : List Name) → map (λ x. x) xs ≡ xs
 same_names [] = refl
 same_names (x ∷ xs) = ap (λ ys. x ∷ ys) (same_names xs)
 
-datasets-drop : (cs : List ClassText) (i : ℕ) (d : ClassText) → i < length cs → dataset_names (drop i cs) ≡ map (λ x. x) (get_or cs i d).datasets ++ dataset_names (drop (i + 1) cs)
+datasets-drop : (cs : List ClassText) (i : ℕ) (d : ClassText) → i < length cs →
+    dataset_names (drop i cs)
+    ≡ map (λ x. x) (get_or cs i d).datasets ++ dataset_names (drop (i + 1) cs)
 datasets-drop cs i d h =
-    ap dataset_names (drop_more cs i d h) ∙ ap (λ ns. ns ++ dataset_names (drop (i + 1) cs)) (sym (same_names (get_or cs i d).datasets))
+    ap dataset_names (drop_more cs i d h)
+    ∙ ap (λ ns. ns ++ dataset_names (drop (i + 1) cs))
+    (sym (same_names (get_or cs i d).datasets))
 
-module _ (old seen : List Name) (cs : List ClassText) (i : ℕ) (d : ClassText) (lt : i < length cs) where
-  abbrev added : List Name
-  added = map (λ x. x) (get_or cs i d).datasets
+module _ (old seen : List Name) (cs : List ClassText) (i : ℕ) (d : ClassText) (lt : i < length cs)
+  where
+    abbrev added : List Name
+    added = map (λ x. x) (get_or cs i d).datasets
 
-  parts : repeats_after seen (dataset_names (drop i cs)) ≡ (repeats_after seen added || repeats_after (seen ++ added) (dataset_names (drop (i + 1) cs)))
-  parts = ap (repeats_after seen) (datasets-drop cs i d lt) ∙ repeats_after-append seen added _
+    parts : repeats_after seen (dataset_names (drop i cs))
+        ≡ (repeats_after seen added
+        || repeats_after (seen ++ added) (dataset_names (drop (i + 1) cs)))
+    parts = ap (repeats_after seen) (datasets-drop cs i d lt) ∙ repeats_after-append seen added _
 
-  pub stops : repeats_after seen added ≡ true → repeats_after seen (dataset_names (drop i cs)) ≡ repeats_after old (dataset_names cs) → repeats_after old (dataset_names cs) ≡ true
-  stops twice rest = sym rest ∙ parts ∙ ap (λ b. b || repeats_after (seen ++ added) (dataset_names (drop (i + 1) cs))) twice
+    pub stops : repeats_after seen added ≡ true →
+        repeats_after seen (dataset_names (drop i cs)) ≡ repeats_after old (dataset_names cs) →
+        repeats_after old (dataset_names cs) ≡ true
+    stops twice rest = sym rest ∙ parts
+        ∙ ap (λ b. b || repeats_after (seen ++ added) (dataset_names (drop (i + 1) cs))) twice
 
-  pub goes_on : repeats_after seen added ≡ false → repeats_after seen (dataset_names (drop i cs)) ≡ repeats_after old (dataset_names cs)
-      → repeats_after (seen ++ added) (dataset_names (drop (i + 1) cs)) ≡ repeats_after old (dataset_names cs)
-  goes_on once rest = ap (λ b. b || repeats_after (seen ++ added) (dataset_names (drop (i + 1) cs))) (sym once) ∙ sym parts ∙ rest
+    pub goes_on : repeats_after seen added ≡ false →
+        repeats_after seen (dataset_names (drop i cs)) ≡ repeats_after old (dataset_names cs)
+        →
+        repeats_after (seen ++ added) (dataset_names (drop (i + 1) cs))
+        ≡ repeats_after old (dataset_names cs)
+    goes_on once rest = ap (λ b. b || repeats_after (seen ++ added) (dataset_names (drop (i + 1) cs)))
+        (sym once) ∙ sym parts ∙ rest
 
-  pub goes_through : seen ++ dataset_names (drop i cs) ≡ old ++ dataset_names cs → (seen ++ added) ++ dataset_names (drop (i + 1) cs) ≡ old ++ dataset_names cs
-  goes_through all = append_assoc seen added _ ∙ ap (λ ns. seen ++ ns) (sym (datasets-drop cs i d lt)) ∙ all
+    pub goes_through : seen ++ dataset_names (drop i cs) ≡ old ++ dataset_names cs →
+        (seen ++ added) ++ dataset_names (drop (i + 1) cs) ≡ old ++ dataset_names cs
+    goes_through all =
+        append_assoc seen added _ ∙ ap (λ ns. seen ++ ns) (sym (datasets-drop cs i d lt)) ∙ all
 
 pub turned_true : (b x : Bool) → b ≡ not x → b ≡ false → x ≡ true
 turned_true b true e f = refl
@@ -91,13 +114,15 @@ turned_false b true e f = cc
 turned_false b false e f = refl
 
 -- what a table tells of the names that it was made from
-pub distinct_some : (o : Option (List Name)) (t ns : List Name) → o ≡ table_if_distinct ns → o ≡ Some t → (comes_twice ns ≡ false) × (t ≡ ns)
+pub distinct_some : (o : Option (List Name)) (t ns : List Name) → o ≡ table_if_distinct ns →
+    o ≡ Some t → (comes_twice ns ≡ false) × (t ≡ ns)
 distinct_some o t ns made found = elim (cases_Bool (comes_twice ns)) [
   | inl twice ↦ let none : o ≡ None = made ∙ ap (λ b. cond b None (Some ns)) twice in cc
   | inr once ↦ (once, let some : o ≡ Some ns = made ∙ ap (λ b. cond b None (Some ns)) once in cc)
 ]
 
-pub distinct_none : (o : Option (List Name)) (ns : List Name) → o ≡ table_if_distinct ns → o ≡ None → comes_twice ns ≡ true
+pub distinct_none : (o : Option (List Name)) (ns : List Name) → o ≡ table_if_distinct ns →
+    o ≡ None → comes_twice ns ≡ true
 distinct_none o ns made found = elim (cases_Bool (comes_twice ns)) [
   | inl twice ↦ twice
   | inr once ↦ let some : o ≡ Some ns = made ∙ ap (λ b. cond b None (Some ns)) once in cc
@@ -106,16 +131,21 @@ distinct_none o ns made found = elim (cases_Bool (comes_twice ns)) [
 any_last : (a b c d : Bool) → d ≡ true → (a || b || c || d) ≡ true
 any_last a b c d h = rw h (or-true (a || b || c))
 
-none_of : (a b c d : Bool) → a ≡ false → b ≡ false → c ≡ false → d ≡ false → (a || b || c || d) ≡ false
+none_of : (a b c d : Bool) → a ≡ false → b ≡ false → c ≡ false → d ≡ false →
+    (a || b || c || d) ≡ false
 none_of a b c d p q r s = rw (p, q, r, s) refl
 
-pub repeat_in_rules : (t : PolicyText) → comes_twice (map (λ r. r.op) t.rules) ≡ true → has_repeats t ≡ true
+pub repeat_in_rules : (t : PolicyText) → comes_twice (map (λ r. r.op) t.rules) ≡ true →
+    has_repeats t ≡ true
 unfolding has_repeats
 repeat_in_rules t h =
-    any_last (comes_twice (map (λ c. c.name) t.classes)) (comes_twice (dataset_names t.classes)) (comes_twice (map (λ p. p.name) t.processes)) _ h
+    any_last (comes_twice (map (λ c. c.name) t.classes)) (comes_twice (dataset_names t.classes))
+    (comes_twice (map (λ p. p.name) t.processes)) _ h
 
-pub no_repeats : (t : PolicyText) → comes_twice (map (λ c. c.name) t.classes) ≡ false → comes_twice (dataset_names t.classes) ≡ false
-    → comes_twice (map (λ p. p.name) t.processes) ≡ false → comes_twice (map (λ r. r.op) t.rules) ≡ false → has_repeats t ≡ false
+pub no_repeats : (t : PolicyText) → comes_twice (map (λ c. c.name) t.classes) ≡ false →
+    comes_twice (dataset_names t.classes) ≡ false
+    → comes_twice (map (λ p. p.name) t.processes) ≡ false →
+    comes_twice (map (λ r. r.op) t.rules) ≡ false → has_repeats t ≡ false
 unfolding has_repeats
 no_repeats t p q r s = none_of _ _ _ _ p q r s
 
@@ -127,18 +157,25 @@ no_first false false true d h = cc
 no_first false false false d h = (refl, refl, refl)
 
 pub distinct_names : (t : PolicyText) → has_repeats t ≡ false
-    → (comes_twice (map (λ c. c.name) t.classes) ≡ false) × (comes_twice (dataset_names t.classes) ≡ false) × (comes_twice (map (λ p. p.name) t.processes) ≡ false)
+    → (comes_twice (map (λ c. c.name) t.classes) ≡ false)
+    × (comes_twice (dataset_names t.classes) ≡ false)
+    × (comes_twice (map (λ p. p.name) t.processes) ≡ false)
 unfolding has_repeats
 distinct_names t h = no_first _ _ _ _ h
 
 -- the table that was made by adding the names to an empty one
-pub table_made : (fresh : Bool) (empty new ns : List Name) → empty ≡ [] → fresh ≡ not (repeats_after empty ns) → (fresh ≡ true → new ≡ empty ++ ns) → fresh ≡ true → Some new ≡ table_if_distinct ns
+pub table_made : (fresh : Bool) (empty new ns : List Name) → empty ≡ [] →
+    fresh ≡ not (repeats_after empty ns) → (fresh ≡ true → new ≡ empty ++ ns) → fresh ≡ true →
+    Some new ≡ table_if_distinct ns
 table_made fresh empty new ns none told added yes_fresh =
-    let once : comes_twice ns ≡ false = sym (repeats_after-nil ns) ∙ ap (λ seen. repeats_after seen ns) (sym none) ∙ turned_false fresh _ told yes_fresh in
+    let once : comes_twice ns ≡ false = sym (repeats_after-nil ns) ∙ ap
+    (λ seen. repeats_after seen ns) (sym none) ∙ turned_false fresh _ told yes_fresh in
     let same : new ≡ ns = added yes_fresh ∙ ap (λ seen. seen ++ ns) none in
     rw once (ap (λ (t : List Name). Some t) same)
 
-pub table_refused : (fresh : Bool) (empty ns : List Name) → empty ≡ [] → fresh ≡ not (repeats_after empty ns) → fresh ≡ false → None ≡ table_if_distinct ns
+pub table_refused : (fresh : Bool) (empty ns : List Name) → empty ≡ [] →
+    fresh ≡ not (repeats_after empty ns) → fresh ≡ false → None ≡ table_if_distinct ns
 table_refused fresh empty ns none told not_fresh =
-    let twice : comes_twice ns ≡ true = sym (repeats_after-nil ns) ∙ ap (λ seen. repeats_after seen ns) (sym none) ∙ turned_true fresh _ told not_fresh in
+    let twice : comes_twice ns ≡ true = sym (repeats_after-nil ns) ∙ ap
+    (λ seen. repeats_after seen ns) (sym none) ∙ turned_true fresh _ told not_fresh in
     rw twice refl

@@ -1,5 +1,7 @@
 -- The test of rivals, and the relation: two different datasets of one class.
-use Rattle.std.proofs.Common.{◌≡◌, ◌≢◌, ℕ, zero, suc, ◌+◌, ◌<◌, Bool, true, false, not, ◌&&◌, nat_eq, List, [], ◌∷◌, length, Option, Some, None, refl, sym, ap, ◌∙◌, inl, inr, arith, slice_get}
+use Rattle.std.proofs.Common.{◌≡◌, ◌≢◌, ℕ, zero, suc, ◌+◌, ◌<◌, Bool, true, false, not, ◌&&◌}
+use Rattle.std.proofs.Common.{nat_eq, List, [], ◌∷◌, length, Option, Some, None, refl, sym, ap, ◌∙◌}
+use Rattle.std.proofs.Common.{inl, inr, arith, slice_get}
 use Rattle.std.specs.Prelude.{Contains, slice_index_or}
 use Rattle.std.proofs.lemmas.Bool.{ne_eqb, eq-eqb}
 use Rattle.std.proofs.lemmas.Bool.Decides.{eqb_tells}
@@ -9,7 +11,8 @@ behind : (y : ℕ) (xs : List ℕ) (x : ℕ) → Contains xs x → Contains (y �
 behind y xs x h = (suc h.0, omega (arith, h.1), h.2)
 
 -- a dataset stands in the list of its class
-listed : (cs : List ℕ) (class n i d : ℕ) → d ≡ n + i → slice_get cs i ≡ Some class → Contains (datasets_from n cs class) d
+listed : (cs : List ℕ) (class n i d : ℕ) → d ≡ n + i → slice_get cs i ≡ Some class →
+    Contains (datasets_from n cs class) d
 listed [] class n i d place at = absurd cc
 listed (c ∷ cs) class n zero d place at =
     let same : c ≡ class = cc in
@@ -26,23 +29,33 @@ listed (c ∷ cs) class n (suc i) d place at =
 abbrev StandsAt : List ℕ → ℕ → ℕ → ℕ → Type 0
 StandsAt cs class n d = (i : ℕ) × (d ≡ n + i) × (slice_get cs i ≡ Some class)
 
-first_or_later : (c class n d : ℕ) (cs : List ℕ) (k : ℕ) → c ≡ class → k < length (n ∷ datasets_from (n + 1) cs class) → slice_index_or (n ∷ datasets_from (n + 1) cs class) k d ≡ d
-    → (Contains (datasets_from (n + 1) cs class) d → StandsAt cs class (n + 1) d) → StandsAt (c ∷ cs) class n d
-first_or_later c class n d cs zero same lt is rest = (0, omega (arith, is), ap (λ (k : ℕ). Some k) same)
+first_or_later : (c class n d : ℕ) (cs : List ℕ) (k : ℕ) → c ≡ class →
+    k < length (n ∷ datasets_from (n + 1) cs class) →
+    slice_index_or (n ∷ datasets_from (n + 1) cs class) k d ≡ d
+    → (Contains (datasets_from (n + 1) cs class) d → StandsAt cs class (n + 1) d) →
+    StandsAt (c ∷ cs) class n d
+first_or_later c class n d cs zero same lt is rest =
+    (0, omega (arith, is), ap (λ (k : ℕ). Some k) same)
 first_or_later c class n d cs (suc k) same lt is rest =
     let later = rest (k, omega (arith, lt), is) in
     (suc later.0, omega (arith, later.1), later.2)
 
-stands : (cs : List ℕ) (class n d : ℕ) → Contains (datasets_from n cs class) d → StandsAt cs class n d
+stands : (cs : List ℕ) (class n d : ℕ) → Contains (datasets_from n cs class) d →
+    StandsAt cs class n d
 stands [] class n d h = absurd (omega (arith, h.1))
 stands (c ∷ cs) class n d h = elim (eqb_tells c class) [
-  | inl e ↦ let here = rw e.0 at h in first_or_later c class n d cs here.0 e.1 here.1 here.2 (λ rest. stands cs class (n + 1) d rest)
+  | inl e
+      ↦
+      let here = rw e.0 at h in
+      first_or_later c class n d cs here.0 e.1 here.1 here.2
+      (λ rest. stands cs class (n + 1) d rest)
   | inr e ↦
       let later = stands cs class (n + 1) d (rw e.0 at h) in
       (suc later.0, omega (arith, later.1), later.2)
 ]
 
-one_class : (a b : Option ℕ) → is_one_class a b ≡ true → (class : ℕ) × (a ≡ Some class) × (b ≡ Some class)
+one_class : (a b : Option ℕ) → is_one_class a b ≡ true →
+    (class : ℕ) × (a ≡ Some class) × (b ≡ Some class)
 one_class (Some c) (Some k) h = elim (eqb_tells c k) [
   | inl e ↦ (k, ap (λ (x : ℕ). Some x) e.1, refl)
   | inr e ↦ absurd cc
@@ -60,19 +73,27 @@ differ d e h = elim (eqb_tells d e) [
   | inr other ↦ other.1
 ]
 
-pub are_rivals-Decides : (classes : List ℕ) (d e : ℕ) → (are_rivals classes d e ≡ true → AreRivals classes d e) × (AreRivals classes d e → are_rivals classes d e ≡ true)
+pub are_rivals-Decides : (classes : List ℕ) (d e : ℕ) → (are_rivals classes d e ≡ true →
+    AreRivals classes d e) × (AreRivals classes d e → are_rivals classes d e ≡ true)
 unfolding are_rivals
 are_rivals-Decides classes d e = (
   λ h.
       let parts = and_parts (not (nat_eq d e)) _ h in
-      let one = one_class (slice_get classes d) (slice_get classes e) parts.1 in
-      (differ d e parts.0, (one.0, listed classes one.0 0 d d (omega arith) one.1, listed classes one.0 0 e e (omega arith) one.2)),
+      let one = one_class (slice_get classes d) (slice_get classes e) parts.1 in (
+        differ d e parts.0,
+        (
+          one.0,
+          listed classes one.0 0 d d (omega arith) one.1,
+          listed classes one.0 0 e e (omega arith) one.2,
+        ),
+      ),
   λ (r : AreRivals classes d e).
       let left = stands classes r.1.0 0 d r.1.1 in
       let right = stands classes r.1.0 0 e r.1.2 in
       let at_left : left.0 ≡ d = omega (arith, left.1) in
       let at_right : right.0 ≡ e = omega (arith, right.1) in
-      rw (ne_eqb d e r.0, rw at_left at left.2, rw at_right at right.2, eq-eqb r.1.0 r.1.0 refl) refl,
+      rw (ne_eqb d e r.0, rw at_left at left.2, rw at_right at right.2, eq-eqb r.1.0 r.1.0 refl)
+      refl,
 )
 
 -- no dataset is a rival of itself
@@ -92,6 +113,8 @@ one_class-symmetric (Some c) None = refl
 one_class-symmetric None (Some k) = refl
 one_class-symmetric None None = refl
 
-pub are_rivals-symmetric : (classes : List ℕ) (d e : ℕ) → are_rivals classes d e ≡ are_rivals classes e d
+pub are_rivals-symmetric : (classes : List ℕ) (d e : ℕ) →
+    are_rivals classes d e ≡ are_rivals classes e d
 unfolding are_rivals
-are_rivals-symmetric classes d e = λ i. not (eq-symmetric d e i) && one_class-symmetric (slice_get classes d) (slice_get classes e) i
+are_rivals-symmetric classes d e = λ i.
+    not (eq-symmetric d e i) && one_class-symmetric (slice_get classes d) (slice_get classes e) i

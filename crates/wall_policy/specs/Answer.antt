@@ -1,15 +1,22 @@
--- What a policy file says: the table of its faults, and the answer by the first that holds. (Own format, over TOML.)
-use Rattle.std.specs.Prelude.{◌≡◌, ℕ, nat_eq, Bool, false, not, List, [], ◌∷◌, length, find, Option, Some, None, is_none, option_and_then, Result, Ok, Err, if◌then◌else◌}
+-- What a policy file says: the table of its faults, and the answer by the first that holds. (Own
+-- format, over TOML.)
+use Rattle.std.specs.Prelude.{◌≡◌, ℕ, nat_eq, Bool, false, not, List, [], ◌∷◌, length, find, Option}
+use Rattle.std.specs.Prelude.{Some, None, is_none, option_and_then, Result, Ok, Err, if◌then◌else◌}
 use Rattle.std.specs.Option.{option_map_or}
 use Rattle.std.specs.Str.Lossy.{utf8_valid_len}
 use Rattle.toml.specs.Data.{Members}
 use Rattle.toml.specs.Parse.{parse_document}
 use Rattle.wall_policy.specs.declared.fault.PolicyFault.{PolicyFault}
-use Rattle.wall_policy.specs.declared.fault.PolicyFault.TheVariants.{NotToml, BadVersion, MissingKey, UnknownKey, BadName, DuplicateName, UnknownDataset, BadOp, BadLeast, TooMany, NoMemory}
+use Rattle.wall_policy.specs.declared.fault.PolicyFault.TheVariants.{NotToml, BadVersion}
+use Rattle.wall_policy.specs.declared.fault.PolicyFault.TheVariants.{MissingKey, UnknownKey}
+use Rattle.wall_policy.specs.declared.fault.PolicyFault.TheVariants.{BadName, DuplicateName}
+use Rattle.wall_policy.specs.declared.fault.PolicyFault.TheVariants.{UnknownDataset, BadOp}
+use Rattle.wall_policy.specs.declared.fault.PolicyFault.TheVariants.{BadLeast, TooMany, NoMemory}
 use Rattle.wall_policy.specs.Plain.{PolicyText}
 use Rattle.wall_policy.specs.Form.{record_of}
 use Rattle.wall_policy.specs.Keys.{version_of, has_known_keys}
-use Rattle.wall_policy.specs.Checks.{has_good_names, has_repeats, has_known_homes, has_known_ops, has_good_leasts, is_small}
+use Rattle.wall_policy.specs.Checks.{has_good_names, has_repeats, has_known_homes, has_known_ops}
+use Rattle.wall_policy.specs.Checks.{has_good_leasts, is_small}
 use Rattle.wall_policy.specs.Meaning.{wall_of}
 use Rattle.wall_policy.specs.Policy.{ChineseWall}
 
@@ -26,7 +33,8 @@ abbrev pub in_tree : (Members → Bool) → Option Members → Bool
 in_tree test tree = option_map_or test tree false
 
 abbrev pub in_version : ((version : ℕ) → Members → Bool) → Option Members → Bool
-in_version test tree = in_tree (λ ms. option_map_or (λ version. test version ms) (version_of ms) false) tree
+in_version test tree =
+    in_tree (λ ms. option_map_or (λ version. test version ms) (version_of ms) false) tree
 
 abbrev pub in_record : (PolicyText → Bool) → Option Members → Bool
 in_record test tree = option_map_or test (option_and_then record_in tree) false
@@ -47,7 +55,16 @@ holds tree NoMemory = false
 
 -- the faults in their order: each is looked at only where none before it holds
 abbrev pub faults : List PolicyFault
-faults = NotToml ∷ BadVersion ∷ MissingKey ∷ UnknownKey ∷ BadName ∷ DuplicateName ∷ UnknownDataset ∷ BadOp ∷ BadLeast ∷ TooMany ∷ []
+faults = NotToml ∷ BadVersion ∷ MissingKey ∷ UnknownKey ∷ BadName ∷ DuplicateName ∷ UnknownDataset
+    ∷ BadOp ∷ BadLeast ∷ TooMany ∷ []
+
+-- those that the tree alone decides, where there is one
+abbrev pub key_faults : List PolicyFault
+key_faults = BadVersion ∷ MissingKey ∷ UnknownKey ∷ []
+
+-- the first of these
+unfoldable pub key_fault : Members → Option PolicyFault
+key_fault ms = find (holds (Some ms)) key_faults
 
 -- the first fault, and where none holds the policy of the record (which is then there)
 abbrev pub answer_by : Option PolicyFault → Option PolicyText → Result ChineseWall PolicyFault

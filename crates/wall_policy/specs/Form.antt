@@ -1,5 +1,6 @@
 -- The keys of a policy file, and what kind of value each holds. (Own format.)
-use Rattle.std.specs.Prelude.{ℕ, ℤ, pos, nat_eq, List, [], ◌∷◌, Option, Some, None, codes, if◌then◌else◌}
+use Rattle.std.specs.Prelude.{ℕ, ℤ, pos, nat_eq, List, [], ◌∷◌, Option, Some, None, codes}
+use Rattle.std.specs.Prelude.{if◌then◌else◌}
 use Rattle.toml.specs.Data.{Data, Members, as_str, as_table}
 use Rattle.wall_policy.specs.Plain.{ClassText, ProcessText, RuleText, PolicyText}
 use Rattle.wall_policy.specs.Tree.{◌>>=◌, list_or_empty, list_at, text_at, number_at, text_if_any}
@@ -35,10 +36,14 @@ abbrev pub some_of : {Y : Type 0} → List Y → Option (List Y)
 some_of [] = None
 some_of (y ∷ ys) = Some (y ∷ ys)
 
+-- the processes that the tree says: one at least
+abbrev pub processes_in : Members → Option (List ProcessText)
+processes_in ms = list_at process_of (codes "process") ms >>= some_of
+
 -- the record that the tree says, where no required key is absent and each has its kind of value
 unfoldable pub record_of : (version : ℕ) → Members → Option PolicyText
 record_of version ms = do
   classes ← list_or_empty class_of (codes "class") ms
-  processes ← list_at process_of (codes "process") ms >>= some_of
+  processes ← processes_in ms
   rules ← list_or_empty (rule_of version) (codes "sanitise") ms
   Some (record { version = version; classes = classes; processes = processes; rules = rules })

@@ -1,12 +1,18 @@
--- The conditions of a policy file looked at one after the other. `proofs/LowestLemmas` shows that this gives the answer of the table of faults.
+-- The conditions of a policy file looked at one after the other. `proofs/LowestLemmas` shows that
+-- this gives the answer of the table of faults.
 use Rattle.std.specs.Prelude.{◌≡◌, ℕ, not, List, Option, Some, None, Result, Ok, Err, if◌then◌else◌}
 use Rattle.toml.specs.Data.{Members}
 use Rattle.wall_policy.specs.declared.fault.PolicyFault.{PolicyFault}
-use Rattle.wall_policy.specs.declared.fault.PolicyFault.TheVariants.{NotToml, BadVersion, MissingKey, UnknownKey, BadName, DuplicateName, UnknownDataset, BadOp, BadLeast, TooMany, NoMemory}
+use Rattle.wall_policy.specs.declared.fault.PolicyFault.TheVariants.{NotToml, BadVersion}
+use Rattle.wall_policy.specs.declared.fault.PolicyFault.TheVariants.{MissingKey, UnknownKey}
+use Rattle.wall_policy.specs.declared.fault.PolicyFault.TheVariants.{BadName, DuplicateName}
+use Rattle.wall_policy.specs.declared.fault.PolicyFault.TheVariants.{UnknownDataset, BadOp}
+use Rattle.wall_policy.specs.declared.fault.PolicyFault.TheVariants.{BadLeast, TooMany, NoMemory}
 use Rattle.wall_policy.specs.Plain.{PolicyText}
 use Rattle.wall_policy.specs.Form.{record_of}
 use Rattle.wall_policy.specs.Keys.{version_of, has_known_keys}
-use Rattle.wall_policy.specs.Checks.{has_good_names, has_repeats, has_known_homes, has_known_ops, has_good_leasts, is_small}
+use Rattle.wall_policy.specs.Checks.{has_good_names, has_repeats, has_known_homes, has_known_ops}
+use Rattle.wall_policy.specs.Checks.{has_good_leasts, is_small}
 use Rattle.wall_policy.specs.Meaning.{wall_of}
 use Rattle.wall_policy.specs.Policy.{ChineseWall}
 use Rattle.wall_policy.specs.Answer.{tree_of}
@@ -27,7 +33,8 @@ judged t =
     else if not (is_small t) then Err TooMany
     else Ok (wall_of t)
 
-unfoldable pub of_record : (version : ℕ) → Members → Option PolicyText → Result ChineseWall PolicyFault
+unfoldable pub of_record : (version : ℕ) → Members → Option PolicyText →
+    Result ChineseWall PolicyFault
 of_record version ms None = Err MissingKey
 of_record version ms (Some t) = if not (has_known_keys version ms) then Err UnknownKey else judged t
 

@@ -1,19 +1,24 @@
 -- Which keys stand in a policy file, and its version. (Own format.)
-use Rattle.std.specs.Prelude.{ℕ, ℤ, pos, Bool, true, ◌&&◌, ◌||◌, List, nat_eq, Option, Some, None, codes, if◌then◌else◌}
+use Rattle.std.specs.Prelude.{ℕ, ℤ, pos, Bool, true, ◌&&◌, ◌||◌, List, nat_eq, Option, Some, None}
+use Rattle.std.specs.Prelude.{codes, if◌then◌else◌}
 use Rattle.std.specs.Str.{bytes_eq}
-use Rattle.toml.specs.Data.{Data, Items, no_items, item, Members, no_members, member, array, table, get_member}
+use Rattle.toml.specs.Data.{Data, Items, no_items, item, Members, no_members, member, array, table}
+use Rattle.toml.specs.Data.{get_member}
 use Rattle.wall_policy.specs.declared.keys.Section.{Section}
-use Rattle.wall_policy.specs.declared.keys.Section.TheVariants.{File, Class, Process, Rule, RuleOfTwo}
+use Rattle.wall_policy.specs.declared.keys.Section.TheVariants.{File, Class, Process, Rule}
+use Rattle.wall_policy.specs.declared.keys.Section.TheVariants.{RuleOfTwo}
 use Rattle.wall_policy.specs.Policy.{is_version}
 use Rattle.wall_policy.specs.Tree.{number_at}
 
 -- the keys of the file, and of a table of each of its arrays
 abbrev pub is_key : Section → List ℕ → Bool
-is_key File k = bytes_eq k (codes "version") || bytes_eq k (codes "class") || bytes_eq k (codes "process") || bytes_eq k (codes "sanitise")
+is_key File k = bytes_eq k (codes "version") || bytes_eq k (codes "class")
+    || bytes_eq k (codes "process") || bytes_eq k (codes "sanitise")
 is_key Class k = bytes_eq k (codes "name") || bytes_eq k (codes "datasets")
 is_key Process k = bytes_eq k (codes "name") || bytes_eq k (codes "home")
 is_key Rule k = bytes_eq k (codes "op") || bytes_eq k (codes "least")
-is_key RuleOfTwo k = bytes_eq k (codes "op") || bytes_eq k (codes "least") || bytes_eq k (codes "distinct")
+is_key RuleOfTwo k =
+    bytes_eq k (codes "op") || bytes_eq k (codes "least") || bytes_eq k (codes "distinct")
 
 -- the tables of `sanitise` have one key more in a file of version 2
 abbrev pub rule_section : (version : ℕ) → Section

@@ -1,4 +1,5 @@
--- Processes and labels that the policy has. (Own rule: the condition that a caller keeps, and what it gets.)
+-- Processes and labels that the policy has. (Own rule: the condition that a caller keeps, and what
+-- it gets.)
 use Rattle.std.specs.Prelude.{◌<◌, ℕ, length}
 use Rattle.wall_labels.specs.declared.label.Label.{Label}
 use Rattle.wall_labels.specs.declared.label.Label.TheVariants.{Public, Of}

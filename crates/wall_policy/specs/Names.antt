@@ -1,5 +1,7 @@
--- Names of classes, datasets and processes: their form, the place of one in a list, and whether one comes twice. (Own rules.)
-use Rattle.std.specs.Prelude.{ℕ, Bool, false, not, ◌&&◌, ◌||◌, ◌==◌, nat_le, nat_lt, List, [], ◌∷◌, length, Option, codes}
+-- Names of classes, datasets and processes: their form, the place of one in a list, and whether one
+-- comes twice. (Own rules.)
+use Rattle.std.specs.Prelude.{ℕ, Bool, false, not, ◌&&◌, ◌||◌, ◌==◌, nat_le, nat_lt, List, [], ◌∷◌}
+use Rattle.std.specs.Prelude.{length, Option, codes}
 use Rattle.std.specs.List.{list_all, list_any, position_from}
 use Rattle.std.specs.Str.{bytes_eq}
 
@@ -29,7 +31,8 @@ is_name (b ∷ bs) = is_letter b && list_all is_name_byte bs && nat_lt (length b
 
 -- no dataset has a name that labels give another meaning
 abbrev pub is_dataset_name : Name → Bool
-is_dataset_name name = is_name name && not (bytes_eq name (codes "public")) && not (bytes_eq name (codes "none"))
+is_dataset_name name =
+    is_name name && not (bytes_eq name (codes "public")) && not (bytes_eq name (codes "none"))
 
 -- the place of the first such name
 abbrev pub place_of : Name → List Name → Option ℕ

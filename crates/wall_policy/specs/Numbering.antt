@@ -1,5 +1,6 @@
 -- What numbering names one after the other gives.
-use Rattle.std.specs.Prelude.{Bool, false, ◌||◌, List, [], ◌∷◌, ◌++◌, Option, Some, None, if◌then◌else◌}
+use Rattle.std.specs.Prelude.{Bool, false, ◌||◌, List, [], ◌∷◌, ◌++◌, Option, Some, None}
+use Rattle.std.specs.Prelude.{if◌then◌else◌}
 use Rattle.wall_policy.specs.Names.{Name, is_in, comes_twice}
 
 -- one of the names is in `seen`, or comes again later

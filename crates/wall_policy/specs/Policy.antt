@@ -1,6 +1,8 @@
--- A policy of a Chinese Wall: which datasets are rivals, where each process is at home, and which results count as sanitised.
--- (Brewer and Nash 1989: company datasets, conflict of interest classes, sanitised information. Homes and least numbers are own rules.)
-use Rattle.std.specs.Prelude.{◌≡◌, ℕ, ◌<◌, ◌≤◌, nat_eq, nat_le, Bool, true, false, IsTrue, ◌&&◌, ◌||◌, List, length, find, Option, Some, None, option_map, slice_get}
+-- A policy of a Chinese Wall: which datasets are rivals, where each process is at home, and which
+-- results count as sanitised. (Brewer and Nash 1989: company datasets, conflict of interest
+-- classes, sanitised information. Homes and least numbers are own rules.)
+use Rattle.std.specs.Prelude.{◌≡◌, ℕ, ◌<◌, ◌≤◌, nat_eq, nat_le, Bool, true, false, IsTrue, ◌&&◌}
+use Rattle.std.specs.Prelude.{◌||◌, List, length, find, Option, Some, None, option_map, slice_get}
 use Rattle.std.specs.List.{list_all, AllZip}
 use Rattle.wall_labels.specs.Limits.{process_limit, dataset_limit, class_limit}
 use Rattle.wall_labels.specs.declared.op.Op.{Op}
@@ -8,11 +10,13 @@ use Rattle.wall_labels.specs.Ops.{op_number}
 use Rattle.wall_policy.specs.Names.{Name, is_name, is_dataset_name, comes_twice}
 use Rattle.wall_policy.specs.Rivals.{are_rivals}
 
--- The versions of a policy file. (Own format: version 2 states how many different datasets a sanitised result takes.)
+-- The versions of a policy file. (Own format: version 2 states how many different datasets a
+-- sanitised result takes.)
 abbrev pub is_version : ℕ → Bool
 is_version n = nat_eq n 1 || nat_eq n 2
 
--- Processes, datasets and classes are numbered from 0: what a list has at a number belongs to the thing of that number.
+-- Processes, datasets and classes are numbered from 0: what a list has at a number belongs to the
+-- thing of that number.
 pub record ChineseWall : Type 0 where
   -- the version of the file that says it
   pub version : ℕ
@@ -23,7 +27,8 @@ pub record ChineseWall : Type 0 where
   pub classes : List ℕ
   -- the home of each process, or none
   pub homes : List (Option ℕ)
-  -- the operations whose results may be sanitised, each with the least number of contributors from which they are
+  -- the operations whose results may be sanitised, each with the least number of contributors from
+  -- which they are
   pub leasts : List (Op × ℕ)
   -- the same operations, each with the least number of different datasets among those contributors
   pub distincts : List (Op × ℕ)
@@ -46,7 +51,8 @@ home_of w p = home_if_any (slice_get w.homes p)
 
 -- the number stated for an operation, in a finite map from operations to numbers
 abbrev pub number_in : List (Op × ℕ) → Op → Option ℕ
-number_in numbers op = option_map (λ r. r.1) (find (λ r. nat_eq (op_number r.0) (op_number op)) numbers)
+number_in numbers op =
+    option_map (λ r. r.1) (find (λ r. nat_eq (op_number r.0) (op_number op)) numbers)
 
 abbrev pub least_of : ChineseWall → Op → Option ℕ
 least_of w op = number_in w.leasts op
@@ -58,7 +64,8 @@ distinct_of w op = number_in w.distincts op
 abbrev pub is_least : ℕ → Bool
 is_least n = nat_le 2 n && nat_le n process_limit
 
--- a least number of different datasets: one at least, and no more than the least number of contributors
+-- a least number of different datasets: one at least, and no more than the least number of
+-- contributors
 abbrev pub is_distinct : (least n : ℕ) → Bool
 is_distinct least n = nat_le 1 n && nat_le n least
 

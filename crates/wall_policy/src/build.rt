@@ -3,8 +3,10 @@ ghost use Rattle.std.specs.Prelude.{◌≡◌, ◌++◌, ◌<◌, ◌≤◌, ◌
 ghost use Rattle.std.specs.Prelude.{true};
 ghost use Rattle.std.specs.List.{list_all};
 ghost use Rattle.wall_labels.specs.declared.ids.TheConstants.{DATASET_LIMIT, CLASS_LIMIT};
-ghost use Rattle.wall_policy.specs.Checks.{dataset_names as dataset_names_of, has_good_leasts, is_good_least, is_good_rule, is_small};
-ghost use Rattle.wall_policy.specs.Meaning.{class_numbers, home_in, natural, leasts_in, distincts_in};
+ghost use Rattle.wall_policy.specs.Checks.{dataset_names as dataset_names_of, has_good_leasts};
+ghost use Rattle.wall_policy.specs.Checks.{is_good_least, is_good_rule, is_small};
+ghost use Rattle.wall_policy.specs.Meaning.{class_numbers, home_in, natural, leasts_in};
+ghost use Rattle.wall_policy.specs.Meaning.{distincts_in};
 
 use crate::names::NameTable;
 use crate::plain::{ClassText, PolicyText, ProcessText, RuleText, Word};
@@ -58,7 +60,8 @@ pub(crate) fn home_list(
     processes: &[ProcessText],
 ) -> Result<Vec<Option<DatasetId>>, AllocError>
     requires { length datasets.now ≤ DATASET_LIMIT }
-    ensures { IfOk result (λ list. list.items ≡ map (λ p. home_in datasets.now p.home) processes.now) }
+    ensures { IfOk result
+        (λ list. list.items ≡ map (λ p. home_in datasets.now p.home) processes.now) }
 {
     let mut list = Vec::new(alloc);
     for process in processes {
@@ -130,7 +133,8 @@ pub(crate) fn lists_of(
     requires good_leasts { has_good_leasts text.now ≡ true }
     requires small { is_small text.now ≡ true }
     ensures classes { IfOk result (λ l. l.classes.items ≡ class_numbers 0 text.now.classes) }
-    ensures homes { IfOk result (λ l. l.homes.items ≡ map (λ p. home_in (dataset_names_of text.now.classes) p.home) text.now.processes) }
+    ensures homes { IfOk result (λ l. l.homes.items
+        ≡ map (λ p. home_in (dataset_names_of text.now.classes) p.home) text.now.processes) }
     ensures leasts { IfOk result (λ l. l.leasts.items ≡ leasts_in text.now.rules) }
     ensures distincts { IfOk result (λ l. l.distincts.items ≡ distincts_in text.now.rules) }
 {

@@ -3,7 +3,8 @@ ghost use Rattle.std.specs.Prelude.{◌≡◌, not, map, is_some, true};
 ghost use Rattle.std.specs.List.{list_all};
 ghost use Rattle.wall_labels.specs.Ops.{op_of};
 ghost use Rattle.wall_policy.specs.Names.{is_letter, is_name_byte, is_name, is_dataset_name};
-ghost use Rattle.wall_policy.specs.Checks.{is_named_class, is_good_least, is_good_distinct, is_good_rule, is_home};
+ghost use Rattle.wall_policy.specs.Checks.{is_named_class, is_good_least, is_good_distinct};
+ghost use Rattle.wall_policy.specs.Checks.{is_good_rule, is_home};
 
 use crate::names::NameTable;
 use crate::plain::{ClassText, ProcessText, RuleText, Word};

@@ -42,13 +42,15 @@ pub enum PolicyFault {
     /// `version` is absent, or neither the integer 1 nor 2.
     #[error("BadVersion")]
     BadVersion,
-    /// A required key is absent, a known key has another kind of value than it should, or there is no process.
+    /// A required key is absent, a known key has another kind of value than it should, or there is
+    /// no process.
     #[error("MissingKey")]
     MissingKey,
     /// The document or one of its tables has a key that is not known there.
     #[error("UnknownKey")]
     UnknownKey,
-    /// A class, dataset or process has a name outside the rule, or a dataset is called `public` or `none`.
+    /// A class, dataset or process has a name outside the rule, or a dataset is called `public` or
+    /// `none`.
     #[error("BadName")]
     BadName,
     /// Two classes, two datasets of any classes, two processes or two operations are written alike.
@@ -60,8 +62,8 @@ pub enum PolicyFault {
     /// An operation is none of a reduction's.
     #[error("BadOp")]
     BadOp,
-    /// A least number of contributors is below 2 or above the most processes, or one of different datasets is below 1 or above that of
-    /// contributors.
+    /// A least number of contributors is below 2 or above the most processes, or one of different
+    /// datasets is below 1 or above that of contributors.
     #[error("BadLeast")]
     BadLeast,
     /// There are more processes, datasets or classes than the limits allow.

@@ -4,7 +4,9 @@ ghost use Rattle.std.specs.List.{list_all};
 ghost use Rattle.std.specs.BTreeMap.{keys};
 ghost use Rattle.toml.specs.Data.{get_member};
 ghost use Rattle.toml.specs.View.{view, table_view, items_view};
-ghost use Rattle.wall_policy.specs.Keys.{is_key, are_keys, table_has_keys, items_have_keys, array_has_keys, rule_section, known_version, has_known_keys, version_of};
+ghost use Rattle.wall_policy.specs.Keys.{is_key, are_keys, table_has_keys, items_have_keys};
+ghost use Rattle.wall_policy.specs.Keys.{array_has_keys, rule_section, known_version};
+ghost use Rattle.wall_policy.specs.Keys.{has_known_keys, version_of};
 ghost use Rattle.wall_policy.specs.Policy.{is_version};
 ghost use Rattle.wall_policy.specs.declared.keys.Section.TheVariants.{File, RuleOfTwo};
 

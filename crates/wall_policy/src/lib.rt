@@ -1,7 +1,9 @@
-//! The policy of a Chinese Wall, and the file that says it. (Brewer and Nash 1989; the file's format is our own.)
+//! The policy of a Chinese Wall, and the file that says it. (Brewer and Nash 1989; the file's
+//! format is our own.)
 //!
-//! A policy file is a TOML document. [`read_policy`] reads one in two steps: from the tree that `toml` gives to a record of plain
-//! texts and numbers, and from that record to a [`Policy`], which answers what the rules ask without taking memory.
+//! A policy file is a TOML document. [`read_policy`] reads one in two steps: from the tree that
+//! `toml` gives to a record of plain texts and numbers, and from that record to a [`Policy`], which
+//! answers what the rules ask without taking memory.
 #![tactic(auto)]
 
 mod build;

@@ -1,5 +1,7 @@
 //! Different names, numbered in the order in which they came.
-ghost use Rattle.std.specs.Prelude.{◌≡◌, ◌<◌, ◌++◌, ◌∷◌, [], not, true, length, Bool, IfOk, IfErr, OnOk, OnErr, IfSome, slice_get, Some, option_map, if◌then◌else◌};
+ghost use Rattle.std.specs.Prelude.{◌≡◌, ◌<◌, ◌++◌, ◌∷◌, [], not, true, length, Bool, IfOk, IfErr};
+ghost use Rattle.std.specs.Prelude.{OnOk, OnErr, IfSome, slice_get, Some, option_map};
+ghost use Rattle.std.specs.Prelude.{if◌then◌else◌};
 ghost use Rattle.wall_policy.specs.Names.{place_of, is_in};
 
 use indexmap::IndexSet;
@@ -85,7 +87,8 @@ impl NameTable {
     /// Adds a copy of a name, unless it is there.
     pub(crate) fn add(&mut self, alloc: Global, name: &str) -> Result<bool, AllocError>
         ensures is_new { IfOk result (λ added. added ≡ not (is_in self.old name.now)) }
-        ensures added { IfOk result (λ added. self.new ≡ (if added then self.old ++ name.now ∷ [] else self.old)) }
+        ensures added { IfOk result
+            (λ added. self.new ≡ (if added then self.old ++ name.now ∷ [] else self.old)) }
         ensures err { OnErr result (self.new ≡ self.old) }
     {
         let name = String::from_str(alloc, name)?;

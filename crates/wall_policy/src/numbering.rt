@@ -49,8 +49,10 @@ impl Named for RuleText {
 
 // Adds the names to the table in their order, up to the first that is there.
 fn add_all<T: Named>(alloc: Global, table: &mut NameTable, items: &[T]) -> Result<bool, AllocError>
-    ensures fresh { IfOk result (λ fresh. fresh ≡ not (repeats_after table.old (map T.name_of items.now))) }
-    ensures added { IfOk result (λ fresh. IsTrue fresh → table.new ≡ table.old ++ map T.name_of items.now) }
+    ensures fresh { IfOk result
+        (λ fresh. fresh ≡ not (repeats_after table.old (map T.name_of items.now))) }
+    ensures added { IfOk result
+        (λ fresh. IsTrue fresh → table.new ≡ table.old ++ map T.name_of items.now) }
 {
     for item in items {
         if !table.add(alloc, item.name())? {
@@ -81,8 +83,10 @@ fn add_datasets(
     table: &mut NameTable,
     classes: &[ClassText],
 ) -> Result<bool, AllocError>
-    ensures fresh { IfOk result (λ fresh. fresh ≡ not (repeats_after table.old (dataset_names classes.now))) }
-    ensures added { IfOk result (λ fresh. IsTrue fresh → table.new ≡ table.old ++ dataset_names classes.now) }
+    ensures fresh { IfOk result
+        (λ fresh. fresh ≡ not (repeats_after table.old (dataset_names classes.now))) }
+    ensures added { IfOk result
+        (λ fresh. IsTrue fresh → table.new ≡ table.old ++ dataset_names classes.now) }
 {
     for class in classes {
         if !add_all(alloc, table, class.datasets())? {

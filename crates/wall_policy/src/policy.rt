@@ -1,5 +1,6 @@
 //! A policy, as the rules of the wall ask it.
-ghost use Rattle.std.specs.Prelude.{◌≡◌, ◌<◌, ◌≤◌, ◌↔◌, length, IsTrue, IfSome, Some, false, true, slice_get};
+ghost use Rattle.std.specs.Prelude.{◌≡◌, ◌<◌, ◌≤◌, ◌↔◌, length, IsTrue, IfSome, Some, false, true};
+ghost use Rattle.std.specs.Prelude.{slice_get};
 ghost use Rattle.wall_labels.specs.declared.ids.TheConstants.{PROCESS_LIMIT, DATASET_LIMIT};
 ghost use Rattle.wall_policy.specs.Names.{place_of, is_name, is_dataset_name};
 ghost use Rattle.wall_policy.specs.Rivals.{AreRivals, are_rivals};
@@ -57,8 +58,10 @@ impl Model for Policy {
 
 impl Policy {
     ghost use Rattle.std.specs.Prelude.{map, IfOk};
-    ghost use Rattle.wall_policy.specs.Policy.{IsPolicy, is_version, class_of, home_of, least_of, distinct_of, rival};
-    ghost use Rattle.wall_policy.specs.Checks.{dataset_names as dataset_names_of, has_good_names, has_repeats, has_good_leasts, is_small};
+    ghost use Rattle.wall_policy.specs.Policy.{IsPolicy, is_version, class_of, home_of, least_of};
+    ghost use Rattle.wall_policy.specs.Policy.{distinct_of, rival};
+    ghost use Rattle.wall_policy.specs.Checks.{dataset_names as dataset_names_of, has_good_names};
+    ghost use Rattle.wall_policy.specs.Checks.{has_repeats, has_good_leasts, is_small};
     ghost use Rattle.wall_policy.specs.Meaning.{wall_of};
 
     // The policy of a good record, with the tables of its names.
@@ -198,7 +201,8 @@ impl Policy {
         self.dataset_names.len() as u32
     }
 
-    /// The dataset where the process is at home. There is none for some processes, and for a number that is no process.
+    /// The dataset where the process is at home. There is none for some processes, and for a number
+    /// that is no process.
     pub fn home(&self, process: ProcessId) -> Option<DatasetId>
         ensures home { result ≡ home_of self.now process }
         ensures known { IfSome result (λ d. d < length self.now.dataset_names) }
@@ -215,7 +219,8 @@ impl Policy {
         self.classes[dataset.number() as usize]
     }
 
-    /// Whether these are two different datasets of one class. A number that is no dataset is nobody's rival.
+    /// Whether these are two different datasets of one class. A number that is no dataset is
+    /// nobody's rival.
     pub fn rival(&self, left: DatasetId, right: DatasetId) -> bool
         ensures test { result ≡ rival self.now left right }
         ensures rivals { IsTrue result ↔ AreRivals self.now.classes left right }
@@ -223,15 +228,16 @@ impl Policy {
         are_rivals(&self.classes, left, right)
     }
 
-    /// The least number of contributors from which the operation's results are sanitised, if the policy states one.
+    /// The least number of contributors from which the operation's results are sanitised, if the
+    /// policy states one.
     pub fn least(&self, op: Op) -> Option<u32>
         ensures least { result ≡ least_of self.now op }
     {
         number_in(&self.leasts, op)
     }
 
-    /// The least number of different datasets among those contributors, for an operation that has a least number of contributors. It is 1
-    /// for each of these where the file is of version 1.
+    /// The least number of different datasets among those contributors, for an operation that has a
+    /// least number of contributors. It is 1 for each of these where the file is of version 1.
     pub fn distinct(&self, op: Op) -> Option<u32>
         ensures distinct { result ≡ distinct_of self.now op }
     {
@@ -302,9 +308,11 @@ fn home_in(homes: &[Option<DatasetId>], process: ProcessId) -> Option<DatasetId>
     }
 }
 
-/// Whether two datasets are rivals, by the list of the class of each dataset: both stand in it, they differ, and they have one class.
+/// Whether two datasets are rivals, by the list of the class of each dataset: both stand in it,
+/// they differ, and they have one class.
 ///
-/// For who keeps the classes of a policy beside the data that they guard; [`Policy::rival`] asks the policy itself.
+/// For who keeps the classes of a policy beside the data that they guard; [`Policy::rival`] asks
+/// the policy itself.
 #[tactic(auto, unfolding(crate::specs::Rivals::are_rivals))]
 pub fn are_rivals(classes: &[ClassId], left: DatasetId, right: DatasetId) -> bool
     ensures { result ≡ are_rivals classes.now left right }

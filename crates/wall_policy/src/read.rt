@@ -1,9 +1,13 @@
 //! Reads a policy file.
-ghost use Rattle.std.specs.Prelude.{◌≡◌, ◌≤◌, not, true, false, length, map, Ok, IfOk, IfErr, IfSome, MatchOption, Some, None};
+ghost use Rattle.std.specs.Prelude.{◌≡◌, ◌≢◌, ◌≤◌, not, true, false, length, map, Ok, Err, IfOk};
+ghost use Rattle.std.specs.Prelude.{IfErr, IfSome, MatchOption, Some, None};
+ghost use Rattle.std.specs.Str.{IsUtf8};
 ghost use Rattle.toml.specs.View.{table_view};
-ghost use Rattle.wall_policy.specs.Checks.{dataset_names as dataset_names_of, has_good_names, has_repeats, has_known_homes, has_known_ops, has_good_leasts, is_small};
+ghost use Rattle.wall_policy.specs.Checks.{dataset_names as dataset_names_of, has_good_names};
+ghost use Rattle.wall_policy.specs.Checks.{has_repeats, has_known_homes, has_known_ops};
+ghost use Rattle.wall_policy.specs.Checks.{has_good_leasts, is_small};
 ghost use Rattle.wall_policy.specs.InTurn.{IsNoMemoryOr, judged, in_turn, of_tree, of_record};
-ghost use Rattle.wall_policy.specs.Answer.{Gives, Refuses, answer_to, tree_of};
+ghost use Rattle.wall_policy.specs.Answer.{Gives, Refuses, answer_to, key_fault, tree_of};
 ghost use Rattle.wall_policy.specs.Meaning.{wall_of};
 ghost use Rattle.wall_policy.specs.Names.{comes_twice};
 ghost use Rattle.wall_policy.specs.Policy.{is_version};
@@ -17,7 +21,7 @@ use crate::names::{NameTable, Tables};
 use crate::numbering::{dataset_table, table_of};
 use crate::plain::{PolicyText, RuleText};
 use crate::policy::Policy;
-use crate::tree::record_of_tree;
+use crate::tree::{record_is_said, record_of_tree};
 use std::alloc::{AllocError, Global};
 use toml::Table;
 use wall_labels::{CLASS_LIMIT, DATASET_LIMIT, PROCESS_LIMIT};
@@ -43,10 +47,14 @@ fn has_repeated_rule(alloc: Global, rules: &[RuleText]) -> Result<bool, AllocErr
 // come first, while no table is held.
 #[tactic(auto, unfolding(crate::specs::Checks::has_repeats))]
 fn tables_of(alloc: Global, text: &PolicyText) -> Result<Option<Tables>, AllocError>
-    ensures repeats { IfOk result (λ found. MatchOption found (has_repeats text.now ≡ true) (λ _. has_repeats text.now ≡ false)) }
-    ensures classes { IfOk result (λ found. IfSome found (λ t. t.class_names ≡ map (λ c. c.name) text.now.classes)) }
-    ensures datasets { IfOk result (λ found. IfSome found (λ t. t.dataset_names ≡ dataset_names_of text.now.classes)) }
-    ensures processes { IfOk result (λ found. IfSome found (λ t. t.process_names ≡ map (λ p. p.name) text.now.processes)) }
+    ensures repeats { IfOk result (λ found.
+        MatchOption found (has_repeats text.now ≡ true) (λ _. has_repeats text.now ≡ false)) }
+    ensures classes { IfOk result
+        (λ found. IfSome found (λ t. t.class_names ≡ map (λ c. c.name) text.now.classes)) }
+    ensures datasets { IfOk result
+        (λ found. IfSome found (λ t. t.dataset_names ≡ dataset_names_of text.now.classes)) }
+    ensures processes { IfOk result
+        (λ found. IfSome found (λ t. t.process_names ≡ map (λ p. p.name) text.now.processes)) }
 {
     if has_repeated_rule(alloc, text.rules())? {
         return Ok(None);
@@ -146,7 +154,10 @@ fn judge(alloc: Global, text: &PolicyText) -> Result<Policy, PolicyFault>
 #[tactic(auto, unfolding(crate::specs::Answer::tree_of))]
 fn tree_of_bytes(alloc: Global, bytes: &[u8]) -> Result<Table, PolicyFault>
     ensures tree { IfOk result (λ table. tree_of bytes.now ≡ Some (table_view table)) }
-    ensures none { IfErr result (λ fault. IsNoMemoryOr fault PolicyFault.NotToml (tree_of bytes.now ≡ None)) }
+    ensures text { IfOk result (λ _. IsUtf8 bytes.now) }
+    ensures none { IfErr result
+        (λ fault. IsNoMemoryOr fault PolicyFault.NotToml (tree_of bytes.now ≡ None)) }
+    ensures memory { result ≡ Err PolicyFault.NoMemory → IsUtf8 bytes.now }
 {
     let Ok(text) = std::str::from_utf8(bytes) else {
         return Err(PolicyFault::NotToml);
@@ -163,37 +174,46 @@ fn tree_of_bytes(alloc: Global, bytes: &[u8]) -> Result<Table, PolicyFault>
     }
 }
 
-// The policy of a tree, or what is wrong with it.
-#[tactic(auto, unfolding(crate::specs::InTurn::of_tree, crate::specs::InTurn::of_version, crate::specs::InTurn::of_record))]
+// The policy of a tree, or what is wrong with it. Its version and its keys are judged before any
+// memory is asked for.
+#[tactic(auto, unfolding(crate::specs::Answer::key_fault, crate::specs::InTurn::of_tree, crate::specs::InTurn::of_version, crate::specs::InTurn::of_record))]
 fn policy_of_tree(alloc: Global, table: &Table) -> Result<Policy, PolicyFault>
-    ensures { Gives result (of_tree (Some (table_view table.now))) }
+    ensures answer { Gives result (of_tree (Some (table_view table.now))) }
+    ensures memory { result ≡ Err PolicyFault.NoMemory → key_fault (table_view table.now) ≡ None }
 {
     let Some(version) = version_of(table) else {
         return Err(PolicyFault::BadVersion);
     };
-    let text = match record_of_tree(alloc, version, table) {
-        Ok(text) => text,
-        Err(FormFault::MissingKey) => return Err(PolicyFault::MissingKey),
-        Err(FormFault::NoMemory) => return Err(PolicyFault::NoMemory),
-    };
+    if !record_is_said(version, table) {
+        return Err(PolicyFault::MissingKey);
+    }
     if !are_all_known(version, table) {
         return Err(PolicyFault::UnknownKey);
     }
+    let text = match record_of_tree(alloc, version, table) {
+        Ok(text) => text,
+        Err(FormFault::MissingKey) => unreachable!(),
+        Err(FormFault::NoMemory) => return Err(PolicyFault::NoMemory),
+    };
     judge(alloc, &text)
 }
 
 // Looks at one condition after the other.
 #[tactic(auto, unfolding(crate::specs::InTurn::in_turn, crate::specs::InTurn::of_tree))]
 fn read_in_turn(alloc: Global, bytes: &[u8]) -> Result<Policy, PolicyFault>
-    ensures { Gives result (in_turn bytes.now) }
+    ensures answer { Gives result (in_turn bytes.now) }
+    ensures memory { result ≡ Err PolicyFault.NoMemory → IsUtf8 bytes.now }
 {
     let table = tree_of_bytes(alloc, bytes)?;
     policy_of_tree(alloc, &table)
 }
 
-/// Reads a policy file. What it says is a policy, or the lowest fault that holds of it; out of memory may come in place of either.
+/// Reads a policy file. What it says is a policy, or the lowest fault that holds of it. Out of
+/// memory may come in place of either where the bytes are UTF-8; a fault of the version or the keys
+/// is told as soon as the tree of the file is there, whatever memory is left.
 pub fn read_policy(alloc: Global, bytes: &[u8]) -> Result<Policy, PolicyFault>
-    ensures { Gives result (answer_to bytes.now) }
+    ensures answer { Gives result (answer_to bytes.now) }
+    ensures memory { result ≡ Err PolicyFault.NoMemory → IsUtf8 bytes.now }
 {
     read_in_turn(alloc, bytes)
 }

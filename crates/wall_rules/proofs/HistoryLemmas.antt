@@ -1,5 +1,7 @@
 -- The histories at the start, and after an entry.
-use Rattle.std.proofs.Common.{◌≡◌, ◌≢◌, ℕ, ◌<◌, ◌≤◌, Bool, true, false, ◌&&◌, ◌||◌, List, length, get_or, Option, Some, None, refl, sym, subst, ap, slice_get, ◌∙◌, inl, inr, arith, nat_eq, get_or-set_same, get_or-set_other}
+use Rattle.std.proofs.Common.{◌≡◌, ◌≢◌, ℕ, ◌<◌, ◌≤◌, Bool, true, false, ◌&&◌, ◌||◌, List, length}
+use Rattle.std.proofs.Common.{get_or, Option, Some, None, refl, sym, subst, ap, slice_get, ◌∙◌, inl}
+use Rattle.std.proofs.Common.{inr, arith, nat_eq, get_or-set_same, get_or-set_other}
 use Rattle.std.specs.Prelude.{IsTrue}
 use Rattle.std.proofs.Math.ListN.{set}
 use Rattle.std.proofs.lemmas.List.{get_or_default, get_or_past, length-set}
@@ -8,12 +10,15 @@ use Rattle.std.proofs.lemmas.Bool.{ne_eqb, eq-eqb}
 use Rattle.std.proofs.lemmas.Bool.Decides.{leb_tells, eqb_tells}
 use Rattle.std.specs.Ordering.{nat_cmp}
 use Rattle.std.specs.Cmp.{nat_cmp_total, unsigned_tied}
-use Rattle.std.specs.FinSet.{FinSet, empty, insert, union, contains, contains-empty, contains-insert, contains-union}
+use Rattle.std.specs.FinSet.{FinSet, empty, insert, union, contains, contains-empty}
+use Rattle.std.specs.FinSet.{contains-insert, contains-union}
 use Rattle.wall_labels.specs.Limits.{process_limit}
 use Rattle.wall_policy.specs.Policy.{ChineseWall, IsPolicy, home_if_any, home_of}
 use Rattle.wall_rules.specs.Rules.{HoldsNoRivals, joined}
-use Rattle.wall_rules.specs.Histories.{History, entered, is_home, opening, NobodyHoldsRivals, Accesses, has_in, has, KeepsWall}
-use Rattle.wall_rules.proofs.RuleLemmas.{no_rivals-part, no_rivals-one, same_number, and_parts, or_parts, or_left, or_right}
+use Rattle.wall_rules.specs.Histories.{History, entered, is_home, opening, NobodyHoldsRivals}
+use Rattle.wall_rules.specs.Histories.{Accesses, has_in, has, KeepsWall}
+use Rattle.wall_rules.proofs.RuleLemmas.{no_rivals-part, no_rivals-one, same_number, and_parts}
+use Rattle.wall_rules.proofs.RuleLemmas.{or_parts, or_left, or_right}
 
 or_false : (a : Bool) → a ≡ (a || false)
 or_false true = refl
@@ -32,28 +37,36 @@ home_is (Some own) d h = ap (λ (x : ℕ). Some x) (same_number own d h)
 is_home_of : (home : Option ℕ) (d : ℕ) → home ≡ Some d → is_home home d ≡ true
 is_home_of home d is = rw is (eq-eqb d d refl)
 
-pub opening-Decides : (w : ChineseWall) (p d : ℕ) → (IsTrue (opening w p d) → home_of w p ≡ Some d) × (home_of w p ≡ Some d → IsTrue (opening w p d))
+pub opening-Decides : (w : ChineseWall) (p d : ℕ) → (IsTrue (opening w p d) → home_of w p ≡ Some d)
+    × (home_of w p ≡ Some d → IsTrue (opening w p d))
 opening-Decides w p d = (home_is (home_of w p) d, is_home_of (home_of w p) d)
 
 -- the set of one home
-pub contains-home : (own d : ℕ) → contains (insert (empty {R = nat_cmp}) own) d ≡ is_home (Some own) d
-contains-home own d = contains-insert nat_cmp_total empty own d ∙ (λ i. unsigned_tied d own i || contains-empty nat_cmp d i) ∙ sym (or_false (nat_eq d own)) ∙ eq-symmetric d own
+pub contains-home : (own d : ℕ) →
+    contains (insert (empty {R = nat_cmp}) own) d ≡ is_home (Some own) d
+contains-home own d = contains-insert nat_cmp_total empty own d
+    ∙ (λ i. unsigned_tied d own i || contains-empty nat_cmp d i) ∙ sym (or_false (nat_eq d own))
+    ∙ eq-symmetric d own
 
 one_home : (classes : List ℕ) (home : Option ℕ) → HoldsNoRivals classes (is_home home)
 one_home classes None = λ d e hd he rivals. let bad : false ≡ true = hd in cc
-one_home classes (Some own) = no_rivals-one classes (is_home (Some own)) own (λ e h. sym (same_number own e h))
+one_home classes (Some own) =
+    no_rivals-one classes (is_home (Some own)) own (λ e h. sym (same_number own e h))
 
 -- at the start each process has had access to its home alone
 pub opening-apart : (classes : List ℕ) (w : ChineseWall) → NobodyHoldsRivals classes (opening w)
 opening-apart classes w p = one_home classes (home_of w p)
 
 -- an entry that fits the rule keeps rivals apart
-pub entered-apart : (classes : List ℕ) (history : History) (p : ℕ) (s : FinSet nat_cmp) → NobodyHoldsRivals classes history → HoldsNoRivals classes (joined (history p) s) → NobodyHoldsRivals classes (entered history p s)
+pub entered-apart : (classes : List ℕ) (history : History) (p : ℕ) (s : FinSet nat_cmp) →
+    NobodyHoldsRivals classes history → HoldsNoRivals classes (joined (history p) s) →
+    NobodyHoldsRivals classes (entered history p s)
 entered-apart classes history p s apart joint q = elim (eqb_tells q p) [
   | inl e ↦ no_rivals-part classes (joined (history p) s) (entered history p s q) joint (
       λ d h. elim (or_parts (history q d) (nat_eq q p && contains s d) h) [
         | inl old ↦ or_left (history p d) (contains s d) (rw e.1 at old)
-        | inr new ↦ or_right (history p d) (contains s d) (and_parts (nat_eq q p) (contains s d) new).1
+        | inr new
+            ↦ or_right (history p d) (contains s d) (and_parts (nat_eq q p) (contains s d) new).1
       ]
       )
   | inr e ↦ no_rivals-part classes (history q) (entered history p s q) (apart q) (
@@ -65,46 +78,69 @@ entered-apart classes history p s apart joint q = elim (eqb_tells q p) [
 ]
 
 -- a row that a set was joined to
-set_at : (sets : List (FinSet nat_cmp)) (p : ℕ) (row new s : FinSet nat_cmp) → p < length sets → row ≡ get_or sets p row → new ≡ union row s → (q d : ℕ) → has_in (set sets p new) q d ≡ entered (has_in sets) p s q d
+set_at : (sets : List (FinSet nat_cmp)) (p : ℕ) (row new s : FinSet nat_cmp) → p < length sets →
+    row ≡ get_or sets p row → new ≡ union row s → (q d : ℕ) →
+    has_in (set sets p new) q d ≡ entered (has_in sets) p s q d
 set_at sets p row new s lt at is q d = elim (eqb_tells q p) [
   | inl e ↦
       let here : row ≡ get_or sets p empty = at ∙ get_or_default sets p row empty lt in
-      rw (e.0, e.1, get_or-set_same sets p new empty lt, is, ← here) (contains-union nat_cmp_total row s d)
-  | inr e ↦ rw (e.0, get_or-set_other sets p q new empty e.1) (or_false (contains (get_or sets q empty) d))
+      rw (e.0, e.1, get_or-set_same sets p new empty lt, is, ← here)
+      (contains-union nat_cmp_total row s d)
+  | inr e
+      ↦ rw (e.0, get_or-set_other sets p q new empty e.1)
+      (or_false (contains (get_or sets q empty) d))
 ]
 
-pub has_in-set : (sets : List (FinSet nat_cmp)) (p : ℕ) (row new s : FinSet nat_cmp) → p < length sets → row ≡ get_or sets p row → new ≡ union row s → has_in (set sets p new) ≡ entered (has_in sets) p s
+pub has_in-set : (sets : List (FinSet nat_cmp)) (p : ℕ) (row new s : FinSet nat_cmp) →
+    p < length sets → row ≡ get_or sets p row → new ≡ union row s →
+    has_in (set sets p new) ≡ entered (has_in sets) p s
 has_in-set sets p row new s lt at is = λ i q d. set_at sets p row new s lt at is q d i
 
 -- the same of the whole value, where what is entered fits the rule
-pub keeps_wall-set : (h v : Accesses) (p n : ℕ) (row new s : FinSet nat_cmp) → h ≡ v → n ≡ p → KeepsWall h → n < process_limit → row ≡ get_or h.sets n row → new ≡ union row s → HoldsNoRivals v.classes (joined (has v p) s)
+pub keeps_wall-set : (h v : Accesses) (p n : ℕ) (row new s : FinSet nat_cmp) → h ≡ v → n ≡ p →
+    KeepsWall h → n < process_limit → row ≡ get_or h.sets n row → new ≡ union row s →
+    HoldsNoRivals v.classes (joined (has v p) s)
     → KeepsWall (record { processes = h.processes; classes = h.classes; sets = set h.sets n new })
 keeps_wall-set h v p n row new s same is kept lt at joint fits =
     let within : n < length h.sets = omega (arith, kept.set_for_each) in
-    let fits_h : HoldsNoRivals h.classes (joined (has h p) s) = subst (λ (v : Accesses). HoldsNoRivals v.classes (joined (has v p) s)) (sym same) fits in
-    let fits_n : HoldsNoRivals h.classes (joined (has h n) s) = subst (λ (p : ℕ). HoldsNoRivals h.classes (joined (has h p) s)) (sym is) fits_h in
+    let fits_h : HoldsNoRivals h.classes (joined (has h p) s) = subst
+    (λ (v : Accesses). HoldsNoRivals v.classes (joined (has v p) s)) (sym same) fits in
+    let fits_n : HoldsNoRivals h.classes (joined (has h n) s) = subst
+    (λ (p : ℕ). HoldsNoRivals h.classes (joined (has h p) s)) (sym is) fits_h in
     record {
       set_for_each = length-set h.sets n new ∙ kept.set_for_each;
       few_datasets = kept.few_datasets;
-      apart = subst (λ (g : History). NobodyHoldsRivals h.classes g) (sym (has_in-set h.sets n row new s within at joint)) (entered-apart h.classes (has h) n s kept.apart fits_n);
+      apart = subst (λ (g : History). NobodyHoldsRivals h.classes g)
+          (sym (has_in-set h.sets n row new s within at joint))
+          (entered-apart h.classes (has h) n s kept.apart fits_n);
     }
 
-no_home : (homes : List (Option ℕ)) (p d : ℕ) → length homes ≤ p → is_home (home_if_any (slice_get homes p)) d ≡ false
+no_home : (homes : List (Option ℕ)) (p d : ℕ) → length homes ≤ p →
+    is_home (home_if_any (slice_get homes p)) d ≡ false
 no_home homes p d past = rw (slice_get_past homes p past) refl
 
-past_homes : (w : ChineseWall) (sets : List (FinSet nat_cmp)) (p d : ℕ) → IsPolicy w → length sets ≡ process_limit → process_limit ≤ p → has_in sets p d ≡ opening w p d
+past_homes : (w : ChineseWall) (sets : List (FinSet nat_cmp)) (p d : ℕ) → IsPolicy w →
+    length sets ≡ process_limit → process_limit ≤ p → has_in sets p d ≡ opening w p d
 past_homes w sets p d policy many past =
     let past_sets : length sets ≤ p = omega arith in
-    let past_homes : length w.homes ≤ p = omega (arith, policy.home_for_each, policy.few_processes) in
-    ap (λ s. contains s d) (get_or_past sets p empty past_sets) ∙ contains-empty nat_cmp d ∙ sym (no_home w.homes p d past_homes)
+    let past_homes : length w.homes ≤ p = omega (arith, policy.home_for_each, policy.few_processes)
+    in
+    ap (λ s. contains s d) (get_or_past sets p empty past_sets) ∙ contains-empty nat_cmp d
+    ∙ sym (no_home w.homes p d past_homes)
 
-pair_at : (w : ChineseWall) (sets : List (FinSet nat_cmp)) (p d : ℕ) → IsPolicy w → length sets ≡ process_limit → (p < process_limit → has_in sets p d ≡ opening w p d) → has_in sets p d ≡ opening w p d
-pair_at w sets p d policy many below = elim (leb_tells process_limit p) [ inl e ↦ past_homes w sets p d policy many e.1 | inr e ↦ below e.1 ]
+pair_at : (w : ChineseWall) (sets : List (FinSet nat_cmp)) (p d : ℕ) → IsPolicy w →
+    length sets ≡ process_limit → (p < process_limit → has_in sets p d ≡ opening w p d) →
+    has_in sets p d ≡ opening w p d
+pair_at w sets p d policy many below = elim (leb_tells process_limit p)
+    [ inl e ↦ past_homes w sets p d policy many e.1 | inr e ↦ below e.1 ]
 
 -- a row for each number that a process can have
-pub has_in-opening : (w : ChineseWall) (sets : List (FinSet nat_cmp)) → IsPolicy w → length sets ≡ process_limit → ((p d : ℕ) → p < process_limit → has_in sets p d ≡ opening w p d) → has_in sets ≡ opening w
+pub has_in-opening : (w : ChineseWall) (sets : List (FinSet nat_cmp)) → IsPolicy w →
+    length sets ≡ process_limit →
+    ((p d : ℕ) → p < process_limit → has_in sets p d ≡ opening w p d) → has_in sets ≡ opening w
 has_in-opening w sets policy many below = λ i p d. pair_at w sets p d policy many (below p d) i
 
 -- what the fields keep, said of the value
 pub apart_in : (h v : Accesses) → h ≡ v → KeepsWall h → NobodyHoldsRivals v.classes (has v)
-apart_in h v same kept = subst (λ (v : Accesses). NobodyHoldsRivals v.classes (has v)) same kept.apart
+apart_in h v same kept =
+    subst (λ (v : Accesses). NobodyHoldsRivals v.classes (has v)) same kept.apart

@@ -1,5 +1,7 @@
 -- The two rules and their tests, and which steps keep rivals apart.
-use Rattle.std.proofs.Common.{◌≡◌, ◌≢◌, ℕ, ◌<◌, Bool, true, false, not, ◌&&◌, ◌||◌, List, length, Option, Some, None, refl, sym, ap, ◌∙◌, ◌⊎◌, inl, inr, nat_eq, slice_get}
+use Rattle.std.proofs.Common.{◌≡◌, ◌≢◌, ℕ, ◌<◌, Bool, true, false, not, ◌&&◌, ◌||◌, List, length}
+use Rattle.std.proofs.Common.{Option, Some, None, refl, sym, ap, ◌∙◌, ◌⊎◌, inl, inr, nat_eq}
+use Rattle.std.proofs.Common.{slice_get}
 use Rattle.std.specs.Prelude.{IsTrue, IfSome, IfNone, is_none}
 use Rattle.std.proofs.lemmas.Bool.{eq-eqb}
 use Rattle.std.proofs.lemmas.Bool.Decides.{eqb_tells}
@@ -11,7 +13,9 @@ use Rattle.wall_labels.specs.declared.label.Label.{Label}
 use Rattle.wall_labels.specs.Labels.{dataset_of}
 use Rattle.wall_policy.specs.Rivals.{AreRivals, are_rivals, is_one_class}
 use Rattle.wall_policy.proofs.WallPolicyLemmas.{are_rivals-Decides, are_rivals-symmetric}
-use Rattle.wall_rules.specs.Rules.{IsLowest, IsHeldRival, PassesSimple, HoldsNoRivals, is_held_rival, first_rival, IsHeldOther, PassesStar, is_other, is_held_other, first_other, passes_star, joined}
+use Rattle.wall_rules.specs.Rules.{IsLowest, IsHeldRival, PassesSimple, HoldsNoRivals}
+use Rattle.wall_rules.specs.Rules.{is_held_rival, first_rival, IsHeldOther, PassesStar, is_other}
+use Rattle.wall_rules.specs.Rules.{is_held_other, first_other, passes_star, joined}
 use Rattle.wall_rules.proofs.LeastLemmas.{least-none, none-least, least-some, some-least}
 
 ---- truth values
@@ -52,52 +56,68 @@ second_class None b h = absurd cc
 rival_within : (classes : List ℕ) (d e : ℕ) → are_rivals classes d e ≡ true → e < length classes
 unfolding are_rivals
 rival_within classes d e h =
-    let found = second_class (slice_get classes d) (slice_get classes e) (and_parts (not (nat_eq d e)) _ h).1 in
+    let found = second_class (slice_get classes d) (slice_get classes e)
+    (and_parts (not (nat_eq d e)) _ h).1 in
     slice_get_within classes e found.0 found.1
 
-held_rival : (classes : List ℕ) (held : ℕ → Bool) (d e : ℕ) → is_held_rival classes held d e ≡ true → IsHeldRival classes held d e
+held_rival : (classes : List ℕ) (held : ℕ → Bool) (d e : ℕ) →
+    is_held_rival classes held d e ≡ true → IsHeldRival classes held d e
 held_rival classes held d e h =
     let parts = and_parts (held e) (are_rivals classes d e) h in
     (parts.0, (are_rivals-Decides classes d e).0 parts.1)
 
-no_held_rival : (classes : List ℕ) (held : ℕ → Bool) (d e : ℕ) → ¬ (IsHeldRival classes held d e) → is_held_rival classes held d e ≡ false
+no_held_rival : (classes : List ℕ) (held : ℕ → Bool) (d e : ℕ) → ¬ (IsHeldRival classes held d e) →
+    is_held_rival classes held d e ≡ false
 no_held_rival classes held d e h = not_true _ (λ is. h (held_rival classes held d e is))
 
-rival_held : (classes : List ℕ) (held : ℕ → Bool) (d e : ℕ) → IsHeldRival classes held d e → is_held_rival classes held d e ≡ true
+rival_held : (classes : List ℕ) (held : ℕ → Bool) (d e : ℕ) → IsHeldRival classes held d e →
+    is_held_rival classes held d e ≡ true
 rival_held classes held d e h = rw (h.0, (are_rivals-Decides classes d e).1 h.1) refl
 
-pub first_rival-none : (classes : List ℕ) (held : ℕ → Bool) (d : ℕ) → first_rival classes held d ≡ None → PassesSimple classes held d
+pub first_rival-none : (classes : List ℕ) (held : ℕ → Bool) (d : ℕ) →
+    first_rival classes held d ≡ None → PassesSimple classes held d
 unfolding first_rival
 first_rival-none classes held d none e h =
     let is : is_held_rival classes held d e ≡ true = rival_held classes held d e h in
     let within : e < length classes = rival_within classes d e (and_parts _ _ is).1 in
     true-false _ is (least-none (is_held_rival classes held d) (length classes) none e within)
 
-pub none-first_rival : (classes : List ℕ) (held : ℕ → Bool) (d : ℕ) → PassesSimple classes held d → first_rival classes held d ≡ None
+pub none-first_rival : (classes : List ℕ) (held : ℕ → Bool) (d : ℕ) → PassesSimple classes held d →
+    first_rival classes held d ≡ None
 unfolding first_rival
-none-first_rival classes held d passes = none-least (is_held_rival classes held d) (length classes) (λ e lt. no_held_rival classes held d e (passes e))
+none-first_rival classes held d passes = none-least (is_held_rival classes held d) (length classes)
+    (λ e lt. no_held_rival classes held d e (passes e))
 
-pub first_rival-some : (classes : List ℕ) (held : ℕ → Bool) (d e : ℕ) → first_rival classes held d ≡ Some e → IsLowest (IsHeldRival classes held d) e
+pub first_rival-some : (classes : List ℕ) (held : ℕ → Bool) (d e : ℕ) →
+    first_rival classes held d ≡ Some e → IsLowest (IsHeldRival classes held d) e
 unfolding first_rival
 first_rival-some classes held d e some =
-    let found = least-some (is_held_rival classes held d) (length classes) e some in
-    (held_rival classes held d e found.0, λ j lt h. true-false _ (rival_held classes held d j h) (found.2 j lt))
+    let found = least-some (is_held_rival classes held d) (length classes) e some in (
+      held_rival classes held d e found.0,
+      λ j lt h. true-false _ (rival_held classes held d j h) (found.2 j lt),
+    )
 
-pub some-first_rival : (classes : List ℕ) (held : ℕ → Bool) (d e : ℕ) → IsLowest (IsHeldRival classes held d) e → first_rival classes held d ≡ Some e
+pub some-first_rival : (classes : List ℕ) (held : ℕ → Bool) (d e : ℕ) →
+    IsLowest (IsHeldRival classes held d) e → first_rival classes held d ≡ Some e
 unfolding first_rival
 some-first_rival classes held d e lowest =
     let is : is_held_rival classes held d e ≡ true = rival_held classes held d e lowest.0 in
-    some-least (is_held_rival classes held d) (length classes) e is (rival_within classes d e (and_parts _ _ is).1) (λ j lt. no_held_rival classes held d j (lowest.1 j lt))
+    some-least (is_held_rival classes held d) (length classes) e is
+    (rival_within classes d e (and_parts _ _ is).1)
+    (λ j lt. no_held_rival classes held d j (lowest.1 j lt))
 
-pub first_rival-alike : (classes : List ℕ) (f g : ℕ → Bool) (d : ℕ) → ((e : ℕ) → f e ≡ g e) → first_rival classes f d ≡ first_rival classes g d
+pub first_rival-alike : (classes : List ℕ) (f g : ℕ → Bool) (d : ℕ) → ((e : ℕ) → f e ≡ g e) →
+    first_rival classes f d ≡ first_rival classes g d
 first_rival-alike classes f g d same = λ i. first_rival classes (λ e. same e i) d
 
 -- the same of an answer
-pub lowest_if_some : (classes : List ℕ) (held : ℕ → Bool) (d : ℕ) (o : Option ℕ) → o ≡ first_rival classes held d → IfSome o (IsLowest (IsHeldRival classes held d))
+pub lowest_if_some : (classes : List ℕ) (held : ℕ → Bool) (d : ℕ) (o : Option ℕ) →
+    o ≡ first_rival classes held d → IfSome o (IsLowest (IsHeldRival classes held d))
 lowest_if_some classes held d None is = tt
 lowest_if_some classes held d (Some e) is = first_rival-some classes held d e (sym is)
 
-pub passes_if_none : (classes : List ℕ) (held : ℕ → Bool) (d : ℕ) (o : Option ℕ) → o ≡ first_rival classes held d → IfNone o (PassesSimple classes held d)
+pub passes_if_none : (classes : List ℕ) (held : ℕ → Bool) (d : ℕ) (o : Option ℕ) →
+    o ≡ first_rival classes held d → IfNone o (PassesSimple classes held d)
 passes_if_none classes held d None is = first_rival-none classes held d (sym is)
 passes_if_none classes held d (Some e) is = tt
 
@@ -105,44 +125,59 @@ passes_if_none classes held d (Some e) is = tt
 
 other : (o : Option ℕ) (d : ℕ) → is_other o d ≡ true → o ≢ Some d
 other None d h = λ same. cc
-other (Some own) d h = λ same. let equal : own ≡ d = cc in let bad : not true ≡ true = rw (eq-eqb own d equal) at h in cc
+other (Some own) d h = λ same.
+    let equal : own ≡ d = cc in let bad : not true ≡ true = rw (eq-eqb own d equal) at h in cc
 
 not_other : (o : Option ℕ) (d : ℕ) → is_other o d ≡ false → o ≡ Some d
 not_other None d h = absurd cc
-not_other (Some own) d h = elim (eqb_tells own d) [ inl e ↦ ap (λ (x : ℕ). Some x) e.1 | inr e ↦ let bad : not false ≡ false = rw e.0 at h in absurd cc ]
+not_other (Some own) d h = elim (eqb_tells own d) [
+  | inl e ↦ ap (λ (x : ℕ). Some x) e.1
+  | inr e
+      ↦ let bad : not false ≡ false = rw e.0 at h in absurd cc
+]
 
-held_other : (held : ℕ → Bool) (label : Label) (d : ℕ) → is_held_other held label d ≡ true → IsHeldOther held label d
+held_other : (held : ℕ → Bool) (label : Label) (d : ℕ) → is_held_other held label d ≡ true →
+    IsHeldOther held label d
 held_other held label d h =
     let parts = and_parts (held d) (is_other (dataset_of label) d) h in
     (parts.0, other (dataset_of label) d parts.1)
 
-other_held : (held : ℕ → Bool) (label : Label) (d : ℕ) → IsHeldOther held label d → is_held_other held label d ≡ true
+other_held : (held : ℕ → Bool) (label : Label) (d : ℕ) → IsHeldOther held label d →
+    is_held_other held label d ≡ true
 other_held held label d h = elim (true_or_false (is_other (dataset_of label) d)) [
   | inl is ↦ rw (h.0, is) refl
   | inr is_not ↦ absurd (h.1 (not_other (dataset_of label) d is_not))
 ]
 
-pub first_other-none : (n : ℕ) (held : ℕ → Bool) (label : Label) → PassesStar held label → first_other n held label ≡ None
+pub first_other-none : (n : ℕ) (held : ℕ → Bool) (label : Label) → PassesStar held label →
+    first_other n held label ≡ None
 unfolding first_other
 first_other-none n held label passes =
-    none-least (is_held_other held label) n (λ d lt. not_true _ (λ is. let h = held_other held label d is in h.1 (passes d h.0)))
+    none-least (is_held_other held label) n
+    (λ d lt. not_true _ (λ is. let h = held_other held label d is in h.1 (passes d h.0)))
 
-pub first_other-some : (n : ℕ) (held : ℕ → Bool) (label : Label) (d : ℕ) → IsLowest (IsHeldOther held label) d → d < n → first_other n held label ≡ Some d
+pub first_other-some : (n : ℕ) (held : ℕ → Bool) (label : Label) (d : ℕ) →
+    IsLowest (IsHeldOther held label) d → d < n → first_other n held label ≡ Some d
 unfolding first_other
 first_other-some n held label d lowest lt =
-    some-least (is_held_other held label) n d (other_held held label d lowest.0) lt (λ e below. not_true _ (λ is. lowest.1 e below (held_other held label e is)))
+    some-least (is_held_other held label) n d (other_held held label d lowest.0) lt
+    (λ e below. not_true _ (λ is. lowest.1 e below (held_other held label e is)))
 
 none_is : {X : Type 0} (o : Option X) → is_none o ≡ true → o ≡ None
 none_is None h = refl
 none_is (Some x) h = absurd cc
 
-star_of_test : (n : ℕ) (held : ℕ → Bool) (label : Label) → ((d : ℕ) → IsTrue (held d) → d < n) → first_other n held label ≡ None → PassesStar held label
+star_of_test : (n : ℕ) (held : ℕ → Bool) (label : Label) → ((d : ℕ) → IsTrue (held d) → d < n) →
+    first_other n held label ≡ None → PassesStar held label
 unfolding first_other
 star_of_test n held label within none d is =
-    let no_other : is_held_other held label d ≡ false = least-none (is_held_other held label) n none d (within d is) in
+    let no_other : is_held_other held label d ≡ false = least-none (is_held_other held label) n none
+    d (within d is) in
     not_other (dataset_of label) d (rw is at no_other)
 
-pub passes_star-Decides : (n : ℕ) (held : ℕ → Bool) (label : Label) → ((d : ℕ) → IsTrue (held d) → d < n) → (passes_star n held label ≡ true → PassesStar held label) × (PassesStar held label → passes_star n held label ≡ true)
+pub passes_star-Decides : (n : ℕ) (held : ℕ → Bool) (label : Label) →
+    ((d : ℕ) → IsTrue (held d) → d < n) → (passes_star n held label ≡ true → PassesStar held label)
+    × (PassesStar held label → passes_star n held label ≡ true)
 passes_star-Decides n held label within = (
   λ h. star_of_test n held label within (none_is _ h),
   λ passes. rw (first_other-none n held label passes) refl,
@@ -150,18 +185,23 @@ passes_star-Decides n held label within = (
 
 ---- which sets hold no rivals
 
-pub no_rivals-part : (classes : List ℕ) (held part : ℕ → Bool) → HoldsNoRivals classes held → ((e : ℕ) → IsTrue (part e) → IsTrue (held e)) → HoldsNoRivals classes part
+pub no_rivals-part : (classes : List ℕ) (held part : ℕ → Bool) → HoldsNoRivals classes held →
+    ((e : ℕ) → IsTrue (part e) → IsTrue (held e)) → HoldsNoRivals classes part
 no_rivals-part classes held part apart within d e hd he = apart d e (within d hd) (within e he)
 
 -- one dataset alone
-pub no_rivals-one : (classes : List ℕ) (held : ℕ → Bool) (own : ℕ) → ((e : ℕ) → IsTrue (held e) → e ≡ own) → HoldsNoRivals classes held
+pub no_rivals-one : (classes : List ℕ) (held : ℕ → Bool) (own : ℕ) →
+    ((e : ℕ) → IsTrue (held e) → e ≡ own) → HoldsNoRivals classes held
 no_rivals-one classes held own one d e hd he rivals = rivals.0 (one d hd ∙ sym (one e he))
 
 turned : (classes : List ℕ) (d e : ℕ) → AreRivals classes d e → AreRivals classes e d
-turned classes d e h = (are_rivals-Decides classes e d).0 (are_rivals-symmetric classes e d ∙ (are_rivals-Decides classes d e).1 h)
+turned classes d e h = (are_rivals-Decides classes e d).0
+    (are_rivals-symmetric classes e d ∙ (are_rivals-Decides classes d e).1 h)
 
 -- one dataset more, to which the simple rule permits access
-pub no_rivals-grows : (classes : List ℕ) (held new : ℕ → Bool) (own : ℕ) → HoldsNoRivals classes held → PassesSimple classes held own → ((e : ℕ) → IsTrue (new e) → IsTrue (held e) ⊎ (e ≡ own)) → HoldsNoRivals classes new
+pub no_rivals-grows : (classes : List ℕ) (held new : ℕ → Bool) (own : ℕ) →
+    HoldsNoRivals classes held → PassesSimple classes held own →
+    ((e : ℕ) → IsTrue (new e) → IsTrue (held e) ⊎ (e ≡ own)) → HoldsNoRivals classes new
 no_rivals-grows classes held new own apart passes grows d e hd he rivals =
     elim (grows d hd) [
       | inl old_d ↦ elim (grows e he) [
@@ -175,35 +215,52 @@ no_rivals-grows classes held new own apart passes grows d e hd he rivals =
     ]
 
 -- a member of a set with one more
-pub member-insert : (s : FinSet nat_cmp) (d e : ℕ) → contains (insert s d) e ≡ true → (contains s e ≡ true) ⊎ (e ≡ d)
-member-insert s d e h = elim (or_parts (eq_by_cmp nat_cmp e d) (contains s e) (sym (contains-insert nat_cmp_total s d e) ∙ h)) [
-  | inl same ↦ inr (same_number e d (sym (unsigned_tied e d) ∙ same))
-  | inr old ↦ inl old
-]
+pub member-insert : (s : FinSet nat_cmp) (d e : ℕ) → contains (insert s d) e ≡ true →
+    (contains s e ≡ true) ⊎ (e ≡ d)
+member-insert s d e h = elim (or_parts (eq_by_cmp nat_cmp e d) (contains s e)
+    (sym (contains-insert nat_cmp_total s d e) ∙ h)) [
+      | inl same ↦ inr (same_number e d (sym (unsigned_tied e d) ∙ same))
+      | inr old ↦ inl old
+    ]
 
 pub or_right : (a b : Bool) → b ≡ true → (a || b) ≡ true
 or_right true b h = refl
 or_right false b h = h
 
-pub no_rivals-insert : (classes : List ℕ) (held : ℕ → Bool) (s : FinSet nat_cmp) (d : ℕ) → HoldsNoRivals classes (joined held s) → first_rival classes (joined held s) d ≡ None → HoldsNoRivals classes (joined held (insert s d))
+pub no_rivals-insert : (classes : List ℕ) (held : ℕ → Bool) (s : FinSet nat_cmp) (d : ℕ) →
+    HoldsNoRivals classes (joined held s) → first_rival classes (joined held s) d ≡ None →
+    HoldsNoRivals classes (joined held (insert s d))
 no_rivals-insert classes held s d apart none =
-    no_rivals-grows classes (joined held s) (joined held (insert s d)) d apart (first_rival-none classes (joined held s) d none) (
+    no_rivals-grows classes (joined held s) (joined held (insert s d)) d apart
+    (first_rival-none classes (joined held s) d none) (
     λ e h. elim (or_parts (held e) (contains (insert s d) e) h) [
       | inl old ↦ inl (or_left (held e) (contains s e) old)
-      | inr new ↦ elim (member-insert s d e new) [ inl old ↦ inl (or_right (held e) (contains s e) old) | inr is ↦ inr is ]
+      | inr new
+          ↦ elim (member-insert s d e new)
+          [ inl old ↦ inl (or_right (held e) (contains s e) old) | inr is ↦ inr is ]
     ]
     )
 
-pub no_rivals-empty : (classes : List ℕ) (held : ℕ → Bool) → HoldsNoRivals classes held → HoldsNoRivals classes (joined held empty)
+pub no_rivals-empty : (classes : List ℕ) (held : ℕ → Bool) → HoldsNoRivals classes held →
+    HoldsNoRivals classes (joined held empty)
 no_rivals-empty classes held apart = no_rivals-part classes held (joined held empty) apart (
-    λ e h. elim (or_parts (held e) (contains empty e) h) [ inl old ↦ old | inr new ↦ absurd (true-false _ new (contains-empty nat_cmp e)) ]
+    λ e h. elim (or_parts (held e) (contains empty e) h)
+    [ inl old ↦ old | inr new ↦ absurd (true-false _ new (contains-empty nat_cmp e)) ]
     )
 
 -- where the star rule passed, the history and the label's dataset are that dataset alone
-pub no_rivals-star : (classes : List ℕ) (held : ℕ → Bool) (label : Label) (d : ℕ) → PassesStar held label → dataset_of label ≡ Some d → HoldsNoRivals classes (joined held (insert empty d))
-no_rivals-star classes held label d passes is = no_rivals-one classes (joined held (insert empty d)) d (
+pub no_rivals-star : (classes : List ℕ) (held : ℕ → Bool) (label : Label) (d : ℕ) →
+    PassesStar held label → dataset_of label ≡ Some d →
+    HoldsNoRivals classes (joined held (insert empty d))
+no_rivals-star classes held label d passes is =
+    no_rivals-one classes (joined held (insert empty d)) d (
     λ e h. elim (or_parts (held e) (contains (insert empty d) e) h) [
       | inl old ↦ let same : Some e ≡ Some d = sym (passes e old) ∙ is in cc
-      | inr new ↦ elim (member-insert empty d e new) [ inl in_none ↦ absurd (true-false _ in_none (contains-empty nat_cmp e)) | inr same ↦ same ]
+      | inr new
+          ↦ elim (member-insert empty d e new) [
+            | inl in_none
+                ↦ absurd (true-false _ in_none (contains-empty nat_cmp e))
+            | inr same ↦ same
+          ]
     ]
     )

@@ -1,5 +1,7 @@
--- Histories: who has had access to what. (Brewer and Nash 1989: there a matrix of subjects and objects.)
-use Rattle.std.specs.Prelude.{◌≡◌, ℕ, ◌≤◌, nat_eq, Bool, false, IsTrue, ◌&&◌, ◌||◌, List, length, Option, Some, None, slice_index_or, refl}
+-- Histories: who has had access to what. (Brewer and Nash 1989: there a matrix of subjects and
+-- objects.)
+use Rattle.std.specs.Prelude.{◌≡◌, ℕ, ◌≤◌, nat_eq, Bool, false, IsTrue, ◌&&◌, ◌||◌, List, length}
+use Rattle.std.specs.Prelude.{Option, Some, None, slice_index_or, refl}
 use Rattle.std.specs.Ordering.{nat_cmp}
 use Rattle.std.specs.FinSet.{FinSet, empty, contains, code as set_code}
 use Rattle.std.specs.Coded.{Coded, code_by, coded×, coded_ℕ, coded_list}
@@ -16,7 +18,8 @@ History = ℕ → ℕ → Bool
 abbrev pub entered : History → ℕ → FinSet nat_cmp → History
 entered history process s p d = history p d || (nat_eq p process && contains s d)
 
--- the pairs of each process and its home (own rule: each process begins with access to its home alone)
+-- the pairs of each process and its home (own rule: each process begins with access to its home
+-- alone)
 abbrev pub is_home : Option ℕ → ℕ → Bool
 is_home (Some home) d = nat_eq home d
 is_home None d = false
@@ -24,7 +27,8 @@ is_home None d = false
 abbrev pub opening : ChineseWall → History
 opening w p d = is_home (home_of w p) d
 
--- no process has had access to two rivals (Brewer and Nash 1989: what the simple security rule keeps)
+-- no process has had access to two rivals (Brewer and Nash 1989: what the simple security rule
+-- keeps)
 abbrev pub NobodyHoldsRivals : List ℕ → History → Type 0
 NobodyHoldsRivals classes history = (p : ℕ) → HoldsNoRivals classes (history p)
 
@@ -38,9 +42,10 @@ pub record Accesses : Type 0 where
 
 -- an `Accesses` is stored as the tuple of its fields
 abbrev pub accesses_code : Coded Accesses
-accesses_code =
-    code_by (ℕ × (List ℕ × List (FinSet nat_cmp))) (coded× coded_ℕ (coded× (coded_list coded_ℕ) (coded_list (set_code coded_ℕ))))
-    (λ h. (h.processes, (h.classes, h.sets))) (λ t. record { processes = t.0; classes = t.1.0; sets = t.1.1 }) (λ _. refl)
+accesses_code = code_by (ℕ × (List ℕ × List (FinSet nat_cmp)))
+    (coded× coded_ℕ (coded× (coded_list coded_ℕ) (coded_list (set_code coded_ℕ))))
+    (λ h. (h.processes, (h.classes, h.sets)))
+    (λ t. record { processes = t.0; classes = t.1.0; sets = t.1.1 }) (λ _. refl)
 
 abbrev pub has_in : List (FinSet nat_cmp) → History
 has_in sets p d = contains (slice_index_or sets p empty) d
@@ -69,5 +74,5 @@ AddsRivals classes d old new = (e : ℕ) → contains new e ≡ (contains old e 
 
 -- what is so of the parts that `Histories` are made of
 abbrev pub IsKept : ℕ → (classes : List ℕ) → (rows rivals : List (FinSet nat_cmp)) → Type 0
-IsKept n classes rows rivals =
-    KeepsWall (record { processes = n; classes = classes; sets = rows }) × AreRivalRows classes rivals
+IsKept n classes rows rivals = KeepsWall (record { processes = n; classes = classes; sets = rows })
+    × AreRivalRows classes rivals

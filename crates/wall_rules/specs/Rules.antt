@@ -1,6 +1,7 @@
--- The two rules of the Chinese Wall, for one process: `held` tells which datasets it has had access to.
--- (Brewer and Nash 1989: the sections on simple security and on the *-property.)
-use Rattle.std.specs.Prelude.{◌≡◌, ◌≢◌, ℕ, ◌<◌, nat_eq, Bool, true, not, ◌&&◌, ◌||◌, IsTrue, List, length, Option, Some, None, is_some, is_none}
+-- The two rules of the Chinese Wall, for one process: `held` tells which datasets it has had access
+-- to. (Brewer and Nash 1989: the sections on simple security and on the *-property.)
+use Rattle.std.specs.Prelude.{◌≡◌, ◌≢◌, ℕ, ◌<◌, nat_eq, Bool, true, not, ◌&&◌, ◌||◌, IsTrue, List}
+use Rattle.std.specs.Prelude.{length, Option, Some, None, is_some, is_none}
 use Rattle.std.specs.Ordering.{nat_cmp}
 use Rattle.std.specs.FinSet.{FinSet, contains}
 use Rattle.wall_labels.specs.declared.label.Label.{Label}
@@ -12,8 +13,9 @@ use Rattle.wall_rules.specs.Least.{least}
 abbrev pub IsLowest : (ℕ → Type 0) → ℕ → Type 0
 IsLowest P d = P d × ((e : ℕ) → e < d → ¬ (P e))
 
----- Simple security. A subject may have access to an object that is in a dataset which it has had access to already,
----- or in a class of which it has had access to nothing: so never to two datasets of one class.
+---- Simple security. A subject may have access to an object that is in a dataset which it has had
+---- access to already, or in a class of which it has had access to nothing: so never to two
+---- datasets of one class.
 
 -- the process has had access to e, which is a rival of d
 abbrev pub IsHeldRival : List ℕ → (ℕ → Bool) → ℕ → ℕ → Type 0
@@ -25,9 +27,11 @@ PassesSimple classes held d = (e : ℕ) → ¬ (IsHeldRival classes held d e)
 
 -- no two of the datasets are rivals: what the rule keeps
 abbrev pub HoldsNoRivals : List ℕ → (ℕ → Bool) → Type 0
-HoldsNoRivals classes held = (d e : ℕ) → IsTrue (held d) → IsTrue (held e) → ¬ (AreRivals classes d e)
+HoldsNoRivals classes held =
+    (d e : ℕ) → IsTrue (held d) → IsTrue (held e) → ¬ (AreRivals classes d e)
 
--- The rule as a test: the lowest rival of d that is held. (No number that is not in the list of classes is a rival.)
+-- The rule as a test: the lowest rival of d that is held. (No number that is not in the list of
+-- classes is a rival.)
 abbrev pub is_held_rival : List ℕ → (ℕ → Bool) → ℕ → ℕ → Bool
 is_held_rival classes held d e = held e && are_rivals classes d e
 
@@ -37,8 +41,9 @@ first_rival classes held d = least (is_held_rival classes held d) (length classe
 abbrev pub clashes : List ℕ → (ℕ → Bool) → ℕ → Bool
 clashes classes held d = is_some (first_rival classes held d)
 
----- The star rule. A subject may write to a dataset only if it can read no unsanitised object of another dataset.
----- (Read here as: what it has had access to is of the dataset that its label names. `public` names none, so it needs an empty history.)
+---- The star rule. A subject may write to a dataset only if it can read no unsanitised object of
+---- another dataset. (Read here as: what it has had access to is of the dataset that its label
+---- names. `public` names none, so it needs an empty history.)
 
 -- the process has had access to d, which is not the dataset of the label
 abbrev pub IsHeldOther : (ℕ → Bool) → Label → ℕ → Type 0

@@ -1,11 +1,14 @@
 //! The histories of all processes, in a row of bits for each.
-ghost use Rattle.std.specs.Prelude.{◌≡◌, ℕ, ◌<◌, ◌≤◌, ◌↔◌, length, IfOk, IfErr, IfSome, IfNone, IsOk, IsTrue};
+ghost use Rattle.std.specs.Prelude.{◌≡◌, ℕ, ◌<◌, ◌≤◌, ◌↔◌, length, IfOk, IfErr, IfSome, IfNone};
+ghost use Rattle.std.specs.Prelude.{IsOk, IsTrue};
 ghost use Rattle.std.specs.FinSet as sets;
 ghost use Rattle.wall_labels.specs.Limits.{process_limit, dataset_limit};
 ghost use Rattle.wall_policy.specs.Rivals.{are_rivals};
 ghost use Rattle.wall_policy.specs.Policy.{IsPolicy};
-ghost use Rattle.wall_rules.specs.Rules.{IsLowest, IsHeldRival, PassesSimple, HoldsNoRivals, first_rival, IsHeldOther, PassesStar, joined};
-ghost use Rattle.wall_rules.specs.Histories.{entered, opening, is_home, has_in, HoldsOneOf, AddsRivals, AreRivalRows};
+ghost use Rattle.wall_rules.specs.Rules.{IsLowest, IsHeldRival, PassesSimple, HoldsNoRivals};
+ghost use Rattle.wall_rules.specs.Rules.{first_rival, IsHeldOther, PassesStar, joined};
+ghost use Rattle.wall_rules.specs.Histories.{entered, opening, is_home, has_in, HoldsOneOf};
+ghost use Rattle.wall_rules.specs.Histories.{AddsRivals, AreRivalRows};
 
 use crate::NoMemory;
 use std::alloc::{AllocError, Global};
@@ -15,7 +18,8 @@ use wall_policy::{Policy, are_rivals};
 
 /// A set of pairs of process and dataset, in which no process has two rivals.
 ///
-/// There is a row for each id that a process can have, so no call asks that the policy has the process.
+/// There is a row for each id that a process can have, so no call asks that the policy has the
+/// process.
 #[derive(Drop)]
 pub struct Histories {
     processes: u32,
@@ -32,7 +36,8 @@ impl Model for Histories {
 
     ghost coded = { accesses_code };
 
-    ghost view = { λ h. record { processes = h.processes; classes = h.classes.items; sets = h.rows.items } };
+    ghost view = { λ h.
+        record { processes = h.processes; classes = h.classes.items; sets = h.rows.items } };
 
     ghost invariant = { λ h. IsKept h.processes h.classes.items h.rows.items h.rivals.items };
 }
@@ -40,7 +45,8 @@ impl Model for Histories {
 impl Histories {
     ghost use Rattle.wall_rules.specs.Histories.{has, NobodyHoldsRivals};
 
-    /// The histories before any call: each process that has a home has had access to it, and to nothing else.
+    /// The histories before any call: each process that has a home has had access to it, and to
+    /// nothing else.
     pub fn opening(alloc: Global, policy: &Policy) -> Result<Histories, NoMemory>
         ensures pairs { IfOk result (λ h. has h ≡ opening policy.now) }
         ensures processes { IfOk result (λ h. h.processes ≡ length policy.now.process_names) }
@@ -73,7 +79,8 @@ impl Histories {
         self.rows[process.number() as usize].contains(dataset)
     }
 
-    /// Whether the process may write with this label, and if not, the lowest dataset that forbids it. (The star rule.)
+    /// Whether the process may write with this label, and if not, the lowest dataset that forbids
+    /// it. (The star rule.)
     pub fn star(&self, process: ProcessId, label: Label) -> Result<(), DatasetId>
         ensures passes { IsOk result ↔ PassesStar (has self.now process) label }
         ensures lowest { IfErr result (IsLowest (IsHeldOther (has self.now process) label)) }
@@ -84,16 +91,20 @@ impl Histories {
         }
     }
 
-    /// The lowest rival of the dataset in the process's history or in the set. (The simple security rule.)
+    /// The lowest rival of the dataset in the process's history or in the set. (The simple security
+    /// rule.)
     pub fn clash(
         &self,
         process: ProcessId,
         extra: &LabelSet,
         dataset: DatasetId,
     ) -> Option<DatasetId>
-        ensures lowest { IfSome result (IsLowest (IsHeldRival self.now.classes (joined (has self.now process) extra.now) dataset)) }
-        ensures none { IfNone result (PassesSimple self.now.classes (joined (has self.now process) extra.now) dataset) }
-        ensures test { result ≡ first_rival self.now.classes (joined (has self.now process) extra.now) dataset }
+        ensures lowest { IfSome result (IsLowest
+            (IsHeldRival self.now.classes (joined (has self.now process) extra.now) dataset)) }
+        ensures none { IfNone result
+            (PassesSimple self.now.classes (joined (has self.now process) extra.now) dataset) }
+        ensures test { result
+            ≡ first_rival self.now.classes (joined (has self.now process) extra.now) dataset }
         ensures apart { NobodyHoldsRivals self.now.classes (has self.now) }
     {
         let row = &self.rows[process.number() as usize];

@@ -6,7 +6,8 @@ use std::test::Fail;
 use wall_labels::{DATASET_LIMIT, DatasetId, Label, LabelSet, PROCESS_LIMIT, ProcessId};
 use wall_policy::read_policy;
 
-// Datasets: 0 alpha and 1 beta of banks, 2 crude and 3 delta of oil. Processes: 0 a0, 1 b0, 2 c0, 3 n0.
+// Datasets: 0 alpha and 1 beta of banks, 2 crude and 3 delta of oil. Processes: 0 a0, 1 b0, 2 c0, 3
+// n0.
 const POLICY: &str =
     "version = 1\n[[class]]\nname = \"banks\"\ndatasets = [\"alpha\", \"beta\"]\n[[class]]\nname = \"oil\"\ndatasets = [\"crude\", \"delta\"]\n[[process]]\nname = \"a0\"\nhome = \"alpha\"\n[[process]]\nname = \"b0\"\nhome = \"beta\"\n[[process]]\nname = \"c0\"\nhome = \"crude\"\n[[process]]\nname = \"n0\"\n[[sanitise]]\nop = \"sum\"\nleast = 3\n";
 

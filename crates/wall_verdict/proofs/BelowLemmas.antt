@@ -1,5 +1,7 @@
 -- Lists over the numbers below n, by one number more.
-use Rattle.std.proofs.Common.{◌≡◌, ℕ, zero, suc, ◌+◌, ◌<◌, ◌≤◌, Bool, true, false, List, [], ◌∷◌, ◌++◌, length, map, find, flat_map, Some, None, refl, sym, ap, ◌∙◌, subst, ◌||◌, cond, arith, add-one, ⊎_elim, ◌-◌}
+use Rattle.std.proofs.Common.{◌≡◌, ℕ, zero, suc, ◌+◌, ◌<◌, ◌≤◌, Bool, true, false, List, [], ◌∷◌}
+use Rattle.std.proofs.Common.{◌++◌, length, map, find, flat_map, Some, None, refl, sym, ap, ◌∙◌}
+use Rattle.std.proofs.Common.{subst, ◌||◌, cond, arith, add-one, ⊎_elim, ◌-◌}
 use Rattle.std.specs.Prelude.{count_by}
 use Rattle.std.specs.List.{range_with_len, list_any}
 use Rattle.std.specs.Option.{option_or, option_map}
@@ -13,12 +15,17 @@ use Rattle.mpi_cart.specs.Grids.{below}
 
 range_more : (a n : ℕ) → range_with_len a (suc n) ≡ range_with_len a n ++ (a + n) ∷ []
 range_more a zero = let e : a ≡ a + zero = omega arith in ap (λ (k : ℕ). k ∷ []) e
-range_more a (suc n) = let e : (a + 1) + n ≡ a + suc n = omega arith in ap (λ (r : List ℕ). a ∷ r) (range_more (a + 1) n ∙ ap (λ (k : ℕ). range_with_len (a + 1) n ++ k ∷ []) e)
+range_more a (suc n) = let e : (a + 1) + n ≡ a + suc n = omega arith in
+    ap (λ (r : List ℕ). a ∷ r)
+    (range_more (a + 1) n ∙ ap (λ (k : ℕ). range_with_len (a + 1) n ++ k ∷ []) e)
 
 pub below_more : (n : ℕ) → below (n + 1) ≡ below n ++ n ∷ []
-below_more n = let e : 0 + n ≡ n = omega arith in subst (λ m. below m ≡ below n ++ n ∷ []) (sym (add-one n)) (range_more 0 n ∙ ap (λ (k : ℕ). below n ++ k ∷ []) e)
+below_more n = let e : 0 + n ≡ n = omega arith in
+    subst (λ m. below m ≡ below n ++ n ∷ []) (sym (add-one n))
+    (range_more 0 n ∙ ap (λ (k : ℕ). below n ++ k ∷ []) e)
 
-range_split : (a i m : ℕ) → range_with_len a (i + m) ≡ range_with_len a i ++ range_with_len (a + i) m
+range_split : (a i m : ℕ) →
+    range_with_len a (i + m) ≡ range_with_len a i ++ range_with_len (a + i) m
 range_split a zero m =
     let e : zero + m ≡ m = omega arith in
     let f : a ≡ a + zero = omega arith in
@@ -26,49 +33,77 @@ range_split a zero m =
 range_split a (suc i) m =
     let e : suc i + m ≡ suc (i + m) = omega arith in
     let f : (a + 1) + i ≡ a + suc i = omega arith in
-    ap (λ n. range_with_len a n) e ∙ ap (λ (r : List ℕ). a ∷ r) (range_split (a + 1) i m ∙ ap (λ b. range_with_len (a + 1) i ++ range_with_len b m) f)
+    ap (λ n. range_with_len a n) e
+    ∙ ap (λ (r : List ℕ). a ∷ r)
+    (range_split (a + 1) i m ∙ ap (λ b. range_with_len (a + 1) i ++ range_with_len b m) f)
 
 -- a number below n stands in the list, after those below it
 pub below_split : (n i : ℕ) → i < n → (rest : List ℕ) × (below n ≡ below i ++ i ∷ rest)
 below_split n i h = go (n - suc i) (omega arith)
   where
     go : (m : ℕ) → n ≡ i + suc m → (rest : List ℕ) × (below n ≡ below i ++ i ∷ rest)
-    go m e = let f : 0 + i ≡ i = omega arith in (range_with_len (i + 1) m, ap (λ k. below k) e ∙ (range_split 0 i (suc m) ∙ ap (λ b. below i ++ range_with_len b (suc m)) f))
+    go m e = let f : 0 + i ≡ i = omega arith in (
+      range_with_len (i + 1) m,
+      ap (λ k. below k) e
+          ∙ (range_split 0 i (suc m) ∙ ap (λ b. below i ++ range_with_len b (suc m)) f),
+    )
 
 pub length_below : (n : ℕ) → length (below n) ≡ n
 length_below n = Rattle.std.proofs.lemmas.List.FromFn.length-range_with_len 0 n
 
 pub any_more : (p : ℕ → Bool) (n : ℕ) → list_any p (below (n + 1)) ≡ (list_any p (below n) || p n)
-any_more p n = ap (λ xs. list_any p xs) (below_more n) ∙ (list_any-append p (below n) (n ∷ []) ∙ ap (λ b. list_any p (below n) || b) (or-false (p n)))
+any_more p n = ap (λ xs. list_any p xs) (below_more n)
+    ∙ (list_any-append p (below n) (n ∷ []) ∙ ap (λ b. list_any p (below n) || b) (or-false (p n)))
 
-pub count_more : (p : ℕ → Bool) (n : ℕ) → count_by p (below (n + 1)) ≡ count_by p (below n) + cond (p n) 1 0
-count_more p n = ap (λ xs. count_by p xs) (below_more n) ∙ (sum_by-append (λ x. cond (p x) 1 0) (below n) (n ∷ []) ∙ (let e : 0 + cond (p n) 1 0 ≡ cond (p n) 1 0 = omega arith in ap (λ (k : ℕ). count_by p (below n) + k) e))
+pub count_more : (p : ℕ → Bool) (n : ℕ) →
+    count_by p (below (n + 1)) ≡ count_by p (below n) + cond (p n) 1 0
+count_more p n = ap (λ xs. count_by p xs) (below_more n)
+    ∙ (sum_by-append (λ x. cond (p x) 1 0) (below n) (n ∷ [])
+    ∙ (let e : 0 + cond (p n) 1 0 ≡ cond (p n) 1 0 = omega arith in
+    ap (λ (k : ℕ). count_by p (below n) + k) e))
 
 pub count_within : (p : ℕ → Bool) (n : ℕ) → count_by p (below n) ≤ n
-count_within p n = subst (λ m. count_by p (below n) ≤ m) (length_below n) (Rattle.std.proofs.lemmas.List.Sums.count_by-le-length p (below n))
+count_within p n = subst (λ m. count_by p (below n) ≤ m) (length_below n)
+    (Rattle.std.proofs.lemmas.List.Sums.count_by-le-length p (below n))
 
-find_one : {X : Type 0} (p : X → Bool) (x : X) (rest : List X) → p x ≡ true → find p (x ∷ rest) ≡ Some x
+find_one : {X : Type 0} (p : X → Bool) (x : X) (rest : List X) → p x ≡ true →
+    find p (x ∷ rest) ≡ Some x
 find_one p x rest t = cond-true (p x) (Some x) (find p rest) t
 
-pub find_none_more : (p : ℕ → Bool) (n : ℕ) → find p (below n) ≡ None → p n ≡ false → find p (below (n + 1)) ≡ None
-find_none_more p n none fails = ap (λ xs. find p xs) (below_more n) ∙ (find-append p (below n) (n ∷ []) ∙ (ap (λ o. option_or o (find p (n ∷ []))) none ∙ cond-false (p n) (Some n) None fails))
+pub find_none_more : (p : ℕ → Bool) (n : ℕ) → find p (below n) ≡ None → p n ≡ false →
+    find p (below (n + 1)) ≡ None
+find_none_more p n none fails = ap (λ xs. find p xs) (below_more n)
+    ∙ (find-append p (below n) (n ∷ [])
+    ∙ (ap (λ o. option_or o (find p (n ∷ []))) none ∙ cond-false (p n) (Some n) None fails))
 
-pub find_found : (p : ℕ → Bool) (n i : ℕ) → i < n → find p (below i) ≡ None → p i ≡ true → find p (below n) ≡ Some i
+pub find_found : (p : ℕ → Bool) (n i : ℕ) → i < n → find p (below i) ≡ None → p i ≡ true →
+    find p (below n) ≡ Some i
 find_found p n i h none holds =
     let s = below_split n i h in
-    ap (λ xs. find p xs) s.1 ∙ (find-append p (below i) (i ∷ s.0) ∙ (ap (λ o. option_or o (find p (i ∷ s.0))) none ∙ find_one p i s.0 holds))
+    ap (λ xs. find p xs) s.1
+    ∙ (find-append p (below i) (i ∷ s.0)
+    ∙ (ap (λ o. option_or o (find p (i ∷ s.0))) none ∙ find_one p i s.0 holds))
 
-pub flat_more : {X : Type 0} (f : ℕ → List X) (n : ℕ) → flat_map f (below (n + 1)) ≡ flat_map f (below n) ++ f n
-flat_more f n = ap (λ xs. flat_map f xs) (below_more n) ∙ (flat_map-append f (below n) (n ∷ []) ∙ ap (λ ys. flat_map f (below n) ++ ys) (append_nil (f n)))
+pub flat_more : {X : Type 0} (f : ℕ → List X) (n : ℕ) →
+    flat_map f (below (n + 1)) ≡ flat_map f (below n) ++ f n
+flat_more f n = ap (λ xs. flat_map f xs) (below_more n)
+    ∙ (flat_map-append f (below n) (n ∷ [])
+    ∙ ap (λ ys. flat_map f (below n) ++ ys) (append_nil (f n)))
   where
     append_nil : {X : Type 0} (xs : List X) → xs ++ [] ≡ xs
     append_nil xs = Rattle.std.proofs.lemmas.List.append-nil xs
 
 -- rows of a table, one after the other
-pub rows_none : {X : Type 0} (p : X → Bool) (row : ℕ → List X) (n : ℕ) → find p (flat_map row (below n)) ≡ None → find p (row n) ≡ None → find p (flat_map row (below (n + 1))) ≡ None
-rows_none p row n none fails = ap (λ xs. find p xs) (flat_more row n) ∙ (find-append p (flat_map row (below n)) (row n) ∙ (ap (λ o. option_or o (find p (row n))) none ∙ fails))
+pub rows_none : {X : Type 0} (p : X → Bool) (row : ℕ → List X) (n : ℕ) →
+    find p (flat_map row (below n)) ≡ None → find p (row n) ≡ None →
+    find p (flat_map row (below (n + 1))) ≡ None
+rows_none p row n none fails = ap (λ xs. find p xs) (flat_more row n)
+    ∙ (find-append p (flat_map row (below n)) (row n)
+    ∙ (ap (λ o. option_or o (find p (row n))) none ∙ fails))
 
-pub rows_found : {X : Type 0} (p : X → Bool) (row : ℕ → List X) (n i : ℕ) (x : X) → i < n → find p (flat_map row (below i)) ≡ None → find p (row i) ≡ Some x → find p (flat_map row (below n)) ≡ Some x
+pub rows_found : {X : Type 0} (p : X → Bool) (row : ℕ → List X) (n i : ℕ) (x : X) → i < n →
+    find p (flat_map row (below i)) ≡ None → find p (row i) ≡ Some x →
+    find p (flat_map row (below n)) ≡ Some x
 rows_found p row n i x h none holds =
     let s = below_split n i h in
     let rest = flat_map row s.0 in
@@ -78,9 +113,14 @@ rows_found p row n i x h none holds =
     ∙ (ap (λ o. option_or o (find p (row i ++ rest))) none
     ∙ (find-append p (row i) rest ∙ ap (λ o. option_or o (find p rest)) holds))))
 
-pub find_map : {X Y : Type 0} (p : Y → Bool) (f : X → Y) (xs : List X) → find p (map f xs) ≡ option_map f (find (λ x. p (f x)) xs)
+pub find_map : {X Y : Type 0} (p : Y → Bool) (f : X → Y) (xs : List X) →
+    find p (map f xs) ≡ option_map f (find (λ x. p (f x)) xs)
 find_map p f [] = refl
 find_map p f (x ∷ xs) = ⊎_elim
-    (λ t. cond-true (p (f x)) (Some (f x)) (find p (map f xs)) t ∙ sym (ap (λ o. option_map f o) (cond-true (p (f x)) (Some x) (find (λ y. p (f y)) xs) t)))
-    (λ e. cond-false (p (f x)) (Some (f x)) (find p (map f xs)) e ∙ (find_map p f xs ∙ sym (ap (λ o. option_map f o) (cond-false (p (f x)) (Some x) (find (λ y. p (f y)) xs) e))))
+    (λ t. cond-true (p (f x)) (Some (f x)) (find p (map f xs)) t
+    ∙ sym (ap (λ o. option_map f o) (cond-true (p (f x)) (Some x) (find (λ y. p (f y)) xs) t)))
+    (λ e. cond-false (p (f x)) (Some (f x)) (find p (map f xs)) e
+    ∙ (find_map p f xs
+    ∙ sym (ap (λ o. option_map f o)
+    (cond-false (p (f x)) (Some x) (find (λ y. p (f y)) xs) e))))
     (cases_Bool (p (f x)))

@@ -1,5 +1,6 @@
 -- Charges, rank by rank, and what they meet.
-use Rattle.std.proofs.Common.{◌≡◌, ℕ, ◌+◌, Bool, true, false, cond, ◌≤◌, arith, Option, Some, None, refl, sym, ap, ◌∙◌, ◌||◌, ⊎_elim, eqb-true, eq-eqb, ne_eqb}
+use Rattle.std.proofs.Common.{◌≡◌, ℕ, ◌+◌, Bool, true, false, cond, ◌≤◌, arith, Option, Some, None}
+use Rattle.std.proofs.Common.{refl, sym, ap, ◌∙◌, ◌||◌, ⊎_elim, eqb-true, eq-eqb, ne_eqb}
 use Rattle.std.specs.Prelude.{◌==◌, nat_eq, count_by, not}
 use Rattle.std.specs.List.{list_any}
 use Rattle.std.specs.Ordering.{nat_cmp}
@@ -24,7 +25,8 @@ eq_comm a b = ⊎_elim
     (λ f. f ∙ sym (ne_eqb b a (λ e. false≢true (sym f ∙ eq-eqb a b (sym e)))))
     (cases_Bool (a == b))
 
-pub contains_inserted : (s : FinSet nat_cmp) (d q : ℕ) → contains (insert s d) q ≡ (contains s q || (d == q))
+pub contains_inserted : (s : FinSet nat_cmp) (d q : ℕ) →
+    contains (insert s d) q ≡ (contains s q || (d == q))
 contains_inserted s d q =
     contains-insert nat_cmp_total s d q
     ∙ (ap (λ b. b || contains s q) (unsigned_tied q d ∙ eq_comm q d)
@@ -37,14 +39,16 @@ AreBrought f n s = (q : ℕ) → contains s q ≡ list_any (λ i. is_that (f i) 
 pub brought_none : (f : ℕ → Option ℕ) → AreBrought f 0 empty
 brought_none f q = contains-empty nat_cmp q
 
-pub brought_more : (f : ℕ → Option ℕ) (n d : ℕ) (s : FinSet nat_cmp) → f n ≡ Some d → AreBrought f n s → AreBrought f (n + 1) (insert s d)
+pub brought_more : (f : ℕ → Option ℕ) (n d : ℕ) (s : FinSet nat_cmp) → f n ≡ Some d →
+    AreBrought f n s → AreBrought f (n + 1) (insert s d)
 brought_more f n d s e h q =
     contains_inserted s d q
     ∙ (ap (λ b. b || (d == q)) (h q)
     ∙ (ap (λ o. list_any (λ i. is_that (f i) q) (below n) || is_that o q) (sym e)
     ∙ sym (any_more (λ i. is_that (f i) q) n)))
 
-pub brought_same : (f : ℕ → Option ℕ) (n : ℕ) (s : FinSet nat_cmp) → f n ≡ None → AreBrought f n s → AreBrought f (n + 1) s
+pub brought_same : (f : ℕ → Option ℕ) (n : ℕ) (s : FinSet nat_cmp) → f n ≡ None → AreBrought f n s →
+    AreBrought f (n + 1) s
 brought_same f n s e h q =
     h q
     ∙ (sym (or-false (list_any (λ i. is_that (f i) q) (below n)))
@@ -66,19 +70,24 @@ pub one_at_most : (b : Bool) → cond {A = ℕ} b 0 1 ≤ 1
 one_at_most true = omega arith
 one_at_most false = omega arith
 
-pub different_more : (f : ℕ → Option ℕ) (n own m : ℕ) (s : FinSet nat_cmp) → f n ≡ Some own → AreBrought f n s → m ≡ count_by (another_of f) (below n)
+pub different_more : (f : ℕ → Option ℕ) (n own m : ℕ) (s : FinSet nat_cmp) → f n ≡ Some own →
+    AreBrought f n s → m ≡ count_by (another_of f) (below n)
     → m + cond {A = ℕ} (contains s own) 0 1 ≡ count_by (another_of f) (below (n + 1))
 different_more f n own m s is brought so_far =
     (λ k. so_far k + cond {A = ℕ} (brought own k) 0 1)
     ∙ ap (λ (k : ℕ). count_by (another_of f) (below n) + k) (turned (is_brought f n own))
-    ∙ ap (λ o. count_by (another_of f) (below n) + cond (is_another (λ d. is_brought f n d) o) 1 0) (sym is)
+    ∙ ap (λ o. count_by (another_of f) (below n) + cond (is_another (λ d. is_brought f n d) o) 1 0)
+    (sym is)
     ∙ sym (count_more (another_of f) n)
 
-pub different_same : (f : ℕ → Option ℕ) (n m : ℕ) → f n ≡ None → m ≡ count_by (another_of f) (below n) → m ≡ count_by (another_of f) (below (n + 1))
+pub different_same : (f : ℕ → Option ℕ) (n m : ℕ) → f n ≡ None →
+    m ≡ count_by (another_of f) (below n) → m ≡ count_by (another_of f) (below (n + 1))
 different_same f n m none so_far =
     so_far
-    ∙ (let e : count_by (another_of f) (below n) ≡ count_by (another_of f) (below n) + 0 = omega arith in e)
-    ∙ ap (λ o. count_by (another_of f) (below n) + cond (is_another (λ d. is_brought f n d) o) 1 0) (sym none)
+    ∙ (let e : count_by (another_of f) (below n) ≡ count_by (another_of f) (below n) + 0 = omega
+    arith in e)
+    ∙ ap (λ o. count_by (another_of f) (below n) + cond (is_another (λ d. is_brought f n d) o) 1 0)
+    (sym none)
     ∙ sym (count_more (another_of f) n)
 
 pub different_within : (f : ℕ → Option ℕ) (n : ℕ) → count_by (another_of f) (below n) ≤ n

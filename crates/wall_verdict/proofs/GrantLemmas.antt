@@ -1,5 +1,7 @@
 -- A grant, receiver by receiver.
-use Rattle.std.proofs.Common.{◌≡◌, ℕ, ◌+◌, ◌<◌, ◌≤◌, Bool, true, false, List, length, Option, Some, None, refl, sym, ap, ◌∙◌, subst, arith, ◌||◌, ◌&&◌, slice_get, inl, inr, ◌⊎◌, ⊎_elim, eqb-true, eq-eqb, ne_eqb, lt-ltb, ltb-true}
+use Rattle.std.proofs.Common.{◌≡◌, ℕ, ◌+◌, ◌<◌, ◌≤◌, Bool, true, false, List, length, Option, Some}
+use Rattle.std.proofs.Common.{None, refl, sym, ap, ◌∙◌, subst, arith, ◌||◌, ◌&&◌, slice_get, inl}
+use Rattle.std.proofs.Common.{inr, ◌⊎◌, ⊎_elim, eqb-true, eq-eqb, ne_eqb, lt-ltb, ltb-true}
 use Rattle.std.specs.Prelude.{nat_lt, nat_eq, ◌==◌}
 use Rattle.std.specs.Ordering.{nat_cmp}
 use Rattle.std.specs.FinSet.{FinSet, contains}
@@ -22,16 +24,20 @@ use Rattle.wall_verdict.specs.Meanings.{MembersStayApart}
 
 ---- Ranks of members.
 
-rank_is : (members : List ℕ) (p j : ℕ) → rank_in members p ≡ Some j → (slice_get members j ≡ Some p) × (j < length members)
+rank_is : (members : List ℕ) (p j : ℕ) → rank_in members p ≡ Some j →
+    (slice_get members j ≡ Some p) × (j < length members)
 rank_is members p j e =
     let at = position-Some (λ m. m == p) members j 0 e in
     (slice_get-get_or members j 0 at.0 ∙ ap (λ (m : ℕ). Some m) (eqb-true _ p at.1), at.0)
 
 -- no process is a member at two ranks
-ranked : (members : List ℕ) (j p : ℕ) → IsGroup members → slice_get members j ≡ Some p → rank_in members p ≡ Some j
+ranked : (members : List ℕ) (j p : ℕ) → IsGroup members → slice_get members j ≡ Some p →
+    rank_in members p ≡ Some j
 ranked members j p group at =
     let there = rank_present members p (slice_get-member members j p at) in
-    there ∙ ap (λ (i : ℕ). Some i) (one_place members _ j p group.distinct (rank_is members p _ there).0 at)
+    there
+    ∙ ap (λ (i : ℕ). Some i)
+    (one_place members _ j p group.distinct (rank_is members p _ there).0 at)
 
 ---- The receivers below rank n have got what is charged to them.
 
@@ -43,33 +49,43 @@ abbrev pub under : ChineseWall → History → Roll → ℕ → History
 under wall has roll n p d = has p d || charged_first wall roll n (rank_in roll.members p) d
 
 pub under_none : (wall : ChineseWall) (has : History) (roll : Roll) → has ≡ under wall has roll 0
-under_none wall has roll = λ i p d. (sym (or-false (has p d)) ∙ ap (λ b. has p d || b) (nobody (rank_in roll.members p) d)) i
+under_none wall has roll = λ i p d.
+    (sym (or-false (has p d)) ∙ ap (λ b. has p d || b) (nobody (rank_in roll.members p) d)) i
   where
     none_below : (j : ℕ) → nat_lt j 0 ≡ false
-    none_below j = ⊎_elim (λ t. let low : j < 0 = ltb-true j 0 t in absurd (omega arith)) (λ f. f) (cases_Bool (nat_lt j 0))
+    none_below j = ⊎_elim (λ t. let low : j < 0 = ltb-true j 0 t in absurd (omega arith)) (λ f. f)
+        (cases_Bool (nat_lt j 0))
 
     nobody : (o : Option ℕ) (d : ℕ) → false ≡ charged_first wall roll 0 o d
     nobody None d = refl
     nobody (Some j) d = sym (ap (λ b. b && charged wall roll j d) (none_below j))
 
-pub under_all : (wall : ChineseWall) (has : History) (roll : Roll) (n : ℕ) → n ≡ length roll.members → under wall has roll n ≡ with_charges wall has roll
-under_all wall has roll n long = λ i p d. (ap (λ b. has p d || b) (everyone p d (rank_in roll.members p) refl)) i
+pub under_all : (wall : ChineseWall) (has : History) (roll : Roll) (n : ℕ) →
+    n ≡ length roll.members → under wall has roll n ≡ with_charges wall has roll
+under_all wall has roll n long =
+    λ i p d. (ap (λ b. has p d || b) (everyone p d (rank_in roll.members p) refl)) i
   where
-    everyone : (p d : ℕ) (o : Option ℕ) → rank_in roll.members p ≡ o → charged_first wall roll n o d ≡ charged_at wall roll o d
+    everyone : (p d : ℕ) (o : Option ℕ) → rank_in roll.members p ≡ o →
+        charged_first wall roll n o d ≡ charged_at wall roll o d
     everyone p d None e = refl
-    everyone p d (Some j) e = ap (λ b. b && charged wall roll j d) (lt-ltb j n (subst (λ k. j < k) (sym long) (rank_is roll.members p j e).1))
+    everyone p d (Some j) e = ap (λ b. b && charged wall roll j d)
+        (lt-ltb j n (subst (λ k. j < k) (sym long) (rank_is roll.members p j e).1))
 
-module _ (wall : ChineseWall) (has : History) (roll : Roll) (group : IsGroup roll.members) (n m : ℕ) (at : slice_get roll.members n ≡ Some m) (s : FinSet nat_cmp) (brought : (d : ℕ) → contains s d ≡ charged wall roll n d) where
+module _ (wall : ChineseWall) (has : History) (roll : Roll) (group : IsGroup roll.members) (n m : ℕ)
+    (at : slice_get roll.members n ≡ Some m) (s : FinSet nat_cmp)
+    (brought : (d : ℕ) → contains s d ≡ charged wall roll n d) where
   -- p is the member of rank n exactly where its rank is n
   same_rank : (p j : ℕ) → rank_in roll.members p ≡ Some j → nat_eq p m ≡ (j == n)
   same_rank p j e = ⊎_elim
       (λ t.
       let is = eqb-true p m t in
-      let both : Some j ≡ Some n = sym e ∙ (ap (λ q. rank_in roll.members q) is ∙ ranked roll.members n m group at) in
+      let both : Some j ≡ Some n = sym e ∙
+      (ap (λ q. rank_in roll.members q) is ∙ ranked roll.members n m group at) in
       let same : j ≡ n = cc in
       t ∙ sym (eq-eqb j n same))
       (λ f. f ∙ sym (ne_eqb j n (λ is.
-      let mine : slice_get roll.members n ≡ Some p = subst (λ k. slice_get roll.members k ≡ Some p) is (rank_is roll.members p j e).0 in
+      let mine : slice_get roll.members n ≡ Some p = subst (λ k. slice_get roll.members k ≡ Some p)
+      is (rank_is roll.members p j e).0 in
       let both : Some p ≡ Some m = sym mine ∙ at in
       let same : p ≡ m = cc in
       false≢true (sym f ∙ eq-eqb p m same))))
@@ -77,15 +93,18 @@ module _ (wall : ChineseWall) (has : History) (roll : Roll) (group : IsGroup rol
 
   next_low : (j : ℕ) → nat_lt j (n + 1) ≡ (nat_lt j n || (j == n))
   next_low j = ⊎_elim
-      (λ t. let low : j < n = ltb-true j n t in lt-ltb j (n + 1) (omega arith) ∙ sym (ap (λ b. b || (j == n)) t))
+      (λ t. let low : j < n = ltb-true j n t in
+      lt-ltb j (n + 1) (omega arith) ∙ sym (ap (λ b. b || (j == n)) t))
       (λ f. ⊎_elim
-      (λ t. let is = eqb-true j n t in lt-ltb j (n + 1) (omega arith) ∙ sym (ap (λ b. b || (j == n)) f ∙ t))
+      (λ t. let is = eqb-true j n t in
+      lt-ltb j (n + 1) (omega arith) ∙ sym (ap (λ b. b || (j == n)) f ∙ t))
       (λ g. no_lt (λ low. apart f g (omega arith)) ∙ sym (ap (λ b. b || (j == n)) f ∙ g))
       (cases_Bool (j == n)))
       (cases_Bool (nat_lt j n))
     where
       no_lt : (j < n + 1 → ⊥) → nat_lt j (n + 1) ≡ false
-      no_lt h = ⊎_elim (λ t. absurd (h (ltb-true j (n + 1) t))) (λ f. f) (cases_Bool (nat_lt j (n + 1)))
+      no_lt h =
+          ⊎_elim (λ t. absurd (h (ltb-true j (n + 1) t))) (λ f. f) (cases_Bool (nat_lt j (n + 1)))
 
       apart : nat_lt j n ≡ false → (j == n) ≡ false → j ≤ n → ⊥
       apart f g le =
@@ -99,9 +118,11 @@ module _ (wall : ChineseWall) (has : History) (roll : Roll) (group : IsGroup rol
   distribute true false false = refl
   distribute false b c = refl
 
-  step_at : (p d : ℕ) (o : Option ℕ) → rank_in roll.members p ≡ o → (charged_first wall roll n o d || (nat_eq p m && contains s d)) ≡ charged_first wall roll (n + 1) o d
+  step_at : (p d : ℕ) (o : Option ℕ) → rank_in roll.members p ≡ o → (charged_first wall roll n o d
+      || (nat_eq p m && contains s d)) ≡ charged_first wall roll (n + 1) o d
   step_at p d None e = ap (λ b. b && contains s d) (ne_eqb p m (λ same.
-      let both : None ≡ Some n = sym e ∙ (ap (λ q. rank_in roll.members q) same ∙ ranked roll.members n m group at) in
+      let both : None ≡ Some n = sym e ∙
+      (ap (λ q. rank_in roll.members q) same ∙ ranked roll.members n m group at) in
       absurd (cc)))
   step_at p d (Some j) e =
       ap (λ b. (nat_lt j n && charged wall roll j d) || (b && contains s d)) (same_rank p j e)
@@ -109,35 +130,54 @@ module _ (wall : ChineseWall) (has : History) (roll : Roll) (group : IsGroup rol
       ∙ (sym (distribute (nat_lt j n) (j == n) (charged wall roll j d))
       ∙ ap (λ b. b && charged wall roll j d) (sym (next_low j))))
     where
-      here : ((j == n) ≡ true) ⊎ ((j == n) ≡ false) → ((j == n) && contains s d) ≡ ((j == n) && charged wall roll j d)
-      here (inl t) = ap (λ b. (j == n) && b) (brought d ∙ ap (λ k. charged wall roll k d) (sym (eqb-true j n t)))
+      here : ((j == n) ≡ true) ⊎ ((j == n) ≡ false) →
+          ((j == n) && contains s d) ≡ ((j == n) && charged wall roll j d)
+      here (inl t) = ap (λ b. (j == n) && b)
+          (brought d ∙ ap (λ k. charged wall roll k d) (sym (eqb-true j n t)))
       here (inr f) = ap (λ b. b && contains s d) f ∙ sym (ap (λ b. b && charged wall roll j d) f)
 
   or_assoc : (a b c : Bool) → ((a || b) || c) ≡ (a || (b || c))
   or_assoc true b c = refl
   or_assoc false b c = refl
 
-  pub under_more : (now : History) → now ≡ under wall has roll n → entered now m s ≡ under wall has roll (n + 1)
-  under_more now is = ap (λ (h : History). entered h m s) is ∙ (λ i p d. (or_assoc (has p d) (charged_first wall roll n (rank_in roll.members p) d) (nat_eq p m && contains s d) ∙ ap (λ b. has p d || b) (step_at p d (rank_in roll.members p) refl)) i)
+  pub under_more : (now : History) → now ≡ under wall has roll n →
+      entered now m s ≡ under wall has roll (n + 1)
+  under_more now is = ap (λ (h : History). entered h m s) is
+      ∙ (λ i p d. (or_assoc (has p d) (charged_first wall roll n (rank_in roll.members p) d)
+      (nat_eq p m && contains s d)
+      ∙ ap (λ b. has p d || b) (step_at p d (rank_in roll.members p) refl)) i)
 
   -- what is entered for one receiver holds no rivals
-  pub may_enter : (now : History) → now ≡ under wall has roll n → MembersStayApart wall has roll → HoldsNoRivals wall.classes (joined (now m) s)
-  may_enter now is apart = no_rivals-part wall.classes (λ d. has m d || charged wall roll n d) (joined (now m) s) (apart n m at) (λ d h. ⊎_elim
+  pub may_enter : (now : History) → now ≡ under wall has roll n → MembersStayApart wall has roll →
+      HoldsNoRivals wall.classes (joined (now m) s)
+  may_enter now is apart = no_rivals-part wall.classes (λ d. has m d || charged wall roll n d)
+      (joined (now m) s) (apart n m at) (λ d h. ⊎_elim
       (λ old. within d (subst (λ (g : History). g m d ≡ true) is old))
       (λ new. or_right (has m d) _ (sym (brought d) ∙ new))
       (or_cases (now m d) (contains s d) h))
     where
-      by_rank : (d : ℕ) (o : Option ℕ) → o ≡ Some n → charged_first wall roll n o d ≡ true → charged wall roll n d ≡ true
+      by_rank : (d : ℕ) (o : Option ℕ) → o ≡ Some n → charged_first wall roll n o d ≡ true →
+          charged wall roll n d ≡ true
       by_rank d None e h = absurd (false≢true h)
-      by_rank d (Some j) e h = let same : j ≡ n = cc in sym (ap (λ k. charged wall roll k d) same) ∙ (and_parts (nat_lt j n) (charged wall roll j d) h).1
+      by_rank d (Some j) e h = let same : j ≡ n = cc in
+          sym (ap (λ k. charged wall roll k d) same)
+          ∙ (and_parts (nat_lt j n) (charged wall roll j d) h).1
 
-      within : (d : ℕ) → under wall has roll n m d ≡ true → (has m d || charged wall roll n d) ≡ true
-      within d h = ⊎_elim (λ old. or_left (has m d) _ old) (λ new. or_right (has m d) _ (by_rank d (rank_in roll.members m) (ranked roll.members n m group at) new)) (or_cases (has m d) _ h)
+      within : (d : ℕ) → under wall has roll n m d ≡ true →
+          (has m d || charged wall roll n d) ≡ true
+      within d h = ⊎_elim (λ old. or_left (has m d) _ old) (λ new.
+          or_right (has m d) _
+          (by_rank d (rank_in roll.members m) (ranked roll.members n m group at) new))
+          (or_cases (has m d) _ h)
 
 ---- The histories after a verdict.
 
-pub settled_granted : (wall : ChineseWall) (has : History) (roll : Roll) → verdict wall has roll ≡ Granted → with_charges wall has roll ≡ settled wall has roll
-settled_granted wall has roll e = sym (λ i p d. has p d || (is_granted (e i) && charged_to wall roll p d))
+pub settled_granted : (wall : ChineseWall) (has : History) (roll : Roll) →
+    verdict wall has roll ≡ Granted → with_charges wall has roll ≡ settled wall has roll
+settled_granted wall has roll e =
+    sym (λ i p d. has p d || (is_granted (e i) && charged_to wall roll p d))
 
-pub settled_denied : (wall : ChineseWall) (has : History) (roll : Roll) → is_granted (verdict wall has roll) ≡ false → has ≡ settled wall has roll
-settled_denied wall has roll f = sym (λ i p d. (ap (λ b. has p d || (b && charged_to wall roll p d)) f ∙ or-false (has p d)) i)
+pub settled_denied : (wall : ChineseWall) (has : History) (roll : Roll) →
+    is_granted (verdict wall has roll) ≡ false → has ≡ settled wall has roll
+settled_denied wall has roll f =
+    sym (λ i p d. (ap (λ b. has p d || (b && charged_to wall roll p d)) f ∙ or-false (has p d)) i)

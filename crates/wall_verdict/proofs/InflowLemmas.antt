@@ -1,5 +1,7 @@
 -- What ranks bring, rank by rank and from one receiver to the next.
-use Rattle.std.proofs.Common.{◌≡◌, ℕ, zero, suc, ◌+◌, ◌-◌, ◌<◌, ◌≤◌, Bool, true, false, ◌||◌, ◌&&◌, List, Option, Some, None, find, slice_get, cond, refl, sym, ap, ◌∙◌, subst, arith, add-one, inl, inr, ⊎_elim, eqb-true, eq-eqb}
+use Rattle.std.proofs.Common.{◌≡◌, ℕ, zero, suc, ◌+◌, ◌-◌, ◌<◌, ◌≤◌, Bool, true, false, ◌||◌, ◌&&◌}
+use Rattle.std.proofs.Common.{List, Option, Some, None, find, slice_get, cond, refl, sym, ap, ◌∙◌}
+use Rattle.std.proofs.Common.{subst, arith, add-one, inl, inr, ⊎_elim, eqb-true, eq-eqb}
 use Rattle.std.specs.Prelude.{is_some, unwrap_or, count_by}
 use Rattle.std.specs.List.{list_any}
 use Rattle.std.specs.Option.{option_and_then}
@@ -20,11 +22,15 @@ use Rattle.coll_routes.specs.Signatures.{is_neighbourly}
 use Rattle.coll_routes.specs.Fit.{IsFit}
 use Rattle.coll_routes.proofs.CollRoutesLemmas.{any_at, any_found}
 use Rattle.wall_verdict.specs.declared.inflow.Inflow.{Inflow}
-use Rattle.wall_verdict.specs.Charges.{contribution, contributed_below, contributors, different_datasets, least_for, distinct_for, is_at_most, is_another, is_that, sanitised}
+use Rattle.wall_verdict.specs.Charges.{contribution, contributed_below, contributors}
+use Rattle.wall_verdict.specs.Charges.{different_datasets, least_for, distinct_for, is_at_most}
+use Rattle.wall_verdict.specs.Charges.{is_another, is_that, sanitised}
 use Rattle.wall_verdict.specs.Verdicts.{member, meets, meets_rival, offends}
-use Rattle.wall_verdict.specs.Inflows.{start_of, end_of, is_alike, is_brought, IsInflow, IsInflowOf, IsTakenFromSlots, IsWhole, Serves}
+use Rattle.wall_verdict.specs.Inflows.{start_of, end_of, is_alike, is_brought, IsInflow, IsInflowOf}
+use Rattle.wall_verdict.specs.Inflows.{IsTakenFromSlots, IsWhole, Serves}
 use Rattle.wall_verdict.proofs.BelowLemmas.{any_more, count_more, count_within}
-use Rattle.wall_verdict.proofs.ChargeLemmas.{brought_more, brought_same, contains_inserted, different_more, different_same, different_within}
+use Rattle.wall_verdict.proofs.ChargeLemmas.{brought_more, brought_same, contains_inserted}
+use Rattle.wall_verdict.proofs.ChargeLemmas.{different_more, different_same, different_within}
 use Rattle.wall_verdict.proofs.MeetLemmas.{meets_none, sanitised_spares, unsanitised_meets}
 use Rattle.wall_verdict.proofs.PairLemmas.{none_below}
 use Rattle.wall_verdict.proofs.SlotLemmas.{slots_bring_all, near_reduces_not}
@@ -32,88 +38,123 @@ use Rattle.wall_verdict.proofs.SpanLemmas.{nothing_outside, alike_is_plain, come
 
 ---- One rank more.
 
-module _ (classes : List ℕ) (f : ℕ → Option ℕ) (n : ℕ) (v w : Inflow) (before : IsInflow classes f n v) where
-  pub inflow_same : f n ≡ None → w.number ≡ v.number → w.different ≡ v.different → w.datasets ≡ v.datasets → w.rivals ≡ v.rivals → IsInflow classes f (n + 1) w
+module _ (classes : List ℕ) (f : ℕ → Option ℕ) (n : ℕ) (v w : Inflow)
+    (before : IsInflow classes f n v) where
+  pub inflow_same : f n ≡ None → w.number ≡ v.number → w.different ≡ v.different →
+      w.datasets ≡ v.datasets → w.rivals ≡ v.rivals → IsInflow classes f (n + 1) w
   inflow_same none number different datasets rivals = record {
     number =
         number ∙ before.number
-        ∙ (let e : count_by (λ i. is_some (f i)) (below n) ≡ count_by (λ i. is_some (f i)) (below n) + 0 = omega arith in e)
+        ∙ (let e : count_by (λ i. is_some (f i)) (below n) ≡ count_by (λ i. is_some (f i)) (below n)
+        + 0 = omega arith in e)
         ∙ ap (λ o. count_by (λ i. is_some (f i)) (below n) + cond (is_some o) 1 0) (sym none)
         ∙ sym (count_more (λ i. is_some (f i)) n);
     different = different ∙ different_same f n v.different none before.different;
-    datasets = λ d. ap (λ s. contains s d) datasets ∙ brought_same f n v.datasets none before.datasets d;
-    rivals = λ d e here are. ap (λ s. contains s e) rivals ∙ before.rivals d e (sym (ap (λ s. contains s d) datasets) ∙ here) are;
+    datasets =
+        λ d. ap (λ s. contains s d) datasets ∙ brought_same f n v.datasets none before.datasets d;
+    rivals = λ d e here are. ap (λ s. contains s e) rivals
+        ∙ before.rivals d e (sym (ap (λ s. contains s d) datasets) ∙ here) are;
   }
 
-  pub inflow_more : (own : ℕ) → f n ≡ Some own → w.number ≡ v.number + 1 → w.different ≡ v.different + cond (contains v.datasets own) 0 1 → w.datasets ≡ insert v.datasets own
-      → ((e : ℕ) → contains w.rivals e ≡ (contains v.rivals e || are_rivals classes own e)) → IsInflow classes f (n + 1) w
+  pub inflow_more : (own : ℕ) → f n ≡ Some own → w.number ≡ v.number + 1 →
+      w.different ≡ v.different + cond (contains v.datasets own) 0 1 →
+      w.datasets ≡ insert v.datasets own
+      → ((e : ℕ) → contains w.rivals e ≡ (contains v.rivals e || are_rivals classes own e)) →
+      IsInflow classes f (n + 1) w
   inflow_more own is number different datasets rivals = record {
     number =
         number ∙ ap (λ (k : ℕ). k + 1) before.number
         ∙ ap (λ o. count_by (λ i. is_some (f i)) (below n) + cond (is_some o) 1 0) (sym is)
         ∙ sym (count_more (λ i. is_some (f i)) n);
-    different = different ∙ different_more f n own v.different v.datasets is before.datasets before.different;
-    datasets = λ d. ap (λ s. contains s d) datasets ∙ brought_more f n own v.datasets is before.datasets d;
+    different = different
+        ∙ different_more f n own v.different v.datasets is before.datasets before.different;
+    datasets =
+        λ d. ap (λ s. contains s d) datasets ∙ brought_more f n own v.datasets is before.datasets d;
     rivals = λ d e here are.
         rivals e ∙ ⊎_elim
         (λ old. or_left (contains v.rivals e) _ (before.rivals d e old are))
-        (λ new. or_right (contains v.rivals e) _ (ap (λ k. are_rivals classes k e) (eqb-true own d new) ∙ are))
-        (or_cases (contains v.datasets d) _ (sym (contains_inserted v.datasets own d) ∙ sym (ap (λ s. contains s d) datasets) ∙ here));
+        (λ new. or_right (contains v.rivals e) _
+        (ap (λ k. are_rivals classes k e) (eqb-true own d new) ∙ are))
+        (or_cases (contains v.datasets d) _ (sym (contains_inserted v.datasets own d)
+        ∙ sym (ap (λ s. contains s d) datasets) ∙ here));
   }
 
-pub inflow_none : (classes : List ℕ) (f : ℕ → Option ℕ) (v : Inflow) → v.number ≡ 0 → v.different ≡ 0 → v.datasets ≡ empty → IsInflow classes f 0 v
+pub inflow_none : (classes : List ℕ) (f : ℕ → Option ℕ) (v : Inflow) → v.number ≡ 0 →
+    v.different ≡ 0 → v.datasets ≡ empty → IsInflow classes f 0 v
 inflow_none classes f v number different datasets = record {
   number = number;
   different = different;
   datasets = λ d. ap (λ s. contains s d) datasets ∙ contains-empty nat_cmp d;
-  rivals = λ d e here are. absurd (false≢true (sym (contains-empty nat_cmp d) ∙ sym (ap (λ s. contains s d) datasets) ∙ here));
+  rivals = λ d e here are. absurd
+      (false≢true (sym (contains-empty nat_cmp d) ∙ sym (ap (λ s. contains s d) datasets) ∙ here));
 }
 
 -- ranks that bring nothing
-inflow_past : (classes : List ℕ) (f : ℕ → Option ℕ) (n m : ℕ) (v : Inflow) → ((i : ℕ) → n ≤ i → i < n + m → f i ≡ None)
+inflow_past : (classes : List ℕ) (f : ℕ → Option ℕ) (n m : ℕ) (v : Inflow) →
+    ((i : ℕ) → n ≤ i → i < n + m → f i ≡ None)
     → IsInflow classes f n v → IsInflow classes f (n + m) v
-inflow_past classes f n zero v none is = let e : n ≡ n + zero = omega arith in subst (λ k. IsInflow classes f k v) e is
+inflow_past classes f n zero v none is =
+    let e : n ≡ n + zero = omega arith in subst (λ k. IsInflow classes f k v) e is
 inflow_past classes f n (suc m) v none is =
     let e : (n + m) + 1 ≡ n + suc m = omega arith in
     subst (λ k. IsInflow classes f k v) e (
-    inflow_same classes f (n + m) v v (inflow_past classes f n m v (λ i le lt. none i le (omega arith)) is) (none (n + m) (omega arith) (omega arith)) refl refl refl refl
+    inflow_same classes f (n + m) v v
+    (inflow_past classes f n m v (λ i le lt. none i le (omega arith)) is)
+    (none (n + m) (omega arith) (omega arith)) refl refl refl refl
     )
 
-inflow_to : (classes : List ℕ) (f : ℕ → Option ℕ) (n end : ℕ) (v : Inflow) → n ≤ end → ((i : ℕ) → n ≤ i → i < end → f i ≡ None)
+inflow_to : (classes : List ℕ) (f : ℕ → Option ℕ) (n end : ℕ) (v : Inflow) → n ≤ end →
+    ((i : ℕ) → n ≤ i → i < end → f i ≡ None)
     → IsInflow classes f n v → IsInflow classes f end v
 inflow_to classes f n end v le none is =
     let e : n + (end - n) ≡ end = omega arith in
-    subst (λ k. IsInflow classes f k v) e (inflow_past classes f n (end - n) v (λ i low lt. none i low (omega arith)) is)
+    subst (λ k. IsInflow classes f k v) e
+    (inflow_past classes f n (end - n) v (λ i low lt. none i low (omega arith)) is)
 
-any_alike : (p q : ℕ → Bool) (n : ℕ) → ((i : ℕ) → i < n → p i ≡ q i) → list_any p (below n) ≡ list_any q (below n)
+any_alike : (p q : ℕ → Bool) (n : ℕ) → ((i : ℕ) → i < n → p i ≡ q i) →
+    list_any p (below n) ≡ list_any q (below n)
 any_alike p q zero same = refl
 any_alike p q (suc n) same = subst (λ m. list_any p (below m) ≡ list_any q (below m)) (add-one n) (
-    any_more p n ∙ (λ k. any_alike p q n (λ i lt. same i (omega arith)) k || same n (omega arith) k) ∙ sym (any_more q n)
+    any_more p n ∙ (λ k. any_alike p q n (λ i lt. same i (omega arith)) k || same n (omega arith) k)
+    ∙ sym (any_more q n)
     )
 
-pub count_alike : (p q : ℕ → Bool) (n : ℕ) → ((i : ℕ) → i < n → p i ≡ q i) → count_by p (below n) ≡ count_by q (below n)
+pub count_alike : (p q : ℕ → Bool) (n : ℕ) → ((i : ℕ) → i < n → p i ≡ q i) →
+    count_by p (below n) ≡ count_by q (below n)
 count_alike p q zero same = refl
-count_alike p q (suc n) same = subst (λ m. count_by p (below m) ≡ count_by q (below m)) (add-one n) (
-    count_more p n ∙ (λ k. count_alike p q n (λ i lt. same i (omega arith)) k + cond (same n (omega arith) k) 1 0) ∙ sym (count_more q n)
+count_alike p q (suc n) same =
+    subst (λ m. count_by p (below m) ≡ count_by q (below m)) (add-one n) (
+    count_more p n
+    ∙ (λ k. count_alike p q n (λ i lt. same i (omega arith)) k
+    + cond (same n (omega arith) k) 1 0) ∙ sym (count_more q n)
     )
 
 -- ranks that bring the same to another receiver
-inflow_alike : (classes : List ℕ) (f g : ℕ → Option ℕ) (n : ℕ) (v : Inflow) → ((i : ℕ) → i < n → f i ≡ g i)
+inflow_alike : (classes : List ℕ) (f g : ℕ → Option ℕ) (n : ℕ) (v : Inflow) →
+    ((i : ℕ) → i < n → f i ≡ g i)
     → IsInflow classes f n v → IsInflow classes g n v
 inflow_alike classes f g n v same is = record {
-  number = is.number ∙ count_alike (λ i. is_some (f i)) (λ i. is_some (g i)) n (λ i lt. ap is_some (same i lt));
-  different = is.different ∙ count_alike (λ i. is_another (λ d. is_brought f i d) (f i)) (λ i. is_another (λ d. is_brought g i d) (g i)) n (
-      λ i lt k. is_another (λ d. any_alike (λ m. is_that (f m) d) (λ m. is_that (g m) d) i (λ m below. ap (λ o. is_that o d) (same m (omega arith))) k) (same i lt k)
+  number = is.number
+      ∙ count_alike (λ i. is_some (f i)) (λ i. is_some (g i)) n (λ i lt. ap is_some (same i lt));
+  different = is.different
+      ∙ count_alike (λ i. is_another (λ d. is_brought f i d) (f i))
+      (λ i. is_another (λ d. is_brought g i d) (g i)) n (
+      λ i lt k. is_another (λ d. any_alike (λ m. is_that (f m) d) (λ m. is_that (g m) d) i
+      (λ m below. ap (λ o. is_that o d) (same m (omega arith))) k) (same i lt k)
       );
-  datasets = λ d. is.datasets d ∙ any_alike (λ i. is_that (f i) d) (λ i. is_that (g i) d) n (λ i lt. ap (λ o. is_that o d) (same i lt));
+  datasets = λ d. is.datasets d
+      ∙ any_alike (λ i. is_that (f i) d) (λ i. is_that (g i) d) n
+      (λ i lt. ap (λ o. is_that o d) (same i lt));
   rivals = is.rivals;
 }
 
 ---- From one receiver to the next.
 
 -- before the first rank that reaches a receiver
-pub inflow_starts : (classes : List ℕ) (roll : Roll) (j : ℕ) (v : Inflow) → start_of roll.sig roll.shape.size ≤ roll.shape.size
-    → v.ranks ≡ start_of roll.sig roll.shape.size → v.number ≡ 0 → v.different ≡ 0 → v.datasets ≡ empty → IsInflowOf classes roll j v
+pub inflow_starts : (classes : List ℕ) (roll : Roll) (j : ℕ) (v : Inflow) →
+    start_of roll.sig roll.shape.size ≤ roll.shape.size
+    → v.ranks ≡ start_of roll.sig roll.shape.size → v.number ≡ 0 → v.different ≡ 0 →
+    v.datasets ≡ empty → IsInflowOf classes roll j v
 inflow_starts classes roll j v within at number different datasets =
     inflow_to classes (λ i. contribution roll i j) 0 v.ranks v (omega arith) (
     λ i low lt. nothing_outside roll i j (omega arith) (inl (omega arith))
@@ -121,16 +162,24 @@ inflow_starts classes roll j v within at number different datasets =
 
 -- after the last rank that reaches it
 pub inflow_whole : (classes : List ℕ) (roll : Roll) (j : ℕ) (v : Inflow) → j < roll.shape.size
-    → v.ranks ≡ end_of roll.sig roll.shape.size j → IsInflowOf classes roll j v → IsWhole classes roll j v
+    → v.ranks ≡ end_of roll.sig roll.shape.size j → IsInflowOf classes roll j v →
+    IsWhole classes roll j v
 inflow_whole classes roll j v h at is =
     let le : v.ranks ≤ roll.shape.size = omega (arith, end_within roll.sig roll.shape.size j h) in
     let all = inflow_to classes (λ i. contribution roll i j) v.ranks roll.shape.size v le (
     λ i low lt. nothing_outside roll i j lt (inr (omega arith))
     ) is in
-    record { number = λ plain. all.number; different = λ plain. all.different; datasets = all.datasets; rivals = all.rivals }
+    record {
+      number = λ plain. all.number;
+      different = λ plain. all.different;
+      datasets = all.datasets;
+      rivals = all.rivals;
+    }
 
-pub inflow_serves : (classes : List ℕ) (roll : Roll) (j : ℕ) (v : Inflow) → IsFit roll → j < roll.shape.size
-    → v.ranks ≡ end_of roll.sig roll.shape.size j → IsInflowOf classes roll j v → Serves classes roll (j + 1) v
+pub inflow_serves : (classes : List ℕ) (roll : Roll) (j : ℕ) (v : Inflow) → IsFit roll →
+    j < roll.shape.size
+    → v.ranks ≡ end_of roll.sig roll.shape.size j → IsInflowOf classes roll j v →
+    Serves classes roll (j + 1) v
 inflow_serves classes roll j v fit h at is alike k next hk reach =
     let le : v.ranks ≤ roll.shape.size = omega (arith, end_within roll.sig roll.shape.size j h) in
     inflow_alike classes (λ i. contribution roll i j) (λ i. contribution roll i k) v.ranks v (
@@ -138,7 +187,8 @@ inflow_serves classes roll j v fit h at is alike k next hk reach =
     ) is
 
 -- after the last slot of the receiver, where the kind goes between neighbours
-pub slots_whole : (classes : List ℕ) (roll : Roll) (j : ℕ) (v : Inflow) → IsFit roll → is_neighbourly roll.sig ≡ true
+pub slots_whole : (classes : List ℕ) (roll : Roll) (j : ℕ) (v : Inflow) → IsFit roll →
+    is_neighbourly roll.sig ≡ true
     → IsTakenFromSlots classes roll j (places roll j) v → IsWhole classes roll j v
 slots_whole classes roll j v fit near is = record {
   number = λ plain. absurd (false≢true (sym plain ∙ near));
@@ -147,46 +197,62 @@ slots_whole classes roll j v fit near is = record {
   rivals = is.rivals;
 }
 
-pub slots_serve : (classes : List ℕ) (roll : Roll) (j : ℕ) (v : Inflow) → is_neighbourly roll.sig ≡ true → Serves classes roll j v
-slots_serve classes roll j v near alike = absurd (false≢true (sym (alike_is_plain roll.sig alike) ∙ near))
+pub slots_serve : (classes : List ℕ) (roll : Roll) (j : ℕ) (v : Inflow) →
+    is_neighbourly roll.sig ≡ true → Serves classes roll j v
+slots_serve classes roll j v near alike =
+    absurd (false≢true (sym (alike_is_plain roll.sig alike) ∙ near))
 
-pub nothing_serves : (classes : List ℕ) (roll : Roll) (v : Inflow) → v.ranks ≡ 0 → v.number ≡ 0 → v.different ≡ 0 → v.datasets ≡ empty → Serves classes roll 0 v
+pub nothing_serves : (classes : List ℕ) (roll : Roll) (v : Inflow) → v.ranks ≡ 0 → v.number ≡ 0 →
+    v.different ≡ 0 → v.datasets ≡ empty → Serves classes roll 0 v
 nothing_serves classes roll v at number different datasets alike k le lt reach =
-    subst (λ n. IsInflow classes (λ i. contribution roll i k) n v) (sym at) (inflow_none classes (λ i. contribution roll i k) v number different datasets)
+    subst (λ n. IsInflow classes (λ i. contribution roll i k) n v) (sym at)
+    (inflow_none classes (λ i. contribution roll i k) v number different datasets)
 
 -- the next receiver gets it too
-pub inflow_kept : (classes : List ℕ) (roll : Roll) (j : ℕ) (v : Inflow) → Serves classes roll j v → is_alike roll.sig ≡ true → j < roll.shape.size
+pub inflow_kept : (classes : List ℕ) (roll : Roll) (j : ℕ) (v : Inflow) → Serves classes roll j v →
+    is_alike roll.sig ≡ true → j < roll.shape.size
     → v.ranks ≤ end_of roll.sig roll.shape.size j → IsInflowOf classes roll j v
 inflow_kept classes roll j v serves alike h reach = serves alike j (omega arith) h reach
 
 -- so many of the ranks below n bring something
-pub few_bring : (classes : List ℕ) (f : ℕ → Option ℕ) (n : ℕ) (v : Inflow) → IsInflow classes f n v → v.number ≤ n
+pub few_bring : (classes : List ℕ) (f : ℕ → Option ℕ) (n : ℕ) (v : Inflow) →
+    IsInflow classes f n v → v.number ≤ n
 few_bring classes f n v is = omega (arith, is.number, count_within (λ i. is_some (f i)) n)
 
-pub few_differ : (classes : List ℕ) (f : ℕ → Option ℕ) (n : ℕ) (v : Inflow) → IsInflow classes f n v → v.different ≤ n
+pub few_differ : (classes : List ℕ) (f : ℕ → Option ℕ) (n : ℕ) (v : Inflow) →
+    IsInflow classes f n v → v.different ≤ n
 few_differ classes f n v is = omega (arith, is.different, different_within f n)
 
 ---- A receiver that nothing of it meets.
 
-pub clear_spares : (classes : List ℕ) (has : History) (roll : Roll) (j p : ℕ) (v : Inflow) → slice_get roll.members j ≡ Some p
+pub clear_spares : (classes : List ℕ) (has : History) (roll : Roll) (j p : ℕ) (v : Inflow) →
+    slice_get roll.members j ≡ Some p
     → IsWhole classes roll j v → ¬ (HoldsOneOf (has p) v.rivals) → ¬ (Meet v.datasets v.rivals)
     → find (meets classes has roll j) (ranks roll) ≡ None
-clear_spares classes has roll j p v at whole unheld apart = none_below (meets classes has roll j) roll.shape.size (λ i lt. spared i lt (contribution roll i j) refl)
+clear_spares classes has roll j p v at whole unheld apart = none_below (meets classes has roll j)
+    roll.shape.size (λ i lt. spared i lt (contribution roll i j) refl)
   where
     before : ℕ → ℕ → Bool
     before i e = has (member roll j) e || contributed_below roll j i e
 
-    brought : (i d : ℕ) → i < roll.shape.size → contribution roll i j ≡ Some d → contains v.datasets d ≡ true
-    brought i d lt is = whole.datasets d ∙ any_at (λ k. is_that (contribution roll k j) d) 0 roll.shape.size i (omega arith) (omega arith) (
+    brought : (i d : ℕ) → i < roll.shape.size → contribution roll i j ≡ Some d →
+        contains v.datasets d ≡ true
+    brought i d lt is = whole.datasets d
+        ∙ any_at (λ k. is_that (contribution roll k j) d) 0 roll.shape.size i (omega arith)
+        (omega arith) (
         ap (λ o. is_that o d) is ∙ eq-eqb d d refl
         )
 
-    earlier : (i e : ℕ) → i < roll.shape.size → contributed_below roll j i e ≡ true → contains v.datasets e ≡ true
+    earlier : (i e : ℕ) → i < roll.shape.size → contributed_below roll j i e ≡ true →
+        contains v.datasets e ≡ true
     earlier i e lt h =
         let found = any_found (λ k. is_that (contribution roll k j) e) 0 i h in
-        whole.datasets e ∙ any_at (λ k. is_that (contribution roll k j) e) 0 roll.shape.size found.0 (omega arith) (omega (arith, found.1)) found.2
+        whole.datasets e
+        ∙ any_at (λ k. is_that (contribution roll k j) e) 0 roll.shape.size found.0
+        (omega arith) (omega (arith, found.1)) found.2
 
-    held : (i d e : ℕ) → i < roll.shape.size → contribution roll i j ≡ Some d → ¬ (IsHeldRival classes (before i) d e)
+    held : (i d e : ℕ) → i < roll.shape.size → contribution roll i j ≡ Some d →
+        ¬ (IsHeldRival classes (before i) d e)
     held i d e lt is h =
         let rival = whole.rivals d e (brought i d lt is) ((are_rivals-Decides classes d e).1 h.1) in
         ⊎_elim
@@ -194,14 +260,16 @@ clear_spares classes has roll j p v at whole unheld apart = none_below (meets cl
         (λ new. apart (e, earlier i e lt new, rival))
         (or_cases (has (member roll j) e) _ h.0)
 
-    spared : (i : ℕ) → i < roll.shape.size → (o : Option ℕ) → contribution roll i j ≡ o → meets classes has roll j i ≡ false
+    spared : (i : ℕ) → i < roll.shape.size → (o : Option ℕ) → contribution roll i j ≡ o →
+        meets classes has roll j i ≡ false
     spared i lt None is = meets_none classes has roll j i is
     spared i lt (Some d) is =
         ap (λ o. meets_rival classes (before i) o) is
         ∙ ap is_some (none-first_rival classes (before i) d (λ e h. held i d e lt is h))
 
 -- where nothing meets a rival, nothing offends
-pub clear_offends : (wall : ChineseWall) (has : History) (roll : Roll) (j : ℕ) → find (meets wall.classes has roll j) (ranks roll) ≡ None
+pub clear_offends : (wall : ChineseWall) (has : History) (roll : Roll) (j : ℕ) →
+    find (meets wall.classes has roll j) (ranks roll) ≡ None
     → None ≡ find (offends wall has roll j) (ranks roll)
 clear_offends wall has roll j none = ⊎_elim
     (λ t. sanitised_spares wall has roll j t)
@@ -210,13 +278,18 @@ clear_offends wall has roll j none = ⊎_elim
 
 -- The test of both numbers. Between neighbours it fails whatever they are.
 pub enough_is : (wall : ChineseWall) (roll : Roll) (j n m : ℕ)
-    → (is_neighbourly roll.sig ≡ false → n ≡ contributors roll j) → (is_neighbourly roll.sig ≡ false → m ≡ different_datasets roll j)
-    → (is_at_most (least_for wall roll) n && is_at_most (distinct_for wall roll) m) ≡ sanitised wall roll j
+    → (is_neighbourly roll.sig ≡ false → n ≡ contributors roll j) →
+    (is_neighbourly roll.sig ≡ false → m ≡ different_datasets roll j)
+    → (is_at_most (least_for wall roll) n && is_at_most (distinct_for wall roll) m)
+    ≡ sanitised wall roll j
 unfolding sanitised
 enough_is wall roll j n m number different = ⊎_elim
     (λ near.
-    let none : least_for wall roll ≡ None = ap (λ o. option_and_then (least_of wall) o) (near_reduces_not roll.sig near) in
+    let none : least_for wall roll ≡ None = ap (λ o. option_and_then (least_of wall) o)
+    (near_reduces_not roll.sig near) in
     ap (λ o. is_at_most o n && is_at_most (distinct_for wall roll) m) none
-    ∙ sym (ap (λ o. is_at_most o (contributors roll j) && is_at_most (distinct_for wall roll) (different_datasets roll j)) none))
-    (λ plain k. is_at_most (least_for wall roll) (number plain k) && is_at_most (distinct_for wall roll) (different plain k))
+    ∙ sym (ap (λ o. is_at_most o (contributors roll j)
+    && is_at_most (distinct_for wall roll) (different_datasets roll j)) none))
+    (λ plain k. is_at_most (least_for wall roll) (number plain k)
+    && is_at_most (distinct_for wall roll) (different plain k))
     (cases_Bool (is_neighbourly roll.sig))

@@ -1,5 +1,6 @@
 -- The star rule as a test of every dataset that there can be, and what a post that passes enters.
-use Rattle.std.proofs.Common.{◌≡◌, ℕ, ◌<◌, List, Bool, true, false, Option, Some, None, refl, ap, sym, ◌∙◌, ◌||◌, ◌&&◌}
+use Rattle.std.proofs.Common.{◌≡◌, ℕ, ◌<◌, List, Bool, true, false, Option, Some, None, refl, ap}
+use Rattle.std.proofs.Common.{sym, ◌∙◌, ◌||◌, ◌&&◌}
 use Rattle.std.specs.Prelude.{is_none, ◌==◌}
 use Rattle.std.specs.Ordering.{nat_cmp}
 use Rattle.std.specs.FinSet.{empty, insert, contains, contains-empty}
@@ -7,19 +8,24 @@ use Rattle.std.proofs.Math.Bool.{or-false}
 use Rattle.wall_labels.specs.declared.label.Label.{Label}
 use Rattle.wall_labels.specs.declared.ids.TheConstants.{DATASET_LIMIT}
 use Rattle.wall_rules.specs.Histories.{History, entered}
-use Rattle.wall_rules.specs.Rules.{PassesStar, HoldsNoRivals, IsLowest, IsHeldOther, joined, passes_star}
+use Rattle.wall_rules.specs.Rules.{PassesStar, HoldsNoRivals, IsLowest, IsHeldOther, joined}
+use Rattle.wall_rules.specs.Rules.{passes_star}
 use Rattle.wall_rules.proofs.WallRulesLemmas.{first_other-none, first_other-some, no_rivals-star}
 use Rattle.wall_verdict.specs.Charges.{dataset_in, is_that}
 use Rattle.wall_verdict.specs.Star.{MayPost, with_label}
 use Rattle.wall_verdict.proofs.ChargeLemmas.{contains_inserted}
 
-pub star_passed : (held : ℕ → Bool) (label : Label) → PassesStar held label → passes_star DATASET_LIMIT held label ≡ true
+pub star_passed : (held : ℕ → Bool) (label : Label) → PassesStar held label →
+    passes_star DATASET_LIMIT held label ≡ true
 star_passed held label h = ap is_none (first_other-none DATASET_LIMIT held label h)
 
-pub star_failed : (held : ℕ → Bool) (label : Label) (d : ℕ) → IsLowest (IsHeldOther held label) d → d < DATASET_LIMIT → passes_star DATASET_LIMIT held label ≡ false
+pub star_failed : (held : ℕ → Bool) (label : Label) (d : ℕ) → IsLowest (IsHeldOther held label) d →
+    d < DATASET_LIMIT → passes_star DATASET_LIMIT held label ≡ false
 star_failed held label d h low = ap is_none (first_other-some DATASET_LIMIT held label d h low)
 
-pub may_enter : (classes : List ℕ) (has : History) (p d : ℕ) (label : Option Label) → MayPost has p label → dataset_in label ≡ Some d → HoldsNoRivals classes (joined (has p) (insert empty d))
+pub may_enter : (classes : List ℕ) (has : History) (p d : ℕ) (label : Option Label) →
+    MayPost has p label → dataset_in label ≡ Some d →
+    HoldsNoRivals classes (joined (has p) (insert empty d))
 may_enter classes has p d (Some label) may e = no_rivals-star classes (has p) label d may e
 may_enter classes has p d None may e = absurd (cc)
 
@@ -32,8 +38,11 @@ and_true true c = refl
 and_true false c = refl
 
 -- a passed label enters the one dataset that it names
-pub label_entered : (has : History) (p d : ℕ) (label : Option Label) → dataset_in label ≡ Some d → entered has p (insert empty d) ≡ with_label has p label true
-label_entered has p d label e = λ i q c. (ap (λ b. has q c || ((q == p) && b)) (alone d c ∙ ap (λ o. is_that o c) (sym e)) ∙ ap (λ b. has q c || b) (and_true (q == p) (is_that (dataset_in label) c))) i
+pub label_entered : (has : History) (p d : ℕ) (label : Option Label) → dataset_in label ≡ Some d →
+    entered has p (insert empty d) ≡ with_label has p label true
+label_entered has p d label e = λ i q c. (ap (λ b. has q c || ((q == p) && b))
+    (alone d c ∙ ap (λ o. is_that o c) (sym e))
+    ∙ ap (λ b. has q c || b) (and_true (q == p) (is_that (dataset_in label) c))) i
 
 nothing_and : (b c : Bool) → ((b && false) && c) ≡ false
 nothing_and true c = refl
@@ -44,9 +53,16 @@ and_nothing true = refl
 and_nothing false = refl
 
 -- what names no dataset enters nothing
-pub no_dataset : (has : History) (p : ℕ) (label : Option Label) (passed : Bool) → dataset_in label ≡ None → has ≡ with_label has p label passed
-no_dataset has p label passed e = sym (λ i q c. (ap (λ o. has q c || (q == p && passed && is_that o c)) e ∙ (ap (λ b. has q c || b) (and_nothing (q == p && passed)) ∙ or-false (has q c))) i)
+pub no_dataset : (has : History) (p : ℕ) (label : Option Label) (passed : Bool) →
+    dataset_in label ≡ None → has ≡ with_label has p label passed
+no_dataset has p label passed e = sym (λ i q c. (ap
+    (λ o. has q c || (q == p && passed && is_that o c)) e
+    ∙ (ap (λ b. has q c || b) (and_nothing (q == p && passed)) ∙ or-false (has q c))) i)
 
 -- a barred post enters nothing
-pub nothing_entered : (has : History) (p : ℕ) (label : Option Label) (passed : Bool) → passed ≡ false → has ≡ with_label has p label passed
-nothing_entered has p label passed f = sym (λ i q c. (ap (λ x. has q c || (q == p && x && is_that (dataset_in label) c)) f ∙ (ap (λ b. has q c || b) (nothing_and (q == p) (is_that (dataset_in label) c)) ∙ or-false (has q c))) i)
+pub nothing_entered : (has : History) (p : ℕ) (label : Option Label) (passed : Bool) →
+    passed ≡ false → has ≡ with_label has p label passed
+nothing_entered has p label passed f = sym (λ i q c. (ap
+    (λ x. has q c || (q == p && x && is_that (dataset_in label) c)) f
+    ∙ (ap (λ b. has q c || b) (nothing_and (q == p) (is_that (dataset_in label) c))
+    ∙ or-false (has q c))) i)

@@ -1,6 +1,8 @@
--- What is charged to a member for what it gets: the datasets that an access would add to its history.
--- (Brewer and Nash 1989: sanitised information may be read by anybody. When a result is sanitised, and what is charged to whom, are own rules.)
-use Rattle.std.specs.Prelude.{ℕ, Bool, false, not, ◌&&◌, ◌==◌, Option, Some, None, nat_le, count_by, is_some, if◌then◌else◌}
+-- What is charged to a member for what it gets: the datasets that an access would add to its
+-- history. (Brewer and Nash 1989: sanitised information may be read by anybody. When a result is
+-- sanitised, and what is charged to whom, are own rules.)
+use Rattle.std.specs.Prelude.{ℕ, Bool, false, not, ◌&&◌, ◌==◌, Option, Some, None, nat_le, count_by}
+use Rattle.std.specs.Prelude.{is_some, if◌then◌else◌}
 use Rattle.std.specs.Option.{option_and_then}
 use Rattle.std.specs.List.{list_any}
 use Rattle.wall_labels.specs.declared.label.Label.{Label}
@@ -46,13 +48,16 @@ is_another before None = false
 
 -- rank i contributes to rank j a dataset that no rank below it contributes
 abbrev pub contributes_another : Roll → (i j : ℕ) → Bool
-contributes_another roll i j = is_another (λ d. contributed_below roll j i d) (contribution roll i j)
+contributes_another roll i j =
+    is_another (λ d. contributed_below roll j i d) (contribution roll i j)
 
--- how many different datasets the contributors of rank j have: each counts at the lowest rank that contributes it
+-- how many different datasets the contributors of rank j have: each counts at the lowest rank that
+-- contributes it
 abbrev pub different_datasets : Roll → (j : ℕ) → ℕ
 different_datasets roll j = count_by (λ i. contributes_another roll i j) (ranks roll)
 
--- the least numbers that the policy states for the operation of a kind that reduces: of contributors, and of different datasets among them
+-- the least numbers that the policy states for the operation of a kind that reduces: of
+-- contributors, and of different datasets among them
 abbrev pub least_for : ChineseWall → Roll → Option ℕ
 least_for wall roll = option_and_then (least_of wall) (reduction roll.sig)
 
@@ -63,8 +68,9 @@ abbrev pub is_at_most : Option ℕ → ℕ → Bool
 is_at_most (Some least) n = nat_le least n
 is_at_most None n = false
 
--- What rank j gets is sanitised: the kind reduces, and the policy states for its operation two least numbers, which are both reached: its
--- contributors the one, and the different datasets among them the other.
+-- What rank j gets is sanitised: the kind reduces, and the policy states for its operation two
+-- least numbers, which are both reached: its contributors the one, and the different datasets among
+-- them the other.
 unfoldable pub sanitised : ChineseWall → Roll → (j : ℕ) → Bool
 sanitised wall roll j =
     is_at_most (least_for wall roll) (contributors roll j)

@@ -25,6 +25,8 @@ is_granted (Denied rule p label) = false
 abbrev pub with_charges : ChineseWall → History → Roll → History
 with_charges wall has roll p d = has p d || charged_to wall roll p d
 
--- The histories after a verdict: a grant enters what is charged to each member, a denial enters nothing. (Own rule.)
+-- The histories after a verdict: a grant enters what is charged to each member, a denial enters
+-- nothing. (Own rule.)
 abbrev pub settled : ChineseWall → History → Roll → History
-settled wall has roll p d = has p d || (is_granted (verdict wall has roll) && charged_to wall roll p d)
+settled wall has roll p d =
+    has p d || (is_granted (verdict wall has roll) && charged_to wall roll p d)

@@ -1,18 +1,29 @@
 -- What comes to the receivers of an instance, one receiver after the other: which ranks can reach
 -- a receiver, and for which kinds what has come to one receiver comes to the next too.
-use Rattle.std.specs.Prelude.{◌≡◌, ℕ, ◌+◌, ◌<◌, ◌≤◌, ◌==◌, nat_lt, Bool, true, false, List, slice_index_or, Option, count_by, is_some, if◌then◌else◌}
+use Rattle.std.specs.Prelude.{◌≡◌, ℕ, ◌+◌, ◌<◌, ◌≤◌, ◌==◌, nat_lt, Bool, true, false, List}
+use Rattle.std.specs.Prelude.{slice_index_or, Option, count_by, is_some, if◌then◌else◌}
 use Rattle.std.specs.Option.{option_and_then}
 use Rattle.std.specs.List.{list_any}
 use Rattle.std.specs.FinSet.{contains}
 use Rattle.wall_policy.specs.Rivals.{are_rivals}
 use Rattle.mpi_cart.specs.Grids.{below}
 use Rattle.coll_routes.specs.declared.signature.Signature.{Signature}
-use Rattle.coll_routes.specs.declared.signature.Signature.TheVariants.{Bcast, Gather, Gatherv, Scatter, Scatterv, Allgather, Allgatherv, Alltoall, Alltoallv, Reduce, Allreduce, ReduceScatter, ReduceScatterBlock, Scan, Exscan, NeighborAllgather, NeighborAllgatherv, NeighborAlltoall, NeighborAlltoallv}
+use Rattle.coll_routes.specs.declared.signature.Signature.TheVariants.{Bcast, Gather, Gatherv}
+use Rattle.coll_routes.specs.declared.signature.Signature.TheVariants.{Scatter, Scatterv, Allgather}
+use Rattle.coll_routes.specs.declared.signature.Signature.TheVariants.{Allgatherv, Alltoall}
+use Rattle.coll_routes.specs.declared.signature.Signature.TheVariants.{Alltoallv, Reduce, Allreduce}
+use Rattle.coll_routes.specs.declared.signature.Signature.TheVariants.{ReduceScatter}
+use Rattle.coll_routes.specs.declared.signature.Signature.TheVariants.{ReduceScatterBlock, Scan}
+use Rattle.coll_routes.specs.declared.signature.Signature.TheVariants.{Exscan, NeighborAllgather}
+use Rattle.coll_routes.specs.declared.signature.Signature.TheVariants.{NeighborAllgatherv}
+use Rattle.coll_routes.specs.declared.signature.Signature.TheVariants.{NeighborAlltoall}
+use Rattle.coll_routes.specs.declared.signature.Signature.TheVariants.{NeighborAlltoallv}
 use Rattle.coll_routes.specs.declared.roll.Roll.{Roll}
 use Rattle.wall_verdict.specs.declared.inflow.Inflow.{Inflow}
 use Rattle.coll_routes.specs.Rolls.{neighbour_in}
 use Rattle.coll_routes.specs.Signatures.{is_neighbourly}
-use Rattle.wall_verdict.specs.Charges.{contribution, contributors, contributed, different_datasets, is_that, is_another}
+use Rattle.wall_verdict.specs.Charges.{contribution, contributors, contributed, different_datasets}
+use Rattle.wall_verdict.specs.Charges.{is_that, is_another}
 
 abbrev pub from_root : (root size : ℕ) → ℕ
 from_root root size = if nat_lt root size then root else 0
@@ -90,12 +101,13 @@ IsInflowOf classes roll j v = IsInflow classes (λ i. contribution roll i j) v.r
 abbrev pub from_slot : Roll → (t j : ℕ) → Option ℕ
 from_slot roll t j = option_and_then (λ i. contribution roll i j) (neighbour_in roll.shape.grid j t)
 
--- so far for receiver j, where the kind goes between neighbours: of its neighbours in the slots below n
+-- so far for receiver j, where the kind goes between neighbours: of its neighbours in the slots
+-- below n
 abbrev pub IsTakenFromSlots : List ℕ → Roll → (j n : ℕ) → Inflow → Type 0
 IsTakenFromSlots classes roll j n v = IsInflow classes (λ t. from_slot roll t j) n v
 
--- All that comes to receiver j. Between neighbours both numbers may be others, since one rank can be
--- its neighbour in two slots; no such kind reduces, and then they don't matter.
+-- All that comes to receiver j. Between neighbours both numbers may be others, since one rank can
+-- be its neighbour in two slots; no such kind reduces, and then they don't matter.
 pub record IsWhole (classes : List ℕ) (roll : Roll) (j : ℕ) (v : Inflow) : Type 0 where
   pub number : is_neighbourly roll.sig ≡ false → v.number ≡ contributors roll j
   pub different : is_neighbourly roll.sig ≡ false → v.different ≡ different_datasets roll j

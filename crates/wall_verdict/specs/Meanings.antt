@@ -21,9 +21,11 @@ pub record IsChargedFrom (wall : ChineseWall) (roll : Roll) (j i d : ℕ) : Type
 
 -- process p has had access to e, or e is charged to rank j from a rank below i
 abbrev pub IsHeldBefore : ChineseWall → History → Roll → (j p i e : ℕ) → Type 0
-IsHeldBefore wall has roll j p i e = IsTrue (has p e) ⊎ ((k : ℕ) × (k < i) × IsChargedFrom wall roll j k e)
+IsHeldBefore wall has roll j p i e =
+    IsTrue (has p e) ⊎ ((k : ℕ) × (k < i) × IsChargedFrom wall roll j k e)
 
--- What is charged to rank j from rank i has a rival that its process has had access to, or that is charged to j from a rank below i.
+-- What is charged to rank j from rank i has a rival that its process has had access to, or that is
+-- charged to j from a rank below i.
 pub record Offends (wall : ChineseWall) (has : History) (roll : Roll) (j i : ℕ) : Type 0 where
   pub process : ℕ
   pub dataset : ℕ
@@ -47,14 +49,17 @@ abbrev pub IsBefore : (k m j i : ℕ) → Type 0
 IsBefore k m j i = (k < j) ⊎ ((k ≡ j) × (m < i))
 
 -- receiver j and contributor i offend, and no pair before them does
-pub record IsLeastOffence (wall : ChineseWall) (has : History) (roll : Roll) (j i : ℕ) : Type 0 where
+pub record IsLeastOffence (wall : ChineseWall) (has : History) (roll : Roll) (j i : ℕ)
+    : Type 0 where
   pub receiver : j < roll.shape.size
   pub contributor : i < roll.shape.size
   pub offends : Offends wall has roll j i
-  pub least : (k m : ℕ) → k < roll.shape.size → m < roll.shape.size → IsBefore k m j i → ¬ (Offends wall has roll k m)
+  pub least : (k m : ℕ) → k < roll.shape.size → m < roll.shape.size → IsBefore k m j i →
+      ¬ (Offends wall has roll k m)
 
 abbrev pub NobodyOffends : ChineseWall → History → Roll → Type 0
-NobodyOffends wall has roll = (j i : ℕ) → j < roll.shape.size → i < roll.shape.size → ¬ (Offends wall has roll j i)
+NobodyOffends wall has roll =
+    (j i : ℕ) → j < roll.shape.size → i < roll.shape.size → ¬ (Offends wall has roll j i)
 
 -- a denial names this process and label: those of the lowest rank that was barred
 pub record NamesBarred (roll : Roll) (process : ℕ) (label : Label) : Type 0 where
@@ -63,8 +68,10 @@ pub record NamesBarred (roll : Roll) (process : ℕ) (label : Label) : Type 0 wh
   pub is_member : slice_get roll.members rank ≡ Some process
   pub is_label : label_of roll rank ≡ Some label
 
--- a denial names this process and label: the receiver, and the contributor's label, of the least pair that offends
-pub record NamesOffence (wall : ChineseWall) (has : History) (roll : Roll) (process : ℕ) (label : Label) : Type 0 where
+-- a denial names this process and label: the receiver, and the contributor's label, of the least
+-- pair that offends
+pub record NamesOffence (wall : ChineseWall) (has : History) (roll : Roll) (process : ℕ)
+    (label : Label) : Type 0 where
   pub receiver : ℕ
   pub contributor : ℕ
   pub least : IsLeastOffence wall has roll receiver contributor
@@ -75,8 +82,10 @@ pub record NamesOffence (wall : ChineseWall) (has : History) (roll : Roll) (proc
 abbrev pub IsVerdict : ChineseWall → History → Roll → Verdict → Type 0
 IsVerdict wall has roll Granted = NobodyIsBarred roll × NobodyOffends wall has roll
 IsVerdict wall has roll (Denied Star process label) = NamesBarred roll process label
-IsVerdict wall has roll (Denied Simple process label) = NobodyIsBarred roll × NamesOffence wall has roll process label
+IsVerdict wall has roll (Denied Simple process label) =
+    NobodyIsBarred roll × NamesOffence wall has roll process label
 
 -- Each member's history, together with what is charged to it, holds no two rivals.
 abbrev pub MembersStayApart : ChineseWall → History → Roll → Type 0
-MembersStayApart wall has roll = (j p : ℕ) → slice_get roll.members j ≡ Some p → HoldsNoRivals wall.classes (λ d. has p d || charged wall roll j d)
+MembersStayApart wall has roll = (j p : ℕ) → slice_get roll.members j ≡ Some p →
+    HoldsNoRivals wall.classes (λ d. has p d || charged wall roll j d)

@@ -16,6 +16,8 @@ abbrev pub star : History → (p : ℕ) → Option Label → Bool
 star has p None = true
 star has p (Some label) = passes_star DATASET_LIMIT (has p) label
 
--- a post that passed enters its label in the poster's history at once (own rule: a write is an access)
+-- a post that passed enters its label in the poster's history at once (own rule: a write is an
+-- access)
 abbrev pub with_label : History → (poster : ℕ) → Option Label → (passed : Bool) → History
-with_label has poster label passed p d = has p d || (p == poster && passed && is_that (dataset_in label) d)
+with_label has poster label passed p d =
+    has p d || (p == poster && passed && is_that (dataset_in label) d)

@@ -1,6 +1,8 @@
--- The verdict on a full instance, by the two rules of the wall. (Brewer and Nash 1989: simple security and the *-property. That an instance
--- is judged as one, and which rank a denial names, are own rules.)
-use Rattle.std.specs.Prelude.{ℕ, List, Bool, false, not, ◌&&◌, ◌||◌, map, slice_get, Option, Some, None, unwrap_or, find, flat_map}
+-- The verdict on a full instance, by the two rules of the wall. (Brewer and Nash 1989: simple
+-- security and the *-property. That an instance is judged as one, and which rank a denial names,
+-- are own rules.)
+use Rattle.std.specs.Prelude.{ℕ, List, Bool, false, not, ◌&&◌, ◌||◌, map, slice_get, Option, Some}
+use Rattle.std.specs.Prelude.{None, unwrap_or, find, flat_map}
 use Rattle.wall_labels.specs.declared.label.Label.{Label}
 use Rattle.wall_labels.specs.declared.label.Label.TheVariants.{Public}
 use Rattle.wall_policy.specs.Policy.{ChineseWall}
@@ -22,11 +24,14 @@ abbrev pub meets_rival : List ℕ → (held : ℕ → Bool) → Option ℕ → B
 meets_rival classes held (Some d) = clashes classes held d
 meets_rival classes held None = false
 
--- what rank i contributes to rank j has a rival in the history of j's process, or among what ranks below i contribute to j
+-- what rank i contributes to rank j has a rival in the history of j's process, or among what ranks
+-- below i contribute to j
 abbrev pub meets : List ℕ → History → Roll → (j i : ℕ) → Bool
-meets classes has roll j i = meets_rival classes (λ e. has (member roll j) e || contributed_below roll j i e) (contribution roll i j)
+meets classes has roll j i = meets_rival classes
+    (λ e. has (member roll j) e || contributed_below roll j i e) (contribution roll i j)
 
--- Receiver j and rank i offend: what j gets isn't sanitised, and what i contributes to it meets a rival.
+-- Receiver j and rank i offend: what j gets isn't sanitised, and what i contributes to it meets a
+-- rival.
 abbrev pub offends : ChineseWall → History → Roll → (j i : ℕ) → Bool
 offends wall has roll j i = not (sanitised wall roll j) && meets wall.classes has roll j i
 
@@ -39,7 +44,8 @@ abbrev pub first_barred : Roll → Option ℕ
 first_barred roll = find (is_barred roll) (ranks roll)
 
 abbrev pub first_offence : ChineseWall → History → Roll → Option (ℕ × ℕ)
-first_offence wall has roll = find (λ (pair : ℕ × ℕ). offends wall has roll pair.0 pair.1) (pairs roll)
+first_offence wall has roll =
+    find (λ (pair : ℕ × ℕ). offends wall has roll pair.0 pair.1) (pairs roll)
 
 -- the label that a denial names; who is named has one
 abbrev pub told : Option Label → Label
@@ -50,6 +56,7 @@ verdict_by roll (Some i) offence = Denied Star (member roll i) (told (label_of r
 verdict_by roll None (Some pair) = Denied Simple (member roll pair.0) (told (label_of roll pair.1))
 verdict_by roll None None = Granted
 
--- The verdict: denied by the star rule if a post was barred, else by the simple rule if a pair offends, else granted.
+-- The verdict: denied by the star rule if a post was barred, else by the simple rule if a pair
+-- offends, else granted.
 unfoldable pub verdict : ChineseWall → History → Roll → Verdict
 verdict wall has roll = verdict_by roll (first_barred roll) (first_offence wall has roll)

@@ -3,7 +3,9 @@ ghost use Rattle.std.specs.Prelude.{◌≡◌, ℕ, ◌<◌, ◌&&◌, if◌then
 ghost use Rattle.std.specs.FinSet as set;
 ghost use Rattle.coll_routes.specs.Fit.{IsFit};
 ghost use Rattle.coll_routes.specs.Rolls.{label_of};
-ghost use Rattle.wall_verdict.specs.Charges.{dataset_in, contribution, contributors, different_datasets, contributed, least_for, distinct_for, is_at_most, sanitised, charged};
+ghost use Rattle.wall_verdict.specs.Charges.{dataset_in, contribution, contributors};
+ghost use Rattle.wall_verdict.specs.Charges.{different_datasets, contributed, least_for};
+ghost use Rattle.wall_verdict.specs.Charges.{distinct_for, is_at_most, sanitised, charged};
 
 use coll_routes::{Roll, routed};
 use wall_labels::{DatasetId, Label, LabelSet};
@@ -95,9 +97,12 @@ fn reaches(least: Option<u32>, number: u32) -> bool
     }
 }
 
-/// Whether the policy takes what so many ranks contribute to one, of so many different datasets, for sanitised.
+/// Whether the policy takes what so many ranks contribute to one, of so many different datasets,
+/// for sanitised.
 pub fn is_enough(policy: &Policy, roll: &Roll, number: u32, different: u32) -> bool
-    ensures { result ≡ (is_at_most (least_for policy.now roll.now) number && is_at_most (distinct_for policy.now roll.now) different) }
+    ensures { result
+        ≡ (is_at_most (least_for policy.now roll.now) number
+        && is_at_most (distinct_for policy.now roll.now) different) }
 {
     let Some(op) = roll.sig.op() else {
         return false;
@@ -105,8 +110,9 @@ pub fn is_enough(policy: &Policy, roll: &Roll, number: u32, different: u32) -> b
     reaches(policy.least(op), number) && reaches(policy.distinct(op), different)
 }
 
-/// Whether what the rank gets is sanitised: the kind reduces, and the policy states for its operation two least numbers, which are both
-/// reached: the contributors of the rank the one, and the different datasets among them the other.
+/// Whether what the rank gets is sanitised: the kind reduces, and the policy states for its
+/// operation two least numbers, which are both reached: the contributors of the rank the one, and
+/// the different datasets among them the other.
 #[tactic(auto, unfolding(crate::specs::Charges::sanitised))]
 pub fn sanitised(policy: &Policy, roll: &Roll, rank: u32) -> bool
     requires fit { IsFit roll.now }
@@ -138,7 +144,8 @@ fn contributed(roll: &Roll, to: u32) -> LabelSet
     datasets
 }
 
-/// The datasets that are charged to the rank: none if what it gets is sanitised, else those of the labels of its contributors.
+/// The datasets that are charged to the rank: none if what it gets is sanitised, else those of the
+/// labels of its contributors.
 #[tactic(auto, using(crate::proofs::MeetLemmas::sanitised_charges_none, crate::proofs::MeetLemmas::unsanitised_charges))]
 pub fn charged(policy: &Policy, roll: &Roll, rank: u32) -> LabelSet
     requires fit { IsFit roll.now }

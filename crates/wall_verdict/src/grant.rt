@@ -32,7 +32,8 @@ fn grant(policy: &Policy, histories: &mut Histories, roll: &Roll)
     }
 }
 
-/// The verdict on a full instance. A grant enters in each member's history what is charged to it, a denial enters nothing.
+/// The verdict on a full instance. A grant enters in each member's history what is charged to it, a
+/// denial enters nothing.
 #[tactic(auto, using(crate::proofs::GrantLemmas::settled_granted, crate::proofs::GrantLemmas::settled_denied))]
 pub fn settle(policy: &Policy, histories: &mut Histories, roll: &Roll) -> Verdict
     requires fit { IsFit roll.now }

@@ -1,12 +1,16 @@
 //! What comes to the receivers of an instance, kept from one to the next where it is the same.
-ghost use Rattle.std.specs.Prelude.{◌≡◌, ℕ, ◌+◌, ◌<◌, ◌≤◌, ◌^◌, ◌-◌, slice_index_or, if◌then◌else◌, IfSome, true, false};
+ghost use Rattle.std.specs.Prelude.{◌≡◌, ℕ, ◌+◌, ◌<◌, ◌≤◌, ◌^◌, ◌-◌, slice_index_or, if◌then◌else◌};
+ghost use Rattle.std.specs.Prelude.{IfSome, true, false};
 ghost use Rattle.std.specs.FinSet as sets;
 ghost use Rattle.coll_routes.specs.Fit.{IsFit, IsSized};
 ghost use Rattle.coll_routes.specs.Rolls.{places as places_of, neighbour_in};
 ghost use Rattle.coll_routes.specs.Signatures.{is_neighbourly};
 ghost use Rattle.wall_rules.specs.Histories.{AddsRivals};
-ghost use Rattle.wall_verdict.specs.Charges.{contributors, different_datasets, contributed, charged};
-ghost use Rattle.wall_verdict.specs.Inflows.{start_of, end_of, is_alike, from_root, past_root, all_at, from_slot, IsTaken, IsTakenFromSlots, IsInflowOf, IsWhole, Serves};
+ghost use Rattle.wall_verdict.specs.Charges.{contributors, different_datasets, contributed};
+ghost use Rattle.wall_verdict.specs.Charges.{charged};
+ghost use Rattle.wall_verdict.specs.Inflows.{start_of, end_of, is_alike, from_root, past_root};
+ghost use Rattle.wall_verdict.specs.Inflows.{all_at, from_slot, IsTaken, IsTakenFromSlots};
+ghost use Rattle.wall_verdict.specs.Inflows.{IsInflowOf, IsWhole, Serves};
 
 use super::charge::{add_another, contribution, is_enough};
 use coll_routes::{Roll, Shape, Signature, places};
@@ -44,8 +48,8 @@ impl Inflow {
         }
     }
 
-    /// Takes what comes to the next receiver, keeping what comes to it as to the one before. Between
-    /// neighbours asks its neighbours alone, and keeps nothing.
+    /// Takes what comes to the next receiver, keeping what comes to it as to the one before.
+    /// Between neighbours asks its neighbours alone, and keeps nothing.
     #[tactic(auto, using(crate::proofs::SpanLemmas::end_within))]
     pub fn turn_to(&mut self, histories: &Histories, roll: &Roll, to: u32)
         requires fit { IsFit roll.now }
@@ -113,7 +117,8 @@ impl Inflow {
     fn take_slots(&mut self, histories: &Histories, roll: &Roll, to: u32)
         requires fit { IsFit roll.now }
         requires to { to < roll.now.shape.size }
-        ensures { IsTakenFromSlots histories.now.classes roll.now to (places_of roll.now to) self.new }
+        ensures { IsTakenFromSlots histories.now.classes roll.now to (places_of roll.now to)
+            self.new }
     {
         *self = Inflow::before(0);
         for slot in 0..places(roll, to) {
@@ -139,7 +144,8 @@ impl Inflow {
         requires number { self.old.number < 2 ^ 32 - 1 }
         requires different { self.old.different < 2 ^ 32 - 1 }
         ensures number { self.new.number ≡ self.old.number + 1 }
-        ensures different { self.new.different ≡ self.old.different + (if sets.contains self.old.datasets dataset then 0 else 1) }
+        ensures different { self.new.different
+            ≡ self.old.different + (if sets.contains self.old.datasets dataset then 0 else 1) }
         ensures datasets { self.new.datasets ≡ sets.insert self.old.datasets dataset }
         ensures rivals { AddsRivals histories.now.classes dataset self.old.rivals self.new.rivals }
     {
@@ -151,8 +157,10 @@ impl Inflow {
 
 /// The datasets that are charged to the receiver.
 pub fn charges(policy: &Policy, roll: &Roll, to: u32, inflow: &Inflow) -> LabelSet
-    requires number { is_neighbourly roll.now.sig ≡ false → inflow.now.number ≡ contributors roll.now to }
-    requires different { is_neighbourly roll.now.sig ≡ false → inflow.now.different ≡ different_datasets roll.now to }
+    requires number { is_neighbourly roll.now.sig ≡ false →
+        inflow.now.number ≡ contributors roll.now to }
+    requires different { is_neighbourly roll.now.sig ≡ false →
+        inflow.now.different ≡ different_datasets roll.now to }
     requires datasets { (d : ℕ) → sets.contains inflow.now.datasets d ≡ contributed roll.now to d }
     requires to { to < roll.now.shape.size }
     ensures { (d : ℕ) → sets.contains result d ≡ charged policy.now roll.now to d }

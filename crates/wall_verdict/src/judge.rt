@@ -5,7 +5,8 @@ ghost use Rattle.wall_rules.specs.Histories.{has, HoldsOneOf, NobodyHoldsRivals}
 ghost use Rattle.wall_rules.specs.Rules.{HoldsNoRivals, joined, clashes};
 ghost use Rattle.coll_routes.specs.Fit.{IsFit};
 ghost use Rattle.coll_routes.specs.Rolls.{ranks, label_of, is_barred};
-ghost use Rattle.wall_verdict.specs.Verdicts.{meets, offends, first_barred, first_offence, told, verdict};
+ghost use Rattle.wall_verdict.specs.Verdicts.{meets, offends, first_barred, first_offence, told};
+ghost use Rattle.wall_verdict.specs.Verdicts.{verdict};
 ghost use Rattle.wall_verdict.specs.Inflows.{IsWhole};
 ghost use Rattle.wall_verdict.specs.Meanings.{IsVerdict, MembersStayApart};
 ghost use Rattle.wall_verdict.specs.declared.verdict.Verdict.TheVariants.{Granted};
@@ -28,21 +29,25 @@ pub fn keep_apart(histories: &Histories)
     let _ = histories.has(process, dataset);
 }
 
-/// Whether the dataset has a rival in the process's history or in the set. What is in the set has none.
+/// Whether the dataset has a rival in the process's history or in the set. What is in the set has
+/// none.
 #[tactic(auto, using(crate::proofs::MeetLemmas::held_is_clear))]
 fn clashes(histories: &Histories, process: ProcessId, held: &LabelSet, dataset: DatasetId) -> bool
     requires { HoldsNoRivals histories.now.classes (joined (has histories.now process) held.now) }
-    ensures { result ≡ clashes histories.now.classes (joined (has histories.now process) held.now) dataset }
+    ensures { result
+        ≡ clashes histories.now.classes (joined (has histories.now process) held.now) dataset }
 {
     !held.contains(dataset) && histories.clash(process, held, dataset).is_some()
 }
 
-/// The lowest rank whose contribution to this one meets a rival, in its history or among those of lower ranks.
+/// The lowest rank whose contribution to this one meets a rival, in its history or among those of
+/// lower ranks.
 #[tactic(auto, using(crate::proofs::ChargeLemmas::brought_none, crate::proofs::ChargeLemmas::brought_more, crate::proofs::ChargeLemmas::brought_same, crate::proofs::MeetLemmas::meets_is, crate::proofs::MeetLemmas::meets_none, crate::proofs::MeetLemmas::stays_apart, crate::proofs::BelowLemmas::find_none_more, crate::proofs::BelowLemmas::find_found))]
 fn first_meeting(histories: &Histories, roll: &Roll, to: u32) -> Option<u32>
     requires fit { IsFit roll.now }
     requires to { to < roll.now.shape.size }
-    ensures least { result ≡ find (meets histories.now.classes (has histories.now) roll.now to) (ranks roll.now) }
+    ensures least { result
+        ≡ find (meets histories.now.classes (has histories.now) roll.now to) (ranks roll.now) }
     ensures within { IfSome result (λ i. i < roll.now.shape.size) }
 {
     keep_apart(histories);
@@ -83,7 +88,8 @@ fn first_offender(
     requires classes { histories.now.classes ≡ policy.now.classes }
     requires to { to < roll.now.shape.size }
     requires whole { IsWhole histories.now.classes roll.now to inflow.now }
-    ensures least { result ≡ find (offends policy.now (has histories.now) roll.now to) (ranks roll.now) }
+    ensures least { result
+        ≡ find (offends policy.now (has histories.now) roll.now to) (ranks roll.now) }
     ensures within { IfSome result (λ i. i < roll.now.shape.size) }
 {
     if is_enough(policy, roll, inflow.number, inflow.different) {
@@ -166,14 +172,16 @@ fn judge(policy: &Policy, histories: &Histories, roll: &Roll) -> Verdict
     }
 }
 
-/// The verdict on a full instance. Where a post was barred, it is denied by the star rule, naming the lowest such rank. Else it is denied by
-/// the simple rule if a dataset that is charged to a receiver has a rival in its history, or among those charged to it from lower ranks; of
-/// the pairs of a receiver and a contributor for which that is so the least is named, the lowest receiver first. Else it is granted.
+/// The verdict on a full instance. Where a post was barred, it is denied by the star rule, naming
+/// the lowest such rank. Else it is denied by the simple rule if a dataset that is charged to a
+/// receiver has a rival in its history, or among those charged to it from lower ranks; of the pairs
+/// of a receiver and a contributor for which that is so the least is named, the lowest receiver
+/// first. Else it is granted.
 ///
-/// Where all receivers get alike from the ranks that reach them, as in an allreduce, an allgather or
-/// a scan, looks at each rank once, at the masks of each receiver, and, where one offends, at each
-/// rank for it once more. Between neighbours looks at the neighbours of each rank, and, where one
-/// offends, at each rank for it too. In an alltoallv looks at each pair of ranks.
+/// Where all receivers get alike from the ranks that reach them, as in an allreduce, an allgather
+/// or a scan, looks at each rank once, at the masks of each receiver, and, where one offends, at
+/// each rank for it once more. Between neighbours looks at the neighbours of each rank, and, where
+/// one offends, at each rank for it too. In an alltoallv looks at each pair of ranks.
 pub fn decide(policy: &Policy, histories: &Histories, roll: &Roll) -> Verdict
     requires fit { IsFit roll.now }
     requires classes { histories.now.classes ≡ policy.now.classes }

@@ -1,4 +1,5 @@
-//! The verdict on a full instance, by the two rules of the Chinese Wall. (Brewer and Nash 1989; MPI 4.1, chapter 6.)
+//! The verdict on a full instance, by the two rules of the Chinese Wall. (Brewer and Nash 1989; MPI
+//! 4.1, chapter 6.)
 //!
 //! Ranks count from 0. No call takes memory.
 #![tactic(auto)]

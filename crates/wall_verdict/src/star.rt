@@ -10,7 +10,8 @@ use super::judge::keep_apart;
 use wall_labels::{Label, LabelSet, ProcessId};
 use wall_rules::Histories;
 
-/// Whether the process may post elements with this label. A post that gives no element has no label, and always passes.
+/// Whether the process may post elements with this label. A post that gives no element has no
+/// label, and always passes.
 pub fn passes_star(histories: &Histories, process: ProcessId, label: &Option<Label>) -> bool
     ensures test { result ≡ star (has histories.now) process label.now }
     ensures rule { IsTrue result ↔ MayPost (has histories.now) process label.now }
@@ -35,8 +36,8 @@ fn passes(histories: &Histories, process: ProcessId, label: Label) -> bool
     }
 }
 
-/// Enters the dataset of the label in the history of the process if the process may post elements with it, and tells whether it may.
-/// (A write is an access.)
+/// Enters the dataset of the label in the history of the process if the process may post elements
+/// with it, and tells whether it may. (A write is an access.)
 #[tactic(auto, using(crate::proofs::StarLemmas::nothing_entered))]
 pub fn enter_label(histories: &mut Histories, process: ProcessId, label: &Option<Label>) -> bool
     ensures passes { result ≡ star (has histories.old) process label.now }

@@ -15,8 +15,9 @@ pub enum Rule {
 #[derive(Clone, Copy, Debug, PartialEq, Eq)]
 pub enum Verdict {
     Granted,
-    /// By the star rule the process and label of the lowest rank whose post was barred; by the simple rule the receiver and the label that it
-    /// may not have, of the least such pair of receiver and contributor.
+    /// By the star rule the process and label of the lowest rank whose post was barred; by the
+    /// simple rule the receiver and the label that it may not have, of the least such pair of
+    /// receiver and contributor.
     Denied {
         rule: Rule,
         process: ProcessId,

@@ -1,6 +1,7 @@
 use Rattle.std.proofs.Common.{◌≡◌, ℕ, Bool, ◌&&◌, ap, arith}
 use Rattle.wall_labels.specs.Rows.{is_set, differs}
-use Rattle.wall_labels.proofs.RowLemmas.{lowest_is, none_before, none_more, none_at_all, word_of_others}
+use Rattle.wall_labels.proofs.RowLemmas.{lowest_is, none_before, none_more, none_at_all}
+use Rattle.wall_labels.proofs.RowLemmas.{word_of_others}
 use Rattle.wall_labels.proofs.label_set.lowest_other.Goals as goal
 
 pub returns-then-word-ne0-clause-found : goal.returns-then-word-ne0-clause-found
@@ -9,7 +10,9 @@ returns-then-word-ne0-clause-found c =
     let p = c.loop-place.place in
     let w = c.without-word.result in
     rw c.lowest.ensures (
-    lowest_is P p w (λ k e. word_of_others c.args.words.now c.args.other.now p w k e (c.without-word.ensures k e)) (omega arith) (omega arith)
+    lowest_is P p w (λ k e.
+    word_of_others c.args.words.now c.args.other.now p w k e (c.without-word.ensures k e))
+    (omega arith) (omega arith)
     )
 
 pub returns-then-word-ne0-clause-lowest : goal.returns-then-word-ne0-clause-lowest
@@ -17,7 +20,9 @@ returns-then-word-ne0-clause-lowest c k lt =
     let P : ℕ → Bool = λ k. is_set c.args.words.now k && differs c.args.other.now k in
     let p = c.loop-place.place in
     let w = c.without-word.result in
-    none_before P p w (λ k e. word_of_others c.args.words.now c.args.other.now p w k e (c.without-word.ensures k e)) (omega arith) (omega arith) c.loop-place.invariant k (
+    none_before P p w (λ k e.
+    word_of_others c.args.words.now c.args.other.now p w k e (c.without-word.ensures k e))
+    (omega arith) (omega arith) c.loop-place.invariant k (
     omega arith
     )
 
@@ -26,7 +31,9 @@ loop-place-preserved c =
     let P : ℕ → Bool = λ k. is_set c.args.words.now k && differs c.args.other.now k in
     let p = c.loop-place.place in
     let w = c.without-word.result in
-    none_more P p w (λ k e. word_of_others c.args.words.now c.args.other.now p w k e (c.without-word.ensures k e)) (omega arith) c.loop-place.invariant
+    none_more P p w (λ k e.
+    word_of_others c.args.words.now c.args.other.now p w k e (c.without-word.ensures k e))
+    (omega arith) c.loop-place.invariant
 
 pub returns-clause-none : goal.returns-clause-none
 returns-clause-none c =

@@ -9,7 +9,8 @@ returns-clause-classes c = c.in_ok-classes.ensures ∙ ap (class_numbers 0) c.cl
 
 pub returns-clause-homes : goal.returns-clause-homes
 returns-clause-homes c =
-    c.in_ok-homes.ensures ∙ (λ i. map (λ p. home_in (c.requires.datasets i) p.home) (c.processes.ensures i))
+    c.in_ok-homes.ensures
+    ∙ (λ i. map (λ p. home_in (c.requires.datasets i) p.home) (c.processes.ensures i))
 
 pub returns-clause-leasts : goal.returns-clause-leasts
 returns-clause-leasts c = c.in_ok-leasts.ensures ∙ ap leasts_in c.rules.ensures

@@ -4,8 +4,10 @@ use Rattle.wall_policy.proofs.numbering.dataset_table.Goals as goal
 
 pub returns-then-branch : goal.returns-then-branch
 returns-then-branch c =
-    table_made c.in_ok-add_datasets.field-0 c.new-table.result c.add_datasets.new.table (dataset_names c.args.classes.now)
-    c.new-table.ensures c.in_ok-add_datasets.ensures.fresh c.in_ok-add_datasets.ensures.added c.if-branch.true
+    table_made c.in_ok-add_datasets.field-0 c.new-table.result c.add_datasets.new.table
+    (dataset_names c.args.classes.now)
+    c.new-table.ensures c.in_ok-add_datasets.ensures.fresh c.in_ok-add_datasets.ensures.added
+    c.if-branch.true
 
 pub returns-else-branch : goal.returns-else-branch
 returns-else-branch c =

@@ -7,5 +7,6 @@ use Rattle.wall_policy.proofs.read.tree_of_bytes.Goals as goal
 pub returns-in-Ok-table_from_str-clause-tree : goal.returns-in-Ok-table_from_str-clause-tree
 unfolding tree_of
 returns-in-Ok-table_from_str-clause-tree c =
-    let whole : nat_eq (utf8_valid_len c.args.bytes.now) (length c.args.bytes.now) ≡ true = eq-eqb _ _ (utf8_valid_len-IsUtf8 c.args.bytes.now c.in-Ok.ensures.cases.1) in
+    let whole : nat_eq (utf8_valid_len c.args.bytes.now) (length c.args.bytes.now) ≡ true = eq-eqb _
+    _ (utf8_valid_len-IsUtf8 c.args.bytes.now c.in-Ok.ensures.cases.1) in
     rw whole (rw c.in-Ok.ensures.cases.0 at c.in-Ok-table_from_str.ensures.ok)

@@ -4,6 +4,7 @@ use Rattle.wall_rules.proofs.histories.home_rows.Goals as goal
 
 pub returns-clause-pairs : goal.returns-clause-pairs
 returns-clause-pairs c =
-    has_in-opening c.args.policy.now c.loop-number.rows.items c.requires (omega (arith, c.loop-number.invariant.rows)) (
+    has_in-opening c.args.policy.now c.loop-number.rows.items c.requires
+    (omega (arith, c.loop-number.invariant.rows)) (
     λ p d lt. c.loop-number.invariant.pairs p d (omega arith)
     )

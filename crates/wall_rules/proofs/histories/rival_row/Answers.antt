@@ -6,25 +6,31 @@ use Rattle.wall_rules.proofs.histories.rival_row.Goals.{then-are_rivals, else-ar
 use Rattle.wall_rules.proofs.histories.rival_row.Goals as goal
 
 pub loop-number-init : goal.loop-number-init
-loop-number-init c = subst (λ s. IsRowBelow c.args.classes.now c.args.dataset 0 s) (sym c.empty-row.ensures) (row_empty c.args.classes.now c.args.dataset)
+loop-number-init c = subst (λ s. IsRowBelow c.args.classes.now c.args.dataset 0 s)
+    (sym c.empty-row.ensures) (row_empty c.args.classes.now c.args.dataset)
 
 pub loop-number-preserved : goal.loop-number-preserved
 loop-number-preserved c =
     let classes = c.args.classes.now in
     let d = c.args.dataset in
     let n = c.loop-number.number in
-    let at : are_rivals classes d n ≡ c.are_rivals.result = ap (λ e. are_rivals classes d e) (sym c.in-Some.ensures.value) ∙ sym c.are_rivals.ensures in
+    let at : are_rivals classes d n ≡ c.are_rivals.result = ap (λ e. are_rivals classes d e)
+    (sym c.in-Some.ensures.value) ∙ sym c.are_rivals.ensures in
     elim c.if-are_rivals.branch [
       | then-are_rivals w ↦
           subst (λ s. IsRowBelow classes d (n + 1) s) (sym (w.row-is ∙ w.insert.ensures)) (
-          subst (λ e. IsRowBelow classes d (n + 1) (insert c.loop-number.row e)) (sym c.in-Some.ensures.value) (
+          subst (λ e. IsRowBelow classes d (n + 1) (insert c.loop-number.row e))
+          (sym c.in-Some.ensures.value) (
           row_more classes d n c.loop-number.row (at ∙ w.if-are_rivals.true) c.loop-number.invariant
           ))
       | else-are_rivals w ↦
-          subst (λ s. IsRowBelow classes d (n + 1) s) (sym w.row-is) (row_same classes d n c.loop-number.row (at ∙ w.if-are_rivals.false) c.loop-number.invariant)
+          subst (λ s. IsRowBelow classes d (n + 1) s) (sym w.row-is) (row_same classes d n
+          c.loop-number.row (at ∙ w.if-are_rivals.false) c.loop-number.invariant)
     ]
 
 pub returns : goal.returns
 returns c d =
     let all : c.loop-number.number ≡ length c.args.classes.now = omega arith in
-    row_whole c.args.classes.now c.args.dataset c.loop-number.row (subst (λ n. IsRowBelow c.args.classes.now c.args.dataset n c.loop-number.row) all c.loop-number.invariant) d
+    row_whole c.args.classes.now c.args.dataset c.loop-number.row (subst
+    (λ n. IsRowBelow c.args.classes.now c.args.dataset n c.loop-number.row) all
+    c.loop-number.invariant) d

@@ -4,6 +4,7 @@ use Rattle.wall_rules.proofs.histories.rival_rows.Goals as goal
 
 pub returns : goal.returns
 returns c =
-    rows_whole c.args.classes.now c.loop-number.rows.items (omega (arith, c.loop-number.invariant.rows)) (
+    rows_whole c.args.classes.now c.loop-number.rows.items
+    (omega (arith, c.loop-number.invariant.rows)) (
     λ d e lt. c.loop-number.invariant.rivals d e (omega arith)
     )

@@ -6,5 +6,6 @@ use Rattle.wall_rules.proofs.histories.rival_rows.Given as goal
 abbrev pub invariant-loop-number : goal.invariant-loop-number
 invariant-loop-number l = record {
   rows : length l.rows.items ≡ l.number;
-  rivals : (d e : ℕ) → d < l.number → contains (get_or l.rows.items d empty) e ≡ are_rivals l.classes d e;
+  rivals : (d e : ℕ) → d < l.number →
+      contains (get_or l.rows.items d empty) e ≡ are_rivals l.classes d e;
 }

@@ -15,7 +15,10 @@ use Rattle.wall_verdict.proofs.judge.first_meeting.Goals as goal
 pub loop-from-init : goal.loop-from-init
 loop-from-init c = record {
   brought = λ q. ap (λ s. contains s q) c.empty-held.ensures ∙ contains-empty nat_cmp q;
-  apart = subst (λ s. HoldsNoRivals c.args.histories.now.classes (joined (has c.args.histories.now c.at-receiver.result) s)) (sym c.empty-held.ensures) (no_rivals-empty c.args.histories.now.classes (has c.args.histories.now c.at-receiver.result) (c.keep_apart.ensures c.at-receiver.result));
+  apart = subst (λ s. HoldsNoRivals c.args.histories.now.classes
+      (joined (has c.args.histories.now c.at-receiver.result) s)) (sym c.empty-held.ensures)
+      (no_rivals-empty c.args.histories.now.classes (has c.args.histories.now c.at-receiver.result)
+      (c.keep_apart.ensures c.at-receiver.result));
   none = refl;
 }
 
@@ -30,15 +33,28 @@ loop-from-preserved c =
           let is = sym (w.held-is ∙ w.insert.ensures) in
           let clear = sym w.clashes.ensures ∙ w.if-clashes.false in
           record {
-            brought = subst (λ s. AreBrought brings (c.loop-from.from + 1) s) is (brought_more brings c.loop-from.from w.in-Some.dataset c.loop-from.held (sym w.in-Some.ensures) c.loop-from.invariant.brought);
-            apart = subst (λ s. HoldsNoRivals classes (joined held s)) is (stays_apart classes held c.loop-from.held w.in-Some.dataset c.loop-from.invariant.apart clear);
-            none = find_none_more meeting c.loop-from.from c.loop-from.invariant.none (meets_is classes (has c.args.histories.now) c.args.roll.now c.args.to c.loop-from.from c.at-receiver.result w.in-Some.dataset c.loop-from.held c.at-receiver.ensures (sym w.in-Some.ensures) c.loop-from.invariant.brought ∙ clear);
+            brought = subst (λ s. AreBrought brings (c.loop-from.from + 1) s) is
+                (brought_more brings c.loop-from.from w.in-Some.dataset c.loop-from.held
+                (sym w.in-Some.ensures) c.loop-from.invariant.brought);
+            apart = subst (λ s. HoldsNoRivals classes (joined held s)) is
+                (stays_apart classes held c.loop-from.held w.in-Some.dataset
+                c.loop-from.invariant.apart clear);
+            none = find_none_more meeting c.loop-from.from c.loop-from.invariant.none
+                (meets_is classes (has c.args.histories.now) c.args.roll.now c.args.to
+                c.loop-from.from c.at-receiver.result w.in-Some.dataset c.loop-from.held
+                c.at-receiver.ensures (sym w.in-Some.ensures) c.loop-from.invariant.brought
+                ∙ clear);
           }
       | in-None w ↦
           let is = sym w.held-is in
           record {
-            brought = subst (λ s. AreBrought brings (c.loop-from.from + 1) s) is (brought_same brings c.loop-from.from c.loop-from.held (sym w.in-None.ensures) c.loop-from.invariant.brought);
-            apart = subst (λ s. HoldsNoRivals classes (joined held s)) is c.loop-from.invariant.apart;
-            none = find_none_more meeting c.loop-from.from c.loop-from.invariant.none (meets_none classes (has c.args.histories.now) c.args.roll.now c.args.to c.loop-from.from (sym w.in-None.ensures));
+            brought = subst (λ s. AreBrought brings (c.loop-from.from + 1) s) is
+                (brought_same brings c.loop-from.from c.loop-from.held (sym w.in-None.ensures)
+                c.loop-from.invariant.brought);
+            apart =
+                subst (λ s. HoldsNoRivals classes (joined held s)) is c.loop-from.invariant.apart;
+            none = find_none_more meeting c.loop-from.from c.loop-from.invariant.none
+                (meets_none classes (has c.args.histories.now) c.args.roll.now c.args.to
+                c.loop-from.from (sym w.in-None.ensures));
           }
     ]

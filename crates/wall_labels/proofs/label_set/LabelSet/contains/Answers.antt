@@ -10,5 +10,6 @@ returns c = record {
       read_bit c.self.inside.words c.number-number.result
       ∙ sym (contains-set_of_row c.self.inside.words c.number-number.result)
       ∙ (λ i. contains (c.self.view_is i) (c.number-number.ensures.value i));
-  members = held_below c.self.inside.words c.args.self.now c.self.view_is dataset_limit (omega arith);
+  members =
+      held_below c.self.inside.words c.args.self.now c.self.view_is dataset_limit (omega arith);
 }

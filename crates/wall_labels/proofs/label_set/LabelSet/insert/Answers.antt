@@ -12,4 +12,5 @@ pub invariant_of-self : goal.invariant_of-self
 invariant_of-self c =
     let n = c.number-number.result in
     let within : n / 64 < length c.self.inside.words = omega arith in
-    rw c.max-self-inside.ensures (marked_clear c.self.inside.words n c.self.inside.used within c.self.invariant)
+    rw c.max-self-inside.ensures
+    (marked_clear c.self.inside.words n c.self.inside.used within c.self.invariant)

@@ -7,9 +7,11 @@ use Rattle.wall_policy.proofs.policy.Policy.dataset_name.Goals as goal
 pub returns-clause-leads_back : goal.returns-clause-leads_back
 returns-clause-leads_back c =
     ap (λ (w : ChineseWall). place_of c.name_at.result.now w.dataset_names) (sym c.self.view_is)
-    ∙ place_of-name c.self.inside.dataset_names c.number.result c.name_at.result.now c.self.invariant.distinct_datasets c.name_at.ensures
+    ∙ place_of-name c.self.inside.dataset_names c.number.result c.name_at.result.now
+    c.self.invariant.distinct_datasets c.name_at.ensures
     ∙ ap (λ (n : ℕ). Some n) c.number.ensures.value
 
 pub returns-clause-form : goal.returns-clause-form
 returns-clause-form c =
-    list_all-place is_dataset_name c.self.inside.dataset_names c.number.result c.name_at.result.now c.self.invariant.good_datasets c.name_at.ensures
+    list_all-place is_dataset_name c.self.inside.dataset_names c.number.result c.name_at.result.now
+    c.self.invariant.good_datasets c.name_at.ensures

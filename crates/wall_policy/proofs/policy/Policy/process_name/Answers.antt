@@ -7,9 +7,11 @@ use Rattle.wall_policy.proofs.policy.Policy.process_name.Goals as goal
 pub returns-clause-leads_back : goal.returns-clause-leads_back
 returns-clause-leads_back c =
     ap (λ (w : ChineseWall). place_of c.name_at.result.now w.process_names) (sym c.self.view_is)
-    ∙ place_of-name c.self.inside.process_names c.number.result c.name_at.result.now c.self.invariant.distinct_processes c.name_at.ensures
+    ∙ place_of-name c.self.inside.process_names c.number.result c.name_at.result.now
+    c.self.invariant.distinct_processes c.name_at.ensures
     ∙ ap (λ (n : ℕ). Some n) c.number.ensures.value
 
 pub returns-clause-form : goal.returns-clause-form
 returns-clause-form c =
-    list_all-place is_name c.self.inside.process_names c.number.result c.name_at.result.now c.self.invariant.good_processes c.name_at.ensures
+    list_all-place is_name c.self.inside.process_names c.number.result c.name_at.result.now
+    c.self.invariant.good_processes c.name_at.ensures

@@ -4,4 +4,5 @@ use Rattle.wall_verdict.specs.Inflows.{IsInflow}
 use Rattle.wall_verdict.proofs.inflow.Inflow.grow.Given as goal
 
 abbrev pub invariant-loop-from : goal.invariant-loop-from
-invariant-loop-from l = IsInflow l.histories.classes (λ (i : ℕ). contribution l.roll i l.to) l.from l.self
+invariant-loop-from l =
+    IsInflow l.histories.classes (λ (i : ℕ). contribution l.roll i l.to) l.from l.self

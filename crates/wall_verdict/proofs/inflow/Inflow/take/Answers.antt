@@ -5,18 +5,33 @@ use Rattle.wall_verdict.proofs.inflow.Inflow.take.Goals as goal
 
 pub add-requires-clause-number : goal.add-requires-clause-number
 add-requires-clause-number c =
-    omega (arith, c.requires.few, few_bring c.args.histories.now.classes (λ (i : ℕ). contribution c.args.roll.now i c.args.to) c.args.from c.args.self.now c.requires.inflow)
+    omega (
+      arith,
+      c.requires.few,
+      few_bring c.args.histories.now.classes
+          (λ (i : ℕ). contribution c.args.roll.now i c.args.to) c.args.from c.args.self.now
+          c.requires.inflow,
+    )
 
 pub add-requires-clause-different : goal.add-requires-clause-different
 add-requires-clause-different c =
-    omega (arith, c.requires.few, few_differ c.args.histories.now.classes (λ (i : ℕ). contribution c.args.roll.now i c.args.to) c.args.from c.args.self.now c.requires.inflow)
+    omega (
+      arith,
+      c.requires.few,
+      few_differ c.args.histories.now.classes
+          (λ (i : ℕ). contribution c.args.roll.now i c.args.to) c.args.from c.args.self.now
+          c.requires.inflow,
+    )
 
 pub returns-in-Some : goal.returns-in-Some
 returns-in-Some c =
-    inflow_more c.args.histories.now.classes (λ (i : ℕ). contribution c.args.roll.now i c.args.to) c.args.from c.args.self.now c.add.new.self c.requires.inflow
-    c.in-Some.dataset (sym c.in-Some.ensures) c.add.ensures.number c.add.ensures.different c.add.ensures.datasets c.add.ensures.rivals
+    inflow_more c.args.histories.now.classes (λ (i : ℕ). contribution c.args.roll.now i c.args.to)
+    c.args.from c.args.self.now c.add.new.self c.requires.inflow
+    c.in-Some.dataset (sym c.in-Some.ensures) c.add.ensures.number c.add.ensures.different
+    c.add.ensures.datasets c.add.ensures.rivals
 
 pub returns-in-None : goal.returns-in-None
 returns-in-None c =
-    inflow_same c.args.histories.now.classes (λ (i : ℕ). contribution c.args.roll.now i c.args.to) c.args.from c.args.self.now c.args.self.now c.requires.inflow
+    inflow_same c.args.histories.now.classes (λ (i : ℕ). contribution c.args.roll.now i c.args.to)
+    c.args.from c.args.self.now c.args.self.now c.requires.inflow
     (sym c.in-None.ensures) refl refl refl refl

@@ -3,4 +3,5 @@ use Rattle.wall_verdict.specs.Inflows.{IsInflow, from_slot}
 use Rattle.wall_verdict.proofs.inflow.Inflow.take_slots.Given as goal
 
 abbrev pub invariant-loop-slot : goal.invariant-loop-slot
-invariant-loop-slot l = IsInflow l.histories.classes (λ (t : ℕ). from_slot l.roll t l.to) l.slot l.self
+invariant-loop-slot l =
+    IsInflow l.histories.classes (λ (t : ℕ). from_slot l.roll t l.to) l.slot l.self
