@@ -1,5 +1,6 @@
 -- Why there is no such grid.
-use Rattle.std.specs.Prelude.{ℕ, List, Bool, not, ◌||◌, ◌==◌, length, Option, Some, None, if◌then◌else◌, nat_lt}
+use Rattle.std.specs.Prelude.{ℕ, List, Bool, not, ◌||◌, ◌==◌, length, Option, Some, None}
+use Rattle.std.specs.Prelude.{if◌then◌else◌, nat_lt}
 use Rattle.std.specs.List.{list_all}
 use Rattle.mpi_cart.specs.declared.fault.GridFault.{GridFault}
 use Rattle.mpi_cart.specs.declared.fault.GridFault.TheVariants.{BadDims, TooLarge, NoMemory}
@@ -14,7 +15,8 @@ are_bad_dims dims periods =
 
 -- the first fault of a grid for so many processes, memory aside (MPI 4.1, 8.5.1)
 abbrev pub first_fault : List ℕ → List Bool → ℕ → Option GridFault
-first_fault dims periods size = if are_bad_dims dims periods then Some BadDims else (if nat_lt size (volume dims) then Some TooLarge else None)
+first_fault dims periods size = if are_bad_dims dims periods then Some BadDims
+    else (if nat_lt size (volume dims) then Some TooLarge else None)
 
 -- the fault of a list that says which dimensions to keep, memory aside (8.5.7)
 abbrev pub keep_fault : List Bool → List ℕ → Option GridFault

@@ -1,5 +1,8 @@
 -- Cartesian grids: coordinates, shifts and neighbours. (MPI 4.1, chapter 8.)
-use Rattle.std.specs.Prelude.{◌≡◌, ℕ, ℤ, pos, negsuc, ◌+ℤ◌, List, [], ◌∷◌, Bool, true, false, ◌&&◌, ◌==◌, ◌+◌, ◌-◌, ◌*◌, ◌/◌, ◌%◌, ◌^◌, ◌<◌, ◌≤◌, length, map, not, slice_get, slice_set, Option, Some, None, if◌then◌else◌, unwrap_or, unsigned_abs, nat_lt, flat_map, option_and_then, position}
+use Rattle.std.specs.Prelude.{◌≡◌, ℕ, ℤ, pos, negsuc, ◌+ℤ◌, List, [], ◌∷◌, Bool, true, false, ◌&&◌}
+use Rattle.std.specs.Prelude.{◌==◌, ◌+◌, ◌-◌, ◌*◌, ◌/◌, ◌%◌, ◌^◌, ◌<◌, ◌≤◌, length, map, not}
+use Rattle.std.specs.Prelude.{slice_get, slice_set, Option, Some, None, if◌then◌else◌, unwrap_or}
+use Rattle.std.specs.Prelude.{unsigned_abs, nat_lt, flat_map, option_and_then, position}
 use Rattle.std.specs.List.{range_with_len, items_where_true, list_all}
 use Rattle.std.specs.Int.{int_rem_euclid}
 
@@ -17,8 +20,8 @@ volume (n ∷ dims) = n * volume dims
 abbrev pub dimensions_limit : ℕ
 dimensions_limit = 8
 
--- what holds of every grid: no dimension has size 0 and there are at most so many (own rules), and ranks
--- fit 32 bits
+-- what holds of every grid: no dimension has size 0 and there are at most so many (own rules), and
+-- ranks fit 32 bits
 pub record IsGrid (g : Topology) : Type 0 where
   pub paired : length g.periods ≡ length g.dims
   pub few : length g.dims ≤ dimensions_limit
@@ -29,7 +32,8 @@ pub record IsGrid (g : Topology) : Type 0 where
 abbrev pub below : ℕ → List ℕ
 below n = range_with_len 0 n
 
--- all lists of coordinates, each below its size, in row-major order (8.2): a grid of no dimension has one
+-- all lists of coordinates, each below its size, in row-major order (8.2): a grid of no dimension
+-- has one
 unfoldable pub cells : List ℕ → List (List ℕ)
 cells [] = [] ∷ []
 cells (n ∷ dims) = flat_map (λ c. map (λ rest. c ∷ rest) (cells dims)) (below n)
@@ -47,7 +51,8 @@ same_list _ _ = false
 abbrev pub rank_at : Topology → List ℕ → Option ℕ
 rank_at g cs = position (λ cell. same_list cell cs) (cells g.dims)
 
--- the coordinate that a whole number names in a dimension of size n: it wraps where the dimension is periodic, and else names none outside (8.5.5)
+-- the coordinate that a whole number names in a dimension of size n: it wraps where the dimension
+-- is periodic, and else names none outside (8.5.5)
 abbrev pub coordinate : ℕ → Bool → ℤ → Option ℕ
 coordinate n true z = Some (unsigned_abs (int_rem_euclid z (pos n)))
 coordinate n false (pos c) = if nat_lt c n then Some c else None
@@ -60,7 +65,8 @@ both _ _ = None
 -- the coordinates that whole numbers name, one for each dimension
 abbrev pub coordinates : List ℕ → List Bool → List ℤ → Option (List ℕ)
 coordinates [] [] [] = Some []
-coordinates (n ∷ dims) (periodic ∷ periods) (z ∷ zs) = both (coordinate n periodic z) (coordinates dims periods zs)
+coordinates (n ∷ dims) (periodic ∷ periods) (z ∷ zs) =
+    both (coordinate n periodic z) (coordinates dims periods zs)
 coordinates _ _ _ = None
 
 -- the rank that whole numbers name (8.5.5)
@@ -88,7 +94,8 @@ opposite slot = if slot % 2 == 0 then slot + 1 else slot - 1
 
 -- the grid of the dimensions kept (8.5.7)
 abbrev pub kept : List Bool → Topology → Topology
-kept keep g = record { dims = items_where_true keep g.dims; periods = items_where_true keep g.periods }
+kept keep g =
+    record { dims = items_where_true keep g.dims; periods = items_where_true keep g.periods }
 
 -- the items of the dimensions that are not kept
 abbrev pub dropped : {X : Type 0} → List Bool → List X → List X

@@ -1,5 +1,6 @@
 -- What the code computes with.
-use Rattle.std.specs.Prelude.{◌≡◌, ℕ, ◌*◌, ◌/◌, ◌%◌, ◌<◌, ◌≤◌, List, [], ◌∷◌, length, Bool, Option, None, slice_get, get_or, unwrap_or}
+use Rattle.std.specs.Prelude.{◌≡◌, ℕ, ◌*◌, ◌/◌, ◌%◌, ◌<◌, ◌≤◌, List, [], ◌∷◌, length, Bool, Option}
+use Rattle.std.specs.Prelude.{None, slice_get, get_or, unwrap_or}
 use Rattle.mpi_cart.specs.Grids.{Topology, volume, cells, neighbour, IsGrid}
 
 -- the coordinates of a rank
@@ -11,8 +12,8 @@ unfoldable pub strides_of : List ℕ → List ℕ
 strides_of [] = []
 strides_of (n ∷ dims) = volume dims ∷ strides_of dims
 
--- a table tells the neighbours of rank 0 slot by slot, then those of rank 1, and so on, of all ranks or
--- of the first
+-- a table tells the neighbours of rank 0 slot by slot, then those of rank 1, and so on, of all
+-- ranks or of the first
 pub record IsTable (g : Topology) (table : List (Option ℕ)) : Type 0 where
   pub few : length table ≤ volume g.dims * (2 * length g.dims)
   pub entries : (k : ℕ) → k < length table

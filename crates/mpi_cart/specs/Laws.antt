@@ -1,6 +1,8 @@
 -- What holds of all grids.
-use Rattle.std.specs.Prelude.{◌≡◌, ◌↔◌, ℕ, ℤ, neg_ℤ, List, [], ◌∷◌, ◌+◌, ◌*◌, ◌<◌, ◌≤◌, length, Some, None}
-use Rattle.mpi_cart.specs.Grids.{Topology, volume, cells, coords, rank_at, shifted, neighbour, opposite}
+use Rattle.std.specs.Prelude.{◌≡◌, ◌↔◌, ℕ, ℤ, neg_ℤ, List, [], ◌∷◌, ◌+◌, ◌*◌, ◌<◌, ◌≤◌, length}
+use Rattle.std.specs.Prelude.{Some, None}
+use Rattle.mpi_cart.specs.Grids.{Topology, volume, cells, coords, rank_at, shifted, neighbour}
+use Rattle.mpi_cart.specs.Grids.{opposite}
 
 -- each coordinate is below its size, and there is one for each dimension
 abbrev pub IsCell : List ℕ → List ℕ → Type 0
@@ -17,22 +19,29 @@ row_major _ _ = 0
 abbrev pub CellsFillTheGrid : Type 0
 CellsFillTheGrid = (dims : List ℕ) → length (cells dims) ≡ volume dims
 
--- the coordinates of a rank are the one list, each below its size, whose row-major number is the rank
+-- the coordinates of a rank are the one list, each below its size, whose row-major number is the
+-- rank
 abbrev pub CoordinatesAreRowMajor : Type 0
-CoordinatesAreRowMajor = (g : Topology) (r : ℕ) (cs : List ℕ) → r < volume g.dims → (coords g r ≡ cs) ↔ (IsCell g.dims cs × (row_major g.dims cs ≡ r))
+CoordinatesAreRowMajor = (g : Topology) (r : ℕ) (cs : List ℕ) → r < volume g.dims →
+    (coords g r ≡ cs) ↔ (IsCell g.dims cs × (row_major g.dims cs ≡ r))
 
 -- coordinates and ranks are inverse to each other
 abbrev pub CoordinatesAndRanksAreInverse : Type 0
-CoordinatesAndRanksAreInverse = (g : Topology) (r : ℕ) (cs : List ℕ) → (rank_at g cs ≡ Some r) ↔ ((r < volume g.dims) × (coords g r ≡ cs))
+CoordinatesAndRanksAreInverse = (g : Topology) (r : ℕ) (cs : List ℕ) → (rank_at g cs ≡ Some r) ↔
+    ((r < volume g.dims) × (coords g r ≡ cs))
 
 -- a shift stays in the grid, and one as far the other way leads back
 abbrev pub ShiftsLeadBack : Type 0
-ShiftsLeadBack = (g : Topology) (r d q : ℕ) (z : ℤ) → r < volume g.dims → shifted g r d z ≡ Some q → (q < volume g.dims) × (shifted g q d (neg_ℤ z) ≡ Some r)
+ShiftsLeadBack = (g : Topology) (r d q : ℕ) (z : ℤ) → r < volume g.dims → shifted g r d z ≡ Some q →
+    (q < volume g.dims) × (shifted g q d (neg_ℤ z) ≡ Some r)
 
--- the negative and the positive neighbour are opposite: each is the other's neighbour in the other's opposite slot
+-- the negative and the positive neighbour are opposite: each is the other's neighbour in the
+-- other's opposite slot
 abbrev pub NeighboursAreOpposite : Type 0
-NeighboursAreOpposite = (g : Topology) (r slot q : ℕ) → r < volume g.dims → neighbour g r slot ≡ Some q → (q < volume g.dims) × (neighbour g q (opposite slot) ≡ Some r)
+NeighboursAreOpposite = (g : Topology) (r slot q : ℕ) → r < volume g.dims →
+    neighbour g r slot ≡ Some q → (q < volume g.dims) × (neighbour g q (opposite slot) ≡ Some r)
 
 -- a grid has two slots for each dimension, and nobody in a later one
 abbrev pub NobodyPastTheLastSlot : Type 0
-NobodyPastTheLastSlot = (g : Topology) (r slot : ℕ) → 2 * length g.dims ≤ slot → neighbour g r slot ≡ None
+NobodyPastTheLastSlot =
+    (g : Topology) (r slot : ℕ) → 2 * length g.dims ≤ slot → neighbour g r slot ≡ None

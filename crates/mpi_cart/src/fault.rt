@@ -32,7 +32,8 @@ impl From<AllocError> for GridFault {
     }
 }
 
-/// The coordinates are too few or too many, or one is past the edge of a dimension that isn't periodic.
+/// The coordinates are too few or too many, or one is past the edge of a dimension that isn't
+/// periodic.
 #[derive(Clone, Copy, Debug, PartialEq, Eq, Error)]
 #[error("no rank has these coordinates")]
 pub struct BadCoord;

@@ -1,6 +1,9 @@
 //! A grid of ranks.
-ghost use Rattle.std.specs.Prelude.{◌≡◌, ◌<◌, ◌≤◌, ◌↔◌, length, IfOk, IfErr, OnOk, OnErr, IfSome, IsErr, IsErrOf, IsTrue, Some, None, pos, negsuc, neg_ℤ, ◌≤ℤ◌, slice_get, slice_index};
-ghost use Rattle.mpi_cart.specs.Grids.{IsGrid, volume, coords, rank_named, shifted, neighbour, opposite, kept};
+ghost use Rattle.std.specs.Prelude.{◌≡◌, ◌<◌, ◌≤◌, ◌↔◌, length, IfOk, IfErr, OnOk, OnErr, IfSome};
+ghost use Rattle.std.specs.Prelude.{IsErr, IsErrOf, IsTrue, Some, None, pos, negsuc, neg_ℤ, ◌≤ℤ◌};
+ghost use Rattle.std.specs.Prelude.{slice_get, slice_index};
+ghost use Rattle.mpi_cart.specs.Grids.{IsGrid, volume, coords, rank_named, shifted, neighbour};
+ghost use Rattle.mpi_cart.specs.Grids.{opposite, kept};
 
 use super::cell::{coordinate_in, moved_rank, rank_from};
 use super::fault::{BadCoord, BadDirection, GridFault, fault_of, volume_within};
@@ -12,7 +15,8 @@ use std::marker::Model;
 /// The most dimensions that a grid may have.
 pub const DIMENSION_LIMIT: usize = 8;
 
-/// A Cartesian grid: the size of each dimension, and whether it is periodic. Ranks are numbered in row-major order.
+/// A Cartesian grid: the size of each dimension, and whether it is periodic. Ranks are numbered in
+/// row-major order.
 #[derive(Drop)]
 pub struct Grid {
     dims: Vec<u32>,
@@ -47,8 +51,8 @@ impl Grid {
     ghost use Rattle.mpi_cart.specs.Faults.{first_fault, keep_fault, told};
     ghost use Rattle.mpi_cart.specs.declared.fault.GridFault.TheVariants.{NoMemory};
 
-    /// A grid over the lowest ranks of so many processes. Of its faults the answer is the lowest that holds;
-    /// a grid of no dimensions has one rank and takes no memory. (MPI 4.1, 8.5.1.)
+    /// A grid over the lowest ranks of so many processes. Of its faults the answer is the lowest
+    /// that holds; a grid of no dimensions has one rank and takes no memory. (MPI 4.1, 8.5.1.)
     pub fn new(alloc: Global, dims: &[u32], periods: &[bool], size: u32) -> Result<Grid, GridFault>
         ensures made { IfOk result (λ g. g ≡ record { dims = dims.now; periods = periods.now }) }
         ensures fits { OnOk result (first_fault dims.now periods.now size ≡ None) }
@@ -61,8 +65,8 @@ impl Grid {
         Ok(laid(alloc, copied(alloc, dims)?, copied(alloc, periods)?)?)
     }
 
-    /// The grid of the dimensions kept, in their order. `BadDims` where the list isn't one answer for each dimension;
-    /// never `TooLarge`. With none kept it takes no memory. (MPI 4.1, 8.5.7.)
+    /// The grid of the dimensions kept, in their order. `BadDims` where the list isn't one answer
+    /// for each dimension; never `TooLarge`. With none kept it takes no memory. (MPI 4.1, 8.5.7.)
     pub fn sub(&self, alloc: Global, keep: &[bool]) -> Result<Grid, GridFault>
         ensures made { IfOk result (λ g. g ≡ kept keep.now self.now) }
         ensures fits { OnOk result (keep_fault keep.now self.now.dims ≡ None) }
@@ -139,8 +143,8 @@ impl Grid {
         coordinate_in(&self.dims, &self.strides, rank, dim as usize)
     }
 
-    /// The rank at these coordinates, one for each dimension. Outside of a dimension a coordinate wraps where it is
-    /// periodic, and else is a fault. (MPI 4.1, 8.5.5.)
+    /// The rank at these coordinates, one for each dimension. Outside of a dimension a coordinate
+    /// wraps where it is periodic, and else is a fault. (MPI 4.1, 8.5.5.)
     pub fn rank_of(&self, coordinates: &[i64]) -> Result<u32, BadCoord>
         ensures value { IfOk result (λ r. rank_named self.now coordinates.now ≡ Some r) }
         ensures fault { OnErr result (rank_named self.now coordinates.now ≡ None) }
@@ -149,10 +153,12 @@ impl Grid {
         rank_from(&self.dims, &self.periods, coordinates)
     }
 
-    /// Whom a rank receives from and sends to where all send so far along a dimension. (MPI 4.1, 8.5.6.)
+    /// Whom a rank receives from and sends to where all send so far along a dimension. (MPI 4.1,
+    /// 8.5.6.)
     pub fn shift(&self, rank: u32, direction: u32, displacement: i32) -> Result<Shift, BadDirection>
         requires { rank < volume self.now.dims }
-        ensures source { IfOk result (λ s. s.source ≡ shifted self.now rank direction (neg_ℤ displacement)) }
+        ensures source { IfOk result
+            (λ s. s.source ≡ shifted self.now rank direction (neg_ℤ displacement)) }
         ensures dest { IfOk result (λ s. s.dest ≡ shifted self.now rank direction displacement) }
         ensures fault { IsErr result ↔ (length self.now.dims ≤ direction) }
     {
@@ -167,8 +173,8 @@ impl Grid {
     }
 
     /// The neighbour of a rank in a slot: for each dimension in order the negative one, then the
-    /// positive one; nobody past an edge that isn't periodic, or in a slot that the grid doesn't have.
-    /// (MPI 4.1, 8.6.) One look into a table, but for the last ranks of a large grid.
+    /// positive one; nobody past an edge that isn't periodic, or in a slot that the grid doesn't
+    /// have. (MPI 4.1, 8.6.) One look into a table, but for the last ranks of a large grid.
     #[tactic(auto, using(crate::proofs::TableLemmas::known_neighbours))]
     pub fn neighbour(&self, rank: u32, slot: u32) -> Option<u32>
         requires { rank < volume self.now.dims }

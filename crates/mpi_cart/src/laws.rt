@@ -1,12 +1,15 @@
 //! What holds of all grids, for the proofs of callers. These functions do nothing.
-ghost use Rattle.mpi_cart.specs.Laws.{CellsFillTheGrid, CoordinatesAreRowMajor, CoordinatesAndRanksAreInverse, ShiftsLeadBack, NeighboursAreOpposite, NobodyPastTheLastSlot};
+ghost use Rattle.mpi_cart.specs.Laws.{CellsFillTheGrid, CoordinatesAreRowMajor};
+ghost use Rattle.mpi_cart.specs.Laws.{CoordinatesAndRanksAreInverse, ShiftsLeadBack};
+ghost use Rattle.mpi_cart.specs.Laws.{NeighboursAreOpposite, NobodyPastTheLastSlot};
 
 /// A grid has as many cells as the product of its sizes.
 pub fn cells_fill_the_grid()
     ensures { CellsFillTheGrid }
 {}
 
-/// The coordinates of a rank are the one list, each below its size, whose row-major number is the rank.
+/// The coordinates of a rank are the one list, each below its size, whose row-major number is the
+/// rank.
 pub fn coordinates_are_row_major()
     ensures { CoordinatesAreRowMajor }
 {}

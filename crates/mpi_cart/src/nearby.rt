@@ -6,8 +6,8 @@ ghost use Rattle.mpi_cart.specs.Laid.{strides_of, IsTable};
 use super::cell::moved_rank;
 use std::alloc::{AllocError, Global};
 
-// The most entries of a table. In a larger grid the neighbours of later ranks are worked out when they
-// are asked for.
+// The most entries of a table. In a larger grid the neighbours of later ranks are worked out when
+// they are asked for.
 const TABLE_LIMIT: usize = 65_536;
 
 // The neighbour of a rank in a slot, worked out.

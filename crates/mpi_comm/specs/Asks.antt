@@ -7,4 +7,5 @@ use Rattle.mpi_comm.specs.declared.values.Ask.{Ask}
 
 -- the member asks for a colour for which none of the others does
 abbrev pub is_last : Ask → List Ask → Bool
-is_last ask others = option_map_or (λ colour. not (list_any (asks_for colour) others)) ask.colour false
+is_last ask others =
+    option_map_or (λ colour. not (list_any (asks_for colour) others)) ask.colour false

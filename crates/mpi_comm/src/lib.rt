@@ -1,8 +1,8 @@
 //! Communicators: a table of groups, to which the constructors of MPI 4.1, section 7.4, add.
 //!
-//! A communicator is known by its number, its place in the table; the world has number 0, and new ones take the
-//! next numbers. `group`, `info`, `compare` and a member's rank go straight to the groups concerned and look at
-//! no other communicator.
+//! A communicator is known by its number, its place in the table; the world has number 0, and new
+//! ones take the next numbers. `group`, `info`, `compare` and a member's rank go straight to the
+//! groups concerned and look at no other communicator.
 #![tactic(auto)]
 
 mod fault;

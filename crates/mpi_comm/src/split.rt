@@ -1,11 +1,13 @@
 //! The groups of a split.
-ghost use Rattle.std.specs.Prelude.{ℤ, ◌≡◌, ◌+◌, ◌<◌, ◌≤◌, ◌&&◌, ℕ, List, not, length, map, take, drop, false, IfOk};
+ghost use Rattle.std.specs.Prelude.{ℤ, ◌≡◌, ◌+◌, ◌<◌, ◌≤◌, ◌&&◌, ℕ, List, not, length, map, take};
+ghost use Rattle.std.specs.Prelude.{drop, false, IfOk};
 ghost use Rattle.std.specs.List.{list_any, filter_map};
 ghost use Rattle.std.specs.Ordering.{int_cmp, is_lt};
 ghost use Rattle.std.specs.List.Sorted.{IsSorted, IsSortedBy, IsStable, IsStableBy};
 ghost use Rattle.mpi_comm.specs.Sorting.{sorted_by};
 ghost use Rattle.std.specs.Option.{option_map_or};
-ghost use Rattle.mpi_comm.specs.Splits.{asks_for, asked, goes_before, has_bad_colour, colours_of, ranks_for, split_groups};
+ghost use Rattle.mpi_comm.specs.Splits.{asks_for, asked, goes_before, has_bad_colour, colours_of};
+ghost use Rattle.mpi_comm.specs.Splits.{ranks_for, split_groups};
 ghost use Rattle.mpi_comm.specs.Asks.{is_last};
 
 use super::table::included;
@@ -21,7 +23,8 @@ pub(crate) fn has_bad_colour(asks: &[Ask]) -> bool
         .any(|ask| ask.colour.map_or(false, |colour| colour < 0))
 }
 
-/// How many colours are asked for. It takes no memory, so it goes over the asks once for each of them.
+/// How many colours are asked for. It takes no memory, so it goes over the asks once for each of
+/// them.
 pub(crate) fn number_of_colours(asks: &[Ask]) -> usize
     ensures { result ≡ length (colours_of asks.now) }
 {
@@ -138,12 +141,15 @@ fn ranks_of(alloc: Global, places: &[(i32, u32)]) -> Result<Vec<u32>, AllocError
     places.iter().map(|place| place.1).collect(alloc)
 }
 
-/// The order of a split's places is a stable sort's: ascending by key and then by old rank, those that tie as they
-/// stood. So are its colours', each then once.
+/// The order of a split's places is a stable sort's: ascending by key and then by old rank, those
+/// that tie as they stood. So are its colours', each then once.
 pub fn splits_are_in_order()
-    ensures places { (places : List (ℤ × ℕ)) → IsSortedBy goes_before (sorted_by goes_before places) }
-    ensures places_kept { (places : List (ℤ × ℕ)) → IsStableBy goes_before places (sorted_by goes_before places) }
-    ensures colours { (colours : List ℤ) → IsSorted int_cmp (sorted_by (λ c d. is_lt (int_cmp c d)) colours) }
+    ensures places { (places : List (ℤ × ℕ)) →
+        IsSortedBy goes_before (sorted_by goes_before places) }
+    ensures places_kept { (places : List (ℤ × ℕ)) →
+        IsStableBy goes_before places (sorted_by goes_before places) }
+    ensures colours { (colours : List ℤ) →
+        IsSorted int_cmp (sorted_by (λ c d. is_lt (int_cmp c d)) colours) }
     ensures colours_kept { (colours : List ℤ) →
         IsStable int_cmp colours (sorted_by (λ c d. is_lt (int_cmp c d)) colours) }
 {}

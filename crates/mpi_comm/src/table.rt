@@ -1,5 +1,6 @@
 //! The table of communicators, and its constructors.
-ghost use Rattle.std.specs.Prelude.{◌≡◌, ◌<◌, ◌≤◌, ◌+◌, ℕ, List, [], ◌∷◌, ◌++◌, length, take, map, Ok, Err, IfOk, IfErr, OnOk, OnErr, All, IsTrue};
+ghost use Rattle.std.specs.Prelude.{◌≡◌, ◌<◌, ◌≤◌, ◌+◌, ℕ, List, [], ◌∷◌, ◌++◌, length, take, map};
+ghost use Rattle.std.specs.Prelude.{Ok, Err, IfOk, IfErr, OnOk, OnErr, All, IsTrue};
 ghost use Rattle.std.specs.List.{list_all};
 ghost use Rattle.mpi_group.specs.Groups.{members_at};
 ghost use Rattle.mpi_comm.specs.Comms.{is_subgroup, subset_groups};
@@ -35,7 +36,10 @@ impl Model for CommTable {
 }
 
 impl CommTable {
-    ghost use Rattle.mpi_comm.specs.Comms.{group_at, info_of, comm_compare, communicators_limit, fits, dup_groups, create_groups, subset_groups, dup_fault, split_fault, create_fault, subsets_fault, Constructs};
+    ghost use Rattle.mpi_comm.specs.Comms.{group_at, info_of, comm_compare, communicators_limit};
+    ghost use Rattle.mpi_comm.specs.Comms.{fits, dup_groups, create_groups, subset_groups};
+    ghost use Rattle.mpi_comm.specs.Comms.{dup_fault, split_fault, create_fault, subsets_fault};
+    ghost use Rattle.mpi_comm.specs.Comms.{Constructs};
     ghost use Rattle.mpi_comm.specs.Splits.{split_groups};
 
     /// The world alone: the group of all processes, in their order.
@@ -98,7 +102,8 @@ impl CommTable {
 
     /// Makes a communicator of the same group. (MPI_Comm_dup.)
     pub fn dup(&mut self, c: u32) -> Result<Made, CommFault>
-        ensures { Constructs (dup_fault self.old c) (dup_groups (group_at self.old c)) self.old self.new result }
+        ensures { Constructs (dup_fault self.old c) (dup_groups (group_at self.old c)) self.old
+            self.new result }
     {
         if c >= self.len() {
             return Err(CommFault::NoSuchComm);
@@ -114,7 +119,8 @@ impl CommTable {
     #[tactic(auto, using(crate::proofs::SplitLemmas::length_split_groups))]
     pub fn split(&mut self, c: u32, asks: &[Ask]) -> Result<Made, CommFault>
         requires { length asks.now ≡ length (group_at self.old c) }
-        ensures { Constructs (split_fault self.old c asks.now) (split_groups asks.now (group_at self.old c)) self.old self.new result }
+        ensures { Constructs (split_fault self.old c asks.now)
+            (split_groups asks.now (group_at self.old c)) self.old self.new result }
     {
         if c >= self.len() {
             return Err(CommFault::NoSuchComm);
@@ -129,9 +135,11 @@ impl CommTable {
         self.add(made)
     }
 
-    /// Makes a communicator of the members at these ranks, in the order named, or none of none. (MPI_Comm_create.)
+    /// Makes a communicator of the members at these ranks, in the order named, or none of none.
+    /// (MPI_Comm_create.)
     pub fn create(&mut self, c: u32, ranks: &[u32]) -> Result<Made, CommFault>
-        ensures { Constructs (create_fault self.old c ranks.now) (create_groups ranks.now (group_at self.old c)) self.old self.new result }
+        ensures { Constructs (create_fault self.old c ranks.now)
+            (create_groups ranks.now (group_at self.old c)) self.old self.new result }
     {
         if c >= self.len() {
             return Err(CommFault::NoSuchComm);
@@ -153,7 +161,8 @@ impl CommTable {
     #[tactic(auto, using(crate::proofs::SplitLemmas::length_subset_groups))]
     pub fn subsets(&mut self, c: u32, lists: &[Vec<u32>]) -> Result<Made, CommFault>
         ensures { let ranks = map (λ list. list.items) lists.now in
-            Constructs (subsets_fault self.old c ranks) (subset_groups ranks (group_at self.old c)) self.old self.new result }
+            Constructs (subsets_fault self.old c ranks) (subset_groups ranks (group_at self.old c))
+            self.old self.new result }
     {
         if c >= self.len() {
             return Err(CommFault::NoSuchComm);
@@ -179,7 +188,8 @@ impl CommTable {
     fn add(&mut self, mut made: Vec<Group>) -> Result<Made, CommFault>
         requires { length self.old + length made.items ≤ communicators_limit }
         ensures grown { OnOk result (self.new ≡ self.old ++ made.items) }
-        ensures told { IfOk result (λ m. m ≡ record { first = length self.old; number = length made.items }) }
+        ensures told { IfOk result
+            (λ m. m ≡ record { first = length self.old; number = length made.items }) }
         ensures refused { IfErr result (λ f. f ≡ CommFault.NoMemory) }
         ensures kept { OnErr result (self.new ≡ self.old) }
     {
@@ -208,7 +218,8 @@ fn is_subgroup(group: &Group, ranks: &[u32]) -> bool
 
 // Whether each list is of such ranks.
 fn are_subgroups(group: &Group, lists: &[Vec<u32>]) -> bool
-    ensures { result ≡ list_all (is_subgroup (length group.now)) (map (λ list. list.items) lists.now) }
+    ensures { result
+        ≡ list_all (is_subgroup (length group.now)) (map (λ list. list.items) lists.now) }
 {
     each_is_subgroup(group, lists)
 }
@@ -234,7 +245,8 @@ pub(crate) fn included(alloc: Global, group: &Group, ranks: &[u32]) -> Result<Gr
 
 // The groups of the members at the ranks of each list.
 fn all_included(alloc: Global, group: &Group, lists: &[Vec<u32>]) -> Result<Vec<Group>, AllocError>
-    requires { IsTrue (list_all (is_subgroup (length group.now)) (map (λ list. list.items) lists.now)) }
+    requires { IsTrue
+        (list_all (is_subgroup (length group.now)) (map (λ list. list.items) lists.now)) }
     ensures { IfOk result (λ parts.
         parts.items ≡ subset_groups (map (λ list. list.items) lists.now) group.now) }
 {

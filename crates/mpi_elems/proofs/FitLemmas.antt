@@ -1,5 +1,7 @@
 -- What two numbers of a type combine to is a number of the type.
-use Rattle.std.proofs.Common.{◌≡◌, ℕ, ◌<◌, ◌^◌, ◌%◌, ◌-◌, ◌&&◌, Bool, true, false, List, [], ◌∷◌, ℤ, pos, negsuc, ◌+ℤ◌, ◌*ℤ◌, arith, refl, FitsSigned, cond, mod-lt, lt_of_le_of_lt, ◌++◌, ◌∙◌, take, drop, zero, suc, slice_range}
+use Rattle.std.proofs.Common.{◌≡◌, ℕ, ◌<◌, ◌^◌, ◌%◌, ◌-◌, ◌&&◌, Bool, true, false, List, [], ◌∷◌, ℤ}
+use Rattle.std.proofs.Common.{pos, negsuc, ◌+ℤ◌, ◌*ℤ◌, arith, refl, FitsSigned, cond, mod-lt}
+use Rattle.std.proofs.Common.{lt_of_le_of_lt, ◌++◌, ◌∙◌, take, drop, zero, suc, slice_range}
 use Rattle.std.specs.List.{list_all}
 use Rattle.std.proofs.lemmas.List.Folds.{list_all-append}
 use Rattle.std.specs.Int.{Width, w8, w16, w32, w64, w128, int_rem_euclid, cast_unsigned}
@@ -10,10 +12,14 @@ use Rattle.std.proofs.lemmas.Nat.{and_le_l, or_lt, xor_lt, pow_pos}
 use mir.Val.{bits, hbits}
 use Rattle.std.proofs.Math.Facts.{sfits_to_z}
 use Rattle.wall_labels.specs.declared.op.Op.{Op}
-use Rattle.wall_labels.specs.declared.op.Op.TheVariants.{Max, Min, Sum, Prod, Land, Lor, Lxor, Band, Bor, Bxor, Maxloc, Minloc}
+use Rattle.wall_labels.specs.declared.op.Op.TheVariants.{Max, Min, Sum, Prod, Land, Lor, Lxor, Band}
+use Rattle.wall_labels.specs.declared.op.Op.TheVariants.{Bor, Bxor, Maxloc, Minloc}
 use Rattle.mpi_elems.specs.declared.elem_type.ElemType.{ElemType}
-use Rattle.mpi_elems.specs.declared.elem_type.ElemType.TheVariants.{Int8, Int16, Int32, Int64, Uint8, Uint16, Uint32, Uint64, TwoInt}
-use Rattle.mpi_elems.specs.Numbers.{is_number_of, is_signed_of, is_unsigned_of, wrapped, bits_of, of_bits}
+use Rattle.mpi_elems.specs.declared.elem_type.ElemType.TheVariants.{Int8, Int16, Int32, Int64}
+use Rattle.mpi_elems.specs.declared.elem_type.ElemType.TheVariants.{Uint8, Uint16, Uint32, Uint64}
+use Rattle.mpi_elems.specs.declared.elem_type.ElemType.TheVariants.{TwoInt}
+use Rattle.mpi_elems.specs.Numbers.{is_number_of, is_signed_of, is_unsigned_of, wrapped, bits_of}
+use Rattle.mpi_elems.specs.Numbers.{of_bits}
 use Rattle.mpi_elems.specs.Operations.{on_numbers, truth, keeps_first}
 use Rattle.mpi_elems.specs.Elements.{Element, single, pair, is_element_of, combine}
 use Rattle.mpi_elems.specs.Lists.{merged}
@@ -64,7 +70,8 @@ test_unsigned k n h = grind (arith, nat_tests)
 
 rem_unsigned : (k : ℕ) (z : ℤ) → is_unsigned_of k (int_rem_euclid z (pos (2 ^ k))) ≡ true
 rem_unsigned k (pos n) = test_unsigned k _ (mod-lt n (pow_pos k))
-rem_unsigned k (negsuc n) = let h = pow_pos k in let below : 2 ^ k - 1 - n % 2 ^ k < 2 ^ k = omega arith in test_unsigned k _ below
+rem_unsigned k (negsuc n) = let h = pow_pos k in
+    let below : 2 ^ k - 1 - n % 2 ^ k < 2 ^ k = omega arith in test_unsigned k _ below
 
 wrapped_fits : (ty : ElemType) (z : ℤ) → is_number_of ty (wrapped ty z) ≡ true
 unfolding is_number_of
@@ -147,7 +154,8 @@ one_of_two : (p : ℤ → Bool) (c : Bool) (a b : ℤ) → p a ≡ true → p b 
 one_of_two p true a b h k = h
 one_of_two p false a b h k = k
 
-pub on_numbers_fits : (op : Op) (ty : ElemType) (a b : ℤ) → is_number_of ty a ≡ true → is_number_of ty b ≡ true → is_number_of ty (on_numbers op ty a b) ≡ true
+pub on_numbers_fits : (op : Op) (ty : ElemType) (a b : ℤ) → is_number_of ty a ≡ true →
+    is_number_of ty b ≡ true → is_number_of ty (on_numbers op ty a b) ≡ true
 on_numbers_fits Max ty a b h k = one_of_two (is_number_of ty) (int_lt b a) a b h k
 on_numbers_fits Min ty a b h k = one_of_two (is_number_of ty) (int_lt b a) b a k h
 on_numbers_fits Sum ty a b h k = wrapped_fits ty (a +ℤ b)
@@ -155,9 +163,12 @@ on_numbers_fits Prod ty a b h k = wrapped_fits ty (a *ℤ b)
 on_numbers_fits Land ty a b h k = truth_fits ty _
 on_numbers_fits Lor ty a b h k = truth_fits ty _
 on_numbers_fits Lxor ty a b h k = truth_fits ty _
-on_numbers_fits Band ty a b h k = of_bits_fits ty _ (lt_of_le_of_lt (and_le_l (bits_of ty a) (bits_of ty b)) (bits_below ty a h))
-on_numbers_fits Bor ty a b h k = of_bits_fits ty _ (or_lt (width_of ty) (bits_of ty a) (bits_of ty b) (bits_below ty a h) (bits_below ty b k))
-on_numbers_fits Bxor ty a b h k = of_bits_fits ty _ (xor_lt (width_of ty) (bits_of ty a) (bits_of ty b) (bits_below ty a h) (bits_below ty b k))
+on_numbers_fits Band ty a b h k =
+    of_bits_fits ty _ (lt_of_le_of_lt (and_le_l (bits_of ty a) (bits_of ty b)) (bits_below ty a h))
+on_numbers_fits Bor ty a b h k = of_bits_fits ty _
+    (or_lt (width_of ty) (bits_of ty a) (bits_of ty b) (bits_below ty a h) (bits_below ty b k))
+on_numbers_fits Bxor ty a b h k = of_bits_fits ty _
+    (xor_lt (width_of ty) (bits_of ty a) (bits_of ty b) (bits_below ty a h) (bits_below ty b k))
 on_numbers_fits Maxloc ty a b h k = h
 on_numbers_fits Minloc ty a b h k = h
 
@@ -169,11 +180,13 @@ joined : (b c : Bool) → b ≡ true → c ≡ true → (b && c) ≡ true
 joined true c e f = f
 joined false c e f = e
 
-pair_fits : (ty : ElemType) (c : Bool) (a i b j : ℤ) → is_element_of ty (pair a i) ≡ true → is_element_of ty (pair b j) ≡ true → is_element_of ty (if c then pair a i else pair b j) ≡ true
+pair_fits : (ty : ElemType) (c : Bool) (a i b j : ℤ) → is_element_of ty (pair a i) ≡ true →
+    is_element_of ty (pair b j) ≡ true → is_element_of ty (if c then pair a i else pair b j) ≡ true
 pair_fits ty true a i b j h k = h
 pair_fits ty false a i b j h k = k
 
-combine_fits : (op : Op) (ty : ElemType) (x y : Element) → is_element_of ty x ≡ true → is_element_of ty y ≡ true → is_element_of ty (combine op ty x y) ≡ true
+combine_fits : (op : Op) (ty : ElemType) (x y : Element) → is_element_of ty x ≡ true →
+    is_element_of ty y ≡ true → is_element_of ty (combine op ty x y) ≡ true
 unfolding combine
 combine_fits op ty (single a) (single b) h k = on_numbers_fits op ty a b h k
 combine_fits op ty (pair a i) (pair b j) h k = pair_fits ty (keeps_first op a i b j) a i b j h k
@@ -181,7 +194,9 @@ combine_fits op ty (single a) (pair b j) h k = h
 combine_fits op ty (pair a i) (single b) h k = h
 
 -- lists of elements of a type, merged
-pub merged_fit : (op : Op) (ty : ElemType) (xs ys : List Element) → list_all (is_element_of ty) xs ≡ true → list_all (is_element_of ty) ys ≡ true → list_all (is_element_of ty) (merged (combine op ty) xs ys) ≡ true
+pub merged_fit : (op : Op) (ty : ElemType) (xs ys : List Element) →
+    list_all (is_element_of ty) xs ≡ true → list_all (is_element_of ty) ys ≡ true →
+    list_all (is_element_of ty) (merged (combine op ty) xs ys) ≡ true
 unfolding merged
 merged_fit op ty [] ys h k = k
 merged_fit op ty (x ∷ xs) [] h k = h
@@ -191,31 +206,45 @@ merged_fit op ty (x ∷ xs) (y ∷ ys) h k =
     joined _ _ (combine_fits op ty x y first.0 second.0) (merged_fit op ty xs ys first.1 second.1)
 
 -- a part of a list of elements of a type
-take_fit : (p : Element → Bool) (n : ℕ) (xs : List Element) → list_all p xs ≡ true → list_all p (take n xs) ≡ true
+take_fit : (p : Element → Bool) (n : ℕ) (xs : List Element) → list_all p xs ≡ true →
+    list_all p (take n xs) ≡ true
 take_fit p zero xs h = refl
 take_fit p (suc n) [] h = refl
-take_fit p (suc n) (x ∷ xs) h = let first = both _ _ h in joined _ _ first.0 (take_fit p n xs first.1)
+take_fit p (suc n) (x ∷ xs) h =
+    let first = both _ _ h in joined _ _ first.0 (take_fit p n xs first.1)
 
-drop_fit : (p : Element → Bool) (n : ℕ) (xs : List Element) → list_all p xs ≡ true → list_all p (drop n xs) ≡ true
+drop_fit : (p : Element → Bool) (n : ℕ) (xs : List Element) → list_all p xs ≡ true →
+    list_all p (drop n xs) ≡ true
 drop_fit p zero xs h = h
 drop_fit p (suc n) [] h = refl
 drop_fit p (suc n) (x ∷ xs) h = drop_fit p n xs (both _ _ h).1
 
-pub slice_range_fit : (p : Element → Bool) (xs : List Element) (i j : ℕ) → list_all p xs ≡ true → list_all p (slice_range xs i j) ≡ true
+pub slice_range_fit : (p : Element → Bool) (xs : List Element) (i j : ℕ) → list_all p xs ≡ true →
+    list_all p (slice_range xs i j) ≡ true
 slice_range_fit p xs i j h = take_fit p _ _ (drop_fit p i xs h)
 
-pub append_fit : (p : Element → Bool) (xs ys : List Element) → list_all p xs ≡ true → list_all p ys ≡ true → list_all p (xs ++ ys) ≡ true
+pub append_fit : (p : Element → Bool) (xs ys : List Element) → list_all p xs ≡ true →
+    list_all p ys ≡ true → list_all p (xs ++ ys) ≡ true
 append_fit p xs ys h k = list_all-append p xs ys ∙ joined _ _ h k
 
 -- cells that got a part of others are fit
-pub appended_fit : (old other new : Cells) (i j : ℕ) → kind_of old ≡ kind_of other → kind_of new ≡ kind_of old → elements_in new ≡ elements_in old ++ slice_range (elements_in other) i j → AreFit old → AreFit other → AreFit new
+pub appended_fit : (old other new : Cells) (i j : ℕ) → kind_of old ≡ kind_of other →
+    kind_of new ≡ kind_of old →
+    elements_in new ≡ elements_in old ++ slice_range (elements_in other) i j → AreFit old →
+    AreFit other → AreFit new
 appended_fit old other new i j types kind same h k =
     let p : Element → Bool = is_element_of (kind_of old) in
     let second : list_all p (elements_in other) ≡ true = rw types k in
-    rw (kind, same) (append_fit p (elements_in old) _ h (slice_range_fit p (elements_in other) i j second))
+    rw (kind, same)
+    (append_fit p (elements_in old) _ h (slice_range_fit p (elements_in other) i j second))
 
-pub merged_cells_fit : (op : Op) (old other new : Cells) (i j : ℕ) → kind_of old ≡ kind_of other → kind_of new ≡ kind_of old → elements_in new ≡ merged (combine op (kind_of old)) (elements_in old) (slice_range (elements_in other) i j) → AreFit old → AreFit other → AreFit new
+pub merged_cells_fit : (op : Op) (old other new : Cells) (i j : ℕ) → kind_of old ≡ kind_of other →
+    kind_of new ≡ kind_of old →
+    elements_in new
+    ≡ merged (combine op (kind_of old)) (elements_in old) (slice_range (elements_in other) i j)
+    → AreFit old → AreFit other → AreFit new
 merged_cells_fit op old other new i j types kind same h k =
     let p : Element → Bool = is_element_of (kind_of old) in
     let second : list_all p (elements_in other) ≡ true = rw types k in
-    rw (kind, same) (merged_fit op (kind_of old) (elements_in old) _ h (slice_range_fit p (elements_in other) i j second))
+    rw (kind, same) (merged_fit op (kind_of old) (elements_in old) _ h
+    (slice_range_fit p (elements_in other) i j second))

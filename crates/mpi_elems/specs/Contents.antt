@@ -5,7 +5,8 @@ use Rattle.mpi_elems.specs.declared.elem_type.ElemType.{ElemType}
 use Rattle.mpi_elems.specs.Numbers.{is_number_of}
 use Rattle.mpi_elems.specs.Elements.{Element, elements_of, numbers_of}
 
--- a type, the numbers in order (a pair is two numbers), and how many elements it can hold without taking memory
+-- a type, the numbers in order (a pair is two numbers), and how many elements it can hold without
+-- taking memory
 pub record Contents : Type 0 where
   pub elem_type : ElemType
   pub numbers : List ℤ

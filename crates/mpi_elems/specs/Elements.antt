@@ -39,6 +39,7 @@ combine op ty (pair a i) (pair b j) = if keeps_first op a i b j then pair a i el
 combine op ty (single a) (pair b j) = single a
 combine op ty (pair a i) (single b) = pair a i
 
--- the elements that several ranks give for one place of the result, by rising rank, folded; one alone is itself, unchanged (own rule)
+-- the elements that several ranks give for one place of the result, by rising rank, folded; one
+-- alone is itself, unchanged (own rule)
 abbrev pub folded : Op → ElemType → List Element → Option Element
 folded op ty xs = fold_first (combine op ty) xs

@@ -1,5 +1,6 @@
 -- Why numbers are no buffer of a type.
-use Rattle.std.specs.Prelude.{◌%◌, ◌==◌, List, length, ℤ, not, ◌&&◌, Option, Some, None, if◌then◌else◌}
+use Rattle.std.specs.Prelude.{◌%◌, ◌==◌, List, length, ℤ, not, ◌&&◌, Option, Some, None}
+use Rattle.std.specs.Prelude.{if◌then◌else◌}
 use Rattle.std.specs.List.{list_all}
 use Rattle.mpi_elems.specs.declared.elem_type.ElemType.{ElemType}
 use Rattle.mpi_elems.specs.declared.fault.BufferFault.{BufferFault}

@@ -2,7 +2,9 @@
 use Rattle.std.specs.Prelude.{ℕ, Bool, ◌&&◌, ◌^◌, ◌-◌, ℤ, pos, neg_ℤ, int_lt, int_le, unsigned_abs}
 use Rattle.std.specs.Int.{w8, w16, w32, w64, int_rem_euclid, int_wrap, cast_signed, cast_unsigned}
 use Rattle.mpi_elems.specs.declared.elem_type.ElemType.{ElemType}
-use Rattle.mpi_elems.specs.declared.elem_type.ElemType.TheVariants.{Int8, Int16, Int32, Int64, Uint8, Uint16, Uint32, Uint64, TwoInt}
+use Rattle.mpi_elems.specs.declared.elem_type.ElemType.TheVariants.{Int8, Int16, Int32, Int64}
+use Rattle.mpi_elems.specs.declared.elem_type.ElemType.TheVariants.{Uint8, Uint16, Uint32, Uint64}
+use Rattle.mpi_elems.specs.declared.elem_type.ElemType.TheVariants.{TwoInt}
 
 -- from -2 ^ (k - 1) to 2 ^ (k - 1) - 1
 abbrev pub is_signed_of : ℕ → ℤ → Bool
@@ -24,7 +26,8 @@ is_number_of Uint32 x = is_unsigned_of 32 x
 is_number_of Uint64 x = is_unsigned_of 64 x
 is_number_of TwoInt x = is_signed_of 32 x
 
--- the number of the type that is x modulo two to the type's bits: sums and products wrap in two's complement (own rule)
+-- the number of the type that is x modulo two to the type's bits: sums and products wrap in two's
+-- complement (own rule)
 abbrev pub wrapped : ElemType → ℤ → ℤ
 wrapped Int8 x = int_wrap w8 x
 wrapped Int16 x = int_wrap w16 x

@@ -1,8 +1,11 @@
--- The operations of a reduction, on the whole numbers of a type and on pairs. (MPI 4.1, section 6.9.2, and 6.9.4 for pairs; wrapping and truth values are own rules.)
-use Rattle.std.specs.Prelude.{Bool, true, false, not, ◌&&◌, ◌||◌, ◌==◌, ℤ, pos, ◌+ℤ◌, ◌*ℤ◌, int_lt, bit_and, bit_or, bit_xor, if◌then◌else◌, unsigned_abs}
+-- The operations of a reduction, on the whole numbers of a type and on pairs. (MPI 4.1, section
+-- 6.9.2, and 6.9.4 for pairs; wrapping and truth values are own rules.)
+use Rattle.std.specs.Prelude.{Bool, true, false, not, ◌&&◌, ◌||◌, ◌==◌, ℤ, pos, ◌+ℤ◌, ◌*ℤ◌, int_lt}
+use Rattle.std.specs.Prelude.{bit_and, bit_or, bit_xor, if◌then◌else◌, unsigned_abs}
 use Rattle.std.specs.Int.{int_min, int_max}
 use Rattle.wall_labels.specs.declared.op.Op.{Op}
-use Rattle.wall_labels.specs.declared.op.Op.TheVariants.{Max, Min, Sum, Prod, Land, Lor, Lxor, Band, Bor, Bxor, Maxloc, Minloc}
+use Rattle.wall_labels.specs.declared.op.Op.TheVariants.{Max, Min, Sum, Prod, Land, Lor, Lxor, Band}
+use Rattle.wall_labels.specs.declared.op.Op.TheVariants.{Bor, Bxor, Maxloc, Minloc}
 use Rattle.mpi_elems.specs.declared.elem_type.ElemType.{ElemType}
 use Rattle.mpi_elems.specs.Types.{is_pair}
 use Rattle.mpi_elems.specs.Numbers.{wrapped, bits_of, of_bits}
@@ -43,7 +46,8 @@ on_numbers Bxor ty a b = of_bits ty (bit_xor (bits_of ty a) (bits_of ty b))
 on_numbers Maxloc ty a b = a
 on_numbers Minloc ty a b = a
 
--- the first of two pairs is the result: its value is the better one, or both have one value and its index is not the higher
+-- the first of two pairs is the result: its value is the better one, or both have one value and its
+-- index is not the higher
 abbrev pub keeps_first : Op → ℤ → ℤ → ℤ → ℤ → Bool
 keeps_first Minloc a i b j = int_lt a b || not (int_lt b a) && not (int_lt j i)
 keeps_first _ a i b j = int_lt b a || not (int_lt a b) && not (int_lt j i)

@@ -1,12 +1,16 @@
 -- What a buffer's cells show.
-use Rattle.std.specs.Prelude.{◌≡◌, ℕ, List, map, ℤ, pos, true, false, Option, None, option_to_list, ◌++◌, vec_capacity}
+use Rattle.std.specs.Prelude.{◌≡◌, ℕ, List, map, ℤ, pos, true, false, Option, None, option_to_list}
+use Rattle.std.specs.Prelude.{◌++◌, vec_capacity}
 use Rattle.std.specs.List.{list_all}
 use Rattle.mpi_elems.specs.Types.{is_pair}
 use Rattle.mpi_elems.specs.Numbers.{is_number_of}
 use Rattle.mpi_elems.specs.declared.elem_type.ElemType.{ElemType}
-use Rattle.mpi_elems.specs.declared.elem_type.ElemType.TheVariants.{Int8, Int16, Int32, Int64, Uint8, Uint16, Uint32, Uint64, TwoInt}
+use Rattle.mpi_elems.specs.declared.elem_type.ElemType.TheVariants.{Int8, Int16, Int32, Int64}
+use Rattle.mpi_elems.specs.declared.elem_type.ElemType.TheVariants.{Uint8, Uint16, Uint32, Uint64}
+use Rattle.mpi_elems.specs.declared.elem_type.ElemType.TheVariants.{TwoInt}
 use Rattle.mpi_elems.specs.declared.cells.Cells.{Cells}
-use Rattle.mpi_elems.specs.declared.cells.Cells.TheVariants.{I8, I16, I32, I64, U8, U16, U32, U64, Pairs}
+use Rattle.mpi_elems.specs.declared.cells.Cells.TheVariants.{I8, I16, I32, I64, U8, U16, U32, U64}
+use Rattle.mpi_elems.specs.declared.cells.Cells.TheVariants.{Pairs}
 use Rattle.mpi_elems.specs.Elements.{Element, single, pair, numbers_of, is_element_of}
 use Rattle.mpi_elems.specs.Contents.{Contents, contents}
 
@@ -56,5 +60,6 @@ draft c half = contents (kind_of c) (numbers_of (elements_in c) ++ option_to_lis
 
 -- each number is one of the type's, and only a pair can lack its index
 pub record IsDraft (c : Cells) (half : Option ℤ) : Type 0 where
-  pub of_type : list_all (is_number_of (kind_of c)) (numbers_of (elements_in c) ++ option_to_list half) ≡ true
+  pub of_type :
+      list_all (is_number_of (kind_of c)) (numbers_of (elements_in c) ++ option_to_list half) ≡ true
   pub no_half : is_pair (kind_of c) ≡ false → half ≡ None

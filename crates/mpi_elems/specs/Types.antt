@@ -1,8 +1,12 @@
--- The types of elements and their names. (Own rule: the integer types by width, and a pair of 32-bit numbers as in MPI 4.1, section 6.9.4.)
-use Rattle.std.specs.Prelude.{ℕ, List, [], ◌∷◌, Bool, true, false, Option, find, codes, if◌then◌else◌}
+-- The types of elements and their names. (Own rule: the integer types by width, and a pair of
+-- 32-bit numbers as in MPI 4.1, section 6.9.4.)
+use Rattle.std.specs.Prelude.{ℕ, List, [], ◌∷◌, Bool, true, false, Option, find, codes}
+use Rattle.std.specs.Prelude.{if◌then◌else◌}
 use Rattle.std.specs.Str.{bytes_eq}
 use Rattle.mpi_elems.specs.declared.elem_type.ElemType.{ElemType}
-use Rattle.mpi_elems.specs.declared.elem_type.ElemType.TheVariants.{Int8, Int16, Int32, Int64, Uint8, Uint16, Uint32, Uint64, TwoInt}
+use Rattle.mpi_elems.specs.declared.elem_type.ElemType.TheVariants.{Int8, Int16, Int32, Int64}
+use Rattle.mpi_elems.specs.declared.elem_type.ElemType.TheVariants.{Uint8, Uint16, Uint32, Uint64}
+use Rattle.mpi_elems.specs.declared.elem_type.ElemType.TheVariants.{TwoInt}
 
 abbrev pub type_name : ElemType → List ℕ
 type_name Int8 = codes "int8"

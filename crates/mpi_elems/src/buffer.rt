@@ -1,5 +1,6 @@
 //! A buffer of elements of one type.
-ghost use Rattle.std.specs.Prelude.{◌≡◌, ◌==◌, ◌<◌, ◌≤◌, ◌+◌, ◌%◌, ◌++◌, ◌↔◌, [], length, IfOk, IfErr, IsOk, OnOk, IsTrue, true, slice_get, slice_range};
+ghost use Rattle.std.specs.Prelude.{◌≡◌, ◌==◌, ◌<◌, ◌≤◌, ◌+◌, ◌%◌, ◌++◌, ◌↔◌, [], length, IfOk};
+ghost use Rattle.std.specs.Prelude.{IfErr, IsOk, OnOk, IsTrue, true, slice_get, slice_range};
 ghost use Rattle.std.specs.List.{list_all};
 ghost use Rattle.mpi_elems.specs.Types.{is_pair};
 ghost use Rattle.mpi_elems.specs.Numbers.{is_number_of};
@@ -62,14 +63,16 @@ impl Buffer {
         }
     }
 
-    /// A buffer of the numbers, with room for no more. `BadNumber` where one is outside the type; else `OddPair`
-    /// where the last pair lacks its index; else `NoMemory` where memory was refused.
+    /// A buffer of the numbers, with room for no more. `BadNumber` where one is outside the type;
+    /// else `OddPair` where the last pair lacks its index; else `NoMemory` where memory was
+    /// refused.
     pub fn from_numbers(
         alloc: Global,
         ty: ElemType,
         numbers: &[i128],
     ) -> Result<Buffer, BufferFault>
-        ensures made { IfOk result (λ b. b ≡ contents ty numbers.now (length (elements_of ty numbers.now))) }
+        ensures made { IfOk result
+            (λ b. b ≡ contents ty numbers.now (length (elements_of ty numbers.now))) }
         ensures sound { OnOk result (fault_of ty numbers.now ≡ None) }
         ensures fault { IfErr result (λ f. fault_of ty numbers.now ≡ told f) }
         ensures no_need { length numbers.now ≡ 0 → IsOk result }
@@ -141,13 +144,14 @@ impl Buffer {
 
     /// Whether both have the same numbers of one type.
     pub fn is_same(&self, other: &Buffer) -> bool
-        ensures { IsTrue result
-            ↔ ((self.now.elem_type ≡ other.now.elem_type) × (self.now.numbers ≡ other.now.numbers)) }
+        ensures { IsTrue result ↔
+            ((self.now.elem_type ≡ other.now.elem_type) × (self.now.numbers ≡ other.now.numbers)) }
     {
         are_same(&self.cells, &other.cells)
     }
 
-    /// Appends `len` elements of the other buffer from element `start` on, for which there is room. Takes no memory.
+    /// Appends `len` elements of the other buffer from element `start` on, for which there is room.
+    /// Takes no memory.
     pub fn append_range(&mut self, other: &Buffer, start: usize, len: usize)
         requires one_type { self.old.elem_type ≡ other.now.elem_type }
         requires within { start + len ≤ length (elements other.now) }
@@ -161,9 +165,9 @@ impl Buffer {
         append_cells(&mut self.cells, &other.cells, start, len);
     }
 
-    /// Combines `len` elements of the other buffer, from element `start` on, into this one: element y with the
-    /// other's element `start + y`, this buffer's being from the lower rank. Where this buffer is shorter the rest is
-    /// appended; where it is longer its rest stays. Takes no memory.
+    /// Combines `len` elements of the other buffer, from element `start` on, into this one: element
+    /// y with the other's element `start + y`, this buffer's being from the lower rank. Where this
+    /// buffer is shorter the rest is appended; where it is longer its rest stays. Takes no memory.
     pub fn merge_range(&mut self, op: Op, other: &Buffer, start: usize, len: usize)
         requires one_type { self.old.elem_type ≡ other.now.elem_type }
         requires within { start + len ≤ length (elements other.now) }
@@ -171,7 +175,8 @@ impl Buffer {
         requires allowed { is_allowed op self.old.elem_type ≡ true }
         ensures kind { self.new.elem_type ≡ self.old.elem_type }
         ensures elements { elements self.new
-            ≡ merged (combine op self.old.elem_type) (elements self.old) (slice_range (elements other.now) start (start + len)) }
+            ≡ merged (combine op self.old.elem_type) (elements self.old)
+            (slice_range (elements other.now) start (start + len)) }
         ensures room { self.old.room ≤ self.new.room }
         ensures kept { len ≤ length (elements self.old) → self.new.room ≡ self.old.room }
         ensures fit { IsFit self.new }
@@ -184,15 +189,16 @@ impl Buffer {
 fn buffer_of(alloc: Global, ty: ElemType, numbers: &[i128]) -> Result<Buffer, AllocError>
     requires fit { list_all (is_number_of ty) numbers.now ≡ true }
     requires even { is_pair ty ≡ true → length numbers.now % 2 ≡ 0 }
-    ensures made { IfOk result (λ b. b ≡ contents ty numbers.now (length (elements_of ty numbers.now))) }
+    ensures made { IfOk result
+        (λ b. b ≡ contents ty numbers.now (length (elements_of ty numbers.now))) }
     ensures no_need { length numbers.now ≡ 0 → IsOk result }
 {
     let cells = cells_of(alloc, ty, numbers)?;
     Ok(Buffer { cells })
 }
 
-/// Combines each element of `first`, which is from the lower rank, with the one of `second` at its place. Takes no
-/// memory.
+/// Combines each element of `first`, which is from the lower rank, with the one of `second` at its
+/// place. Takes no memory.
 pub fn combine_into(op: Op, first: &mut Buffer, second: &Buffer)
     requires one_type { first.old.elem_type ≡ second.now.elem_type }
     requires one_count { length (elements first.old) ≡ length (elements second.now) }
@@ -206,7 +212,8 @@ pub fn combine_into(op: Op, first: &mut Buffer, second: &Buffer)
     merge_cells(op, &mut first.cells, &second.cells, 0, count(&second.cells));
 }
 
-/// Whether an operation may be used on elements of a type: `maxloc` and `minloc` on pairs, the others on numbers.
+/// Whether an operation may be used on elements of a type: `maxloc` and `minloc` on pairs, the
+/// others on numbers.
 #[tactic(auto, unfolding(crate::specs::Operations::is_allowed))]
 pub fn allowed(op: Op, ty: ElemType) -> bool
     ensures { result ≡ is_allowed op ty }

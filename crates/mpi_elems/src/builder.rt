@@ -1,5 +1,7 @@
 //! Buffers filled number by number.
-ghost use Rattle.std.specs.Prelude.{◌≡◌, ◌≢◌, ◌<◌, ◌*◌, ◌+◌, ◌++◌, [], ◌∷◌, ◌↔◌, length, IfOk, IfErr, IsOk, IsErr, OnOk, OnErr, Some, None, true, false, option_to_list, vec_len, vec_capacity, if◌then◌else◌};
+ghost use Rattle.std.specs.Prelude.{◌≡◌, ◌≢◌, ◌<◌, ◌*◌, ◌+◌, ◌++◌, [], ◌∷◌, ◌↔◌, length, IfOk};
+ghost use Rattle.std.specs.Prelude.{IfErr, IsOk, IsErr, OnOk, OnErr, Some, None, true, false};
+ghost use Rattle.std.specs.Prelude.{option_to_list, vec_len, vec_capacity, if◌then◌else◌};
 ghost use Rattle.mpi_elems.specs.Types.{is_pair, numbers_per_element};
 ghost use Rattle.mpi_elems.specs.Numbers.{is_number_of};
 ghost use Rattle.mpi_elems.specs.Elements.{numbers_of};
@@ -15,7 +17,8 @@ use crate::{Buffer, BufferFault, ElemType, NoMemory};
 use std::alloc::Global;
 use std::marker::Model;
 
-/// A buffer in the making, which takes its numbers one by one. Its last pair may still lack its index.
+/// A buffer in the making, which takes its numbers one by one. Its last pair may still lack its
+/// index.
 #[derive(Drop)]
 pub struct BufferBuilder {
     cells: Cells,
@@ -48,12 +51,16 @@ impl BufferBuilder {
         }
     }
 
-    /// Adds a number, for which there is room. `BadNumber` where it is outside the type. Takes no memory.
+    /// Adds a number, for which there is room. `BadNumber` where it is outside the type. Takes no
+    /// memory.
     pub fn push_number(&mut self, number: i128) -> Result<(), BufferFault>
-        requires { length self.old.numbers < numbers_per_element self.old.elem_type * self.old.room }
-        ensures added { OnOk result (self.new ≡ contents self.old.elem_type (self.old.numbers ++ number ∷ []) self.old.room) }
+        requires { length self.old.numbers
+            < numbers_per_element self.old.elem_type * self.old.room }
+        ensures added { OnOk result (self.new
+            ≡ contents self.old.elem_type (self.old.numbers ++ number ∷ []) self.old.room) }
         ensures sound { OnOk result (is_number_of self.old.elem_type number ≡ true) }
-        ensures outside { IfErr result (λ f. (f ≡ BufferFault.BadNumber) × (is_number_of self.old.elem_type number ≡ false)) }
+        ensures outside { IfErr result
+            (λ f. (f ≡ BufferFault.BadNumber) × (is_number_of self.old.elem_type number ≡ false)) }
         ensures unchanged { OnErr result (self.new ≡ self.old) }
     {
         if push(&mut self.cells, &mut self.half, number) {
@@ -67,7 +74,8 @@ impl BufferBuilder {
     pub fn finish(self) -> Result<Buffer, BufferFault>
         ensures made { IfOk result (λ b. b ≡ self) }
         ensures sound { OnOk result (fault_of self.elem_type self.numbers ≡ None) }
-        ensures odd { IfErr result (λ f. (f ≡ BufferFault.OddPair) × (fault_of self.elem_type self.numbers ≡ Some BufferFault.OddPair)) }
+        ensures odd { IfErr result (λ f. (f ≡ BufferFault.OddPair)
+            × (fault_of self.elem_type self.numbers ≡ Some BufferFault.OddPair)) }
     {
         let BufferBuilder { cells, half } = self;
         match half {
@@ -116,7 +124,8 @@ fn push_of_pair(items: &mut Vec<(i32, i32)>, half: &mut Option<i32>, number: i12
     requires { vec_len items.old < vec_capacity items.old }
     ensures accepted { result ≡ is_number_of TwoInt number }
     ensures numbers { numbers_of (pairs items.new.items) ++ option_to_list half.new
-        ≡ (numbers_of (pairs items.old.items) ++ option_to_list half.old) ++ (if result then number ∷ [] else []) }
+        ≡ (numbers_of (pairs items.old.items) ++ option_to_list half.old)
+        ++ (if result then number ∷ [] else []) }
     ensures room { vec_capacity items.new ≡ vec_capacity items.old }
 {
     match i32::from_number(number) {
@@ -136,7 +145,8 @@ fn push(cells: &mut Cells, half: &mut Option<i32>, number: i128) -> bool
     ensures accepted { result ≡ is_number_of (kind_of cells.old) number }
     ensures kind { kind_of cells.new ≡ kind_of cells.old }
     ensures numbers { numbers_of (elements_in cells.new) ++ option_to_list half.new
-        ≡ (numbers_of (elements_in cells.old) ++ option_to_list half.old) ++ (if result then number ∷ [] else []) }
+        ≡ (numbers_of (elements_in cells.old) ++ option_to_list half.old)
+        ++ (if result then number ∷ [] else []) }
     ensures no_half { is_pair (kind_of cells.old) ≡ false → half.new ≡ None }
     ensures room { room_of cells.new ≡ room_of cells.old }
 {

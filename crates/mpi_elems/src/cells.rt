@@ -1,5 +1,6 @@
 //! The cells of a buffer, each type at its own width.
-ghost use Rattle.std.specs.Prelude.{◌≡◌, ◌<◌, ◌≤◌, ◌+◌, ◌%◌, ◌++◌, [], ◌↔◌, length, IfOk, IsOk, IsTrue, Some, slice_get, slice_range, true};
+ghost use Rattle.std.specs.Prelude.{◌≡◌, ◌<◌, ◌≤◌, ◌+◌, ◌%◌, ◌++◌, [], ◌↔◌, length, IfOk, IsOk};
+ghost use Rattle.std.specs.Prelude.{IsTrue, Some, slice_get, slice_range, true};
 ghost use Rattle.std.specs.List.{list_all};
 ghost use Rattle.mpi_elems.specs.Types.{is_pair};
 ghost use Rattle.mpi_elems.specs.Numbers.{is_number_of};
@@ -257,7 +258,8 @@ pub fn merge_cells(op: Op, to: &mut Cells, from: &Cells, start: usize, len: usiz
     requires allowed { is_allowed op (kind_of to.old) ≡ true }
     ensures kind { kind_of to.new ≡ kind_of to.old }
     ensures elements { elements_in to.new
-        ≡ merged (combine op (kind_of to.old)) (elements_in to.old) (slice_range (elements_in from.now) start (start + len)) }
+        ≡ merged (combine op (kind_of to.old)) (elements_in to.old)
+        (slice_range (elements_in from.now) start (start + len)) }
     ensures room { room_of to.old ≤ room_of to.new }
     ensures kept { len ≤ length (elements_in to.old) → room_of to.new ≡ room_of to.old }
 {
@@ -303,7 +305,8 @@ pub fn merge_cells(op: Op, to: &mut Cells, from: &Cells, start: usize, len: usiz
 
 /// Whether two lists of cells are of one type and show the same.
 pub fn are_same(a: &Cells, b: &Cells) -> bool
-    ensures { IsTrue result ↔ ((kind_of a.now ≡ kind_of b.now) × (elements_in a.now ≡ elements_in b.now)) }
+    ensures { IsTrue result ↔
+        ((kind_of a.now ≡ kind_of b.now) × (elements_in a.now ≡ elements_in b.now)) }
 {
     match a {
         Cells::I8(items) => match b {

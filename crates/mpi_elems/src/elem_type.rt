@@ -1,6 +1,7 @@
 //! The types of elements.
 ghost use Rattle.std.specs.Prelude.{◌≡◌};
-ghost use Rattle.mpi_elems.specs.Types.{is_pair as is_pair_type, numbers_per_element as numbers_in_one};
+ghost use Rattle.mpi_elems.specs.Types.{is_pair as is_pair_type};
+ghost use Rattle.mpi_elems.specs.Types.{numbers_per_element as numbers_in_one};
 ghost use Rattle.mpi_elems.specs.Numbers.{is_number_of};
 
 use crate::cells::has_numbers;

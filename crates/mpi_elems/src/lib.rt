@@ -1,8 +1,8 @@
 //! Elements: their types, buffers of them, and the operations of a reduction.
 //!
-//! A buffer keeps its elements at the width of their type. Contracts see it as the type, the numbers in order, and
-//! the room: how many elements it can hold without taking memory. A pair of the type `2int` is one element and two
-//! numbers.
+//! A buffer keeps its elements at the width of their type. Contracts see it as the type, the
+//! numbers in order, and the room: how many elements it can hold without taking memory. A pair of
+//! the type `2int` is one element and two numbers.
 #![tactic(auto)]
 
 mod buffer;

@@ -5,7 +5,9 @@ ghost use Rattle.std.specs.Prelude.{◌≡◌, ℤ, pos, int_lt, is_some, IfSome
 ghost use Rattle.mpi_elems.specs.Numbers.{is_number_of};
 ghost use Rattle.mpi_elems.specs.Operations.{on_numbers, is_nonzero as is_nonzero_number, truth};
 ghost use Rattle.mpi_elems.specs.declared.elem_type.ElemType.{ElemType as TypeOfElements};
-ghost use Rattle.mpi_elems.specs.declared.elem_type.ElemType.TheVariants.{Int8, Int16, Int32, Int64, Uint8, Uint16, Uint32, Uint64};
+ghost use Rattle.mpi_elems.specs.declared.elem_type.ElemType.TheVariants.{Int8, Int16, Int32};
+ghost use Rattle.mpi_elems.specs.declared.elem_type.ElemType.TheVariants.{Int64, Uint8, Uint16};
+ghost use Rattle.mpi_elems.specs.declared.elem_type.ElemType.TheVariants.{Uint32, Uint64};
 ghost use Rattle.wall_labels.specs.declared.op.Op.TheVariants.{Sum, Prod, Band, Bor, Bxor};
 
 /// A native number, which stands for a whole number.

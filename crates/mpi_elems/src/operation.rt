@@ -1,11 +1,14 @@
 //! The operations as types, and the loop that merges a row of cells into another.
-ghost use Rattle.std.specs.Prelude.{◌≡◌, ℤ, pos, ◌<◌, ◌≤◌, ◌+◌, length, take, drop, slice_range, true, false, vec_len, vec_capacity};
+ghost use Rattle.std.specs.Prelude.{◌≡◌, ℤ, pos, ◌<◌, ◌≤◌, ◌+◌, length, take, drop, slice_range};
+ghost use Rattle.std.specs.Prelude.{true, false, vec_len, vec_capacity};
 ghost use Rattle.mpi_elems.specs.Operations.{on_numbers, is_of_pairs};
 ghost use Rattle.mpi_elems.specs.Elements.{combine};
 ghost use Rattle.mpi_elems.specs.Lists.{merged};
 ghost use Rattle.mpi_elems.specs.Loops.{Combines, Merges, better_pair, singles, pairs};
 ghost use Rattle.mpi_elems.specs.declared.elem_type.ElemType.TheVariants.{TwoInt};
-ghost use Rattle.wall_labels.specs.declared.op.Op.TheVariants.{Max, Min, Sum, Prod, Land, Lor, Lxor, Band, Bor, Bxor, Maxloc, Minloc};
+ghost use Rattle.wall_labels.specs.declared.op.Op.TheVariants.{Max, Min, Sum, Prod, Land, Lor};
+ghost use Rattle.wall_labels.specs.declared.op.Op.TheVariants.{Lxor, Band, Bor, Bxor, Maxloc};
+ghost use Rattle.wall_labels.specs.declared.op.Op.TheVariants.{Minloc};
 
 use crate::native::Native;
 use crate::reading::append;
@@ -163,7 +166,8 @@ impl Operation<(i32, i32)> for ByMinloc {
 /// Combines each cell of `seconds` into the one of `firsts` at its place.
 fn combine_each<T: Copy, O: Operation<T>>(firsts: &mut [T], seconds: &[T])
     requires { length seconds.now ≤ length firsts.old }
-    ensures combined { Combines O.gives (take (length seconds.now) firsts.old) seconds.now (take (length seconds.now) firsts.new) }
+    ensures combined { Combines O.gives (take (length seconds.now) firsts.old) seconds.now
+        (take (length seconds.now) firsts.new) }
     ensures rest { drop (length seconds.now) firsts.new ≡ drop (length seconds.now) firsts.old }
 {
     for i in 0..seconds.len() {
@@ -171,12 +175,15 @@ fn combine_each<T: Copy, O: Operation<T>>(firsts: &mut [T], seconds: &[T])
     }
 }
 
-/// Combines the cells at the places that both have, and appends what `seconds` has beyond them. Takes no memory.
+/// Combines the cells at the places that both have, and appends what `seconds` has beyond them.
+/// Takes no memory.
 fn merge_each<T: Copy, O: Operation<T>>(firsts: &mut Vec<T>, seconds: &[T])
-    requires { vec_len firsts.old < length seconds.now → length seconds.now ≤ vec_capacity firsts.old }
+    requires { vec_len firsts.old < length seconds.now →
+        length seconds.now ≤ vec_capacity firsts.old }
     ensures cells { Merges O.gives firsts.old.items seconds.now firsts.new.items }
     ensures room { vec_capacity firsts.old ≤ vec_capacity firsts.new }
-    ensures kept { length seconds.now ≤ vec_len firsts.old → vec_capacity firsts.new ≡ vec_capacity firsts.old }
+    ensures kept { length seconds.now ≤ vec_len firsts.old →
+        vec_capacity firsts.new ≡ vec_capacity firsts.old }
 {
     let common = firsts.len().min(seconds.len());
     combine_each::<T, O>(firsts, &seconds[..common]);
@@ -188,11 +195,14 @@ fn merge_each<T: Copy, O: Operation<T>>(firsts: &mut Vec<T>, seconds: &[T])
 /// Merges numbers by an operation on numbers.
 fn merge_number_slice<T: Native>(op: Op, firsts: &mut Vec<T>, seconds: &[T])
     requires of_numbers { is_of_pairs op ≡ false }
-    requires room { vec_len firsts.old < length seconds.now → length seconds.now ≤ vec_capacity firsts.old }
+    requires room { vec_len firsts.old < length seconds.now →
+        length seconds.now ≤ vec_capacity firsts.old }
     ensures elements { singles T.number firsts.new.items
-        ≡ merged (combine op T.kind) (singles T.number firsts.old.items) (singles T.number seconds.now) }
+        ≡ merged (combine op T.kind) (singles T.number firsts.old.items)
+        (singles T.number seconds.now) }
     ensures room { vec_capacity firsts.old ≤ vec_capacity firsts.new }
-    ensures kept { length seconds.now ≤ vec_len firsts.old → vec_capacity firsts.new ≡ vec_capacity firsts.old }
+    ensures kept { length seconds.now ≤ vec_len firsts.old →
+        vec_capacity firsts.new ≡ vec_capacity firsts.old }
 {
     match op {
         Op::Max => merge_each::<T, ByMax>(firsts, seconds),
@@ -213,11 +223,13 @@ fn merge_number_slice<T: Native>(op: Op, firsts: &mut Vec<T>, seconds: &[T])
 /// Merges pairs by an operation on pairs.
 fn merge_pair_slice(op: Op, firsts: &mut Vec<(i32, i32)>, seconds: &[(i32, i32)])
     requires of_pairs { is_of_pairs op ≡ true }
-    requires room { vec_len firsts.old < length seconds.now → length seconds.now ≤ vec_capacity firsts.old }
+    requires room { vec_len firsts.old < length seconds.now →
+        length seconds.now ≤ vec_capacity firsts.old }
     ensures elements { pairs firsts.new.items
         ≡ merged (combine op TwoInt) (pairs firsts.old.items) (pairs seconds.now) }
     ensures room { vec_capacity firsts.old ≤ vec_capacity firsts.new }
-    ensures kept { length seconds.now ≤ vec_len firsts.old → vec_capacity firsts.new ≡ vec_capacity firsts.old }
+    ensures kept { length seconds.now ≤ vec_len firsts.old →
+        vec_capacity firsts.new ≡ vec_capacity firsts.old }
 {
     match op {
         Op::Maxloc => merge_each::<(i32, i32), ByMaxloc>(firsts, seconds),
@@ -236,12 +248,14 @@ pub fn merge_numbers<T: Native>(
 )
     requires of_numbers { is_of_pairs op ≡ false }
     requires within { start + len ≤ length (singles T.number from.now.items) }
-    requires room { length (singles T.number firsts.old.items) < len → len ≤ vec_capacity firsts.old }
+    requires room { length (singles T.number firsts.old.items) < len →
+        len ≤ vec_capacity firsts.old }
     ensures elements { singles T.number firsts.new.items
         ≡ merged (combine op T.kind) (singles T.number firsts.old.items)
         (slice_range (singles T.number from.now.items) start (start + len)) }
     ensures room { vec_capacity firsts.old ≤ vec_capacity firsts.new }
-    ensures kept { len ≤ length (singles T.number firsts.old.items) → vec_capacity firsts.new ≡ vec_capacity firsts.old }
+    ensures kept { len ≤ length (singles T.number firsts.old.items) →
+        vec_capacity firsts.new ≡ vec_capacity firsts.old }
 {
     merge_number_slice(op, firsts, &from[start..start + len]);
 }
@@ -258,9 +272,11 @@ pub fn merge_pairs(
     requires within { start + len ≤ length (pairs from.now.items) }
     requires room { length (pairs firsts.old.items) < len → len ≤ vec_capacity firsts.old }
     ensures elements { pairs firsts.new.items
-        ≡ merged (combine op TwoInt) (pairs firsts.old.items) (slice_range (pairs from.now.items) start (start + len)) }
+        ≡ merged (combine op TwoInt) (pairs firsts.old.items)
+        (slice_range (pairs from.now.items) start (start + len)) }
     ensures room { vec_capacity firsts.old ≤ vec_capacity firsts.new }
-    ensures kept { len ≤ length (pairs firsts.old.items) → vec_capacity firsts.new ≡ vec_capacity firsts.old }
+    ensures kept { len ≤ length (pairs firsts.old.items) →
+        vec_capacity firsts.new ≡ vec_capacity firsts.old }
 {
     merge_pair_slice(op, firsts, &from[start..start + len]);
 }

@@ -1,4 +1,5 @@
 pub mod GroupLemmas
 pub mod Marks
+pub mod MemberLemmas
 pub mod RankTables
 pub mod MpiGroupLemmas

@@ -1,5 +1,8 @@
--- Groups. (MPI 4.1, section 7.3.) A group is the list of its members by rank; no process is in it twice.
-use Rattle.std.specs.Prelude.{◌≡◌, ◌==◌, ℕ, ◌<◌, Bool, true, not, ◌&&◌, if◌then◌else◌, List, [], ◌∷◌, ◌++◌, Option, Some, None, All, filter, filter_map, option_and_then, position, slice_get, nat_lt}
+-- Groups. (MPI 4.1, section 7.3.) A group is the list of its members by rank; no process is in it
+-- twice.
+use Rattle.std.specs.Prelude.{◌≡◌, ◌==◌, ℕ, ◌<◌, Bool, true, not, ◌&&◌, if◌then◌else◌, List, []}
+use Rattle.std.specs.Prelude.{◌∷◌, ◌++◌, Option, Some, None, All, filter, filter_map}
+use Rattle.std.specs.Prelude.{option_and_then, position, slice_get, nat_lt}
 use Rattle.std.specs.List.{list_any, list_all}
 use Rattle.std.specs.Str.{bytes_eq as lists_eq}
 use Rattle.wall_labels.specs.declared.ids.TheConstants.{PROCESS_LIMIT}
@@ -25,7 +28,8 @@ pub record IsGroup (members : List ℕ) : Type 0 where
 abbrev pub rank_in : List ℕ → ℕ → Option ℕ
 rank_in members p = position (λ m. m == p) members
 
--- the rank that the second group gives to the member of the first at this rank (MPI_Group_translate_ranks)
+-- the rank that the second group gives to the member of the first at this rank
+-- (MPI_Group_translate_ranks)
 abbrev pub translated : List ℕ → List ℕ → ℕ → Option ℕ
 translated members others rank = option_and_then (rank_in others) (slice_get members rank)
 
@@ -55,11 +59,11 @@ are_ranks size ranks = list_all (λ rank. nat_lt rank size) ranks
 
 -- the first thing wrong with the ranks named: incl and excl take each rank at most once
 abbrev pub ranks_fault : ℕ → List ℕ → Option GroupFault
-ranks_fault size ranks = if are_ranks size ranks then (if is_distinct ranks then None else Some RepeatedRank) else Some BadRank
+ranks_fault size ranks = if are_ranks size ranks
+    then (if is_distinct ranks then None else Some RepeatedRank) else Some BadRank
 
 -- the same members in the same order, the same members, or neither (MPI_Group_compare)
 unfoldable pub group_compare : List ℕ → List ℕ → GroupCompare
-group_compare members others =
-    if lists_eq members others
-    then Identical
-    else (if list_all (is_member others) members && list_all (is_member members) others then Similar else Unequal)
+group_compare members others = if lists_eq members others then Identical
+    else (if list_all (is_member others) members && list_all (is_member members) others then Similar
+    else Unequal)

@@ -1,9 +1,13 @@
 //! Groups, with a table of ranks beside the members.
 ghost use Rattle.std.specs.List.{list_all};
-ghost use Rattle.std.specs.Prelude.{OnOk, not, All, filter, filter_map, unwrap_or, slice_index_or, if◌then◌else◌, ◌≡◌, ◌<◌, ◌≤◌, ◌↔◌, ℕ, List, [], ◌∷◌, ◌++◌, length, take, true, false, Some, None, IfOk, IfErr, IsTrue, MatchOption, slice_get, position, ◌==◌};
+ghost use Rattle.std.specs.Prelude.{OnOk, not, All, filter, unwrap_or, slice_index_or};
+ghost use Rattle.std.specs.Prelude.{if◌then◌else◌, ◌≡◌, ◌<◌, ◌≤◌, ◌↔◌, ℕ, length, true, false};
+ghost use Rattle.std.specs.Prelude.{Some, None, IfOk, IfErr, IsErr, IsErrOf, IsTrue, slice_get};
+ghost use Rattle.std.specs.Prelude.{position, ◌==◌};
 ghost use Rattle.wall_labels.specs.declared.ids.TheConstants.{PROCESS_LIMIT};
-ghost use Rattle.mpi_group.specs.Groups.{IsGroup, is_distinct, is_member, are_ranks, ranks_fault, union_of, members_at};
-ghost use Rattle.mpi_group.specs.Ranks.{IsIndex};
+ghost use Rattle.mpi_group.specs.Groups.{IsGroup, is_distinct, is_member, are_ranks, ranks_fault};
+ghost use Rattle.mpi_group.specs.Groups.{union_of, members_at};
+ghost use Rattle.mpi_group.specs.Ranks.{IsTable};
 
 use super::compare::GroupCompare;
 use super::fault::GroupFault;
@@ -11,14 +15,13 @@ use std::alloc::{AllocError, Global};
 use std::marker::Model;
 use wall_labels::{NoMemory, PROCESS_LIMIT, ProcessId};
 
-/// The rank of each process, by its number.
-type RankTable = [Option<u16>; PROCESS_LIMIT as usize];
-
 /// Distinct processes, in the order of their ranks.
 #[derive(Drop)]
 pub struct Group {
     members: Vec<ProcessId>,
-    ranks: RankTable,
+    // The rank of each process by its number, up to the highest member's. On the heap, since a
+    // group is moved more often than it is made.
+    ranks: Vec<Option<u16>>,
 }
 
 impl Model for Group {
@@ -27,28 +30,31 @@ impl Model for Group {
     ghost Value = { List ℕ };
 
     ghost use Rattle.mpi_group.specs.Groups.{IsGroup};
-    ghost use Rattle.mpi_group.specs.Ranks.{IsIndex};
+    ghost use Rattle.mpi_group.specs.Ranks.{IsTable};
 
     ghost view = { λ g. g.members.items };
 
-    ghost invariant = { λ g. IsGroup g.members.items × IsIndex g.members.items g.ranks };
+    ghost invariant = { λ g. IsGroup g.members.items × IsTable g.members.items g.ranks.items };
 }
 
 impl Group {
-    ghost use Rattle.mpi_group.specs.Groups.{IsGroup, is_distinct, is_member, translated, group_compare, union_of, intersection_of, difference_of, ranks_fault, members_at, members_apart_from};
+    ghost use Rattle.mpi_group.specs.Groups.{IsGroup, is_distinct, is_member, translated};
+    ghost use Rattle.mpi_group.specs.Groups.{group_compare, union_of, intersection_of};
+    ghost use Rattle.mpi_group.specs.Groups.{difference_of, ranks_fault, members_at};
+    ghost use Rattle.mpi_group.specs.Groups.{members_apart_from};
     ghost use Rattle.wall_labels.specs.declared.ids.TheConstants.{PROCESS_LIMIT};
 
-    /// The group of these processes, in this order.
+    /// The group of these processes, in this order. A repeat is told before memory is asked for;
+    /// the group of no processes takes none.
     pub fn from_list(alloc: Global, processes: &[ProcessId]) -> Result<Group, GroupFault>
         ensures made { IfOk result (λ group. group ≡ processes.now) }
         ensures good { OnOk result (is_distinct processes.now ≡ true) }
         ensures fault { IfErr result (λ fault. fault ≡
             (if is_distinct processes.now then GroupFault.NoMemory else GroupFault.RepeatedRank)) }
+        ensures memory { IsErrOf result GroupFault.NoMemory → 0 < length processes.now }
     {
-        let Some(ranks) = rank_table(processes) else {
-            return Err(GroupFault::RepeatedRank);
-        };
-        let members = Vec::from_slice(alloc, processes)?;
+        let ranks = rank_table(alloc, processes)?;
+        let members = copied(alloc, processes)?;
         Ok(Group { members, ranks })
     }
 
@@ -81,14 +87,14 @@ impl Group {
     pub fn rank_of(&self, process: ProcessId) -> Option<u32>
         ensures { result ≡ position (λ m. m == process) self.now }
     {
-        self.ranks[process.number() as usize].map(|rank| u32::from(rank))
+        entry_of(&self.ranks, process).map(|rank| u32::from(rank))
     }
 
     /// Whether the process is a member. One look into a table.
     pub fn contains(&self, process: ProcessId) -> bool
         ensures { result ≡ is_member self.now process }
     {
-        self.ranks[process.number() as usize].is_some()
+        self.rank_of(process).is_some()
     }
 
     /// The rank that the other group gives to the member at a rank below the size.
@@ -119,70 +125,81 @@ impl Group {
         }
     }
 
-    /// An equal group.
+    /// An equal group. An empty group is copied without memory.
     pub fn copy(&self, alloc: Global) -> Result<Group, NoMemory>
-        ensures { IfOk result (λ group. group ≡ self.now) }
+        ensures equal { IfOk result (λ group. group ≡ self.now) }
+        ensures memory { IsErr result → 0 < length self.now }
     {
         Ok(Group {
-            members: Vec::from_slice(alloc, self.members.as_slice())?,
-            ranks: self.ranks,
+            members: copied(alloc, &self.members)?,
+            ranks: copied(alloc, &self.ranks)?,
         })
     }
 
-    /// All of this group, and then those of the other that it lacks.
+    /// All of this group, and then those of the other that it lacks. An empty union takes no
+    /// memory.
     pub fn union(&self, alloc: Global, other: &Group) -> Result<Group, GroupFault>
         ensures made { IfOk result (λ group. group ≡ union_of self.now other.now) }
         ensures fault { IfErr result (λ fault. fault ≡ GroupFault.NoMemory) }
+        ensures memory { IsErr result → 0 < length (union_of self.now other.now) }
     {
-        Ok(of_distinct(joined(alloc, self, other)?))
+        of_distinct(alloc, joined(alloc, self, other)?)
     }
 
-    /// Those of this group that are in the other too.
+    /// Those of this group that are in the other too. An empty intersection takes no memory.
     pub fn intersection(&self, alloc: Global, other: &Group) -> Result<Group, GroupFault>
         ensures made { IfOk result (λ group. group ≡ intersection_of self.now other.now) }
         ensures fault { IfErr result (λ fault. fault ≡ GroupFault.NoMemory) }
+        ensures memory { IsErr result → 0 < length (intersection_of self.now other.now) }
     {
-        Ok(of_distinct(kept(alloc, self.members(), other)?))
+        of_distinct(alloc, kept(alloc, self.members(), other)?)
     }
 
-    /// Those of this group that the other lacks.
+    /// Those of this group that the other lacks. An empty difference takes no memory.
     pub fn difference(&self, alloc: Global, other: &Group) -> Result<Group, GroupFault>
         ensures made { IfOk result (λ group. group ≡ difference_of self.now other.now) }
         ensures fault { IfErr result (λ fault. fault ≡ GroupFault.NoMemory) }
+        ensures memory { IsErr result → 0 < length (difference_of self.now other.now) }
     {
-        Ok(of_distinct(left_out(alloc, self.members(), other)?))
+        of_distinct(alloc, left_out(alloc, self.members(), other)?)
     }
 
-    /// The members at these ranks, in the order named.
+    /// The members at these ranks, in the order named. The group of no ranks takes no memory.
     pub fn incl(&self, alloc: Global, ranks: &[u32]) -> Result<Group, GroupFault>
         ensures made { IfOk result (λ group. group ≡ members_at self.now ranks.now) }
         ensures good { OnOk result (ranks_fault (length self.now) ranks.now ≡ None) }
         ensures fault { IfErr result (λ fault. fault ≡
             unwrap_or (ranks_fault (length self.now) ranks.now) GroupFault.NoMemory) }
+        ensures memory { IsErrOf result GroupFault.NoMemory →
+            0 < length (members_at self.now ranks.now) }
     {
         if let Some(fault) = ranks_fault(self.size(), ranks) {
             return Err(fault);
         }
-        Ok(of_distinct(picked(alloc, self.members(), ranks)?))
+        of_distinct(alloc, picked(alloc, self.members(), ranks)?)
     }
 
-    /// The members but those at these ranks, in the order of the group.
+    /// The members but those at these ranks, in the order of the group. Where nobody is left it
+    /// takes no memory.
     pub fn excl(&self, alloc: Global, ranks: &[u32]) -> Result<Group, GroupFault>
         ensures made { IfOk result (λ group. group ≡ members_apart_from self.now ranks.now) }
         ensures good { OnOk result (ranks_fault (length self.now) ranks.now ≡ None) }
         ensures fault { IfErr result (λ fault. fault ≡
             unwrap_or (ranks_fault (length self.now) ranks.now) GroupFault.NoMemory) }
+        ensures memory { IsErrOf result GroupFault.NoMemory →
+            0 < length (members_apart_from self.now ranks.now) }
     {
         if let Some(fault) = ranks_fault(self.size(), ranks) {
             return Err(fault);
         }
         let named = marked(self.members(), ranks);
-        Ok(of_distinct(unmarked(alloc, self.members(), &named)?))
+        of_distinct(alloc, unmarked(alloc, self.members(), &named)?)
     }
 }
 
-/// What is wrong with a list of ranks of a group of this size: the first fault that `incl` and `excl` would answer,
-/// out of memory aside. Looks at each rank up to the first repeat, and for each at those before it.
+/// What is wrong with a list of ranks of a group of this size: the first fault that `incl` and
+/// `excl` would answer, out of memory aside. Looks at each rank up to the first repeat, and for
+/// each at those before it.
 pub fn ranks_fault(size: u32, ranks: &[u32]) -> Option<GroupFault>
     ensures { result ≡ ranks_fault size ranks.now }
 {
@@ -227,21 +244,34 @@ fn is_within(processes: &[ProcessId], group: &Group) -> bool
 }
 
 // The group of these members.
-fn of_distinct(members: Vec<ProcessId>) -> Group
+fn of_distinct(alloc: Global, members: Vec<ProcessId>) -> Result<Group, GroupFault>
     requires { IsGroup members.items }
-    ensures { result ≡ members.items }
+    ensures made { IfOk result (λ group. group ≡ members.items) }
+    ensures fault { IfErr result (λ fault. fault ≡ GroupFault.NoMemory) }
+    ensures memory { IsErr result → 0 < length members.items }
 {
-    match rank_table(members.as_slice()) {
-        Some(ranks) => Group { members, ranks },
-        None => unreachable!(),
-    }
+    let ranks = rank_table(alloc, &members)?;
+    Ok(Group { members, ranks })
 }
 
+// The same items, in no more memory than they need. `Vec::from_slice` doesn't promise that a copy
+// of nothing takes none.
+fn copied<T: Copy>(alloc: Global, items: &[T]) -> Result<Vec<T>, AllocError>
+    ensures made { IfOk result (λ copy. copy.items ≡ items.now) }
+    ensures memory { IsErr result → 0 < length items.now }
+{
+    let mut copy = Vec::with_capacity(alloc, items.len())?;
+    copy.extend_from_slice(items)?;
+    Ok(copy)
+}
+
+#[tactic(auto, using(crate::proofs::MemberLemmas::some_in_union))]
 fn joined(alloc: Global, group: &Group, other: &Group) -> Result<Vec<ProcessId>, AllocError>
     ensures made { IfOk result (λ members. members.items ≡ union_of group.now other.now) }
     ensures group { IfOk result (λ members. IsGroup members.items) }
+    ensures memory { IsErr result → 0 < length (union_of group.now other.now) }
 {
-    let mut members = Vec::from_slice(alloc, group.members())?;
+    let mut members = copied(alloc, group.members())?;
     for process in other.members() {
         if !group.contains(*process) {
             members.push(*process)?;
@@ -250,34 +280,46 @@ fn joined(alloc: Global, group: &Group, other: &Group) -> Result<Vec<ProcessId>,
     Ok(members)
 }
 
+// Those in the group. `collect` doesn't promise that a list of nobody takes no memory: so here and
+// below they are pushed.
 fn kept(alloc: Global, processes: &[ProcessId], group: &Group) -> Result<Vec<ProcessId>, AllocError>
-    ensures { IfOk result (λ members. members.items ≡ filter (λ p. is_member group.now p) processes.now) }
+    ensures made { IfOk result (λ members.
+        members.items ≡ filter (λ p. is_member group.now p) processes.now) }
+    ensures memory { IsErr result →
+        0 < length (filter (λ p. is_member group.now p) processes.now) }
 {
-    processes
-        .iter()
-        .copied()
-        .filter(|process| group.contains(*process))
-        .collect(alloc)
+    let mut kept = Vec::new(alloc);
+    for process in processes {
+        if group.contains(*process) {
+            kept.push(*process)?;
+        }
+    }
+    Ok(kept)
 }
 
 fn left_out(
     alloc: Global,
     processes: &[ProcessId],
-    group: &Group,
+    other: &Group,
 ) -> Result<Vec<ProcessId>, AllocError>
-    ensures { IfOk result (λ members.
-        members.items ≡ filter (λ p. not (is_member group.now p)) processes.now) }
+    ensures made { IfOk result (λ members.
+        members.items ≡ filter (λ p. not (is_member other.now p)) processes.now) }
+    ensures memory { IsErr result →
+        0 < length (filter (λ p. not (is_member other.now p)) processes.now) }
 {
-    processes
-        .iter()
-        .copied()
-        .filter(|process| !group.contains(*process))
-        .collect(alloc)
+    let mut others = Vec::new(alloc);
+    for process in processes {
+        if !other.contains(*process) {
+            others.push(*process)?;
+        }
+    }
+    Ok(others)
 }
 
 fn picked(alloc: Global, members: &[ProcessId], ranks: &[u32]) -> Result<Vec<ProcessId>, AllocError>
     requires { All (λ rank. rank < length members.now) ranks.now }
-    ensures { IfOk result (λ picked. picked.items ≡ members_at members.now ranks.now) }
+    ensures made { IfOk result (λ picked. picked.items ≡ members_at members.now ranks.now) }
+    ensures memory { IsErr result → 0 < length ranks.now }
 {
     let mut picked = Vec::with_capacity(alloc, ranks.len())?;
     for rank in ranks {
@@ -305,28 +347,45 @@ fn unmarked(
     members: &[ProcessId],
     marks: &[bool; PROCESS_LIMIT as usize],
 ) -> Result<Vec<ProcessId>, AllocError>
-    ensures { IfOk result (λ others.
+    ensures made { IfOk result (λ others.
         others.items ≡ filter (λ p. not (slice_index_or marks.now p false)) members.now) }
+    ensures memory { IsErr result →
+        0 < length (filter (λ p. not (slice_index_or marks.now p false)) members.now) }
 {
-    members
-        .iter()
-        .copied()
-        .filter(|member| !marks[member.number() as usize])
-        .collect(alloc)
+    let mut left = Vec::new(alloc);
+    for member in members {
+        if !marks[member.number() as usize] {
+            left.push(*member)?;
+        }
+    }
+    Ok(left)
 }
 
-// The rank of each process, or nothing where a process stands there twice.
-fn rank_table(members: &[ProcessId]) -> Option<RankTable>
-    ensures { MatchOption result (is_distinct members.now ≡ false)
-        (λ ranks. IsGroup members.now × IsIndex members.now ranks) }
+// The rank of each process by its number, up to the highest member's. Where a process stands there
+// twice, no memory is asked for.
+fn rank_table(alloc: Global, members: &[ProcessId]) -> Result<Vec<Option<u16>>, GroupFault>
+    ensures made { IfOk result (λ ranks. IsGroup members.now × IsTable members.now ranks.items) }
+    ensures fault { IfErr result (λ fault. fault ≡
+        (if is_distinct members.now then GroupFault.NoMemory else GroupFault.RepeatedRank)) }
+    ensures memory { IsErrOf result GroupFault.NoMemory → 0 < length members.now }
 {
-    let mut ranks: RankTable = [None; PROCESS_LIMIT as usize];
+    let mut ranks = [None; PROCESS_LIMIT as usize];
+    let mut reach = 0;
     for (rank, member) in members.iter().enumerate() {
         let number = member.number() as usize;
         if ranks[number].is_some() {
-            return None;
+            return Err(GroupFault::RepeatedRank);
         }
         ranks[number] = Some(rank as u16);
+        reach = reach.max(number + 1);
     }
-    Some(ranks)
+    Ok(copied(alloc, &ranks[..reach])?)
+}
+
+// The entry of a process in a table of ranks; nobody past its end is a member.
+#[tactic(auto, using(crate::proofs::RankTables::flattened))]
+fn entry_of(ranks: &[Option<u16>], process: ProcessId) -> Option<u16>
+    ensures { result ≡ slice_index_or ranks.now process None }
+{
+    ranks.get(process.number() as usize).copied().flatten()
 }

@@ -1,7 +1,9 @@
-//! Groups of processes, as MPI 4.1 has them in section 7.3: each process at most once, in the order of ranks.
+//! Groups of processes, as MPI 4.1 has them in section 7.3: each process at most once, in the order
+//! of ranks.
 //!
-//! A group keeps the rank of each process in a table beside its members, so `rank_of` and `translate` take a
-//! step, and the other calls work in time linear in the sizes of the groups that they are given.
+//! A group keeps the rank of each process in a table beside its members, up to the highest member's
+//! number. So `rank_of` and `translate` take a step, and the other calls work in time linear in the
+//! sizes of the groups that they are given.
 #![tactic(auto)]
 
 mod compare;

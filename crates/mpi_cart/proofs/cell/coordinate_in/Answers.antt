@@ -15,4 +15,5 @@ pub returns-clause-value : goal.returns-clause-value
 returns-clause-value c = coord_at _ _ c.requires.strides _ c.requires.dim _ c.requires.rank
 
 pub returns-clause-below : goal.returns-clause-below
-returns-clause-below c = mod_below _ _ (size_above _ _ c.requires.strides _ c.requires.dim c.args.rank c.requires.rank)
+returns-clause-below c =
+    mod_below _ _ (size_above _ _ c.requires.strides _ c.requires.dim c.args.rank c.requires.rank)

@@ -6,7 +6,8 @@ use Rattle.mpi_comm.proofs.split.number_of_colours.Given as goal
 
 abbrev pub invariant-loop-ask : goal.invariant-loop-ask
 invariant-loop-ask l = record {
-  counted : l.number + distinct_count int_eq (stated l.rest) ≡ distinct_count int_eq (stated l.asks);
+  counted :
+      l.number + distinct_count int_eq (stated l.rest) ≡ distinct_count int_eq (stated l.asks);
   room : l.number + length l.rest ≤ length l.asks;
 }
 

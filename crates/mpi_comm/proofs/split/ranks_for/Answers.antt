@@ -12,7 +12,10 @@ unfolding ranks_for
 returns c =
     let same = to_z-of_z w32 c.args.colour c.ranges.colour in
     let sorted : c.sort.new.self.items ≡ sorted_by goes_before c.in_ok-places.places.items =
-    sort_is goes_before ascending_places c.in_ok-places.places.items c.sort.new.self.items c.in_ok-sort.ensures.sorted c.in_ok-sort.ensures.stable in
-    let places : c.as_slice.result.now ≡ sorted_by goes_before (asked c.args.colour c.args.asks.now) =
-    c.as_slice.ensures.value ∙ sorted ∙ ap (sorted_by goes_before) (rw same at c.in_ok-places.ensures) in
+    sort_is goes_before ascending_places c.in_ok-places.places.items c.sort.new.self.items
+    c.in_ok-sort.ensures.sorted c.in_ok-sort.ensures.stable in
+    let places : c.as_slice.result.now ≡ sorted_by goes_before (asked c.args.colour c.args.asks.now)
+    =
+    c.as_slice.ensures.value ∙ sorted
+    ∙ ap (sorted_by goes_before) (rw same at c.in_ok-places.ensures) in
     rw places at c.ranks_of.ensures

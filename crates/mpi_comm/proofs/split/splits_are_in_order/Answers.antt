@@ -8,10 +8,12 @@ pub returns-clause-places : goal.returns-clause-places
 returns-clause-places c = IsSortedBy-sorted_by goes_before ascending_places
 
 pub returns-clause-places_kept : goal.returns-clause-places_kept
-returns-clause-places_kept c = λ places place. filter-sorted_by goes_before ascending_places place places
+returns-clause-places_kept c =
+    λ places place. filter-sorted_by goes_before ascending_places place places
 
 pub returns-clause-colours : goal.returns-clause-colours
 returns-clause-colours c = IsSortedBy-sorted_by (λ a b. is_lt (int_cmp a b)) ascending_colours
 
 pub returns-clause-colours_kept : goal.returns-clause-colours_kept
-returns-clause-colours_kept c = λ colours colour. filter-sorted_by (λ a b. is_lt (int_cmp a b)) ascending_colours colour colours
+returns-clause-colours_kept c =
+    λ colours colour. filter-sorted_by (λ a b. is_lt (int_cmp a b)) ascending_colours colour colours

@@ -4,4 +4,6 @@ use Rattle.mpi_comm.specs.Comms.{is_subgroup}
 use Rattle.mpi_comm.proofs.table.are_subgroups.Goals as goal
 
 pub returns : goal.returns
-returns c = c.each_is_subgroup.ensures ∙ sym (list_all-map (is_subgroup (length c.args.group.now)) (λ list. list.items) c.args.lists.now)
+returns c = c.each_is_subgroup.ensures
+    ∙ sym
+    (list_all-map (is_subgroup (length c.args.group.now)) (λ list. list.items) c.args.lists.now)

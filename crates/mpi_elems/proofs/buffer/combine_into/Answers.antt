@@ -20,7 +20,9 @@ returns-clause-elements c =
     let ty = ap (λ (b : Contents). b.elem_type) c.first.view_is in
     let first = elements_shown _ _ c.first.view_is in
     let second = elements_shown _ _ c.second.view_is in
-    let count : length (elements_in c.first.inside.cells) ≡ length (elements_in c.second.inside.cells) = sym (ap length first) ∙ c.requires.one_count ∙ ap length second in
+    let count : length (elements_in c.first.inside.cells) ≡ length
+    (elements_in c.second.inside.cells) = sym (ap length first) ∙ c.requires.one_count ∙ ap
+    length second in
     let made = c.merge_cells.ensures.elements in
     let all = slice_range-all (elements_in c.second.inside.cells) _ c.count.ensures in
     let whole = rw all at made in
@@ -30,7 +32,8 @@ returns-clause-elements c =
 pub invariant_of-first : goal.invariant_of-first
 invariant_of-first c =
     let types : kind_of c.first.inside.cells ≡ kind_of c.second.inside.cells = search rules in
-    merged_cells_fit c.args.op _ _ _ _ _ types c.merge_cells.ensures.kind c.merge_cells.ensures.elements c.first.invariant c.second.invariant
+    merged_cells_fit c.args.op _ _ _ _ _ types c.merge_cells.ensures.kind
+    c.merge_cells.ensures.elements c.first.invariant c.second.invariant
 
 pub returns-clause-fit : goal.returns-clause-fit
 returns-clause-fit c = cells_are_fit _ (invariant_of-first c)

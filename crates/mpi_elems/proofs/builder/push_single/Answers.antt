@@ -6,4 +6,5 @@ use Rattle.mpi_elems.proofs.builder.push_single.Goals as goal
 
 pub returns-in-Some-clause-numbers : goal.returns-in-Some-clause-numbers
 returns-in-Some-clause-numbers g c =
-    singles_pushed g.T.Native.number _ _ _ _ c.push_reserved.ensures.items (c.in-Some.ensures.some ∙ to_z-of_z w128 c.args.number c.ranges.number)
+    singles_pushed g.T.Native.number _ _ _ _ c.push_reserved.ensures.items
+    (c.in-Some.ensures.some ∙ to_z-of_z w128 c.args.number c.ranges.number)

@@ -4,4 +4,6 @@ use Rattle.mpi_elems.proofs.operation.merge_pairs.Goals as goal
 
 pub returns-clause-elements : goal.returns-clause-elements
 returns-clause-elements c =
-    merged-slice _ _ c.merge_pair_slice.new.firsts.items c.args.firsts.now.items _ c.args.from.now.items c.args.start (c.args.start + c.args.len) c.deref.ensures.value c.merge_pair_slice.ensures.elements
+    merged-slice _ _ c.merge_pair_slice.new.firsts.items c.args.firsts.now.items _
+    c.args.from.now.items c.args.start (c.args.start + c.args.len) c.deref.ensures.value
+    c.merge_pair_slice.ensures.elements

@@ -7,8 +7,11 @@ use Rattle.mpi_elems.proofs.reading.native_numbers.Goals as goal
 
 pub native-requires : goal.native-requires
 native-requires g c =
-    let fits : FitsSigned w128 (get_or c.args.numbers.now c.loop-number.number-index (pos 0)) = search rules in
-    rw (to_z-of_z w128 _ fits) (passes_at (is_number_of g.T.Native.kind) c.args.numbers.now c.loop-number.number-index (pos 0) c.requires (omega arith))
+    let fits : FitsSigned w128 (get_or c.args.numbers.now c.loop-number.number-index (pos 0)) =
+    search rules in
+    rw (to_z-of_z w128 _ fits) (passes_at (is_number_of g.T.Native.kind) c.args.numbers.now
+    c.loop-number.number-index (pos 0) c.requires (omega arith))
 
 pub returns-clause-elements : goal.returns-clause-elements
-returns-clause-elements g c = singles_read g.T.Native.number _ c.args.numbers.now c.loop-number.number-index (omega arith) c.loop-number.invariant.made
+returns-clause-elements g c = singles_read g.T.Native.number _ c.args.numbers.now
+    c.loop-number.number-index (omega arith) c.loop-number.invariant.made

@@ -26,7 +26,8 @@ returns-else-i-eq0-clause-same c =
     let value : FitsSigned w32 c.index.result.now.1 = search rules in
     let wide : FitsSigned w128 c.to_number-else-i-eq0.result = search rules in
     odd_number _ _ c.index.result.now c.requires c.if-i-eq0.false c.index.ensures
-    ∙ sym (ap Some (to_z-of_z w128 _ wide ∙ c.to_number-else-i-eq0.ensures.same ∙ to_z-of_z w32 _ value))
+    ∙ sym (ap Some
+    (to_z-of_z w128 _ wide ∙ c.to_number-else-i-eq0.ensures.same ∙ to_z-of_z w32 _ value))
 
 pub returns-else-i-eq0-clause-within : goal.returns-else-i-eq0-clause-within
 unfolding is_number_of

@@ -4,4 +4,5 @@ use Rattle.mpi_group.specs.Groups.{is_member}
 use Rattle.mpi_group.proofs.group.joined.Given as goal
 
 abbrev pub invariant-loop-process : goal.invariant-loop-process
-invariant-loop-process l = l.members.items ≡ l.group ++ filter (λ p. not (is_member l.group p)) (take l.process-index l.process-items)
+invariant-loop-process l = l.members.items
+    ≡ l.group ++ filter (λ p. not (is_member l.group p)) (take l.process-index l.process-items)

@@ -6,5 +6,6 @@ use Rattle.mpi_group.proofs.group.marked.Given as goal
 abbrev pub invariant-loop-rank : goal.invariant-loop-rank
 invariant-loop-rank l = record {
   long : length l.marks ≡ PROCESS_LIMIT;
-  marks : (q : ℕ) → q < PROCESS_LIMIT → get_or l.marks q false ≡ is_member (members_at l.members (take l.rank-index l.ranks)) q;
+  marks : (q : ℕ) → q < PROCESS_LIMIT →
+      get_or l.marks q false ≡ is_member (members_at l.members (take l.rank-index l.ranks)) q;
 }

@@ -15,4 +15,5 @@ loop-rank-preserved c =
     let within : rank < length members = c.requires i 0 c.loop-rank-test.true in
     c.in_ok-push.ensures.items
     ∙ ap (λ (t : List ℕ). t ++ c.index-members-rank.result ∷ []) c.loop-rank.invariant
-    ∙ sym (at_more members ranks i rank c.index-members-rank.result c.loop-rank-test.true (get_or_default ranks i 0 rank c.loop-rank-test.true) within c.index-members-rank.is)
+    ∙ sym (at_more members ranks i rank c.index-members-rank.result c.loop-rank-test.true
+    (get_or_default ranks i 0 rank c.loop-rank-test.true) within c.index-members-rank.is)

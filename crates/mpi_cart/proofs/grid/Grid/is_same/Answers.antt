@@ -8,4 +8,5 @@ pub returns-then-eq : goal.returns-then-eq
 returns-then-eq c =
     same_topology c.args.self.now c.args.other.now true c.eq-then-eq.result refl
     (c.if-eq.ensures ∙ (λ i. pointwise nat_eq (c.dims.ensures i) (c.dims-2.ensures i)))
-    (c.eq-then-eq.ensures ∙ (λ i. pointwise beq (c.periods.ensures i) (c.periods-then-eq.ensures i)))
+    (c.eq-then-eq.ensures
+    ∙ (λ i. pointwise beq (c.periods.ensures i) (c.periods-then-eq.ensures i)))

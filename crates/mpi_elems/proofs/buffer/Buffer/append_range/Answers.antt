@@ -6,7 +6,8 @@ use Rattle.mpi_elems.proofs.ElementLemmas.{elements_shown, elements_of-elements_
 use Rattle.mpi_elems.proofs.buffer.Buffer.append_range.Goals as goal
 
 pub append_cells-requires-clause-within : goal.append_cells-requires-clause-within
-append_cells-requires-clause-within c = let second = ap length (elements_shown _ _ c.other.view_is) in omega arith
+append_cells-requires-clause-within c =
+    let second = ap length (elements_shown _ _ c.other.view_is) in omega arith
 
 pub append_cells-requires-clause-room : goal.append_cells-requires-clause-room
 append_cells-requires-clause-room c =
@@ -22,7 +23,8 @@ returns-clause-elements c =
 pub invariant_of-self : goal.invariant_of-self
 invariant_of-self c =
     let types : kind_of c.self.inside.cells ≡ kind_of c.other.inside.cells = search rules in
-    appended_fit _ _ _ _ _ types c.append_cells.ensures.kind c.append_cells.ensures.elements c.self.invariant c.other.invariant
+    appended_fit _ _ _ _ _ types c.append_cells.ensures.kind c.append_cells.ensures.elements
+    c.self.invariant c.other.invariant
 
 pub returns-clause-fit : goal.returns-clause-fit
 returns-clause-fit c = cells_are_fit _ (invariant_of-self c)

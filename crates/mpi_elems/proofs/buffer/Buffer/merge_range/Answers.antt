@@ -6,7 +6,8 @@ use Rattle.mpi_elems.proofs.ElementLemmas.{elements_shown, elements_of-elements_
 use Rattle.mpi_elems.proofs.buffer.Buffer.merge_range.Goals as goal
 
 pub merge_cells-requires-clause-within : goal.merge_cells-requires-clause-within
-merge_cells-requires-clause-within c = let second = ap length (elements_shown _ _ c.other.view_is) in omega arith
+merge_cells-requires-clause-within c =
+    let second = ap length (elements_shown _ _ c.other.view_is) in omega arith
 
 pub merge_cells-requires-clause-room : goal.merge_cells-requires-clause-room
 merge_cells-requires-clause-room c =
@@ -23,7 +24,8 @@ returns-clause-elements c =
 pub invariant_of-self : goal.invariant_of-self
 invariant_of-self c =
     let types : kind_of c.self.inside.cells ≡ kind_of c.other.inside.cells = search rules in
-    merged_cells_fit c.args.op _ _ _ _ _ types c.merge_cells.ensures.kind c.merge_cells.ensures.elements c.self.invariant c.other.invariant
+    merged_cells_fit c.args.op _ _ _ _ _ types c.merge_cells.ensures.kind
+    c.merge_cells.ensures.elements c.self.invariant c.other.invariant
 
 pub returns-clause-fit : goal.returns-clause-fit
 returns-clause-fit c = cells_are_fit _ (invariant_of-self c)

@@ -9,4 +9,5 @@ pub returns-in-None-clause-sound : goal.returns-in-None-clause-sound
 returns-in-None-clause-sound c = finished _ _ _ c.self.view_is c.self.invariant c.in-None.is
 
 pub returns-in-Some-clause-odd : goal.returns-in-Some-clause-odd
-returns-in-Some-clause-odd c = (refl, unfinished _ _ _ c.in-Some.field-0 c.self.view_is c.self.invariant c.in-Some.is)
+returns-in-Some-clause-odd c =
+    (refl, unfinished _ _ _ c.in-Some.field-0 c.self.view_is c.self.invariant c.in-Some.is)

@@ -1,4 +1,5 @@
-use Rattle.std.proofs.Common.{ap, ◌∙◌}
+use Rattle.std.proofs.Common.{◌≡◌, ◌<◌, length, ap, ◌∙◌, subst, rules}
+use Rattle.std.specs.Prelude.{IfOk}
 use Rattle.std.specs.List.{filter}
 use Rattle.mpi_group.specs.Groups.{is_member, intersection_of}
 use Rattle.mpi_group.proofs.GroupLemmas.{IsGroup-intersection_of}
@@ -6,8 +7,28 @@ use Rattle.mpi_group.proofs.group.Group.intersection.Goals as goal
 
 pub of_distinct-requires : goal.of_distinct-requires
 unfolding intersection_of
-of_distinct-requires c = rw (c.in_ok-kept.ensures, c.members.ensures.value) (IsGroup-intersection_of c.args.self.now c.args.other.now c.members.ensures.group)
+of_distinct-requires c =
+    rw (c.in_ok-kept.ensures.made, c.members.ensures.value)
+    (IsGroup-intersection_of c.args.self.now c.args.other.now c.members.ensures.group)
+
+pub returns-in_err-kept-clause-memory : goal.returns-in_err-kept-clause-memory
+unfolding intersection_of
+returns-in_err-kept-clause-memory c = λ _.
+    subst (λ members. 0 < length (filter (λ p. is_member c.args.other.now p) members))
+    c.members.ensures.value (c.in_err-kept.ensures.memory (search rules))
 
 pub returns-clause-made : goal.returns-clause-made
 unfolding intersection_of
-returns-clause-made c = c.of_distinct.ensures ∙ c.in_ok-kept.ensures ∙ ap (filter (λ p. is_member c.args.other.now p)) c.members.ensures.value
+returns-clause-made c =
+    subst (λ members. IfOk c.of_distinct.result (λ group. group ≡ members))
+    (c.in_ok-kept.ensures.made
+    ∙ ap (filter (λ p. is_member c.args.other.now p)) c.members.ensures.value)
+    c.of_distinct.ensures.made
+
+pub returns-clause-memory : goal.returns-clause-memory
+unfolding intersection_of
+returns-clause-memory c = λ failed.
+    subst (λ members. 0 < length members)
+    (c.in_ok-kept.ensures.made
+    ∙ ap (filter (λ p. is_member c.args.other.now p)) c.members.ensures.value)
+    (c.of_distinct.ensures.memory failed)

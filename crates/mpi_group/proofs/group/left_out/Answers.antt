@@ -1,0 +1,10 @@
+use Rattle.std.proofs.Common.{sym, ap, ◌∙◌, not}
+use Rattle.mpi_group.specs.Groups.{is_member}
+use Rattle.mpi_group.proofs.MemberLemmas.{some_kept}
+use Rattle.mpi_group.proofs.group.left_out.Goals as goal
+
+pub returns-in_err-push-clause-memory : goal.returns-in_err-push-clause-memory
+returns-in_err-push-clause-memory c = λ _.
+    some_kept (λ p. not (is_member c.args.other.now p)) c.args.processes.now
+    c.loop-process.process-index c.process-item.result c.loop-process-test.true c.process-item.is
+    (ap not (sym c.contains.ensures ∙ c.if-not-contains.true))
