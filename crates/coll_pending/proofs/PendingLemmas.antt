@@ -1,7 +1,10 @@
 -- The steps of an arrival, as callers see them.
-use Rattle.std.proofs.Common.{◌≡◌, ◌≢◌, ℕ, ◌+◌, ◌<◌, ◌≤◌, ◌^◌, Bool, true, false, List, length, Option, Some, None, IsSome, is_some, refl, sym, ap, ◌∙◌, subst, arith, ◌⊎◌, inl, inr, Result, Ok, Err, ⊎_elim, nat_le, ◌&&◌}
+use Rattle.std.proofs.Common.{◌≡◌, ◌≢◌, ℕ, ◌+◌, ◌<◌, ◌≤◌, ◌^◌, Bool, true, false, List, length}
+use Rattle.std.proofs.Common.{Option, Some, None, IsSome, is_some, refl, sym, ap, ◌∙◌, subst, arith}
+use Rattle.std.proofs.Common.{◌⊎◌, inl, inr, Result, Ok, Err, ⊎_elim, nat_le, ◌&&◌}
 use Rattle.std.specs.Prelude.{IfOk, OnOk, OnErr}
-use Rattle.std.proofs.lemmas.Bool.{cases_Bool, cases_eq, false≢true, and_from, and_parts, leb-true, le-leb}
+use Rattle.std.proofs.lemmas.Bool.{cases_Bool, cases_eq, false≢true, and_from, and_parts, leb-true}
+use Rattle.std.proofs.lemmas.Bool.{le-leb}
 use Rattle.coll_routes.specs.declared.signature.Signature.{Signature}
 use Rattle.coll_routes.specs.declared.statement.Stated.{Stated}
 use Rattle.coll_routes.specs.declared.roll.Shape.{Shape}
@@ -14,13 +17,20 @@ use Rattle.coll_pending.specs.declared.arrival.Next.{Next}
 use Rattle.coll_pending.specs.declared.arrival.Next.TheVariants as nexts
 use Rattle.coll_pending.specs.declared.arrival.Unarrived.{Unarrived}
 use Rattle.coll_pending.specs.declared.slot.Slot.{Slot}
-use Rattle.coll_pending.specs.Instances.{Instance, Communicator, is_full, is_full_but_for, joined, next_by, roll_in, vacant}
+use Rattle.coll_pending.specs.Instances.{Instance, Communicator, is_full, is_full_but_for, joined}
+use Rattle.coll_pending.specs.Instances.{next_by, roll_in, vacant}
 use Rattle.coll_pending.specs.Keyed.{updated}
 use Rattle.coll_pending.specs.Lists.{ListRoom, fits, room_by}
-use Rattle.coll_pending.specs.Queues.{Queue, Queues, communicator, queue_at, known_in, count_in, slot_of, slot_in, key_in, instance_in, IsVacant}
-use Rattle.coll_pending.specs.Spares.{Spare, members_of, IsQueueOf, IsQueueFor, IsSlotFor, AreListsFor}
-use Rattle.coll_pending.specs.Waiting.{updated_at, PendingView, State, view_of_pending, seen, next, before, after, place, Arrives, HasArrived, IsKnownAs, HasPlace, CanOpen, Meets, HasRoom, Opens, CanArrive, IsOpened}
-use Rattle.coll_pending.proofs.TableLemmas.{updated_here, updated_other, updated_twice, updated_at_here, updated_at_twice}
+use Rattle.coll_pending.specs.Queues.{Queue, Queues, communicator, queue_at, known_in, count_in}
+use Rattle.coll_pending.specs.Queues.{slot_of, slot_in, key_in, instance_in, IsVacant}
+use Rattle.coll_pending.specs.Spares.{Spare, members_of, IsQueueOf, IsQueueFor, IsSlotFor}
+use Rattle.coll_pending.specs.Spares.{AreListsFor}
+use Rattle.coll_pending.specs.Waiting.{updated_at, PendingView, State, view_of_pending, seen, next}
+use Rattle.coll_pending.specs.Waiting.{before, after, place, Arrives, HasArrived, IsKnownAs}
+use Rattle.coll_pending.specs.Waiting.{HasPlace, CanOpen, Meets, HasRoom, Opens, CanArrive}
+use Rattle.coll_pending.specs.Waiting.{IsOpened}
+use Rattle.coll_pending.proofs.TableLemmas.{updated_here, updated_other, updated_twice}
+use Rattle.coll_pending.proofs.TableLemmas.{updated_at_here, updated_at_twice}
 
 -- ## an arrival after the opening
 
@@ -84,7 +94,8 @@ opened_arrives old mid new c rank comm stated part a agrees (inr fresh) arrived 
 
 pub opened_place : {X : Type 0} (old mid : PendingView X) (c rank : ℕ) (comm : Communicator)
     (sig : Signature) → IsOpened old mid c rank comm sig → mid.arrivals c rank ≡ old.arrivals c rank
-opened_place {X} old mid c rank comm sig (inl was) = ap (λ (v : PendingView X). v.arrivals c rank) was.2
+opened_place {X} old mid c rank comm sig (inl was) =
+    ap (λ (v : PendingView X). v.arrivals c rank) was.2
 opened_place old mid c rank comm sig (inr fresh) = ap (λ (f : ℕ → ℕ → ℕ). f c rank) fresh.1.arrivals
 
 -- ## the opening
@@ -145,7 +156,8 @@ module _ {X : Type 0} (s t : State X) (c rank : ℕ) (comm : Communicator) (sig 
   waits_opened = inl (
     subst (λ (v : PendingView X). IsSome (before v c rank)) same
         (some_slot (slot_of t.queues c (count_in (queue_at t.queues.queues c) rank)) some),
-    subst (λ (v : PendingView X). v.known c ≡ Some comm) same (room_meets t c rank comm room some).0,
+    subst (λ (v : PendingView X). v.known c ≡ Some comm) same
+        (room_meets t c rank comm room some).0,
     same,
   )
 

@@ -1,5 +1,6 @@
 -- One instance that waits for members, and what an arrival makes of it. (MPI 4.1, section 6.12.)
-use Rattle.std.specs.Prelude.{◌≡◌, ℕ, List, Bool, ◌&&◌, ◌+◌, length, replicate, take, drop, slice_set, Option, Some, None, if◌then◌else◌, is_some}
+use Rattle.std.specs.Prelude.{◌≡◌, ℕ, List, Bool, ◌&&◌, ◌+◌, length, replicate, take, drop}
+use Rattle.std.specs.Prelude.{slice_set, Option, Some, None, if◌then◌else◌, is_some}
 use Rattle.std.specs.List.{list_all, list_any}
 use Rattle.coll_routes.specs.declared.signature.Signature.{Signature}
 use Rattle.coll_routes.specs.declared.statement.Stated.{Stated}

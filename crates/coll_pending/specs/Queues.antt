@@ -1,5 +1,8 @@
 -- How the instances that wait stand: each in a slot, found by the queue of its communicator.
-use Rattle.std.specs.Prelude.{◌≡◌, ◌<◌, ◌≤◌, ◌+◌, ◌-◌, ◌==◌, ◌^◌, ℕ, List, [], ◌∷◌, ◌++◌, length, map, drop, replicate, slice_get, slice_set, slice_index_or, count_by, Bool, true, false, Option, Some, None, IsSome, IsSomeAnd, is_some, nat_lt, if◌then◌else◌}
+use Rattle.std.specs.Prelude.{◌≡◌, ◌<◌, ◌≤◌, ◌+◌, ◌-◌, ◌==◌, ◌^◌, ℕ, List, [], ◌∷◌, ◌++◌, length}
+use Rattle.std.specs.Prelude.{map, drop, replicate, slice_get, slice_set, slice_index_or, count_by}
+use Rattle.std.specs.Prelude.{Bool, true, false, Option, Some, None, IsSome, IsSomeAnd, is_some}
+use Rattle.std.specs.Prelude.{nat_lt, if◌then◌else◌}
 use Rattle.slab.specs.Slab.{Slab, get, Updates}
 use Rattle.coll_routes.specs.declared.roll.Shape.{Shape}
 use Rattle.coll_routes.specs.declared.statement.Stated.{Stated}

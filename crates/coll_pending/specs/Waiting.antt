@@ -1,6 +1,7 @@
 -- What contracts see of the instances that wait: look-ups by communicator, rank and number.
 -- (MPI 4.1, section 6.12.)
-use Rattle.std.specs.Prelude.{◌≡◌, ◌≢◌, ◌<◌, ◌⊎◌, ℕ, ◌+◌, List, length, map, true, false, Option, Some, None, IsSome}
+use Rattle.std.specs.Prelude.{◌≡◌, ◌≢◌, ◌<◌, ◌⊎◌, ℕ, ◌+◌, List, length, map, true, false, Option}
+use Rattle.std.specs.Prelude.{Some, None, IsSome}
 use Rattle.slab.specs.Slab.{HasRoomFor}
 use Rattle.coll_routes.specs.declared.signature.Signature.{Signature}
 use Rattle.coll_routes.specs.declared.statement.Stated.{Stated}
@@ -10,9 +11,11 @@ use Rattle.coll_pending.specs.declared.arrival.Next.{Next}
 use Rattle.coll_pending.specs.declared.arrival.Next.TheVariants.{Mismatch}
 use Rattle.coll_pending.specs.declared.arrival.ArrivalFault.{ArrivalFault}
 use Rattle.coll_pending.specs.declared.arrival.ArrivalFault.TheVariants as faults
-use Rattle.coll_pending.specs.Instances.{Instance, Communicator, is_full, joined, next_by, roll_in, vacant, IsAgreed}
+use Rattle.coll_pending.specs.Instances.{Instance, Communicator, is_full, joined, next_by, roll_in}
+use Rattle.coll_pending.specs.Instances.{vacant, IsAgreed}
 use Rattle.coll_pending.specs.Keyed.{updated}
-use Rattle.coll_pending.specs.Queues.{Queue, Queues, queue_at, known_in, count_in, slot_of, instance_in}
+use Rattle.coll_pending.specs.Queues.{Queue, Queues, queue_at, known_in, count_in, slot_of}
+use Rattle.coll_pending.specs.Queues.{instance_in}
 use Rattle.coll_pending.specs.Spares.{Spare, IsQueueOf, IsSlotFor, AreListsFor}
 
 -- all that callers see but the room: how often a rank has arrived on a communicator; its k-th
@@ -65,7 +68,8 @@ abbrev pub next : {X : Type 0} → PendingView X → (comm rank : ℕ) → Signa
 next seen c rank sig = next_by (roll_in (before seen c rank)) rank sig
 
 -- the instance after that arrival
-abbrev pub after : {X : Type 0} → PendingView X → (comm rank : ℕ) → Communicator → Stated → X → Instance X
+abbrev pub after : {X : Type 0} → PendingView X → (comm rank : ℕ) → Communicator → Stated → X →
+    Instance X
 after seen c rank comm stated part = joined comm rank stated part (before seen c rank)
 
 -- an arrival that was accepted: the member's count rises, and the instance that it meets has its

@@ -1,5 +1,7 @@
 //! The parts that have come for an instance.
-ghost use Rattle.std.specs.Prelude.{◌≡◌, ◌<◌, ◌≤◌, ◌+◌, ◌++◌, ◌∷◌, IsSome, [], vec_len, vec_capacity, length, map, slice_set, replicate, IsTrue, IfOk, Some, None, true};
+ghost use Rattle.std.specs.Prelude.{◌≡◌, ◌<◌, ◌≤◌, ◌+◌, ◌++◌, ◌∷◌, IsSome, [], vec_len};
+ghost use Rattle.std.specs.Prelude.{vec_capacity, length, map, slice_set, replicate, IsTrue, IfOk};
+ghost use Rattle.std.specs.Prelude.{Some, None, true};
 ghost use Rattle.coll_pending.specs.Instances.{is_full};
 
 use coll_values::Parts;
@@ -82,8 +84,8 @@ fn all_parts<X: Drop>(rows: Vec<Option<X>>, room: Vec<X>) -> Vec<X>
 fn gather<X: Drop>(gathered: &mut Vec<X>, row: Option<X>)
     requires there { IsSome row }
     requires room { vec_len gathered.old < vec_capacity gathered.old }
-    ensures items { map (λ part. Some part) gathered.new.items ≡ map (λ part. Some part) gathered.old.items
-        ++ row ∷ [] }
+    ensures items { map (λ part. Some part) gathered.new.items
+        ≡ map (λ part. Some part) gathered.old.items ++ row ∷ [] }
     ensures len { vec_len gathered.new ≡ vec_len gathered.old + 1 }
     ensures room { vec_capacity gathered.new ≡ vec_capacity gathered.old }
 {

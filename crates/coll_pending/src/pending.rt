@@ -1,5 +1,6 @@
 //! The instances of all communicators that wait for members.
-ghost use Rattle.std.specs.Prelude.{◌≡◌, ◌≢◌, ◌<◌, ◌^◌, ℕ, length, true, IfOk, IfErr, OnOk, OnErr, None, Some};
+ghost use Rattle.std.specs.Prelude.{◌≡◌, ◌≢◌, ◌<◌, ◌^◌, ℕ, length, true, IfOk, IfErr, OnOk, OnErr};
+ghost use Rattle.std.specs.Prelude.{None, Some};
 ghost use Rattle.std.specs.Option.{option_copied};
 ghost use Rattle.coll_pending.specs.declared.arrival.Next.TheVariants.{Opens, Mismatch};
 ghost use Rattle.coll_pending.specs.Instances.{Communicator, made_of};
@@ -40,7 +41,8 @@ impl<X> Model for Pending<X> {
 impl<X: Drop> Pending<X> {
     ghost use Rattle.coll_pending.specs.Instances.{Communicator, made_of, roll_in};
     ghost use Rattle.coll_pending.specs.Lists.{fits, room_by};
-    ghost use Rattle.coll_pending.specs.Waiting.{view_of_pending, next, HasRoom, HasArrived, IsKnownAs, IsOpened, CanArrive, fault_at};
+    ghost use Rattle.coll_pending.specs.Waiting.{view_of_pending, next, HasRoom, HasArrived};
+    ghost use Rattle.coll_pending.specs.Waiting.{IsKnownAs, IsOpened, CanArrive, fault_at};
 
     /// Nobody has arrived.
     #[tactic(auto, unfolding(crate::specs::Waiting::view_of_pending))]
@@ -93,7 +95,8 @@ impl<X: Drop> Pending<X> {
         shape: &Shape,
     ) -> Result<(), NoMemory>
         requires rank { rank < length group.now }
-        requires known { IsKnownAs (made_of group.now shape.now) ((view_of_pending self.old).known comm) }
+        requires known { IsKnownAs (made_of group.now shape.now)
+            ((view_of_pending self.old).known comm) }
         ensures unchanged { view_of_pending self.new ≡ view_of_pending self.old }
         ensures room { OnOk result (HasRoom self.new comm rank (made_of group.now shape.now)) }
         ensures memory { HasRoom self.old comm rank (made_of group.now shape.now) → OnErr result ⊥ }
@@ -122,14 +125,15 @@ impl<X: Drop> Pending<X> {
         part: X,
     ) -> Result<Arrived<X>, Unarrived<X>>
         requires rank { rank < length group.now }
-        requires known { IsKnownAs (made_of group.now shape.now) ((view_of_pending self.old).known comm) }
+        requires known { IsKnownAs (made_of group.now shape.now)
+            ((view_of_pending self.old).known comm) }
         requires few { (view_of_pending self.old).arrivals comm rank < 2 ^ 62 }
         ensures arrived { IfOk result
             (HasArrived (view_of_pending self.old) (view_of_pending self.new) comm rank
             (made_of group.now shape.now) stated part) }
         ensures unchanged { OnErr result (view_of_pending self.new ≡ view_of_pending self.old) }
-        ensures fault { IfErr result
-            (λ refused. refused.fault ≡ fault_at (next (view_of_pending self.old) comm rank stated.sig)) }
+        ensures fault { IfErr result (λ refused.
+            refused.fault ≡ fault_at (next (view_of_pending self.old) comm rank stated.sig)) }
         ensures back { IfErr result (λ refused. (refused.stated ≡ stated) × (refused.part ≡ part)) }
         ensures memory { HasRoom self.old comm rank (made_of group.now shape.now) →
             (next (view_of_pending self.old) comm rank stated.sig ≡ Opens →
@@ -157,7 +161,8 @@ impl<X: Drop> Pending<X> {
         part: X,
     ) -> Result<Arrived<X>, Unarrived<X>>
         requires rank { rank < length group.now }
-        requires known { IsKnownAs (made_of group.now shape.now) ((view_of_pending self.old).known comm) }
+        requires known { IsKnownAs (made_of group.now shape.now)
+            ((view_of_pending self.old).known comm) }
         requires few { (view_of_pending self.old).arrivals comm rank < 2 ^ 62 }
         requires agrees { next (view_of_pending self.old) comm rank stated.sig ≢ Mismatch }
         ensures arrived { IfOk result
@@ -191,7 +196,8 @@ impl<X: Drop> Pending<X> {
         sig: &Signature,
     ) -> Result<(), NoMemory>
         requires rank { rank < length group.now }
-        requires known { IsKnownAs (made_of group.now shape.now) ((view_of_pending self.old).known comm) }
+        requires known { IsKnownAs (made_of group.now shape.now)
+            ((view_of_pending self.old).known comm) }
         requires agrees { next (view_of_pending self.old) comm rank sig.now ≢ Mismatch }
         ensures opened { OnOk result
             (IsOpened (view_of_pending self.old) (view_of_pending self.new) comm rank

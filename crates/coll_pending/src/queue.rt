@@ -1,5 +1,6 @@
 //! A communicator with the arrivals of its members and the queue of its instances.
-ghost use Rattle.std.specs.Prelude.{◌≡◌, ◌<◌, ◌+◌, ◌^◌, length, replicate, Some, None, IfOk, OnOk, OnErr, IsTrue};
+ghost use Rattle.std.specs.Prelude.{◌≡◌, ◌<◌, ◌+◌, ◌^◌, length, replicate, Some, None, IfOk, OnOk};
+ghost use Rattle.std.specs.Prelude.{OnErr, IsTrue};
 ghost use Rattle.coll_pending.specs.Instances.{Communicator, made_of};
 
 use coll_routes::Shape;
@@ -40,7 +41,8 @@ impl Model for Queue {
 }
 
 impl Queue {
-    ghost use Rattle.coll_pending.specs.Queues.{communicator, count, counted, key_at, popped, pushed, unused};
+    ghost use Rattle.coll_pending.specs.Queues.{communicator, count, counted, key_at, popped};
+    ghost use Rattle.coll_pending.specs.Queues.{pushed, unused};
 
     /// The queue of a communicator at which nobody has arrived.
     pub fn new(alloc: Global, group: &Group, shape: &Shape) -> Result<Queue, NoMemory>
@@ -60,7 +62,8 @@ impl Queue {
 
     /// Whether these are its members and its shape.
     pub fn is_of(&self, group: &Group, shape: &Shape) -> bool
-        ensures yes { IsTrue result → (self.now.members ≡ group.now) × (self.now.shape ≡ shape.now) }
+        ensures yes { IsTrue result →
+            (self.now.members ≡ group.now) × (self.now.shape ≡ shape.now) }
         ensures no { self.now.members ≡ group.now → self.now.shape ≡ shape.now → IsTrue result }
     {
         self.members.is_same(group) && self.shape.is_same(shape)

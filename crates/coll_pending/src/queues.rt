@@ -1,10 +1,13 @@
 //! The queues of all communicators, and the slots in which their instances stand.
-ghost use Rattle.std.specs.Prelude.{◌≡◌, ◌<◌, ◌≤◌, ◌^◌, ℕ, [], length, IfOk, OnOk, OnErr, IfSome, IsSome, is_some, IsSomeAnd, Some, None, true, false};
+ghost use Rattle.std.specs.Prelude.{◌≡◌, ◌<◌, ◌≤◌, ◌^◌, ℕ, [], length, IfOk, OnOk, OnErr, IfSome};
+ghost use Rattle.std.specs.Prelude.{IsSome, is_some, IsSomeAnd, Some, None, true, false};
 ghost use Rattle.std.specs.Option.{option_copied};
 ghost use Rattle.coll_routes.specs.declared.roll.Roll.{Roll};
 ghost use Rattle.slab.specs.Slab.{get, ContainsKey, HasRoomFor, Updates, Slab};
 ghost use Rattle.coll_pending.specs.Instances.{Communicator, next_by, roll_in};
-ghost use Rattle.coll_pending.specs.Queues.{Queue, has_posted, instance_in, key_at, count, queue_at, slot_in, or_fresh, pushed, CanTell, CanPost, IsFree, IsRoomier, PostsTo, posted, lacks_one};
+ghost use Rattle.coll_pending.specs.Queues.{Queue, has_posted, instance_in, key_at, count};
+ghost use Rattle.coll_pending.specs.Queues.{queue_at, slot_in, or_fresh, pushed, CanTell, CanPost};
+ghost use Rattle.coll_pending.specs.Queues.{IsFree, IsRoomier, PostsTo, posted, lacks_one};
 ghost use Rattle.coll_pending.specs.Waiting.{HasPlaceIn};
 ghost use Rattle.coll_pending.specs.declared.slot.Slot.{Slot};
 
@@ -32,14 +35,17 @@ impl<X> Model for Queues<X> {
 
     ghost view = { λ q. record { queues = q.by_comm.items; slots = q.slots } };
 
-    ghost invariant = { λ q. queues.IsQueues (record { queues = q.by_comm.items; slots = q.slots }) };
+    ghost invariant = { λ q.
+        queues.IsQueues (record { queues = q.by_comm.items; slots = q.slots }) };
 }
 
 impl<X: Drop> Queues<X> {
     ghost use Rattle.coll_pending.specs.Instances.{Communicator, roll_in};
-    ghost use Rattle.coll_pending.specs.Queues.{IsQueueIn, queue_at, known_in, count_in, slot_of, instance_of, IsVacant};
+    ghost use Rattle.coll_pending.specs.Queues.{IsQueueIn, queue_at, known_in, count_in, slot_of};
+    ghost use Rattle.coll_pending.specs.Queues.{instance_of, IsVacant};
     ghost use Rattle.coll_pending.specs.Spares.{IsQueueOf, members_of};
-    ghost use Rattle.coll_pending.specs.Waiting.{seen, next, HasArrived, HasPlace, Opens, CanArrive};
+    ghost use Rattle.coll_pending.specs.Waiting.{seen, next, HasArrived, HasPlace, Opens};
+    ghost use Rattle.coll_pending.specs.Waiting.{CanArrive};
 
     /// No communicator, and no instance.
     pub fn new(alloc: Global) -> Queues<X>
@@ -187,11 +193,12 @@ fn next_of<X: Drop>(slot: Option<&Slot<X>>, rank: u32, sig: &Signature) -> Next
 
 // Makes the row of a communicator, if it is not there, and room for one more key in its queue.
 fn reserve_row(by_comm: &mut Vec<Option<Queue>>, comm: u32) -> Result<(), NoMemory>
-    ensures same { (c : ℕ) → IsRoomier (queue_at by_comm.old.items c) (queue_at by_comm.new.items c) }
+    ensures same { (c : ℕ) →
+        IsRoomier (queue_at by_comm.old.items c) (queue_at by_comm.new.items c) }
     ensures row { OnOk result (comm < length by_comm.new.items) }
     ensures place { OnOk result (HasPlaceIn (queue_at by_comm.new.items comm)) }
-    ensures memory { comm < length by_comm.old.items → HasPlaceIn (queue_at by_comm.old.items comm) →
-        OnErr result ⊥ }
+    ensures memory { comm < length by_comm.old.items →
+        HasPlaceIn (queue_at by_comm.old.items comm) → OnErr result ⊥ }
 {
     lengthen(by_comm, comm)?;
     reserve_key(&mut by_comm[comm as usize])

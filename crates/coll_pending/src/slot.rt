@@ -1,7 +1,9 @@
 //! The slot of an instance that waits, with a count of the posts that have come.
-ghost use Rattle.std.specs.Prelude.{◌≡◌, ◌<◌, ◌==◌, length, map, replicate, Some, None, IfOk, IsTrue, true, false};
+ghost use Rattle.std.specs.Prelude.{◌≡◌, ◌<◌, ◌==◌, length, map, replicate, Some, None, IfOk};
+ghost use Rattle.std.specs.Prelude.{IsTrue, true, false};
 ghost use Rattle.coll_pending.specs.Instances.{Communicator, made_of, is_full, is_full_but_for};
-ghost use Rattle.coll_pending.specs.Queues.{IsSlot, IsFree, IsVacant, has_posted, posted, lacks_one};
+ghost use Rattle.coll_pending.specs.Queues.{IsSlot, IsFree, IsVacant, has_posted, posted};
+ghost use Rattle.coll_pending.specs.Queues.{lacks_one};
 
 use crate::parts::PartRows;
 use coll_routes::{Roll, Shape, Signature, Stated, Statements};
@@ -43,7 +45,8 @@ impl<X: Drop> Slot<X> {
     pub fn is_of(&self, group: &Group, shape: &Shape) -> bool
         ensures yes { IsTrue result → (self.now.roll.members ≡ group.now)
             × (self.now.roll.shape ≡ shape.now) }
-        ensures no { self.now.roll.members ≡ group.now → self.now.roll.shape ≡ shape.now → IsTrue result }
+        ensures no { self.now.roll.members ≡ group.now → self.now.roll.shape ≡ shape.now →
+            IsTrue result }
     {
         self.roll.members.is_same(group) && self.roll.shape.is_same(shape)
     }
@@ -51,7 +54,8 @@ impl<X: Drop> Slot<X> {
     /// Whether each member but this rank has posted.
     pub fn lacks_only(&self, rank: u32) -> bool
         requires slot { IsSlot self.now }
-        requires free { rank < length self.now.roll.members → has_posted self.now.roll.stated rank ≡ false }
+        requires free { rank < length self.now.roll.members →
+            has_posted self.now.roll.stated rank ≡ false }
         ensures { result ≡ is_full_but_for self.now.roll.stated rank }
     {
         let size = self.roll.members.size();

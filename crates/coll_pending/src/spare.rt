@@ -1,5 +1,6 @@
 //! What `Pending::ready` makes, so that the next arrival takes no memory.
-ghost use Rattle.std.specs.Prelude.{◌≡◌, ◌<◌, ◌≤◌, ◌==◌, length, IfSome, IfOk, OnOk, OnErr, IsTrue, IsErr, IsSome, Some, None, true, false};
+ghost use Rattle.std.specs.Prelude.{◌≡◌, ◌<◌, ◌≤◌, ◌==◌, length, IfSome, IfOk, OnOk, OnErr, IsTrue};
+ghost use Rattle.std.specs.Prelude.{IsErr, IsSome, Some, None, true, false};
 ghost use Rattle.coll_pending.specs.Instances.{Communicator, made_of};
 ghost use Rattle.coll_pending.specs.Lists.{fits};
 ghost use Rattle.coll_pending.specs.Queues.{communicator, unused, IsVacant};
@@ -31,7 +32,8 @@ impl<X> Model for Spare<X> {
 
     ghost view = { λ s. record { queue = s.queue; slot = s.slot; lists = s.lists } };
 
-    ghost invariant = { λ s. spares.IsSpare (record { queue = s.queue; slot = s.slot; lists = s.lists }) };
+    ghost invariant = { λ s.
+        spares.IsSpare (record { queue = s.queue; slot = s.slot; lists = s.lists }) };
 }
 
 impl<X: Drop> Spare<X> {

@@ -27,7 +27,8 @@ impl Model for Table {
     ghost view = { λ t. t.pending };
 
     ghost invariant = { λ t. (c : ℕ) →
-        IsKnownAs (record { members = t.group; shape = t.shape }) ((view_of_pending t.pending).known c) };
+        IsKnownAs (record { members = t.group; shape = t.shape })
+        ((view_of_pending t.pending).known c) };
 }
 
 impl Table {

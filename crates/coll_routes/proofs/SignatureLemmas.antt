@@ -1,22 +1,38 @@
 -- Signatures with equal kinds and fields are equal.
-use Rattle.std.proofs.Common.{◌≡◌, ℕ, List, [], ◌∷◌, Bool, true, false, ◌&&◌, Option, Some, None, nat_eq, refl, sym, ap, ◌∙◌}
+use Rattle.std.proofs.Common.{◌≡◌, ℕ, List, [], ◌∷◌, Bool, true, false, ◌&&◌, Option, Some, None}
+use Rattle.std.proofs.Common.{nat_eq, refl, sym, ap, ◌∙◌}
 use Rattle.std.specs.Prelude.{slice_get, unwrap_or, ◌↔◌}
 use Rattle.std.specs.Str.{bytes_eq}
 use Rattle.std.specs.Cmp.Lexicographic.{pointwise, bytes_decides}
 use Rattle.std.proofs.Math.Bool.{beq}
 use Rattle.std.proofs.lemmas.Bool.{eqb-true, eq-eqb, and_parts, and_from}
 use Rattle.wall_labels.specs.declared.op.Op.{Op}
-use Rattle.wall_labels.specs.declared.op.Op.TheVariants.{Max, Min, Sum, Prod, Land, Lor, Lxor, Band, Bor, Bxor, Maxloc, Minloc}
+use Rattle.wall_labels.specs.declared.op.Op.TheVariants.{Max, Min, Sum, Prod, Land, Lor, Lxor, Band}
+use Rattle.wall_labels.specs.declared.op.Op.TheVariants.{Bor, Bxor, Maxloc, Minloc}
 use Rattle.wall_labels.specs.Ops.{op_number, all_ops}
 use Rattle.mpi_elems.specs.declared.elem_type.ElemType.{ElemType}
-use Rattle.mpi_elems.specs.declared.elem_type.ElemType.TheVariants.{Int8, Int16, Int32, Int64, Uint8, Uint16, Uint32, Uint64, TwoInt}
+use Rattle.mpi_elems.specs.declared.elem_type.ElemType.TheVariants.{Int8, Int16, Int32, Int64}
+use Rattle.mpi_elems.specs.declared.elem_type.ElemType.TheVariants.{Uint8, Uint16, Uint32, Uint64}
+use Rattle.mpi_elems.specs.declared.elem_type.ElemType.TheVariants.{TwoInt}
 use Rattle.mpi_elems.specs.Types.{type_number}
 use Rattle.coll_routes.specs.declared.kind.Kind.{Kind}
 use Rattle.coll_routes.specs.declared.kind.Kind.TheVariants as kinds
 use Rattle.coll_routes.specs.declared.signature.Signature.{Signature}
-use Rattle.coll_routes.specs.declared.signature.Signature.TheVariants.{Barrier, Bcast, Gather, Gatherv, Scatter, Scatterv, Allgather, Allgatherv, Alltoall, Alltoallv, Reduce, Allreduce, ReduceScatter, ReduceScatterBlock, Scan, Exscan, NeighborAllgather, NeighborAllgatherv, NeighborAlltoall, NeighborAlltoallv, Dup, Split, Create, CartCreate, CartSub}
+use Rattle.coll_routes.specs.declared.signature.Signature.TheVariants.{Barrier, Bcast, Gather}
+use Rattle.coll_routes.specs.declared.signature.Signature.TheVariants.{Gatherv, Scatter, Scatterv}
+use Rattle.coll_routes.specs.declared.signature.Signature.TheVariants.{Allgather, Allgatherv}
+use Rattle.coll_routes.specs.declared.signature.Signature.TheVariants.{Alltoall, Alltoallv, Reduce}
+use Rattle.coll_routes.specs.declared.signature.Signature.TheVariants.{Allreduce, ReduceScatter}
+use Rattle.coll_routes.specs.declared.signature.Signature.TheVariants.{ReduceScatterBlock, Scan}
+use Rattle.coll_routes.specs.declared.signature.Signature.TheVariants.{Exscan, NeighborAllgather}
+use Rattle.coll_routes.specs.declared.signature.Signature.TheVariants.{NeighborAllgatherv}
+use Rattle.coll_routes.specs.declared.signature.Signature.TheVariants.{NeighborAlltoall}
+use Rattle.coll_routes.specs.declared.signature.Signature.TheVariants.{NeighborAlltoallv, Dup}
+use Rattle.coll_routes.specs.declared.signature.Signature.TheVariants.{Split, Create, CartCreate}
+use Rattle.coll_routes.specs.declared.signature.Signature.TheVariants.{CartSub}
 use Rattle.coll_routes.specs.Kinds.{kind_number, all_kinds}
-use Rattle.coll_routes.specs.Signatures.{kind, root, reduction, elem_type, count, numbers, flags, same_by, same_flags, same_signature}
+use Rattle.coll_routes.specs.Signatures.{kind, root, reduction, elem_type, count, numbers, flags}
+use Rattle.coll_routes.specs.Signatures.{same_by, same_flags, same_signature}
 use Rattle.coll_routes.specs.Laws.{SameSignaturesAreEqual}
 
 -- the signature of a kind with these fields
@@ -31,15 +47,21 @@ rebuilt kinds.Allgather r op ty n ns fs = Allgather (unwrap_or ty Int8) (unwrap_
 rebuilt kinds.Allgatherv r op ty n ns fs = Allgatherv (unwrap_or ty Int8)
 rebuilt kinds.Alltoall r op ty n ns fs = Alltoall (unwrap_or ty Int8) (unwrap_or n 0)
 rebuilt kinds.Alltoallv r op ty n ns fs = Alltoallv (unwrap_or ty Int8)
-rebuilt kinds.Reduce r op ty n ns fs = Reduce (unwrap_or r 0) (unwrap_or op Max) (unwrap_or ty Int8) (unwrap_or n 0)
-rebuilt kinds.Allreduce r op ty n ns fs = Allreduce (unwrap_or op Max) (unwrap_or ty Int8) (unwrap_or n 0)
-rebuilt kinds.ReduceScatter r op ty n ns fs = ReduceScatter (unwrap_or op Max) (unwrap_or ty Int8) ns
-rebuilt kinds.ReduceScatterBlock r op ty n ns fs = ReduceScatterBlock (unwrap_or op Max) (unwrap_or ty Int8) (unwrap_or n 0)
+rebuilt kinds.Reduce r op ty n ns fs =
+    Reduce (unwrap_or r 0) (unwrap_or op Max) (unwrap_or ty Int8) (unwrap_or n 0)
+rebuilt kinds.Allreduce r op ty n ns fs =
+    Allreduce (unwrap_or op Max) (unwrap_or ty Int8) (unwrap_or n 0)
+rebuilt kinds.ReduceScatter r op ty n ns fs =
+    ReduceScatter (unwrap_or op Max) (unwrap_or ty Int8) ns
+rebuilt kinds.ReduceScatterBlock r op ty n ns fs =
+    ReduceScatterBlock (unwrap_or op Max) (unwrap_or ty Int8) (unwrap_or n 0)
 rebuilt kinds.Scan r op ty n ns fs = Scan (unwrap_or op Max) (unwrap_or ty Int8) (unwrap_or n 0)
 rebuilt kinds.Exscan r op ty n ns fs = Exscan (unwrap_or op Max) (unwrap_or ty Int8) (unwrap_or n 0)
-rebuilt kinds.NeighborAllgather r op ty n ns fs = NeighborAllgather (unwrap_or ty Int8) (unwrap_or n 0)
+rebuilt kinds.NeighborAllgather r op ty n ns fs =
+    NeighborAllgather (unwrap_or ty Int8) (unwrap_or n 0)
 rebuilt kinds.NeighborAllgatherv r op ty n ns fs = NeighborAllgatherv (unwrap_or ty Int8)
-rebuilt kinds.NeighborAlltoall r op ty n ns fs = NeighborAlltoall (unwrap_or ty Int8) (unwrap_or n 0)
+rebuilt kinds.NeighborAlltoall r op ty n ns fs =
+    NeighborAlltoall (unwrap_or ty Int8) (unwrap_or n 0)
 rebuilt kinds.NeighborAlltoallv r op ty n ns fs = NeighborAlltoallv (unwrap_or ty Int8)
 rebuilt kinds.Dup r op ty n ns fs = Dup
 rebuilt kinds.Split r op ty n ns fs = Split
@@ -47,7 +69,8 @@ rebuilt kinds.Create r op ty n ns fs = Create ns
 rebuilt kinds.CartCreate r op ty n ns fs = CartCreate ns fs
 rebuilt kinds.CartSub r op ty n ns fs = CartSub fs
 
-rebuilt_is : (s : Signature) → rebuilt (kind s) (root s) (reduction s) (elem_type s) (count s) (numbers s) (flags s) ≡ s
+rebuilt_is : (s : Signature) →
+    rebuilt (kind s) (root s) (reduction s) (elem_type s) (count s) (numbers s) (flags s) ≡ s
 unfolding rebuilt kind root reduction elem_type count numbers flags
 rebuilt_is Barrier = refl
 rebuilt_is (Bcast r ty n) = refl
@@ -75,8 +98,11 @@ rebuilt_is (Create ranks) = refl
 rebuilt_is (CartCreate dims periods) = refl
 rebuilt_is (CartSub keep) = refl
 
-pub from_fields : (a b : Signature) → kind a ≡ kind b → root a ≡ root b → reduction a ≡ reduction b → elem_type a ≡ elem_type b → count a ≡ count b → numbers a ≡ numbers b → flags a ≡ flags b → a ≡ b
-from_fields a b k r o t n ns fs = sym (rebuilt_is a) ∙ ((λ i. rebuilt (k i) (r i) (o i) (t i) (n i) (ns i) (fs i)) ∙ rebuilt_is b)
+pub from_fields : (a b : Signature) → kind a ≡ kind b → root a ≡ root b →
+    reduction a ≡ reduction b → elem_type a ≡ elem_type b → count a ≡ count b →
+    numbers a ≡ numbers b → flags a ≡ flags b → a ≡ b
+from_fields a b k r o t n ns fs =
+    sym (rebuilt_is a) ∙ ((λ i. rebuilt (k i) (r i) (o i) (t i) (n i) (ns i) (fs i)) ∙ rebuilt_is b)
 
 -- numbers tell kinds, operations and types
 kind_back : (k : Kind) → slice_get all_kinds (kind_number k) ≡ Some k
@@ -107,7 +133,8 @@ kind_back kinds.CartCreate = refl
 kind_back kinds.CartSub = refl
 
 kind_is : (k l : Kind) → kind_number k ≡ kind_number l → k ≡ l
-kind_is k l e = let one = kind_back k in let two = kind_back l in let same = ap (slice_get all_kinds) e in cc
+kind_is k l e =
+    let one = kind_back k in let two = kind_back l in let same = ap (slice_get all_kinds) e in cc
 
 op_back : (x : Op) → slice_get all_ops (op_number x) ≡ Some x
 op_back Max = refl
@@ -124,7 +151,8 @@ op_back Maxloc = refl
 op_back Minloc = refl
 
 op_is : (x y : Op) → op_number x ≡ op_number y → x ≡ y
-op_is x y e = let one = op_back x in let two = op_back y in let same = ap (slice_get all_ops) e in cc
+op_is x y e =
+    let one = op_back x in let two = op_back y in let same = ap (slice_get all_ops) e in cc
 
 abbrev all_types : List ElemType
 all_types = Int8 ∷ Int16 ∷ Int32 ∷ Int64 ∷ Uint8 ∷ Uint16 ∷ Uint32 ∷ Uint64 ∷ TwoInt ∷ []
@@ -141,12 +169,15 @@ type_back Uint64 = refl
 type_back TwoInt = refl
 
 pub type_is : (x y : ElemType) → type_number x ≡ type_number y → x ≡ y
-type_is x y e = let one = type_back x in let two = type_back y in let same = ap (slice_get all_types) e in cc
+type_is x y e =
+    let one = type_back x in let two = type_back y in let same = ap (slice_get all_types) e in cc
 
 -- the tests of fields tell equal ones
 module _ {X : Type 0} (number : X → ℕ) where
-  by_number : ((x y : X) → number x ≡ number y → x ≡ y) → (a b : Option X) → same_by number a b ≡ true → a ≡ b
-  by_number tells (Some x) (Some y) e = ap (λ (z : X). Some z) (tells x y (eqb-true (number x) (number y) e))
+  by_number : ((x y : X) → number x ≡ number y → x ≡ y) → (a b : Option X) →
+      same_by number a b ≡ true → a ≡ b
+  by_number tells (Some x) (Some y) e =
+      ap (λ (z : X). Some z) (tells x y (eqb-true (number x) (number y) e))
   by_number tells None None e = refl
   by_number tells (Some x) None e = absurd (cc)
   by_number tells None (Some y) e = absurd (cc)
@@ -182,7 +213,10 @@ pointwise_flags (false ∷ xs) (true ∷ ys) = refl
 pointwise_flags (false ∷ xs) (false ∷ ys) = pointwise_flags xs ys
 
 pub flags_decide : (xs ys : List Bool) → (pointwise beq xs ys ≡ true) ↔ (xs ≡ ys)
-flags_decide xs ys = (λ e. flags_are xs ys (sym (pointwise_flags xs ys) ∙ e), λ e. pointwise_flags xs ys ∙ (ap (same_flags xs) (sym e) ∙ flags_itself xs))
+flags_decide xs ys = (
+  λ e. flags_are xs ys (sym (pointwise_flags xs ys) ∙ e),
+  λ e. pointwise_flags xs ys ∙ (ap (same_flags xs) (sym e) ∙ flags_itself xs),
+)
 
 same_is : (a b : Signature) → same_signature a b ≡ true → a ≡ b
 unfolding same_signature
@@ -200,7 +234,8 @@ same_is a b e =
     let three = and_parts (same_kind && roots && ops) types four.0 in
     let two = and_parts (same_kind && roots) ops three.0 in
     let one = and_parts same_kind roots two.0 in
-    from_fields a b (kind_is (kind a) (kind b) (eqb-true (kind_number (kind a)) (kind_number (kind b)) one.0))
+    from_fields a b
+    (kind_is (kind a) (kind b) (eqb-true (kind_number (kind a)) (kind_number (kind b)) one.0))
     (by_number (λ (r : ℕ). r) (λ x y h. h) (root a) (root b) one.1)
     (by_number op_number op_is (reduction a) (reduction b) two.1)
     (by_number type_number type_is (elem_type a) (elem_type b) three.1)
@@ -223,8 +258,10 @@ same_itself a =
     (and_from (same_kind && roots && ops && types) counts
     (and_from (same_kind && roots && ops) types
     (and_from (same_kind && roots) ops
-    (and_from same_kind roots (eq-eqb (kind_number (kind a)) (kind_number (kind a)) refl) (itself (λ (r : ℕ). r) (root a)))
-    (itself op_number (reduction a))) (itself type_number (elem_type a))) (itself (λ (n : ℕ). n) (count a)))
+    (and_from same_kind roots (eq-eqb (kind_number (kind a)) (kind_number (kind a)) refl)
+    (itself (λ (r : ℕ). r) (root a)))
+    (itself op_number (reduction a))) (itself type_number (elem_type a)))
+    (itself (λ (n : ℕ). n) (count a)))
     ((bytes_decides (numbers a) (numbers a)).1 refl)) (flags_itself (flags a))
 
 pub same_signatures_are_equal : SameSignaturesAreEqual

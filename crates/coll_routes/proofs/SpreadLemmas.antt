@@ -1,10 +1,24 @@
 -- To whom the ranks send: what a kind says of all pairs of them.
-use Rattle.std.proofs.Common.{◌≡◌, ℕ, zero, suc, ◌+◌, ◌*◌, ◌<◌, ◌≤◌, List, [], ◌∷◌, take, replicate, sum, get_or, ◌∙◌, ap, sym, refl, arith, Bool, true, false, not, ◌&&◌, cond, Option, Some, None, IsSome, nat_le, nat_lt, nat_eq, ⊎_elim}
+use Rattle.std.proofs.Common.{◌≡◌, ℕ, zero, suc, ◌+◌, ◌*◌, ◌<◌, ◌≤◌, List, [], ◌∷◌, take, replicate}
+use Rattle.std.proofs.Common.{sum, get_or, ◌∙◌, ap, sym, refl, arith, Bool, true, false, not, ◌&&◌}
+use Rattle.std.proofs.Common.{cond, Option, Some, None, IsSome, nat_le, nat_lt, nat_eq, ⊎_elim}
 use Rattle.std.specs.List.{list_any, range_with_len}
-use Rattle.std.proofs.lemmas.Bool.{eqb-true, eq-eqb, and_from, and_parts, cases_Bool, le-leb, leb-true, leb-false, lt-ltb, ltb-true, ltb-false, le-ltb}
+use Rattle.std.proofs.lemmas.Bool.{eqb-true, eq-eqb, and_from, and_parts, cases_Bool, le-leb}
+use Rattle.std.proofs.lemmas.Bool.{leb-true, leb-false, lt-ltb, ltb-true, ltb-false, le-ltb}
 use Rattle.mpi_cart.specs.Grids.{Topology, below, opposite}
 use Rattle.coll_routes.specs.declared.signature.Signature.{Signature}
-use Rattle.coll_routes.specs.declared.signature.Signature.TheVariants.{Barrier, Bcast, Gather, Gatherv, Scatter, Scatterv, Allgather, Allgatherv, Alltoall, Alltoallv, Reduce, Allreduce, ReduceScatter, ReduceScatterBlock, Scan, Exscan, NeighborAllgather, NeighborAllgatherv, NeighborAlltoall, NeighborAlltoallv, Dup, Split, Create, CartCreate, CartSub}
+use Rattle.coll_routes.specs.declared.signature.Signature.TheVariants.{Barrier, Bcast, Gather}
+use Rattle.coll_routes.specs.declared.signature.Signature.TheVariants.{Gatherv, Scatter, Scatterv}
+use Rattle.coll_routes.specs.declared.signature.Signature.TheVariants.{Allgather, Allgatherv}
+use Rattle.coll_routes.specs.declared.signature.Signature.TheVariants.{Alltoall, Alltoallv, Reduce}
+use Rattle.coll_routes.specs.declared.signature.Signature.TheVariants.{Allreduce, ReduceScatter}
+use Rattle.coll_routes.specs.declared.signature.Signature.TheVariants.{ReduceScatterBlock, Scan}
+use Rattle.coll_routes.specs.declared.signature.Signature.TheVariants.{Exscan, NeighborAllgather}
+use Rattle.coll_routes.specs.declared.signature.Signature.TheVariants.{NeighborAllgatherv}
+use Rattle.coll_routes.specs.declared.signature.Signature.TheVariants.{NeighborAlltoall}
+use Rattle.coll_routes.specs.declared.signature.Signature.TheVariants.{NeighborAlltoallv, Dup}
+use Rattle.coll_routes.specs.declared.signature.Signature.TheVariants.{Split, Create, CartCreate}
+use Rattle.coll_routes.specs.declared.signature.Signature.TheVariants.{CartSub}
 use Rattle.coll_routes.specs.declared.statement.Own.{Own}
 use Rattle.coll_routes.specs.declared.statement.Own.TheVariants.{Plain, Counts, Split as SplitBy}
 use Rattle.coll_routes.specs.declared.statement.Stated.{Stated}
@@ -15,14 +29,18 @@ use Rattle.coll_routes.specs.declared.lane.Lane.TheVariants.{Nowhere, Whole, Blo
 use Rattle.coll_routes.specs.declared.fault.Asked.TheVariants.{Exactly, ColourAndKey}
 use Rattle.coll_routes.specs.declared.spread.Spread.{Spread}
 use Rattle.coll_routes.specs.Signatures.{reduction, is_neighbourly}
-use Rattle.coll_routes.specs.Rolls.{goes_by, in_block, slots, is_it, is_neighbour, neighbour_in, stated_by, own_counts_in, counts_in, given, goes, places, sends, routed}
+use Rattle.coll_routes.specs.Rolls.{goes_by, in_block, slots, is_it, is_neighbour, neighbour_in}
+use Rattle.coll_routes.specs.Rolls.{stated_by, own_counts_in, counts_in, given, goes, places, sends}
+use Rattle.coll_routes.specs.Rolls.{routed}
 use Rattle.coll_routes.specs.Faults.{is_met, asked, gives, stated_type}
 use Rattle.coll_routes.specs.Fit.{IsFit}
 use Rattle.coll_routes.specs.Lanes.{lane_by, sizes_by, holds, sends_by, place_by}
-use Rattle.coll_routes.specs.Spreads.{if_it_sends, sender, is_spread, spread_by, until_by, share_by, share_start, share_end}
+use Rattle.coll_routes.specs.Spreads.{if_it_sends, sender, is_spread, spread_by, until_by, share_by}
+use Rattle.coll_routes.specs.Spreads.{share_start, share_end}
 use Rattle.coll_routes.proofs.AnyLemmas.{any_none}
 use Rattle.coll_routes.proofs.BlockLemmas.{size_inside, even_whole, sum_front}
-use Rattle.coll_routes.proofs.CutLemmas.{goes-lane, count_is_good, met, sends_nowhere, sends_whole, sends_block}
+use Rattle.coll_routes.proofs.CutLemmas.{goes-lane, count_is_good, met, sends_nowhere, sends_whole}
+use Rattle.coll_routes.proofs.CutLemmas.{sends_block}
 use Rattle.coll_routes.proofs.FitLemmas.{no_fault, given_is, counts_are, sends_is}
 use Rattle.coll_routes.proofs.RouteLemmas.{by_place}
 use Rattle.coll_routes.proofs.LawLemmas.{it_is, between}

@@ -1,5 +1,7 @@
 -- What a post must look like by itself: the refusals that look at no other post.
-use Rattle.std.specs.Prelude.{ℕ, List, [], ◌∷◌, Bool, true, false, not, ◌&&◌, ◌||◌, ◌==◌, ◌*◌, length, Option, Some, None, nat_lt, nat_le, if◌then◌else◌, sum, pos, int_lt, is_some, is_none, unwrap_or}
+use Rattle.std.specs.Prelude.{ℕ, List, [], ◌∷◌, Bool, true, false, not, ◌&&◌, ◌||◌, ◌==◌, ◌*◌}
+use Rattle.std.specs.Prelude.{length, Option, Some, None, nat_lt, nat_le, if◌then◌else◌, sum, pos}
+use Rattle.std.specs.Prelude.{int_lt, is_some, is_none, unwrap_or}
 use Rattle.wall_labels.specs.declared.op.Op.{Op}
 use Rattle.mpi_elems.specs.declared.elem_type.ElemType.{ElemType}
 use Rattle.mpi_elems.specs.declared.elem_type.ElemType.TheVariants.{Int8}
@@ -9,15 +11,28 @@ use Rattle.mpi_group.specs.Groups.{ranks_fault}
 use Rattle.mpi_cart.specs.Faults.{first_fault, keep_fault}
 use Rattle.mpi_cart.specs.Grids.{Topology}
 use Rattle.coll_routes.specs.declared.signature.Signature.{Signature}
-use Rattle.coll_routes.specs.declared.signature.Signature.TheVariants.{Bcast, Gather, Gatherv, Scatter, Scatterv, Allgather, Allgatherv, Alltoall, Alltoallv, Reduce, Allreduce, ReduceScatter, ReduceScatterBlock, Scan, Exscan, NeighborAllgather, NeighborAllgatherv, NeighborAlltoall, NeighborAlltoallv, Split, Create, CartCreate, CartSub}
+use Rattle.coll_routes.specs.declared.signature.Signature.TheVariants.{Bcast, Gather, Gatherv}
+use Rattle.coll_routes.specs.declared.signature.Signature.TheVariants.{Scatter, Scatterv, Allgather}
+use Rattle.coll_routes.specs.declared.signature.Signature.TheVariants.{Allgatherv, Alltoall}
+use Rattle.coll_routes.specs.declared.signature.Signature.TheVariants.{Alltoallv, Reduce, Allreduce}
+use Rattle.coll_routes.specs.declared.signature.Signature.TheVariants.{ReduceScatter}
+use Rattle.coll_routes.specs.declared.signature.Signature.TheVariants.{ReduceScatterBlock, Scan}
+use Rattle.coll_routes.specs.declared.signature.Signature.TheVariants.{Exscan, NeighborAllgather}
+use Rattle.coll_routes.specs.declared.signature.Signature.TheVariants.{NeighborAllgatherv}
+use Rattle.coll_routes.specs.declared.signature.Signature.TheVariants.{NeighborAlltoall}
+use Rattle.coll_routes.specs.declared.signature.Signature.TheVariants.{NeighborAlltoallv, Split}
+use Rattle.coll_routes.specs.declared.signature.Signature.TheVariants.{Create, CartCreate, CartSub}
 use Rattle.coll_routes.specs.declared.statement.Own.{Own}
 use Rattle.coll_routes.specs.declared.statement.Own.TheVariants.{Plain, Counts, Split as SplitBy}
 use Rattle.coll_routes.specs.declared.statement.Stated.{Stated}
 use Rattle.coll_routes.specs.declared.roll.Shape.{Shape}
 use Rattle.coll_routes.specs.declared.fault.ShapeFault.{ShapeFault}
-use Rattle.coll_routes.specs.declared.fault.ShapeFault.TheVariants.{NoTopology, BadRoot, BadOp, BadCount, BadColour, NotSubgroup, BadDims}
+use Rattle.coll_routes.specs.declared.fault.ShapeFault.TheVariants.{NoTopology, BadRoot, BadOp}
+use Rattle.coll_routes.specs.declared.fault.ShapeFault.TheVariants.{BadCount, BadColour}
+use Rattle.coll_routes.specs.declared.fault.ShapeFault.TheVariants.{NotSubgroup, BadDims}
 use Rattle.coll_routes.specs.declared.fault.Asked.{Asked}
-use Rattle.coll_routes.specs.declared.fault.Asked.TheVariants.{Exactly, AnyNumber, SumOfCounts, ColourAndKey}
+use Rattle.coll_routes.specs.declared.fault.Asked.TheVariants.{Exactly, AnyNumber, SumOfCounts}
+use Rattle.coll_routes.specs.declared.fault.Asked.TheVariants.{ColourAndKey}
 use Rattle.coll_routes.specs.Signatures.{root, reduction, elem_type, count, is_neighbourly}
 use Rattle.coll_routes.specs.Rolls.{slots}
 
@@ -54,11 +69,13 @@ gives (Scatter r ty n) rank = rank == r
 gives (Scatterv r ty) rank = rank == r
 gives _ rank = true
 
--- what a rank states for itself, and how many elements it gives, are as asked; who gives none states no counts
+-- what a rank states for itself, and how many elements it gives, are as asked; who gives none
+-- states no counts
 abbrev pub is_met : Asked → Bool → Own → ℕ → Bool
 is_met (Exactly n) giving Plain given = given == (if giving then n else 0)
 is_met AnyNumber giving Plain given = true
-is_met (SumOfCounts n) giving (Counts counts) given = length counts == (if giving then n else 0) && given == sum counts
+is_met (SumOfCounts n) giving (Counts counts) given =
+    length counts == (if giving then n else 0) && given == sum counts
 is_met ColourAndKey giving (SplitBy colour key) given = given == 0
 is_met _ giving _ given = false
 
@@ -107,8 +124,8 @@ unfoldable pub is_listed : Shape → Signature → Bool
 is_listed shape (ReduceScatter op ty counts) = length counts == shape.size
 is_listed shape _ = true
 
--- the elements are of another type; they, a block, or what some rank must give are above the limit; or the counts or the elements aren't
--- what the kind asks
+-- the elements are of another type; they, a block, or what some rank must give are above the limit;
+-- or the counts or the elements aren't what the kind asks
 unfoldable pub bad_count : Shape → (rank : ℕ) → Signature → Own → ElemType → (given : ℕ) → Bool
 bad_count shape rank sig own ty given =
     not (is_of_type (elem_type sig) ty)
@@ -132,7 +149,8 @@ abbrev pub is_ill_kept : List Bool → Option Topology → Bool
 is_ill_kept keep (Some g) = is_some (keep_fault keep g.dims)
 is_ill_kept keep None = false
 
--- no grid of the group has these dimensions (8.5.1), or the list doesn't say of each dimension whether to keep it (8.5.7)
+-- no grid of the group has these dimensions (8.5.1), or the list doesn't say of each dimension
+-- whether to keep it (8.5.7)
 unfoldable pub bad_dims : Shape → Signature → Bool
 bad_dims shape (CartCreate dims periods) = is_some (first_fault dims periods shape.size)
 bad_dims shape (CartSub keep) = is_ill_kept keep shape.grid
@@ -144,7 +162,8 @@ first_that [] = None
 first_that ((test, fault) ∷ rest) = if test then Some fault else first_that rest
 
 -- the first refusal that holds of a post of a rank, which gives so many elements of this type
-unfoldable pub shape_fault : Shape → (rank : ℕ) → Signature → Own → ElemType → (given : ℕ) → Option ShapeFault
+unfoldable pub shape_fault : Shape → (rank : ℕ) → Signature → Own → ElemType → (given : ℕ) →
+    Option ShapeFault
 shape_fault shape rank sig own ty given = first_that (
     (no_topology shape sig, NoTopology)
     ∷ (bad_root shape sig, BadRoot)
@@ -155,7 +174,8 @@ shape_fault shape rank sig own ty given = first_that (
     ∷ (bad_dims shape sig, BadDims)
     ∷ [])
 
--- the type of the elements of a statement: the signature's, or int8 for a kind that has none (own rule)
+-- the type of the elements of a statement: the signature's, or int8 for a kind that has none (own
+-- rule)
 abbrev pub stated_type : Signature → ElemType
 stated_type sig = unwrap_or (elem_type sig) Int8
 

@@ -1,5 +1,6 @@
 -- What the calls on a roll ask of it.
-use Rattle.std.specs.Prelude.{◌≡◌, ◌==◌, ℕ, ◌<◌, length, Bool, true, not, ◌&&◌, ◌||◌, Option, Some, None, IsSome, is_some, is_none}
+use Rattle.std.specs.Prelude.{◌≡◌, ◌==◌, ℕ, ◌<◌, length, Bool, true, not, ◌&&◌, ◌||◌, Option, Some}
+use Rattle.std.specs.Prelude.{None, IsSome, is_some, is_none}
 use Rattle.std.specs.List.{list_any}
 use Rattle.mpi_cart.specs.Grids.{Topology, volume}
 use Rattle.coll_routes.specs.declared.statement.Stated.{Stated}
@@ -23,8 +24,8 @@ pub record IsStatement (roll : Roll) (i : ℕ) (s : Stated) : Type 0 where
   pub fault : stated_fault roll.shape i s ≡ None
   pub labelled : s.barred ≡ true → IsSome s.label
 
--- the roll has as many members as its shape and its grid say, and the statements that it has are of its own signature, without a fault,
--- and not barred without a label
+-- the roll has as many members as its shape and its grid say, and the statements that it has are of
+-- its own signature, without a fault, and not barred without a label
 pub record IsSound (roll : Roll) : Type 0 where
   pub members : length roll.members ≡ roll.shape.size
   pub grid : IsSized roll.shape
@@ -43,7 +44,8 @@ is_sized_grid n (Some g) = volume g.dims == n
 is_sized_grid n None = true
 
 abbrev pub is_statement : Roll → (i : ℕ) → Stated → Bool
-is_statement roll i s = same_signature s.sig roll.sig && is_none (stated_fault roll.shape i s) && (not s.barred || is_some s.label)
+is_statement roll i s = same_signature s.sig roll.sig && is_none (stated_fault roll.shape i s)
+    && (not s.barred || is_some s.label)
 
 abbrev pub is_unfit_at : Roll → (i : ℕ) → Option Stated → Bool
 is_unfit_at roll i (Some s) = not (is_statement roll i s)

@@ -2,7 +2,15 @@
 use Rattle.std.specs.Prelude.{ℕ, List, [], ◌∷◌, Option, find, codes}
 use Rattle.std.specs.Str.{bytes_eq}
 use Rattle.coll_routes.specs.declared.kind.Kind.{Kind}
-use Rattle.coll_routes.specs.declared.kind.Kind.TheVariants.{Barrier, Bcast, Gather, Gatherv, Scatter, Scatterv, Allgather, Allgatherv, Alltoall, Alltoallv, Reduce, Allreduce, ReduceScatter, ReduceScatterBlock, Scan, Exscan, NeighborAllgather, NeighborAllgatherv, NeighborAlltoall, NeighborAlltoallv, Dup, Split, Create, CartCreate, CartSub}
+use Rattle.coll_routes.specs.declared.kind.Kind.TheVariants.{Barrier, Bcast, Gather, Gatherv}
+use Rattle.coll_routes.specs.declared.kind.Kind.TheVariants.{Scatter, Scatterv, Allgather}
+use Rattle.coll_routes.specs.declared.kind.Kind.TheVariants.{Allgatherv, Alltoall, Alltoallv}
+use Rattle.coll_routes.specs.declared.kind.Kind.TheVariants.{Reduce, Allreduce, ReduceScatter}
+use Rattle.coll_routes.specs.declared.kind.Kind.TheVariants.{ReduceScatterBlock, Scan, Exscan}
+use Rattle.coll_routes.specs.declared.kind.Kind.TheVariants.{NeighborAllgather, NeighborAllgatherv}
+use Rattle.coll_routes.specs.declared.kind.Kind.TheVariants.{NeighborAlltoall, NeighborAlltoallv}
+use Rattle.coll_routes.specs.declared.kind.Kind.TheVariants.{Dup, Split, Create, CartCreate}
+use Rattle.coll_routes.specs.declared.kind.Kind.TheVariants.{CartSub}
 
 abbrev pub kind_name : Kind → List ℕ
 kind_name Barrier = codes "barrier"
@@ -32,10 +40,10 @@ kind_name CartCreate = codes "cart_create"
 kind_name CartSub = codes "cart_sub"
 
 abbrev pub all_kinds : List Kind
-all_kinds =
-    Barrier ∷ Bcast ∷ Gather ∷ Gatherv ∷ Scatter ∷ Scatterv ∷ Allgather ∷ Allgatherv ∷ Alltoall ∷ Alltoallv
-    ∷ Reduce ∷ Allreduce ∷ ReduceScatter ∷ ReduceScatterBlock ∷ Scan ∷ Exscan ∷ NeighborAllgather
-    ∷ NeighborAllgatherv ∷ NeighborAlltoall ∷ NeighborAlltoallv ∷ Dup ∷ Split ∷ Create ∷ CartCreate ∷ CartSub ∷ []
+all_kinds = Barrier ∷ Bcast ∷ Gather ∷ Gatherv ∷ Scatter ∷ Scatterv ∷ Allgather ∷ Allgatherv
+    ∷ Alltoall ∷ Alltoallv ∷ Reduce ∷ Allreduce ∷ ReduceScatter ∷ ReduceScatterBlock ∷ Scan ∷ Exscan
+    ∷ NeighborAllgather ∷ NeighborAllgatherv ∷ NeighborAlltoall ∷ NeighborAlltoallv ∷ Dup ∷ Split
+    ∷ Create ∷ CartCreate ∷ CartSub ∷ []
 
 -- the kind of a name
 unfoldable pub kind_of : List ℕ → Option Kind

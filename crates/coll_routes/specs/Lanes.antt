@@ -1,9 +1,19 @@
 -- The journeys by pieces, as the code has them: nothing, all that a rank gave, or one block of it.
-use Rattle.std.specs.Prelude.{ℕ, List, [], Bool, true, false, not, ◌&&◌, ◌==◌, ◌+◌, nat_lt, nat_le, replicate, if◌then◌else◌, Option, Some, None}
+use Rattle.std.specs.Prelude.{ℕ, List, [], Bool, true, false, not, ◌&&◌, ◌==◌, ◌+◌, nat_lt, nat_le}
+use Rattle.std.specs.Prelude.{replicate, if◌then◌else◌, Option, Some, None}
 use Rattle.std.specs.List.{list_any}
 use Rattle.mpi_cart.specs.Grids.{below, opposite}
 use Rattle.coll_routes.specs.declared.signature.Signature.{Signature}
-use Rattle.coll_routes.specs.declared.signature.Signature.TheVariants.{Bcast, Gather, Gatherv, Scatter, Scatterv, Allgather, Allgatherv, Alltoall, Alltoallv, Reduce, Allreduce, ReduceScatter, ReduceScatterBlock, Scan, Exscan, NeighborAllgather, NeighborAllgatherv, NeighborAlltoall, NeighborAlltoallv}
+use Rattle.coll_routes.specs.declared.signature.Signature.TheVariants.{Bcast, Gather, Gatherv}
+use Rattle.coll_routes.specs.declared.signature.Signature.TheVariants.{Scatter, Scatterv, Allgather}
+use Rattle.coll_routes.specs.declared.signature.Signature.TheVariants.{Allgatherv, Alltoall}
+use Rattle.coll_routes.specs.declared.signature.Signature.TheVariants.{Alltoallv, Reduce, Allreduce}
+use Rattle.coll_routes.specs.declared.signature.Signature.TheVariants.{ReduceScatter}
+use Rattle.coll_routes.specs.declared.signature.Signature.TheVariants.{ReduceScatterBlock, Scan}
+use Rattle.coll_routes.specs.declared.signature.Signature.TheVariants.{Exscan, NeighborAllgather}
+use Rattle.coll_routes.specs.declared.signature.Signature.TheVariants.{NeighborAllgatherv}
+use Rattle.coll_routes.specs.declared.signature.Signature.TheVariants.{NeighborAlltoall}
+use Rattle.coll_routes.specs.declared.signature.Signature.TheVariants.{NeighborAlltoallv}
 use Rattle.coll_routes.specs.declared.roll.Shape.{Shape}
 use Rattle.coll_routes.specs.declared.lane.Piece.{Piece}
 use Rattle.coll_routes.specs.declared.lane.Lane.{Lane}
@@ -39,8 +49,10 @@ lane_by (Scan op ty n) shape i j t = if nat_le i j && t == 0 then Whole else Now
 lane_by (Exscan op ty n) shape i j t = if nat_lt i j && t == 0 then Whole else Nowhere
 lane_by (NeighborAllgather ty n) shape i j t = if is_neighbour shape i j t then Whole else Nowhere
 lane_by (NeighborAllgatherv ty) shape i j t = if is_neighbour shape i j t then Whole else Nowhere
-lane_by (NeighborAlltoall ty n) shape i j t = if is_neighbour shape i j t then Block (opposite t) else Nowhere
-lane_by (NeighborAlltoallv ty) shape i j t = if is_neighbour shape i j t then Block (opposite t) else Nowhere
+lane_by (NeighborAlltoall ty n) shape i j t =
+    if is_neighbour shape i j t then Block (opposite t) else Nowhere
+lane_by (NeighborAlltoallv ty) shape i j t =
+    if is_neighbour shape i j t then Block (opposite t) else Nowhere
 lane_by _ shape i j t = Nowhere
 
 -- the sizes of the blocks that a rank gives, where it gives blocks
@@ -62,7 +74,8 @@ holds (Block b) sizes x = in_block sizes b x
 
 -- some of the elements given goes to place t of rank j
 unfoldable pub sends_by : Signature → Shape → (counts : List ℕ) → (given i j t : ℕ) → Bool
-sends_by sig shape counts given i j t = list_any (λ x. goes_by sig shape counts i x j t) (below given)
+sends_by sig shape counts given i j t =
+    list_any (λ x. goes_by sig shape counts i x j t) (below given)
 
 -- where a rank sends to one place of each, that place; the kinds between neighbours aside
 unfoldable pub place_by : Signature → (i : ℕ) → ℕ

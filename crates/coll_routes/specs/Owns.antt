@@ -5,7 +5,8 @@ use Rattle.coll_routes.specs.declared.kind.Kind.TheVariants as kinds
 use Rattle.coll_routes.specs.declared.statement.Own.{Own}
 use Rattle.coll_routes.specs.declared.statement.Own.TheVariants as owns
 
--- what the kind asks of it: counts where each member has its own, a colour and a key for a split, else nothing
+-- what the kind asks of it: counts where each member has its own, a colour and a key for a split,
+-- else nothing
 abbrev pub is_own_of : Kind → Own → Bool
 is_own_of kinds.Scatterv (owns.Counts counts) = true
 is_own_of kinds.Scatterv _ = false

@@ -1,10 +1,21 @@
 -- Journeys: which element of which rank goes where. (MPI 4.1, chapters 6 and 8.)
-use Rattle.std.specs.Prelude.{ℕ, List, [], Bool, false, not, ◌&&◌, ◌==◌, ◌+◌, ◌*◌, length, slice_get, Option, Some, None, nat_lt, nat_le, sum, take, replicate, if◌then◌else◌, is_none}
+use Rattle.std.specs.Prelude.{ℕ, List, [], Bool, false, not, ◌&&◌, ◌==◌, ◌+◌, ◌*◌, length}
+use Rattle.std.specs.Prelude.{slice_get, Option, Some, None, nat_lt, nat_le, sum, take, replicate}
+use Rattle.std.specs.Prelude.{if◌then◌else◌, is_none}
 use Rattle.std.specs.List.{list_any}
 use Rattle.wall_labels.specs.declared.label.Label.{Label}
 use Rattle.mpi_cart.specs.Grids.{Topology, below, neighbour, opposite}
 use Rattle.coll_routes.specs.declared.signature.Signature.{Signature}
-use Rattle.coll_routes.specs.declared.signature.Signature.TheVariants.{Bcast, Gather, Gatherv, Scatter, Scatterv, Allgather, Allgatherv, Alltoall, Alltoallv, Reduce, Allreduce, ReduceScatter, ReduceScatterBlock, Scan, Exscan, NeighborAllgather, NeighborAllgatherv, NeighborAlltoall, NeighborAlltoallv}
+use Rattle.coll_routes.specs.declared.signature.Signature.TheVariants.{Bcast, Gather, Gatherv}
+use Rattle.coll_routes.specs.declared.signature.Signature.TheVariants.{Scatter, Scatterv, Allgather}
+use Rattle.coll_routes.specs.declared.signature.Signature.TheVariants.{Allgatherv, Alltoall}
+use Rattle.coll_routes.specs.declared.signature.Signature.TheVariants.{Alltoallv, Reduce, Allreduce}
+use Rattle.coll_routes.specs.declared.signature.Signature.TheVariants.{ReduceScatter}
+use Rattle.coll_routes.specs.declared.signature.Signature.TheVariants.{ReduceScatterBlock, Scan}
+use Rattle.coll_routes.specs.declared.signature.Signature.TheVariants.{Exscan, NeighborAllgather}
+use Rattle.coll_routes.specs.declared.signature.Signature.TheVariants.{NeighborAllgatherv}
+use Rattle.coll_routes.specs.declared.signature.Signature.TheVariants.{NeighborAlltoall}
+use Rattle.coll_routes.specs.declared.signature.Signature.TheVariants.{NeighborAlltoallv}
 use Rattle.coll_routes.specs.declared.statement.Own.{Own}
 use Rattle.coll_routes.specs.declared.statement.Own.TheVariants.{Counts}
 use Rattle.coll_routes.specs.declared.statement.Stated.{Stated}
@@ -98,7 +109,8 @@ goes_by (Bcast r ty n) shape counts i x j t = i == r && not (j == r) && t == 0
 goes_by (Gather r ty n) shape counts i x j t = j == r && t == i
 goes_by (Gatherv r ty) shape counts i x j t = j == r && t == i
 -- 6.6
-goes_by (Scatter r ty n) shape counts i x j t = i == r && t == 0 && in_block (replicate shape.size n) j x
+goes_by (Scatter r ty n) shape counts i x j t =
+    i == r && t == 0 && in_block (replicate shape.size n) j x
 goes_by (Scatterv r ty) shape counts i x j t = i == r && t == 0 && in_block counts j x
 -- 6.7
 goes_by (Allgather ty n) shape counts i x j t = t == i
@@ -111,15 +123,18 @@ goes_by (Reduce r op ty n) shape counts i x j t = j == r && t == 0
 goes_by (Allreduce op ty n) shape counts i x j t = t == 0
 -- 6.10
 goes_by (ReduceScatter op ty sizes) shape counts i x j t = t == 0 && in_block sizes j x
-goes_by (ReduceScatterBlock op ty n) shape counts i x j t = t == 0 && in_block (replicate shape.size n) j x
+goes_by (ReduceScatterBlock op ty n) shape counts i x j t =
+    t == 0 && in_block (replicate shape.size n) j x
 -- 6.11
 goes_by (Scan op ty n) shape counts i x j t = nat_le i j && t == 0
 goes_by (Exscan op ty n) shape counts i x j t = nat_lt i j && t == 0
 -- 8.6: what a rank gives for a slot arrives in the opposite slot of the neighbour there (own rule)
 goes_by (NeighborAllgather ty n) shape counts i x j t = is_neighbour shape i j t
 goes_by (NeighborAllgatherv ty) shape counts i x j t = is_neighbour shape i j t
-goes_by (NeighborAlltoall ty n) shape counts i x j t = is_neighbour shape i j t && in_block (replicate (slots shape) n) (opposite t) x
-goes_by (NeighborAlltoallv ty) shape counts i x j t = is_neighbour shape i j t && in_block counts (opposite t) x
+goes_by (NeighborAlltoall ty n) shape counts i x j t =
+    is_neighbour shape i j t && in_block (replicate (slots shape) n) (opposite t) x
+goes_by (NeighborAlltoallv ty) shape counts i x j t =
+    is_neighbour shape i j t && in_block counts (opposite t) x
 -- a barrier and the constructors move nothing
 goes_by _ shape counts i x j t = false
 
@@ -127,7 +142,8 @@ goes_by _ shape counts i x j t = false
 abbrev pub goes : Roll → (i x j t : ℕ) → Bool
 goes roll i x j t = goes_by roll.sig roll.shape (own_counts_in (stated_by roll i)) i x j t
 
--- how many blocks rank j gets: nobody gets its own broadcast, and exscan gives rank 0 none (own rules)
+-- how many blocks rank j gets: nobody gets its own broadcast, and exscan gives rank 0 none (own
+-- rules)
 unfoldable pub places_by : Signature → Shape → ℕ → ℕ
 places_by (Bcast r ty n) shape j = if j == r then 0 else 1
 places_by (Gather r ty n) shape j = if j == r then shape.size else 0

@@ -1,13 +1,22 @@
 -- To whom the ranks send, without a look at each pair of them.
-use Rattle.std.specs.Prelude.{◌≡◌, ℕ, ◌+◌, ◌<◌, ◌≤◌, List, Bool, not, ◌&&◌, ◌==◌, nat_lt, nat_le, sum, take, if◌then◌else◌, Option, Some, None}
+use Rattle.std.specs.Prelude.{◌≡◌, ℕ, ◌+◌, ◌<◌, ◌≤◌, List, Bool, not, ◌&&◌, ◌==◌, nat_lt, nat_le}
+use Rattle.std.specs.Prelude.{sum, take, if◌then◌else◌, Option, Some, None}
 use Rattle.std.specs.List.{list_any}
 use Rattle.mpi_cart.specs.Grids.{below}
 use Rattle.coll_routes.specs.declared.signature.Signature.{Signature}
-use Rattle.coll_routes.specs.declared.signature.Signature.TheVariants.{Bcast, Gather, Gatherv, Scatterv, Alltoallv, Reduce, ReduceScatter, ReduceScatterBlock, Scan, Exscan, NeighborAllgather, NeighborAllgatherv, NeighborAlltoall, NeighborAlltoallv}
+use Rattle.coll_routes.specs.declared.signature.Signature.TheVariants.{Bcast, Gather, Gatherv}
+use Rattle.coll_routes.specs.declared.signature.Signature.TheVariants.{Scatterv, Alltoallv, Reduce}
+use Rattle.coll_routes.specs.declared.signature.Signature.TheVariants.{ReduceScatter}
+use Rattle.coll_routes.specs.declared.signature.Signature.TheVariants.{ReduceScatterBlock, Scan}
+use Rattle.coll_routes.specs.declared.signature.Signature.TheVariants.{Exscan, NeighborAllgather}
+use Rattle.coll_routes.specs.declared.signature.Signature.TheVariants.{NeighborAllgatherv}
+use Rattle.coll_routes.specs.declared.signature.Signature.TheVariants.{NeighborAlltoall}
+use Rattle.coll_routes.specs.declared.signature.Signature.TheVariants.{NeighborAlltoallv}
 use Rattle.coll_routes.specs.declared.roll.Shape.{Shape}
 use Rattle.coll_routes.specs.declared.roll.Roll.{Roll}
 use Rattle.coll_routes.specs.declared.spread.Spread.{Spread}
-use Rattle.coll_routes.specs.declared.spread.Spread.TheVariants.{ToAll, ToOne, ToOthers, UpTo, Below, ByPlace, ByPiece}
+use Rattle.coll_routes.specs.declared.spread.Spread.TheVariants.{ToAll, ToOne, ToOthers, UpTo}
+use Rattle.coll_routes.specs.declared.spread.Spread.TheVariants.{Below, ByPlace, ByPiece}
 use Rattle.coll_routes.specs.declared.lane.Lane.{Lane}
 use Rattle.coll_routes.specs.declared.lane.Lane.TheVariants.{Nowhere, Whole, Block}
 use Rattle.coll_routes.specs.Rolls.{given, neighbour_in, is_it, places, sends, routed}

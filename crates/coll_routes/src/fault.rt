@@ -1,6 +1,9 @@
 //! What is wrong with a post by itself.
 ghost use Rattle.std.specs.Prelude.{◌≡◌, ◌*◌, ◌==◌, ◌&&◌, length, sum};
-ghost use Rattle.coll_routes.specs.Faults.{asked, gives, is_met, is_of_type, is_asked_above_limit, is_listed, no_topology, bad_root, bad_op, bad_count, bad_colour, not_subgroup, bad_dims, is_refused, is_ill_kept, shape_fault as first_fault};
+ghost use Rattle.coll_routes.specs.Faults.{asked, gives, is_met, is_of_type, is_asked_above_limit};
+ghost use Rattle.coll_routes.specs.Faults.{is_listed, no_topology, bad_root, bad_op, bad_count};
+ghost use Rattle.coll_routes.specs.Faults.{bad_colour, not_subgroup, bad_dims, is_refused};
+ghost use Rattle.coll_routes.specs.Faults.{is_ill_kept, shape_fault as first_fault};
 
 use super::lane::slot_count;
 use super::roll::Shape;
@@ -23,13 +26,15 @@ pub enum ShapeFault {
     BadRoot,
     /// The operation isn't allowed on the type.
     BadOp,
-    /// The elements or the counts aren't what the kind asks, are above the limit, or are of another type.
+    /// The elements or the counts aren't what the kind asks, are above the limit, or are of another
+    /// type.
     BadCount,
     /// A negative colour.
     BadColour,
     /// `Create`: a rank out of range, or twice.
     NotSubgroup,
-    /// The dimensions, the periods or the kept dimensions are wrong, or the grid is larger than the group.
+    /// The dimensions, the periods or the kept dimensions are wrong, or the grid is larger than the
+    /// group.
     BadDims,
 }
 
@@ -275,7 +280,8 @@ fn has_bad_dims(shape: &Shape, sig: &Signature) -> bool
     }
 }
 
-/// The first fault that holds of a rank's post, which gives so many elements of this type. Takes no memory.
+/// The first fault that holds of a rank's post, which gives so many elements of this type. Takes no
+/// memory.
 #[tactic(auto, unfolding(crate::specs::Faults::shape_fault))]
 pub fn shape_fault(
     shape: &Shape,

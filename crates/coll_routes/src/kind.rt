@@ -1,7 +1,8 @@
 //! The kinds of collectives and of constructors of communicators.
 ghost use Rattle.std.specs.Prelude.{◌≡◌};
 
-/// Twenty collectives (MPI 4.1, chapter 6 and section 8.6) and five constructors of communicators (7.4.2, 8.5.1, 8.5.7).
+/// Twenty collectives (MPI 4.1, chapter 6 and section 8.6) and five constructors of communicators
+/// (7.4.2, 8.5.1, 8.5.7).
 #[derive(Clone, Copy, Debug, PartialEq, Eq)]
 pub enum Kind {
     Barrier,

@@ -1,5 +1,6 @@
 //! Pieces of what a rank gave.
-ghost use Rattle.std.specs.Prelude.{◌≡◌, ℕ, ◌+◌, ◌<◌, ◌≤◌, ◌^◌, sum, take, replicate, get_or, IfSome, None, if◌then◌else◌};
+ghost use Rattle.std.specs.Prelude.{◌≡◌, ℕ, ◌+◌, ◌<◌, ◌≤◌, ◌^◌, sum, take, replicate, get_or};
+ghost use Rattle.std.specs.Prelude.{IfSome, None, if◌then◌else◌};
 ghost use Rattle.mpi_cart.specs.Grids.{opposite};
 ghost use Rattle.coll_routes.specs.Rolls.{goes_by, counts_in, slots, is_neighbour, neighbour_in};
 ghost use Rattle.coll_routes.specs.Faults.{shape_fault, stated_type};
@@ -164,7 +165,8 @@ fn even_block(n: u32, size: u32, b: u32) -> Piece
 pub(crate) fn block(sig: &Signature, shape: &Shape, counts: &[u32], b: u32) -> Piece
     requires { sum (sizes_by sig.now shape.now counts.now) < 2 ^ 32 }
     ensures start { result.start ≡ sum (take b (sizes_by sig.now shape.now counts.now)) }
-    ensures end { result.start + result.len ≡ sum (take (b + 1) (sizes_by sig.now shape.now counts.now)) }
+    ensures end { result.start + result.len
+        ≡ sum (take (b + 1) (sizes_by sig.now shape.now counts.now)) }
 {
     match sig {
         Signature::Scatter { count, .. } => even_block(shape.size, *count, b),
@@ -228,7 +230,8 @@ pub(crate) fn cut(
     requires sound { shape_fault shape.now from sig.now own.now (stated_type sig.now) given ≡ None }
     requires grid { IsSized shape.now }
     requires rank { to < shape.now.size }
-    ensures covers { (x : ℕ) → x < given → covers result x ≡ goes_by sig.now shape.now (counts_in own.now) from x to place }
+    ensures covers { (x : ℕ) → x < given →
+        covers result x ≡ goes_by sig.now shape.now (counts_in own.now) from x to place }
     ensures within { IfSome result (λ p. p.start + p.len ≤ given) }
 {
     match lane_of(sig, shape, from, to, place) {

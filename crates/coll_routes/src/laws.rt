@@ -1,5 +1,9 @@
 //! What holds of all rolls, for the proofs of callers. These functions do nothing.
-ghost use Rattle.coll_routes.specs.Laws.{JourneysEndAtPlaces, MissingPlacesGetNothing, PlacesHaveOneSource, ReductionsHaveOneBlock, RoutesAreJourneys, EmptyRanksReachNobody, BlocksAreDisjoint, ConstructorsMoveNothing, SameSignaturesAreEqual};
+ghost use Rattle.coll_routes.specs.Laws.{JourneysEndAtPlaces, MissingPlacesGetNothing};
+ghost use Rattle.coll_routes.specs.Laws.{PlacesHaveOneSource, ReductionsHaveOneBlock};
+ghost use Rattle.coll_routes.specs.Laws.{RoutesAreJourneys, EmptyRanksReachNobody};
+ghost use Rattle.coll_routes.specs.Laws.{BlocksAreDisjoint, ConstructorsMoveNothing};
+ghost use Rattle.coll_routes.specs.Laws.{SameSignaturesAreEqual};
 
 /// What goes goes to a place that the receiver has.
 pub fn journeys_end_at_places()

@@ -1,6 +1,8 @@
-//! The kinds of collectives, what their members state, and which element of which rank goes where. (MPI 4.1, chapters 6 to 8.)
+//! The kinds of collectives, what their members state, and which element of which rank goes where.
+//! (MPI 4.1, chapters 6 to 8.)
 //!
-//! Ranks, elements, places, slots and blocks count from 0. Only `copy` and `Statements::vacant` take memory.
+//! Ranks, elements, places, slots and blocks count from 0. Only `copy` and `Statements::vacant`
+//! take memory.
 #![tactic(auto)]
 
 mod fault;

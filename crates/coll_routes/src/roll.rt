@@ -1,5 +1,6 @@
 //! The roll of an instance: who takes part, and what each has stated.
-ghost use Rattle.std.specs.Prelude.{◌≡◌, ◌↔◌, ◌<◌, length, IsTrue, slice_get, slice_set, replicate, Some, None, IfOk, IsErr};
+ghost use Rattle.std.specs.Prelude.{◌≡◌, ◌↔◌, ◌<◌, length, IsTrue, slice_get, slice_set, replicate};
+ghost use Rattle.std.specs.Prelude.{Some, None, IfOk, IsErr};
 ghost use Rattle.std.specs.Option.{option_copied};
 ghost use Rattle.std.specs.List.{list_any};
 ghost use Rattle.mpi_cart.specs.Grids.{below};
@@ -165,8 +166,9 @@ pub struct Roll {
 impl Roll {
     ghost use Rattle.coll_routes.specs.Fit.{IsFit, is_fit, is_unfit, is_statement};
 
-    /// Whether the calls on rolls may be made: each rank has posted, there are as many members as the shape and its grid say, and each
-    /// statement is of the roll's signature, without a fault, and not barred without a label.
+    /// Whether the calls on rolls may be made: each rank has posted, there are as many members as
+    /// the shape and its grid say, and each statement is of the roll's signature, without a fault,
+    /// and not barred without a label.
     pub fn is_fit(&self) -> bool
         ensures fit { IsTrue result ↔ IsFit self.now }
         ensures test { result ≡ is_fit self.now }

@@ -2,7 +2,9 @@
 ghost use Rattle.std.specs.Prelude.{◌≡◌, ℕ, ◌+◌, ◌<◌, ◌≤◌, IfSome, Some, true};
 ghost use Rattle.std.specs.List.{list_any};
 ghost use Rattle.mpi_cart.specs.Grids.{below};
-ghost use Rattle.coll_routes.specs.Rolls.{stated_by, given, goes, places as places_of, routed as is_routed, sends, slots, is_missing as is_missing_at};
+ghost use Rattle.coll_routes.specs.Rolls.{stated_by, given, goes, places as places_of};
+ghost use Rattle.coll_routes.specs.Rolls.{routed as is_routed, sends, slots};
+ghost use Rattle.coll_routes.specs.Rolls.{is_missing as is_missing_at};
 ghost use Rattle.coll_routes.specs.Signatures.{is_neighbourly};
 ghost use Rattle.coll_routes.specs.Fit.{IsFit, IsSized};
 ghost use Rattle.coll_routes.specs.Lanes.{place_by, covers};
@@ -22,15 +24,16 @@ pub(crate) fn stated(roll: &Roll, rank: u32) -> &Stated
     roll.stated.get(rank).unwrap()
 }
 
-/// The elements of rank `from` that go to place `place` of rank `to`: never an empty piece, but none
-/// where it sends nothing there. The work doesn't grow with the elements. Where each rank states counts
-/// it adds those before the block.
+/// The elements of rank `from` that go to place `place` of rank `to`: never an empty piece, but
+/// none where it sends nothing there. The work doesn't grow with the elements. Where each rank
+/// states counts it adds those before the block.
 #[tactic(auto, using(crate::proofs::FitLemmas::of_roll))]
 pub fn piece(roll: &Roll, from: u32, to: u32, place: u32) -> Option<Piece>
     requires fit { IsFit roll.now }
     requires from { from < roll.now.shape.size }
     requires to { to < roll.now.shape.size }
-    ensures covers { (x : ℕ) → x < given roll.now from → covers result x ≡ goes roll.now from x to place }
+    ensures covers { (x : ℕ) → x < given roll.now from →
+        covers result x ≡ goes roll.now from x to place }
     ensures within { IfSome result (λ p. p.start + p.len ≤ given roll.now from) }
     ensures filled { IfSome result (λ p. 0 < p.len) }
 {
@@ -50,7 +53,8 @@ pub fn piece(roll: &Roll, from: u32, to: u32, place: u32) -> Option<Piece>
     }
 }
 
-/// How many blocks rank `to` gets; none from a constructor. (A rank gets no broadcast of its own, and rank 0 nothing from an exscan.)
+/// How many blocks rank `to` gets; none from a constructor. (A rank gets no broadcast of its own,
+/// and rank 0 nothing from an exscan.)
 #[tactic(auto, unfolding(crate::specs::Rolls::places_by))]
 pub fn places(roll: &Roll, to: u32) -> u32
     ensures { result ≡ places_of roll.now to }
@@ -80,7 +84,8 @@ pub fn places(roll: &Roll, to: u32) -> u32
     }
 }
 
-/// Whether a place of rank `to` stays empty, since it has no neighbour in that slot. False for the kinds that don't go between neighbours.
+/// Whether a place of rank `to` stays empty, since it has no neighbour in that slot. False for the
+/// kinds that don't go between neighbours.
 #[tactic(auto, unfolding(crate::specs::Rolls::is_missing))]
 pub fn is_missing(roll: &Roll, to: u32, place: u32) -> bool
     requires grid { IsSized roll.now.shape }
@@ -157,7 +162,8 @@ fn sends_to_slots(roll: &Roll, from: u32, to: u32) -> bool
     false
 }
 
-/// Whether some element of rank `from` goes to rank `to`. Takes a few steps, between neighbours a few for each slot.
+/// Whether some element of rank `from` goes to rank `to`. Takes a few steps, between neighbours a
+/// few for each slot.
 #[tactic(auto, using(crate::proofs::RouteLemmas::routing))]
 pub fn routed(roll: &Roll, from: u32, to: u32) -> bool
     requires fit { IsFit roll.now }

@@ -11,7 +11,8 @@ use mpi_elems::ElemType;
 use std::alloc::Global;
 use wall_labels::{NoMemory, Op};
 
-/// A kind with the fields that every member must state alike. Ranks count from 0, counts are of elements.
+/// A kind with the fields that every member must state alike. Ranks count from 0, counts are of
+/// elements.
 #[derive(Debug, Drop)]
 pub enum Signature {
     /// Nobody gives anything. (MPI 4.1, 6.3.)
@@ -137,7 +138,9 @@ pub enum Signature {
 }
 
 impl Signature {
-    ghost use Rattle.coll_routes.specs.Signatures.{kind, root, reduction, elem_type, count, numbers, flags, is_constructor, is_neighbourly, same_signature, has_list};
+    ghost use Rattle.coll_routes.specs.Signatures.{kind, root, reduction, elem_type, count};
+    ghost use Rattle.coll_routes.specs.Signatures.{numbers, flags, is_constructor, is_neighbourly};
+    ghost use Rattle.coll_routes.specs.Signatures.{same_signature, has_list};
 
     /// The kind alone.
     #[tactic(auto, unfolding(crate::specs::Signatures::kind))]
@@ -256,7 +259,8 @@ impl Signature {
         }
     }
 
-    /// The counts of `ReduceScatter`, the ranks of `Create`, the dimensions of `CartCreate`; else none.
+    /// The counts of `ReduceScatter`, the ranks of `Create`, the dimensions of `CartCreate`; else
+    /// none.
     #[tactic(auto, unfolding(crate::specs::Signatures::numbers))]
     pub fn numbers(&self) -> &[u32]
         ensures { result.now ≡ numbers self.now }

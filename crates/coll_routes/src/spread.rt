@@ -1,11 +1,13 @@
 //! To whom the ranks send, without a look at each pair of them.
-ghost use Rattle.std.specs.Prelude.{◌≡◌, ℕ, ◌+◌, ◌<◌, ◌≤◌, ◌&&◌, ◌^◌, nat_lt, sum, IsSome, IfSome, Some, None, []};
+ghost use Rattle.std.specs.Prelude.{◌≡◌, ℕ, ◌+◌, ◌<◌, ◌≤◌, ◌&&◌, ◌^◌, nat_lt, sum, IsSome, IfSome};
+ghost use Rattle.std.specs.Prelude.{Some, None, []};
 ghost use Rattle.coll_routes.specs.Signatures.{reduction};
 ghost use Rattle.coll_routes.specs.Rolls.{given, goes, neighbour_in, routed, counts_in};
 ghost use Rattle.coll_routes.specs.Faults.{shape_fault, stated_type};
 ghost use Rattle.coll_routes.specs.Fit.{IsFit, IsSized};
 ghost use Rattle.coll_routes.specs.Lanes.{covers, sizes_by};
-ghost use Rattle.coll_routes.specs.Spreads.{is_spread, sender as sender_at, spread_by, until_by, share_by, share_start, share_end};
+ghost use Rattle.coll_routes.specs.Spreads.{is_spread, sender as sender_at, spread_by, until_by};
+ghost use Rattle.coll_routes.specs.Spreads.{share_by, share_start, share_end};
 
 use super::lane::{Lane, Piece, block, neighbour_at};
 use super::roll::{Roll, Shape};
@@ -31,8 +33,8 @@ pub enum Spread {
     ByPiece,
 }
 
-/// What the ranks send to one rank in a kind that reduces: each rank below `until` the same piece, and
-/// the others nothing.
+/// What the ranks send to one rank in a kind that reduces: each rank below `until` the same piece,
+/// and the others nothing.
 #[derive(Clone, Copy, Debug, PartialEq, Eq)]
 pub struct Gathering {
     /// The first rank that sends nothing.
@@ -72,8 +74,8 @@ fn spread_of_kind(sig: &Signature) -> Spread
     }
 }
 
-/// Between neighbours, the rank that sends some element to a place of rank `to`, if one does. Takes a
-/// few steps.
+/// Between neighbours, the rank that sends some element to a place of rank `to`, if one does. Takes
+/// a few steps.
 pub fn sender(roll: &Roll, to: u32, place: u32) -> Option<u32>
     requires fit { IsFit roll.now }
     requires to { to < roll.now.shape.size }
@@ -132,8 +134,8 @@ fn piece_of(sig: &Signature, shape: &Shape, lane: Lane, given: u32) -> Piece
     }
 }
 
-/// What the ranks send to the first place of rank `to`, in a kind that reduces. Takes a few steps; where
-/// the sizes of the blocks differ it adds those before the one.
+/// What the ranks send to the first place of rank `to`, in a kind that reduces. Takes a few steps;
+/// where the sizes of the blocks differ it adds those before the one.
 pub fn gathered(roll: &Roll, to: u32) -> Gathering
     requires fit { IsFit roll.now }
     requires to { to < roll.now.shape.size }

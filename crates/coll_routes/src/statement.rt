@@ -66,7 +66,8 @@ impl Stated {
     ghost use Rattle.coll_routes.specs.Rolls.{listed};
     ghost use Rattle.coll_routes.specs.Faults.{stated_fault};
 
-    /// The first fault that holds of this statement of a rank, where its elements have the signature's type. Takes no memory.
+    /// The first fault that holds of this statement of a rank, where its elements have the
+    /// signature's type. Takes no memory.
     pub fn fault(&self, shape: &Shape, rank: u32) -> Option<ShapeFault>
         ensures { result ≡ stated_fault shape.now rank self.now }
     {

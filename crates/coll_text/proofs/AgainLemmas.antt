@@ -1,5 +1,7 @@
 -- Fields that are spelled are read again, and make the same statement.
-use Rattle.std.proofs.Common.{◌≡◌, ℕ, ◌+◌, ◌^◌, ◌<◌, ◌≤◌, Bool, true, false, eqb, length, List, [], ◌∷◌, ◌++◌, All, Option, Some, None, Result, Ok, Err, ℤ, pos, negsuc, codes, map, refl, sym, ap, subst, ◌∙◌, arith}
+use Rattle.std.proofs.Common.{◌≡◌, ℕ, ◌+◌, ◌^◌, ◌<◌, ◌≤◌, Bool, true, false, eqb, length, List, []}
+use Rattle.std.proofs.Common.{◌∷◌, ◌++◌, All, Option, Some, None, Result, Ok, Err, ℤ, pos, negsuc}
+use Rattle.std.proofs.Common.{codes, map, refl, sym, ap, subst, ◌∙◌, arith}
 use Rattle.std.specs.List.{AllByRecursion, list_all, join_with_byte}
 use Rattle.std.specs.Str.{bytes_eq}
 use Rattle.std.specs.Prelude.{IfSome}
@@ -26,15 +28,19 @@ use Rattle.coll_routes.specs.Signatures.{kind, root, reduction, elem_type, count
 use Rattle.coll_text.specs.declared.fault.LineFault.{LineFault}
 use Rattle.coll_text.specs.declared.fault.LineFault.TheVariants.{BadField}
 use Rattle.coll_text.specs.declared.table.Form.{Form}
-use Rattle.coll_text.specs.declared.table.Form.TheVariants.{Root, Operation, Typed, Count, Counts, Listed, Flagged, Colour, Key}
+use Rattle.coll_text.specs.declared.table.Form.TheVariants.{Root, Operation, Typed, Count, Counts}
+use Rattle.coll_text.specs.declared.table.Form.TheVariants.{Listed, Flagged, Colour, Key}
 use Rattle.coll_text.specs.declared.table.Fields.{Fields}
 use Rattle.coll_text.specs.Numbers.{Word, is_digit, number_within, signed_within, IsBetween}
 use Rattle.coll_text.specs.Reading.{◌>>=◌, some_or, each_of, list_of, flag_of, word_at}
 use Rattle.coll_text.specs.Table.{forms_of, signature_of, own_of, no_fields, fields_of}
 use Rattle.coll_routes.specs.Owns.{is_own_of}
-use Rattle.coll_text.specs.Fields.{number_of, key_of, colour_of, with_field, fields_at, statement_at}
-use Rattle.coll_text.specs.Spellings.{list_word, flag_word, colour_word, word_of, words_of, statement_words, IsSigned32, Fits, IsSpellable, put, put_all}
-use Rattle.coll_text.proofs.NumberLemmas.{own, form, no_comma, decimal_is_number, signed_is_read, Readable, list_again, not_true}
+use Rattle.coll_text.specs.Fields.{number_of, key_of, colour_of, with_field, fields_at}
+use Rattle.coll_text.specs.Fields.{statement_at}
+use Rattle.coll_text.specs.Spellings.{list_word, flag_word, colour_word, word_of, words_of}
+use Rattle.coll_text.specs.Spellings.{statement_words, IsSigned32, Fits, IsSpellable, put, put_all}
+use Rattle.coll_text.proofs.NumberLemmas.{own, form, no_comma, decimal_is_number, signed_is_read}
+use Rattle.coll_text.proofs.NumberLemmas.{Readable, list_again, not_true}
 
 type_again : (t : ElemType) → type_of (type_name t) ≡ Some t
 unfolding type_of
@@ -99,7 +105,8 @@ key_again z h = signed_is_read 2147483647 2147483648 z (omega arith) (omega arit
 
 digits_only : (n : ℕ) → n < 2 ^ 64 → bytes_eq (decimal n) (codes "undefined") ≡ false
 digits_only n lt = not_true (bytes_eq (decimal n) (codes "undefined")) (λ t.
-    let same : decimal n ≡ codes "undefined" = (bytes_eq-Decides (decimal n) (codes "undefined")).0 t in
+    let same : decimal n ≡ codes "undefined" = (bytes_eq-Decides (decimal n) (codes "undefined")).0
+    t in
     let d : false ≡ true = ap (list_all is_digit) (sym same) ∙ digits_decimal own n lt in cc)
 
 not_undefined : (z : ℤ) → IsSigned32 z → bytes_eq (signed_decimal z) (codes "undefined") ≡ false
@@ -115,13 +122,26 @@ unfolding colour_of
 colour_again None h = refl
 colour_again (Some z) h = plus_colour z h
 
-numbers_readable : (ns : List ℕ) → AllByRecursion (λ n. n ≤ 4294967295) ns → AllByRecursion (Readable number_of decimal) ns
+numbers_readable : (ns : List ℕ) → AllByRecursion (λ n. n ≤ 4294967295) ns →
+    AllByRecursion (Readable number_of decimal) ns
 numbers_readable [] h = tt
-numbers_readable (n ∷ ns) h = (record { back = number_again n h.0; whole = no_comma (decimal n) (digits_decimal own n (omega (arith, h.0))) }, numbers_readable ns h.1)
+numbers_readable (n ∷ ns) h = (
+  record {
+    back = number_again n h.0;
+    whole = no_comma (decimal n) (digits_decimal own n (omega (arith, h.0)));
+  },
+  numbers_readable ns h.1,
+)
 
 flag_readable : (b : Bool) → Readable flag_of flag_word b
-flag_readable true = record { back = refl; whole = All-cons (λ b. eqb b 44 ≡ false) 49 [] refl (All-nil (λ b. eqb b 44 ≡ false)) }
-flag_readable false = record { back = refl; whole = All-cons (λ b. eqb b 44 ≡ false) 48 [] refl (All-nil (λ b. eqb b 44 ≡ false)) }
+flag_readable true = record {
+  back = refl;
+  whole = All-cons (λ b. eqb b 44 ≡ false) 49 [] refl (All-nil (λ b. eqb b 44 ≡ false));
+}
+flag_readable false = record {
+  back = refl;
+  whole = All-cons (λ b. eqb b 44 ≡ false) 48 [] refl (All-nil (λ b. eqb b 44 ≡ false));
+}
 
 flags_readable : (bs : List Bool) → AllByRecursion (Readable flag_of flag_word) bs
 flags_readable [] = tt
@@ -138,9 +158,13 @@ field_again Root f g h = rw (number_again f.root h.root) refl
 field_again Operation f g h = rw (op_again f.op) refl
 field_again Typed f g h = rw (type_again f.elem_type) refl
 field_again Count f g h = rw (number_again f.count h.count) refl
-field_again Counts f g h = rw (list_again number_of decimal f.counts BadField no_number (numbers_readable f.counts h.counts)) refl
-field_again Listed f g h = rw (list_again number_of decimal f.list BadField no_number (numbers_readable f.list h.list)) refl
-field_again Flagged f g h = rw (list_again flag_of flag_word f.flags BadField refl (flags_readable f.flags)) refl
+field_again Counts f g h = rw
+    (list_again number_of decimal f.counts BadField no_number (numbers_readable f.counts h.counts))
+    refl
+field_again Listed f g h = rw
+    (list_again number_of decimal f.list BadField no_number (numbers_readable f.list h.list)) refl
+field_again Flagged f g h =
+    rw (list_again flag_of flag_word f.flags BadField refl (flags_readable f.flags)) refl
 field_again Colour f g h = rw (colour_again f.colour h.colour) refl
 field_again Key f g h = rw (key_again f.key h.key) refl
 
@@ -152,13 +176,16 @@ signed_nonempty : (z : ℤ) → IsSigned32 z → 0 < length (signed_decimal z)
 signed_nonempty (pos n) h = decimal_nonempty n (omega arith)
 signed_nonempty (negsuc n) h = omega arith
 
-joined_nonempty : (w : Word) (ws : List Word) → 0 < length w → 0 < length (join_with_byte 44 (w ∷ ws))
+joined_nonempty : (w : Word) (ws : List Word) → 0 < length w →
+    0 < length (join_with_byte 44 (w ∷ ws))
 joined_nonempty w [] h = h
 joined_nonempty w (v ∷ ws) h = omega (arith, length-append w (44 ∷ join_with_byte 44 (v ∷ ws)))
 
-numbers_nonempty : (ns : List ℕ) → AllByRecursion (λ n. n ≤ 4294967295) ns → 0 < length (list_word decimal ns)
+numbers_nonempty : (ns : List ℕ) → AllByRecursion (λ n. n ≤ 4294967295) ns →
+    0 < length (list_word decimal ns)
 numbers_nonempty [] h = omega arith
-numbers_nonempty (n ∷ ns) h = joined_nonempty (decimal n) (map decimal ns) (decimal_nonempty n (omega (arith, h.0)))
+numbers_nonempty (n ∷ ns) h =
+    joined_nonempty (decimal n) (map decimal ns) (decimal_nonempty n (omega (arith, h.0)))
 
 flag_nonempty : (b : Bool) → 0 < length (flag_word b)
 flag_nonempty true = omega arith
@@ -209,13 +236,16 @@ some_word Flagged f h = positive (list_word flag_word f.flags) (flags_nonempty f
 some_word Colour f h = positive (colour_word f.colour) (colour_nonempty f.colour h.colour)
 some_word Key f h = positive (signed_decimal f.key) (signed_nonempty f.key h.key)
 
-pub fields_again : (ss : List Form) (f g : Fields) (rest : List Word) → Fits f → fields_at ss g (words_of ss f ++ rest) ≡ Ok (put_all ss f g, rest)
+pub fields_again : (ss : List Form) (f g : Fields) (rest : List Word) → Fits f →
+    fields_at ss g (words_of ss f ++ rest) ≡ Ok (put_all ss f g, rest)
 unfolding fields_at
 fields_again [] f g rest h = refl
-fields_again (s ∷ ss) f g rest h = rw (some_word s f h, field_again s f g h) (fields_again ss f (put s f g) rest h)
+fields_again (s ∷ ss) f g rest h =
+    rw (some_word s f h, field_again s f g h) (fields_again ss f (put s f g) rest h)
 
 -- the fields of a kind make its signature
-pub signature_again : (k : Kind) (f : Fields) → signature_of k (put_all (forms_of k) f no_fields) ≡ signature_of k f
+pub signature_again : (k : Kind) (f : Fields) →
+    signature_of k (put_all (forms_of k) f no_fields) ≡ signature_of k f
 unfolding forms_of signature_of
 signature_again kinds.Barrier f = refl
 signature_again kinds.Bcast f = refl
@@ -301,7 +331,8 @@ signature_back (signatures.Create ns) _ = refl
 signature_back (signatures.CartCreate ns bs) _ = refl
 signature_back (signatures.CartSub bs) _ = refl
 
-own_back : (k : Kind) (sig : Signature) (own : Own) → is_own_of k own ≡ true → own_of k (fields_of sig own) ≡ own
+own_back : (k : Kind) (sig : Signature) (own : Own) → is_own_of k own ≡ true →
+    own_of k (fields_of sig own) ≡ own
 unfolding own_of
 own_back kinds.Barrier sig owns.Plain h = refl
 own_back kinds.Barrier sig (owns.Counts ns) h = absurd cc
@@ -406,11 +437,15 @@ kind_nonempty kinds.Create = refl
 kind_nonempty kinds.CartCreate = refl
 kind_nonempty kinds.CartSub = refl
 
-pub statement_again : (sig : Signature) (own : Own) (rest : List Word) → IsSpellable sig own → statement_at (statement_words sig own ++ rest) ≡ Ok ((sig, own), rest)
+pub statement_again : (sig : Signature) (own : Own) (rest : List Word) → IsSpellable sig own →
+    statement_at (statement_words sig own ++ rest) ≡ Ok ((sig, own), rest)
 unfolding statement_at statement_words
 statement_again sig own rest h =
     let k = kind sig in
     let f = fields_of sig own in
-    let s : signature_of k (put_all (forms_of k) f no_fields) ≡ sig = signature_again k f ∙ signature_back sig own in
-    let o : own_of k (put_all (forms_of k) f no_fields) ≡ own = own_again k f ∙ own_back k sig own h.form in
-    rw (kind_nonempty k, kind_again k, fields_again (forms_of k) f no_fields rest h.numbers, s, o) refl
+    let s : signature_of k (put_all (forms_of k) f no_fields) ≡ sig = signature_again k f ∙
+    signature_back sig own in
+    let o : own_of k (put_all (forms_of k) f no_fields) ≡ own = own_again k f ∙ own_back k sig own
+    h.form in
+    rw (kind_nonempty k, kind_again k, fields_again (forms_of k) f no_fields rest h.numbers, s, o)
+    refl

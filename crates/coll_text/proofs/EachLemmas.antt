@@ -1,13 +1,19 @@
 -- Reading words one after the other, as a loop does.
-use Rattle.std.proofs.Common.{◌≡◌, ℕ, List, [], ◌∷◌, ◌++◌, Result, Ok, Err, refl, sym, ap, ◌∙◌, append_assoc}
+use Rattle.std.proofs.Common.{◌≡◌, ℕ, List, [], ◌∷◌, ◌++◌, Result, Ok, Err, refl, sym, ap, ◌∙◌}
+use Rattle.std.proofs.Common.{append_assoc}
 use Rattle.std.proofs.lemmas.List.{append-nil}
 use Rattle.coll_text.specs.declared.fault.LineFault.{LineFault}
-use Rattle.coll_text.specs.declared.fault.LineFault.TheVariants.{BadVerb, BadShape, BadField, BadKind, BadType, UnknownOp, BadLabel, BadNumber, OddPair, NoMemory}
+use Rattle.coll_text.specs.declared.fault.LineFault.TheVariants.{BadVerb, BadShape, BadField}
+use Rattle.coll_text.specs.declared.fault.LineFault.TheVariants.{BadKind, BadType, UnknownOp}
+use Rattle.coll_text.specs.declared.fault.LineFault.TheVariants.{BadLabel, BadNumber, OddPair}
+use Rattle.coll_text.specs.declared.fault.LineFault.TheVariants.{NoMemory}
 use Rattle.coll_text.specs.Numbers.{Word}
 use Rattle.coll_text.specs.Reading.{◌>>=◌, Fails, each_of}
 
 -- a fault of a part is the fault of the whole
-pub carried : {A B : Type 0} (e : LineFault) (part : Result A LineFault) (whole : Result B LineFault) → Fails e part → (part ≡ Err e → whole ≡ Err e) → Fails e whole
+pub carried :
+    {A B : Type 0} (e : LineFault) (part : Result A LineFault) (whole : Result B LineFault) →
+    Fails e part → (part ≡ Err e → whole ≡ Err e) → Fails e whole
 carried NoMemory part whole h f = tt
 carried BadVerb part whole h f = f h
 carried BadShape part whole h f = f h
@@ -20,34 +26,47 @@ carried BadNumber part whole h f = f h
 carried OddPair part whole h f = f h
 
 -- what was read before, and what is still read
-abbrev pub with_front : {A : Type 0} → List A → Result (List A) LineFault → Result (List A) LineFault
+abbrev pub with_front : {A : Type 0} → List A → Result (List A) LineFault →
+    Result (List A) LineFault
 with_front front read = read >>= λ xs. Ok (front ++ xs)
 
-regroup : {A : Type 0} (front : List A) (x : A) (read : Result (List A) LineFault) → with_front front (read >>= λ xs. Ok (x ∷ xs)) ≡ with_front (front ++ x ∷ []) read
+regroup : {A : Type 0} (front : List A) (x : A) (read : Result (List A) LineFault) →
+    with_front front (read >>= λ xs. Ok (x ∷ xs)) ≡ with_front (front ++ x ∷ []) read
 regroup front x (Ok xs) = ap Ok (sym (append_assoc front (x ∷ []) xs))
 regroup front x (Err f) = refl
 
-pub goes_on : {A : Type 0} (read : Word → Result A LineFault) (front : List A) (w : Word) (before ws : List Word) (x : A) (total : Result (List A) LineFault) → before ≡ w ∷ ws → read w ≡ Ok x
-    → with_front front (each_of read before) ≡ total → with_front (front ++ x ∷ []) (each_of read ws) ≡ total
+pub goes_on : {A : Type 0} (read : Word → Result A LineFault) (front : List A) (w : Word)
+    (before ws : List Word) (x : A) (total : Result (List A) LineFault) → before ≡ w ∷ ws →
+    read w ≡ Ok x
+    → with_front front (each_of read before) ≡ total →
+    with_front (front ++ x ∷ []) (each_of read ws) ≡ total
 unfolding each_of
 goes_on read front w before ws x total split h so_far =
-    let one : with_front front (each_of read before) ≡ with_front (front ++ x ∷ []) (each_of read ws) = rw (split, h) (regroup front x (each_of read ws)) in
+    let one : with_front front (each_of read before) ≡ with_front (front ++ x ∷ [])
+    (each_of read ws) = rw (split, h) (regroup front x (each_of read ws)) in
     sym one ∙ so_far
 
-stops : {A : Type 0} (read : Word → Result A LineFault) (front : List A) (w : Word) (before ws : List Word) (f : LineFault) (total : Result (List A) LineFault) → before ≡ w ∷ ws → read w ≡ Err f
+stops : {A : Type 0} (read : Word → Result A LineFault) (front : List A) (w : Word)
+    (before ws : List Word) (f : LineFault) (total : Result (List A) LineFault) →
+    before ≡ w ∷ ws → read w ≡ Err f
     → with_front front (each_of read before) ≡ total → total ≡ Err f
 unfolding each_of
 stops read front w before ws f total split h so_far =
     let one : with_front front (each_of read before) ≡ Err f = rw (split, h) refl in
     sym so_far ∙ one
 
-pub ends : {A : Type 0} (e : LineFault) (read : Word → Result A LineFault) (front : List A) (w : Word) (before ws : List Word) (total : Result (List A) LineFault) → before ≡ w ∷ ws → Fails e (read w)
+pub ends : {A : Type 0} (e : LineFault) (read : Word → Result A LineFault) (front : List A)
+    (w : Word) (before ws : List Word) (total : Result (List A) LineFault) →
+    before ≡ w ∷ ws → Fails e (read w)
     → with_front front (each_of read before) ≡ total → Fails e total
-ends e read front w before ws total split h so_far = carried e (read w) total h (λ f. stops read front w before ws e total split f so_far)
+ends e read front w before ws total split h so_far =
+    carried e (read w) total h (λ f. stops read front w before ws e total split f so_far)
 
-pub is_done : {A : Type 0} (read : Word → Result A LineFault) (front : List A) (before : List Word) (total : Result (List A) LineFault) → before ≡ []
+pub is_done : {A : Type 0} (read : Word → Result A LineFault) (front : List A) (before : List Word)
+    (total : Result (List A) LineFault) → before ≡ []
     → with_front front (each_of read before) ≡ total → total ≡ Ok front
 unfolding each_of
 is_done read front before total none so_far =
-    let one : with_front front (each_of read before) ≡ Ok front = rw none (ap Ok (append-nil front)) in
+    let one : with_front front (each_of read before) ≡ Ok front = rw none (ap Ok (append-nil front))
+    in
     sym so_far ∙ one

@@ -1,5 +1,8 @@
 -- The number at the front of a text.
-use Rattle.std.proofs.Common.{◌≡◌, ℕ, zero, suc, ◌+◌, ◌-◌, ◌*◌, ◌^◌, ◌<◌, ◌≤◌, true, ◌&&◌, leb, ltb, [], ◌∷◌, ◌++◌, length, get_or, add-one, ◌-ℤ◌, to_z, of_z, FitsSigned, rules, take, drop, Some, None, option_map, option_and_then, ℤ, pos, negsuc, refl, sym, ap, ◌∙◌, arith}
+use Rattle.std.proofs.Common.{◌≡◌, ℕ, zero, suc, ◌+◌, ◌-◌, ◌*◌, ◌^◌, ◌<◌, ◌≤◌, true, ◌&&◌, leb, ltb}
+use Rattle.std.proofs.Common.{[], ◌∷◌, ◌++◌, length, get_or, add-one, ◌-ℤ◌, to_z, of_z, FitsSigned}
+use Rattle.std.proofs.Common.{rules, take, drop, Some, None, option_map, option_and_then, ℤ, pos}
+use Rattle.std.proofs.Common.{negsuc, refl, sym, ap, ◌∙◌, arith}
 use Rattle.std.specs.List.{list_all}
 use Rattle.std.proofs.lemmas.Bool.{leb-true, le-leb, and_parts, and_from, lt-ltb, lt-leb}
 use Rattle.std.proofs.lemmas.List.{take_more, get_or-take, length-take-le, take_all}
@@ -9,47 +12,60 @@ use Rattle.std.proofs.lemmas.Int.{to_z_pos, to_z-of_z}
 use Rattle.std.proofs.lemmas.Nat.{pow-add}
 use Rattle.std.proofs.Math.Nat.{pow-le-pow_right}
 use Rattle.coll_text.proofs.NumberLemmas.{form_of, plain, behind_minus, chosen}
-use Rattle.coll_text.specs.Numbers.{Word, is_digit, is_number, value_after, number_within, negative, signed_within}
+use Rattle.coll_text.specs.Numbers.{Word, is_digit, is_number, value_after, number_within, negative}
+use Rattle.coll_text.specs.Numbers.{signed_within}
 
-pub value_after-append : (n : ℕ) (xs ys : Word) → value_after n (xs ++ ys) ≡ value_after (value_after n xs) ys
+pub value_after-append : (n : ℕ) (xs ys : Word) →
+    value_after n (xs ++ ys) ≡ value_after (value_after n xs) ys
 value_after-append n [] ys = refl
 value_after-append n (x ∷ xs) ys = value_after-append (n * 10 + (x - 48)) xs ys
 
-pub value_more : (w : Word) (i : ℕ) → i < length w → value_after 0 (take (i + 1) w) ≡ value_after 0 (take i w) * 10 + (get_or w i 0 - 48)
-value_more w i lt = ap (value_after 0) (take_more w i 0 lt) ∙ value_after-append 0 (take i w) (get_or w i 0 ∷ [])
+pub value_more : (w : Word) (i : ℕ) → i < length w →
+    value_after 0 (take (i + 1) w) ≡ value_after 0 (take i w) * 10 + (get_or w i 0 - 48)
+value_more w i lt =
+    ap (value_after 0) (take_more w i 0 lt) ∙ value_after-append 0 (take i w) (get_or w i 0 ∷ [])
 
-pub digits_more : (w : Word) (i : ℕ) → i < length w → is_digit (get_or w i 0) ≡ true → list_all is_digit (take i w) ≡ true → list_all is_digit (take (i + 1) w) ≡ true
+pub digits_more : (w : Word) (i : ℕ) → i < length w → is_digit (get_or w i 0) ≡ true →
+    list_all is_digit (take i w) ≡ true → list_all is_digit (take (i + 1) w) ≡ true
 digits_more w i lt d h = list_all_more is_digit w i 0 lt ∙ rw (h, d) refl
 
 pub digit_range : (b : ℕ) → is_digit b ≡ true → (48 ≤ b) × (b ≤ 57)
-digit_range b d = let p = and_parts (leb 48 b) (leb b 57) d in (leb-true 48 b p.0, leb-true b 57 p.1)
+digit_range b d =
+    let p = and_parts (leb 48 b) (leb b 57) d in (leb-true 48 b p.0, leb-true b 57 p.1)
 
 pub fits_more : (v i d : ℕ) → v < 10 ^ i → d ≤ 9 → v * 10 + d < 10 ^ (i + 1)
 fits_more v i d lt le = let e : 10 ^ (i + 1) ≡ 10 ^ i * 10 = pow-add 10 i 1 in omega (arith, e)
 
 -- 18 digits, and one more
 pub fits : (v i d : ℕ) → v < 10 ^ i → i ≤ 18 → d ≤ 9 → v * 10 + d < 2 ^ 64
-fits v i d lt le small = let e : 10 ^ i ≤ 10 ^ 18 = pow-le-pow_right (omega arith) le in omega (arith, e)
+fits v i d lt le small =
+    let e : 10 ^ i ≤ 10 ^ 18 = pow-le-pow_right (omega arith) le in omega (arith, e)
 
 first_taken : (w : Word) (i : ℕ) → 0 < i → get_or (take i w) 0 0 ≡ get_or w 0 0
 first_taken w i lt = get_or-take i w 0 0 lt
 
 -- digits at the front are a number
-pub front_is : (w : Word) (i v most : ℕ) → i ≤ length w → list_all is_digit (take i w) ≡ true → v ≡ value_after 0 (take i w) → v ≤ most → 0 < i → (get_or w 0 0 ≡ 48 → i ≤ 1) → number_within most (take i w) ≡ Some v
+pub front_is : (w : Word) (i v most : ℕ) → i ≤ length w → list_all is_digit (take i w) ≡ true →
+    v ≡ value_after 0 (take i w) → v ≤ most → 0 < i → (get_or w 0 0 ≡ 48 → i ≤ 1) →
+    number_within most (take i w) ≡ Some v
 unfolding number_within
 front_is w i v most le d e small some lead =
     let size : length (take i w) ≡ i = length-take-le i w le in
-    let f : is_number (take i w) ≡ true = form_of (take i w) d (omega (arith, size)) (λ h. let k : i ≤ 1 = lead (sym (first_taken w i some) ∙ h) in omega (arith, k, size)) in
+    let f : is_number (take i w) ≡ true = form_of (take i w) d (omega (arith, size))
+    (λ h. let k : i ≤ 1 = lead (sym (first_taken w i some) ∙ h) in omega (arith, k, size)) in
     rw (f, ← e, le-leb v most small) refl
 
 read_is : (most n : ℕ) (w : Word) → number_within most w ≡ Some n → is_number w ≡ true
 unfolding number_within
-read_is most n w e = (and_parts (is_number w) (leb (value_after 0 w) most) (chosen (is_number w && leb (value_after 0 w) most) (value_after 0 w) n e).0).0
+read_is most n w e = (and_parts (is_number w) (leb (value_after 0 w) most)
+    (chosen (is_number w && leb (value_after 0 w) most) (value_after 0 w) n e).0).0
 
-pub plain_is : (most least n : ℕ) (w : Word) → number_within most w ≡ Some n → signed_within most least w ≡ Some (pos n)
+pub plain_is : (most least n : ℕ) (w : Word) → number_within most w ≡ Some n →
+    signed_within most least w ≡ Some (pos n)
 plain_is most least n w e = plain most least w (read_is most n w e) ∙ ap (option_map pos) e
 
-minus_cons : (most least n i : ℕ) (w : Word) → number_within least (take i w) ≡ Some (suc n) → signed_within most least (45 ∷ take i w) ≡ Some (negsuc n)
+minus_cons : (most least n i : ℕ) (w : Word) → number_within least (take i w) ≡ Some (suc n) →
+    signed_within most least (45 ∷ take i w) ≡ Some (negsuc n)
 minus_cons most least n i w e = behind_minus most least (take i w) ∙ ap (option_and_then negative) e
 
 taken_cons : (b i : ℕ) (w : Word) → take (i + 1) (b ∷ w) ≡ b ∷ take i w
@@ -58,13 +74,18 @@ taken_cons b i w = rw (add-one i) refl
 below_zero : (n : ℕ) → negsuc n ≡ pos 0 -ℤ pos (suc n)
 below_zero n = search rules
 
-pub minus_is : (most least n i : ℕ) (w : Word) → 1 ≤ length w → get_or w 0 0 ≡ 45 → number_within least (take i (drop 1 w)) ≡ Some n → (n ≡ 0 → ⊥) → signed_within most least (take (i + 1) w) ≡ Some (pos 0 -ℤ pos n)
+pub minus_is : (most least n i : ℕ) (w : Word) → 1 ≤ length w → get_or w 0 0 ≡ 45 →
+    number_within least (take i (drop 1 w)) ≡ Some n → (n ≡ 0 → ⊥) →
+    signed_within most least (take (i + 1) w) ≡ Some (pos 0 -ℤ pos n)
 minus_is most least n i [] some first e h = absurd (omega arith)
 minus_is most least zero i (b ∷ w) some first e h = absurd (h refl)
-minus_is most least (suc n) i (b ∷ w) some first e h = ap (signed_within most least) (taken_cons b i w ∙ ap (λ (c : ℕ). c ∷ take i w) first) ∙ minus_cons most least n i w e ∙ ap (λ (z : ℤ). Some z) (below_zero n)
+minus_is most least (suc n) i (b ∷ w) some first e h = ap (signed_within most least)
+    (taken_cons b i w ∙ ap (λ (c : ℕ). c ∷ take i w) first) ∙ minus_cons most least n i w e
+    ∙ ap (λ (z : ℤ). Some z) (below_zero n)
 
 digit_solid : (b : ℕ) → is_digit b ≡ true → ltb 44 b ≡ true
-digit_solid b h = let far : 48 ≤ b = leb-true 48 b (and_parts (leb 48 b) (leb b 57) h).0 in lt-ltb 44 b (omega arith)
+digit_solid b h = let far : 48 ≤ b = leb-true 48 b (and_parts (leb 48 b) (leb b 57) h).0 in
+    lt-ltb 44 b (omega arith)
 
 pub digits_solid : (w : Word) → list_all is_digit w ≡ true → list_all (ltb 44) w ≡ true
 digits_solid [] h = refl
@@ -72,20 +93,24 @@ digits_solid (b ∷ bs) h =
     let p = and_parts (is_digit b) (list_all is_digit bs) h in
     and_from (ltb 44 b) (list_all (ltb 44) bs) (digit_solid b p.0) (digits_solid bs p.1)
 
-pub minus_solid : (i : ℕ) (w : Word) → 1 ≤ length w → get_or w 0 0 ≡ 45 → list_all is_digit (take i (drop 1 w)) ≡ true → list_all (ltb 44) (take (i + 1) w) ≡ true
+pub minus_solid : (i : ℕ) (w : Word) → 1 ≤ length w → get_or w 0 0 ≡ 45 →
+    list_all is_digit (take i (drop 1 w)) ≡ true → list_all (ltb 44) (take (i + 1) w) ≡ true
 minus_solid i [] some first h = absurd (omega arith)
-minus_solid i (b ∷ w) some first h = ap (list_all (ltb 44)) (taken_cons b i w) ∙ rw (first, digits_solid (take i w) h) refl
+minus_solid i (b ∷ w) some first h =
+    ap (list_all (ltb 44)) (taken_cons b i w) ∙ rw (first, digits_solid (take i w) h) refl
 
 pub wide : (n : ℕ) → n < 2 ^ 64 → to_z w128 n ≡ pos n
 wide n lt = to_z_pos w128 n (omega arith)
 
-pub wide_minus : (n : ℕ) → n < 2 ^ 64 → to_z w128 (of_z w128 (pos 0 -ℤ to_z w128 n)) ≡ pos 0 -ℤ pos n
+pub wide_minus : (n : ℕ) → n < 2 ^ 64 →
+    to_z w128 (of_z w128 (pos 0 -ℤ to_z w128 n)) ≡ pos 0 -ℤ pos n
 wide_minus n lt =
     let fits : FitsSigned w128 (pos 0 -ℤ pos n) = search (rules, lt) in
     rw (wide n lt) (to_z-of_z w128 (pos 0 -ℤ pos n) fits)
 
 -- a number of the whole word, against a limit
-whole_value : (n i limit : ℕ) (w : Word) → length w ≤ i → number_within limit (take i w) ≡ Some n → (is_number w ≡ true) × (value_after 0 w ≡ n)
+whole_value : (n i limit : ℕ) (w : Word) → length w ≤ i → number_within limit (take i w) ≡ Some n →
+    (is_number w ≡ true) × (value_after 0 w ≡ n)
 unfolding number_within
 whole_value n i limit w le e =
     let same : take i w ≡ w = take_all i w le in
@@ -93,10 +118,14 @@ whole_value n i limit w le e =
     let c = chosen (is_number w && leb (value_after 0 w) limit) (value_after 0 w) n k in
     ((and_parts (is_number w) (leb (value_after 0 w) limit) c.0).0, c.1)
 
-pub whole_below : (n i limit most : ℕ) (w : Word) → length w ≤ i → number_within limit (take i w) ≡ Some n → n ≤ most → Some n ≡ number_within most w
+pub whole_below : (n i limit most : ℕ) (w : Word) → length w ≤ i →
+    number_within limit (take i w) ≡ Some n → n ≤ most → Some n ≡ number_within most w
 unfolding number_within
-whole_below n i limit most w le e small = let v = whole_value n i limit w le e in rw (v.0, v.1, le-leb n most small) refl
+whole_below n i limit most w le e small =
+    let v = whole_value n i limit w le e in rw (v.0, v.1, le-leb n most small) refl
 
-pub whole_above : (n i limit most : ℕ) (w : Word) → length w ≤ i → number_within limit (take i w) ≡ Some n → most < n → None ≡ number_within most w
+pub whole_above : (n i limit most : ℕ) (w : Word) → length w ≤ i →
+    number_within limit (take i w) ≡ Some n → most < n → None ≡ number_within most w
 unfolding number_within
-whole_above n i limit most w le e large = let v = whole_value n i limit w le e in rw (v.0, v.1, lt-leb n most large) refl
+whole_above n i limit most w le e large =
+    let v = whole_value n i limit w le e in rw (v.0, v.1, lt-leb n most large) refl

@@ -1,5 +1,7 @@
 -- Words behind separators, and words with separators between them.
-use Rattle.std.proofs.Common.{◌≡◌, ℕ, ◌-◌, ◌≤◌, List, [], ◌∷◌, ◌++◌, map, length, take, drop, get_or, Result, Ok, Err, OnOk, refl, sym, ap, ◌∙◌, append_assoc, arith}
+use Rattle.std.proofs.Common.{◌≡◌, ℕ, ◌-◌, ◌≤◌, List, [], ◌∷◌, ◌++◌, map, length, take, drop}
+use Rattle.std.proofs.Common.{get_or, Result, Ok, Err, OnOk, refl, sym, ap, ◌∙◌, append_assoc}
+use Rattle.std.proofs.Common.{arith}
 use Rattle.std.specs.List.{flat_map, join_with_byte}
 use Rattle.std.proofs.lemmas.List.{append-nil, take_all, take-append-drop}
 use Rattle.std.proofs.Math.Seq.{take-append_seam}
@@ -8,7 +10,8 @@ use Rattle.coll_text.specs.Spellings.{list_word}
 use Rattle.coll_text.specs.Spaced.{behind_each, behind_comma}
 use Rattle.coll_text.specs.Writing.{IsFront}
 
-pub join_cons : (c : ℕ) (w : Word) (ws : List Word) → join_with_byte c (w ∷ ws) ≡ w ++ behind_each c ws
+pub join_cons : (c : ℕ) (w : Word) (ws : List Word) →
+    join_with_byte c (w ∷ ws) ≡ w ++ behind_each c ws
 join_cons c w [] = sym (append-nil w)
 join_cons c w (v ∷ ws) = ap (λ t. w ++ (c ∷ t)) (join_cons c v ws)
 
@@ -16,20 +19,26 @@ comma_is : {A : Type 0} (f : A → Word) (xs : List A) → behind_each 44 (map f
 comma_is f [] = refl
 comma_is f (x ∷ xs) = ap (λ t. (44 ∷ f x) ++ t) (comma_is f xs)
 
-pub list_word_cons : {A : Type 0} (f : A → Word) (x : A) (xs : List A) → list_word f (x ∷ xs) ≡ f x ++ behind_comma f xs
+pub list_word_cons : {A : Type 0} (f : A → Word) (x : A) (xs : List A) →
+    list_word f (x ∷ xs) ≡ f x ++ behind_comma f xs
 list_word_cons f x xs = join_cons 44 (f x) (map f xs) ∙ ap (λ t. f x ++ t) (comma_is f xs)
 
 take_whole : {A : Type 0} (x : A) (xs : List A) → take (length (x ∷ xs) - 1) xs ≡ xs
 take_whole x xs = take_all (length (x ∷ xs) - 1) xs (omega arith)
 
 -- the first, and the others behind it
-pub list_word_parts : {A : Type 0} (f : A → Word) (d : A) (xs : List A) → 1 ≤ length xs → list_word f xs ≡ f (get_or xs 0 d) ++ behind_comma f (take (length xs - 1) (drop 1 xs))
+pub list_word_parts : {A : Type 0} (f : A → Word) (d : A) (xs : List A) → 1 ≤ length xs →
+    list_word f xs ≡ f (get_or xs 0 d) ++ behind_comma f (take (length xs - 1) (drop 1 xs))
 list_word_parts f d [] h = absurd (omega arith)
-list_word_parts f d (x ∷ xs) h = list_word_cons f x xs ∙ ap (λ ys. f x ++ behind_comma f ys) (sym (take_whole x xs))
+list_word_parts f d (x ∷ xs) h =
+    list_word_cons f x xs ∙ ap (λ ys. f x ++ behind_comma f ys) (sym (take_whole x xs))
 
 -- what was put behind what was put before
-pub put_behind : {A E : Type 0} (r : Result A E) (old mid new first rest whole : List ℕ) → OnOk r (new ≡ mid ++ rest) → mid ≡ old ++ first → whole ≡ first ++ rest → OnOk r (new ≡ old ++ whole)
-put_behind (Ok x) old mid new first rest whole h g e = h ∙ ap (λ t. t ++ rest) g ∙ append_assoc old first rest ∙ ap (λ t. old ++ t) (sym e)
+pub put_behind : {A E : Type 0} (r : Result A E) (old mid new first rest whole : List ℕ) →
+    OnOk r (new ≡ mid ++ rest) → mid ≡ old ++ first → whole ≡ first ++ rest →
+    OnOk r (new ≡ old ++ whole)
+put_behind (Ok x) old mid new first rest whole h g e =
+    h ∙ ap (λ t. t ++ rest) g ∙ append_assoc old first rest ∙ ap (λ t. old ++ t) (sym e)
 put_behind (Err x) old mid new first rest whole h g e = tt
 
 -- ---- what stands at the front of a text
@@ -41,15 +50,18 @@ pub front_put : (old new more : List ℕ) → new ≡ old ++ more → IsFront ol
 front_put old new more e = ap (take (length old)) e ∙ take-append_seam old more
 
 front_back : (old new : List ℕ) → IsFront old new → old ++ drop (length old) new ≡ new
-front_back old new f = ap (λ (t : List ℕ). t ++ drop (length old) new) (sym f) ∙ take-append-drop (length old) new
+front_back old new f =
+    ap (λ (t : List ℕ). t ++ drop (length old) new) (sym f) ∙ take-append-drop (length old) new
 
 pub front_then : (old mid new : List ℕ) → IsFront old mid → IsFront mid new → IsFront old new
 front_then old mid new f g =
     let a = front_back old mid f in
     let b = front_back mid new g in
     front_put old new (drop (length old) mid ++ drop (length mid) new)
-    (sym b ∙ ap (λ (t : List ℕ). t ++ drop (length mid) new) (sym a) ∙ append_assoc old (drop (length old) mid) (drop (length mid) new))
+    (sym b ∙ ap (λ (t : List ℕ). t ++ drop (length mid) new) (sym a)
+    ∙ append_assoc old (drop (length old) mid) (drop (length mid) new))
 
 -- with words put between
-pub front_behind : (old mid new more : List ℕ) → mid ≡ old ++ more → IsFront mid new → IsFront old new
+pub front_behind : (old mid new more : List ℕ) → mid ≡ old ++ more → IsFront mid new →
+    IsFront old new
 front_behind old mid new more e f = front_then old mid new (front_put old mid more e) f

@@ -1,4 +1,5 @@
--- What is told of words that are not kept: for a reader that found no memory for what they say. (Own rules.)
+-- What is told of words that are not kept: for a reader that found no memory for what they say.
+-- (Own rules.)
 use Rattle.std.specs.Prelude.{List, [], ◌∷◌, Option, Some, None, Result, Ok, Err}
 use Rattle.wall_labels.specs.Ops.{op_of}
 use Rattle.mpi_elems.specs.declared.elem_type.ElemType.{ElemType}
@@ -8,9 +9,11 @@ use Rattle.coll_routes.specs.Signatures.{elem_type}
 use Rattle.coll_routes.specs.declared.signature.Signature.{Signature}
 use Rattle.coll_routes.specs.declared.statement.Own.{Own}
 use Rattle.coll_text.specs.declared.fault.LineFault.{LineFault}
-use Rattle.coll_text.specs.declared.fault.LineFault.TheVariants.{BadField, BadKind, BadType, UnknownOp}
+use Rattle.coll_text.specs.declared.fault.LineFault.TheVariants.{BadField, BadKind, BadType}
+use Rattle.coll_text.specs.declared.fault.LineFault.TheVariants.{UnknownOp}
 use Rattle.coll_text.specs.declared.table.Form.{Form}
-use Rattle.coll_text.specs.declared.table.Form.TheVariants.{Root, Operation, Typed, Count, Counts, Listed, Flagged, Colour, Key}
+use Rattle.coll_text.specs.declared.table.Form.TheVariants.{Root, Operation, Typed, Count, Counts}
+use Rattle.coll_text.specs.declared.table.Form.TheVariants.{Listed, Flagged, Colour, Key}
 use Rattle.coll_text.specs.Numbers.{Word}
 use Rattle.coll_text.specs.Reading.{◌>>=◌, some_or, word_at, list_of, flag_of}
 use Rattle.coll_text.specs.Table.{forms_of}
@@ -21,7 +24,8 @@ abbrev pub checked : {A : Type 0} → Result A LineFault → Result (Unit {0}) L
 checked said = said >>= λ x. Ok tt
 
 -- the type of a statement's elements, and the words behind it
-abbrev pub type_stated : Result ((Signature × Own) × List Word) LineFault → Result (Option ElemType × List Word) LineFault
+abbrev pub type_stated : Result ((Signature × Own) × List Word) LineFault →
+    Result (Option ElemType × List Word) LineFault
 type_stated said = said >>= λ s. Ok (elem_type s.0.0, s.1)
 
 -- ---- words of private contracts
@@ -38,7 +42,8 @@ type_with Flagged w ty = checked (list_of flag_of w) >>= λ u. Ok ty
 type_with Colour w ty = some_or BadField (colour_of w) >>= λ c. Ok ty
 type_with Key w ty = some_or BadField (key_of w) >>= λ k. Ok ty
 
-unfoldable pub types_at : List Form → Option ElemType → List Word → Result (Option ElemType × List Word) LineFault
+unfoldable pub types_at : List Form → Option ElemType → List Word →
+    Result (Option ElemType × List Word) LineFault
 types_at [] ty ws = Ok (ty, ws)
 types_at (s ∷ ss) ty ws = do
   w ← word_at ws

@@ -1,5 +1,7 @@
--- A kind with its fields, read from the left: the grammar that scripts and books share. (Own format.)
-use Rattle.std.specs.Prelude.{ℕ, ℤ, Bool, List, [], ◌∷◌, codes, Option, Some, None, option_map, Result, Ok, Err, if◌then◌else◌}
+-- A kind with its fields, read from the left: the grammar that scripts and books share. (Own
+-- format.)
+use Rattle.std.specs.Prelude.{ℕ, ℤ, Bool, List, [], ◌∷◌, codes, Option, Some, None, option_map}
+use Rattle.std.specs.Prelude.{Result, Ok, Err, if◌then◌else◌}
 use Rattle.std.specs.Str.{bytes_eq}
 use Rattle.wall_labels.specs.Ops.{op_of}
 use Rattle.mpi_elems.specs.Types.{type_of}
@@ -7,9 +9,11 @@ use Rattle.coll_routes.specs.Kinds.{kind_of}
 use Rattle.coll_routes.specs.declared.signature.Signature.{Signature}
 use Rattle.coll_routes.specs.declared.statement.Own.{Own}
 use Rattle.coll_text.specs.declared.fault.LineFault.{LineFault}
-use Rattle.coll_text.specs.declared.fault.LineFault.TheVariants.{BadField, BadKind, BadType, UnknownOp}
+use Rattle.coll_text.specs.declared.fault.LineFault.TheVariants.{BadField, BadKind, BadType}
+use Rattle.coll_text.specs.declared.fault.LineFault.TheVariants.{UnknownOp}
 use Rattle.coll_text.specs.declared.table.Form.{Form}
-use Rattle.coll_text.specs.declared.table.Form.TheVariants.{Root, Operation, Typed, Count, Counts, Listed, Flagged, Colour, Key}
+use Rattle.coll_text.specs.declared.table.Form.TheVariants.{Root, Operation, Typed, Count, Counts}
+use Rattle.coll_text.specs.declared.table.Form.TheVariants.{Listed, Flagged, Colour, Key}
 use Rattle.coll_text.specs.declared.table.Fields.{Fields}
 use Rattle.coll_text.specs.Numbers.{Word, signed_within}
 use Rattle.coll_text.specs.Reading.{◌>>=◌, some_or, word_at, number_up_to, list_of, flag_of}
@@ -24,7 +28,8 @@ abbrev pub key_of : Word → Option ℤ
 key_of word = signed_within 2147483647 2147483648 word
 
 unfoldable pub colour_of : Word → Option (Option ℤ)
-colour_of word = if bytes_eq word (codes "undefined") then Some None else option_map Some (key_of word)
+colour_of word =
+    if bytes_eq word (codes "undefined") then Some None else option_map Some (key_of word)
 
 -- the fields with one more, of this form
 unfoldable pub with_field : Form → Word → Fields → Result Fields LineFault

@@ -1,5 +1,7 @@
 -- Numbers as text. (Own format.)
-use Rattle.std.specs.Prelude.{ℕ, ◌≤◌, zero, suc, ℤ, pos, negsuc, ◌+◌, ◌-◌, ◌*◌, Bool, false, not, ◌&&◌, ◌||◌, ◌==◌, nat_le, List, [], ◌∷◌, length, Option, Some, None, option_map, option_and_then, if◌then◌else◌}
+use Rattle.std.specs.Prelude.{ℕ, ◌≤◌, zero, suc, ℤ, pos, negsuc, ◌+◌, ◌-◌, ◌*◌, Bool, false, not}
+use Rattle.std.specs.Prelude.{◌&&◌, ◌||◌, ◌==◌, nat_le, List, [], ◌∷◌, length, Option, Some, None}
+use Rattle.std.specs.Prelude.{option_map, option_and_then, if◌then◌else◌}
 use Rattle.std.specs.List.{list_all}
 
 -- what stands between two separators
@@ -21,7 +23,8 @@ value_after n (b ∷ bs) = value_after (n * 10 + (b - 48)) bs
 
 -- a number up to most
 unfoldable pub number_within : ℕ → Word → Option ℕ
-number_within most word = if is_number word && nat_le (value_after 0 word) most then Some (value_after 0 word) else None
+number_within most word =
+    if is_number word && nat_le (value_after 0 word) most then Some (value_after 0 word) else None
 
 -- behind a minus sign; 0 has none
 abbrev pub negative : ℕ → Option ℤ
@@ -36,4 +39,6 @@ IsBetween most least (negsuc n) = suc n ≤ least
 -- a number up to most, or a minus sign and a number up to least
 unfoldable pub signed_within : ℕ → ℕ → Word → Option ℤ
 signed_within most least [] = None
-signed_within most least (b ∷ bs) = if b == 45 then option_and_then negative (number_within least bs) else option_map pos (number_within most (b ∷ bs))
+signed_within most least (b ∷ bs) = if b == 45
+    then option_and_then negative (number_within least bs)
+    else option_map pos (number_within most (b ∷ bs))

@@ -1,5 +1,6 @@
 -- Reading from the left, with the first fault that is met. (Own format.)
-use Rattle.std.specs.Prelude.{◌≡◌, ℕ, Bool, true, false, ◌&&◌, ◌==◌, nat_le, List, [], ◌∷◌, length, codes, Option, Some, None, Result, Ok, Err, if◌then◌else◌}
+use Rattle.std.specs.Prelude.{◌≡◌, ℕ, Bool, true, false, ◌&&◌, ◌==◌, nat_le, List, [], ◌∷◌, length}
+use Rattle.std.specs.Prelude.{codes, Option, Some, None, Result, Ok, Err, if◌then◌else◌}
 use Rattle.std.specs.List.{slice_split}
 use Rattle.std.specs.Str.{bytes_eq}
 use Rattle.coll_text.specs.declared.fault.LineFault.{LineFault}
@@ -7,7 +8,8 @@ use Rattle.coll_text.specs.declared.fault.LineFault.TheVariants.{BadShape, BadFi
 use Rattle.coll_text.specs.Numbers.{Word, number_within}
 
 infixl 10 ◌>>=◌
-abbrev pub ◌>>=◌ : {A B : Type 0} → Result A LineFault → (A → Result B LineFault) → Result B LineFault
+abbrev pub ◌>>=◌ : {A B : Type 0} → Result A LineFault → (A → Result B LineFault) →
+    Result B LineFault
 (Ok x) >>= f = f x
 (Err e) >>= f = Err e
 
@@ -26,7 +28,8 @@ Leaves (Ok x) y said = said ≡ Ok y
 Leaves (Err fault) y said = Fails fault said
 
 -- the same of what is seen of it, and of the words that are left
-abbrev pub Takes : {X Y : Type 0} → (X → Y) → Result X LineFault → List Word → Result (Y × List Word) LineFault → Type 0
+abbrev pub Takes : {X Y : Type 0} → (X → Y) → Result X LineFault → List Word →
+    Result (Y × List Word) LineFault → Type 0
 Takes view (Ok x) rest said = said ≡ Ok (view x, rest)
 Takes view (Err fault) rest said = Fails fault said
 
@@ -59,7 +62,8 @@ ended [] x = Ok x
 ended (w ∷ ws) x = Err BadShape
 
 -- each word, read in order
-unfoldable pub each_of : {A : Type 0} → (Word → Result A LineFault) → List Word → Result (List A) LineFault
+unfoldable pub each_of : {A : Type 0} → (Word → Result A LineFault) → List Word →
+    Result (List A) LineFault
 each_of read [] = Ok []
 each_of read (w ∷ ws) = do
   x ← read w
@@ -67,12 +71,14 @@ each_of read (w ∷ ws) = do
   Ok (x ∷ xs)
 
 -- `-` for none, or words between commas
-unfoldable pub list_of : {A : Type 0} → (Word → Result A LineFault) → Word → Result (List A) LineFault
+unfoldable pub list_of : {A : Type 0} → (Word → Result A LineFault) → Word →
+    Result (List A) LineFault
 list_of read word = if bytes_eq word (codes "-") then Ok [] else each_of read (parts 44 word)
 
 -- `0` or `1`
 abbrev pub flag_of : Word → Result Bool LineFault
-flag_of word = if bytes_eq word (codes "0") then Ok false else if bytes_eq word (codes "1") then Ok true else Err BadField
+flag_of word = if bytes_eq word (codes "0") then Ok false else if bytes_eq word (codes "1")
+    then Ok true else Err BadField
 
 abbrev pub is_printable : ℕ → Bool
 is_printable b = nat_le 32 b && nat_le b 126

@@ -1,5 +1,6 @@
 -- The words of a kind with its fields. (Own format.)
-use Rattle.std.specs.Prelude.{◌≡◌, ℕ, ◌≤◌, nat_lt, ℤ, Bool, true, false, List, [], ◌∷◌, map, codes, Option, Some, None, IfSome}
+use Rattle.std.specs.Prelude.{◌≡◌, ℕ, ◌≤◌, nat_lt, ℤ, Bool, true, false, List, [], ◌∷◌, map, codes}
+use Rattle.std.specs.Prelude.{Option, Some, None, IfSome}
 use Rattle.std.specs.List.{join_with_byte, list_all, AllByRecursion}
 use Rattle.std.specs.Fmt.{decimal, signed_decimal}
 use Rattle.wall_labels.specs.Ops.{op_name}
@@ -9,7 +10,8 @@ use Rattle.coll_routes.specs.Signatures.{kind}
 use Rattle.coll_routes.specs.declared.signature.Signature.{Signature}
 use Rattle.coll_routes.specs.declared.statement.Own.{Own}
 use Rattle.coll_text.specs.declared.table.Form.{Form}
-use Rattle.coll_text.specs.declared.table.Form.TheVariants.{Root, Operation, Typed, Count, Counts, Listed, Flagged, Colour, Key}
+use Rattle.coll_text.specs.declared.table.Form.TheVariants.{Root, Operation, Typed, Count, Counts}
+use Rattle.coll_text.specs.declared.table.Form.TheVariants.{Listed, Flagged, Colour, Key}
 use Rattle.coll_text.specs.declared.table.Fields.{Fields}
 use Rattle.coll_text.specs.Numbers.{Word, IsBetween}
 use Rattle.coll_text.specs.Table.{forms_of, fields_of}
@@ -62,7 +64,8 @@ pub record Fits (f : Fields) : Type 0 where
   pub colour : IfSome f.colour IsSigned32
   pub key : IsSigned32 f.key
 
--- a statement that has a spelling of its own: numbers of 32 bits, and of the poster alone what the kind asks
+-- a statement that has a spelling of its own: numbers of 32 bits, and of the poster alone what the
+-- kind asks
 pub record IsSpellable (sig : Signature) (own : Own) : Type 0 where
   pub numbers : Fits (fields_of sig own)
   pub form : is_own_of (kind sig) own ≡ true

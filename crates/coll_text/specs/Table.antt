@@ -1,5 +1,7 @@
--- The fields of each kind in their order, and what they make. (Own format; the kinds are those of MPI 4.1, chapters 6 to 8.)
-use Rattle.std.specs.Prelude.{ℕ, ℤ, pos, Bool, true, false, List, [], ◌∷◌, Option, Some, None, unwrap_or}
+-- The fields of each kind in their order, and what they make. (Own format; the kinds are those of
+-- MPI 4.1, chapters 6 to 8.)
+use Rattle.std.specs.Prelude.{ℕ, ℤ, pos, Bool, true, false, List, [], ◌∷◌, Option, Some, None}
+use Rattle.std.specs.Prelude.{unwrap_or}
 use Rattle.wall_labels.specs.declared.op.Op.TheVariants as ops
 use Rattle.mpi_elems.specs.declared.elem_type.ElemType.TheVariants as types
 use Rattle.coll_routes.specs.declared.kind.Kind.{Kind}
@@ -11,7 +13,8 @@ use Rattle.coll_routes.specs.declared.statement.Own.TheVariants as owns
 use Rattle.coll_routes.specs.Signatures.{root, reduction, elem_type, count, numbers, flags}
 use Rattle.coll_routes.specs.Rolls.{counts_in}
 use Rattle.coll_text.specs.declared.table.Form.{Form}
-use Rattle.coll_text.specs.declared.table.Form.TheVariants.{Root, Operation, Typed, Count, Counts, Listed, Flagged, Colour, Key}
+use Rattle.coll_text.specs.declared.table.Form.TheVariants.{Root, Operation, Typed, Count, Counts}
+use Rattle.coll_text.specs.declared.table.Form.TheVariants.{Listed, Flagged, Colour, Key}
 use Rattle.coll_text.specs.declared.table.Fields.{Fields}
 
 unfoldable pub forms_of : Kind → List Form
@@ -98,7 +101,17 @@ own_of kinds.CartSub f = owns.Plain
 
 -- before any field is stated
 abbrev pub no_fields : Fields
-no_fields = record { root = 0; op = ops.Max; elem_type = types.Int8; count = 0; counts = []; list = []; flags = []; colour = None; key = pos 0 }
+no_fields = record {
+  root = 0;
+  op = ops.Max;
+  elem_type = types.Int8;
+  count = 0;
+  counts = [];
+  list = [];
+  flags = [];
+  colour = None;
+  key = pos 0;
+}
 
 abbrev pub colour_in : Own → Option ℤ
 colour_in (owns.Split colour key) = colour
@@ -110,4 +123,14 @@ key_in _ = pos 0
 
 -- what a statement has in each field, and in the others what stands there before any is stated
 abbrev pub fields_of : Signature → Own → Fields
-fields_of sig own = record { root = unwrap_or (root sig) 0; op = unwrap_or (reduction sig) ops.Max; elem_type = unwrap_or (elem_type sig) types.Int8; count = unwrap_or (count sig) 0; counts = counts_in own; list = numbers sig; flags = flags sig; colour = colour_in own; key = key_in own }
+fields_of sig own = record {
+  root = unwrap_or (root sig) 0;
+  op = unwrap_or (reduction sig) ops.Max;
+  elem_type = unwrap_or (elem_type sig) types.Int8;
+  count = unwrap_or (count sig) 0;
+  counts = counts_in own;
+  list = numbers sig;
+  flags = flags sig;
+  colour = colour_in own;
+  key = key_in own;
+}

@@ -1,5 +1,6 @@
 -- The words that name a policy's datasets and processes, and the rules of the wall. (Own format.)
-use Rattle.std.specs.Prelude.{ℕ, ◌<◌, List, [], length, codes, Option, Some, None, option_map, unwrap_or, slice_get, Result, Ok, if◌then◌else◌}
+use Rattle.std.specs.Prelude.{ℕ, ◌<◌, List, [], length, codes, Option, Some, None, option_map}
+use Rattle.std.specs.Prelude.{unwrap_or, slice_get, Result, Ok, if◌then◌else◌}
 use Rattle.std.specs.Str.{bytes_eq}
 use Rattle.wall_labels.specs.declared.label.Label.{Label}
 use Rattle.wall_labels.specs.declared.label.Label.TheVariants.{Public, Of}

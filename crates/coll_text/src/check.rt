@@ -3,7 +3,8 @@
 //! A reader that found no memory for a list asks here whether the words have a fault: a fault is
 //! told before out of memory. Nothing here takes memory.
 ghost use Rattle.std.specs.Prelude.{◌≡◌, ◌≢◌, None, Err};
-ghost use Rattle.coll_text.specs.Reading.{Gives, Takes, each_of, list_of, flag_of, parts as parts_of};
+ghost use Rattle.coll_text.specs.Reading.{Gives, Takes, each_of, list_of, flag_of};
+ghost use Rattle.coll_text.specs.Reading.{parts as parts_of};
 ghost use Rattle.coll_text.specs.Fields.{number_of, statement_at};
 ghost use Rattle.coll_text.specs.Checks.{checked, type_stated, type_with, types_at, type_at};
 

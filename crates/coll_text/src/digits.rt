@@ -1,5 +1,6 @@
 //! Writes numbers from the last to the first into a small buffer.
-ghost use Rattle.std.specs.Prelude.{◌≡◌, ◌<◌, ◌≤◌, ◌+◌, ◌^◌, ◌++◌, ◌∷◌, OnOk, OnErr, length, drop, take, get_or, pos, unsigned_abs};
+ghost use Rattle.std.specs.Prelude.{◌≡◌, ◌<◌, ◌≤◌, ◌+◌, ◌^◌, ◌++◌, ◌∷◌, OnOk, OnErr, length, drop};
+ghost use Rattle.std.specs.Prelude.{take, get_or, pos, unsigned_abs};
 ghost use Rattle.std.specs.Fmt.{signed_decimal};
 ghost use Rattle.coll_text.specs.Writing.{spaced_numbers, IsFront};
 
@@ -47,7 +48,8 @@ fn put_behind_space(bytes: &mut [u8], end: usize, n: i128) -> usize
 /// Appends the number at this place. Where memory ran out the text is as it was.
 pub fn put_number_at(text: &mut Vec<u8>, numbers: &Buffer, i: usize) -> Result<(), AllocError>
     requires { i < length numbers.now.numbers }
-    ensures ok { OnOk result (text.new.items ≡ text.old.items ++ signed_decimal (get_or numbers.now.numbers i (pos 0))) }
+    ensures ok { OnOk result
+        (text.new.items ≡ text.old.items ++ signed_decimal (get_or numbers.now.numbers i (pos 0))) }
     ensures err { OnErr result (text.new.items ≡ text.old.items) }
 {
     let mut bytes = [0; 22];
@@ -60,7 +62,8 @@ fn put_batch(text: &mut Vec<u8>, numbers: &Buffer, from: usize, to: usize) -> Re
     requires order { from ≤ to }
     requires within { to ≤ length numbers.now.numbers }
     requires few { to ≤ from + 32 }
-    ensures ok { OnOk result (text.new.items ≡ text.old.items ++ spaced_numbers (drop from (take to numbers.now.numbers))) }
+    ensures ok { OnOk result (text.new.items
+        ≡ text.old.items ++ spaced_numbers (drop from (take to numbers.now.numbers))) }
     ensures err { OnErr result (text.new.items ≡ text.old.items) }
 {
     let mut bytes = [0; BYTES];
@@ -77,7 +80,8 @@ fn put_batch(text: &mut Vec<u8>, numbers: &Buffer, from: usize, to: usize) -> Re
 /// may stand there.
 pub fn put_spaced(text: &mut Vec<u8>, numbers: &Buffer, from: usize) -> Result<(), AllocError>
     requires { from ≤ length numbers.now.numbers }
-    ensures ok { OnOk result (text.new.items ≡ text.old.items ++ spaced_numbers (drop from numbers.now.numbers)) }
+    ensures ok { OnOk result
+        (text.new.items ≡ text.old.items ++ spaced_numbers (drop from numbers.now.numbers)) }
     ensures front { IsFront text.old.items text.new.items }
 {
     let len = numbers.len();

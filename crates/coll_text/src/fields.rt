@@ -62,10 +62,12 @@ fn next_fields(alloc: Global, forms: &[Form], words: &mut Parts) -> Result<Field
     Ok(fields)
 }
 
-/// Reads a kind and its fields: what the members of an instance state alike, and what the poster states for itself.
+/// Reads a kind and its fields: what the members of an instance state alike, and what the poster
+/// states for itself.
 ///
-/// The words behind them are left to be read. Takes memory only for fields that are lists. `BadShape` where a field is empty or
-/// missing, `BadKind`, `BadType` and `UnknownOp` for a word that is none, `BadField` for any other field out of its form or range.
+/// The words behind them are left to be read. Takes memory only for fields that are lists.
+/// `BadShape` where a field is empty or missing, `BadKind`, `BadType` and `UnknownOp` for a word
+/// that is none, `BadField` for any other field out of its form or range.
 #[tactic(auto, unfolding(crate::specs::Fields::statement_at))]
 pub fn next_statement(alloc: Global, words: &mut Parts) -> Result<(Signature, Own), LineFault>
     ensures statement { Takes (λ s. s) result words.new (statement_at words.old) }

@@ -1,5 +1,6 @@
 //! The number at the front of a text, in one pass over its digits.
-ghost use Rattle.std.specs.Prelude.{◌≡◌, ◌≤◌, ◌<◌, ◌^◌, length, take, get_or, Some, IfSome, true, nat_lt};
+ghost use Rattle.std.specs.Prelude.{◌≡◌, ◌≤◌, ◌<◌, ◌^◌, length, take, get_or, Some, IfSome, true};
+ghost use Rattle.std.specs.Prelude.{nat_lt};
 ghost use Rattle.std.specs.List.{list_all};
 ghost use Rattle.coll_text.specs.Numbers.{is_digit, value_after, number_within, signed_within};
 
@@ -98,7 +99,8 @@ fn front_negative(text: &[u8]) -> Option<(i128, usize)>
     requires minus { get_or text.now 0 0 ≡ 45 }
     ensures within { IfSome result (λ r. r.1 ≤ length text.now) }
     ensures solid { IfSome result (λ r. list_all (λ b. nat_lt 44 b) (take r.1 text.now) ≡ true) }
-    ensures value { IfSome result (λ r. signed_within u64.MAX u64.MAX (take r.1 text.now) ≡ Some r.0) }
+    ensures value { IfSome result
+        (λ r. signed_within u64.MAX u64.MAX (take r.1 text.now) ≡ Some r.0) }
 {
     let (_, digits) = text.split_at(1);
     match front_number(digits) {
@@ -117,7 +119,8 @@ fn front_negative(text: &[u8]) -> Option<(i128, usize)>
 pub(crate) fn front_signed(text: &[u8]) -> Option<(i128, usize)>
     ensures within { IfSome result (λ r. r.1 ≤ length text.now) }
     ensures solid { IfSome result (λ r. list_all (λ b. nat_lt 44 b) (take r.1 text.now) ≡ true) }
-    ensures value { IfSome result (λ r. signed_within u64.MAX u64.MAX (take r.1 text.now) ≡ Some r.0) }
+    ensures value { IfSome result
+        (λ r. signed_within u64.MAX u64.MAX (take r.1 text.now) ≡ Some r.0) }
 {
     if text.is_empty() {
         return None;

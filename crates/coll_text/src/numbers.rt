@@ -1,7 +1,8 @@
 //! Numbers as text.
 ghost use Rattle.std.specs.Prelude.{◌≡◌, ◌≤◌, IfSome};
 ghost use Rattle.std.specs.List.{list_all};
-ghost use Rattle.coll_text.specs.Numbers.{is_digit, is_number, number_within, signed_within, IsBetween};
+ghost use Rattle.coll_text.specs.Numbers.{is_digit, is_number, number_within, signed_within};
+ghost use Rattle.coll_text.specs.Numbers.{IsBetween};
 
 use crate::front::front_number;
 
@@ -78,7 +79,8 @@ pub fn number32(word: &[u8]) -> Option<u32>
     number(word, u64::from(u32::MAX)).map(|n| n as u32)
 }
 
-/// The signed number that the word spells, down to -least and up to most: a number, or a minus sign and a number other than 0.
+/// The signed number that the word spells, down to -least and up to most: a number, or a minus sign
+/// and a number other than 0.
 #[tactic(auto, unfolding(crate::specs::Numbers::signed_within))]
 pub fn signed(word: &[u8], most: u64, least: u64) -> Option<i128>
     ensures value { result ≡ signed_within most least word.now }

@@ -1,5 +1,6 @@
 //! The parts of a text between separators, from the left.
-ghost use Rattle.std.specs.Prelude.{◌≡◌, ◌==◌, List, ℕ, [], ◌∷◌, MatchOption, IfSome, Some, None, length, ◌≤◌, take};
+ghost use Rattle.std.specs.Prelude.{◌≡◌, ◌==◌, List, ℕ, [], ◌∷◌, MatchOption, IfSome, Some, None};
+ghost use Rattle.std.specs.Prelude.{length, ◌≤◌, take};
 ghost use Rattle.std.specs.List.{slice_split, position, count_by};
 ghost use Rattle.coll_text.specs.Numbers.{signed_within};
 
@@ -87,7 +88,9 @@ fn far_place_of(text: &[u8], separator: u8) -> Option<usize>
 // The part before the first separator, and what is after it.
 fn cut(text: &[u8], separator: u8, place: Option<usize>) -> (&[u8], Option<&[u8]>)
     requires { place ≡ position (λ b. b == separator) text.now }
-    ensures { MatchOption result.1 (slice_split (λ b. b == separator) text.now ≡ result.0.now ∷ []) (λ rest. slice_split (λ b. b == separator) text.now ≡ result.0.now ∷ slice_split (λ b. b == separator) rest.now) }
+    ensures { MatchOption result.1 (slice_split (λ b. b == separator) text.now ≡ result.0.now ∷ [])
+        (λ rest. slice_split (λ b. b == separator) text.now
+        ≡ result.0.now ∷ slice_split (λ b. b == separator) rest.now) }
 {
     match place {
         None => (text, None),
@@ -143,7 +146,8 @@ impl<'a> Parts<'a> {
 
     /// The next part.
     pub fn next(&mut self) -> Option<&'a [u8]>
-        ensures { MatchOption result ((self.old ≡ []) × (self.new ≡ [])) (λ part. self.old ≡ part.now ∷ self.new) }
+        ensures { MatchOption result ((self.old ≡ []) × (self.new ≡ []))
+            (λ part. self.old ≡ part.now ∷ self.new) }
     {
         if self.is_done {
             return None;
@@ -159,7 +163,8 @@ impl<'a> Parts<'a> {
 
     /// The next part, found in steps of many bytes: for parts that are long.
     pub fn next_long(&mut self) -> Option<&'a [u8]>
-        ensures { MatchOption result ((self.old ≡ []) × (self.new ≡ [])) (λ part. self.old ≡ part.now ∷ self.new) }
+        ensures { MatchOption result ((self.old ≡ []) × (self.new ≡ []))
+            (λ part. self.old ≡ part.now ∷ self.new) }
     {
         if self.is_done {
             return None;
@@ -178,7 +183,8 @@ impl<'a> Parts<'a> {
         }
     }
 
-    // The next part where a signed number of at most 19 digits is the whole of it, with the number; else none, and nothing is taken.
+    // The next part where a signed number of at most 19 digits is the whole of it, with the number;
+    // else none, and nothing is taken.
     fn next_plain(&mut self) -> Option<(&'a [u8], i128)>
         ensures none { result ≡ None → self.new ≡ self.old }
         ensures part { IfSome result (λ r. self.old ≡ r.0.now ∷ self.new) }
@@ -207,7 +213,8 @@ impl<'a> Parts<'a> {
 
     /// The next part, and the signed number of 64 bits behind its sign that it spells.
     pub fn next_signed(&mut self) -> Option<(&'a [u8], Option<i128>)>
-        ensures part { MatchOption result ((self.old ≡ []) × (self.new ≡ [])) (λ r. self.old ≡ r.0.now ∷ self.new) }
+        ensures part { MatchOption result ((self.old ≡ []) × (self.new ≡ []))
+            (λ r. self.old ≡ r.0.now ∷ self.new) }
         ensures number { IfSome result (λ r. r.1 ≡ signed_within u64.MAX u64.MAX r.0.now) }
     {
         match self.next_plain() {

@@ -13,9 +13,11 @@ const CHUNK: usize = 65536;
 pub fn send<W: Sink>(text: &mut Vec<u8>, sink: &mut W) -> Result<(), Failed>
     ensures went { OnOk result (W.failures sink.new ≡ W.failures sink.old) }
     ensures failed { OnErr result (W.failures sink.new ≡ W.failures sink.old + 1) }
-    ensures sent { OnOk result (Appends (W.contents sink.old) (W.contents sink.new) text.old.items) }
+    ensures sent { OnOk result
+        (Appends (W.contents sink.old) (W.contents sink.new) text.old.items) }
     ensures none { OnOk result (text.new.items ≡ []) }
-    ensures front { OnErr result (AppendsFront (W.contents sink.old) (W.contents sink.new) text.old.items) }
+    ensures front { OnErr result
+        (AppendsFront (W.contents sink.old) (W.contents sink.new) text.old.items) }
 {
     write_all(sink, text)?;
     text.clear();
@@ -27,8 +29,10 @@ pub fn send<W: Sink>(text: &mut Vec<u8>, sink: &mut W) -> Result<(), Failed>
 pub fn send_long<W: Sink>(text: &mut Vec<u8>, sink: &mut W) -> Result<(), Failed>
     ensures went { OnOk result (W.failures sink.new ≡ W.failures sink.old) }
     ensures failed { OnErr result (W.failures sink.new ≡ W.failures sink.old + 1) }
-    ensures moved { OnOk result (Moves (W.contents sink.old) (W.contents sink.new) text.old.items text.new.items) }
-    ensures front { OnErr result (AppendsFront (W.contents sink.old) (W.contents sink.new) text.old.items) }
+    ensures moved { OnOk result
+        (Moves (W.contents sink.old) (W.contents sink.new) text.old.items text.new.items) }
+    ensures front { OnErr result
+        (AppendsFront (W.contents sink.old) (W.contents sink.new) text.old.items) }
 {
     if text.len() < CHUNK {
         return Ok(());

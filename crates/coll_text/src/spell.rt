@@ -1,7 +1,8 @@
 //! Writes a kind with its fields.
 ghost use Rattle.std.specs.Prelude.{◌≡◌, ◌++◌, OnOk, OnErr};
 ghost use Rattle.coll_text.specs.Table.{forms_of, fields_of, colour_in, key_in};
-ghost use Rattle.coll_text.specs.Spellings.{list_word, flag_word, colour_word, word_of, words_of, statement_words, statement_text};
+ghost use Rattle.coll_text.specs.Spellings.{list_word, flag_word, colour_word, word_of, words_of};
+ghost use Rattle.coll_text.specs.Spellings.{statement_words, statement_text};
 ghost use Rattle.std.specs.Fmt.{decimal};
 ghost use Rattle.coll_routes.specs.Signatures.{kind};
 ghost use Rattle.coll_text.specs.Spaced.{behind_each, behind_comma};
@@ -110,7 +111,8 @@ fn put_number(text: &mut Vec<u8>, number: u32) -> Result<(), AllocError>
 // The field of this form.
 #[tactic(auto, unfolding(crate::specs::Spellings::word_of))]
 fn put_field(text: &mut Vec<u8>, form: Form, sig: &Signature, own: &Own) -> Result<(), AllocError>
-    ensures ok { OnOk result (text.new.items ≡ text.old.items ++ word_of form (fields_of sig.now own.now)) }
+    ensures ok { OnOk result
+        (text.new.items ≡ text.old.items ++ word_of form (fields_of sig.now own.now)) }
     ensures front { IsFront text.old.items text.new.items }
 {
     match form {
@@ -133,7 +135,8 @@ fn put_fields(
     sig: &Signature,
     own: &Own,
 ) -> Result<(), AllocError>
-    ensures ok { OnOk result (text.new.items ≡ text.old.items ++ behind_each 32 (words_of forms.now (fields_of sig.now own.now))) }
+    ensures ok { OnOk result (text.new.items
+        ≡ text.old.items ++ behind_each 32 (words_of forms.now (fields_of sig.now own.now))) }
     ensures front { IsFront text.old.items text.new.items }
 {
     for form in forms {

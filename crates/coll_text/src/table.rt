@@ -1,4 +1,5 @@
-//! The forms of each kind's fields in their order, and what the fields make: a line for each kind in each table.
+//! The forms of each kind's fields in their order, and what the fields make: a line for each kind
+//! in each table.
 ghost use Rattle.std.specs.Prelude.{◌≡◌, true};
 ghost use Rattle.coll_routes.specs.Signatures.{kind as kind_of_signature};
 ghost use Rattle.coll_text.specs.Table.{forms_of, signature_of, own_of, no_fields};
@@ -97,7 +98,8 @@ pub(crate) fn forms(kind: Kind) -> &'static [Form]
     }
 }
 
-/// What the fields of a kind make: what all members state alike, and what the poster states for itself.
+/// What the fields of a kind make: what all members state alike, and what the poster states for
+/// itself.
 #[tactic(auto, unfolding(crate::specs::Table::signature_of, crate::specs::Table::own_of, coll_routes::specs::Signatures::kind))]
 pub(crate) fn made_of(kind: Kind, fields: Fields) -> (Signature, Own)
     ensures signature { result.0 ≡ signature_of kind fields }

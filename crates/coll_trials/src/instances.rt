@@ -303,7 +303,8 @@ fn deliveries_between_neighbours(rt: HostRuntime) -> Result<(), Fail> {
         "[11][11][12]-",
     ];
     expect_deliveries(&rt, alloc, &full_one, &expected)?;
-    // Periodic dimensions of size 1 and 2: what goes to the positive neighbour arrives in its negative slot.
+    // Periodic dimensions of size 1 and 2: what goes to the positive neighbour arrives in its
+    // negative slot.
     let alone = grid(alloc, 1, &[1], &[true])?;
     let exchange = Signature::NeighborAlltoall { elem_type, count };
     let full_one = full(&rt, alloc, alone, exchange, &[&[1, 2]], &[])?;

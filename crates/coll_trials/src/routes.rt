@@ -420,7 +420,8 @@ fn pieces_between_neighbours(rt: HostRuntime) {
         "[(2:0+1)][(2:0+1)][][(1:0+1)]\n[(3:0+1)][(3:0+1)][(0:0+1)][]\n[(0:0+1)][(0:0+1)][][(3:0+1)]\n[(1:0+1)][(1:0+1)][(2:0+1)][]\n";
     let tube = grid(&rt, alloc, 4, &[2, 2], &[true, false]);
     expect_pieces(&rt, alloc, tube, gathered, &[1; 4], &[], expected);
-    // Periodic dimensions of size 1 and 2: what is given for the positive slot arrives in the negative one.
+    // Periodic dimensions of size 1 and 2: what is given for the positive slot arrives in the
+    // negative one.
     let exchanged = Signature::NeighborAlltoall {
         elem_type,
         count: 1,

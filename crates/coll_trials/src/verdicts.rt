@@ -3,6 +3,7 @@ ghost use Rattle.std.specs.Prelude.{◌≡◌, ◌<◌, IfOk};
 ghost use Rattle.coll_routes.specs.Fit.{IsFit};
 
 use coll_routes::{Own, Roll, Shape, Signature, Stated, Statements};
+use mpi_cart::Grid;
 use mpi_elems::ElemType;
 use mpi_group::Group;
 use std::alloc::Global;
@@ -13,7 +14,8 @@ use wall_policy::{Policy, read_policy};
 use wall_rules::Histories;
 use wall_verdict::{Rule, Verdict, charged, decide, enter_label, passes_star, sanitised, settle};
 
-// Datasets: 0 alpha and 1 beta of banks, 2 crude and 3 delta of oil. Processes: 0 a0, 1 b0, 2 c0, 3 n0. A sum of three is sanitised.
+// Datasets: 0 alpha and 1 beta of banks, 2 crude and 3 delta of oil. Processes: 0 a0, 1 b0, 2 c0, 3
+// n0. A sum of three is sanitised.
 const POLICY: &str =
     "version = 1\n[[class]]\nname = \"banks\"\ndatasets = [\"alpha\", \"beta\"]\n[[class]]\nname = \"oil\"\ndatasets = [\"crude\", \"delta\"]\n[[process]]\nname = \"a0\"\nhome = \"alpha\"\n[[process]]\nname = \"b0\"\nhome = \"beta\"\n[[process]]\nname = \"c0\"\nhome = \"crude\"\n[[process]]\nname = \"n0\"\n[[sanitise]]\nop = \"sum\"\nleast = 3\n";
 
@@ -248,7 +250,48 @@ fn a_denial_names_the_least_pair(rt: HostRuntime) -> Result<(), Fail> {
     Ok(())
 }
 
-// Of a rank in an instance: whether what it gets is sanitised, and which of the datasets are charged to it.
+// The verdict on what neighbours in a line of four gather from each other. In a periodic line the
+// ends are neighbours too.
+fn verdict_in_line(
+    rt: &impl Abort,
+    alloc: Global,
+    members: &[u32],
+    periodic: bool,
+    gifts: &[Gift],
+) -> Result<Verdict, Fail> {
+    let policy = policy(alloc)?;
+    let histories = Histories::opening(alloc, &policy)?;
+    let sig = Signature::NeighborAllgatherv { elem_type: INT };
+    let mut roll = roll(rt, alloc, members, sig, gifts)?;
+    roll.shape.grid = Some(Grid::new(alloc, &[4], &[periodic], 4)?);
+    assert!(rt; roll.is_fit());
+    Ok(decide(&policy, &histories, &roll))
+}
+
+// a0 and b0 stand at the ends, c0 and n0 between them.
+#[test]
+fn neighbours_alone_are_charged(rt: HostRuntime) -> Result<(), Fail> {
+    let alloc = rt.alloc();
+    let line = [0, 2, 3, 1];
+    let first = [Of(0), Nothing, Nothing, Nothing];
+    let around_n0 = [Nothing, Of(0), Nothing, Of(1)];
+    let rows = [
+        (false, first, Verdict::Granted),
+        (true, first, simple(1, 0)),
+        (false, around_n0, simple(3, 1)),
+        (true, around_n0, simple(0, 1)),
+    ];
+    for (periodic, gifts, expected) in rows {
+        assert_eq!(rt;
+            verdict_in_line(&rt, alloc, &line, periodic, &gifts)?,
+            expected
+        );
+    }
+    Ok(())
+}
+
+// Of a rank in an instance: whether what it gets is sanitised, and which of the datasets are
+// charged to it.
 fn told_of(policy: &Policy, roll: &Roll, rank: u32) -> (bool, [bool; 4])
     requires fit { IsFit roll.now }
     requires rank { rank < roll.now.shape.size }
@@ -279,7 +322,8 @@ fn a_part_of_a_scan_is_sanitised(rt: HostRuntime) -> Result<(), Fail> {
     Ok(())
 }
 
-// Whether what ranks 1, 2 and 3 of a scan get is sanitised. Rank 2 has three contributors of one bank, and rank 3 one of another firm too.
+// Whether what ranks 1, 2 and 3 of a scan get is sanitised. Rank 2 has three contributors of one
+// bank, and rank 3 one of another firm too.
 fn crowds(rt: &impl Abort, alloc: Global, policy: Policy) -> Result<[bool; 3], Fail> {
     let roll = roll(rt, alloc, &WORLD, scan(), &[Of(0), Of(0), Of(0), Of(2)])?;
     assert!(rt; roll.is_fit() && roll.shape.size == 4);

@@ -1,5 +1,7 @@
 -- The form of a value is of the form of what the ranks gave.
-use Rattle.std.proofs.Common.{◌≡◌, ℕ, zero, suc, ◌+◌, ◌<◌, List, [], ◌∷◌, ◌++◌, length, ◌∙◌, ap, refl, sym, arith, Bool, true, false, cond, Option, Some, None, slice_get, map, fold, max, filter, filter_map, flat_map, option_map}
+use Rattle.std.proofs.Common.{◌≡◌, ℕ, zero, suc, ◌+◌, ◌<◌, List, [], ◌∷◌, ◌++◌, length, ◌∙◌, ap}
+use Rattle.std.proofs.Common.{refl, sym, arith, Bool, true, false, cond, Option, Some, None}
+use Rattle.std.proofs.Common.{slice_get, map, fold, max, filter, filter_map, flat_map, option_map}
 use Rattle.std.specs.List.{range_with_len, cons_option}
 use Rattle.std.proofs.lemmas.Option.{slice_get-map}
 use Rattle.wall_labels.specs.declared.op.Op.{Op}
@@ -15,8 +17,10 @@ use Rattle.coll_routes.specs.Faults.{stated_type}
 use Rattle.coll_values.specs.declared.full.Full.{Full}
 use Rattle.coll_values.specs.declared.delivery.Block.TheVariants.{Numbers}
 use Rattle.coll_values.specs.Instances.{part, element}
-use Rattle.coll_values.specs.Values.{sent, Sendings, copied, breadth, folded_at, reduced, block_by, block_of, blocks, value}
-use Rattle.coll_values.specs.Forms.{form_of_element, form_of_elements, zeros_for, form_of_block, form, FormsAreOfForms}
+use Rattle.coll_values.specs.Values.{sent, Sendings, copied, breadth, folded_at, reduced, block_by}
+use Rattle.coll_values.specs.Values.{block_of, blocks, value}
+use Rattle.coll_values.specs.Forms.{form_of_element, form_of_elements, zeros_for, form_of_block}
+use Rattle.coll_values.specs.Forms.{form, FormsAreOfForms}
 use Rattle.coll_values.proofs.LawLemmas.{map_same, filter_map_same}
 use Rattle.coll_values.proofs.RoomLemmas.{length_map, map_map}
 
@@ -26,7 +30,8 @@ map_append : {X Y : Type 0} (f : X → Y) (xs ys : List X) → map f (xs ++ ys) 
 map_append f [] ys = refl
 map_append f (x ∷ xs) ys = ap (λ rest. f x ∷ rest) (map_append f xs ys)
 
-map_cons_option : {X Y : Type 0} (f : X → Y) (o : Option X) (xs : List X) → map f (cons_option o xs) ≡ cons_option (option_map f o) (map f xs)
+map_cons_option : {X Y : Type 0} (f : X → Y) (o : Option X) (xs : List X) →
+    map f (cons_option o xs) ≡ cons_option (option_map f o) (map f xs)
 map_cons_option f None xs = refl
 map_cons_option f (Some x) xs = refl
 

@@ -1,5 +1,6 @@
 -- An instance with the elements that each rank gave.
-use Rattle.std.specs.Prelude.{◌≡◌, ◌==◌, ◌&&◌, ℕ, List, [], length, slice_get, Bool, true, not, Option, Some, None}
+use Rattle.std.specs.Prelude.{◌≡◌, ◌==◌, ◌&&◌, ℕ, List, [], length, slice_get, Bool, true, not}
+use Rattle.std.specs.Prelude.{Option, Some, None}
 use Rattle.std.specs.List.{list_any}
 use Rattle.mpi_elems.specs.declared.elem_type.ElemType.{ElemType}
 use Rattle.mpi_elems.specs.Elements.{Element}
@@ -32,12 +33,14 @@ pub record IsPart (roll : Roll) (i : ℕ) (given_part : Contents) : Type 0 where
 pub record IsWhole (F : Full Contents) : Type 0 where
   pub roll : IsFit F.roll
   pub parts : length F.parts ≡ F.roll.shape.size
-  pub each : (i : ℕ) (given_part : Contents) → slice_get F.parts i ≡ Some given_part → IsPart F.roll i given_part
+  pub each : (i : ℕ) (given_part : Contents) → slice_get F.parts i ≡ Some given_part →
+      IsPart F.roll i given_part
 
 -- ## the same as a test
 
 abbrev pub is_part : Roll → (i : ℕ) → Contents → Bool
-is_part roll i given_part = length (elements given_part) == given roll i && is_of_type (elem_type roll.sig) given_part.elem_type
+is_part roll i given_part = length (elements given_part) == given roll i
+    && is_of_type (elem_type roll.sig) given_part.elem_type
 
 abbrev pub is_no_part : Roll → (i : ℕ) → Option Contents → Bool
 is_no_part roll i (Some given_part) = not (is_part roll i given_part)

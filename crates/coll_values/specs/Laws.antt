@@ -13,7 +13,8 @@ use Rattle.coll_values.specs.Values.{value}
 -- two instances of one roll have the same elements wherever an element goes to rank j
 pub record AgreeAt (F G : Full Contents) (j : ℕ) : Type 0 where
   pub roll : F.roll ≡ G.roll
-  pub elements : (i x t : ℕ) → i < F.roll.shape.size → x < given F.roll i → goes F.roll i x j t ≡ true → element F i x ≡ element G i x
+  pub elements : (i x t : ℕ) → i < F.roll.shape.size → x < given F.roll i →
+      goes F.roll i x j t ≡ true → element F i x ≡ element G i x
 
 -- the value of a rank depends on the elements alone that go to it
 abbrev pub ValuesAreOfRoutedElements : Type 0
@@ -34,4 +35,6 @@ ValuesFillPlaces = (F : Full Contents) (j : ℕ) → length (value F j) ≡ plac
 
 -- merging rows one by one, the lower rank's first, is the fold at each place
 abbrev pub MergedRowsAreFolds : Type 0
-MergedRowsAreFolds = (op : Op) (ty : ElemType) (rows : List (List Element)) (y : ℕ) → slice_get (fold (merged (combine op ty)) [] rows) y ≡ folded op ty (filter_map (λ row. slice_get row y) rows)
+MergedRowsAreFolds = (op : Op) (ty : ElemType) (rows : List (List Element)) (y : ℕ) →
+    slice_get (fold (merged (combine op ty)) [] rows) y
+    ≡ folded op ty (filter_map (λ row. slice_get row y) rows)

@@ -1,7 +1,13 @@
 -- Where the block at a place comes from, as the code has it.
 use Rattle.std.specs.Prelude.{ℕ, Option, Some, None}
 use Rattle.coll_routes.specs.declared.signature.Signature.{Signature}
-use Rattle.coll_routes.specs.declared.signature.Signature.TheVariants.{Bcast, Gather, Gatherv, Scatter, Scatterv, Allgather, Allgatherv, Alltoall, Alltoallv, NeighborAllgather, NeighborAllgatherv, NeighborAlltoall, NeighborAlltoallv}
+use Rattle.coll_routes.specs.declared.signature.Signature.TheVariants.{Bcast, Gather, Gatherv}
+use Rattle.coll_routes.specs.declared.signature.Signature.TheVariants.{Scatter, Scatterv, Allgather}
+use Rattle.coll_routes.specs.declared.signature.Signature.TheVariants.{Allgatherv, Alltoall}
+use Rattle.coll_routes.specs.declared.signature.Signature.TheVariants.{Alltoallv, NeighborAllgather}
+use Rattle.coll_routes.specs.declared.signature.Signature.TheVariants.{NeighborAllgatherv}
+use Rattle.coll_routes.specs.declared.signature.Signature.TheVariants.{NeighborAlltoall}
+use Rattle.coll_routes.specs.declared.signature.Signature.TheVariants.{NeighborAlltoallv}
 use Rattle.coll_routes.specs.declared.roll.Shape.{Shape}
 use Rattle.coll_routes.specs.Rolls.{neighbour_in}
 

@@ -1,5 +1,6 @@
 -- What a rank is delivered. (MPI 4.1, chapter 6, and section 8.6 between neighbours.)
-use Rattle.std.specs.Prelude.{ℕ, List, Option, Some, None, map, filter, filter_map, flat_map, fold, max, length, slice_get, if◌then◌else◌}
+use Rattle.std.specs.Prelude.{ℕ, List, Option, Some, None, map, filter, filter_map, flat_map, fold}
+use Rattle.std.specs.Prelude.{max, length, slice_get, if◌then◌else◌}
 use Rattle.wall_labels.specs.declared.op.Op.{Op}
 use Rattle.mpi_elems.specs.Elements.{Element, numbers_of, folded}
 use Rattle.mpi_elems.specs.Contents.{Contents}
@@ -21,7 +22,8 @@ sent F i j t = filter_map (element F i) (filter (λ x. goes F.roll i x j t) (bel
 abbrev pub Sendings : Type 0
 Sendings = (i t : ℕ) → List Element
 
--- the block at place t in a kind that doesn't reduce: what goes there (a place has one source, a law of coll_routes)
+-- the block at place t in a kind that doesn't reduce: what goes there (a place has one source, a
+-- law of coll_routes)
 abbrev pub copied : Roll → Sendings → (t : ℕ) → List Element
 copied roll sent t = flat_map (λ i. sent i t) (ranks roll)
 
@@ -29,9 +31,11 @@ copied roll sent t = flat_map (λ i. sent i t) (ranks roll)
 abbrev pub breadth : Roll → Sendings → ℕ
 breadth roll sent = fold max 0 (map (λ i. length (sent i 0)) (ranks roll))
 
--- element y of the one block in a kind that reduces: the fold, by rising rank, of the y-th element that each rank sends (6.9.1)
+-- element y of the one block in a kind that reduces: the fold, by rising rank, of the y-th element
+-- that each rank sends (6.9.1)
 unfoldable pub folded_at : Op → Roll → Sendings → (y : ℕ) → Option Element
-folded_at op roll sent y = folded op (stated_type roll.sig) (filter_map (λ i. slice_get (sent i 0) y) (ranks roll))
+folded_at op roll sent y =
+    folded op (stated_type roll.sig) (filter_map (λ i. slice_get (sent i 0) y) (ranks roll))
 
 abbrev pub reduced : Op → Roll → Sendings → List Element
 reduced op roll sent = filter_map (folded_at op roll sent) (below (breadth roll sent))
@@ -43,7 +47,8 @@ block_by None roll sent j t = if is_missing roll j t then None else Some (copied
 
 -- the blocks of rank j, as elements
 unfoldable pub blocks : Full Contents → (j : ℕ) → List (Option (List Element))
-blocks F j = map (block_by (reduction F.roll.sig) F.roll (λ i t. sent F i j t) j) (below (places F.roll j))
+blocks F j =
+    map (block_by (reduction F.roll.sig) F.roll (λ i t. sent F i j t) j) (below (places F.roll j))
 
 abbrev pub block_of : Option (List Element) → Block
 block_of (Some elements) = Numbers (numbers_of elements)

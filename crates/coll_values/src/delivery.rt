@@ -4,7 +4,8 @@ ghost use Rattle.std.specs.Prelude.{◌≡◌, ◌<◌, length, slice_get, Some}
 use mpi_elems::Buffer;
 use std::marker::Model;
 
-/// The numbers of a block, in order; a pair is two, its value and its index. Contracts see the list.
+/// The numbers of a block, in order; a pair is two, its value and its index. Contracts see the
+/// list.
 #[derive(Drop)]
 pub struct Integers {
     buffer: Buffer,

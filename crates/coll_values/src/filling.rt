@@ -1,12 +1,14 @@
 //! Deliveries.
-ghost use Rattle.std.specs.Prelude.{◌≡◌, ◌<◌, ◌≤◌, ◌+◌, IfOk, IsErr, [], map, length, vec_len, vec_capacity, Some, None, true};
+ghost use Rattle.std.specs.Prelude.{◌≡◌, ◌<◌, ◌≤◌, ◌+◌, IfOk, IsErr, [], map, length, vec_len};
+ghost use Rattle.std.specs.Prelude.{vec_capacity, Some, None, true};
 ghost use Rattle.mpi_elems.specs.Contents.{contents};
 ghost use Rattle.mpi_elems.specs.Elements.{numbers_of};
 ghost use Rattle.coll_routes.specs.Rolls.{places as places_of};
 ghost use Rattle.coll_routes.specs.Signatures.{reduction, elem_type};
 ghost use Rattle.coll_routes.specs.Faults.{stated_type};
 ghost use Rattle.coll_values.specs.Instances.{IsWhole};
-ghost use Rattle.coll_values.specs.Values.{sent, copied, reduced, breadth, block_by, block_of, value};
+ghost use Rattle.coll_values.specs.Values.{sent, copied, reduced, breadth, block_by, block_of};
+ghost use Rattle.coll_values.specs.Values.{value};
 ghost use Rattle.coll_values.specs.Rooms.{space_for, sizes, size_of};
 ghost use Rattle.coll_values.specs.Lines.{AreLines};
 
@@ -27,8 +29,10 @@ fn fill_copied(line: &mut Buffer, full: &Full<Buffer>, to: u32, place: u32)
     requires copies { reduction full.now.roll.sig ≡ None }
     requires one_type { elem_type full.now.roll.sig ≡ Some line.old.elem_type }
     requires empty { line.old.numbers ≡ [] }
-    requires room { length (copied full.now.roll (λ i t. sent full.now i to t) place) ≤ line.old.room }
-    ensures { line.new.numbers ≡ numbers_of (copied full.now.roll (λ i t. sent full.now i to t) place) }
+    requires room { length (copied full.now.roll (λ i t. sent full.now i to t) place)
+        ≤ line.old.room }
+    ensures { line.new.numbers
+        ≡ numbers_of (copied full.now.roll (λ i t. sent full.now i to t) place) }
 {
     match source_of(&full.roll, to, place) {
         Some(from) => if from < full.roll.shape.size {
@@ -46,7 +50,8 @@ fn fill_reduced(line: &mut Buffer, full: &Full<Buffer>, op: Op, to: u32)
     requires one_type { elem_type full.now.roll.sig ≡ Some line.old.elem_type }
     requires empty { line.old.numbers ≡ [] }
     requires room { breadth full.now.roll (λ i t. sent full.now i to t) ≤ line.old.room }
-    ensures { line.new.numbers ≡ numbers_of (reduced op full.now.roll (λ i t. sent full.now i to t)) }
+    ensures { line.new.numbers
+        ≡ numbers_of (reduced op full.now.roll (λ i t. sent full.now i to t)) }
 {
     let row = gathered(&full.roll, to);
     for from in 0..row.until {
@@ -61,8 +66,11 @@ fn fill_place(full: &Full<Buffer>, to: u32, place: u32, line: Buffer) -> Block
     requires rank { to < full.now.roll.shape.size }
     requires one_type { elem_type full.now.roll.sig ≡ Some line.elem_type }
     requires empty { line.numbers ≡ [] }
-    requires room { size_of (block_by (reduction full.now.roll.sig) full.now.roll (λ i t. sent full.now i to t) to place) ≤ line.room }
-    ensures { result ≡ block_of (block_by (reduction full.now.roll.sig) full.now.roll (λ i t. sent full.now i to t) to place) }
+    requires room { size_of (block_by (reduction full.now.roll.sig) full.now.roll
+        (λ i t. sent full.now i to t) to place) ≤ line.room }
+    ensures { result
+        ≡ block_of (block_by (reduction full.now.roll.sig) full.now.roll
+        (λ i t. sent full.now i to t) to place) }
 {
     let mut line = line;
     match full.roll.sig.op() {
@@ -110,7 +118,8 @@ fn lines_for(
 ) -> Result<Vec<Buffer>, NoMemory>
     requires whole { IsWhole full.now }
     requires rank { to < full.now.roll.shape.size }
-    ensures made { IfOk result (λ lines. lines.items ≡ map (λ size. contents elem_type [] size) (sizes full.now to)) }
+    ensures made { IfOk result
+        (λ lines. lines.items ≡ map (λ size. contents elem_type [] size) (sizes full.now to)) }
     ensures memory { IsErr result → 0 < places_of full.now.roll to }
 {
     let number = places(&full.roll, to);
@@ -121,8 +130,8 @@ fn lines_for(
     Ok(lines)
 }
 
-/// Room for exactly the blocks of a rank, none of them filled. Takes one piece of memory for each block that isn't empty, and two for the
-/// lists of them.
+/// Room for exactly the blocks of a rank, none of them filled. Takes one piece of memory for each
+/// block that isn't empty, and two for the lists of them.
 pub fn room(alloc: Global, full: &Full<Buffer>, rank: u32) -> Result<Room, NoMemory>
     requires whole { IsWhole full.now }
     requires rank { rank < full.now.roll.shape.size }
@@ -146,8 +155,8 @@ pub fn fill(full: &Full<Buffer>, rank: u32, room: Room) -> Delivery
     Delivery::from(fill_places(full, rank, lines, blocks))
 }
 
-/// What a rank is delivered: blocks of elements copied, or the one block of a reduction. `NoMemory` where memory for it was refused; a rank
-/// that gets no block needs none.
+/// What a rank is delivered: blocks of elements copied, or the one block of a reduction. `NoMemory`
+/// where memory for it was refused; a rank that gets no block needs none.
 pub fn deliver(alloc: Global, full: &Full<Buffer>, rank: u32) -> Result<Delivery, NoMemory>
     requires whole { IsWhole full.now }
     requires rank { rank < full.now.roll.shape.size }

@@ -18,7 +18,8 @@ pub struct Full<X> {
 }
 
 impl Full<Buffer> {
-    /// Whether its deliveries may be made: the roll is fit, and each rank gave as many elements as it stated, of the signature's type.
+    /// Whether its deliveries may be made: the roll is fit, and each rank gave as many elements as
+    /// it stated, of the signature's type.
     pub fn is_whole(&self) -> bool
         ensures whole { IsTrue result ↔ IsWhole self.now }
         ensures test { result ≡ is_whole self.now }
@@ -38,7 +39,9 @@ fn passes(full: &Full<Buffer>) -> bool
 
 // Whether a rank gave other elements than it stated.
 fn lacks_some_part(full: &Full<Buffer>) -> bool
-    ensures { result ≡ list_any (λ i. is_no_part full.now.roll i (slice_get full.now.parts i)) (below full.now.roll.shape.size) }
+    ensures { result
+        ≡ list_any (λ i. is_no_part full.now.roll i (slice_get full.now.parts i))
+        (below full.now.roll.shape.size) }
 {
     for rank in 0..full.roll.shape.size {
         if lacks_part_of(full, rank) {

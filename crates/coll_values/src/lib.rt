@@ -1,7 +1,8 @@
-//! What each member of a full instance is delivered. (MPI 4.1, chapter 6, and section 8.6 between neighbours.)
+//! What each member of a full instance is delivered. (MPI 4.1, chapter 6, and section 8.6 between
+//! neighbours.)
 //!
-//! Ranks, places and elements count from 0; a pair is one element and two numbers. `room` takes all the memory that a
-//! delivery needs, and `fill` none; `deliver` is both in one.
+//! Ranks, places and elements count from 0; a pair is one element and two numbers. `room` takes all
+//! the memory that a delivery needs, and `fill` none; `deliver` is both in one.
 #![tactic(auto)]
 
 mod delivery;

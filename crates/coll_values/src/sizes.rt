@@ -10,8 +10,8 @@ use super::source::{sent_size, source_of};
 use coll_routes::{gathered, is_missing};
 use mpi_elems::Buffer;
 
-// The size of the widest piece that a rank sends to the first place, in a kind that reduces: all that
-// send one send alike.
+// The size of the widest piece that a rank sends to the first place, in a kind that reduces: all
+// that send one send alike.
 fn widest(full: &Full<Buffer>, to: u32) -> usize
     requires whole { IsWhole full.now }
     requires rank { to < full.now.roll.shape.size }
@@ -47,7 +47,9 @@ fn copied_size(full: &Full<Buffer>, to: u32, place: u32) -> usize
 pub(crate) fn size_at(full: &Full<Buffer>, to: u32, place: u32) -> usize
     requires whole { IsWhole full.now }
     requires rank { to < full.now.roll.shape.size }
-    ensures { result ≡ size_of (block_by (reduction full.now.roll.sig) full.now.roll (λ i t. sent full.now i to t) to place) }
+    ensures { result
+        ≡ size_of (block_by (reduction full.now.roll.sig) full.now.roll
+        (λ i t. sent full.now i to t) to place) }
 {
     match full.roll.sig.op() {
         Some(_) => widest(full, to),

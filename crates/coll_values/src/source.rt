@@ -68,7 +68,8 @@ pub(crate) fn append_sent(line: &mut Buffer, full: &Full<Buffer>, from: u32, to:
     requires from { from < full.now.roll.shape.size }
     requires to { to < full.now.roll.shape.size }
     requires one_type { elem_type full.now.roll.sig ≡ Some line.old.elem_type }
-    requires room { length (elements line.old) + length (sent full.now from to place) ≤ line.old.room }
+    requires room { length (elements line.old) + length (sent full.now from to place)
+        ≤ line.old.room }
     requires fit { IsFit line.old }
     ensures elements { elements line.new ≡ elements line.old ++ sent full.now from to place }
     ensures fit { IsFit line.new }

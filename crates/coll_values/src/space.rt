@@ -6,8 +6,8 @@ use super::delivery::Block;
 use mpi_elems::{Buffer, ElemType};
 use std::marker::Model;
 
-/// Room for the blocks of a delivery. Contracts see the type, the sizes of the blocks that it has room for, in elements, and the blocks
-/// that are filled.
+/// Room for the blocks of a delivery. Contracts see the type, the sizes of the blocks that it has
+/// room for, in elements, and the blocks that are filled.
 #[derive(Drop)]
 pub struct Room {
     elem_type: ElemType,
@@ -23,9 +23,14 @@ impl Model for Room {
     ghost use Rattle.std.specs.Prelude.{map, vec_len, vec_capacity, ◌+◌, ◌≤◌};
     ghost use Rattle.coll_values.specs.Lines.{AreLines};
 
-    ghost view = { λ r. record { elem_type = r.elem_type; sizes = map (λ line. line.room) r.lines.items; filled = r.blocks.items } };
+    ghost view = { λ r. record {
+      elem_type = r.elem_type;
+      sizes = map (λ line. line.room) r.lines.items;
+      filled = r.blocks.items;
+    } };
 
-    ghost invariant = { λ r. AreLines r.elem_type r.lines.items × (vec_len r.blocks + vec_len r.lines ≤ vec_capacity r.blocks) };
+    ghost invariant = { λ r. AreLines r.elem_type r.lines.items
+        × (vec_len r.blocks + vec_len r.lines ≤ vec_capacity r.blocks) };
 }
 
 // The room of these lines and blocks.

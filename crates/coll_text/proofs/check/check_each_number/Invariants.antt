@@ -5,7 +5,8 @@ use Rattle.coll_text.specs.Checks.{checked}
 use Rattle.coll_text.proofs.check.check_each_number.Given as goal
 
 abbrev pub invariant-loop-part : goal.invariant-loop-part
-invariant-loop-part l = checked (each_of number_of l.parts) ≡ checked (each_of number_of (parts 44 l.word))
+invariant-loop-part l =
+    checked (each_of number_of l.parts) ≡ checked (each_of number_of (parts 44 l.word))
 
 abbrev pub decreases-loop-part : goal.decreases-loop-part
 decreases-loop-part l = length l.parts

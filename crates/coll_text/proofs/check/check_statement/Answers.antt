@@ -8,4 +8,6 @@ use Rattle.coll_text.proofs.check.check_statement.Goals as goal
 
 pub returns-clause-statement : goal.returns-clause-statement
 returns-clause-statement c =
-    subst (λ (said : Result (Option ElemType × List Word) LineFault). Takes (λ t. t) c.check_words.result c.check_words.new.words said) (sym (type_is_stated c.args.words.now)) c.check_words.ensures.words
+    subst (λ (said : Result (Option ElemType × List Word) LineFault).
+    Takes (λ t. t) c.check_words.result c.check_words.new.words said)
+    (sym (type_is_stated c.args.words.now)) c.check_words.ensures.words

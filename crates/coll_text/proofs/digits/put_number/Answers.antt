@@ -1,4 +1,5 @@
-use Rattle.std.proofs.Common.{◌≡◌, ◌+◌, ◌-◌, ◌<◌, ◌∙◌, ap, refl, length, arith, to_z-of_z, unsigned_abs}
+use Rattle.std.proofs.Common.{◌≡◌, ◌+◌, ◌-◌, ◌<◌, ◌∙◌, ap, refl, length, arith, to_z-of_z}
+use Rattle.std.proofs.Common.{unsigned_abs}
 use Rattle.std.proofs.lemmas.List.{drop-set}
 use Rattle.coll_text.proofs.BatchLemmas.{length_small, minus_first}
 use Rattle.coll_text.proofs.digits.put_number.Goals as goal
@@ -39,5 +40,12 @@ returns-clause-written c =
     let same = c.unsigned_abs.ensures.value ∙ ap unsigned_abs (to_z-of_z c.ranges.n) in
     let long = length_small c.unsigned_abs.result (omega (arith, same, c.requires.small)) in
     let e : w.result - 1 + 1 ≡ w.result = omega (arith, long, c.requires.room, w.ensures.start) in
-    let near : w.result - 1 < length w.new.buf = omega (arith, long, c.requires.room, c.requires.within, w.ensures.start, w.auto.buf) in
-    drop-set w.new.buf (w.result - 1) 45 near ∙ rw (e, w.ensures.written, same, ← minus_first c.args.n (rw (to_z-of_z c.ranges.n) at c.if-n-ge0.false)) refl
+    let near : w.result - 1 < length w.new.buf = omega
+    (arith, long, c.requires.room, c.requires.within, w.ensures.start, w.auto.buf) in
+    drop-set w.new.buf (w.result - 1) 45 near
+    ∙ rw (
+      e,
+      w.ensures.written,
+      same,
+      ← minus_first c.args.n (rw (to_z-of_z c.ranges.n) at c.if-n-ge0.false),
+    ) refl

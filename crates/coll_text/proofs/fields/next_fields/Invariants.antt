@@ -4,4 +4,5 @@ use Rattle.coll_text.specs.Fields.{fields_at}
 use Rattle.coll_text.proofs.fields.next_fields.Given as goal
 
 abbrev pub invariant-loop-form : goal.invariant-loop-form
-invariant-loop-form l = fields_at (drop l.form-index l.forms) l.fields l.words ≡ fields_at l.forms no_fields l.fn.words
+invariant-loop-form l =
+    fields_at (drop l.form-index l.forms) l.fields l.words ≡ fields_at l.forms no_fields l.fn.words

@@ -4,7 +4,8 @@ use Rattle.coll_text.proofs.EachLemmas.{with_front}
 use Rattle.coll_text.proofs.lists.each_flag.Given as goal
 
 abbrev pub invariant-loop-part : goal.invariant-loop-part
-invariant-loop-part l = with_front l.flags.items (each_of flag_of l.parts) ≡ each_of flag_of (parts 44 l.word)
+invariant-loop-part l =
+    with_front l.flags.items (each_of flag_of l.parts) ≡ each_of flag_of (parts 44 l.word)
 
 abbrev pub decreases-loop-part : goal.decreases-loop-part
 decreases-loop-part l = length l.parts

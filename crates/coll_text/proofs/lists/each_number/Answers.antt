@@ -8,12 +8,18 @@ use Rattle.coll_text.proofs.lists.each_number.Goals as goal
 pub returns-in_err-number_in : goal.returns-in_err-number_in
 returns-in_err-number_in c =
     let p = err_from_is_err_and c.from_residual.result c.from_residual.ensures.1 in
-    rw (p.1, p.2) (ends c.in_err-number_in.field-0.0 number_of c.loop-part.numbers.items c.in-Some.part.now c.loop-part.parts c.next.new.self (each_of number_of (parts 44 c.args.word.now)) c.in-Some.ensures c.in_err-number_in.ensures.number c.loop-part.invariant)
+    rw (p.1, p.2) (ends c.in_err-number_in.field-0.0 number_of c.loop-part.numbers.items
+    c.in-Some.part.now c.loop-part.parts c.next.new.self
+    (each_of number_of (parts 44 c.args.word.now)) c.in-Some.ensures
+    c.in_err-number_in.ensures.number c.loop-part.invariant)
 
 pub loop-part-preserved : goal.loop-part-preserved
 loop-part-preserved c =
     rw c.in_ok-push.ensures.items
-    (goes_on number_of c.loop-part.numbers.items c.in-Some.part.now c.loop-part.parts c.next.new.self c.in_ok-number_in.field-0 (each_of number_of (parts 44 c.args.word.now)) c.in-Some.ensures c.in_ok-number_in.ensures.number c.loop-part.invariant)
+    (goes_on number_of c.loop-part.numbers.items c.in-Some.part.now c.loop-part.parts
+    c.next.new.self c.in_ok-number_in.field-0 (each_of number_of (parts 44 c.args.word.now))
+    c.in-Some.ensures c.in_ok-number_in.ensures.number c.loop-part.invariant)
 
 pub returns : goal.returns
-returns c = rw c.from.ensures (is_done number_of c.loop-part.numbers.items c.loop-part.parts (each_of number_of (parts 44 c.args.word.now)) c.in_default.ensures.0 c.loop-part.invariant)
+returns c = rw c.from.ensures (is_done number_of c.loop-part.numbers.items c.loop-part.parts
+    (each_of number_of (parts 44 c.args.word.now)) c.in_default.ensures.0 c.loop-part.invariant)

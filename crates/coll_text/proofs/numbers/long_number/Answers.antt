@@ -4,4 +4,5 @@ use Rattle.coll_text.proofs.numbers.long_number.Goals as goal
 
 pub returns-then-next-from-clause-value : goal.returns-then-next-from-clause-value
 returns-then-next-from-clause-value c =
-    overflows c.args.most c.loop-byte.value c.loop-byte.byte-index c.args.word.now c.loop-byte-test.true c.loop-byte.invariant.rest (omega arith)
+    overflows c.args.most c.loop-byte.value c.loop-byte.byte-index c.args.word.now
+    c.loop-byte-test.true c.loop-byte.invariant.rest (omega arith)

@@ -5,4 +5,6 @@ use Rattle.coll_text.specs.Spaced.{behind_each}
 use Rattle.coll_text.proofs.spell.put_fields.Given as goal
 
 abbrev pub invariant-loop-form : goal.invariant-loop-form
-invariant-loop-form l = l.text.items ≡ l.fn.text.items ++ behind_each 32 (words_of (take l.form-index l.forms) (fields_of l.sig l.own))
+invariant-loop-form l = l.text.items
+    ≡ l.fn.text.items
+    ++ behind_each 32 (words_of (take l.form-index l.forms) (fields_of l.sig l.own))

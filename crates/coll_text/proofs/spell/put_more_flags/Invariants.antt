@@ -4,4 +4,5 @@ use Rattle.coll_text.specs.Spaced.{behind_comma}
 use Rattle.coll_text.proofs.spell.put_more_flags.Given as goal
 
 abbrev pub invariant-loop-flag : goal.invariant-loop-flag
-invariant-loop-flag l = l.text.items ≡ l.fn.text.items ++ behind_comma flag_word (take l.flag-index l.flags)
+invariant-loop-flag l =
+    l.text.items ≡ l.fn.text.items ++ behind_comma flag_word (take l.flag-index l.flags)

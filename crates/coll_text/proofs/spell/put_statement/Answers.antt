@@ -12,11 +12,16 @@ unfolding statement_words
 returns-clause-ok c =
     let k = kind c.args.sig.now in
     let fields = fields_of c.args.sig.now c.args.own.now in
-    let name : c.put.new.text.items ≡ c.args.text.now.items ++ kind_name k = c.in_ok-put.ensures.ok ∙ ap (λ t. c.args.text.now.items ++ t) (c.name.ensures ∙ ap kind_name c.kind-kind.ensures) in
+    let name : c.put.new.text.items ≡ c.args.text.now.items ++ kind_name k = c.in_ok-put.ensures.ok
+    ∙ ap (λ t. c.args.text.now.items ++ t) (c.name.ensures ∙ ap kind_name c.kind-kind.ensures)
+    in
     let fs : c.forms.result.now ≡ forms_of k = c.forms.ensures ∙ ap forms_of c.kind-kind.ensures in
     let h = rw fs at c.put_fields.ensures.ok in
-    put_behind c.put_fields.result c.args.text.now.items c.put.new.text.items c.put_fields.new.text.items (kind_name k) (behind_each 32 (words_of (forms_of k) fields)) (statement_text c.args.sig.now c.args.own.now)
+    put_behind c.put_fields.result c.args.text.now.items c.put.new.text.items
+    c.put_fields.new.text.items (kind_name k) (behind_each 32 (words_of (forms_of k) fields))
+    (statement_text c.args.sig.now c.args.own.now)
     h name (join_cons 32 (kind_name k) (words_of (forms_of k) fields))
 
 pub returns-clause-front : goal.returns-clause-front
-returns-clause-front c = front_behind c.args.text.now.items c.put.new.text.items c.put_fields.new.text.items c.name.result.now c.in_ok-put.ensures.ok c.put_fields.ensures.front
+returns-clause-front c = front_behind c.args.text.now.items c.put.new.text.items
+    c.put_fields.new.text.items c.name.result.now c.in_ok-put.ensures.ok c.put_fields.ensures.front

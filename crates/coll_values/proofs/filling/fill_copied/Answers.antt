@@ -6,7 +6,8 @@ use Rattle.coll_values.proofs.filling.fill_copied.Goals as goal
 pub append_sent-requires-clause-room : goal.append_sent-requires-clause-room
 append_sent-requires-clause-room c =
     let none = ap length (no_elements c.args.line.now c.requires.empty) in
-    let same = ap length (from_source c.args.full.now c.args.to c.args.place c.requires.copies c.in-Some.from (sym c.in-Some.ensures) c.if-from-full.true) in
+    let same = ap length (from_source c.args.full.now c.args.to c.args.place c.requires.copies
+    c.in-Some.from (sym c.in-Some.ensures) c.if-from-full.true) in
     let enough = c.requires.room in
     omega arith
 
@@ -15,13 +16,17 @@ append_sent-requires-clause-fit c = no_numbers c.args.line.now c.requires.empty
 
 pub returns-then-from-full : goal.returns-then-from-full
 returns-then-from-full c =
-    filled_by c.args.line.now _ _ _ c.requires.empty c.append_sent.ensures.elements c.append_sent.ensures.fit
-    (from_source c.args.full.now c.args.to c.args.place c.requires.copies c.in-Some.from (sym c.in-Some.ensures) c.if-from-full.true)
+    filled_by c.args.line.now _ _ _ c.requires.empty c.append_sent.ensures.elements
+    c.append_sent.ensures.fit
+    (from_source c.args.full.now c.args.to c.args.place c.requires.copies c.in-Some.from
+    (sym c.in-Some.ensures) c.if-from-full.true)
 
 pub returns-else-from-full : goal.returns-else-from-full
 returns-else-from-full c =
     left_empty c.args.line.now _ c.requires.empty
-    (from_outside c.args.full.now c.args.to c.args.place c.requires.copies c.in-Some.from (sym c.in-Some.ensures) c.if-from-full.false)
+    (from_outside c.args.full.now c.args.to c.args.place c.requires.copies c.in-Some.from
+    (sym c.in-Some.ensures) c.if-from-full.false)
 
 pub returns-in-None : goal.returns-in-None
-returns-in-None c = left_empty c.args.line.now _ c.requires.empty (from_nobody c.args.full.now c.args.to c.args.place c.requires.copies (sym c.in-None.ensures))
+returns-in-None c = left_empty c.args.line.now _ c.requires.empty
+    (from_nobody c.args.full.now c.args.to c.args.place c.requires.copies (sym c.in-None.ensures))

@@ -7,6 +7,9 @@ use Rattle.coll_values.proofs.filling.fill_place.Goals as goal
 
 pub fill_reduced-requires-clause-room : goal.fill_reduced-requires-clause-room
 fill_reduced-requires-clause-room c =
-    let wide = ap (λ (o : Option Op). size_of (block_by o c.args.full.now.roll (λ i t. sent c.args.full.now i c.args.to t) c.args.to c.args.place)) (sym c.in-Some.ensures) ∙ length_reduced c.in-Some.op c.args.full.now.roll (λ i t. sent c.args.full.now i c.args.to t) in
+    let wide = ap (λ (o : Option Op). size_of (block_by o c.args.full.now.roll
+    (λ i t. sent c.args.full.now i c.args.to t) c.args.to c.args.place))
+    (sym c.in-Some.ensures) ∙ length_reduced c.in-Some.op c.args.full.now.roll
+    (λ i t. sent c.args.full.now i c.args.to t) in
     let enough = c.requires.room in
     omega arith

@@ -8,6 +8,9 @@ abbrev pub invariant-loop-line : goal.invariant-loop-line
 invariant-loop-line l = record {
   place : l.place ≡ length l.yielded;
   rest : l.yielded ++ l.line-iterator.rest.items ≡ l.fn.lines.items;
-  blocks : l.blocks.items ≡ map (λ t. block_of (block_by (reduction l.full.roll.sig) l.full.roll (λ i t. sent l.full i l.to t) l.to t)) (below l.place);
+  blocks : l.blocks.items
+      ≡ map (λ t. block_of
+      (block_by (reduction l.full.roll.sig) l.full.roll (λ i t. sent l.full i l.to t) l.to t))
+      (below l.place);
   space : vec_capacity l.blocks ≡ vec_capacity l.initial.blocks;
 }

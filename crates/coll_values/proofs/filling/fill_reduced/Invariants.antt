@@ -8,7 +8,8 @@ use Rattle.coll_values.proofs.filling.fill_reduced.Given as goal
 abbrev pub invariant-loop-from : goal.invariant-loop-from
 invariant-loop-from l = record {
   kind : l.line.elem_type ≡ l.initial.line.elem_type;
-  folds : IsFold (combine l.op l.initial.line.elem_type) l.from (λ i. sent l.full i l.to 0) (elements l.line);
+  folds : IsFold (combine l.op l.initial.line.elem_type) l.from (λ i. sent l.full i l.to 0)
+      (elements l.line);
   room : l.initial.line.room ≤ l.line.room;
   fit : IsFit l.line;
 }

@@ -8,6 +8,8 @@ use Rattle.coll_values.proofs.filling.lines_for.Given as goal
 
 abbrev pub invariant-loop-place : goal.invariant-loop-place
 invariant-loop-place l = record {
-  lines : l.lines.items ≡ map (λ t. contents l.elem_type [] (size_of (block_by (reduction l.full.roll.sig) l.full.roll (λ i t. sent l.full i l.to t) l.to t))) (below l.place);
+  lines : l.lines.items
+      ≡ map (λ t. contents l.elem_type [] (size_of (block_by (reduction l.full.roll.sig) l.full.roll
+      (λ i t. sent l.full i l.to t) l.to t))) (below l.place);
   room : l.number ≤ vec_capacity l.lines;
 }

@@ -8,5 +8,8 @@ use Rattle.coll_values.proofs.sizes.size_at.Goals as goal
 pub returns-in-Some : goal.returns-in-Some
 returns-in-Some c =
     c.widest.ensures
-    ∙ (sym (length_reduced c.in-Some.field-0 c.args.full.now.roll (λ i t. sent c.args.full.now i c.args.to t))
-    ∙ ap (λ (o : Option Op). size_of (block_by o c.args.full.now.roll (λ i t. sent c.args.full.now i c.args.to t) c.args.to c.args.place)) c.in-Some.ensures)
+    ∙ (sym (length_reduced c.in-Some.field-0 c.args.full.now.roll
+    (λ i t. sent c.args.full.now i c.args.to t))
+    ∙ ap (λ (o : Option Op). size_of (block_by o c.args.full.now.roll
+    (λ i t. sent c.args.full.now i c.args.to t) c.args.to c.args.place))
+    c.in-Some.ensures)

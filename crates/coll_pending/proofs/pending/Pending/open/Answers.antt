@@ -2,7 +2,9 @@ use Rattle.std.proofs.Common.{◌≡◌, ◌∙◌, ◌<◌, sym, ap, subst, len
 use Rattle.coll_pending.specs.Instances.{Communicator}
 use Rattle.coll_pending.specs.Queues.{queue_at, count_in, slot_of}
 use Rattle.coll_pending.specs.Waiting.{State, PendingView, view_of_pending, HasRoom}
-use Rattle.coll_pending.proofs.PendingLemmas.{none_of, room_opens, waits_opened, waits_meets, new_opened, new_meets, lists_fit, slot_for_some, next_opens, opening, opens_as}
+use Rattle.coll_pending.proofs.PendingLemmas.{none_of, room_opens, waits_opened, waits_meets}
+use Rattle.coll_pending.proofs.PendingLemmas.{new_opened, new_meets, lists_fit, slot_for_some}
+use Rattle.coll_pending.proofs.PendingLemmas.{next_opens, opening, opens_as}
 use Rattle.coll_pending.proofs.pending.Pending.open.Goals as goal
 
 pub returns-then-meets-clause-opened : goal.returns-then-meets-clause-opened
