@@ -1,5 +1,6 @@
 -- A state whose posts have no parts, for the check of a book.
-use Rattle.std.proofs.Common.{◌≡◌, ℕ, suc, ◌<◌, List, [], ◌∷◌, length, refl, sym, ap, ◌∙◌, subst, arith, not, Some, None}
+use Rattle.std.proofs.Common.{◌≡◌, ℕ, suc, ◌<◌, List, [], ◌∷◌, length, refl, sym, ap, ◌∙◌, subst}
+use Rattle.std.proofs.Common.{arith, not, Some, None}
 use Rattle.std.specs.Option.{option_map}
 use Rattle.wall_policy.specs.Policy.{ChineseWall}
 use Rattle.wall_rules.specs.Histories.{has}
@@ -7,7 +8,8 @@ use Rattle.coll_routes.specs.declared.statement.Stated.{Stated}
 use Rattle.coll_routes.specs.Faults.{stated_type}
 use Rattle.wall_verdict.specs.Star.{star}
 use Rattle.run_model.specs.declared.entry.Entry.TheVariants.{Settled as settled}
-use Rattle.run_model.specs.Posts.{Post, comms, filled, histories, outcome, outcome_of, labelled, place}
+use Rattle.run_model.specs.Posts.{Post, comms, filled, histories, outcome, outcome_of, labelled}
+use Rattle.run_model.specs.Posts.{place}
 use Rattle.run_model.specs.Refusals.{fault}
 use Rattle.run_model.specs.Books.{IsCounted, outcome_entry}
 use Rattle.run_state.specs.declared.entered.Entered.{Entered}
@@ -26,31 +28,49 @@ bare_length : (posts : List Post) → length (bare posts) ≡ length posts
 bare_length [] = refl
 bare_length (x ∷ posts) = ap suc (bare_length posts)
 
-module _ (wall : ChineseWall) (seen : PostStateView (Unit {0})) (past : List Post) (post_state : IsPostState seen) (stands : StandsForPosts wall seen (bare past)) (p c : ℕ) (s stated : Stated) (same : s ≡ stated) where
+module _ (wall : ChineseWall) (seen : PostStateView (Unit {0})) (past : List Post)
+    (post_state : IsPostState seen) (stands : StandsForPosts wall seen (bare past)) (p c : ℕ)
+    (s stated : Stated) (same : s ≡ stated) where
   -- a post that counts meets no refusal by what is seen
-  pub accepted_is : IsCounted wall (post_of p c stated) past → fault_of wall seen p c s.sig s.own (stated_type s.sig) s.given ≡ None
+  pub accepted_is : IsCounted wall (post_of p c stated) past →
+      fault_of wall seen p c s.sig s.own (stated_type s.sig) s.given ≡ None
   accepted_is taken =
       fault_is wall seen (bare past) stands post_state p c s.sig s.own (stated_type s.sig) s.given
-      ∙ ((λ i. fault wall (bare_posts past i) p c (same i).sig (same i).own (stated_type (same i).sig) (same i).given) ∙ taken.accepted)
+      ∙ ((λ i. fault wall (bare_posts past i) p c (same i).sig (same i).own
+      (stated_type (same i).sig) (same i).given) ∙ taken.accepted)
 
   -- and has the right word
-  pub word_is : IsCounted wall (post_of p c stated) past → s.barred ≡ not (star (has seen.accesses) p s.label)
+  pub word_is : IsCounted wall (post_of p c stated) past →
+      s.barred ≡ not (star (has seen.accesses) p s.label)
   word_is taken =
-      let held : histories wall past ≡ has seen.accesses = ap (λ posts. histories wall posts) (sym (bare_posts past)) ∙ sym stands.histories in
-      ap (λ (q : Stated). q.barred) same ∙ (taken.word ∙ (λ i. not (star (held i) p (sym same i).label)))
+      let held : histories wall past ≡ has seen.accesses = ap (λ posts. histories wall posts)
+      (sym (bare_posts past)) ∙ sym stands.histories in
+      ap (λ (q : Stated). q.barred) same
+      ∙ (taken.word ∙ (λ i. not (star (held i) p (sym same i).label)))
 
   pub few_is : length past < 4611686018427387904 → place_of seen p c < 4611686018427387904
-  few_is few = (let low = place_is_small wall seen (bare past) stands post_state p c in let n = bare_length past in omega (arith, low, n, few))
+  few_is few = (let low = place_is_small wall seen (bare past) stands post_state p c in
+      let n = bare_length past in omega (arith, low, n, few))
 
 -- what is told of a post is its settlement
-told_by : (wall : ChineseWall) (x : Post) (past posts : List Post) (e : Entered (Unit {0})) → posts_of (bare past) ≡ posts → Tells wall (record { post = x; part = tt }) (bare past) e → option_map entry_of (due_after x.comm e) ≡ outcome_entry x posts (outcome wall x posts)
+told_by : (wall : ChineseWall) (x : Post) (past posts : List Post) (e : Entered (Unit {0})) →
+    posts_of (bare past) ≡ posts → Tells wall (record { post = x; part = tt }) (bare past) e →
+    option_map entry_of (due_after x.comm e) ≡ outcome_entry x posts (outcome wall x posts)
 told_by wall x past posts (Waiting k) same told =
-    (let none : filled (comms wall posts) x posts ≡ None = (λ i. filled (comms wall (sym same i)) x (sym same i)) ∙ told.1 in
-    sym (ap (λ o. outcome_entry x posts (option_map (outcome_of wall (labelled (histories wall posts) x) (length (comms wall posts))) o)) none))
+    (let none : filled (comms wall posts) x posts ≡ None =
+    (λ i. filled (comms wall (sym same i)) x (sym same i)) ∙ told.1 in
+    sym (ap (λ o. outcome_entry x posts (option_map (outcome_of wall
+    (labelled (histories wall posts) x) (length (comms wall posts))) o)) none))
 told_by wall x past posts (Settled full k o) same told =
     (let at : k ≡ place x posts = told.0 ∙ ap (λ ps. place x ps) same in
     let came : outcome wall x posts ≡ Some o = ap (λ ps. outcome wall x ps) (sym same) ∙ told.3 in
     ap (λ n. Some (settled x.comm n o)) at ∙ sym (ap (λ v. outcome_entry x posts v) came))
 
-pub told_is : (wall : ChineseWall) (p c : ℕ) (s stated : Stated) (past : List Post) (e : Entered (Unit {0})) → s ≡ stated → Tells wall (record { post = post_of p c s; part = tt }) (bare past) e → option_map entry_of (due_after c e) ≡ outcome_entry (post_of p c stated) past (outcome wall (post_of p c stated) past)
-told_is wall p c s stated past e same told = told_by wall (post_of p c stated) past past e (bare_posts past) (subst (λ q. Tells wall (record { post = post_of p c q; part = tt }) (bare past) e) same told)
+pub told_is : (wall : ChineseWall) (p c : ℕ) (s stated : Stated) (past : List Post)
+    (e : Entered (Unit {0})) → s ≡ stated →
+    Tells wall (record { post = post_of p c s; part = tt }) (bare past) e →
+    option_map entry_of (due_after c e)
+    ≡ outcome_entry (post_of p c stated) past (outcome wall (post_of p c stated) past)
+told_is wall p c s stated past e same told = told_by wall (post_of p c stated) past past e
+    (bare_posts past)
+    (subst (λ q. Tells wall (record { post = post_of p c q; part = tt }) (bare past) e) same told)

@@ -16,6 +16,11 @@ formed : (sig : Signature) (own : Own) → is_own_of (kind sig) own ≡ true →
 unfolding is_formed
 formed sig own h = h
 
-pub post_form : (p c : ℕ) (sig : Signature) (own : Own) (given : ℕ) (label : Option Label) (barred : Bool) → is_own_of (kind sig) own ≡ true → is_labelled_as given label ≡ true
-    → HasForm (Posted p c (record { sig = sig; own = own; given = given; label = label; barred = barred }))
-post_form p c sig own given label barred h l = and_from (is_formed sig own) (is_labelled_as given label) (formed sig own h) l
+pub post_form :
+    (p c : ℕ) (sig : Signature) (own : Own) (given : ℕ) (label : Option Label) (barred : Bool) →
+    is_own_of (kind sig) own ≡ true → is_labelled_as given label ≡ true
+    →
+    HasForm (Posted p c
+    (record { sig = sig; own = own; given = given; label = label; barred = barred }))
+post_form p c sig own given label barred h l =
+    and_from (is_formed sig own) (is_labelled_as given label) (formed sig own h) l

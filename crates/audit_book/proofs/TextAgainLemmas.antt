@@ -1,5 +1,7 @@
 -- The text of a book is read again, and each proper front of it is cut.
-use Rattle.std.proofs.Common.{◌≡◌, ℕ, zero, suc, ◌+◌, ◌<◌, ◌≤◌, eqb, ltb, true, List, [], ◌∷◌, ◌++◌, length, take, codes, Result, Ok, Err, inl, inr, ◌⊎◌, refl, sym, ap, ◌∙◌, append_assoc, arith, eq-eqb}
+use Rattle.std.proofs.Common.{◌≡◌, ℕ, zero, suc, ◌+◌, ◌<◌, ◌≤◌, eqb, ltb, true, List, [], ◌∷◌, ◌++◌}
+use Rattle.std.proofs.Common.{length, take, codes, Result, Ok, Err, inl, inr, ◌⊎◌, refl, sym, ap}
+use Rattle.std.proofs.Common.{◌∙◌, append_assoc, arith, eq-eqb}
 use Rattle.std.specs.List.{AllByRecursion, join_with_byte}
 use Rattle.std.specs.Str.{bytes_eq}
 use Rattle.std.proofs.lemmas.Bool.{and_parts, and_from, cond-true}
@@ -18,7 +20,8 @@ use Rattle.audit_book.specs.Text.{entry_words, end_words, header_line, book_text
 use Rattle.audit_book.specs.Reading.{with_front, by_line, ended_at, entries_in, lines_in, book_in}
 use Rattle.audit_book.specs.Laws.{IsSpelled}
 use Rattle.audit_book.proofs.BookLemmas.{ended_lines, all_lines, text_is}
-use Rattle.audit_book.proofs.AgainLemmas.{is_line, line_lacks, header_whole, entry_line_again, end_line_again, entry_line_whole, end_line_whole}
+use Rattle.audit_book.proofs.AgainLemmas.{is_line, line_lacks, header_whole, entry_line_again}
+use Rattle.audit_book.proofs.AgainLemmas.{end_line_again, entry_line_whole, end_line_whole}
 
 abbrev AreLines : List Word → Type 0
 AreLines ls = AllByRecursion (λ l. is_line l ≡ true) ls
@@ -43,11 +46,15 @@ record Front (ls : List Word) (front : List ℕ) : Type 0 where
 abbrev Later : Word → List ℕ → List ℕ → List ℕ → Type 0
 Later l more front rest = (after : List ℕ) × (front ≡ l ++ (10 ∷ after)) × (after ++ rest ≡ more)
 
-longer : (c b : ℕ) (l : Word) (bs more rest : List ℕ) → ltb 10 c ≡ true → b ≡ c → (is_line bs ≡ true) ⊎ Later l more bs rest → (is_line (b ∷ bs) ≡ true) ⊎ Later (c ∷ l) more (b ∷ bs) rest
-longer c b l bs more rest far same (inl h) = inl (and_from (ltb 10 b) (is_line bs) (ap (ltb 10) same ∙ far) h)
+longer : (c b : ℕ) (l : Word) (bs more rest : List ℕ) → ltb 10 c ≡ true → b ≡ c →
+    (is_line bs ≡ true) ⊎ Later l more bs rest →
+    (is_line (b ∷ bs) ≡ true) ⊎ Later (c ∷ l) more (b ∷ bs) rest
+longer c b l bs more rest far same (inl h) =
+    inl (and_from (ltb 10 b) (is_line bs) (ap (ltb 10) same ∙ far) h)
 longer c b l bs more rest far same (inr r) = inr (r.0, (λ i. same i ∷ r.1 i), r.2)
 
-within : (l : Word) → is_line l ≡ true → (more front rest : List ℕ) → front ++ rest ≡ l ++ (10 ∷ more) → (is_line front ≡ true) ⊎ Later l more front rest
+within : (l : Word) → is_line l ≡ true → (more front rest : List ℕ) →
+    front ++ rest ≡ l ++ (10 ∷ more) → (is_line front ≡ true) ⊎ Later l more front rest
 within l h more [] rest e = inl refl
 within [] h more (b ∷ bs) rest e =
     let same : b ≡ 10 = cc in
@@ -60,9 +67,15 @@ within (c ∷ l) h more (b ∷ bs) rest e =
     longer c b l bs more rest (p.0) same (within l p.1 more bs rest tail)
 
 here : (l : Word) (ls : List Word) (front : List ℕ) → is_line front ≡ true → Front (l ∷ ls) front
-here l ls front h = record { finished = 0; last = front; some = omega arith; lines = slice_split_none (λ b. eqb b 10) front (line_lacks front h) }
+here l ls front h = record {
+  finished = 0;
+  last = front;
+  some = omega arith;
+  lines = slice_split_none (λ b. eqb b 10) front (line_lacks front h);
+}
 
-front_step : {rest : List ℕ} (l : Word) (ls : List Word) → is_line l ≡ true → (front : List ℕ) → ((after : List ℕ) → after ++ rest ≡ ended_lines ls → Front ls after)
+front_step : {rest : List ℕ} (l : Word) (ls : List Word) → is_line l ≡ true → (front : List ℕ) →
+    ((after : List ℕ) → after ++ rest ≡ ended_lines ls → Front ls after)
     → (is_line front ≡ true) ⊎ Later l (ended_lines ls) front rest → Front (l ∷ ls) front
 front_step l ls h front behind (inl f) = here l ls front f
 front_step l ls h front behind (inr r) =
@@ -71,66 +84,97 @@ front_step l ls h front behind (inr r) =
       finished = suc f.finished;
       last = f.last;
       some = omega (arith, f.some);
-      lines = ap (parts 10) r.1 ∙ slice_split_at (λ b. eqb b 10) l 10 r.0 (line_lacks l h) refl ∙ ap (λ ws. l ∷ ws) f.lines;
+      lines = ap (parts 10) r.1 ∙ slice_split_at (λ b. eqb b 10) l 10 r.0 (line_lacks l h) refl
+          ∙ ap (λ ws. l ∷ ws) f.lines;
     }
 
-front_parts : (ls : List Word) → AreLines ls → (front rest : List ℕ) → front ++ rest ≡ ended_lines ls → 0 < length rest → Front ls front
-front_parts [] h front rest e some = absurd (let n = length-append front rest in let m : length (front ++ rest) ≡ 0 = ap length e in omega (arith, n, m))
+front_parts : (ls : List Word) → AreLines ls → (front rest : List ℕ) →
+    front ++ rest ≡ ended_lines ls → 0 < length rest → Front ls front
+front_parts [] h front rest e some = absurd (let n = length-append front rest in
+    let m : length (front ++ rest) ≡ 0 = ap length e in omega (arith, n, m))
 front_parts (l ∷ ls) h front rest e some =
-    front_step l ls h.0 front (λ after g. front_parts ls h.1 after rest g some) (within l h.0 (ended_lines ls) front rest (e ∙ append_assoc l (10 ∷ []) (ended_lines ls)))
+    front_step l ls h.0 front (λ after g. front_parts ls h.1 after rest g some)
+    (within l h.0 (ended_lines ls) front rest (e ∙ append_assoc l (10 ∷ []) (ended_lines ls)))
 
 -- one entry more
-pub step_again : (wall : ChineseWall) (k : ℕ) (line : Word) (ls : List Word) (e : Entry) → 0 < length ls → line_at wall line ≡ Ok (Said e) → entries_in wall k (line ∷ ls) ≡ with_front (e ∷ []) (entries_in wall (k + 1) ls)
+pub step_again : (wall : ChineseWall) (k : ℕ) (line : Word) (ls : List Word) (e : Entry) →
+    0 < length ls → line_at wall line ≡ Ok (Said e) →
+    entries_in wall k (line ∷ ls) ≡ with_front (e ∷ []) (entries_in wall (k + 1) ls)
 unfolding entries_in
 step_again wall k line [] e some said = absurd (omega arith)
-step_again wall k line (next ∷ more) e some said = ap (λ (r : Result Line _). by_line k r (entries_in wall (k + 1) (next ∷ more)) (ended_at (k + 3) (next ∷ more))) said
+step_again wall k line (next ∷ more) e some said = ap (λ (r : Result Line _).
+    by_line k r (entries_in wall (k + 1) (next ∷ more)) (ended_at (k + 3) (next ∷ more))) said
 
 module _ (wall : ChineseWall) (policy : IsPolicy wall) where
-  lines_whole : (es : List Entry) (n : ℕ) → AllByRecursion (IsSpelled wall) es → n ≤ 18446744073709551615 → AreLines (all_lines wall es n)
+  lines_whole : (es : List Entry) (n : ℕ) → AllByRecursion (IsSpelled wall) es →
+      n ≤ 18446744073709551615 → AreLines (all_lines wall es n)
   lines_whole [] n h small = (end_line_whole wall policy n small, tt)
   lines_whole (e ∷ es) n h small = (entry_line_whole wall policy e h.0, lines_whole es n h.1 small)
 
-  end_step : (k n : ℕ) → n ≤ 18446744073709551615 → n ≡ k → entries_in wall k (join_with_byte 32 (end_words n) ∷ [] ∷ []) ≡ Ok []
+  end_step : (k n : ℕ) → n ≤ 18446744073709551615 → n ≡ k →
+      entries_in wall k (join_with_byte 32 (end_words n) ∷ [] ∷ []) ≡ Ok []
   unfolding entries_in
   end_step k n small same = rw (end_line_again wall policy n small, eq-eqb n k same) refl
 
-  entries_again : (k n : ℕ) (es : List Entry) → AllByRecursion (IsSpelled wall) es → n ≤ 18446744073709551615 → n ≡ k + length es → entries_in wall k (all_lines wall es n ++ ([] ∷ [])) ≡ Ok es
+  entries_again : (k n : ℕ) (es : List Entry) → AllByRecursion (IsSpelled wall) es →
+      n ≤ 18446744073709551615 → n ≡ k + length es →
+      entries_in wall k (all_lines wall es n ++ ([] ∷ [])) ≡ Ok es
   entries_again k n [] h small sum = end_step k n small (omega (arith, sum))
   entries_again k n (e ∷ es) h small sum =
-      step_again wall k (join_with_byte 32 (entry_words wall e)) (all_lines wall es n ++ ([] ∷ [])) e (some_behind (all_lines wall es n) []) (entry_line_again wall policy e h.0)
+      step_again wall k (join_with_byte 32 (entry_words wall e)) (all_lines wall es n ++ ([] ∷ []))
+      e (some_behind (all_lines wall es n) []) (entry_line_again wall policy e h.0)
       ∙ ap (with_front (e ∷ [])) (entries_again (k + 1) n es h.1 small (omega (arith, sum)))
 
-  header_again : (ls : List Word) → 0 < length ls → lines_in wall (header_line wall.version ∷ ls) ≡ entries_in wall 0 ls
+  header_again : (ls : List Word) → 0 < length ls →
+      lines_in wall (header_line wall.version ∷ ls) ≡ entries_in wall 0 ls
   header_again [] some = absurd (omega arith)
-  header_again (next ∷ more) some = cond-true (bytes_eq (header_line wall.version) (header_line wall.version)) (entries_in wall 0 (next ∷ more)) (Err (BadLine 1)) ((bytes_eq-Decides (header_line wall.version) (header_line wall.version)).1 refl)
+  header_again (next ∷ more) some = cond-true
+      (bytes_eq (header_line wall.version) (header_line wall.version))
+      (entries_in wall 0 (next ∷ more)) (Err (BadLine 1))
+      ((bytes_eq-Decides (header_line wall.version) (header_line wall.version)).1 refl)
 
-  pub book_again : (es : List Entry) → AllByRecursion (IsSpelled wall) es → length es ≤ 18446744073709551615 → book_in wall (book_text wall es) ≡ Ok es
+  pub book_again : (es : List Entry) → AllByRecursion (IsSpelled wall) es →
+      length es ≤ 18446744073709551615 → book_in wall (book_text wall es) ≡ Ok es
   unfolding book_in
   book_again es h small =
       let n = length es in
       ap (λ (t : List ℕ). lines_in wall (parts 10 t)) (sym (text_is wall es))
-      ∙ ap (lines_in wall) (parts_ended (header_line wall.version ∷ all_lines wall es n) (header_whole wall.version, lines_whole es n h small))
+      ∙ ap (lines_in wall) (parts_ended (header_line wall.version ∷ all_lines wall es n)
+      (header_whole wall.version, lines_whole es n h small))
       ∙ header_again (all_lines wall es n ++ ([] ∷ [])) (some_behind (all_lines wall es n) [])
       ∙ entries_again 0 n es h small (omega arith)
 
   -- ---- fronts
 
-  front_cut : (k n j : ℕ) (es : List Entry) (last : Word) → AllByRecursion (IsSpelled wall) es → j < length (all_lines wall es n) → entries_in wall k (take j (all_lines wall es n) ++ (last ∷ [])) ≡ Err Cut
+  front_cut : (k n j : ℕ) (es : List Entry) (last : Word) → AllByRecursion (IsSpelled wall) es →
+      j < length (all_lines wall es n) →
+      entries_in wall k (take j (all_lines wall es n) ++ (last ∷ [])) ≡ Err Cut
   unfolding entries_in
   front_cut k n zero es last h lt = refl
   front_cut k n (suc j) [] last h lt = absurd (omega arith)
   front_cut k n (suc j) (e ∷ es) last h lt =
-      step_again wall k (join_with_byte 32 (entry_words wall e)) (take j (all_lines wall es n) ++ (last ∷ [])) e (some_behind (take j (all_lines wall es n)) last) (entry_line_again wall policy e h.0)
+      step_again wall k (join_with_byte 32 (entry_words wall e))
+      (take j (all_lines wall es n) ++ (last ∷ [])) e
+      (some_behind (take j (all_lines wall es n)) last) (entry_line_again wall policy e h.0)
       ∙ ap (with_front (e ∷ [])) (front_cut (k + 1) n j es last h.1 (omega arith))
 
-  lines_cut : (n j : ℕ) (es : List Entry) (last : Word) → AllByRecursion (IsSpelled wall) es → j < length (header_line wall.version ∷ all_lines wall es n) → lines_in wall (take j (header_line wall.version ∷ all_lines wall es n) ++ (last ∷ [])) ≡ Err Cut
+  lines_cut : (n j : ℕ) (es : List Entry) (last : Word) → AllByRecursion (IsSpelled wall) es →
+      j < length (header_line wall.version ∷ all_lines wall es n) →
+      lines_in wall (take j (header_line wall.version ∷ all_lines wall es n) ++ (last ∷ []))
+      ≡ Err Cut
   lines_cut n zero es last h lt = refl
   lines_cut n (suc j) es last h lt =
-      header_again (take j (all_lines wall es n) ++ (last ∷ [])) (some_behind (take j (all_lines wall es n)) last) ∙ front_cut 0 n j es last h (omega arith)
+      header_again (take j (all_lines wall es n) ++ (last ∷ []))
+      (some_behind (take j (all_lines wall es n)) last)
+      ∙ front_cut 0 n j es last h (omega arith)
 
-  pub book_cut : (es : List Entry) (front rest : List ℕ) → AllByRecursion (IsSpelled wall) es → length es ≤ 18446744073709551615 → front ++ rest ≡ book_text wall es → 0 < length rest → book_in wall front ≡ Err Cut
+  pub book_cut : (es : List Entry) (front rest : List ℕ) → AllByRecursion (IsSpelled wall) es →
+      length es ≤ 18446744073709551615 → front ++ rest ≡ book_text wall es → 0 < length rest →
+      book_in wall front ≡ Err Cut
   unfolding book_in
   book_cut es front rest h small e some =
       let n = length es in
-      let f = front_parts (header_line wall.version ∷ all_lines wall es n) (header_whole wall.version, lines_whole es n h small) front rest (e ∙ sym (text_is wall es)) some in
+      let f = front_parts (header_line wall.version ∷ all_lines wall es n)
+      (header_whole wall.version, lines_whole es n h small) front rest
+      (e ∙ sym (text_is wall es)) some in
       ap (lines_in wall) f.lines ∙ lines_cut n f.finished es f.last h f.some

@@ -10,7 +10,8 @@ use Rattle.run_model.specs.Posts.{Post, outcome}
 use Rattle.run_model.specs.Contributions.{Contribution}
 use Rattle.run_model.specs.Books.{book, posts_in, outcome_entry, IsCounted, AreCounted, IsFirstBad}
 use Rattle.run_state.specs.declared.entered.Entered.{Entered}
-use Rattle.run_state.specs.declared.entered.Entered.TheVariants.{Waiting as waits, Settled as settles}
+use Rattle.run_state.specs.declared.entered.Entered.TheVariants.{Waiting as waits}
+use Rattle.run_state.specs.declared.entered.Entered.TheVariants.{Settled as settles}
 use Rattle.run_state.specs.Views.{PostStateValue, view_of}
 use Rattle.run_state.specs.Stands.{StandsForPosts}
 use Rattle.audit_book.specs.declared.due.Due.{Due}
@@ -40,7 +41,8 @@ due_after c (settles full k o) = Some (record { comm = c; k = k; outcome = o })
 
 -- it stands for some posts, fewer than 2^62, and the post counts after each list of posts that it
 -- stands for
-pub record MayEnter (wall : ChineseWall) (post_state : PostStateValue (Unit {0})) (x : Post) : Type 0 where
+pub record MayEnter (wall : ChineseWall) (post_state : PostStateValue (Unit {0})) (x : Post)
+    : Type 0 where
   pub past : List Post
   pub stood : Stands wall post_state past
   pub few : length past < 2 ^ 62
@@ -48,12 +50,15 @@ pub record MayEnter (wall : ChineseWall) (post_state : PostStateValue (Unit {0})
 
 -- it now stands for the posts with this one, and the outcome of the instance that the post fills is
 -- due, if it fills one
-abbrev pub HasEntered : ChineseWall → (old new : PostStateValue (Unit {0})) → Post → Option Due → Type 0
+abbrev pub HasEntered : ChineseWall → (old new : PostStateValue (Unit {0})) → Post → Option Due →
+    Type 0
 HasEntered wall old new x due = (past : List Post) → Stands wall old past →
-    Stands wall new (x ∷ past) × (option_map entry_of due ≡ outcome_entry x past (outcome wall x past))
+    Stands wall new (x ∷ past)
+    × (option_map entry_of due ≡ outcome_entry x past (outcome wall x past))
 
 -- and the post counts
-abbrev pub HasCounted : ChineseWall → (old new : PostStateValue (Unit {0})) → Post → Option Due → Type 0
+abbrev pub HasCounted : ChineseWall → (old new : PostStateValue (Unit {0})) → Post → Option Due →
+    Type 0
 HasCounted wall old new x due = (past : List Post) → Stands wall old past →
     IsCounted wall x past × Stands wall new (x ∷ past)
     × (option_map entry_of due ≡ outcome_entry x past (outcome wall x past))
@@ -68,7 +73,8 @@ pub record IsRight (wall : ChineseWall) (post_state : PostStateValue (Unit {0}))
 
 -- so many entries are right
 abbrev pub IsRightFor : ChineseWall → PostStateValue (Unit {0}) → Option Due → Type 0
-IsRightFor wall post_state due = (entries : List Entry) × (length entries < 2 ^ 62) × IsRight wall post_state entries due
+IsRightFor wall post_state due =
+    (entries : List Entry) × (length entries < 2 ^ 62) × IsRight wall post_state entries due
 
 -- what a fault says of a book; out of memory says nothing
 abbrev pub IsFaultOf : ChineseWall → List Entry → BookFault → Type 0

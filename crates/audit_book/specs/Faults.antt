@@ -1,5 +1,6 @@
 -- Where and why a text is no book. Line 1 is the header. (Own format.)
-use Rattle.std.specs.Prelude.{◌≡◌, ◌≢◌, ◌⊎◌, ℕ, ◌+◌, ◌<◌, ◌==◌, false, List, [], ◌∷◌, ◌++◌, length, All, Ok}
+use Rattle.std.specs.Prelude.{◌≡◌, ◌≢◌, ◌⊎◌, ℕ, ◌+◌, ◌<◌, ◌==◌, false, List, [], ◌∷◌, ◌++◌, length}
+use Rattle.std.specs.Prelude.{All, Ok}
 use Rattle.std.specs.List.{AllByRecursion, flat_map}
 use Rattle.wall_policy.specs.Policy.{ChineseWall}
 use Rattle.run_model.specs.declared.entry.Entry.{Entry}
@@ -17,7 +18,8 @@ IsEntryLine wall line = IsLine line × ((entry : Entry) × (line_at wall line �
 
 -- the header, these lines, each with its line feed, and what is behind them
 abbrev pub text_of : ChineseWall → List Word → List ℕ → List ℕ
-text_of wall lines rest = header_line wall.version ++ (10 ∷ (flat_map (λ line. line ++ (10 ∷ [])) lines ++ rest))
+text_of wall lines rest =
+    header_line wall.version ++ (10 ∷ (flat_map (λ line. line ++ (10 ∷ [])) lines ++ rest))
 
 -- behind the header stand lines of entries alone, and then bytes that no line feed ends
 pub record StopsEarly (wall : ChineseWall) (text : List ℕ) : Type 0 where
@@ -40,7 +42,8 @@ pub record HasBadHeader (wall : ChineseWall) (text : List ℕ) (number : ℕ) : 
   pub whole : text ≡ line ++ (10 ∷ rest)
   pub place : number ≡ 1
 
--- Behind the header and lines of entries stands a finished line that is neither an entry nor the end of so many.
+-- Behind the header and lines of entries stands a finished line that is neither an entry nor the
+-- end of so many.
 pub record HasBadEntry (wall : ChineseWall) (text : List ℕ) (number : ℕ) : Type 0 where
   pub lines : List Word
   pub line : Word
@@ -66,4 +69,5 @@ pub record HasMore (wall : ChineseWall) (text : List ℕ) (number : ℕ) : Type 
 
 -- the line of this number is the first that should not stand there
 abbrev pub IsBadAt : ChineseWall → List ℕ → (number : ℕ) → Type 0
-IsBadAt wall text number = HasBadHeader wall text number ⊎ (HasBadEntry wall text number ⊎ HasMore wall text number)
+IsBadAt wall text number =
+    HasBadHeader wall text number ⊎ (HasBadEntry wall text number ⊎ HasMore wall text number)

@@ -1,4 +1,5 @@
--- Which entries have a text of their own: their processes and datasets are the policy's, and their numbers have a spelling. (Own rules.)
+-- Which entries have a text of their own: their processes and datasets are the policy's, and their
+-- numbers have a spelling. (Own rules.)
 use Rattle.std.specs.Prelude.{◌≡◌, ℕ, ◌≤◌, true}
 use Rattle.wall_policy.specs.Policy.{ChineseWall}
 use Rattle.coll_routes.specs.declared.statement.Stated.{Stated}

@@ -1,5 +1,6 @@
 -- How lines are read and written one after the other: words of private contracts.
-use Rattle.std.specs.Prelude.{◌≡◌, ℕ, ◌+◌, ◌==◌, Bool, true, false, List, [], ◌∷◌, ◌++◌, length, Option, is_none, is_some, Result, Ok, Err, if◌then◌else◌}
+use Rattle.std.specs.Prelude.{◌≡◌, ℕ, ◌+◌, ◌==◌, Bool, true, false, List, [], ◌∷◌, ◌++◌, length}
+use Rattle.std.specs.Prelude.{Option, is_none, is_some, Result, Ok, Err, if◌then◌else◌}
 use Rattle.std.specs.Io.KnownBytes.{Appends}
 use Rattle.wall_labels.specs.declared.label.Label.{Label}
 use Rattle.run_model.specs.declared.entry.Entry.{Entry}
@@ -15,7 +16,8 @@ abbrev pub IsFormed : Line → Type 0
 IsFormed (Said entry) = HasForm entry
 IsFormed (End n) = Unit {0}
 
--- what a line did that stands behind these entries: it added its entry, or it is the end that fits them, or it is bad
+-- what a line did that stands behind these entries: it added its entry, or it is the end that fits
+-- them, or it is bad
 abbrev pub Adds : Result Bool ReadFault → (old new : List Entry) → Result Line LineFault → Type 0
 Adds (Ok true) old new (Ok (Said entry)) = new ≡ old ++ entry ∷ []
 Adds (Ok false) old new (Ok (End n)) = ((n == length old) ≡ true) × (new ≡ old)
@@ -25,7 +27,8 @@ Adds (Err (BadLine n)) old new (Err fault) = n ≡ length old + 2
 Adds _ old new said = ⊥
 
 -- the same of the whole text: the entries that were read, or the fault
-abbrev pub Reads : {X : Type 0} → Result X ReadFault → List Entry → Result (List Entry) ReadFault → Type 0
+abbrev pub Reads : {X : Type 0} → Result X ReadFault → List Entry → Result (List Entry) ReadFault →
+    Type 0
 Reads (Ok x) entries said = said ≡ Ok entries
 Reads (Err NoMemory) entries said = Unit {0}
 Reads (Err fault) entries said = said ≡ Err fault

@@ -1,5 +1,6 @@
 -- A line of a book, read from the left. (Own format.)
-use Rattle.std.specs.Prelude.{ℕ, Bool, true, false, ◌==◌, nat_lt, List, length, codes, Option, Some, None, Result, Ok, Err, if◌then◌else◌}
+use Rattle.std.specs.Prelude.{ℕ, Bool, true, false, ◌==◌, nat_lt, List, length, codes, Option, Some}
+use Rattle.std.specs.Prelude.{None, Result, Ok, Err, if◌then◌else◌}
 use Rattle.std.specs.Str.{bytes_eq}
 use Rattle.wall_labels.specs.declared.label.Label.{Label}
 use Rattle.wall_policy.specs.Names.{place_of}
@@ -54,7 +55,8 @@ label_at wall ws = do
   Ok (label, w.1)
 
 -- `none` exactly where no element is given
-unfoldable pub given_label : ChineseWall → ℕ → List Word → Result (Option Label × List Word) LineFault
+unfoldable pub given_label : ChineseWall → ℕ → List Word →
+    Result (Option Label × List Word) LineFault
 given_label wall given ws =
     if given == 0
     then (past_word (codes "none") ws >>= λ w. Ok (None, w.1))
@@ -62,7 +64,8 @@ given_label wall given ws =
 
 -- the word of a truth value
 abbrev pub either_word : (first second : Word) → Word → Result Bool LineFault
-either_word first second w = if bytes_eq w first then Ok false else if bytes_eq w second then Ok true else Err BadShape
+either_word first second w =
+    if bytes_eq w first then Ok false else if bytes_eq w second then Ok true else Err BadShape
 
 abbrev pub barred_at : List Word → Result (Bool × List Word) LineFault
 barred_at ws = do
@@ -96,7 +99,13 @@ post_at wall ws = do
   c ← number_at 4294967295 p.1
   s ← statement_at c.1
   g ← given_at wall s.1
-  ended g.1 (Posted p.0 c.0 (record { sig = s.0.0; own = s.0.1; given = g.0.given; label = g.0.label; barred = g.0.barred }))
+  ended g.1 (Posted p.0 c.0 (record {
+    sig = s.0.0;
+    own = s.0.1;
+    given = g.0.given;
+    label = g.0.label;
+    barred = g.0.barred;
+  }))
 
 unfoldable pub came_of : Word → Option Came
 came_of w =

@@ -1,5 +1,7 @@
--- The text of a book: a line for each entry between a header and an end, a space between two words, and a line feed behind each line. (Own format.)
-use Rattle.std.specs.Prelude.{ℕ, nat_eq, Bool, true, false, List, [], ◌∷◌, ◌++◌, length, codes, Option, Some, None, if◌then◌else◌}
+-- The text of a book: a line for each entry between a header and an end, a space between two words,
+-- and a line feed behind each line. (Own format.)
+use Rattle.std.specs.Prelude.{ℕ, nat_eq, Bool, true, false, List, [], ◌∷◌, ◌++◌, length, codes}
+use Rattle.std.specs.Prelude.{Option, Some, None, if◌then◌else◌}
 use Rattle.std.specs.List.{join_with_byte, flat_map}
 use Rattle.std.specs.Fmt.{decimal}
 use Rattle.wall_labels.specs.declared.label.Label.{Label}
@@ -26,19 +28,23 @@ passage_word true = codes "barred"
 
 -- how many elements are given, as what, and whether the post was barred
 abbrev pub given_words : ChineseWall → (given : ℕ) → Option Label → (barred : Bool) → List Word
-given_words wall given label barred = codes "gives" ∷ decimal given ∷ codes "as" ∷ given_word wall label ∷ passage_word barred ∷ []
+given_words wall given label barred =
+    codes "gives" ∷ decimal given ∷ codes "as" ∷ given_word wall label ∷ passage_word barred ∷ []
 
 unfoldable pub post_words : ChineseWall → (process comm : ℕ) → Stated → List Word
-post_words wall process comm s = codes "post" ∷ decimal process ∷ decimal comm ∷ (statement_words s.sig s.own ++ given_words wall s.given s.label s.barred)
+post_words wall process comm s = codes "post" ∷ decimal process ∷ decimal comm
+    ∷ (statement_words s.sig s.own ++ given_words wall s.given s.label s.barred)
 
 abbrev pub outcome_words : ChineseWall → Outcome → List Word
 outcome_words wall Granted = codes "granted" ∷ []
-outcome_words wall (Denied rule process label) = codes "denied" ∷ rule_word rule ∷ name_at wall.process_names process ∷ label_word wall.dataset_names label ∷ []
+outcome_words wall (Denied rule process label) = codes "denied" ∷ rule_word rule
+    ∷ name_at wall.process_names process ∷ label_word wall.dataset_names label ∷ []
 outcome_words wall (Made first number) = codes "made" ∷ decimal first ∷ decimal number ∷ []
 outcome_words wall NoRoom = codes "noroom" ∷ []
 
 unfoldable pub verdict_words : ChineseWall → (comm k : ℕ) → Outcome → List Word
-verdict_words wall comm k outcome = codes "verdict" ∷ decimal comm ∷ decimal k ∷ outcome_words wall outcome
+verdict_words wall comm k outcome =
+    codes "verdict" ∷ decimal comm ∷ decimal k ∷ outcome_words wall outcome
 
 abbrev pub entry_words : ChineseWall → Entry → List Word
 entry_words wall (Posted process comm stated) = post_words wall process comm stated
@@ -72,4 +78,5 @@ entry_lines wall entries = flat_map (λ entry. line_of (entry_words wall entry))
 
 -- the text of these entries, the oldest first
 unfoldable pub book_text : ChineseWall → List Entry → List ℕ
-book_text wall entries = line_of (header_words wall.version) ++ (entry_lines wall entries ++ line_of (end_words (length entries)))
+book_text wall entries = line_of (header_words wall.version)
+    ++ (entry_lines wall entries ++ line_of (end_words (length entries)))

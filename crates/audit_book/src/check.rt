@@ -1,5 +1,6 @@
 //! The check of a book.
-ghost use Rattle.std.specs.Prelude.{◌≡◌, ◌<◌, ◌^◌, ◌∷◌, ◌++◌, [], List, length, take, IfOk, IfErr, OnOk, true};
+ghost use Rattle.std.specs.Prelude.{◌≡◌, ◌<◌, ◌^◌, ◌∷◌, ◌++◌, [], List, length, take, IfOk, IfErr};
+ghost use Rattle.std.specs.Prelude.{OnOk, true};
 ghost use Rattle.wall_policy.specs.Policy.{ChineseWall};
 ghost use Rattle.wall_verdict.specs.Star.{star};
 ghost use Rattle.run_model.specs.declared.entry.Entry.{Entry};
@@ -9,7 +10,8 @@ ghost use Rattle.run_model.specs.PostLaws.{KeepsTheWall};
 ghost use Rattle.run_model.specs.Books.{IsSound, Begins, IsCounted, is_labelled};
 ghost use Rattle.run_model.specs.EntryForms.{HasForm};
 ghost use Rattle.audit_book.specs.declared.check.Stopped.TheVariants.{Wrong};
-ghost use Rattle.audit_book.specs.Checks.{post_of, due_after, Stands, MayEnter, HasEntered, HasCounted, IsRight, IsRightFor, IsFaultOf};
+ghost use Rattle.audit_book.specs.Checks.{post_of, due_after, Stands, MayEnter, HasEntered};
+ghost use Rattle.audit_book.specs.Checks.{HasCounted, IsRight, IsRightFor, IsFaultOf};
 
 use crate::check_fault::BookFault;
 use crate::due::Due;
@@ -30,7 +32,8 @@ use wall_policy::Policy;
 /// or the new communicators. Nothing goes over the entries before it, so the time is linear in
 /// their number. Memory is taken for the communicators and for the instances that wait.
 ///
-/// What is found sound keeps the wall: before each entry and after the last, no process held two rivals, directly or through others.
+/// What is found sound keeps the wall: before each entry and after the last, no process held two
+/// rivals, directly or through others.
 ///
 /// `BadEntry` has the number, counted from 1, of the first entry that the posts don't give; where
 /// only an entry is missing at the end, the number after the last. `NoMemory` is answered only
@@ -90,10 +93,12 @@ fn follow(
 ) -> Result<Option<Due>, Stopped>
     requires right { IsRightFor policy.now post_state.old due }
     requires form { HasForm entry.now }
-    ensures right { IfOk result (λ next. (entries : List Entry) → IsRight policy.now post_state.old entries due →
+    ensures right { IfOk result (λ next. (entries : List Entry) →
+        IsRight policy.now post_state.old entries due →
         IsRight policy.now post_state.new (entries ++ entry.now ∷ []) next) }
     ensures wrong { IfErr result (λ stopped. stopped ≡ Wrong → (entries : List Entry) →
-        IsRight policy.now post_state.old entries due → ¬ (Begins policy.now (entries ++ entry.now ∷ []))) }
+        IsRight policy.now post_state.old entries due →
+        ¬ (Begins policy.now (entries ++ entry.now ∷ []))) }
 {
     match due {
         Some(awaited) => {
@@ -123,12 +128,14 @@ fn count(
     comm: u32,
     stated: &Stated,
 ) -> Result<Option<Due>, Stopped>
-    requires stands { (past : List Post) × (length past < 2 ^ 62) × Stands policy.now post_state.old past }
+    requires stands { (past : List Post) × (length past < 2 ^ 62)
+        × Stands policy.now post_state.old past }
     requires label { is_labelled stated.now ≡ true }
     ensures counted { IfOk result (HasCounted policy.now post_state.old post_state.new
         (post_of process comm stated.now)) }
     ensures wrong { IfErr result (λ stopped. stopped ≡ Wrong → (past : List Post) →
-        Stands policy.now post_state.old past → ¬ (IsCounted policy.now (post_of process comm stated.now) past)) }
+        Stands policy.now post_state.old past →
+        ¬ (IsCounted policy.now (post_of process comm stated.now) past)) }
 {
     if refusal(policy, post_state, process, comm, stated).is_some() {
         return Err(Stopped::Wrong);

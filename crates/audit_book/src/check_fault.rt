@@ -6,7 +6,8 @@ use thiserror::Error;
 /// Why a book is refused.
 #[derive(Clone, Copy, Debug, PartialEq, Eq, Error)]
 pub enum BookFault {
-    /// The first entry, counted from 1, that the posts don't give. Where an entry is missing at the end it has the number after the last.
+    /// The first entry, counted from 1, that the posts don't give. Where an entry is missing at the
+    /// end it has the number after the last.
     #[error("entry {0} is not what the posts give")]
     BadEntry(u64),
     #[error("out of memory")]

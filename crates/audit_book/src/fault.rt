@@ -8,7 +8,8 @@ use wall_labels::NoMemory as OutOfMemory;
 /// `NoMemory` comes where a growth was refused, and only in place of a book.
 #[derive(Clone, Copy, Debug, PartialEq, Eq, Error)]
 pub enum ReadFault {
-    /// The line of this number, from 1, is the first that is not in its form, or that stands behind the end.
+    /// The line of this number, from 1, is the first that is not in its form, or that stands behind
+    /// the end.
     #[error("line {0}")]
     BadLine(u64),
     /// The text stops before a finished `end` line, and all finished lines are in their form.

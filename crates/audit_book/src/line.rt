@@ -2,7 +2,8 @@
 ghost use Rattle.std.specs.Prelude.{◌≡◌, ◌≢◌, IfOk, Err};
 ghost use Rattle.coll_text.specs.Reading.{Gives, Takes};
 ghost use Rattle.run_model.specs.EntryForms.{HasForm};
-ghost use Rattle.audit_book.specs.Lines.{post_at, denied_at, made_at, came_to, outcome_at, verdict_at, end_at, line_behind, line_in, line_at};
+ghost use Rattle.audit_book.specs.Lines.{post_at, denied_at, made_at, came_to, outcome_at};
+ghost use Rattle.audit_book.specs.Lines.{verdict_at, end_at, line_behind, line_in, line_at};
 ghost use Rattle.audit_book.specs.LineSteps.{IsFormed};
 
 use crate::words::{

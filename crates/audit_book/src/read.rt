@@ -15,7 +15,8 @@ use run_state::Book;
 use std::alloc::Global;
 use wall_policy::Policy;
 
-// Takes a line that stands behind the book's entries. Answers whether it is an entry, which is added, and not the end.
+// Takes a line that stands behind the book's entries. Answers whether it is an entry, which is
+// added, and not the end.
 fn take_line(
     alloc: Global,
     policy: &Policy,

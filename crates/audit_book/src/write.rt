@@ -1,12 +1,16 @@
 //! Writes a book.
-ghost use Rattle.std.specs.Prelude.{◌≡◌, ◌+◌, ◌<◌, ◌++◌, [], All, OnOk, OnErr, IfErr, length, codes};
+ghost use Rattle.std.specs.Prelude.{◌≡◌, ◌+◌, ◌<◌, ◌++◌, [], All, OnOk, OnErr, IfErr, length};
+ghost use Rattle.std.specs.Prelude.{codes};
 ghost use Rattle.std.specs.Fmt.{decimal};
 ghost use Rattle.std.specs.Io.KnownBytes.{Appends};
 ghost use Rattle.wall_labels.specs.Known.{AppendsFront};
-ghost use Rattle.audit_book.specs.Text.{given_word, passage_word, line_of, given_end, post_words, verdict_words, outcome_words, entry_words, header_words, header_line, end_words, entry_lines, book_text};
+ghost use Rattle.audit_book.specs.Text.{given_word, passage_word, line_of, given_end, post_words};
+ghost use Rattle.audit_book.specs.Text.{verdict_words, outcome_words, entry_words, header_words};
+ghost use Rattle.audit_book.specs.Text.{header_line, end_words, entry_lines, book_text};
 ghost use Rattle.coll_text.specs.Writing.{Moves};
 ghost use Rattle.audit_book.specs.Writing.{IsWriteFault};
-ghost use Rattle.run_model.specs.Known.{IsKnownProcess, IsKnownIfAny, IsKnownOutcome, IsKnownEntry, IsKnownLabel};
+ghost use Rattle.run_model.specs.Known.{IsKnownProcess, IsKnownIfAny, IsKnownOutcome, IsKnownEntry};
+ghost use Rattle.run_model.specs.Known.{IsKnownLabel};
 
 use crate::fault::WriteFault;
 use coll_routes::Stated;
@@ -36,7 +40,8 @@ fn given_text<'a>(policy: &'a Policy, label: &Option<Label>) -> &'a str
 
 // A word, and two numbers with a space between them.
 fn put_numbers(word: &str, first: u64, second: u64, text: &mut Vec<u8>) -> Result<(), AllocError>
-    ensures { OnOk result (text.new.items ≡ text.old.items ++ word.now ++ decimal first ++ codes " " ++ decimal second) }
+    ensures { OnOk result (text.new.items
+        ≡ text.old.items ++ word.now ++ decimal first ++ codes " " ++ decimal second) }
 {
     put(text, word)?;
     put_decimal(text, first)?;
@@ -66,7 +71,8 @@ fn put_post(
     text: &mut Vec<u8>,
 ) -> Result<(), NoMemory>
     requires { IsKnownIfAny policy.now stated.now.label }
-    ensures { OnOk result (text.new.items ≡ text.old.items ++ line_of (post_words policy.now process comm stated.now)) }
+    ensures { OnOk result (text.new.items
+        ≡ text.old.items ++ line_of (post_words policy.now process comm stated.now)) }
 {
     let process = u64::from(process.number());
     put_numbers("post ", process, u64::from(comm), text)?;
@@ -85,7 +91,9 @@ fn put_denied(
 ) -> Result<(), AllocError>
     requires process { IsKnownProcess policy.now process }
     requires label { IsKnownLabel policy.now label.now }
-    ensures { OnOk result (text.new.items ≡ text.old.items ++ line_of (outcome_words policy.now (Outcome.Denied rule process label.now))) }
+    ensures { OnOk result (text.new.items
+        ≡ text.old.items
+        ++ line_of (outcome_words policy.now (Outcome.Denied rule process label.now))) }
 {
     put(text, "denied ")?;
     put(text, rule_text(rule))?;
@@ -99,7 +107,8 @@ fn put_denied(
 // An outcome to the end of its line.
 fn put_outcome(policy: &Policy, outcome: &Outcome, text: &mut Vec<u8>) -> Result<(), AllocError>
     requires { IsKnownOutcome policy.now outcome.now }
-    ensures { OnOk result (text.new.items ≡ text.old.items ++ line_of (outcome_words policy.now outcome.now)) }
+    ensures { OnOk result
+        (text.new.items ≡ text.old.items ++ line_of (outcome_words policy.now outcome.now)) }
 {
     match outcome {
         Outcome::Granted => put(text, "granted\n"),
@@ -125,7 +134,8 @@ fn put_verdict(
     text: &mut Vec<u8>,
 ) -> Result<(), AllocError>
     requires { IsKnownOutcome policy.now outcome.now }
-    ensures { OnOk result (text.new.items ≡ text.old.items ++ line_of (verdict_words policy.now comm k outcome.now)) }
+    ensures { OnOk result
+        (text.new.items ≡ text.old.items ++ line_of (verdict_words policy.now comm k outcome.now)) }
 {
     put_numbers("verdict ", u64::from(comm), k, text)?;
     put(text, " ")?;
@@ -134,7 +144,8 @@ fn put_verdict(
 
 fn put_entry(policy: &Policy, entry: &Entry, text: &mut Vec<u8>) -> Result<(), NoMemory>
     requires { IsKnownEntry policy.now entry.now }
-    ensures { OnOk result (text.new.items ≡ text.old.items ++ line_of (entry_words policy.now entry.now)) }
+    ensures { OnOk result
+        (text.new.items ≡ text.old.items ++ line_of (entry_words policy.now entry.now)) }
 {
     match entry {
         Entry::Posted {
@@ -160,7 +171,8 @@ pub(crate) fn header_text(policy: &Policy) -> &'static str
 }
 
 fn put_header(policy: &Policy, text: &mut Vec<u8>) -> Result<(), AllocError>
-    ensures { OnOk result (text.new.items ≡ text.old.items ++ line_of (header_words policy.now.version)) }
+    ensures { OnOk result
+        (text.new.items ≡ text.old.items ++ line_of (header_words policy.now.version)) }
 {
     put(text, header_text(policy))?;
     put(text, "\n")
@@ -183,9 +195,12 @@ fn write_entries<W: Sink>(
 ) -> Result<(), WriteFault>
     requires { All (IsKnownEntry policy.now) entries.now }
     ensures went { OnOk result (W.failures sink.new ≡ W.failures sink.old) }
-    ensures fault { IfErr result (λ fault. IsWriteFault fault (W.failures sink.old) (W.failures sink.new)) }
-    ensures moved { OnOk result (Moves (W.contents sink.old) (W.contents sink.new) (text.old.items ++ entry_lines policy.now entries.now) text.new.items) }
-    ensures front { OnErr result (AppendsFront (W.contents sink.old) (W.contents sink.new) (text.old.items ++ entry_lines policy.now entries.now)) }
+    ensures fault { IfErr result
+        (λ fault. IsWriteFault fault (W.failures sink.old) (W.failures sink.new)) }
+    ensures moved { OnOk result (Moves (W.contents sink.old) (W.contents sink.new)
+        (text.old.items ++ entry_lines policy.now entries.now) text.new.items) }
+    ensures front { OnErr result (AppendsFront (W.contents sink.old) (W.contents sink.new)
+        (text.old.items ++ entry_lines policy.now entries.now)) }
 {
     for entry in entries {
         match put_entry(policy, entry, text) {
@@ -202,7 +217,8 @@ fn write_entries<W: Sink>(
 
 /// Writes the text of a book, whose processes and datasets are the policy's. (Own format.)
 ///
-/// `Write` where the writer failed, `NoMemory` where memory ran out. A prefix of the text is written then.
+/// `Write` where the writer failed, `NoMemory` where memory ran out. A prefix of the text is
+/// written then.
 #[tactic(auto, unfolding(crate::specs::Text::book_text))]
 pub fn write_book<W: Sink>(
     alloc: Global,
@@ -211,10 +227,13 @@ pub fn write_book<W: Sink>(
     sink: &mut W,
 ) -> Result<(), WriteFault>
     requires { All (IsKnownEntry policy.now) book.now.list }
-    ensures written { OnOk result (Appends (W.contents sink.old) (W.contents sink.new) (book_text policy.now book.now.list)) }
+    ensures written { OnOk result
+        (Appends (W.contents sink.old) (W.contents sink.new) (book_text policy.now book.now.list)) }
     ensures went { OnOk result (W.failures sink.new ≡ W.failures sink.old) }
-    ensures fault { IfErr result (λ fault. IsWriteFault fault (W.failures sink.old) (W.failures sink.new)) }
-    ensures front { OnErr result (AppendsFront (W.contents sink.old) (W.contents sink.new) (book_text policy.now book.now.list)) }
+    ensures fault { IfErr result
+        (λ fault. IsWriteFault fault (W.failures sink.old) (W.failures sink.new)) }
+    ensures front { OnErr result (AppendsFront (W.contents sink.old) (W.contents sink.new)
+        (book_text policy.now book.now.list)) }
 {
     let mut text = Vec::new(alloc);
     put_header(policy, &mut text)?;

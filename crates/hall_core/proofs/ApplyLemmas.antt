@@ -6,7 +6,9 @@ use Rattle.run_model.specs.Posts.{histories}
 use Rattle.run_model.specs.Comms.{processes}
 use Rattle.run_model.specs.Books.{book, IsSound, posts_in as posts_in_book}
 use Rattle.run_model.specs.PostLaws.{IsWhatIsHeld, NobodyHoldsBoth}
-use Rattle.run_model.proofs.RunModelLemmas.{book_is_sound, posts_in-book, posts_keep_the_wall, legal_proper, nobody_holds_two_rivals_in_runs, holding_is_history_in_runs}
+use Rattle.run_model.proofs.RunModelLemmas.{book_is_sound, posts_in-book, posts_keep_the_wall}
+use Rattle.run_model.proofs.RunModelLemmas.{legal_proper, nobody_holds_two_rivals_in_runs}
+use Rattle.run_model.proofs.RunModelLemmas.{holding_is_history_in_runs}
 use Rattle.run_model.specs.Contributions.{posts_of}
 use Rattle.run_state.specs.Stands.{StandsForPosts}
 use Rattle.run_model.specs.declared.call.Call.{Call}
@@ -24,34 +26,51 @@ use Rattle.hall_core.specs.Moves.{Steps}
 use Rattle.run_model.specs.Known.{HasKnownLabel, IsKnownEntry}
 use Rattle.hall_core.proofs.NamedLemmas.{is_hall_after, book_named}
 
-pub stands_for : (hall : HallValue) (run : List Entry) → StandsFor hall run → StandsForEffects (view_of hall) (effects run)
+pub stands_for : (hall : HallValue) (run : List Entry) → StandsFor hall run →
+    StandsForEffects (view_of hall) (effects run)
 unfolding StandsFor
 stands_for hall run stands = stands
 
-pub for_stands : (hall : HallValue) (run : List Entry) → StandsForEffects (view_of hall) (effects run) → StandsFor hall run
+pub for_stands : (hall : HallValue) (run : List Entry) →
+    StandsForEffects (view_of hall) (effects run) → StandsFor hall run
 unfolding StandsFor
 for_stands hall run stands = stands
 
 -- the contract of `apply`, from that of a step
-pub applied : (old new : HallValue) (call : Call) (got : Reply) → new.policy ≡ old.policy → Steps (view_of old) (view_of new) call.process call.act got →
-    (run : List Entry) → Legal old.policy run → StandsFor old run → Legal new.policy (entry call got ∷ run) × StandsFor new (entry call got ∷ run)
+pub applied : (old new : HallValue) (call : Call) (got : Reply) → new.policy ≡ old.policy →
+    Steps (view_of old) (view_of new) call.process call.act got →
+    (run : List Entry) → Legal old.policy run → StandsFor old run →
+    Legal new.policy (entry call got ∷ run) × StandsFor new (entry call got ∷ run)
 unfolding reply
 applied old new call got same steps run legal stands =
-    let step = steps (effects run) (legal_proper old.policy run legal) (stands_for old run stands) in
-    (subst (λ (w : ChineseWall). Legal w (entry call got ∷ run)) (sym same) (legal, step.0), for_stands new (entry call got ∷ run) step.1)
+    let step = steps (effects run) (legal_proper old.policy run legal) (stands_for old run stands)
+    in (
+      subst (λ (w : ChineseWall). Legal w (entry call got ∷ run)) (sym same) (legal, step.0),
+      for_stands new (entry call got ∷ run) step.1,
+    )
 
-pub applied_apart : (old new : HallValue) (call : Call) (got : Reply) → IsPolicy old.policy → new.policy ≡ old.policy → Steps (view_of old) (view_of new) call.process call.act got →
-    (run : List Entry) → Legal old.policy run → StandsFor old run → NobodyHoldsBoth new.policy (posts (entry call got ∷ run))
+pub applied_apart : (old new : HallValue) (call : Call) (got : Reply) → IsPolicy old.policy →
+    new.policy ≡ old.policy → Steps (view_of old) (view_of new) call.process call.act got →
+    (run : List Entry) → Legal old.policy run → StandsFor old run →
+    NobodyHoldsBoth new.policy (posts (entry call got ∷ run))
 applied_apart old new call got policy same steps run legal stands =
-    nobody_holds_two_rivals_in_runs new.policy [] (entry call got ∷ run) (subst IsPolicy (sym same) policy) (applied old new call got same steps run legal stands).0
+    nobody_holds_two_rivals_in_runs new.policy [] (entry call got ∷ run)
+    (subst IsPolicy (sym same) policy) (applied old new call got same steps run legal stands).0
 
 -- a hall is one after a call
-pub kept_after : (old new : HallValue) (call : Call) (got : Reply) → IsHallValue old → new.policy ≡ old.policy → Rattle.std.proofs.Common.length new.asked ≡ Rattle.std.proofs.Common.length old.asked → KeepsCount (requests_of new.asked) (length new.asked) new.settled → HasKnownLabel old.policy call.act → Steps (view_of old) (view_of new) call.process call.act got → IsHallValue new
+pub kept_after : (old new : HallValue) (call : Call) (got : Reply) → IsHallValue old →
+    new.policy ≡ old.policy →
+    Rattle.std.proofs.Common.length new.asked ≡ Rattle.std.proofs.Common.length old.asked →
+    KeepsCount (requests_of new.asked) (length new.asked) new.settled →
+    HasKnownLabel old.policy call.act →
+    Steps (view_of old) (view_of new) call.process call.act got → IsHallValue new
 kept_after old new call got is same each counted known steps = record {
   policy = subst IsPolicy (sym same) is.policy;
-  each = each ∙ (is.each ∙ ap (λ (w : ChineseWall). Rattle.run_model.specs.Comms.processes w) (sym same));
+  each = each
+      ∙ (is.each ∙ ap (λ (w : ChineseWall). Rattle.run_model.specs.Comms.processes w) (sym same));
   counted = counted;
-  stands = is_hall_after (view_of old) (view_of new) call.process call.act got is.stands same known steps;
+  stands = is_hall_after (view_of old) (view_of new) call.process call.act got is.stands same known
+      steps;
 }
 
 -- the contract of `claim`, of what it holds
@@ -63,8 +82,12 @@ claimed old p r claim holds run legal stands =
 
 -- ## what is shown of a hall
 
-pub histories_are : (hall : HallValue) (h : History) (run : List Entry) → ((wall : ChineseWall) (past : List _) → StandsForPosts wall (view_of hall).post_state past → h ≡ histories wall (posts_of past)) → StandsFor hall run → h ≡ histories hall.policy (posts run)
-histories_are hall h run by stands = by hall.policy (contributions run) (stands_for hall run stands).post_state
+pub histories_are : (hall : HallValue) (h : History) (run : List Entry) →
+    ((wall : ChineseWall) (past : List _) → StandsForPosts wall (view_of hall).post_state past →
+    h ≡ histories wall (posts_of past)) → StandsFor hall run →
+    h ≡ histories hall.policy (posts run)
+histories_are hall h run by stands =
+    by hall.policy (contributions run) (stands_for hall run stands).post_state
 
 -- the histories are those of the posts in the book
 pub histories_of_book : (hall : HallValue) (h : History) → IsHallValue hall
@@ -75,7 +98,8 @@ histories_of_book hall h is by =
     let effects = is.stands.effects in
     let posts = ap posts_in_book is.stands.stands.book
     ∙ posts_in-book hall.policy (posts_in effects) in
-    by hall.policy effects.contributions is.stands.stands.post_state ∙ ap (histories hall.policy) (sym posts)
+    by hall.policy effects.contributions is.stands.stands.post_state
+    ∙ ap (histories hall.policy) (sym posts)
 
 -- the histories have the processes and the classes of the policy
 pub processes_are : (hall : HallValue) → IsHallValue hall
@@ -86,19 +110,31 @@ pub classes_are : (hall : HallValue) → IsHallValue hall
     → hall.post_state.accesses.classes ≡ hall.policy.classes
 classes_are hall is = is.stands.stands.post_state.classes
 
-pub nobody_holds_rivals : (hall : HallValue) (h : History) → IsHallValue hall → ((wall : ChineseWall) (past : List _) → StandsForPosts wall (view_of hall).post_state past → h ≡ histories wall (posts_of past)) → NobodyHoldsRivals hall.policy.classes h
+pub nobody_holds_rivals : (hall : HallValue) (h : History) → IsHallValue hall →
+    ((wall : ChineseWall) (past : List _) → StandsForPosts wall (view_of hall).post_state past →
+    h ≡ histories wall (posts_of past)) → NobodyHoldsRivals hall.policy.classes h
 nobody_holds_rivals hall h is by =
-    subst (NobodyHoldsRivals hall.policy.classes) (sym (by hall.policy is.stands.effects.contributions is.stands.stands.post_state))
-    (posts_keep_the_wall hall.policy (posts_in is.stands.effects) is.policy is.stands.is_made.proper.posts)
+    subst (NobodyHoldsRivals hall.policy.classes)
+    (sym (by hall.policy is.stands.effects.contributions is.stands.stands.post_state))
+    (posts_keep_the_wall hall.policy (posts_in is.stands.effects) is.policy
+    is.stands.is_made.proper.posts)
 
-pub is_held : (hall : HallValue) (h : History) (run : List Entry) → ((wall : ChineseWall) (past : List _) → StandsForPosts wall (view_of hall).post_state past → h ≡ histories wall (posts_of past)) → Legal hall.policy run → StandsFor hall run → IsWhatIsHeld hall.policy (posts run) h
-is_held hall h run by legal stands = subst (IsWhatIsHeld hall.policy (posts run)) (sym (histories_are hall h run by stands)) (holding_is_history_in_runs hall.policy [] run legal)
+pub is_held : (hall : HallValue) (h : History) (run : List Entry) → ((wall : ChineseWall)
+    (past : List _) → StandsForPosts wall (view_of hall).post_state past →
+    h ≡ histories wall (posts_of past)) → Legal hall.policy run → StandsFor hall run →
+    IsWhatIsHeld hall.policy (posts run) h
+is_held hall h run by legal stands = subst (IsWhatIsHeld hall.policy (posts run))
+    (sym (histories_are hall h run by stands)) (holding_is_history_in_runs hall.policy [] run legal)
 
-pub book_is : (hall : HallValue) (run : List Entry) → StandsFor hall run → hall.book.list ≡ book hall.policy (posts run)
+pub book_is : (hall : HallValue) (run : List Entry) → StandsFor hall run →
+    hall.book.list ≡ book hall.policy (posts run)
 book_is hall run stands = (stands_for hall run stands).book
 
 pub sound : (hall : HallValue) → IsHallValue hall → IsSound hall.policy hall.book.list
-sound hall is = subst (IsSound hall.policy) (sym is.stands.stands.book) (book_is_sound hall.policy (posts_in is.stands.effects) is.stands.is_made.proper.posts)
+sound hall is = subst (IsSound hall.policy) (sym is.stands.stands.book)
+    (book_is_sound hall.policy (posts_in is.stands.effects) is.stands.is_made.proper.posts)
 
 pub named : (hall : HallValue) → IsHallValue hall → All (IsKnownEntry hall.policy) hall.book.list
-named hall is = subst (All (IsKnownEntry hall.policy)) (sym is.stands.stands.book) (book_named hall.policy (posts_in is.stands.effects) is.policy is.stands.is_made.proper.posts is.stands.is_made.labels)
+named hall is = subst (All (IsKnownEntry hall.policy)) (sym is.stands.stands.book)
+    (book_named hall.policy (posts_in is.stands.effects) is.policy is.stands.is_made.proper.posts
+    is.stands.is_made.labels)

@@ -24,7 +24,8 @@ of_held hall p r q s (Ready full rank room) waits there of = record {
 }
 
 -- what stands in the hall is what the run has made
-pub held_claims : (hall : HallView) (m : Effects) → StandsForEffects hall m → (p r : ℕ) (claim : Claim)
+pub held_claims : (hall : HallView) (m : Effects) → StandsForEffects hall m →
+    (p r : ℕ) (claim : Claim)
     → HoldsWhatIsKept hall p r claim → Claims hall.policy m p r claim
 held_claims hall m stands p r (Done reply) held = held
 held_claims hall m stands p r (Ready full rank room) held =

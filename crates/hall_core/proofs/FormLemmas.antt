@@ -1,15 +1,28 @@
 -- What a posting without a fault is: few elements, and in form for the book.
-use Rattle.std.proofs.Common.{◌≡◌, ℕ, ◌<◌, ◌≤◌, Bool, true, false, not, ◌||◌, refl, sym, ◌∙◌, ⊎_elim, lt-ltb}
+use Rattle.std.proofs.Common.{◌≡◌, ℕ, ◌<◌, ◌≤◌, Bool, true, false, not, ◌||◌, refl, sym, ◌∙◌}
+use Rattle.std.proofs.Common.{⊎_elim, lt-ltb}
 use Rattle.std.specs.Prelude.{unwrap_or}
 use Rattle.std.proofs.lemmas.Bool.{false≢true, cases_lt}
 use Rattle.mpi_elems.specs.declared.elem_type.ElemType.{ElemType}
 use Rattle.coll_routes.specs.declared.signature.Signature.{Signature}
-use Rattle.coll_routes.specs.declared.signature.Signature.TheVariants.{Barrier, Bcast, Gather, Gatherv, Scatter, Scatterv, Allgather, Allgatherv, Alltoall, Alltoallv, Reduce, Allreduce, ReduceScatter, ReduceScatterBlock, Scan, Exscan, NeighborAllgather, NeighborAllgatherv, NeighborAlltoall, NeighborAlltoallv, Dup, Split, Create, CartCreate, CartSub}
+use Rattle.coll_routes.specs.declared.signature.Signature.TheVariants.{Barrier, Bcast, Gather}
+use Rattle.coll_routes.specs.declared.signature.Signature.TheVariants.{Gatherv, Scatter, Scatterv}
+use Rattle.coll_routes.specs.declared.signature.Signature.TheVariants.{Allgather, Allgatherv}
+use Rattle.coll_routes.specs.declared.signature.Signature.TheVariants.{Alltoall, Alltoallv, Reduce}
+use Rattle.coll_routes.specs.declared.signature.Signature.TheVariants.{Allreduce, ReduceScatter}
+use Rattle.coll_routes.specs.declared.signature.Signature.TheVariants.{ReduceScatterBlock, Scan}
+use Rattle.coll_routes.specs.declared.signature.Signature.TheVariants.{Exscan, NeighborAllgather}
+use Rattle.coll_routes.specs.declared.signature.Signature.TheVariants.{NeighborAllgatherv}
+use Rattle.coll_routes.specs.declared.signature.Signature.TheVariants.{NeighborAlltoall}
+use Rattle.coll_routes.specs.declared.signature.Signature.TheVariants.{NeighborAlltoallv, Dup}
+use Rattle.coll_routes.specs.declared.signature.Signature.TheVariants.{Split, Create, CartCreate}
+use Rattle.coll_routes.specs.declared.signature.Signature.TheVariants.{CartSub}
 use Rattle.coll_routes.specs.declared.statement.Own.{Own}
 use Rattle.coll_routes.specs.declared.statement.Own.TheVariants.{Plain, Counts, Split as SplitBy}
 use Rattle.coll_routes.specs.declared.roll.Shape.{Shape}
 use Rattle.coll_routes.specs.Signatures.{elem_type, count, kind}
-use Rattle.coll_routes.specs.Faults.{asked, gives, is_met, is_of_type, is_above_limit, is_asked_above_limit, is_listed, bad_count}
+use Rattle.coll_routes.specs.Faults.{asked, gives, is_met, is_of_type, is_above_limit}
+use Rattle.coll_routes.specs.Faults.{is_asked_above_limit, is_listed, bad_count}
 use Rattle.run_model.specs.EntryForms.{is_formed}
 
 -- ## the tests on elements and counts
@@ -32,21 +45,31 @@ not_not : (b : Bool) → not b ≡ false → b ≡ true
 not_not true h = refl
 not_not false h = absurd (false≢true (sym h))
 
-module _ (shape : Shape) (rank : ℕ) (sig : Signature) (own : Own) (ty : ElemType) (given : ℕ) (free : bad_count shape rank sig own ty given ≡ false) where
+module _ (shape : Shape) (rank : ℕ) (sig : Signature) (own : Own) (ty : ElemType) (given : ℕ)
+    (free : bad_count shape rank sig own ty given ≡ false) where
   below_limit : is_above_limit given ≡ false
   unfolding bad_count
-  below_limit = not_second (not (is_of_type (elem_type sig) ty)) (is_above_limit given) (is_above_limit (unwrap_or (count sig) 0)) (is_asked_above_limit (asked shape sig)) (not (is_listed shape sig)) (not (is_met (asked shape sig) (gives sig rank) own given)) free
+  below_limit = not_second (not (is_of_type (elem_type sig) ty)) (is_above_limit given)
+      (is_above_limit (unwrap_or (count sig) 0)) (is_asked_above_limit (asked shape sig))
+      (not (is_listed shape sig)) (not (is_met (asked shape sig) (gives sig rank) own given)) free
 
   pub few_given : given ≤ 65536
-  few_given = ⊎_elim (λ (high : 65536 < given). absurd (false≢true (sym below_limit ∙ lt-ltb 65536 given high))) (λ (low : given ≤ 65536). low) (cases_lt 65536 given)
+  few_given = ⊎_elim
+      (λ (high : 65536 < given). absurd (false≢true (sym below_limit ∙ lt-ltb 65536 given high)))
+      (λ (low : given ≤ 65536). low) (cases_lt 65536 given)
 
   pub met : is_met (asked shape sig) (gives sig rank) own given ≡ true
   unfolding bad_count
-  met = not_not (is_met (asked shape sig) (gives sig rank) own given) (not_last (not (is_of_type (elem_type sig) ty)) (is_above_limit given) (is_above_limit (unwrap_or (count sig) 0)) (is_asked_above_limit (asked shape sig)) (not (is_listed shape sig)) (not (is_met (asked shape sig) (gives sig rank) own given)) free)
+  met = not_not (is_met (asked shape sig) (gives sig rank) own given)
+      (not_last (not (is_of_type (elem_type sig) ty)) (is_above_limit given)
+      (is_above_limit (unwrap_or (count sig) 0)) (is_asked_above_limit (asked shape sig))
+      (not (is_listed shape sig)) (not (is_met (asked shape sig) (gives sig rank) own given))
+      free)
 
 -- ## what a member states for itself
 
-pub formed : (shape : Shape) (sig : Signature) (b : Bool) (own : Own) (given : ℕ) → is_met (asked shape sig) b own given ≡ true → is_formed sig own ≡ true
+pub formed : (shape : Shape) (sig : Signature) (b : Bool) (own : Own) (given : ℕ) →
+    is_met (asked shape sig) b own given ≡ true → is_formed sig own ≡ true
 unfolding asked is_formed kind
 formed shape Barrier b Plain given h = refl
 formed shape Barrier b (Counts list) given h = absurd (false≢true h)

@@ -1,5 +1,6 @@
 -- Look-ups.
-use Rattle.std.proofs.Common.{◌≡◌, ℕ, zero, suc, ◌<◌, List, [], ◌∷◌, ◌++◌, length, refl, ap, ◌∙◌, arith, Option, Some, None, slice_get, take, drop}
+use Rattle.std.proofs.Common.{◌≡◌, ℕ, zero, suc, ◌<◌, List, [], ◌∷◌, ◌++◌, length, refl, ap, ◌∙◌}
+use Rattle.std.proofs.Common.{arith, Option, Some, None, slice_get, take, drop}
 
 -- what stands in a list at a number within
 pub there : {X : Type 0} (xs : List X) (n : ℕ) → n < length xs → (x : X) × (slice_get xs n ≡ Some x)
@@ -8,7 +9,8 @@ there (x ∷ xs) zero low = (x, refl)
 there (x ∷ xs) (suc n) low = there xs n (omega (arith, low))
 
 -- a list of look-ups with one more, for which nothing is found
-pub look_push : {X Y : Type 0} (f : Option X → Y) (xs : List X) (x : X) → f (Some x) ≡ f None → ◌≡◌ {A = ℕ → Y} (λ n. f (slice_get (xs ++ x ∷ []) n)) (λ n. f (slice_get xs n))
+pub look_push : {X Y : Type 0} (f : Option X → Y) (xs : List X) (x : X) → f (Some x) ≡ f None →
+    ◌≡◌ {A = ℕ → Y} (λ n. f (slice_get (xs ++ x ∷ []) n)) (λ n. f (slice_get xs n))
 look_push {X} f xs x e = λ i n. go xs n i
   where
     go : (ys : List X) (n : ℕ) → f (slice_get (ys ++ x ∷ []) n) ≡ f (slice_get ys n)
@@ -19,7 +21,8 @@ look_push {X} f xs x e = λ i n. go xs n i
 
 -- ## rows of a list
 
-pub row_next : {X : Type 0} (xs : List X) (n k : ℕ) (x : X) → slice_get xs n ≡ Some x → take (suc k) (drop n xs) ≡ x ∷ take k (drop (suc n) xs)
+pub row_next : {X : Type 0} (xs : List X) (n k : ℕ) (x : X) → slice_get xs n ≡ Some x →
+    take (suc k) (drop n xs) ≡ x ∷ take k (drop (suc n) xs)
 row_next [] n k x e = absurd (cc)
 row_next (y ∷ xs) zero k x e = let same : y ≡ x = cc in ap (λ z. z ∷ take k xs) same
 row_next (y ∷ xs) (suc n) k x e = row_next xs n k x e
@@ -32,5 +35,7 @@ drop_front : {X : Type 0} (xs ys : List X) → drop (length xs) (xs ++ ys) ≡ y
 drop_front [] ys = refl
 drop_front (x ∷ xs) ys = drop_front xs ys
 
-pub row_between : {X : Type 0} (xs ys zs : List X) → take (length ys) (drop (length xs) (xs ++ (ys ++ zs))) ≡ ys
-row_between xs ys zs = ap (λ rest. take (length ys) rest) (drop_front xs (ys ++ zs)) ∙ take_front ys zs
+pub row_between : {X : Type 0} (xs ys zs : List X) →
+    take (length ys) (drop (length xs) (xs ++ (ys ++ zs))) ≡ ys
+row_between xs ys zs =
+    ap (λ rest. take (length ys) rest) (drop_front xs (ys ++ zs)) ∙ take_front ys zs

@@ -1,5 +1,7 @@
 -- What a hall keeps and answers names what the policy has.
-use Rattle.std.proofs.Common.{◌≡◌, ℕ, ◌+◌, ◌<◌, Bool, true, false, List, [], ◌∷◌, ◌++◌, length, refl, sym, ap, ◌∙◌, subst, Option, Some, None, slice_get, option_map, cond, inl, inr, append_assoc}
+use Rattle.std.proofs.Common.{◌≡◌, ℕ, ◌+◌, ◌<◌, Bool, true, false, List, [], ◌∷◌, ◌++◌, length}
+use Rattle.std.proofs.Common.{refl, sym, ap, ◌∙◌, subst, Option, Some, None, slice_get, option_map}
+use Rattle.std.proofs.Common.{cond, inl, inr, append_assoc}
 use Rattle.std.specs.Prelude.{◌==◌, All, nat_lt, IsSome}
 use Rattle.std.specs.Option.{option_to_list}
 use Rattle.std.proofs.lemmas.List.Elements.{All-nil, All-push}
@@ -28,35 +30,47 @@ use Rattle.run_model.specs.declared.outcome.Outcome.TheVariants as outcomes
 use Rattle.run_model.specs.declared.entry.Entry.{Entry as BookEntry}
 use Rattle.run_model.specs.declared.entry.Entry.TheVariants.{Settled}
 use Rattle.run_model.specs.Comms.{Comm, processes, new_comms}
-use Rattle.run_model.specs.Posts.{Post, posts_on, place, filled, comms, outcome, outcome_of, constructor_outcome as made_of, by_verdict, labelled, histories, outcome_at}
+use Rattle.run_model.specs.Posts.{Post, posts_on, place, filled, comms, outcome, outcome_of}
+use Rattle.run_model.specs.Posts.{constructor_outcome as made_of, by_verdict, labelled, histories}
+use Rattle.run_model.specs.Posts.{outcome_at}
 use Rattle.run_model.specs.Books.{AreCounted, book, posted, outcome_entry}
 use Rattle.run_model.specs.Holding.{IsMoment}
-use Rattle.run_model.proofs.RunModelLemmas.{IsFilled, filled_is, stated_at, stated_by as stated_of, kth_from, taken_accepted, taken_at, filled_is_fit, entry_of, proper_step, settled_from}
+use Rattle.run_model.proofs.RunModelLemmas.{IsFilled, filled_is, stated_at, stated_by as stated_of}
+use Rattle.run_model.proofs.RunModelLemmas.{kth_from, taken_accepted, taken_at, filled_is_fit}
+use Rattle.run_model.proofs.RunModelLemmas.{entry_of, proper_step, settled_from}
 use Rattle.run_model.specs.declared.call.Posting.{Posting}
 use Rattle.run_model.specs.declared.call.Act.{Act}
 use Rattle.run_model.specs.declared.call.Act.TheVariants.{Post as ToPost, Take, Info as ToInfo}
 use Rattle.run_model.specs.declared.reply.Reply.{Reply}
 use Rattle.run_model.specs.declared.reply.Reply.TheVariants as replies
 use Rattle.run_model.specs.Runs.{Effects, requests, given_in, label_if, after_entry}
-use Rattle.run_model.specs.Replies.{posts_in, comm_at, refusal, accepted, reply_to_post, reply_to_take, reply_by_outcome, reply_by, join, joined, info_by, info_on, IsAnswer}
+use Rattle.run_model.specs.Replies.{posts_in, comm_at, refusal, accepted, reply_to_post}
+use Rattle.run_model.specs.Replies.{reply_to_take, reply_by_outcome, reply_by, join, joined}
+use Rattle.run_model.specs.Replies.{info_by, info_on, IsAnswer}
 use Rattle.run_model.specs.Contributions.{full_at}
 use Rattle.hall_core.specs.Halls.{HallView}
 use Rattle.hall_core.specs.Invariant.{IsMade, IsHallView}
 use Rattle.hall_core.specs.Moves.{Steps}
-use Rattle.run_model.specs.Known.{IsKnownLabel, HasKnownLabel, IsKnownReply, IsKnownIfAny, IsKnownOutcome, IsKnownEntry, PostsHaveKnownLabels}
+use Rattle.run_model.specs.Known.{IsKnownLabel, HasKnownLabel, IsKnownReply, IsKnownIfAny}
+use Rattle.run_model.specs.Known.{IsKnownOutcome, IsKnownEntry, PostsHaveKnownLabels}
 
 -- ## labels of posts
 
-labels_older : (wall : ChineseWall) (later past : List Post) → PostsHaveKnownLabels wall (later ++ past) → PostsHaveKnownLabels wall past
+labels_older : (wall : ChineseWall) (later past : List Post) →
+    PostsHaveKnownLabels wall (later ++ past) → PostsHaveKnownLabels wall past
 labels_older wall [] past h = h
 labels_older wall (x ∷ later) past h = labels_older wall later past h.0
 
-labels_at : (wall : ChineseWall) (past : List Post) (y : Post) (then : List Post) → IsMoment past y then → PostsHaveKnownLabels wall past → PostsHaveKnownLabels wall (y ∷ then)
-labels_at wall past y then moment h = labels_older wall moment.0 (y ∷ then) (subst (PostsHaveKnownLabels wall) (sym moment.1) h)
+labels_at : (wall : ChineseWall) (past : List Post) (y : Post) (then : List Post) →
+    IsMoment past y then → PostsHaveKnownLabels wall past → PostsHaveKnownLabels wall (y ∷ then)
+labels_at wall past y then moment h =
+    labels_older wall moment.0 (y ∷ then) (subst (PostsHaveKnownLabels wall) (sym moment.1) h)
 
 -- ## outcomes
 
-module _ (wall : ChineseWall) (x : Post) (past : List Post) (policy : IsPolicy wall) (taken : AreCounted wall (x ∷ past)) (labels : PostsHaveKnownLabels wall (x ∷ past)) (roll : Roll) (fills : filled (comms wall past) x past ≡ Some roll) where
+module _ (wall : ChineseWall) (x : Post) (past : List Post) (policy : IsPolicy wall)
+    (taken : AreCounted wall (x ∷ past)) (labels : PostsHaveKnownLabels wall (x ∷ past))
+    (roll : Roll) (fills : filled (comms wall past) x past ≡ Some roll) where
   filled_as : IsFilled (comms wall past) x past roll
   filled_as = filled_is (comms wall past) x past roll fills
 
@@ -73,87 +87,124 @@ module _ (wall : ChineseWall) (x : Post) (past : List Post) (policy : IsPolicy w
       row : stated_by roll j ≡ slice_get (posts_on x.comm q (x ∷ past)) (place x past)
       row = ap stated_in (stated_at (comms wall past) x past roll j filled_as q at)
 
-      by_row : (o : Option Stated) → slice_get (posts_on x.comm q (x ∷ past)) (place x past) ≡ o → q < processes wall
+      by_row : (o : Option Stated) → slice_get (posts_on x.comm q (x ∷ past)) (place x past) ≡ o →
+          q < processes wall
       by_row None e = let none = subst IsSome (row ∙ e) (fit.full j low) in absurd (cc)
       by_row (Some s) e =
           let y = kth_from x.comm q (place x past) s (x ∷ past) e in
-          subst (λ p. p < processes wall) y.by (taken_accepted wall y.y y.then (taken_at wall (x ∷ past) y.y y.then y.moment taken).1).process
+          subst (λ p. p < processes wall) y.by (taken_accepted wall y.y y.then
+          (taken_at wall (x ∷ past) y.y y.then y.moment taken).1).process
 
-  stated_label : (i : ℕ) (label : Label) (o : Option (Option Stated)) → slice_get roll.stated i ≡ o → label_stated (stated_in o) ≡ Some label → IsKnownLabel wall label
+  stated_label : (i : ℕ) (label : Label) (o : Option (Option Stated)) →
+      slice_get roll.stated i ≡ o → label_stated (stated_in o) ≡ Some label →
+      IsKnownLabel wall label
   stated_label i label None at e = absurd (cc)
   stated_label i label (Some None) at e = absurd (cc)
   stated_label i label (Some (Some s)) at e =
       let of = stated_of (comms wall past) x past roll i filled_as s at in
       let y = kth_from x.comm of.0 (place x past) s (x ∷ past) of.2 in
-      subst (IsKnownIfAny wall) (ap (λ (t : Stated). t.label) y.states ∙ e) (labels_at wall (x ∷ past) y.y y.then y.moment labels).1
+      subst (IsKnownIfAny wall) (ap (λ (t : Stated). t.label) y.states ∙ e)
+      (labels_at wall (x ∷ past) y.y y.then y.moment labels).1
 
   label_named : (i : ℕ) (label : Label) → label_of roll i ≡ Some label → IsKnownLabel wall label
   label_named i label e = stated_label i label (slice_get roll.stated i) refl e
 
-  verdict_named : (has : History) (v : Verdict) → IsVerdict wall has roll v → IsKnownOutcome wall (by_verdict v)
+  verdict_named : (has : History) (v : Verdict) → IsVerdict wall has roll v →
+      IsKnownOutcome wall (by_verdict v)
   verdict_named has Granted h = tt
-  verdict_named has (Denied Star p label) h = (member_named h.rank p h.is_member, label_named h.rank label h.is_label)
-  verdict_named has (Denied Simple p label) h = (member_named h.1.receiver p h.1.is_member, label_named h.1.contributor label h.1.is_label)
+  verdict_named has (Denied Star p label) h =
+      (member_named h.rank p h.is_member, label_named h.rank label h.is_label)
+  verdict_named has (Denied Simple p label) h =
+      (member_named h.1.receiver p h.1.is_member, label_named h.1.contributor label h.1.is_label)
 
-  made_named : (n : ℕ) (new : List Comm) (b : Bool) → IsKnownOutcome wall (cond b (outcomes.Made n (length new)) outcomes.NoRoom)
+  made_named : (n : ℕ) (new : List Comm) (b : Bool) →
+      IsKnownOutcome wall (cond b (outcomes.Made n (length new)) outcomes.NoRoom)
   made_named n new true = tt
   made_named n new false = tt
 
-  by_kind : (has : History) (n : ℕ) (b : Bool) → IsKnownOutcome wall (cond b (made_of n (new_comms roll)) (by_verdict (verdict wall has roll)))
+  by_kind : (has : History) (n : ℕ) (b : Bool) →
+      IsKnownOutcome wall (cond b (made_of n (new_comms roll)) (by_verdict (verdict wall has roll)))
   by_kind has n true = made_named n (new_comms roll) (fits n (length (new_comms roll)))
-  by_kind has n false = verdict_named has (verdict wall has roll) (verdicts_name_the_least wall has roll fit)
+  by_kind has n false =
+      verdict_named has (verdict wall has roll) (verdicts_name_the_least wall has roll fit)
 
   of_filled : (o : Outcome) → outcome wall x past ≡ Some o → IsKnownOutcome wall o
   of_filled o e =
-      let told : Some (outcome_of wall (labelled (histories wall past) x) (length (comms wall past)) roll) ≡ Some o =
-      sym (ap (λ r. option_map (outcome_of wall (labelled (histories wall past) x) (length (comms wall past))) r) fills) ∙ e in
-      let same : outcome_of wall (labelled (histories wall past) x) (length (comms wall past)) roll ≡ o = cc in
-      subst (IsKnownOutcome wall) same (by_kind (labelled (histories wall past) x) (length (comms wall past)) (is_constructor roll.sig))
+      let told : Some
+      (outcome_of wall (labelled (histories wall past) x) (length (comms wall past)) roll) ≡
+      Some o =
+      sym (ap (λ r. option_map (outcome_of wall (labelled (histories wall past) x)
+      (length (comms wall past))) r) fills) ∙ e in
+      let same : outcome_of wall (labelled (histories wall past) x) (length (comms wall past)) roll
+      ≡ o = cc in
+      subst (IsKnownOutcome wall) same (by_kind (labelled (histories wall past) x)
+      (length (comms wall past)) (is_constructor roll.sig))
 
-pub outcome_named : (wall : ChineseWall) (x : Post) (past : List Post) → IsPolicy wall → AreCounted wall (x ∷ past) → PostsHaveKnownLabels wall (x ∷ past) → (o : Outcome) → outcome wall x past ≡ Some o → IsKnownOutcome wall o
+pub outcome_named : (wall : ChineseWall) (x : Post) (past : List Post) → IsPolicy wall →
+    AreCounted wall (x ∷ past) → PostsHaveKnownLabels wall (x ∷ past) → (o : Outcome) →
+    outcome wall x past ≡ Some o → IsKnownOutcome wall o
 outcome_named wall x past policy taken labels o e = go (filled (comms wall past) x past) refl
   where
     go : (r : Option Roll) → filled (comms wall past) x past ≡ r → IsKnownOutcome wall o
-    go None fills = let none = sym (ap (λ r. option_map (outcome_of wall (labelled (histories wall past) x) (length (comms wall past))) r) fills) ∙ e in absurd (cc)
+    go None fills = let none = sym (ap (λ r. option_map
+        (outcome_of wall (labelled (histories wall past) x) (length (comms wall past)))
+        r) fills) ∙ e in absurd (cc)
     go (Some roll) fills = of_filled wall x past policy taken labels roll fills o e
 
-settled_named : (wall : ChineseWall) (past : List Post) → IsPolicy wall → AreCounted wall past → PostsHaveKnownLabels wall past → (c k : ℕ) (o : Outcome) → outcome_at wall c k past ≡ Some o → IsKnownOutcome wall o
+settled_named : (wall : ChineseWall) (past : List Post) → IsPolicy wall → AreCounted wall past →
+    PostsHaveKnownLabels wall past → (c k : ℕ) (o : Outcome) → outcome_at wall c k past ≡ Some o →
+    IsKnownOutcome wall o
 settled_named wall past policy taken labels c k o e =
     let h = settled_from wall c k past o e in
-    outcome_named wall h.x h.before policy (taken_at wall past h.x h.before h.moment taken) (labels_at wall past h.x h.before h.moment labels) o h.came
+    outcome_named wall h.x h.before policy (taken_at wall past h.x h.before h.moment taken)
+    (labels_at wall past h.x h.before h.moment labels) o h.came
 
 -- ## replies
 
-accepted_named : (wall : ChineseWall) (passed : Bool) (request : ℕ) (label : Label) → IsKnownLabel wall label → IsKnownReply wall (accepted passed request label)
+accepted_named : (wall : ChineseWall) (passed : Bool) (request : ℕ) (label : Label) →
+    IsKnownLabel wall label → IsKnownReply wall (accepted passed request label)
 accepted_named wall true request label known = tt
 accepted_named wall false request label known = known
 
-post_named : (wall : ChineseWall) (m : Effects) (p : ℕ) (posting : Posting) (o : Option Refusal) → IsKnownLabel wall posting.label → IsKnownReply wall (reply_to_post wall m p posting o)
+post_named : (wall : ChineseWall) (m : Effects) (p : ℕ) (posting : Posting) (o : Option Refusal) →
+    IsKnownLabel wall posting.label → IsKnownReply wall (reply_to_post wall m p posting o)
 post_named wall m p posting (Some r) known = tt
 post_named wall m p posting None known = accepted_named wall _ _ posting.label known
 
-join_named : (wall : ChineseWall) (first : ℕ) (comm : Comm) (o : Option ℕ) (others : Reply) → IsKnownReply wall others → IsKnownReply wall (join first comm o others)
+join_named : (wall : ChineseWall) (first : ℕ) (comm : Comm) (o : Option ℕ) (others : Reply) →
+    IsKnownReply wall others → IsKnownReply wall (join first comm o others)
 join_named wall first comm (Some rank) others h = tt
 join_named wall first comm None others h = h
 
-joined_named : (wall : ChineseWall) (p first : ℕ) (cs : List Comm) → IsKnownReply wall (joined p first cs)
+joined_named : (wall : ChineseWall) (p first : ℕ) (cs : List Comm) →
+    IsKnownReply wall (joined p first cs)
 joined_named wall p first [] = tt
-joined_named wall p first (comm ∷ cs) = join_named wall first comm (rank_in comm.members p) (joined p (first + 1) cs) (joined_named wall p (first + 1) cs)
+joined_named wall p first (comm ∷ cs) = join_named wall first comm (rank_in comm.members p)
+    (joined p (first + 1) cs) (joined_named wall p (first + 1) cs)
 
-came_named : (wall : ChineseWall) (p : ℕ) (full : Full Contents) (o : Option Outcome) → ((v : Outcome) → o ≡ Some v → IsKnownOutcome wall v) → IsKnownReply wall (reply_by_outcome p full o)
+came_named : (wall : ChineseWall) (p : ℕ) (full : Full Contents) (o : Option Outcome) →
+    ((v : Outcome) → o ≡ Some v → IsKnownOutcome wall v) →
+    IsKnownReply wall (reply_by_outcome p full o)
 came_named wall p full None h = tt
 came_named wall p full (Some outcomes.Granted) h = tt
-came_named wall p full (Some (outcomes.Denied rule q label)) h = h (outcomes.Denied rule q label) refl
-came_named wall p full (Some (outcomes.Made first number)) h = joined_named wall p first (new_comms full.roll)
+came_named wall p full (Some (outcomes.Denied rule q label)) h =
+    h (outcomes.Denied rule q label) refl
+came_named wall p full (Some (outcomes.Made first number)) h =
+    joined_named wall p first (new_comms full.roll)
 came_named wall p full (Some outcomes.NoRoom) h = tt
 
-either_named : (wall : ChineseWall) (b : Bool) (x y : Reply) → IsKnownReply wall x → IsKnownReply wall y → IsKnownReply wall (cond b x y)
+either_named : (wall : ChineseWall) (b : Bool) (x y : Reply) → IsKnownReply wall x →
+    IsKnownReply wall y → IsKnownReply wall (cond b x y)
 either_named wall true x y h k = h
 either_named wall false x y h k = k
 
-take_named : (wall : ChineseWall) (m : Effects) (p r : ℕ) (o : Option (ℕ × ℕ)) → ((c k : ℕ) (v : Outcome) → outcome_at wall c k (posts_in m) ≡ Some v → IsKnownOutcome wall v) → IsKnownReply wall (reply_to_take wall m p r o)
+take_named : (wall : ChineseWall) (m : Effects) (p r : ℕ) (o : Option (ℕ × ℕ)) →
+    ((c k : ℕ) (v : Outcome) → outcome_at wall c k (posts_in m) ≡ Some v → IsKnownOutcome wall v) →
+    IsKnownReply wall (reply_to_take wall m p r o)
 take_named wall m p r None h = tt
-take_named wall m p r (Some (c, k)) h = either_named wall (m.taken p r) _ _ tt (came_named wall p (full_at (comm_at wall (posts_in m) c) c k m.contributions) (outcome_at wall c k (posts_in m)) (h c k))
+take_named wall m p r (Some (c, k)) h = either_named wall (m.taken p r) _ _ tt
+    (came_named wall p (full_at (comm_at wall (posts_in m) c) c k m.contributions)
+    (outcome_at wall c k (posts_in m)) (h c k))
 
 rank_named : (wall : ChineseWall) (comm : Comm) (o : Option ℕ) → IsKnownReply wall (info_by comm o)
 rank_named wall comm None = tt
@@ -163,27 +214,40 @@ info_named : (wall : ChineseWall) (p : ℕ) (o : Option Comm) → IsKnownReply w
 info_named wall p None = tt
 info_named wall p (Some comm) = rank_named wall comm (rank_in comm.members p)
 
-due_named : (wall : ChineseWall) (m : Effects) (p : ℕ) (act : Act) → IsPolicy wall → IsMade wall m → HasKnownLabel wall act → IsKnownReply wall (reply_by wall m p act)
-due_named wall m p (ToPost posting) policy is label = post_named wall m p posting (refusal wall m p posting) label
-due_named wall m p (Take r) policy is label = take_named wall m p r (slice_get (requests p (posts_in m)) r) (λ c k v e. settled_named wall (posts_in m) policy is.proper.posts is.labels c k v e)
-due_named wall m p (ToInfo c) policy is label = either_named wall (nat_lt p (processes wall)) _ _ (info_named wall p (slice_get (comms wall (posts_in m)) c)) tt
+due_named : (wall : ChineseWall) (m : Effects) (p : ℕ) (act : Act) → IsPolicy wall → IsMade wall m →
+    HasKnownLabel wall act → IsKnownReply wall (reply_by wall m p act)
+due_named wall m p (ToPost posting) policy is label =
+    post_named wall m p posting (refusal wall m p posting) label
+due_named wall m p (Take r) policy is label = take_named wall m p r
+    (slice_get (requests p (posts_in m)) r)
+    (λ c k v e. settled_named wall (posts_in m) policy is.proper.posts is.labels c k v e)
+due_named wall m p (ToInfo c) policy is label = either_named wall (nat_lt p (processes wall)) _ _
+    (info_named wall p (slice_get (comms wall (posts_in m)) c)) tt
 
-answer_named : (wall : ChineseWall) (m : Effects) (p : ℕ) (act : Act) (got : Reply) → IsPolicy wall → IsMade wall m → HasKnownLabel wall act → IsAnswer (reply_by wall m p act) got → IsKnownReply wall got
-answer_named wall m p act got policy is label (inl e) = subst (IsKnownReply wall) (sym e) (due_named wall m p act policy is label)
+answer_named : (wall : ChineseWall) (m : Effects) (p : ℕ) (act : Act) (got : Reply) →
+    IsPolicy wall → IsMade wall m → HasKnownLabel wall act → IsAnswer (reply_by wall m p act) got →
+    IsKnownReply wall got
+answer_named wall m p act got policy is label (inl e) =
+    subst (IsKnownReply wall) (sym e) (due_named wall m p act policy is label)
 answer_named wall m p act got policy is label (inr e) = subst (IsKnownReply wall) (sym e.1) tt
 
 -- ## a call
 
-given_known : (wall : ChineseWall) (given : ℕ) (label : Label) → IsKnownLabel wall label → IsKnownIfAny wall (label_if given label)
+given_known : (wall : ChineseWall) (given : ℕ) (label : Label) → IsKnownLabel wall label →
+    IsKnownIfAny wall (label_if given label)
 given_known wall given label known = by_number (given == 0)
   where
     by_number : (b : Bool) → IsKnownIfAny wall (cond b None (Some label))
     by_number true = tt
     by_number false = known
 
-labels_more : (wall : ChineseWall) (m : Effects) (p : ℕ) (act : Act) (got : Reply) → PostsHaveKnownLabels wall (posts_in m) → HasKnownLabel wall act → PostsHaveKnownLabels wall (posts_in (after_entry m (entry_of p act got)))
-labels_more wall m p (ToPost posting) (replies.Posted r) h known = (h, given_known wall (given_in posting) posting.label known)
-labels_more wall m p (ToPost posting) (replies.Barred r label) h known = (h, given_known wall (given_in posting) posting.label known)
+labels_more : (wall : ChineseWall) (m : Effects) (p : ℕ) (act : Act) (got : Reply) →
+    PostsHaveKnownLabels wall (posts_in m) → HasKnownLabel wall act →
+    PostsHaveKnownLabels wall (posts_in (after_entry m (entry_of p act got)))
+labels_more wall m p (ToPost posting) (replies.Posted r) h known =
+    (h, given_known wall (given_in posting) posting.label known)
+labels_more wall m p (ToPost posting) (replies.Barred r label) h known =
+    (h, given_known wall (given_in posting) posting.label known)
 labels_more wall m p (ToPost posting) replies.Pending h known = h
 labels_more wall m p (ToPost posting) (replies.Delivered delivery) h known = h
 labels_more wall m p (ToPost posting) (replies.NewComm c r n) h known = h
@@ -195,34 +259,49 @@ labels_more wall m p (ToPost posting) (replies.Refused refusal) h known = h
 labels_more wall m p (Take r) got h known = h
 labels_more wall m p (ToInfo c) got h known = h
 
-pub is_hall_after : (old new : HallView) (p : ℕ) (act : Act) (got : Reply) → IsHallView old → new.policy ≡ old.policy → HasKnownLabel old.policy act → Steps old new p act got → IsHallView new
+pub is_hall_after : (old new : HallView) (p : ℕ) (act : Act) (got : Reply) → IsHallView old →
+    new.policy ≡ old.policy → HasKnownLabel old.policy act → Steps old new p act got →
+    IsHallView new
 is_hall_after old new p act got is same known steps =
     let step = steps is.effects is.is_made.proper is.stands in
     record {
       effects = after_entry is.effects (entry_of p act got);
       stands = step.1;
-      is_made = subst (λ (w : ChineseWall). IsMade w (after_entry is.effects (entry_of p act got))) (sym same) (record {
-        proper = proper_step old.policy is.effects p is.is_made.proper act got step.0;
-        labels = labels_more old.policy is.effects p act got is.is_made.labels known;
-      });
+      is_made = subst (λ (w : ChineseWall). IsMade w (after_entry is.effects (entry_of p act got)))
+          (sym same) (record {
+            proper = proper_step old.policy is.effects p is.is_made.proper act got step.0;
+            labels = labels_more old.policy is.effects p act got is.is_made.labels known;
+          });
     }
 
-pub step_named : (old new : HallView) (p : ℕ) (act : Act) (got : Reply) → IsPolicy old.policy → IsHallView old → HasKnownLabel old.policy act → Steps old new p act got → IsKnownReply old.policy got
-step_named old new p act got policy is known steps = answer_named old.policy is.effects p act got policy is.is_made known (steps is.effects is.is_made.proper is.stands).0
+pub step_named : (old new : HallView) (p : ℕ) (act : Act) (got : Reply) → IsPolicy old.policy →
+    IsHallView old → HasKnownLabel old.policy act → Steps old new p act got →
+    IsKnownReply old.policy got
+step_named old new p act got policy is known steps = answer_named old.policy is.effects p act got
+    policy is.is_made known (steps is.effects is.is_made.proper is.stands).0
 
 -- ## the book
 
-entry_named : (wall : ChineseWall) (x : Post) (past : List Post) → AreCounted wall (x ∷ past) → PostsHaveKnownLabels wall (x ∷ past) → IsKnownEntry wall (posted x)
+entry_named : (wall : ChineseWall) (x : Post) (past : List Post) → AreCounted wall (x ∷ past) →
+    PostsHaveKnownLabels wall (x ∷ past) → IsKnownEntry wall (posted x)
 entry_named wall x past taken labels = ((taken_accepted wall x past taken.1).process, labels.1)
 
-entries_named : (wall : ChineseWall) (x : Post) (past : List Post) (before : List BookEntry) (o : Option Outcome) → All (IsKnownEntry wall) before → IsKnownEntry wall (posted x) → ((v : Outcome) → o ≡ Some v → IsKnownOutcome wall v) →
+entries_named : (wall : ChineseWall) (x : Post) (past : List Post) (before : List BookEntry)
+    (o : Option Outcome) → All (IsKnownEntry wall) before → IsKnownEntry wall (posted x) →
+    ((v : Outcome) → o ≡ Some v → IsKnownOutcome wall v) →
     All (IsKnownEntry wall) (before ++ posted x ∷ option_to_list (outcome_entry x past o))
-entries_named wall x past before None all one h = All-push (IsKnownEntry wall) before (posted x) all one
+entries_named wall x past before None all one h =
+    All-push (IsKnownEntry wall) before (posted x) all one
 entries_named wall x past before (Some v) all one h =
-    subst (All (IsKnownEntry wall)) (append_assoc before (posted x ∷ []) (Settled x.comm (place x past) v ∷ []))
-    (All-push (IsKnownEntry wall) (before ++ posted x ∷ []) (Settled x.comm (place x past) v) (All-push (IsKnownEntry wall) before (posted x) all one) (h v refl))
+    subst (All (IsKnownEntry wall))
+    (append_assoc before (posted x ∷ []) (Settled x.comm (place x past) v ∷ []))
+    (All-push (IsKnownEntry wall) (before ++ posted x ∷ []) (Settled x.comm (place x past) v)
+    (All-push (IsKnownEntry wall) before (posted x) all one) (h v refl))
 
-pub book_named : (wall : ChineseWall) (past : List Post) → IsPolicy wall → AreCounted wall past → PostsHaveKnownLabels wall past → All (IsKnownEntry wall) (book wall past)
+pub book_named : (wall : ChineseWall) (past : List Post) → IsPolicy wall → AreCounted wall past →
+    PostsHaveKnownLabels wall past → All (IsKnownEntry wall) (book wall past)
 book_named wall [] policy taken labels = All-nil (IsKnownEntry wall)
 book_named wall (x ∷ past) policy taken labels =
-    entries_named wall x past (book wall past) (outcome wall x past) (book_named wall past policy taken.0 labels.0) (entry_named wall x past taken labels) (λ v e. outcome_named wall x past policy taken labels v e)
+    entries_named wall x past (book wall past) (outcome wall x past)
+    (book_named wall past policy taken.0 labels.0) (entry_named wall x past taken labels)
+    (λ v e. outcome_named wall x past policy taken labels v e)

@@ -8,7 +8,8 @@ use Rattle.run_model.specs.declared.call.Call.{Call}
 use Rattle.run_model.specs.declared.reply.Reply.{Reply}
 use Rattle.run_model.specs.Runs.{Entry, entry, run_of, entry_of}
 use Rattle.run_model.specs.Replies.{Legal}
-use Rattle.run_model.specs.Worlds.{SameCallButForValues, SameCallsButForValues, AreTwoWorlds, ValuesDecideNothing, WhoHoldsNothingLearnsNothing}
+use Rattle.run_model.specs.Worlds.{SameCallButForValues, SameCallsButForValues, AreTwoWorlds}
+use Rattle.run_model.specs.Worlds.{ValuesDecideNothing, WhoHoldsNothingLearnsNothing}
 use Rattle.hall_core.specs.Worlds.{DifferInValues, OneWallIn, CannotTellIn}
 
 last_entry : (calls : List Call) (replies : List Reply) (call : Call) (given : Reply) →

@@ -1,5 +1,8 @@
--- The requests of a process. (MPI 4.1, section 6.12: a nonblocking collective has a request, which is complete once its outcome is taken.)
-use Rattle.std.specs.Prelude.{ℕ, zero, suc, ◌+◌, ◌&&◌, Bool, false, List, [], ◌∷◌, ◌++◌, slice_get, slice_index_or, slice_set, Option, Some, None, is_some, is_none, ◌==◌, count_by, if◌then◌else◌}
+-- The requests of a process. (MPI 4.1, section 6.12: a nonblocking collective has a request, which
+-- is complete once its outcome is taken.)
+use Rattle.std.specs.Prelude.{ℕ, zero, suc, ◌+◌, ◌&&◌, Bool, false, List, [], ◌∷◌, ◌++◌, slice_get}
+use Rattle.std.specs.Prelude.{slice_index_or, slice_set, Option, Some, None, is_some, is_none, ◌==◌}
+use Rattle.std.specs.Prelude.{count_by, if◌then◌else◌}
 use Rattle.std.specs.Option.{option_map_or}
 use Rattle.hall_core.specs.declared.requests.Request.{Request}
 

@@ -15,7 +15,9 @@ use Rattle.run_model.specs.Contributions.{full_at}
 use Rattle.run_model.specs.declared.call.Call.{Call}
 use Rattle.run_model.specs.declared.call.Act.TheVariants.{Take}
 use Rattle.run_model.specs.declared.reply.Reply.{Reply}
-use Rattle.run_model.specs.declared.reply.Reply.TheVariants.{Posted, Barred, Pending, Delivered, NewComm, NullComm, Denied, NoRoom, Info, Refused}
+use Rattle.run_model.specs.declared.reply.Reply.TheVariants.{Posted, Barred, Pending, Delivered}
+use Rattle.run_model.specs.declared.reply.Reply.TheVariants.{NewComm, NullComm, Denied, NoRoom}
+use Rattle.run_model.specs.declared.reply.Reply.TheVariants.{Info, Refused}
 use Rattle.run_model.specs.Runs.{Entry, Effects, requests, entry}
 use Rattle.run_model.specs.Replies.{posts_in, comm_at}
 use Rattle.hall_core.specs.declared.claims.Claim.{Claim}
@@ -102,4 +104,5 @@ pub record IsHeld (hall : HallView) (p request : ℕ) (full : Full Contents) (ra
 
 abbrev pub HoldsWhatIsKept : HallView → (p request : ℕ) → Claim → Type 0
 HoldsWhatIsKept hall p request (Done reply) = IsNoDelivery reply
-HoldsWhatIsKept hall p request (Ready shared rank room) = IsHeld hall p request (arc_value shared) rank
+HoldsWhatIsKept hall p request (Ready shared rank room) =
+    IsHeld hall p request (arc_value shared) rank

@@ -58,7 +58,9 @@ settlement full outcome = record { full = full; outcome = outcome }
 
 -- instance (c, k) with the elements that its members brought, and its outcome, once it was filled
 abbrev pub settlement_in : ChineseWall → Effects → (c k : ℕ) → Option Settlement
-settlement_in wall effects c k = option_map (settlement (full_at (comm_at wall (posts_in effects) c) c k effects.contributions)) (outcome_at wall c k (posts_in effects))
+settlement_in wall effects c k = option_map
+    (settlement (full_at (comm_at wall (posts_in effects) c) c k effects.contributions))
+    (outcome_at wall c k (posts_in effects))
 
 -- A hall stands for what a run has made: its state for the counted posts with their elements; each
 -- process has as many requests as it was given, of which those are marked that were taken; of each

@@ -11,7 +11,8 @@ use Rattle.hall_core.specs.Settling.{KeepsCount}
 use Rattle.hall_core.specs.Halls.{HallValue, HallView, StandsForEffects, view_of}
 use Rattle.run_model.specs.Known.{PostsHaveKnownLabels}
 
--- what a hall may stand for: posts that count and bring what they state, whose labels the policy has
+-- what a hall may stand for: posts that count and bring what they state, whose labels the policy
+-- has
 pub record IsMade (wall : ChineseWall) (effects : Effects) : Type 0 where
   pub proper : IsProper wall effects
   pub labels : PostsHaveKnownLabels wall (posts_in effects)

@@ -1,11 +1,13 @@
 -- What a call makes of a hall, by what callers can tell. (The contracts of the hall's own steps.)
-use Rattle.std.specs.Prelude.{◌≡◌, ◌==◌, ◌&&◌, ◌+◌, ◌≤◌, ◌<◌, ◌^◌, ℕ, List, [], ◌∷◌, ◌++◌, Option, Some, length, slice_get, take, drop, nat_lt, if◌then◌else◌}
+use Rattle.std.specs.Prelude.{◌≡◌, ◌==◌, ◌&&◌, ◌+◌, ◌≤◌, ◌<◌, ◌^◌, ℕ, List, [], ◌∷◌, ◌++◌, Option}
+use Rattle.std.specs.Prelude.{Some, length, slice_get, take, drop, nat_lt, if◌then◌else◌}
 use Rattle.mpi_elems.specs.Contents.{Contents}
 use Rattle.coll_routes.specs.declared.statement.Stated.{Stated}
 use Rattle.coll_values.specs.Instances.{IsWhole}
 use Rattle.run_model.specs.declared.outcome.Outcome.TheVariants.{Granted, Made}
 use Rattle.run_model.specs.declared.entry.Entry.{Entry as BookEntry}
-use Rattle.run_model.specs.declared.entry.Entry.TheVariants.{Posted as EntryPosted, Settled as EntrySettled}
+use Rattle.run_model.specs.declared.entry.Entry.TheVariants.{Posted as EntryPosted}
+use Rattle.run_model.specs.declared.entry.Entry.TheVariants.{Settled as EntrySettled}
 use Rattle.run_model.specs.declared.refusal.Refusal.TheVariants.{NoSuchProcess}
 use Rattle.run_model.specs.Comms.{Comm, processes, new_comms}
 use Rattle.run_state.specs.declared.entered.Entered.{Entered}
@@ -28,7 +30,8 @@ use Rattle.hall_core.specs.Settling.{HasPlace, open_at}
 -- ## infos
 
 abbrev pub info_of : HallView → (p c : ℕ) → Reply
-info_of hall p c = if nat_lt p (processes hall.policy) then info_on p (slice_get hall.post_state.comms c) else Refused NoSuchProcess
+info_of hall p c = if nat_lt p (processes hall.policy)
+    then info_on p (slice_get hall.post_state.comms c) else Refused NoSuchProcess
 
 -- ## posts
 
@@ -40,15 +43,19 @@ number_in (Settled full k outcome) = k
 -- the entries of the book
 abbrev pub entries_of : (p c : ℕ) → Stated → Entered Contents → List BookEntry
 entries_of p c stated (Waiting k) = EntryPosted p c stated ∷ []
-entries_of p c stated (Settled full k outcome) = EntryPosted p c stated ∷ EntrySettled c k outcome ∷ []
+entries_of p c stated (Settled full k outcome) =
+    EntryPosted p c stated ∷ EntrySettled c k outcome ∷ []
 
 -- what the settlements are afterwards
-abbrev pub IsSettledBy : (c : ℕ) → Entered Contents → (old new : (c k : ℕ) → Option Settlement) → Type 0
+abbrev pub IsSettledBy : (c : ℕ) → Entered Contents → (old new : (c k : ℕ) → Option Settlement) →
+    Type 0
 IsSettledBy c (Waiting k) old new = (d j : ℕ) → new d j ≡ old d j
-IsSettledBy c (Settled full k outcome) old new = (d j : ℕ) → new d j ≡ (if d == c && j == k then Some (settlement full outcome) else old d j)
+IsSettledBy c (Settled full k outcome) old new =
+    (d j : ℕ) → new d j ≡ (if d == c && j == k then Some (settlement full outcome) else old d j)
 
 -- a post that the state has entered has been recorded
-pub record IsRecorded (old new : HallView) (p c : ℕ) (stated : Stated) (entered : Entered Contents) : Type 0 where
+pub record IsRecorded (old new : HallView) (p c : ℕ) (stated : Stated) (entered : Entered Contents)
+    : Type 0 where
   pub policy : new.policy ≡ old.policy
   pub asked : new.asked ≡ with_request old.asked p (record { comm = c; k = number_in entered })
   pub settled : IsSettledBy c entered old.settled new.settled
@@ -65,7 +72,8 @@ pub record HasRoom (records : Records) (p c k : ℕ) : Type 0 where
 
 -- a post with its part has been counted, whatever the hall stood for
 abbrev pub Counts : (old new : HallView) → Contribution Contents → Type 0
-Counts old new g = (m : Effects) → StandsForEffects old m → IsCounted old.policy g.post (posts_in m) → StandsForEffects new (with_contribution m g)
+Counts old new g = (m : Effects) → StandsForEffects old m →
+    IsCounted old.policy g.post (posts_in m) → StandsForEffects new (with_contribution m g)
 
 -- ## takes
 
@@ -83,16 +91,20 @@ pub record Closes (old new : HallView) (p request : ℕ) : Type 0 where
 abbrev pub row_at : List Comm → (first number : ℕ) → List Comm
 row_at table first number = take number (drop first table)
 
--- what is known of an instance that was filled, whose communicators stand in this table: a grant is whole, and a constructor's communicators
--- are those of the table that its outcome names
+-- what is known of an instance that was filled, whose communicators stand in this table: a grant is
+-- whole, and a constructor's communicators are those of the table that its outcome names
 pub record IsTellable (table : List Comm) (s : Settlement) : Type 0 where
   pub whole : s.outcome ≡ Granted → IsWhole s.full
   pub within : (first number : ℕ) → s.outcome ≡ Made first number → first + number ≤ length table
-  pub made : (first number : ℕ) → s.outcome ≡ Made first number → new_comms s.full.roll ≡ row_at table first number
+  pub made : (first number : ℕ) → s.outcome ≡ Made first number →
+      new_comms s.full.roll ≡ row_at table first number
 
 -- ## calls
 
--- The reply is the one that is due, or out of memory in its place, and the hall then stands for what has been made with it, whatever it
--- stood for.
+-- The reply is the one that is due, or out of memory in its place, and the hall then stands for
+-- what has been made with it, whatever it stood for.
 abbrev pub Steps : (old new : HallView) → (p : ℕ) → Act → Reply → Type 0
-Steps old new p act got = (m : Effects) → IsProper old.policy m → StandsForEffects old m → IsAnswer (reply_by old.policy m p act) got × StandsForEffects new (after_entry m (record { call = record { process = p; act = act }; reply = got }))
+Steps old new p act got = (m : Effects) → IsProper old.policy m → StandsForEffects old m →
+    IsAnswer (reply_by old.policy m p act) got
+    × StandsForEffects new
+    (after_entry m (record { call = record { process = p; act = act }; reply = got }))

@@ -7,7 +7,8 @@ use Rattle.run_model.specs.Holding.{Holds}
 use Rattle.run_model.specs.declared.call.Call.{Call}
 use Rattle.run_model.specs.declared.reply.Reply.{Reply}
 use Rattle.run_model.specs.Runs.{posts, run_of}
-use Rattle.run_model.specs.Worlds.{SameCallButForValues, NobodyLacksMemory, AreOneToTheWall, DifferOnlyIn, CannotTell}
+use Rattle.run_model.specs.Worlds.{SameCallButForValues, NobodyLacksMemory, AreOneToTheWall}
+use Rattle.run_model.specs.Worlds.{DifferOnlyIn, CannotTell}
 
 -- the calls are equal but for values, and none was answered out of memory
 pub record DifferInValues (first second : List Call) (told other : List Reply) : Type 0 where

@@ -11,8 +11,8 @@ use wall_labels::NoMemory;
 use wall_policy::Policy;
 use wall_rules::Histories;
 
-/// All that the server keeps: the policy, the counted posts with their elements, the requests, the instances that were filled with what came
-/// of them, and the book.
+/// All that the server keeps: the policy, the counted posts with their elements, the requests, the
+/// instances that were filled with what came of them, and the book.
 #[derive(Drop)]
 pub struct Hall {
     records: Records,
@@ -45,7 +45,8 @@ impl Hall {
     ghost use Rattle.hall_core.specs.Claims.{claim_reply, claim_entry, Claims, CanFinish};
     ghost use Rattle.run_model.specs.Known.{HasKnownLabel, IsKnownReply, IsKnownEntry};
 
-    /// A hall that stands for the empty run. `NoMemory` is answered only where a growth was refused.
+    /// A hall that stands for the empty run. `NoMemory` is answered only where a growth was
+    /// refused.
     pub fn open(alloc: Global, policy: Policy) -> Result<Hall, NoMemory>
         ensures stands { IfOk result (λ hall. StandsFor hall []) }
         ensures policy { IfOk result (λ hall. hall.policy ≡ policy) }
@@ -57,15 +58,18 @@ impl Hall {
         }
     }
 
-    /// Applies one call, and answers it. The caller sees to it that a posting's label is public or a dataset of the policy; all else is judged here.
+    /// Applies one call, and answers it. The caller sees to it that a posting's label is public or
+    /// a dataset of the policy; all else is judged here.
     ///
-    /// After it no process holds two rivals, directly or through others. After `Pending`, `Info` and `Refused` the hall is as it was.
-    /// `Refused(NoMemory)` comes only where a growth was refused, and in place of `Posted`, `Barred` or `Delivered` alone.
+    /// After it no process holds two rivals, directly or through others. After `Pending`, `Info`
+    /// and `Refused` the hall is as it was. `Refused(NoMemory)` comes only where a growth was
+    /// refused, and in place of `Posted`, `Barred` or `Delivered` alone.
     pub fn apply(&mut self, call: Call) -> Reply
         requires { HasKnownLabel self.old.policy call.act }
         ensures policy { self.new.policy ≡ self.old.policy }
         ensures runs { (run : List Entry) → Legal self.old.policy run → StandsFor self.old run →
-            Legal self.new.policy (entry call result ∷ run) × StandsFor self.new (entry call result ∷ run) }
+            Legal self.new.policy (entry call result ∷ run)
+            × StandsFor self.new (entry call result ∷ run) }
         ensures apart { (run : List Entry) → Legal self.old.policy run → StandsFor self.old run →
             NobodyHoldsBoth self.new.policy (posts (entry call result ∷ run)) }
         ensures unchanged { MakesNothing result → view_of self.new ≡ view_of self.old }
@@ -91,7 +95,8 @@ impl Hall {
         ensures claims { (run : List Entry) → Legal self.old.policy run → StandsFor self.old run →
             Claims self.old.policy (effects run) process request result }
         ensures can { CanFinish result }
-        ensures unchanged { MakesNothing (claim_reply result) → view_of self.new ≡ view_of self.old }
+        ensures unchanged { MakesNothing (claim_reply result) →
+            view_of self.new ≡ view_of self.old }
         ensures named { IsKnownReply self.new.policy (claim_reply result) }
     {
         self.records.claim(process, request)

@@ -1,12 +1,15 @@
 //! All that a hall keeps.
-ghost use Rattle.std.specs.Prelude.{◌≡◌, ◌<◌, ◌+◌, ◌^◌, ◌++◌, ◌==◌, ◌&&◌, if◌then◌else◌, [], ◌∷◌, ℕ, length, not, IfOk, OnOk, IfNone, IsTrue, IsFalse, Some, None};
+ghost use Rattle.std.specs.Prelude.{◌≡◌, ◌<◌, ◌+◌, ◌^◌, ◌++◌, ◌==◌, ◌&&◌, if◌then◌else◌, [], ◌∷◌};
+ghost use Rattle.std.specs.Prelude.{ℕ, length, not, IfOk, OnOk, IfNone, IsTrue, IsFalse, Some};
+ghost use Rattle.std.specs.Prelude.{None};
 ghost use Rattle.std.specs.Option.{option_map};
 ghost use Rattle.wall_policy.specs.Policy.{IsPolicy};
 ghost use Rattle.wall_rules.specs.Histories.{has};
 ghost use Rattle.mpi_cart.specs.Grids.{Topology};
 ghost use Rattle.coll_routes.specs.Faults.{stated_type};
 ghost use Rattle.wall_verdict.specs.Star.{star};
-ghost use Rattle.run_model.specs.declared.entry.Entry.TheVariants.{Posted as EntryPosted, Settled as EntrySettled};
+ghost use Rattle.run_model.specs.declared.entry.Entry.TheVariants.{Posted as EntryPosted};
+ghost use Rattle.run_model.specs.declared.entry.Entry.TheVariants.{Settled as EntrySettled};
 ghost use Rattle.run_model.specs.Comms.{processes};
 ghost use Rattle.run_model.specs.EntryForms.{HasForm};
 ghost use Rattle.run_model.specs.Contributions.{contribution};
@@ -20,7 +23,8 @@ ghost use Rattle.hall_core.specs.Asking.{opened, requests_of, room_of, with_requ
 ghost use Rattle.hall_core.specs.Settling.{HasPlace, open_at, settlement_at};
 ghost use Rattle.hall_core.specs.Halls.{StandsForEffects};
 ghost use Rattle.hall_core.specs.Invariant.{AreCounted, IsHallView, view_in};
-ghost use Rattle.hall_core.specs.Moves.{info_of, number_in, IsRecorded, HasRoom, Counts, Closes, Steps};
+ghost use Rattle.hall_core.specs.Moves.{info_of, number_in, IsRecorded, HasRoom, Counts, Closes};
+ghost use Rattle.hall_core.specs.Moves.{Steps};
 
 use crate::claims::{Claim, finish};
 use crate::instance::Instance;
@@ -36,8 +40,8 @@ use std::alloc::Global;
 use wall_labels::{NoMemory, ProcessId};
 use wall_policy::Policy;
 
-/// The policy; the counted posts so far, as the state has them; the requests of each process; the settlements of the instances that were filled;
-/// and the book.
+/// The policy; the counted posts so far, as the state has them; the requests of each process; the
+/// settlements of the instances that were filled; and the book.
 #[derive(Drop)]
 pub struct Records {
     pub alloc: Global,
@@ -92,7 +96,8 @@ impl Records {
         }
     }
 
-    /// The size of a communicator, the rank of the process there, and the number of dimensions of its grid.
+    /// The size of a communicator, the rank of the process there, and the number of dimensions of
+    /// its grid.
     pub fn info(&self, process: u32, comm: u32) -> Reply
         ensures { result ≡ info_of (view_in self.now) process comm }
     {
@@ -118,7 +123,8 @@ impl Records {
         ensures policy { self.new.policy ≡ self.old.policy }
         ensures each { length self.new.requests.items ≡ length self.old.requests.items }
         ensures counted { AreCounted self.new }
-        ensures steps { Steps (view_in self.old) (view_in self.new) process (ToTake request) result }
+        ensures steps { Steps (view_in self.old) (view_in self.new) process (ToTake request)
+            result }
         ensures unchanged { MakesNothing result → view_in self.new ≡ view_in self.old }
     {
         finish(self.claim(process, request))
@@ -135,7 +141,8 @@ impl Records {
         ensures counted { AreCounted self.new }
         ensures steps { Steps (view_in self.old) (view_in self.new) process (ToTake request)
             (claim_reply result) }
-        ensures unchanged { MakesNothing (claim_reply result) → view_in self.new ≡ view_in self.old }
+        ensures unchanged { MakesNothing (claim_reply result) →
+            view_in self.new ≡ view_in self.old }
         ensures can { CanFinish result }
         ensures holds { HoldsWhatIsKept (view_in self.old) process request result }
     {
@@ -172,7 +179,8 @@ impl Records {
         ensures counted { AreCounted self.new }
         ensures steps { Steps (view_in self.old) (view_in self.new) process (ToTake request)
             (claim_reply result) }
-        ensures unchanged { MakesNothing (claim_reply result) → view_in self.new ≡ view_in self.old }
+        ensures unchanged { MakesNothing (claim_reply result) →
+            view_in self.new ≡ view_in self.old }
         ensures can { CanFinish result }
         ensures holds { HoldsWhatIsKept (view_in self.old) process request result }
     {
@@ -212,7 +220,8 @@ impl Records {
         ensures policy { self.new.policy ≡ self.old.policy }
         ensures each { length self.new.requests.items ≡ length self.old.requests.items }
         ensures counted { AreCounted self.new }
-        ensures steps { Steps (view_in self.old) (view_in self.new) process (ToPost posting) result }
+        ensures steps { Steps (view_in self.old) (view_in self.new) process (ToPost posting)
+            result }
         ensures unchanged { MakesNothing result → view_in self.new ≡ view_in self.old }
     {
         match self.refusal(process, &posting) {
@@ -224,10 +233,14 @@ impl Records {
     // The first refusal of a post that holds.
     fn refusal(&self, process: u32, posting: &Posting) -> Option<Refusal>
         requires each { length self.now.requests.items ≡ processes self.now.policy }
-        ensures first { (m : Effects) → StandsForEffects (view_in self.now) m → result ≡ refusal self.now.policy m process posting.now }
-        ensures free { IfNone result (fault_of self.now.policy (seen self.now.post_state) process posting.now.comm posting.now.sig posting.now.own posting.now.elements.elem_type (given_in posting.now) ≡ None) }
+        ensures first { (m : Effects) → StandsForEffects (view_in self.now) m →
+            result ≡ refusal self.now.policy m process posting.now }
+        ensures free { IfNone result (fault_of self.now.policy (seen self.now.post_state) process
+            posting.now.comm posting.now.sig posting.now.own posting.now.elements.elem_type
+            (given_in posting.now) ≡ None) }
         ensures process { IfNone result (process < processes self.now.policy) }
-        ensures few { IfNone result (length (requests_of self.now.requests.items process) < 2 ^ 62) }
+        ensures few { IfNone result
+            (length (requests_of self.now.requests.items process) < 2 ^ 62) }
     {
         let fault = self.post_state.refusal(
             &self.policy,
@@ -250,14 +263,17 @@ impl Records {
         requires each { length self.old.requests.items ≡ processes self.old.policy }
         requires counted { AreCounted self.old }
         requires hall { IsHallView (view_in self.old) }
-        requires none { (m : Effects) → StandsForEffects (view_in self.old) m → refusal self.old.policy m process posting ≡ None }
-        requires free { fault_of self.old.policy (seen self.old.post_state) process posting.comm posting.sig posting.own posting.elements.elem_type (given_in posting) ≡ None }
+        requires none { (m : Effects) → StandsForEffects (view_in self.old) m →
+            refusal self.old.policy m process posting ≡ None }
+        requires free { fault_of self.old.policy (seen self.old.post_state) process posting.comm
+            posting.sig posting.own posting.elements.elem_type (given_in posting) ≡ None }
         requires process { process < processes self.old.policy }
         requires few { length (requests_of self.old.requests.items process) < 2 ^ 62 }
         ensures policy { self.new.policy ≡ self.old.policy }
         ensures each { length self.new.requests.items ≡ length self.old.requests.items }
         ensures counted { AreCounted self.new }
-        ensures steps { Steps (view_in self.old) (view_in self.new) process (ToPost posting) result }
+        ensures steps { Steps (view_in self.old) (view_in self.new) process (ToPost posting)
+            result }
         ensures unchanged { MakesNothing result → view_in self.new ≡ view_in self.old }
     {
         let member = posts::member(&self.policy, process);
@@ -284,21 +300,25 @@ impl Records {
         posts::answer(entered, passed, request as u64, told)
     }
 
-    // Counts a post with what it states and its part; false, and nothing has changed, where memory runs out.
+    // Counts a post with what it states and its part; false, and nothing has changed, where memory
+    // runs out.
     fn enter(&mut self, member: ProcessId, comm: u32, stated: Stated, part: Buffer) -> bool
         requires policy { IsPolicy self.old.policy }
         requires each { length self.old.requests.items ≡ processes self.old.policy }
         requires counted { AreCounted self.old }
         requires hall { IsHallView (view_in self.old) }
         requires process { member < processes self.old.policy }
-        requires free { fault_of self.old.policy (seen self.old.post_state) member comm stated.sig stated.own (stated_type stated.sig) stated.given ≡ None }
-        requires word { stated.barred ≡ not (star (has self.old.post_state.accesses) member stated.label) }
+        requires free { fault_of self.old.policy (seen self.old.post_state) member comm stated.sig
+            stated.own (stated_type stated.sig) stated.given ≡ None }
+        requires word { stated.barred
+            ≡ not (star (has self.old.post_state.accesses) member stated.label) }
         requires few { length (requests_of self.old.requests.items member) < 2 ^ 62 }
         requires form { HasForm (EntryPosted member comm stated) }
         ensures policy { self.new.policy ≡ self.old.policy }
         ensures each { length self.new.requests.items ≡ length self.old.requests.items }
         ensures counted { AreCounted self.new }
-        ensures entered { IsTrue result → Counts (view_in self.old) (view_in self.new) (contribution member comm stated part) }
+        ensures entered { IsTrue result →
+            Counts (view_in self.old) (view_in self.new) (contribution member comm stated part) }
         ensures unchanged { IsFalse result → view_in self.new ≡ view_in self.old }
     {
         let Ok(copy) = stated.copy(self.alloc) else {
@@ -349,7 +369,8 @@ impl Records {
         ensures post_state { self.new.post_state ≡ self.old.post_state }
         ensures each { length self.new.requests.items ≡ length self.old.requests.items }
         ensures counted { AreCounted self.new }
-        ensures recorded { IsRecorded (view_in self.old) (view_in self.new) member comm stated entered }
+        ensures recorded { IsRecorded (view_in self.old) (view_in self.new) member comm stated
+            entered }
     {
         match entered {
             Entered::Waiting { k } => self.note(member, comm, k, stated),
@@ -378,7 +399,8 @@ impl Records {
         ensures requests { requests_of self.new.requests.items
             ≡ with_request (requests_of self.old.requests.items) member
             (record { comm = comm; k = k }) }
-        ensures book { self.new.book.list ≡ self.old.book.list ++ EntryPosted member comm stated ∷ [] }
+        ensures book { self.new.book.list
+            ≡ self.old.book.list ++ EntryPosted member comm stated ∷ [] }
         ensures room { self.new.book.room + 1 ≡ self.old.book.room }
     {
         requests::push(&mut self.requests, member.number(), Request { comm, k });
@@ -403,7 +425,8 @@ impl Records {
         ensures settled { (d j : ℕ) → settlement_at self.new.settled d j
             ≡ (if d == comm && j == k then Some settlement
             else settlement_at self.old.settled d j) }
-        ensures book { self.new.book.list ≡ self.old.book.list ++ EntrySettled comm k settlement.outcome ∷ [] }
+        ensures book { self.new.book.list
+            ≡ self.old.book.list ++ EntrySettled comm k settlement.outcome ∷ [] }
         ensures room { self.new.book.room + 1 ≡ self.old.book.room }
     {
         self.book.push(Entry::Settled {
@@ -424,7 +447,8 @@ fn first_requests(alloc: Global, policy: &Policy) -> Result<Vec<Requests>, NoMem
 }
 
 fn described(shape: &Shape, rank: u32) -> Reply
-    ensures { result ≡ Info shape.now.size rank (option_map (λ (g : Topology). length g.dims) shape.now.grid) }
+    ensures { result
+        ≡ Info shape.now.size rank (option_map (λ (g : Topology). length g.dims) shape.now.grid) }
 {
     let dims = match &shape.grid {
         Some(grid) => Some(grid.ndims()),

@@ -1,9 +1,12 @@
 //! Requests.
-ghost use Rattle.std.specs.Prelude.{◌≡◌, ◌<◌, ◌≤◌, ◌+◌, [], ◌∷◌, ◌++◌, length, replicate, drop, slice_set, ◌^◌, IfOk, IfNone, OnOk, IsSome, IsTrue, IsFalse, Some, None, if◌then◌else◌};
+ghost use Rattle.std.specs.Prelude.{◌≡◌, ◌<◌, ◌≤◌, ◌+◌, [], ◌∷◌, ◌++◌, length, replicate, drop};
+ghost use Rattle.std.specs.Prelude.{slice_set, ◌^◌, IfOk, IfNone, OnOk, IsSome, IsTrue, IsFalse};
+ghost use Rattle.std.specs.Prelude.{Some, None, if◌then◌else◌};
 ghost use Rattle.std.specs.VecDeque.{deque_len};
 ghost use Rattle.run_model.specs.declared.refusal.Refusal.TheVariants.{TooManyRequests};
 ghost use Rattle.run_model.specs.Replies.{is_limit_reached as is_over_test};
-ghost use Rattle.hall_core.specs.Asking.{opened, open_number, requests_of, room_of, with_request, with_closed};
+ghost use Rattle.hall_core.specs.Asking.{opened, open_number, requests_of, room_of, with_request};
+ghost use Rattle.hall_core.specs.Asking.{with_closed};
 
 use run_model::Refusal;
 use std::alloc::{AllocError, Global};

@@ -76,9 +76,11 @@ pub(crate) fn apply_each(alloc: Global, hall: &mut Hall, calls: Calls) -> Result
     Ok(Replies { list })
 }
 
-/// Applies the calls in order to a hall that was opened for them, and gives one reply for each, in order.
+/// Applies the calls in order to a hall that was opened for them, and gives one reply for each, in
+/// order.
 ///
-/// `NoMemory` is answered where the hall could not be opened or the list of replies could not grow; a call's own out of memory is its reply.
+/// `NoMemory` is answered where the hall could not be opened or the list of replies could not grow;
+/// a call's own out of memory is its reply.
 pub fn run_calls(alloc: Global, policy: Policy, calls: Calls) -> Result<Replies, NoMemory>
     requires { HaveKnownLabels policy calls }
     ensures run { IfOk result (λ replies. Legal policy (run_of calls replies)) }

@@ -1,8 +1,11 @@
 //! The places of instances, each with what came of it.
-ghost use Rattle.std.specs.Prelude.{◌≡◌, ◌<◌, ◌≤◌, ◌==◌, ◌+◌, ◌^◌, [], ◌∷◌, ◌++◌, ℕ, None, Some, length, replicate, drop, OnOk, IsTrue, if◌then◌else◌};
+ghost use Rattle.std.specs.Prelude.{◌≡◌, ◌<◌, ◌≤◌, ◌==◌, ◌+◌, ◌^◌, [], ◌∷◌, ◌++◌, ℕ, None, Some};
+ghost use Rattle.std.specs.Prelude.{length, replicate, drop, OnOk, IsTrue, if◌then◌else◌};
 ghost use Rattle.std.specs.Option.{option_copied};
 ghost use Rattle.std.specs.VecDeque.{deque_len};
-ghost use Rattle.hall_core.specs.Settling.{nothing, no_places, place_in, place_at, places_of, open_at, settlement_at, HasPlace, one_more, one_fewer, settled_as, with_place, AreSame, IsPlaced};
+ghost use Rattle.hall_core.specs.Settling.{nothing, no_places, place_in, place_at, places_of};
+ghost use Rattle.hall_core.specs.Settling.{open_at, settlement_at, HasPlace, one_more, one_fewer};
+ghost use Rattle.hall_core.specs.Settling.{settled_as, with_place, AreSame, IsPlaced};
 
 use crate::instance::Instance;
 use run_model::Outcome;

@@ -17,7 +17,8 @@ use std::test::Fail;
 use wall_labels::{DatasetId, Label, Op, ProcessId};
 use wall_policy::{Policy, read_policy};
 
-/// Four processes: a0 at home with alpha, b0 with beta, c0 with crude, n0 nowhere. Sums of three and more are sanitised.
+/// Four processes: a0 at home with alpha, b0 with beta, c0 with crude, n0 nowhere. Sums of three
+/// and more are sanitised.
 pub(crate) const RIVALS: &str =
     "version = 1\n[[class]]\nname = \"banks\"\ndatasets = [\"alpha\", \"beta\"]\n[[class]]\nname = \"oil\"\ndatasets = [\"crude\", \"delta\"]\n[[process]]\nname = \"a0\"\nhome = \"alpha\"\n[[process]]\nname = \"b0\"\nhome = \"beta\"\n[[process]]\nname = \"c0\"\nhome = \"crude\"\n[[process]]\nname = \"n0\"\n[[sanitise]]\nop = \"sum\"\nleast = 3\n";
 
@@ -25,9 +26,10 @@ pub(crate) const RIVALS: &str =
 pub(crate) const FRIENDS: &str =
     "version = 1\n[[class]]\nname = \"banks\"\ndatasets = [\"alpha\", \"beta\"]\n[[process]]\nname = \"p0\"\nhome = \"alpha\"\n[[process]]\nname = \"p1\"\nhome = \"alpha\"\n[[process]]\nname = \"p2\"\nhome = \"alpha\"\n[[process]]\nname = \"p3\"\nhome = \"alpha\"\n";
 
-/// What a process does: a broadcast on a communicator from a root of so many numbers, with its own under a label; a sum over all, of its own
-/// numbers under a label; a split of the world, by colour and key; a gather of one number each; a take; an info. Or a group of
-/// these ranks of the world is created; or all gather one number of each, on a communicator.
+/// What a process does: a broadcast on a communicator from a root of so many numbers, with its own
+/// under a label; a sum over all, of its own numbers under a label; a split of the world, by colour
+/// and key; a gather of one number each; a take; an info. Or a group of these ranks of the world is
+/// created; or all gather one number of each, on a communicator.
 #[derive(Clone, Copy)]
 pub(crate) enum Doing {
     Group(&'static [u32]),
@@ -71,7 +73,8 @@ fn barred() -> [Line; 5] {
     ]
 }
 
-/// A sum of four is sanitised: all get it, and n0, which has had access to nothing, may then write as public.
+/// A sum of four is sanitised: all get it, and n0, which has had access to nothing, may then write
+/// as public.
 fn sum_of_four() -> [Line; 10] {
     [
         (0, Sum("alpha", &[5]), "posted 0"),
@@ -123,7 +126,8 @@ fn refused() -> [Line; 8] {
     ]
 }
 
-/// A process may have 256 requests that it has not taken: this one has 255. A bad root is told first.
+/// A process may have 256 requests that it has not taken: this one has 255. A bad root is told
+/// first.
 fn one_too_many() -> [Line; 3] {
     [
         (0, Cast(0, 0, 0, "public", &[]), "posted 255"),
@@ -151,7 +155,8 @@ fn posted(
     label: Label,
     numbers: &[i128],
 ) -> Result<Act, NoMemory>
-    ensures { IfOk result (λ act. (wall : ChineseWall) → IsKnownLabel wall label → HasKnownLabel wall act) }
+    ensures { IfOk result
+        (λ act. (wall : ChineseWall) → IsKnownLabel wall label → HasKnownLabel wall act) }
 {
     match Buffer::from_numbers(alloc, ElemType::Int32, numbers) {
         Ok(elements) => Ok(Act::Post(Posting {
@@ -178,7 +183,8 @@ fn group(alloc: Global, ranks: &[u32]) -> Result<Signature, NoMemory> {
 }
 
 fn act(alloc: Global, doing: Doing, label: Label) -> Result<Act, NoMemory>
-    ensures { IfOk result (λ act. (wall : ChineseWall) → IsKnownLabel wall label → HasKnownLabel wall act) }
+    ensures { IfOk result
+        (λ act. (wall : ChineseWall) → IsKnownLabel wall label → HasKnownLabel wall act) }
 {
     let elem_type = ElemType::Int32;
     match doing {

@@ -97,15 +97,15 @@ fn run_each(alloc: Global, policy: Policy, first: Calls, second: Calls) -> Resul
     }
 }
 
-/// Runs two lists of calls, each in a hall of its own that is opened for it with the policy, and gives
-/// one reply for each call, in order.
+/// Runs two lists of calls, each in a hall of its own that is opened for it with the policy, and
+/// gives one reply for each call, in order.
 ///
-/// Where no call of either was answered out of memory, and the calls are equal but for the values of
-/// elements, all that the wall goes by is equal at each turn, and so are the replies but for numbers in
-/// deliveries. Where the values differ only in posts that are labelled with a dataset, or whose poster
-/// held it then in the first run, a process that doesn't hold it after the first run sees the same in
-/// both: the same replies, with the numbers of deliveries but for those that are sanitised for it with a
-/// contributor of that dataset.
+/// Where no call of either was answered out of memory, and the calls are equal but for the values
+/// of elements, all that the wall goes by is equal at each turn, and so are the replies but for
+/// numbers in deliveries. Where the values differ only in posts that are labelled with a dataset,
+/// or whose poster held it then in the first run, a process that doesn't hold it after the first
+/// run sees the same in both: the same replies, with the numbers of deliveries but for those that
+/// are sanitised for it with a contributor of that dataset.
 pub fn run_two(
     alloc: Global,
     policy: Policy,

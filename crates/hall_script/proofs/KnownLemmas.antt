@@ -8,6 +8,7 @@ pub known : (wall : ChineseWall) (label : Label) → IsKnownLabel wall label →
 known wall Public h = tt
 known wall (Of d) h = h
 
-pub is_label : (wall : ChineseWall) (label : Label) → IsKnownLabel wall label → IsKnownLabel wall label
+pub is_label : (wall : ChineseWall) (label : Label) → IsKnownLabel wall label →
+    IsKnownLabel wall label
 is_label wall Public h = tt
 is_label wall (Of d) h = h

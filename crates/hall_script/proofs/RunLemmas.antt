@@ -1,5 +1,6 @@
 -- Scripts that are answered line by line.
-use Rattle.std.proofs.Common.{◌≡◌, ℕ, ◌+◌, List, [], ◌∷◌, ◌++◌, Option, Some, None, Result, Ok, Err, refl, sym, ap, ◌∙◌, subst, append_assoc}
+use Rattle.std.proofs.Common.{◌≡◌, ℕ, ◌+◌, List, [], ◌∷◌, ◌++◌, Option, Some, None, Result, Ok, Err}
+use Rattle.std.proofs.Common.{refl, sym, ap, ◌∙◌, subst, append_assoc}
 use Rattle.std.specs.Prelude.{IfOk, IfErr}
 use Rattle.std.proofs.lemmas.List.{append-nil}
 use Rattle.std.specs.Io.KnownBytes.{Appends}
@@ -14,14 +15,20 @@ use Rattle.coll_text.specs.Writing.{Moves}
 use Rattle.coll_text.proofs.CollTextLemmas.{Appends-none}
 use Rattle.hall_script.specs.declared.fault.ScriptFault.{ScriptFault}
 use Rattle.hall_script.specs.declared.fault.ScriptFault.TheVariants.{Read, Line, Write, NoMemory}
-use Rattle.hall_script.specs.Devices.{Used, bytes_before, bytes_after, IsUntouched, NeverFailed, FailedOnce, IsRead}
+use Rattle.hall_script.specs.Devices.{Used, bytes_before, bytes_after, IsUntouched, NeverFailed}
+use Rattle.hall_script.specs.Devices.{FailedOnce, IsRead}
 use Rattle.hall_script.specs.Replies.{reply_line}
-use Rattle.hall_script.specs.Scripts.{Script, with_line, line_call, script_from, script_of, calls_in, reply_lines, Answers, Stops, IsReplayed, StopsWith, script_limit}
-use Rattle.hall_script.specs.Answering.{AnswersLine, FailsLine, line_fault, Told, SoFar, no_more, fault_at, Ends, Finishes, HasFinished, HasStopped}
+use Rattle.hall_script.specs.Scripts.{Script, with_line, line_call, script_from, script_of}
+use Rattle.hall_script.specs.Scripts.{calls_in, reply_lines, Answers, Stops, IsReplayed, StopsWith}
+use Rattle.hall_script.specs.Scripts.{script_limit}
+use Rattle.hall_script.specs.Answering.{AnswersLine, FailsLine, line_fault, Told, SoFar, no_more}
+use Rattle.hall_script.specs.Answering.{fault_at, Ends, Finishes, HasFinished, HasStopped}
 
-module _ (wall : ChineseWall) (before now : Option (List ℕ)) (text : List ℕ) (whole rest : Script) (run : List Entry) (told : Told wall before now text whole rest run) where
+module _ (wall : ChineseWall) (before now : Option (List ℕ)) (text : List ℕ) (whole rest : Script)
+    (run : List Entry) (told : Told wall before now text whole rest run) where
   -- a prefix of the text is written
-  pub told-moves : (later : Option (List ℕ)) (new : List ℕ) → Moves now later text new → Told wall before later new whole rest run
+  pub told-moves : (later : Option (List ℕ)) (new : List ℕ) → Moves now later text new →
+      Told wall before later new whole rest run
   told-moves later new m = record {
     legal = told.legal;
     sent = told.sent ++ m.0;
@@ -31,11 +38,14 @@ module _ (wall : ChineseWall) (before now : Option (List ℕ)) (text : List ℕ)
   }
 
   -- all of the text is written
-  pub told-written : (later : Option (List ℕ)) → Appends now later text → Appends before later (reply_lines wall run)
-  told-written later h = subst (Appends before later) told.kept (Appends-then before now later told.sent text told.written h)
+  pub told-written : (later : Option (List ℕ)) → Appends now later text →
+      Appends before later (reply_lines wall run)
+  told-written later h = subst (Appends before later) told.kept
+      (Appends-then before now later told.sent text told.written h)
 
   -- the writer failed
-  pub told-breaks : (later : Option (List ℕ)) → AppendsFront now later text → Stops wall before later whole.calls
+  pub told-breaks : (later : Option (List ℕ)) → AppendsFront now later text →
+      Stops wall before later whole.calls
   told-breaks later f = record {
     run = run;
     rest = rest.calls;
@@ -50,23 +60,28 @@ module _ (wall : ChineseWall) (before now : Option (List ℕ)) (text : List ℕ)
   }
 
   -- all is written, and no more comes
-  pub told-stops : (later : Option (List ℕ)) → Appends now later text → Stops wall before later whole.calls
+  pub told-stops : (later : Option (List ℕ)) → Appends now later text →
+      Stops wall before later whole.calls
   told-stops later h = told-breaks later (text, [], append-nil text, h)
 
 -- the calls of a run, where nothing is left behind them
-pub told-answers : (wall : ChineseWall) (before now later : Option (List ℕ)) (text : List ℕ) (whole : Script) (f : Option (ℕ × LineFault)) (run : List Entry) → Told wall before now text whole (record { calls = []; fault = f }) run
+pub told-answers : (wall : ChineseWall) (before now later : Option (List ℕ)) (text : List ℕ)
+    (whole : Script) (f : Option (ℕ × LineFault)) (run : List Entry) →
+    Told wall before now text whole (record { calls = []; fault = f }) run
     → Appends now later text → Answers wall before later whole.calls run × (whole.fault ≡ f)
 told-answers wall before now later text whole f run told h = (
   record {
     legal = told.legal;
     answered = sym (append-nil (calls_in run)) ∙ ap (λ (s : Script). s.calls) told.left;
-    written = told-written wall before now text whole (record { calls = []; fault = f }) run told later h;
+    written =
+        told-written wall before now text whole (record { calls = []; fault = f }) run told later h;
   },
   sym (ap (λ (s : Script). s.fault) told.left),
 )
 
 module _ {M : Type 0} (stands : M → List Entry → Type 0) (wall : ChineseWall) where
-  pub begins : (machine : M) (before : Option (List ℕ)) (text : List ℕ) (whole : Script) → stands machine [] → text ≡ [] → SoFar stands wall machine before before text whole whole
+  pub begins : (machine : M) (before : Option (List ℕ)) (text : List ℕ) (whole : Script) →
+      stands machine [] → text ≡ [] → SoFar stands wall machine before before text whole whole
   begins machine before text whole h e = record {
     run = [];
     told = record { legal = tt; sent = []; written = Appends-none before; kept = e; left = refl };
@@ -74,8 +89,11 @@ module _ {M : Type 0} (stands : M → List Entry → Type 0) (wall : ChineseWall
   }
 
   -- a line is answered
-  after : (old new : M) (before now : Option (List ℕ)) (text after : List ℕ) (whole rest : Script) (n : ℕ) (said : Result (Option Call) LineFault) (x : Unit {0})
-      → SoFar stands wall old before now text whole (with_line n said rest) → AnswersLine stands wall old new text after said (Ok x) → SoFar stands wall new before now after whole rest
+  after : (old new : M) (before now : Option (List ℕ)) (text after : List ℕ) (whole rest : Script)
+      (n : ℕ) (said : Result (Option Call) LineFault) (x : Unit {0})
+      → SoFar stands wall old before now text whole (with_line n said rest) →
+      AnswersLine stands wall old new text after said (Ok x) →
+      SoFar stands wall new before now after whole rest
   after old new before now text later whole rest n (Ok None) x s a = record {
     run = s.run;
     told = subst (λ (t : List ℕ). Told wall before now t whole rest s.run) (sym a.1) s.told;
@@ -89,110 +107,185 @@ module _ {M : Type 0} (stands : M → List Entry → Type 0) (wall : ChineseWall
           legal = c.0;
           sent = s.told.sent;
           written = s.told.written;
-          kept = ap (λ (t : List ℕ). s.told.sent ++ t) a.2 ∙ sym (append_assoc s.told.sent text (reply_line wall a.0)) ∙ ap (λ (t : List ℕ). t ++ reply_line wall a.0) s.told.kept;
-          left = ap (λ (cs : List Call). record { calls = cs; fault = rest.fault }) (append_assoc (calls_in s.run) (call ∷ []) rest.calls) ∙ s.told.left;
+          kept = ap (λ (t : List ℕ). s.told.sent ++ t) a.2
+              ∙ sym (append_assoc s.told.sent text (reply_line wall a.0))
+              ∙ ap (λ (t : List ℕ). t ++ reply_line wall a.0) s.told.kept;
+          left = ap (λ (cs : List Call). record { calls = cs; fault = rest.fault })
+              (append_assoc (calls_in s.run) (call ∷ []) rest.calls) ∙ s.told.left;
         };
         standing = c.1;
       }
   after old new before now text later whole rest n (Err e) x s a = absurd a
 
-  pub goes_on : (old new : M) (before now later : Option (List ℕ)) (text mid next : List ℕ) (whole : Script) (n : ℕ) (line : List ℕ) (lines rest : List (List ℕ)) (x : Unit {0})
+  pub goes_on : (old new : M) (before now later : Option (List ℕ)) (text mid next : List ℕ)
+      (whole : Script) (n : ℕ) (line : List ℕ) (lines rest : List (List ℕ)) (x : Unit {0})
       → lines ≡ line ∷ rest
-      → SoFar stands wall old before now text whole (script_from (line_call wall.dataset_names) n lines)
+      →
+      SoFar stands wall old before now text whole
+      (script_from (line_call wall.dataset_names) n lines)
       → AnswersLine stands wall old new text mid (line_call wall.dataset_names line) (Ok x)
       → Moves now later mid next
-      → SoFar stands wall new before later next whole (script_from (line_call wall.dataset_names) (n + 1) rest)
+      →
+      SoFar stands wall new before later next whole
+      (script_from (line_call wall.dataset_names) (n + 1) rest)
   unfolding script_from
   goes_on old new before now later text mid next whole n line lines rest x split s a m =
-      let s' = subst (λ ls. SoFar stands wall old before now text whole (script_from (line_call wall.dataset_names) n ls)) split s in
-      let r = after old new before now text mid whole (script_from (line_call wall.dataset_names) (n + 1) rest) n (line_call wall.dataset_names line) x s' a in
+      let s' = subst (λ ls. SoFar stands wall old before now text whole
+      (script_from (line_call wall.dataset_names) n ls)) split s in
+      let r = after old new before now text mid whole
+      (script_from (line_call wall.dataset_names) (n + 1) rest) n
+      (line_call wall.dataset_names line) x s' a in
       record {
         run = r.run;
-        told = told-moves wall before now mid whole (script_from (line_call wall.dataset_names) (n + 1) rest) r.run r.told later next m;
+        told = told-moves wall before now mid whole
+            (script_from (line_call wall.dataset_names) (n + 1) rest) r.run r.told later next m;
         standing = r.standing;
       }
 
   -- the writer failed behind a line
-  pub breaks : (old new : M) (before now later : Option (List ℕ)) (text mid : List ℕ) (whole : Script) (n : ℕ) (line : List ℕ) (lines rest : List (List ℕ)) (x : Unit {0})
+  pub breaks : (old new : M) (before now later : Option (List ℕ)) (text mid : List ℕ)
+      (whole : Script) (n : ℕ) (line : List ℕ) (lines rest : List (List ℕ)) (x : Unit {0})
       → lines ≡ line ∷ rest
-      → SoFar stands wall old before now text whole (script_from (line_call wall.dataset_names) n lines)
+      →
+      SoFar stands wall old before now text whole
+      (script_from (line_call wall.dataset_names) n lines)
       → AnswersLine stands wall old new text mid (line_call wall.dataset_names line) (Ok x)
       → AppendsFront now later mid
       → Stops wall before later whole.calls
   unfolding script_from
   breaks old new before now later text mid whole n line lines rest x split s a f =
-      let s' = subst (λ ls. SoFar stands wall old before now text whole (script_from (line_call wall.dataset_names) n ls)) split s in
-      let r = after old new before now text mid whole (script_from (line_call wall.dataset_names) (n + 1) rest) n (line_call wall.dataset_names line) x s' a in
-      told-breaks wall before now mid whole (script_from (line_call wall.dataset_names) (n + 1) rest) r.run r.told later f
+      let s' = subst (λ ls. SoFar stands wall old before now text whole
+      (script_from (line_call wall.dataset_names) n ls)) split s in
+      let r = after old new before now text mid whole
+      (script_from (line_call wall.dataset_names) (n + 1) rest) n
+      (line_call wall.dataset_names line) x s' a in
+      told-breaks wall before now mid whole
+      (script_from (line_call wall.dataset_names) (n + 1) rest) r.run r.told later f
 
   -- a line has a fault
-  at_fault : (machine : M) (before now : Option (List ℕ)) (text after : List ℕ) (whole rest : Script) (n : ℕ) (said : Result (Option Call) LineFault) (f : LineFault) (run : List Entry)
-      → Told wall before now text whole (with_line n said rest) run → said ≡ Err f → after ≡ text → Ends {X = Unit {0}} stands wall machine before now after whole (Err (Line n f))
+  at_fault : (machine : M) (before now : Option (List ℕ)) (text after : List ℕ)
+      (whole rest : Script) (n : ℕ) (said : Result (Option Call) LineFault) (f : LineFault)
+      (run : List Entry)
+      → Told wall before now text whole (with_line n said rest) run → said ≡ Err f → after ≡ text →
+      Ends {X = Unit {0}} stands wall machine before now after whole (Err (Line n f))
   at_fault machine before now text later whole rest n said f run told e k =
-      let t = subst (λ (u : List ℕ). Told wall before now u whole (with_line n said rest) run) (sym k) told in
-      (run, subst (λ (r : Result (Option Call) LineFault). Told wall before now later whole (with_line n r rest) run) e t)
+      let t = subst (λ (u : List ℕ). Told wall before now u whole (with_line n said rest) run)
+      (sym k) told in (
+        run,
+        subst (λ (r : Result (Option Call) LineFault).
+            Told wall before now later whole (with_line n r rest) run) e t,
+      )
 
-  no_memory : (machine : M) (before now : Option (List ℕ)) (text after : List ℕ) (whole rest : Script) (run : List Entry)
-      → Told wall before now text whole rest run → after ≡ text → Ends {X = Unit {0}} stands wall machine before now after whole (Err NoMemory)
-  no_memory machine before now text later whole rest run told k = (rest, run, subst (λ (u : List ℕ). Told wall before now u whole rest run) (sym k) told)
+  no_memory : (machine : M) (before now : Option (List ℕ)) (text after : List ℕ)
+      (whole rest : Script) (run : List Entry)
+      → Told wall before now text whole rest run → after ≡ text →
+      Ends {X = Unit {0}} stands wall machine before now after whole (Err NoMemory)
+  no_memory machine before now text later whole rest run told k =
+      (rest, run, subst (λ (u : List ℕ). Told wall before now u whole rest run) (sym k) told)
 
-  fails : (old new : M) (before now : Option (List ℕ)) (text after : List ℕ) (whole rest : Script) (n : ℕ) (said : Result (Option Call) LineFault) (f : LineFault) (run : List Entry)
-      → Told wall before now text whole (with_line n said rest) run → FailsLine old new text after said f → Ends {X = Unit {0}} stands wall new before now after whole (Err (line_fault n f))
-  fails old new before now text later whole rest n said faults.NoMemory run t a = no_memory new before now text later whole (with_line n said rest) run t a
-  fails old new before now text later whole rest n said faults.BadVerb run t a = at_fault new before now text later whole rest n said faults.BadVerb run t a.0 a.2
-  fails old new before now text later whole rest n said faults.BadShape run t a = at_fault new before now text later whole rest n said faults.BadShape run t a.0 a.2
-  fails old new before now text later whole rest n said faults.BadField run t a = at_fault new before now text later whole rest n said faults.BadField run t a.0 a.2
-  fails old new before now text later whole rest n said faults.BadKind run t a = at_fault new before now text later whole rest n said faults.BadKind run t a.0 a.2
-  fails old new before now text later whole rest n said faults.BadType run t a = at_fault new before now text later whole rest n said faults.BadType run t a.0 a.2
-  fails old new before now text later whole rest n said faults.UnknownOp run t a = at_fault new before now text later whole rest n said faults.UnknownOp run t a.0 a.2
-  fails old new before now text later whole rest n said faults.BadLabel run t a = at_fault new before now text later whole rest n said faults.BadLabel run t a.0 a.2
-  fails old new before now text later whole rest n said faults.BadNumber run t a = at_fault new before now text later whole rest n said faults.BadNumber run t a.0 a.2
-  fails old new before now text later whole rest n said faults.OddPair run t a = at_fault new before now text later whole rest n said faults.OddPair run t a.0 a.2
+  fails : (old new : M) (before now : Option (List ℕ)) (text after : List ℕ) (whole rest : Script)
+      (n : ℕ) (said : Result (Option Call) LineFault) (f : LineFault) (run : List Entry)
+      → Told wall before now text whole (with_line n said rest) run →
+      FailsLine old new text after said f →
+      Ends {X = Unit {0}} stands wall new before now after whole (Err (line_fault n f))
+  fails old new before now text later whole rest n said faults.NoMemory run t a =
+      no_memory new before now text later whole (with_line n said rest) run t a
+  fails old new before now text later whole rest n said faults.BadVerb run t a =
+      at_fault new before now text later whole rest n said faults.BadVerb run t a.0 a.2
+  fails old new before now text later whole rest n said faults.BadShape run t a =
+      at_fault new before now text later whole rest n said faults.BadShape run t a.0 a.2
+  fails old new before now text later whole rest n said faults.BadField run t a =
+      at_fault new before now text later whole rest n said faults.BadField run t a.0 a.2
+  fails old new before now text later whole rest n said faults.BadKind run t a =
+      at_fault new before now text later whole rest n said faults.BadKind run t a.0 a.2
+  fails old new before now text later whole rest n said faults.BadType run t a =
+      at_fault new before now text later whole rest n said faults.BadType run t a.0 a.2
+  fails old new before now text later whole rest n said faults.UnknownOp run t a =
+      at_fault new before now text later whole rest n said faults.UnknownOp run t a.0 a.2
+  fails old new before now text later whole rest n said faults.BadLabel run t a =
+      at_fault new before now text later whole rest n said faults.BadLabel run t a.0 a.2
+  fails old new before now text later whole rest n said faults.BadNumber run t a =
+      at_fault new before now text later whole rest n said faults.BadNumber run t a.0 a.2
+  fails old new before now text later whole rest n said faults.OddPair run t a =
+      at_fault new before now text later whole rest n said faults.OddPair run t a.0 a.2
 
-  line_fails : (old new : M) (before now : Option (List ℕ)) (text after : List ℕ) (whole rest : Script) (n : ℕ) (said : Result (Option Call) LineFault) (f : LineFault) (run : List Entry)
-      → Told wall before now text whole (with_line n said rest) run → AnswersLine {X = Unit {0}} stands wall old new text after said (Err f) → Ends {X = Unit {0}} stands wall new before now after whole (Err (line_fault n f))
-  line_fails old new before now text later whole rest n (Ok None) f run t a = fails old new before now text later whole rest n (Ok None) f run t a
-  line_fails old new before now text later whole rest n (Ok (Some call)) f run t a = fails old new before now text later whole rest n (Ok (Some call)) f run t a
-  line_fails old new before now text later whole rest n (Err e) f run t a = fails old new before now text later whole rest n (Err e) f run t a
+  line_fails : (old new : M) (before now : Option (List ℕ)) (text after : List ℕ)
+      (whole rest : Script) (n : ℕ) (said : Result (Option Call) LineFault) (f : LineFault)
+      (run : List Entry)
+      → Told wall before now text whole (with_line n said rest) run →
+      AnswersLine {X = Unit {0}} stands wall old new text after said (Err f) →
+      Ends {X = Unit {0}} stands wall new before now after whole (Err (line_fault n f))
+  line_fails old new before now text later whole rest n (Ok None) f run t a =
+      fails old new before now text later whole rest n (Ok None) f run t a
+  line_fails old new before now text later whole rest n (Ok (Some call)) f run t a =
+      fails old new before now text later whole rest n (Ok (Some call)) f run t a
+  line_fails old new before now text later whole rest n (Err e) f run t a =
+      fails old new before now text later whole rest n (Err e) f run t a
 
-  pub ends : (old new : M) (before now : Option (List ℕ)) (text after : List ℕ) (whole : Script) (n : ℕ) (line : List ℕ) (lines rest : List (List ℕ)) (f : LineFault)
+  pub ends : (old new : M) (before now : Option (List ℕ)) (text after : List ℕ) (whole : Script)
+      (n : ℕ) (line : List ℕ) (lines rest : List (List ℕ)) (f : LineFault)
       → lines ≡ line ∷ rest
-      → SoFar stands wall old before now text whole (script_from (line_call wall.dataset_names) n lines)
-      → AnswersLine {X = Unit {0}} stands wall old new text after (line_call wall.dataset_names line) (Err f)
+      →
+      SoFar stands wall old before now text whole
+      (script_from (line_call wall.dataset_names) n lines)
+      →
+      AnswersLine {X = Unit {0}} stands wall old new text after
+      (line_call wall.dataset_names line) (Err f)
       → Ends {X = Unit {0}} stands wall new before now after whole (Err (line_fault n f))
   unfolding script_from
   ends old new before now text later whole n line lines rest f split s a =
-      let s' = subst (λ ls. SoFar stands wall old before now text whole (script_from (line_call wall.dataset_names) n ls)) split s in
-      line_fails old new before now text later whole (script_from (line_call wall.dataset_names) (n + 1) rest) n (line_call wall.dataset_names line) f s'.run s'.told a
+      let s' = subst (λ ls. SoFar stands wall old before now text whole
+      (script_from (line_call wall.dataset_names) n ls)) split s in
+      line_fails old new before now text later whole
+      (script_from (line_call wall.dataset_names) (n + 1) rest) n
+      (line_call wall.dataset_names line) f s'.run s'.told a
 
-  pub is_done : (machine : M) (before now : Option (List ℕ)) (text : List ℕ) (whole : Script) (n : ℕ) (lines : List (List ℕ)) (x : Unit {0}) → lines ≡ []
-      → SoFar stands wall machine before now text whole (script_from (line_call wall.dataset_names) n lines) → Ends stands wall machine before now text whole (Ok x)
+  pub is_done : (machine : M) (before now : Option (List ℕ)) (text : List ℕ) (whole : Script)
+      (n : ℕ) (lines : List (List ℕ)) (x : Unit {0}) → lines ≡ []
+      →
+      SoFar stands wall machine before now text whole
+      (script_from (line_call wall.dataset_names) n lines) →
+      Ends stands wall machine before now text whole (Ok x)
   unfolding script_from
-  is_done machine before now text whole n lines x none s = subst (λ ls. SoFar stands wall machine before now text whole (script_from (line_call wall.dataset_names) n ls)) none s
+  is_done machine before now text whole n lines x none s = subst (λ ls.
+      SoFar stands wall machine before now text whole
+      (script_from (line_call wall.dataset_names) n ls)) none s
 
   -- ---- the end of the text
 
   -- the text was written
-  pub written_out : (machine : M) (before now later : Option (List ℕ)) (text : List ℕ) (whole : Script) (r : Result (Unit {0}) ScriptFault) → (r ≡ Err Write → ⊥)
-      → Ends stands wall machine before now text whole r → Appends now later text → Finishes stands wall machine before later whole r
+  pub written_out : (machine : M) (before now later : Option (List ℕ)) (text : List ℕ)
+      (whole : Script) (r : Result (Unit {0}) ScriptFault) → (r ≡ Err Write → ⊥)
+      → Ends stands wall machine before now text whole r → Appends now later text →
+      Finishes stands wall machine before later whole r
   written_out machine before now later text whole (Ok x) other e h =
-      let a = told-answers wall before now later text whole None e.run e.told h in (e.run, a.0, e.standing, a.1)
+      let a = told-answers wall before now later text whole None e.run e.told h in
+      (e.run, a.0, e.standing, a.1)
   written_out machine before now later text whole (Err (Line n f)) other e h =
-      let a = told-answers wall before now later text whole (Some (n, f)) e.0 e.1 h in (e.0, a.0, a.1)
-  written_out machine before now later text whole (Err NoMemory) other e h = told-stops wall before now text whole e.0 e.1 e.2 later h
+      let a = told-answers wall before now later text whole (Some (n, f)) e.0 e.1 h in
+      (e.0, a.0, a.1)
+  written_out machine before now later text whole (Err NoMemory) other e h =
+      told-stops wall before now text whole e.0 e.1 e.2 later h
   written_out machine before now later text whole (Err Write) other e h = absurd (other refl)
   written_out machine before now later text whole (Err Read) other e h = absurd e
 
   -- the writer failed at it
-  pub broken_off : (machine : M) (before now later : Option (List ℕ)) (text : List ℕ) (whole : Script) (r : Result (Unit {0}) ScriptFault) → (r ≡ Err Write → ⊥)
-      → Ends stands wall machine before now text whole r → AppendsFront now later text → Stops wall before later whole.calls
-  broken_off machine before now later text whole (Ok x) other e f = told-breaks wall before now text whole no_more e.run e.told later f
-  broken_off machine before now later text whole (Err (Line n g)) other e f = told-breaks wall before now text whole (fault_at n g) e.0 e.1 later f
-  broken_off machine before now later text whole (Err NoMemory) other e f = told-breaks wall before now text whole e.0 e.1 e.2 later f
+  pub broken_off : (machine : M) (before now later : Option (List ℕ)) (text : List ℕ)
+      (whole : Script) (r : Result (Unit {0}) ScriptFault) → (r ≡ Err Write → ⊥)
+      → Ends stands wall machine before now text whole r → AppendsFront now later text →
+      Stops wall before later whole.calls
+  broken_off machine before now later text whole (Ok x) other e f =
+      told-breaks wall before now text whole no_more e.run e.told later f
+  broken_off machine before now later text whole (Err (Line n g)) other e f =
+      told-breaks wall before now text whole (fault_at n g) e.0 e.1 later f
+  broken_off machine before now later text whole (Err NoMemory) other e f =
+      told-breaks wall before now text whole e.0 e.1 e.2 later f
   broken_off machine before now later text whole (Err Write) other e f = absurd (other refl)
   broken_off machine before now later text whole (Err Read) other e f = absurd e
 
-  pub not_read : (machine : M) (before now : Option (List ℕ)) (text : List ℕ) (whole : Script) (f : ScriptFault) → Ends {X = Unit {0}} stands wall machine before now text whole (Err f) → f ≡ Read → ⊥
+  pub not_read : (machine : M) (before now : Option (List ℕ)) (text : List ℕ) (whole : Script)
+      (f : ScriptFault) →
+      Ends {X = Unit {0}} stands wall machine before now text whole (Err f) → f ≡ Read → ⊥
   not_read machine before now text whole Read e k = e
   not_read machine before now text whole (Line n f) e k = absurd cc
   not_read machine before now text whole Write e k = absurd cc
@@ -205,10 +298,12 @@ some_left None = ([], tt)
 some_left (Some bytes) = (bytes, refl)
 
 stops_first : (wall : ChineseWall) (w : Option (List ℕ)) (calls : List Call) → Stops wall w w calls
-stops_first wall w calls = record { run = []; rest = calls; legal = tt; first = refl; written = ([], [], refl, Appends-none w) }
+stops_first wall w calls = record
+    { run = []; rest = calls; legal = tt; first = refl; written = ([], [], refl, Appends-none w) }
 
 -- memory ran out before the first line
-pub short_of_memory : {R W : Type 0} (wall : ChineseWall) (source : Used R) (sink : Used W) → NeverFailed source → IsUntouched sink
+pub short_of_memory : {R W : Type 0} (wall : ChineseWall) (source : Used R) (sink : Used W) →
+    NeverFailed source → IsUntouched sink
     → StopsWith wall source sink NoMemory
 short_of_memory wall source sink went same =
     let s = some_left (bytes_before source) in (
@@ -217,7 +312,8 @@ short_of_memory wall source sink went same =
       ap sink.failures same,
       (
         s.1,
-        subst (λ w. Stops wall (bytes_before sink) (sink.bytes w) (script_of wall.dataset_names s.0).calls) (sym same)
+        subst (λ w. Stops wall (bytes_before sink) (sink.bytes w)
+            (script_of wall.dataset_names s.0).calls) (sym same)
             (stops_first wall (bytes_before sink) (script_of wall.dataset_names s.0).calls),
       ),
     )
@@ -233,42 +329,66 @@ line_is_no_write n e k = cc
 memory_is_no_write : failed NoMemory ≡ failed Write → ⊥
 memory_is_no_write k = cc
 
-module _ {R W M : Type 0} (stands : M → List Entry → Type 0) (policy : ChineseWall) (source : Used R) (sink : Used W) (machine : M) where
+module _ {R W M : Type 0} (stands : M → List Entry → Type 0) (policy : ChineseWall)
+    (source : Used R) (sink : Used W) (machine : M) where
   abbrev pub Finished : List ℕ → Result (Unit {0}) ScriptFault → Type 0
-  Finished script r = Finishes {X = Unit {0}} stands policy machine (bytes_before sink) (bytes_after sink) (script_of policy.dataset_names script) r
+  Finished script r = Finishes {X = Unit {0}} stands policy machine (bytes_before sink)
+      (bytes_after sink) (script_of policy.dataset_names script) r
 
   -- the same of the policy and the bytes under other names
-  finished : (wall : ChineseWall) (script bytes : List ℕ) (r : Result (Unit {0}) ScriptFault) → wall ≡ policy → bytes ≡ script
-      → Finishes {X = Unit {0}} stands wall machine (bytes_before sink) (bytes_after sink) (script_of wall.dataset_names bytes) r → Finished script r
+  finished : (wall : ChineseWall) (script bytes : List ℕ) (r : Result (Unit {0}) ScriptFault) →
+      wall ≡ policy → bytes ≡ script
+      →
+      Finishes {X = Unit {0}} stands wall machine (bytes_before sink) (bytes_after sink)
+      (script_of wall.dataset_names bytes) r → Finished script r
   finished wall script bytes r same is h =
-      let P : ChineseWall → Type 0 = λ w. Finishes {M = M} {X = Unit {0}} stands w machine (bytes_before sink) (bytes_after sink) (script_of w.dataset_names bytes) r in
+      let P : ChineseWall → Type 0 = λ w. Finishes {M = M} {X = Unit {0}} stands w machine
+      (bytes_before sink) (bytes_after sink) (script_of w.dataset_names bytes) r in
       let mine : P policy = subst P same h in
       let Q : List ℕ → Type 0 = λ bs. Finished bs r in
       subst Q is mine
 
   -- it was answered to its end
-  answered_so : (script : List ℕ) → IsRead source script_limit script → NeverFailed sink → Finished script (Ok tt)
+  answered_so : (script : List ℕ) → IsRead source script_limit script → NeverFailed sink →
+      Finished script (Ok tt)
       → (run : List Entry) × stands machine run × IsReplayed policy source sink run
-  answered_so script read went h = (h.0, h.2, record { script = script; read = read; faultless = h.3; went = went; answers = h.1 })
+  answered_so script read went h = (
+    h.0,
+    h.2,
+    record { script = script; read = read; faultless = h.3; went = went; answers = h.1 },
+  )
 
   -- it ended with a fault
-  stopped_so : (script : List ℕ) (fault : ScriptFault) → IsRead source script_limit script → ((failed fault ≡ failed Write → ⊥) → NeverFailed sink)
-      → (failed fault ≡ failed Write → FailedOnce sink) → Finished script (Err fault) → StopsWith policy source sink fault
+  stopped_so : (script : List ℕ) (fault : ScriptFault) → IsRead source script_limit script →
+      ((failed fault ≡ failed Write → ⊥) → NeverFailed sink)
+      → (failed fault ≡ failed Write → FailedOnce sink) → Finished script (Err fault) →
+      StopsWith policy source sink fault
   stopped_so script Read read went broke h = absurd h
-  stopped_so script (Line n e) read went broke h = (script, read, (h.0, went (line_is_no_write n e), h.1, h.2))
+  stopped_so script (Line n e) read went broke h =
+      (script, read, (h.0, went (line_is_no_write n e), h.1, h.2))
   stopped_so script Write read went broke h = (script, read, broke refl, (read.1, h))
-  stopped_so script NoMemory read went broke h = (script, read.0, went memory_is_no_write, (read.1, h))
+  stopped_so script NoMemory read went broke h =
+      (script, read.0, went memory_is_no_write, (read.1, h))
 
-  pub answered : (wall : ChineseWall) (script bytes : List ℕ) → wall ≡ policy → bytes ≡ script → IsRead source script_limit script → NeverFailed sink
-      → Finishes {X = Unit {0}} stands wall machine (bytes_before sink) (bytes_after sink) (script_of wall.dataset_names bytes) (Ok tt)
+  pub answered : (wall : ChineseWall) (script bytes : List ℕ) → wall ≡ policy → bytes ≡ script →
+      IsRead source script_limit script → NeverFailed sink
+      →
+      Finishes {X = Unit {0}} stands wall machine (bytes_before sink) (bytes_after sink)
+      (script_of wall.dataset_names bytes) (Ok tt)
       → (run : List Entry) × stands machine run × IsReplayed policy source sink run
-  answered wall script bytes same is read went h = answered_so script read went (finished wall script bytes (Ok tt) same is h)
+  answered wall script bytes same is read went h =
+      answered_so script read went (finished wall script bytes (Ok tt) same is h)
 
-  pub stopped : (wall : ChineseWall) (script bytes : List ℕ) (fault : ScriptFault) → wall ≡ policy → bytes ≡ script → IsRead source script_limit script
-      → ((failed fault ≡ failed Write → ⊥) → NeverFailed sink) → (failed fault ≡ failed Write → FailedOnce sink)
-      → Finishes {X = Unit {0}} stands wall machine (bytes_before sink) (bytes_after sink) (script_of wall.dataset_names bytes) (Err fault)
+  pub stopped : (wall : ChineseWall) (script bytes : List ℕ) (fault : ScriptFault) → wall ≡ policy →
+      bytes ≡ script → IsRead source script_limit script
+      → ((failed fault ≡ failed Write → ⊥) → NeverFailed sink) →
+      (failed fault ≡ failed Write → FailedOnce sink)
+      →
+      Finishes {X = Unit {0}} stands wall machine (bytes_before sink) (bytes_after sink)
+      (script_of wall.dataset_names bytes) (Err fault)
       → StopsWith policy source sink fault
-  stopped wall script bytes fault same is read went broke h = stopped_so script fault read went broke (finished wall script bytes (Err fault) same is h)
+  stopped wall script bytes fault same is read went broke h =
+      stopped_so script fault read went broke (finished wall script bytes (Err fault) same is h)
 
 -- ---- what came of a machine that was handed over
 
@@ -298,5 +418,6 @@ module _ {R W M : Type 0} (stands : M → List Entry → Type 0) (wall_of : M �
       → IfErr r (StopsWith policy source sink)
   not_handed_back (Ok machine) h = tt
   not_handed_back (Err fault) h =
-      stopped stands policy source sink h.machine wall script bytes fault same is read h.went h.broke
+      stopped stands policy source sink h.machine wall script bytes fault same is read h.went
+      h.broke
       h.finishes

@@ -13,28 +13,35 @@ use Rattle.hall_script.specs.declared.fault.ScriptFault.TheVariants.{Read, Line,
 use Rattle.hall_script.specs.Replies.{reply_line}
 use Rattle.hall_script.specs.Scripts.{Script, calls_in, reply_lines, Answers, Stops}
 
--- a call with its reply carries a machine from each run that it stands for to that run with this entry
-abbrev pub Carries : {M : Type 0} → (M → List Entry → Type 0) → ChineseWall → M → M → Call → Reply → Type 0
+-- a call with its reply carries a machine from each run that it stands for to that run with this
+-- entry
+abbrev pub Carries : {M : Type 0} → (M → List Entry → Type 0) → ChineseWall → M → M → Call → Reply →
+    Type 0
 Carries stands wall old new call reply =
     (run : List Entry) → Legal wall run → stands old run
     → Legal wall (entry call reply ∷ run) × stands new (entry call reply ∷ run)
 
 -- a call was answered, and the line of its reply added to the text
-abbrev pub AnswersCall : {M : Type 0} → (M → List Entry → Type 0) → ChineseWall → M → M → (before after : List ℕ) → Call → Type 0
-AnswersCall stands wall old new before after call =
-    (reply : Reply) × Carries stands wall old new call reply × (after ≡ before ++ reply_line wall reply)
+abbrev pub AnswersCall : {M : Type 0} → (M → List Entry → Type 0) → ChineseWall → M → M →
+    (before after : List ℕ) → Call → Type 0
+AnswersCall stands wall old new before after call = (reply : Reply)
+    × Carries stands wall old new call reply × (after ≡ before ++ reply_line wall reply)
 
 -- the fault of a line: nothing was done
-abbrev pub FailsLine : {M : Type 0} → M → M → (before after : List ℕ) → Result (Option Call) LineFault → LineFault → Type 0
+abbrev pub FailsLine : {M : Type 0} → M → M → (before after : List ℕ) →
+    Result (Option Call) LineFault → LineFault → Type 0
 FailsLine old new before after said lines.NoMemory = after ≡ before
 FailsLine old new before after said fault = (said ≡ Err fault) × (new ≡ old) × (after ≡ before)
 
 -- what was done with a line that says this
-abbrev pub AnswersLine : {M X : Type 0} → (M → List Entry → Type 0) → ChineseWall → M → M → (before after : List ℕ) → Result (Option Call) LineFault → Result X LineFault → Type 0
+abbrev pub AnswersLine : {M X : Type 0} → (M → List Entry → Type 0) → ChineseWall → M → M →
+    (before after : List ℕ) → Result (Option Call) LineFault → Result X LineFault → Type 0
 AnswersLine stands wall old new before after (Ok None) (Ok x) = (new ≡ old) × (after ≡ before)
-AnswersLine stands wall old new before after (Ok (Some call)) (Ok x) = AnswersCall stands wall old new before after call
+AnswersLine stands wall old new before after (Ok (Some call)) (Ok x) =
+    AnswersCall stands wall old new before after call
 AnswersLine stands wall old new before after (Err e) (Ok x) = ⊥
-AnswersLine stands wall old new before after said (Err fault) = FailsLine old new before after said fault
+AnswersLine stands wall old new before after said (Err fault) =
+    FailsLine old new before after said fault
 
 -- the fault of a script for a fault of its line
 abbrev pub line_fault : ℕ → LineFault → ScriptFault
@@ -47,8 +54,10 @@ line_fault n fault = Line n fault
 abbrev pub behind : List Call → Script → Script
 behind done s = record { calls = done ++ s.calls; fault = s.fault }
 
--- This run answers the lines so far. The lines of its replies are what was written, and then the text; this rest of the script is left.
-pub record Told (wall : ChineseWall) (before now : Option (List ℕ)) (text : List ℕ) (whole rest : Script) (run : List Entry) : Type 0 where
+-- This run answers the lines so far. The lines of its replies are what was written, and then the
+-- text; this rest of the script is left.
+pub record Told (wall : ChineseWall) (before now : Option (List ℕ)) (text : List ℕ)
+    (whole rest : Script) (run : List Entry) : Type 0 where
   pub legal : Legal wall run
   pub sent : List ℕ
   pub written : Appends before now sent
@@ -56,7 +65,8 @@ pub record Told (wall : ChineseWall) (before now : Option (List ℕ)) (text : Li
   pub left : behind (calls_in run) rest ≡ whole
 
 -- and a machine stands for it
-pub record SoFar {M : Type 0} (stands : M → List Entry → Type 0) (wall : ChineseWall) (machine : M) (before now : Option (List ℕ)) (text : List ℕ) (whole rest : Script) : Type 0 where
+pub record SoFar {M : Type 0} (stands : M → List Entry → Type 0) (wall : ChineseWall) (machine : M)
+    (before now : Option (List ℕ)) (text : List ℕ) (whole rest : Script) : Type 0 where
   pub run : List Entry
   pub told : Told wall before now text whole rest run
   pub standing : stands machine run
@@ -68,19 +78,28 @@ abbrev pub fault_at : ℕ → LineFault → Script
 fault_at n fault = record { calls = []; fault = Some (n, fault) }
 
 -- how the lines ended, with a text that is still to be written
-abbrev pub Ends : {M X : Type 0} → (M → List Entry → Type 0) → ChineseWall → M → (before now : Option (List ℕ)) → (text : List ℕ) → Script → Result X ScriptFault → Type 0
-Ends stands wall machine before now text whole (Ok x) = SoFar stands wall machine before now text whole no_more
-Ends stands wall machine before now text whole (Err (Line n fault)) = (run : List Entry) × Told wall before now text whole (fault_at n fault) run
-Ends stands wall machine before now text whole (Err NoMemory) = (rest : Script) × (run : List Entry) × Told wall before now text whole rest run
+abbrev pub Ends : {M X : Type 0} → (M → List Entry → Type 0) → ChineseWall → M →
+    (before now : Option (List ℕ)) → (text : List ℕ) → Script → Result X ScriptFault → Type 0
+Ends stands wall machine before now text whole (Ok x) =
+    SoFar stands wall machine before now text whole no_more
+Ends stands wall machine before now text whole (Err (Line n fault)) =
+    (run : List Entry) × Told wall before now text whole (fault_at n fault) run
+Ends stands wall machine before now text whole (Err NoMemory) =
+    (rest : Script) × (run : List Entry) × Told wall before now text whole rest run
 Ends stands wall machine before now text whole (Err Write) = Stops wall before now whole.calls
 Ends stands wall machine before now text whole (Err Read) = ⊥
 
 -- how the script ended, when all was written out
-abbrev pub Finishes : {M X : Type 0} → (M → List Entry → Type 0) → ChineseWall → M → (before after : Option (List ℕ)) → Script → Result X ScriptFault → Type 0
-Finishes stands wall machine before after script (Ok x) = (run : List Entry) × Answers wall before after script.calls run × stands machine run × (script.fault ≡ None)
-Finishes stands wall machine before after script (Err (Line n fault)) = (run : List Entry) × Answers wall before after script.calls run × (script.fault ≡ Some (n, fault))
+abbrev pub Finishes : {M X : Type 0} → (M → List Entry → Type 0) → ChineseWall → M →
+    (before after : Option (List ℕ)) → Script → Result X ScriptFault → Type 0
+Finishes stands wall machine before after script (Ok x) = (run : List Entry)
+    × Answers wall before after script.calls run × stands machine run × (script.fault ≡ None)
+Finishes stands wall machine before after script (Err (Line n fault)) =
+    (run : List Entry) × Answers wall before after script.calls run
+    × (script.fault ≡ Some (n, fault))
 Finishes stands wall machine before after script (Err Write) = Stops wall before after script.calls
-Finishes stands wall machine before after script (Err NoMemory) = Stops wall before after script.calls
+Finishes stands wall machine before after script (Err NoMemory) =
+    Stops wall before after script.calls
 Finishes stands wall machine before after script (Err Read) = ⊥
 
 -- a machine that has answered the whole script, by a writer with so many failures before and after

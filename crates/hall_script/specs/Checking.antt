@@ -1,5 +1,6 @@
 -- A line that is gone through and not kept: words of private contracts.
-use Rattle.std.specs.Prelude.{ℕ, ◌%◌, not, ◌&&◌, ◌==◌, List, [], ◌∷◌, length, codes, Option, Some, None, Result, Ok, Err, if◌then◌else◌}
+use Rattle.std.specs.Prelude.{ℕ, ◌%◌, not, ◌&&◌, ◌==◌, List, [], ◌∷◌, length, codes, Option, Some}
+use Rattle.std.specs.Prelude.{None, Result, Ok, Err, if◌then◌else◌}
 use Rattle.std.specs.Str.{bytes_eq}
 use Rattle.mpi_elems.specs.declared.elem_type.ElemType.{ElemType}
 use Rattle.mpi_elems.specs.Types.{is_pair}
@@ -30,7 +31,8 @@ labelled_checked datasets ty ws = do
 unfoldable pub given_checked : List Word → Option ElemType → List Word → Result (Unit {0}) LineFault
 given_checked datasets ty [] = Ok tt
 given_checked datasets None (w ∷ ws) = Err BadShape
-given_checked datasets (Some ty) (w ∷ ws) = if bytes_eq w (codes "as") then labelled_checked datasets ty ws else Err BadShape
+given_checked datasets (Some ty) (w ∷ ws) =
+    if bytes_eq w (codes "as") then labelled_checked datasets ty ws else Err BadShape
 
 unfoldable pub post_checked : List Word → List Word → Result (Unit {0}) LineFault
 post_checked datasets ws = do

@@ -6,7 +6,8 @@ use Rattle.hall_script.specs.declared.device.DeviceFault.{DeviceFault}
 use Rattle.hall_script.specs.declared.device.DeviceFault.TheVariants.{Read, NoMemory}
 
 -- A reader or a writer before and after a call. Its type tells how many of its calls failed, and
--- its bytes where they are known: those that a reader still has to give, or that a writer was given.
+-- its bytes where they are known: those that a reader still has to give, or that a writer was
+-- given.
 pub record Used (D : Type 0) : Type 0 where
   pub failures : D → ℕ
   pub bytes : D → Option (List ℕ)

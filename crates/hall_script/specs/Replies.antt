@@ -7,9 +7,16 @@ use Rattle.coll_values.specs.declared.delivery.Block.{Block}
 use Rattle.coll_values.specs.declared.delivery.Block.TheVariants.{Missing, Numbers}
 use Rattle.wall_verdict.specs.declared.verdict.Rule.{Rule}
 use Rattle.run_model.specs.declared.refusal.Refusal.{Refusal}
-use Rattle.run_model.specs.declared.refusal.Refusal.TheVariants.{NoSuchProcess, NoSuchComm, NotMember, NoTopology, BadRoot, BadOp, BadCount, BadColour, NotSubgroup, BadDims, Mismatch, TooManyRequests, NoMemory, NoSuchRequest}
+use Rattle.run_model.specs.declared.refusal.Refusal.TheVariants.{NoSuchProcess, NoSuchComm}
+use Rattle.run_model.specs.declared.refusal.Refusal.TheVariants.{NotMember, NoTopology, BadRoot}
+use Rattle.run_model.specs.declared.refusal.Refusal.TheVariants.{BadOp, BadCount, BadColour}
+use Rattle.run_model.specs.declared.refusal.Refusal.TheVariants.{NotSubgroup, BadDims, Mismatch}
+use Rattle.run_model.specs.declared.refusal.Refusal.TheVariants.{TooManyRequests, NoMemory}
+use Rattle.run_model.specs.declared.refusal.Refusal.TheVariants.{NoSuchRequest}
 use Rattle.run_model.specs.declared.reply.Reply.{Reply}
-use Rattle.run_model.specs.declared.reply.Reply.TheVariants.{Posted, Barred, Pending, Delivered, NewComm, NullComm, Denied, NoRoom, Info, Refused}
+use Rattle.run_model.specs.declared.reply.Reply.TheVariants.{Posted, Barred, Pending, Delivered}
+use Rattle.run_model.specs.declared.reply.Reply.TheVariants.{NewComm, NullComm, Denied, NoRoom}
+use Rattle.run_model.specs.declared.reply.Reply.TheVariants.{Info, Refused}
 use Rattle.coll_text.specs.Numbers.{Word}
 use Rattle.coll_text.specs.Words.{name_at, label_word, rule_word}
 use Rattle.coll_text.specs.Writing.{spaced_numbers}
@@ -31,11 +38,13 @@ delivery_text [] = codes "delivered none"
 delivery_text (b ∷ bs) = codes "delivered" ++ blocks_text (b ∷ bs)
 
 abbrev pub denial_text : Rule → Word → Word → List ℕ
-denial_text rule process label = codes "denied " ++ rule_word rule ++ codes " " ++ process ++ codes " " ++ label
+denial_text rule process label =
+    codes "denied " ++ rule_word rule ++ codes " " ++ process ++ codes " " ++ label
 
 abbrev pub info_text : ℕ → ℕ → Option ℕ → List ℕ
 info_text size rank None = codes "info size " ++ decimal size ++ codes " rank " ++ decimal rank
-info_text size rank (Some dims) = codes "info size " ++ decimal size ++ codes " rank " ++ decimal rank ++ codes " dims " ++ decimal dims
+info_text size rank (Some dims) = codes "info size " ++ decimal size ++ codes " rank "
+    ++ decimal rank ++ codes " dims " ++ decimal dims
 
 abbrev pub refusal_name : Refusal → Word
 refusal_name NoSuchProcess = codes "NoSuchProcess"
@@ -55,12 +64,15 @@ refusal_name NoSuchRequest = codes "NoSuchRequest"
 
 unfoldable pub reply_text : ChineseWall → Reply → List ℕ
 reply_text wall (Posted request) = codes "posted " ++ decimal request
-reply_text wall (Barred request label) = codes "barred " ++ decimal request ++ codes " " ++ label_word wall.dataset_names label
+reply_text wall (Barred request label) =
+    codes "barred " ++ decimal request ++ codes " " ++ label_word wall.dataset_names label
 reply_text wall Pending = codes "pending"
 reply_text wall (Delivered blocks) = delivery_text blocks
-reply_text wall (NewComm comm rank size) = codes "comm " ++ decimal comm ++ codes " rank " ++ decimal rank ++ codes " size " ++ decimal size
+reply_text wall (NewComm comm rank size) = codes "comm " ++ decimal comm ++ codes " rank "
+    ++ decimal rank ++ codes " size " ++ decimal size
 reply_text wall NullComm = codes "null"
-reply_text wall (Denied rule process label) = denial_text rule (name_at wall.process_names process) (label_word wall.dataset_names label)
+reply_text wall (Denied rule process label) =
+    denial_text rule (name_at wall.process_names process) (label_word wall.dataset_names label)
 reply_text wall NoRoom = codes "noroom"
 reply_text wall (Info size rank dims) = info_text size rank dims
 reply_text wall (Refused refusal) = codes "refused " ++ refusal_name refusal

@@ -27,8 +27,9 @@ given_words datasets (Of d) ns = codes "as" ∷ name_at datasets d ∷ map signe
 
 -- the words of an act of process p
 abbrev pub act_words : List Word → (p : ℕ) → Act → List Word
-act_words datasets p (Post posting) =
-    (codes "post" ∷ decimal p ∷ decimal posting.comm ∷ statement_words posting.sig posting.own) ++ given_words datasets posting.label posting.elements.numbers
+act_words datasets p (Post posting) = (codes "post" ∷ decimal p ∷ decimal posting.comm
+    ∷ statement_words posting.sig posting.own)
+    ++ given_words datasets posting.label posting.elements.numbers
 act_words datasets p (Take request) = codes "take" ∷ decimal p ∷ decimal request ∷ []
 act_words datasets p (Info comm) = codes "info" ∷ decimal p ∷ decimal comm ∷ []
 
@@ -41,13 +42,15 @@ call_line datasets call = join_with_byte 32 (call_words datasets call)
 
 -- a post that says nothing behind its statement
 abbrev pub GivesNothing : List Word → Act → Type 0
-GivesNothing datasets (Post posting) = given_words datasets posting.label posting.elements.numbers ≡ []
+GivesNothing datasets (Post posting) =
+    given_words datasets posting.label posting.elements.numbers ≡ []
 GivesNothing datasets (Take request) = ⊥
 GivesNothing datasets (Info comm) = ⊥
 
 -- The words; or, where this holds, the words with `as public` behind them, which then say no more.
 abbrev pub IsSpelled : (nothing : Type 0) → (words said : List Word) → Type 0
-IsSpelled nothing words said = (said ≡ words) ⊎ (nothing × (said ≡ words ++ codes "as" ∷ codes "public" ∷ []))
+IsSpelled nothing words said =
+    (said ≡ words) ⊎ (nothing × (said ≡ words ++ codes "as" ∷ codes "public" ∷ []))
 
 -- the line is its words with one space between two
 pub record IsLineOf (datasets : List Word) (call : Call) (line : List ℕ) : Type 0 where
@@ -55,15 +58,19 @@ pub record IsLineOf (datasets : List Word) (call : Call) (line : List ℕ) : Typ
   pub said : IsSpelled (GivesNothing datasets call.act) (call_words datasets call) words
   pub text : line ≡ join_with_byte 32 words
 
--- A post that a line can say: numbers of 32 bits, a statement with a spelling, a label of the policy, and numbers of the kind's type, whole
--- elements with no more room than they need; nothing where the kind has no type.
+-- A post that a line can say: numbers of 32 bits, a statement with a spelling, a label of the
+-- policy, and numbers of the kind's type, whole elements with no more room than they need; nothing
+-- where the kind has no type.
 pub record IsSayable (wall : ChineseWall) (posting : Posting) : Type 0 where
   pub comm : posting.comm ≤ 4294967295
   pub statement : IsSpellable posting.sig posting.own
   pub label : IsKnownLabel wall posting.label
   pub numbers : fault_of (stated_type posting.sig) posting.elements.numbers ≡ None
-  pub elements : posting.elements ≡ contents (stated_type posting.sig) posting.elements.numbers (length (elements_of (stated_type posting.sig) posting.elements.numbers))
-  pub nothing : elem_type posting.sig ≡ None → given_words wall.dataset_names posting.label posting.elements.numbers ≡ []
+  pub elements : posting.elements
+      ≡ contents (stated_type posting.sig) posting.elements.numbers
+      (length (elements_of (stated_type posting.sig) posting.elements.numbers))
+  pub nothing : elem_type posting.sig ≡ None →
+      given_words wall.dataset_names posting.label posting.elements.numbers ≡ []
 
 abbrev pub IsSayableAct : ChineseWall → Act → Type 0
 IsSayableAct wall (Post posting) = IsSayable wall posting

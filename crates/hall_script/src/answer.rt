@@ -1,11 +1,13 @@
 //! Answers the lines of a script.
-ghost use Rattle.std.specs.Prelude.{◌≡◌, ◌≢◌, ◌+◌, ◌≤◌, [], length, IfOk, IfErr, IfSome, OnOk, OnErr, Err};
+ghost use Rattle.std.specs.Prelude.{◌≡◌, ◌≢◌, ◌+◌, ◌≤◌, [], length, IfOk, IfErr, IfSome, OnOk};
+ghost use Rattle.std.specs.Prelude.{OnErr, Err};
 ghost use Rattle.std.specs.Io.KnownBytes.{Appends};
 ghost use Rattle.wall_labels.specs.Known.{AppendsFront};
 ghost use Rattle.run_model.specs.Known.{HasKnownLabel};
 ghost use Rattle.coll_text.specs.Reading.{Gives};
 ghost use Rattle.hall_script.specs.Scripts.{trimmed, is_skipped, line_call, script_of};
-ghost use Rattle.hall_script.specs.Answering.{AnswersCall, AnswersLine, line_fault, Ends, Finishes, HasFinished, HasStopped};
+ghost use Rattle.hall_script.specs.Answering.{AnswersCall, AnswersLine, line_fault, Ends, Finishes};
+ghost use Rattle.hall_script.specs.Answering.{HasFinished, HasStopped};
 
 use crate::fault::ScriptFault;
 use crate::line::read_call;
@@ -56,7 +58,8 @@ pub(crate) fn read_line(
 fn answer_call<M: Machine>(machine: &mut M, call: Call, text: &mut Vec<u8>) -> Result<(), NoMemory>
     requires { HasKnownLabel (M.wall machine.old) call.act }
     ensures wall { M.wall machine.new ≡ M.wall machine.old }
-    ensures answered { OnOk result (AnswersCall M.stands (M.wall machine.old) machine.old machine.new text.old.items text.new.items call) }
+    ensures answered { OnOk result (AnswersCall M.stands (M.wall machine.old) machine.old
+        machine.new text.old.items text.new.items call) }
     ensures err { OnErr result (text.new.items ≡ text.old.items) }
 {
     let reply = machine.apply(call);
@@ -71,7 +74,8 @@ fn answer_line<M: Machine>(
 ) -> Result<(), LineFault>
     ensures wall { M.wall machine.new ≡ M.wall machine.old }
     ensures answered { let wall = M.wall machine.old in
-        AnswersLine M.stands wall machine.old machine.new text.old.items text.new.items (line_call wall.dataset_names line.now) result }
+        AnswersLine M.stands wall machine.old machine.new text.old.items text.new.items
+        (line_call wall.dataset_names line.now) result }
 {
     match read_line(alloc, machine.policy(), line) {
         Ok(None) => Ok(()),
@@ -108,9 +112,11 @@ fn answer_lines<M: Machine, W: Sink>(
     requires nothing { text.old.items ≡ [] }
     ensures wall { M.wall machine.new ≡ M.wall machine.old }
     ensures went { result ≢ Err ScriptFault.Write → W.failures sink.new ≡ W.failures sink.old }
-    ensures failed { result ≡ Err ScriptFault.Write → W.failures sink.new ≡ W.failures sink.old + 1 }
+    ensures failed { result ≡ Err ScriptFault.Write →
+        W.failures sink.new ≡ W.failures sink.old + 1 }
     ensures ends { let wall = M.wall machine.old in
-        Ends M.stands wall machine.new (W.contents sink.old) (W.contents sink.new) text.new.items (script_of wall.dataset_names script.now) result }
+        Ends M.stands wall machine.new (W.contents sink.old) (W.contents sink.new) text.new.items
+        (script_of wall.dataset_names script.now) result }
 {
     let mut lines = Parts::new(script, b'\n');
     let mut number = 1;
@@ -139,10 +145,12 @@ pub(crate) fn answer_script<M: Machine, W: Sink>(
     requires begins { M.stands machine.old [] }
     ensures wall { M.wall machine.new ≡ M.wall machine.old }
     ensures went { result ≢ Err ScriptFault.Write → W.failures sink.new ≡ W.failures sink.old }
-    ensures failed { result ≡ Err ScriptFault.Write → W.failures sink.new ≡ W.failures sink.old + 1 }
+    ensures failed { result ≡ Err ScriptFault.Write →
+        W.failures sink.new ≡ W.failures sink.old + 1 }
     ensures not_read { result ≢ Err ScriptFault.Read }
     ensures replays { let wall = M.wall machine.old in
-        Finishes M.stands wall machine.new (W.contents sink.old) (W.contents sink.new) (script_of wall.dataset_names script.now) result }
+        Finishes M.stands wall machine.new (W.contents sink.old) (W.contents sink.new)
+        (script_of wall.dataset_names script.now) result }
 {
     let mut text = Vec::new(alloc);
     match answer_lines(alloc, machine, script, &mut text, sink) {

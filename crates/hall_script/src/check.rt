@@ -6,7 +6,8 @@ ghost use Rattle.std.specs.Prelude.{◌≡◌, ◌≢◌, Err};
 ghost use Rattle.coll_text.specs.Reading.{Gives, each_of};
 ghost use Rattle.coll_text.specs.Checks.{checked};
 ghost use Rattle.hall_script.specs.Lines.{value_of};
-ghost use Rattle.hall_script.specs.Checking.{values_checked, labelled_checked, given_checked, post_checked, act_checked, call_checked};
+ghost use Rattle.hall_script.specs.Checking.{values_checked, labelled_checked, given_checked};
+ghost use Rattle.hall_script.specs.Checking.{post_checked, act_checked, call_checked};
 
 use crate::line::{Verb, last_number_in, verb_in};
 use coll_text::{LineFault, Parts, check_statement, label_in, next_number32, next_word, signed};

@@ -42,7 +42,8 @@ fn push_value(
     number: Option<i128>,
 ) -> Result<(), LineFault>
     requires spelled { number ≡ signed_within u64.MAX u64.MAX word.now }
-    requires room { length builder.old.numbers < numbers_per_element builder.old.elem_type * builder.old.room }
+    requires room { length builder.old.numbers
+        < numbers_per_element builder.old.elem_type * builder.old.room }
     ensures { Leaves result builder.new (with_word builder.old word.now) }
 {
     if word.is_empty() {
@@ -61,11 +62,13 @@ fn push_value(
 // itself.
 #[inline(never)]
 fn fill(builder: &mut BufferBuilder, line: Parts) -> Result<(), LineFault>
-    requires { length builder.old.numbers + length line ≤ numbers_per_element builder.old.elem_type * builder.old.room }
+    requires { length builder.old.numbers + length line
+        ≤ numbers_per_element builder.old.elem_type * builder.old.room }
     ensures filled { Leaves result builder.new (with_words builder.old line.entry) }
     ensures kind { OnOk result (builder.new.elem_type ≡ builder.old.elem_type) }
     ensures room { OnOk result (builder.new.room ≡ builder.old.room) }
-    ensures count { OnOk result (length builder.new.numbers ≡ length builder.old.numbers + length line.entry) }
+    ensures count { OnOk result
+        (length builder.new.numbers ≡ length builder.old.numbers + length line.entry) }
 {
     let mut words = line;
     while let Some((word, number)) = words.next_signed() {

@@ -6,11 +6,12 @@ use thiserror::Error;
 /// Why a script was not answered, or not split, to its end.
 #[derive(Clone, Copy, Debug, PartialEq, Eq, Error)]
 pub enum ScriptFault {
-    /// The reader failed, or the script does not end within the limit. No call was applied, and nothing was written.
+    /// The reader failed, or the script does not end within the limit. No call was applied, and
+    /// nothing was written.
     #[error("read fault")]
     Read,
-    /// The line of this number, from 1, is no call, or, where a script is split, a call of a process that the policy lacks. A replay has
-    /// answered the lines before it.
+    /// The line of this number, from 1, is no call, or, where a script is split, a call of a
+    /// process that the policy lacks. A replay has answered the lines before it.
     #[error("script: line {0}: {1}")]
     Line(u64, LineFault),
     /// The writer failed. A prefix of the lines of the replies is written.

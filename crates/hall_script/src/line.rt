@@ -2,7 +2,8 @@
 ghost use Rattle.std.specs.Prelude.{◌≡◌, ◌≢◌, ◌≤◌, IfOk, IsOk, Ok, Err};
 ghost use Rattle.coll_text.specs.Reading.{Gives};
 ghost use Rattle.run_model.specs.Known.{IsKnownLabel, HasKnownLabel};
-ghost use Rattle.hall_script.specs.Lines.{labelled, given_of, post_of, last_number, act_of, verb_of, verb_at, call_of, answer_to, IsPost};
+ghost use Rattle.hall_script.specs.Lines.{labelled, given_of, post_of, last_number, act_of};
+ghost use Rattle.hall_script.specs.Lines.{verb_of, verb_at, call_of, answer_to, IsPost};
 
 use crate::check::check_call;
 use crate::elements::values;
@@ -156,7 +157,8 @@ pub fn read_call(alloc: Global, policy: &Policy, line: &[u8]) -> Result<Call, Li
     ensures known { IfOk result (λ call. HasKnownLabel policy.now call.act) }
     ensures memory { result ≡ Err LineFault.NoMemory → IsPost line.now }
     // The line has no fault.
-    ensures sound { result ≡ Err LineFault.NoMemory → IsOk (answer_to policy.now.dataset_names line.now) }
+    ensures sound { result ≡ Err LineFault.NoMemory →
+        IsOk (answer_to policy.now.dataset_names line.now) }
 {
     if !are_printable(line) {
         return Err(LineFault::BadShape);

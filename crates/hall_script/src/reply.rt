@@ -3,7 +3,9 @@ ghost use Rattle.std.specs.Prelude.{◌≡◌, ◌++◌, OnOk, OnErr, codes};
 ghost use Rattle.std.specs.Fmt.{decimal};
 ghost use Rattle.run_model.specs.Known.{IsKnownReply};
 ghost use Rattle.coll_text.specs.Writing.{IsFront};
-ghost use Rattle.hall_script.specs.Replies.{block_text, reply_line, reply_text, refusal_name, numbers_text, blocks_text, delivery_text, denial_text, info_text};
+ghost use Rattle.hall_script.specs.Replies.{block_text, reply_line, reply_text, refusal_name};
+ghost use Rattle.hall_script.specs.Replies.{numbers_text, blocks_text, delivery_text, denial_text};
+ghost use Rattle.hall_script.specs.Replies.{info_text};
 
 use coll_text::{label_text, put, put_decimal, put_number_at, put_spaced, rule_text};
 use run_model::{Block, Integers, Refusal, Reply, Rule};
@@ -80,7 +82,8 @@ fn put_delivery(line: &mut Vec<u8>, blocks: &[Block]) -> Result<(), AllocError>
 }
 
 fn put_denial(line: &mut Vec<u8>, rule: Rule, process: &str, label: &str) -> Result<(), AllocError>
-    ensures ok { OnOk result (line.new.items ≡ line.old.items ++ denial_text rule process.now label.now) }
+    ensures ok { OnOk result
+        (line.new.items ≡ line.old.items ++ denial_text rule process.now label.now) }
     ensures front { IsFront line.old.items line.new.items }
 {
     let word = rule_text(rule);
@@ -93,7 +96,9 @@ fn put_denial(line: &mut Vec<u8>, rule: Rule, process: &str, label: &str) -> Res
 }
 
 fn put_new_comm(line: &mut Vec<u8>, comm: u32, rank: u32, size: u32) -> Result<(), AllocError>
-    ensures ok { OnOk result (line.new.items ≡ line.old.items ++ codes "comm " ++ decimal comm ++ codes " rank " ++ decimal rank ++ codes " size " ++ decimal size) }
+    ensures ok { OnOk result (line.new.items
+        ≡ line.old.items ++ codes "comm " ++ decimal comm ++ codes " rank " ++ decimal rank
+        ++ codes " size " ++ decimal size) }
     ensures front { IsFront line.old.items line.new.items }
 {
     put(line, "comm ")?;
@@ -176,7 +181,8 @@ fn put_line(policy: &Policy, reply: &Reply, line: &mut Vec<u8>) -> Result<(), Al
 /// out the bytes are as they were.
 pub fn write_reply(policy: &Policy, reply: &Reply, bytes: &mut Vec<u8>) -> Result<(), NoMemory>
     requires { IsKnownReply policy.now reply.now }
-    ensures ok { OnOk result (bytes.new.items ≡ bytes.old.items ++ reply_line policy.now reply.now) }
+    ensures ok { OnOk result
+        (bytes.new.items ≡ bytes.old.items ++ reply_line policy.now reply.now) }
     ensures err { OnErr result (bytes.new.items ≡ bytes.old.items) }
 {
     let len = bytes.len();

@@ -28,7 +28,8 @@ fn no_acts(alloc: Global, policy: &Policy) -> Result<Vec<Acts>, AllocError>
 fn read_member(alloc: Global, policy: &Policy, line: &[u8]) -> Result<Option<Call>, LineFault>
     ensures call { Gives result (member_call policy.now line.now) }
     ensures known { IfOk result (λ said. IfSome said (λ call. HasKnownLabel policy.now call.act)) }
-    ensures member { IfOk result (λ said. IfSome said (λ call. call.process < length policy.now.process_names)) }
+    ensures member { IfOk result
+        (λ said. IfSome said (λ call. call.process < length policy.now.process_names)) }
 {
     match read_line(alloc, policy, line)? {
         None => Ok(None),
@@ -61,7 +62,8 @@ fn put_line(
     requires { length rows.old.items ≡ length policy.now.process_names }
     ensures put { Leaves result rows.new.items (with_line_of policy.now line.now rows.old.items) }
     ensures count { OnOk result (length rows.new.items ≡ length rows.old.items) }
-    ensures known { OnOk result (ScriptsHaveKnownLabels policy.now rows.old.items → ScriptsHaveKnownLabels policy.now rows.new.items) }
+    ensures known { OnOk result (ScriptsHaveKnownLabels policy.now rows.old.items →
+        ScriptsHaveKnownLabels policy.now rows.new.items) }
 {
     match read_member(alloc, policy, line)? {
         None => Ok(()),
@@ -75,9 +77,10 @@ fn put_line(
 
 /// Reads the whole script, and gives each process of the policy the acts of its calls, in order.
 ///
-/// Lines are read as `replay` reads them. The first line that is no call, or is one of a process that the policy lacks, is `Line` with its
-/// number and its fault, `BadField` for the latter; a line's own fault comes first. `NoMemory` may come in place of any answer, where a
-/// growth was refused; the other faults never come.
+/// Lines are read as `replay` reads them. The first line that is no call, or is one of a process
+/// that the policy lacks, is `Line` with its number and its fault, `BadField` for the latter; a
+/// line's own fault comes first. `NoMemory` may come in place of any answer, where a growth was
+/// refused; the other faults never come.
 pub fn split_script(alloc: Global, policy: &Policy, script: &[u8]) -> Result<Scripts, ScriptFault>
     ensures split { IsSplit policy.now (members_script policy.now script.now) result }
     ensures known { IfOk result (ScriptsHaveKnownLabels policy.now) }

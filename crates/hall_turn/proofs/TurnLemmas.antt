@@ -1,5 +1,6 @@
 -- A turn, step by step, for the seat that takes it.
-use Rattle.std.proofs.Common.{◌≡◌, ◌≢◌, ℕ, true, false, List, [], ◌∷◌, Option, Some, refl, sym, ap, ◌∙◌, subst}
+use Rattle.std.proofs.Common.{◌≡◌, ◌≢◌, ℕ, true, false, List, [], ◌∷◌, Option, Some, refl, sym, ap}
+use Rattle.std.proofs.Common.{◌∙◌, subst}
 use Rattle.atomic_table.specs.Table.{Me, Step, rest}
 use Rattle.wall_policy.specs.Policy.{ChineseWall}
 use Rattle.run_model.specs.declared.call.Call.{Call}
@@ -11,7 +12,8 @@ use Rattle.hall_turn.specs.Known.{Doorway}
 use Rattle.hall_turn.specs.Answers.{SeesOn, EntersAnd}
 use Rattle.hall_turn.specs.Machines.{Carries}
 use Rattle.hall_turn.specs.Views.{SeatView, saw, drawn, declared}
-use Rattle.hall_turn.specs.Steps.{Looks, HoldsMachine, MayCarryOut, Turned, TellsAfter, IsReady, IsIdle}
+use Rattle.hall_turn.specs.Steps.{Looks, HoldsMachine, MayCarryOut, Turned, TellsAfter, IsReady}
+use Rattle.hall_turn.specs.Steps.{IsIdle}
 use Rattle.hall_turn.proofs.RunLemmas.{continues_self, continues_trans, calls_of-own}
 
 -- the view m, of a seat that had the view v and has looked since, with its ticket not served
@@ -25,7 +27,8 @@ module _ {M : Type 0} where
   first_value d [] = d
   first_value d (x ∷ xs) = x.1
 
-  pub waits_none : (m : Me (Option M) SeatView) → m.0.out ≡ false → m.0.told ≡ [] → m.1 ≡ [] → Waits m.0 m
+  pub waits_none : (m : Me (Option M) SeatView) → m.0.out ≡ false → m.0.told ≡ [] → m.1 ≡ [] →
+      Waits m.0 m
   waits_none m out told slots = record {
     is = λ i. (record m.0 { told = told i; out = out i }, slots i);
     begins = continues_self m.0.seen;
@@ -33,20 +36,24 @@ module _ {M : Type 0} where
   }
 
 module _ {M : Type 0} (stands : ChineseWall → M → List Entry → Type 0) where
-  pub away : (v : SeatView) (t r : ℕ) (st : Step (Option M)) (m m' : Me (Option M) SeatView) → v.ticket ≡ Some t → Waits v m → Looks stands st m r m' → r ≢ t → Waits v m'
+  pub away : (v : SeatView) (t r : ℕ) (st : Step (Option M)) (m m' : Me (Option M) SeatView) →
+      v.ticket ≡ Some t → Waits v m → Looks stands st m r m' → r ≢ t → Waits v m'
   away v t r st m m' ticket w l ne =
       let view = ap (λ (x : Me (Option M) SeatView). x.0) w.is in
-      let mine : m.0.ticket ≢ Some r = λ e. ne (cc (ap (λ (x : SeatView). x.ticket) view, ticket, e)) in
+      let mine : m.0.ticket ≢ Some r = λ e. ne
+      (cc (ap (λ (x : SeatView). x.ticket) view, ticket, e)) in
       let process = ap (λ (x : SeatView). x.process) view in record {
         is = l.2 mine ∙ (λ i. (saw (w.is i).0 m'.0.seen false, (w.is i).1));
         begins = continues_trans m'.0.seen m.0.seen v.seen l.0.begins w.begins;
         own = w.own ∙ subst (λ n. calls_of n m.0.seen ≡ calls_of n m'.0.seen) process l.0.own;
       }
 
-  pub found : (v : SeatView) (t r : ℕ) (st : Step (Option M)) (m m' : Me (Option M) SeatView) → v.ticket ≡ Some t → Waits v m → Looks stands st m r m' → r ≡ t → HoldsMachine stands v m'
+  pub found : (v : SeatView) (t r : ℕ) (st : Step (Option M)) (m m' : Me (Option M) SeatView) →
+      v.ticket ≡ Some t → Waits v m → Looks stands st m r m' → r ≡ t → HoldsMachine stands v m'
   found v t r st m m' ticket w l same =
       let view = ap (λ (x : Me (Option M) SeatView). x.0) w.is in
-      let mine : m.0.ticket ≡ Some r = ap (λ (x : SeatView). x.ticket) view ∙ ticket ∙ ap Some (sym same) in
+      let mine : m.0.ticket ≡ Some r = ap (λ (x : SeatView). x.ticket) view ∙ ticket ∙ ap Some
+      (sym same) in
       let process = ap (λ (x : SeatView). x.process) view in
       let policy = ap (λ (x : SeatView). x.policy) view in
       let took = l.1 mine in record {
@@ -63,12 +70,14 @@ module _ {M : Type 0} (stands : ChineseWall → M → List Entry → Type 0) whe
 
   pub holds_one : (v : SeatView) (m : Me (Option M) SeatView) → HoldsMachine stands v m
       → (old : Option M) × (m.1 ≡ (0, old) ∷ rest m.1)
-  holds_one v m f = let e = ap (λ (x : Me (Option M) SeatView). x.1) f.is in (Some f.machine, e ∙ ap (λ l. (0, Some f.machine) ∷ rest l) (sym e))
+  holds_one v m f = let e = ap (λ (x : Me (Option M) SeatView). x.1) f.is in
+      (Some f.machine, e ∙ ap (λ l. (0, Some f.machine) ∷ rest l) (sym e))
 
   pub was_machine : (v : SeatView) (m : Me (Option M) SeatView) (old : Option M)
       → (f : HoldsMachine stands v m) → m.1 ≡ (0, old) ∷ rest m.1 → old ≡ Some f.machine
   unfolding first_value
-  was_machine v m old f e = let a = ap (λ (x : Me (Option M) SeatView). x.1) f.is in ap (first_value (Some f.machine)) (sym e ∙ a)
+  was_machine v m old f e = let a = ap (λ (x : Me (Option M) SeatView). x.1) f.is in
+      ap (first_value (Some f.machine)) (sym e ∙ a)
 
   -- what the machine in the slot is asked in its turn is what it can answer
   pub may_apply : (v : SeatView) (m1 m2 : Me (Option M) SeatView) (old : Option M)
@@ -93,7 +102,8 @@ module _ {M : Type 0} (stands : ChineseWall → M → List Entry → Type 0) whe
       → (holds : HoldsMachine stands m1.0 m2) → m2.1 ≡ (0, old) ∷ rest m2.1
       → ((h : M) (wall : ChineseWall) (run : List Entry) → old ≡ Some h → Legal wall run
       → stands wall h run → Told wall run)
-      → (last : Entry) (seen : List Entry) → seen ≡ last ∷ holds.run → TellsAfter seen (Told v.policy)
+      → (last : Entry) (seen : List Entry) → seen ≡ last ∷ holds.run →
+      TellsAfter seen (Told v.policy)
   tells_after v m1 m2 old Told policy holds in_slot told last seen is e run also =
       let same : holds.run ≡ run = cc (is, also) in
       subst (Told v.policy) same (told holds.machine v.policy holds.run
@@ -102,15 +112,18 @@ module _ {M : Type 0} (stands : ChineseWall → M → List Entry → Type 0) whe
       (subst (λ p. stands p holds.machine holds.run) policy holds.stood))
 
   -- before the turn ends
-  pub ready : (v : SeatView) (t : ℕ) (m1 m2 m3 m4 : Me (Option M) SeatView) (in_slot after : Option M)
+  pub ready :
+      (v : SeatView) (t : ℕ) (m1 m2 m3 m4 : Me (Option M) SeatView) (in_slot after : Option M)
       → (call : Call) (reply : Reply)
       → m1 ≡ (drawn v t, []) → HoldsMachine stands m1.0 m2 → m2.1 ≡ (0, in_slot) ∷ rest m2.1
       → m3 ≡ (m2.0, (0, after) ∷ rest m2.1)
       → m4 ≡ (declared m3.0 (entry call reply), m3.1)
       → call.process ≡ v.process → v.joined ≡ []
-      → (old : M) × (new : M) × (in_slot ≡ Some old) × (after ≡ Some new) × Carries stands old new call reply
+      → (old : M) × (new : M) × (in_slot ≡ Some old) × (after ≡ Some new)
+      × Carries stands old new call reply
       → IsReady stands m4
-  ready v t m1 m2 m3 m4 in_slot after call reply draws holds slot writes declares by joined carries =
+  ready v t m1 m2 m3 m4 in_slot after call reply draws holds slot writes declares by joined carries
+      =
       let e = entry call reply in
       let h = carries.0 in
       let h' = carries.1 in
@@ -125,14 +138,33 @@ module _ {M : Type 0} (stands : ChineseWall → M → List Entry → Type 0) whe
       let policy : m1.0.policy ≡ v.policy = λ i. (draws i).0.policy in
       let more = carries.4 v.policy holds.run
       (subst (λ p. Legal p holds.run) policy holds.seen.legal)
-      (subst (λ x. stands v.policy x holds.run) same (subst (λ p. stands p holds.machine holds.run) policy holds.stood)) in
-      subst (IsReady stands) (sym is) (record { entry = e; machine = h'; out = refl; said = refl; held = refl; joined = joined; by = by; legal = more.0; stood = more.1 })
+      (subst (λ x. stands v.policy x holds.run) same
+      (subst (λ p. stands p holds.machine holds.run) policy holds.stood)) in
+      subst (IsReady stands) (sym is) (record {
+        entry = e;
+        machine = h';
+        out = refl;
+        said = refl;
+        held = refl;
+        joined = joined;
+        by = by;
+        legal = more.0;
+        stood = more.1;
+      })
 
   -- a look of a seat between two calls
-  pub sees_on : (door d : Doorway) (p : ℕ) (r : ℕ) (st : Step (Option M)) (m m' : Me (Option M) SeatView) → IsIdle p m → Looks stands st m r m'
-      → SeesOn (record { door = door; process = p; seen = m.0.seen }) (record { door = d; process = p; seen = m'.0.seen })
+  pub sees_on : (door d : Doorway) (p : ℕ) (r : ℕ) (st : Step (Option M))
+      (m m' : Me (Option M) SeatView) → IsIdle p m → Looks stands st m r m'
+      →
+      SeesOn (record { door = door; process = p; seen = m.0.seen })
+      (record { door = d; process = p; seen = m'.0.seen })
   sees_on door d p r st m m' idle l =
-      record { begins = l.0.begins; own = sym (subst (λ n. calls_of n m.0.seen ≡ calls_of n m'.0.seen) idle.process_is l.0.own) }
+      record {
+        begins = l.0.begins;
+        own =
+            sym (subst (λ n. calls_of n m.0.seen ≡ calls_of n m'.0.seen) idle.process_is
+            l.0.own);
+      }
 
   -- what a deed that was carried out does
   pub carried : (door d : Doorway) (p : ℕ) (e : Entry) (Tells : ChineseWall → List Entry → Type 0)

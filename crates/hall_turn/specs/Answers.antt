@@ -31,7 +31,8 @@ pub record SeesOn (before after : Known) : Type 0 where
   pub begins : Continues after.seen before.seen
   pub own : calls_of before.process after.seen ≡ calls_of before.process before.seen
 
--- the run seen after begins with the run seen before, and ends with this entry, which is its one new call of the process
+-- the run seen after begins with the run seen before, and ends with this entry, which is its one
+-- new call of the process
 pub record Enters (before : Known) (new : Entry) (after : Known) : Type 0 where
   pub front : List Entry
   pub ends : after.seen ≡ new ∷ front

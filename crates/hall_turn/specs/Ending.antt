@@ -13,8 +13,8 @@ pub record HasMade (run : List Entry) (pass : Known) : Type 0 where
   pub begins : Continues run pass.seen
   pub own : calls_of pass.process run ≡ calls_of pass.process pass.seen
 
--- There is a legal run for which the hall stands. It begins with what each pass has seen, and the calls of each process in it are those that
--- its pass has seen; of what is no process it has none.
+-- There is a legal run for which the hall stands. It begins with what each pass has seen, and the
+-- calls of each process in it are those that its pass has seen; of what is no process it has none.
 pub record Closed (wall : ChineseWall) (hall : HallValue) (passes : List Known) : Type 0 where
   pub run : List Entry
   pub policy : hall.policy ≡ wall

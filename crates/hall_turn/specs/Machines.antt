@@ -14,11 +14,14 @@ use Rattle.run_model.specs.Known.{IsKnownReply}
 abbrev pub Stands : ChineseWall → HallValue → List Entry → Type 0
 Stands wall hall run = (hall.policy ≡ wall) × StandsFor hall run
 
--- a call with its reply carries a machine from each legal run that it stands for to that run with this entry
-abbrev pub Carries : {M : Type 0} → (ChineseWall → M → List Entry → Type 0) → M → M → Call → Reply → Type 0
-Carries stands old new call reply =
-    (wall : ChineseWall) (run : List Entry) → Legal wall run → stands wall old run
-    → Legal wall (entry call reply ∷ run) × stands wall new (entry call reply ∷ run) × IsKnownReply wall reply
+-- a call with its reply carries a machine from each legal run that it stands for to that run with
+-- this entry
+abbrev pub Carries : {M : Type 0} → (ChineseWall → M → List Entry → Type 0) → M → M → Call → Reply →
+    Type 0
+Carries stands old new call reply = (wall : ChineseWall) (run : List Entry) → Legal wall run →
+    stands wall old run →
+    Legal wall (entry call reply ∷ run) × stands wall new (entry call reply ∷ run)
+    × IsKnownReply wall reply
 
 -- What else is known of a claim of p for its request, after a run: it holds the run's instance and
 -- p's rank, or is no delivery; and it may be finished, with its room as it was made.

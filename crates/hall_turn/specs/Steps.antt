@@ -1,5 +1,6 @@
 -- What each step tells its seat, and what is known of a seat between steps.
-use Rattle.std.specs.Prelude.{◌≡◌, ◌≢◌, ℕ, ◌<◌, ◌≤◌, true, false, List, [], ◌∷◌, length, Option, Some, None}
+use Rattle.std.specs.Prelude.{◌≡◌, ◌≢◌, ℕ, ◌<◌, ◌≤◌, true, false, List, [], ◌∷◌, length, Option}
+use Rattle.std.specs.Prelude.{Some, None}
 use mathlib.Core.Option as opt
 use lib.ListN.{get_elem?}
 use Rattle.atomic_table.specs.Table.{Me, Step}
@@ -23,11 +24,12 @@ pub record Saw (v : SeatView) (r : ℕ) (run : List Entry) : Type 0 where
   pub found : r ≡ length run
 
 module _ {M : Type 0} (stands : ChineseWall → M → List Entry → Type 0) where
-  -- the run so far was seen; where the seat's ticket is served, the machine that stands for it is out with the seat
+  -- the run so far was seen; where the seat's ticket is served, the machine that stands for it is
+  -- out with the seat
   abbrev pub Looks : Step (Option M) → Me (Option M) SeatView → ℕ → Me (Option M) SeatView → Type 0
-  Looks st m r m' =
-      Saw m.0 r m'.0.seen
-      × (m.0.ticket ≡ Some r → (h : M) × (m' ≡ (saw m.0 m'.0.seen true, (0, Some h) ∷ m.1)) × stands m.0.policy h m'.0.seen)
+  Looks st m r m' = Saw m.0 r m'.0.seen
+      × (m.0.ticket ≡ Some r → (h : M) × (m' ≡ (saw m.0 m'.0.seen true, (0, Some h) ∷ m.1))
+      × stands m.0.policy h m'.0.seen)
       × (m.0.ticket ≢ Some r → m' ≡ (saw m.0 m'.0.seen false, m.1))
 
 module _ {S : Type 0} where
@@ -102,8 +104,8 @@ module _ {M : Type 0} (stands : ChineseWall → M → List Entry → Type 0) whe
 
   -- the machine stands for a legal run, under a policy under which the deed may be carried out
   abbrev pub MayCarryOut : M → (May : ChineseWall → Type 0) → Type 0
-  MayCarryOut machine May =
-      (wall : ChineseWall) × (run : List Entry) × Legal wall run × stands wall machine run × May wall
+  MayCarryOut machine May = (wall : ChineseWall) × (run : List Entry) × Legal wall run
+      × stands wall machine run × May wall
 
   -- a seat that may end its turn
   pub record IsReady (m : Me (Option M) SeatView) : Type 0 where
@@ -128,8 +130,10 @@ pub record HasAll {S : Type 0} (passes : List Known) (m : Me S SeatView) : Type 
   pub parts : m.0.parts ≡ length passes
   pub out : m.0.out ≡ false
   pub long : length (every m.0) ≡ length passes
-  pub knows : (i : ℕ) (k : Known) → get_elem? passes i ≡ opt.some k → (j : ℕ) × (get_elem? (every m.0) j ≡ opt.some (told_of k))
-  pub from : (j : ℕ) (t : Told) → get_elem? (every m.0) j ≡ opt.some t → (i : ℕ) × (k : Known) × (get_elem? passes i ≡ opt.some k) × (told_of k ≡ t)
+  pub knows : (i : ℕ) (k : Known) → get_elem? passes i ≡ opt.some k →
+      (j : ℕ) × (get_elem? (every m.0) j ≡ opt.some (told_of k))
+  pub from : (j : ℕ) (t : Told) → get_elem? (every m.0) j ≡ opt.some t →
+      (i : ℕ) × (k : Known) × (get_elem? passes i ≡ opt.some k) × (told_of k ≡ t)
 
 -- the seat has the whole right to close
 pub record HasWhole {S : Type 0} (wall : ChineseWall) (m : Me S SeatView) : Type 0 where
@@ -143,6 +147,8 @@ module _ {M : Type 0} (stands : ChineseWall → M → List Entry → Type 0) whe
     pub run : List Entry
     pub stood : stands wall machine run
     pub legal : Legal wall run
-    pub knows : (i : ℕ) (t : Told) → get_elem? (every v) i ≡ opt.some t → Continues run t.seen × (calls_of t.process t.seen ≡ calls_of t.process run)
+    pub knows : (i : ℕ) (t : Told) → get_elem? (every v) i ≡ opt.some t →
+        Continues run t.seen × (calls_of t.process t.seen ≡ calls_of t.process run)
     pub others : (p : ℕ) → processes wall ≤ p → calls_of p run ≡ []
-    pub whole : processes wall ≤ length (every v) → (p : ℕ) → p < processes wall → (i : ℕ) × (t : Told) × (get_elem? (every v) i ≡ opt.some t) × (t.process ≡ p)
+    pub whole : processes wall ≤ length (every v) → (p : ℕ) → p < processes wall →
+        (i : ℕ) × (t : Told) × (get_elem? (every v) i ≡ opt.some t) × (t.process ≡ p)

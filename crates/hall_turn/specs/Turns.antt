@@ -1,7 +1,7 @@
--- The rule of the turns.
--- Word 0, SERVING, is the length of the run so far. Word 1, TICKET, is the next ticket. The slot has the machine, which is out only while some
--- view's ticket is SERVING.
-use Rattle.std.specs.Prelude.{◌≡◌, ◌≢◌, ◌⊎◌, ℕ, ◌+◌, ◌^◌, ◌<◌, ◌≤◌, true, eqb, List, [], ◌∷◌, ◌++◌, length, Option, Some}
+-- The rule of the turns. Word 0, SERVING, is the length of the run so far. Word 1, TICKET, is the
+-- next ticket. The slot has the machine, which is out only while some view's ticket is SERVING.
+use Rattle.std.specs.Prelude.{◌≡◌, ◌≢◌, ◌⊎◌, ℕ, ◌+◌, ◌^◌, ◌<◌, ◌≤◌, true, eqb, List, [], ◌∷◌, ◌++◌}
+use Rattle.std.specs.Prelude.{length, Option, Some}
 use Rattle.std.specs.List.{IsDistinct}
 use mathlib.Core.Option as opt
 use lib.ListN.{get_elem?}
@@ -25,11 +25,13 @@ pub record FitsTold (run : List Entry) (made : ℕ) (t : Told) : Type 0 where
   pub below : t.process < made
 
 -- what the rule says of one view, where this is the run so far, and this the next ticket
-pub record Fits (wall : ChineseWall) (made : ℕ) (run : List Entry) (next : ℕ) (v : SeatView) : Type 0 where
+pub record Fits (wall : ChineseWall) (made : ℕ) (run : List Entry) (next : ℕ) (v : SeatView)
+    : Type 0 where
   pub begins : Continues run v.seen
   pub hears : Continues run v.told
   pub policy_is : 0 < v.parts → v.policy ≡ wall
-  pub knows : 0 < v.parts → (i : ℕ) (t : Told) → get_elem? (every v) i ≡ opt.some t → FitsTold run made t
+  pub knows : 0 < v.parts → (i : ℕ) (t : Told) → get_elem? (every v) i ≡ opt.some t →
+      FitsTold run made t
   pub differ : IsDistinct eqb (numbers v)
   pub waits : (t : ℕ) → v.ticket ≡ Some t → (length run ≤ t) × (t < next) × (0 < v.parts)
   pub serves : v.out ≡ true → (v.ticket ≡ Some (length run)) × (v.seen ≡ run)
@@ -37,14 +39,17 @@ pub record Fits (wall : ChineseWall) (made : ℕ) (run : List Entry) (next : ℕ
 
 -- what it says of two
 pub record Apart (v w : SeatView) : Type 0 where
-  pub processes : 0 < v.parts → 0 < w.parts → (i j p q : ℕ) → get_elem? (numbers v) i ≡ opt.some p → get_elem? (numbers w) j ≡ opt.some q → p ≢ q
+  pub processes : 0 < v.parts → 0 < w.parts → (i j p q : ℕ) → get_elem? (numbers v) i ≡ opt.some p →
+      get_elem? (numbers w) j ≡ opt.some q → p ≢ q
   pub tickets : (t : ℕ) → v.ticket ≡ Some t → w.ticket ≡ Some t → ⊥
   pub makers : 0 < v.made → 0 < w.made → ⊥
 
 -- what it says of all views
-pub record Agree (wall : ChineseWall) (made : ℕ) (run : List Entry) (next : ℕ) (views : List SeatView) : Type 0 where
+pub record Agree (wall : ChineseWall) (made : ℕ) (run : List Entry) (next : ℕ)
+    (views : List SeatView) : Type 0 where
   pub each : (j : ℕ) (v : SeatView) → get_elem? views j ≡ opt.some v → Fits wall made run next v
-  pub apart : (i j : ℕ) (v w : SeatView) → get_elem? views i ≡ opt.some v → get_elem? views j ≡ opt.some w → i ≢ j → Apart v w
+  pub apart : (i j : ℕ) (v w : SeatView) → get_elem? views i ≡ opt.some v →
+      get_elem? views j ≡ opt.some w → i ≢ j → Apart v w
 
 -- turn t of the run was p's: before its entry the run has t others
 pub record TookTurn (run : List Entry) (p t : ℕ) : Type 0 where
@@ -74,7 +79,8 @@ HasOneLate run views p =
     → HasNumber run views p t → HasNumber run views p u → t ≡ u
 
 module _ {M : Type 0} (stands : ChineseWall → M → List Entry → Type 0) where
-  pub record AtHome (wall : ChineseWall) (run : List Entry) (s : State (Option M) SeatView) : Type 0 where
+  pub record AtHome (wall : ChineseWall) (run : List Entry) (s : State (Option M) SeatView)
+      : Type 0 where
     pub machine : M
     pub homes : s.homes ≡ opt.some (Some machine) ∷ []
     pub stood : stands wall machine run

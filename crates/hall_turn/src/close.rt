@@ -31,13 +31,15 @@ pub struct Unclosed {
 impl Door {
     /// The hall, at the end of the run of all calls that were made at the door. It takes no memory.
     ///
-    /// `MissingPass` is answered exactly if there are fewer passes than processes; then door and passes come back as they were. The caller sees to
-    /// it that the passes are of this door. It waits for nobody.
+    /// `MissingPass` is answered exactly if there are fewer passes than processes; then door and
+    /// passes come back as they were. The caller sees to it that the passes are of this door. It
+    /// waits for nobody.
     pub fn close(self, passes: Passes) -> Result<Hall, Unclosed>
         requires { All (λ pass. pass.door ≡ self) passes.items }
         ensures hall { IfOk result (λ hall. Closed self.policy hall passes.items) }
         ensures missing { IsErr result ↔ (length passes.items < processes self.policy) }
-        ensures back { IfErr result (λ unclosed. (unclosed.door ≡ self) × (unclosed.passes.items ≡ passes.items)) }
+        ensures back { IfErr result
+            (λ unclosed. (unclosed.door ≡ self) × (unclosed.passes.items ≡ passes.items)) }
     {
         if passes.len() < self.count as usize {
             return Err(Unclosed {

@@ -1,12 +1,14 @@
 //! The door, and the calls that take a turn there.
 ghost use Rattle.std.specs.Prelude.{◌≡◌, ◌<◌, ◌≤◌, [], IfOk, IfSome, IfNone, vec_capacity};
 ghost use Rattle.std.specs.List.{All};
-ghost use Rattle.run_model.specs.declared.call.Act.TheVariants.{Post as ToPost, Take as ToTake, Info as ToInfo};
+ghost use Rattle.run_model.specs.declared.call.Act.TheVariants.{Post as ToPost, Take as ToTake};
+ghost use Rattle.run_model.specs.declared.call.Act.TheVariants.{Info as ToInfo};
 ghost use Rattle.run_model.specs.Comms.{processes};
 ghost use Rattle.run_model.specs.Replies.{Legal};
 ghost use Rattle.run_model.specs.Runs.{entry};
 ghost use Rattle.run_model.specs.Known.{IsKnownLabel, HasKnownLabel, IsKnownReply};
-ghost use Rattle.hall_turn.specs.Answers.{Answered, ClaimAnswered, ClaimNamesKnown, EntersAnd, MayFinish, IsSamePass, IsTooLate, NamesKnown, new_passes};
+ghost use Rattle.hall_turn.specs.Answers.{Answered, ClaimAnswered, ClaimNamesKnown, EntersAnd};
+ghost use Rattle.hall_turn.specs.Answers.{MayFinish, IsSamePass, IsTooLate, NamesKnown, new_passes};
 ghost use Rattle.hall_turn.specs.Views.{newcomer};
 
 use crate::answer::{Answer, Claimed};
@@ -41,16 +43,19 @@ impl Model for Door {
 
     ghost Value = { Doorway };
 
-    ghost view = { λ d. record { name = d.turns.table.shared.table_id; policy = d.turns.table.shared.key.value } };
+    ghost view = { λ d.
+        record { name = d.turns.table.shared.table_id; policy = d.turns.table.shared.key.value } };
 
     ghost invariant = { λ d. (d.count ≡ processes d.turns.table.shared.key.value) × (0 < d.count) };
 }
 
 impl Door {
-    /// A door to a new hall, and a pass for each process, in order, which has seen nothing. `NoMemory` is answered only where a growth was refused.
+    /// A door to a new hall, and a pass for each process, in order, which has seen nothing.
+    /// `NoMemory` is answered only where a growth was refused.
     pub fn open(alloc: Global, policy: Policy) -> Result<(Door, Passes), NoMemory>
         ensures policy { IfOk result (λ opened. opened.0.policy ≡ policy) }
-        ensures passes { IfOk result (λ opened. opened.1.items ≡ new_passes opened.0 (processes policy)) }
+        ensures passes { IfOk result
+            (λ opened. opened.1.items ≡ new_passes opened.0 (processes policy)) }
         ensures of { IfOk result (λ opened. All (λ pass. pass.door ≡ opened.0) opened.1.items) }
     {
         let key = Snapshot::of(&policy);
@@ -96,10 +101,12 @@ impl Door {
         passes
     }
 
-    /// Posts the pass's part in its next collective on a communicator, at its turn. The caller sees to it that the posting's label is public or a
-    /// dataset of the policy; all else the hall judges, and its reply is the one that is due after the calls of all turns before.
+    /// Posts the pass's part in its next collective on a communicator, at its turn. The caller sees
+    /// to it that the posting's label is public or a dataset of the policy; all else the hall
+    /// judges, and its reply is the one that is due after the calls of all turns before.
     ///
-    /// `Exhausted` is answered after 2^62 turns alone; then nothing is posted, and the pass has looked, as by `front`.
+    /// `Exhausted` is answered after 2^62 turns alone; then nothing is posted, and the pass has
+    /// looked, as by `front`.
     pub fn post<R: Wait>(&self, rt: &R, pass: &mut Pass, posting: Posting) -> Answer
         requires door { pass.old.door ≡ self.now }
         requires label { IsKnownLabel self.now.policy posting.label }
@@ -111,9 +118,11 @@ impl Door {
         self.call(rt, pass, Act::Post(posting))
     }
 
-    /// Takes the outcome of a request of the pass's process, at its turn. It does not wait for the outcome: `Pending` is a reply.
+    /// Takes the outcome of a request of the pass's process, at its turn. It does not wait for the
+    /// outcome: `Pending` is a reply.
     ///
-    /// `Exhausted` is answered after 2^62 turns alone; then the request stays, and the pass has looked, as by `front`.
+    /// `Exhausted` is answered after 2^62 turns alone; then the request stays, and the pass has
+    /// looked, as by `front`.
     pub fn take<R: Wait>(&self, rt: &R, pass: &mut Pass, request: u64) -> Answer
         requires door { pass.old.door ≡ self.now }
         ensures same { IsSamePass pass.old pass.new }
@@ -127,9 +136,11 @@ impl Door {
         }
     }
 
-    /// All of a take that needs the hall, at the pass's turn. What is left, `finish` does after the turn.
+    /// All of a take that needs the hall, at the pass's turn. What is left, `finish` does after the
+    /// turn.
     ///
-    /// `Exhausted` is answered after 2^62 turns alone; then the request stays, and the pass has looked, as by `front`.
+    /// `Exhausted` is answered after 2^62 turns alone; then the request stays, and the pass has
+    /// looked, as by `front`.
     pub fn claim<R: Wait>(&self, rt: &R, pass: &mut Pass, request: u64) -> Claimed
         requires door { pass.old.door ≡ self.now }
         ensures same { IsSamePass pass.old pass.new }

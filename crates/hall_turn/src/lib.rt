@@ -1,7 +1,8 @@
-//! The door: threads take turns at one hall, which stands in a slot that each empties and fills again.
+//! The door: threads take turns at one hall, which stands in a slot that each empties and fills
+//! again.
 //!
-//! Each process has a [`Pass`]. A call is one turn: its entry, the call with its reply, joins one run of all calls. What a pass has seen of
-//! that run is a beginning of it.
+//! Each process has a [`Pass`]. A call is one turn: its entry, the call with its reply, joins one
+//! run of all calls. What a pass has seen of that run is a beginning of it.
 #![tactic(auto)]
 
 mod answer;

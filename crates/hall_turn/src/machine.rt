@@ -9,13 +9,15 @@ ghost use Rattle.hall_turn.specs.Machines.{Carries, ClaimsAfter, Stands};
 
 use hall_core::{Call, Claim, Hall, Reply};
 
-/// A machine stands for runs of calls and replies under a policy. A call makes each of them one entry longer.
+/// A machine stands for runs of calls and replies under a policy. A call makes each of them one
+/// entry longer.
 pub(crate) trait Machine {
     /// It was opened with the policy, and stands for the run.
     ghost stands: { ChineseWall → Self → List Entry → Type 0 };
 
     fn apply(&mut self, call: Call) -> Reply
-        requires { (wall : ChineseWall) × (run : List Entry) × Legal wall run × stands wall self.old run × HasKnownLabel wall call.act }
+        requires { (wall : ChineseWall) × (run : List Entry) × Legal wall run
+            × stands wall self.old run × HasKnownLabel wall call.act }
         ensures { Carries stands self.old self.new call result };
 
     fn claim(&mut self, process: u32, request: u64) -> Claim
@@ -26,7 +28,8 @@ pub(crate) trait Machine {
         ensures claims { (wall : ChineseWall) (run : List Entry) → Legal wall run
             → stands wall self.old run → ClaimsAfter wall run process request result };
 
-    /// How many entries its book has: a post that settles its instance adds two, any other one. Nothing is proved of it.
+    /// How many entries its book has: a post that settles its instance adds two, any other one.
+    /// Nothing is proved of it.
     fn entries(&self) -> usize;
 }
 

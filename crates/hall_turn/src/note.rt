@@ -11,7 +11,8 @@ use atomic_table::Seat;
 use hall_core::Hall;
 use std::marker::Model;
 
-/// What a pass had seen, to be told to another. Contracts see its door and the run, the newest entry first.
+/// What a pass had seen, to be told to another. Contracts see its door and the run, the newest
+/// entry first.
 #[derive(Drop)]
 pub struct Note {
     seat: Seat<Option<Hall>, View>,
@@ -43,7 +44,8 @@ impl Door {
         Note { seat }
     }
 
-    /// The pass sees at least what the note has seen, and looks, as by `front`. It waits for nobody.
+    /// The pass sees at least what the note has seen, and looks, as by `front`. It waits for
+    /// nobody.
     pub fn learn(&self, pass: &mut Pass, note: Note)
         requires pass { pass.old.door ≡ self.now }
         requires note { note.door ≡ self.now }

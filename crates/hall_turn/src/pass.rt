@@ -9,7 +9,8 @@ use atomic_table::Seat;
 use hall_core::Hall;
 use std::marker::Model;
 
-/// The right to call as one process. Contracts see its door, its process, and the run that it has seen, the newest entry first.
+/// The right to call as one process. Contracts see its door, its process, and the run that it has
+/// seen, the newest entry first.
 #[derive(Drop)]
 pub struct Pass {
     pub(crate) seat: Seat<Option<Hall>, View>,
@@ -46,14 +47,16 @@ impl Pass {
         self.process
     }
 
-    /// Whether the pass's last turn settled an instance, for those that sleep until one does. It is a hint: nothing is proved of it.
+    /// Whether the pass's last turn settled an instance, for those that sleep until one does. It is
+    /// a hint: nothing is proved of it.
     pub fn settled(&self) -> bool {
         self.settled
     }
 }
 
 impl Door {
-    /// Looks how many turns have ended: that is the length of the run that the pass has now seen. It waits for nobody.
+    /// Looks how many turns have ended: that is the length of the run that the pass has now seen.
+    /// It waits for nobody.
     pub fn front(&self, pass: &mut Pass) -> u64
         requires { pass.old.door ≡ self.now }
         ensures same { IsSamePass pass.old pass.new }

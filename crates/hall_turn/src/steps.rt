@@ -6,9 +6,11 @@ ghost use Rattle.wall_policy.specs.Policy.{ChineseWall};
 ghost use Rattle.run_model.specs.Runs.{Entry, entry};
 ghost use Rattle.run_model.specs.Replies.{Legal};
 ghost use Rattle.run_model.specs.Known.{IsKnownReply};
-ghost use Rattle.hall_turn.specs.Views.{maker_left, next_pass, noted, informed, declared, served, drawn};
+ghost use Rattle.hall_turn.specs.Views.{maker_left, next_pass, noted, informed, declared, served};
+ghost use Rattle.hall_turn.specs.Views.{drawn};
 ghost use Rattle.hall_turn.specs.Machines.{Carries};
-ghost use Rattle.hall_turn.specs.Steps.{Looks, IsAt, IsIdle, IsNote, IsReady, HoldsMachine, MayCarryOut, Turned, TellsAfter, CanMake};
+ghost use Rattle.hall_turn.specs.Steps.{Looks, IsAt, IsIdle, IsNote, IsReady, HoldsMachine};
+ghost use Rattle.hall_turn.specs.Steps.{MayCarryOut, Turned, TellsAfter, CanMake};
 
 use crate::deed::Deed;
 use crate::machine::Machine;
@@ -47,7 +49,8 @@ fn pause(looks: u32) -> u32 {
 
 // The machine in the slot carries out the deed, where it lies.
 fn carry_out_in<M: Machine, D: Deed>(slot: &mut Option<M>, deed: D) -> Ended<D::Told>
-    requires { (machine : M) × (slot.old ≡ Some machine) × MayCarryOut M.stands machine (λ wall. D.may wall deed) }
+    requires { (machine : M) × (slot.old ≡ Some machine)
+        × MayCarryOut M.stands machine (λ wall. D.may wall deed) }
     ensures carries { (old : M) × (new : M) × (slot.old ≡ Some old) × (slot.new ≡ Some new)
         × Carries M.stands old new (D.call deed) (D.reply result.told) }
     ensures tells { (old : M) (wall : ChineseWall) (run : List Entry) → slot.old ≡ Some old
@@ -150,7 +153,11 @@ impl<M: Machine> Turns<M> {
         requires out { seat.old.me.0.out ≡ true }
         requires saying { J.entry ≡ entry (D.call deed.now.value) (D.reply told.now) }
         ensures at { IsAt seat.old seat.new }
-        ensures declares { seat.new.me ≡ (declared seat.old.me.0 (entry (D.call deed.now.value) (D.reply told.now)), seat.old.me.1) }
+        ensures declares { seat.new.me
+            ≡ (
+              declared seat.old.me.0 (entry (D.call deed.now.value) (D.reply told.now)),
+              seat.old.me.1,
+            ) }
     {
         let _ = deed;
         let _ = told;
@@ -161,7 +168,8 @@ impl<M: Machine> Turns<M> {
         requires at { seat.old.table_id ≡ self.now.table.shared.table_id }
         requires ready { IsReady M.stands seat.old.me }
         ensures at { IsAt seat.old seat.new }
-        ensures serves { (e : _) × (seat.old.me.0.said ≡ Some e) × (seat.new.me ≡ (served seat.old.me.0 e, [])) }
+        ensures serves { (e : _) × (seat.old.me.0.said ≡ Some e)
+            × (seat.new.me ≡ (served seat.old.me.0 e, [])) }
     {
         self.table.shared.fetch_add::<Serve>(seat, SERVING, 1);
     }

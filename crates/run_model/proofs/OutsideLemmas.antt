@@ -1,7 +1,10 @@
 -- Two worlds that are alike outside a dataset look the same to who doesn't hold it.
-use Rattle.std.proofs.Common.{◌≡◌, ℕ, ◌<◌, ◌≤◌, List, [], ◌∷◌, length, refl, sym, ap, ◌∙◌, subst, arith, Bool, true, false, not, cond, ⊎_elim, ◌⊎◌, inl, inr, Option, Some, None, slice_get, option_map, eqb-true, eq-eqb}
+use Rattle.std.proofs.Common.{◌≡◌, ℕ, ◌<◌, ◌≤◌, List, [], ◌∷◌, length, refl, sym, ap, ◌∙◌, subst}
+use Rattle.std.proofs.Common.{arith, Bool, true, false, not, cond, ⊎_elim, ◌⊎◌, inl, inr, Option}
+use Rattle.std.proofs.Common.{Some, None, slice_get, option_map, eqb-true, eq-eqb}
 use Rattle.std.specs.Prelude.{◌==◌}
-use Rattle.std.proofs.lemmas.Bool.{cases_Bool, cond-true, cond-false, false≢true, and_from, or_right}
+use Rattle.std.proofs.lemmas.Bool.{cases_Bool, cond-true, cond-false, false≢true, and_from}
+use Rattle.std.proofs.lemmas.Bool.{or_right}
 use Rattle.std.proofs.lemmas.Option.{slice_get-map}
 use Rattle.wall_labels.specs.declared.ids.TheConstants.{DATASET_LIMIT}
 use Rattle.wall_labels.specs.declared.label.Label.{Label}
@@ -22,11 +25,13 @@ use Rattle.coll_values.specs.Instances.{elements_in, part}
 use Rattle.coll_values.specs.Values.{value}
 use Rattle.coll_values.specs.Forms.{form_of_part}
 use Rattle.coll_values.specs.Laws.{ValuesAreOfRoutedRanks}
-use Rattle.wall_verdict.specs.Charges.{dataset_in, is_that, contribution, contributed, sanitised, charged}
+use Rattle.wall_verdict.specs.Charges.{dataset_in, is_that, contribution, contributed, sanitised}
+use Rattle.wall_verdict.specs.Charges.{charged}
 use Rattle.wall_verdict.specs.Grants.{charged_at, charged_to}
 use Rattle.run_model.specs.declared.outcome.Outcome.TheVariants.{Granted}
 use Rattle.run_model.specs.Comms.{Comm}
-use Rattle.run_model.specs.Posts.{Post, kth_posts, instance, is_full, comms, labelled, with_delivery, is_granted, histories, outcome_of, outcome_at}
+use Rattle.run_model.specs.Posts.{Post, kth_posts, instance, is_full, comms, labelled}
+use Rattle.run_model.specs.Posts.{with_delivery, is_granted, histories, outcome_of, outcome_at}
 use Rattle.run_model.specs.Holding.{Holds, at_home}
 use Rattle.run_model.proofs.HoldingLemmas.{label_of_holder, rival_within}
 use Rattle.run_model.proofs.PostLawLemmas.{grow}
@@ -36,17 +41,28 @@ use Rattle.run_model.specs.declared.call.Act.{Act}
 use Rattle.run_model.specs.declared.call.Act.TheVariants.{Post as ToPost, Take, Info as ToInfo}
 use Rattle.run_model.specs.declared.reply.Reply.{Reply}
 use Rattle.run_model.specs.declared.reply.Reply.TheVariants.{Posted, Delivered}
-use Rattle.run_model.specs.Runs.{Entry, effects, posts, contributions, given_in, label_in as label_given, label_if, requests, is_taken}
+use Rattle.run_model.specs.Runs.{Entry, effects, posts, contributions, given_in}
+use Rattle.run_model.specs.Runs.{label_in as label_given, label_if, requests, is_taken}
 use Rattle.run_model.specs.Replies.{refusal, comm_at, reply_by, reply}
 use Rattle.run_model.specs.RunLaws.{instance_in, IsDelivered}
-use Rattle.run_model.specs.Worlds.{SamePostingButForValues, SameActButForValues, AreTwoWorlds, form_of_reply, SameButForNumbers, SameValues, MayWriteOf, DifferOnlyIn, is_sanitised_of, is_spared_at, is_spared, without_numbers_if, what_is_seen, LooksTheSameTo, CannotTell, WhoHoldsNothingLearnsNothing, NoQuestionTellsWorldsApart, RivalsLearnNothing, HomesOfRivalsSeeNothing}
+use Rattle.run_model.specs.Worlds.{SamePostingButForValues, SameActButForValues, AreTwoWorlds}
+use Rattle.run_model.specs.Worlds.{form_of_reply, SameButForNumbers, SameValues, MayWriteOf}
+use Rattle.run_model.specs.Worlds.{DifferOnlyIn, is_sanitised_of, is_spared_at, is_spared}
+use Rattle.run_model.specs.Worlds.{without_numbers_if, what_is_seen, LooksTheSameTo, CannotTell}
+use Rattle.run_model.specs.Worlds.{WhoHoldsNothingLearnsNothing, NoQuestionTellsWorldsApart}
+use Rattle.run_model.specs.Worlds.{RivalsLearnNothing, HomesOfRivalsSeeNothing}
 use Rattle.run_model.proofs.CountLemmas.{posted_taken}
 use Rattle.run_model.proofs.SettledLemmas.{settled_from, settled_full, settled_roll, comm_at_is}
-use Rattle.run_model.proofs.RunLemmas.{one_reply_is_due, holding_is_history_in_runs, nobody_holds_two_rivals_in_runs, histories_grow, deliveries_are_of_grants}
+use Rattle.run_model.proofs.RunLemmas.{one_reply_is_due, holding_is_history_in_runs}
+use Rattle.run_model.proofs.RunLemmas.{nobody_holds_two_rivals_in_runs, histories_grow}
+use Rattle.run_model.proofs.RunLemmas.{deliveries_are_of_grants}
 use Rattle.run_model.proofs.TellLemmas.{grants_are_delivered}
-use Rattle.run_model.proofs.SeenLemmas.{View, seen_all, same_posts, pairs, of_pair, own_parts_are, full_statements_are}
+use Rattle.run_model.proofs.SeenLemmas.{View, seen_all, same_posts, pairs, of_pair, own_parts_are}
+use Rattle.run_model.proofs.SeenLemmas.{full_statements_are}
 use Rattle.coll_values.proofs.CollValuesLemmas.{one_form}
-use Rattle.run_model.proofs.WorldsLemmas.{LookTheSame, forms, one_past, pairs_look_same, PassLookingTheSame, step_looks_same, older, first_due, reply_told, post_told, worlds_look_same}
+use Rattle.run_model.proofs.WorldsLemmas.{LookTheSame, forms, one_past, pairs_look_same}
+use Rattle.run_model.proofs.WorldsLemmas.{PassLookingTheSame, step_looks_same, older, first_due}
+use Rattle.run_model.proofs.WorldsLemmas.{reply_told, post_told, worlds_look_same}
 
 -- ## what is seen by who doesn't see d
 

@@ -11,7 +11,8 @@ pub use Rattle.run_model.proofs.PostLawLemmas.{posts_keep_the_wall}
 pub use Rattle.run_model.proofs.PostLemmas.{IsFilled, filled_is, kth_from, stated_at, stated_by}
 pub use Rattle.run_model.proofs.PostingLemmas.{posts_within}
 pub use Rattle.run_model.proofs.ProperLemmas.{legal_proper, proper_step}
-pub use Rattle.run_model.proofs.RequestLemmas.{request_member, request_new, requests_other, requests_own}
+pub use Rattle.run_model.proofs.RequestLemmas.{request_member, request_new, requests_other}
+pub use Rattle.run_model.proofs.RequestLemmas.{requests_own}
 pub use Rattle.run_model.proofs.RunLemmas.{holding_is_history_in_runs}
 pub use Rattle.run_model.proofs.RunLemmas.{nobody_holds_two_rivals_in_runs}
 pub use Rattle.run_model.proofs.SettledLemmas.{IsSettled, comm_at_is, filled_at, instance_stays}

@@ -1,5 +1,6 @@
 -- Posts whose parts are seen through a view: what two lists of them share where they look the same.
-use Rattle.std.proofs.Common.{◌≡◌, ℕ, List, [], ◌∷◌, ◌++◌, map, refl, sym, ap, ◌∙◌, Bool, true, false, ◌&&◌, cond, Option, Some, None, slice_get, option_map}
+use Rattle.std.proofs.Common.{◌≡◌, ℕ, List, [], ◌∷◌, ◌++◌, map, refl, sym, ap, ◌∙◌, Bool, true}
+use Rattle.std.proofs.Common.{false, ◌&&◌, cond, Option, Some, None, slice_get, option_map}
 use Rattle.std.specs.Prelude.{◌==◌, is_some}
 use Rattle.std.specs.List.{list_all, cons_option}
 use Rattle.std.proofs.lemmas.Bool.{false≢true}
@@ -54,7 +55,8 @@ pub posts_seen : {X Y : Type 0} (view : View X Y) (past : List (Contribution X))
 posts_seen view [] = refl
 posts_seen view (g ∷ past) = ap (λ ps. g.post ∷ ps) (posts_seen view past)
 
-pub same_posts : {X Y : Type 0} (view : View X Y) (past other : List (Contribution X)) → seen_all view past
+pub same_posts : {X Y : Type 0} (view : View X Y) (past other : List (Contribution X)) →
+    seen_all view past
     ≡ seen_all view other → posts_of past ≡ posts_of other
 same_posts view past other e =
     sym (posts_seen view past) ∙ (ap (λ gs. posts_of gs) e ∙ posts_seen view other)
@@ -73,7 +75,8 @@ parts_viewed f c p (g ∷ past) =
     last_if f (g.post.comm == c && g.post.process == p) (parts_on c p past) g.part
     (parts_on c p (seen_all (λ s x. f x) past)) (parts_viewed f c p past)
 
-statements_are : {X : Type 0} (c p : ℕ) (past : List (Contribution X)) → posts_on c p (posts_of past)
+statements_are : {X : Type 0} (c p : ℕ) (past : List (Contribution X)) →
+    posts_on c p (posts_of past)
     ≡ map (λ (q : Stated × X). q.0) (parts_on c p (paired past))
 statements_are c p [] = refl
 statements_are {X} c p (g ∷ past) =

@@ -1,5 +1,6 @@
 -- Worked pairs of worlds, by computation.
-use Rattle.std.proofs.Common.{◌≡◌, ℕ, List, [], ◌∷◌, length, map, pos, reverse, take, arith, refl, sym, ap, ◌∙◌, inl, inr, ⊎_elim, Bool, true, false, not}
+use Rattle.std.proofs.Common.{◌≡◌, ℕ, List, [], ◌∷◌, length, map, pos, reverse, take, arith, refl}
+use Rattle.std.proofs.Common.{sym, ap, ◌∙◌, inl, inr, ⊎_elim, Bool, true, false, not}
 use Rattle.std.specs.List.{list_all}
 use Rattle.std.proofs.lemmas.Bool.{false≢true, and_parts}
 use Rattle.run_model.specs.declared.refusal.Refusal.TheVariants.{NoMemory}
@@ -17,11 +18,15 @@ use Rattle.run_model.specs.declared.reply.Reply.{Reply}
 use Rattle.run_model.specs.declared.reply.Reply.TheVariants.{Refused}
 use Rattle.run_model.specs.Runs.{Entry, posts}
 use Rattle.run_model.specs.Replies.{Legal}
-use Rattle.run_model.specs.RunRows.{banks_and_oil, five_groups, relayed, summed, two_offers, barred_allgather}
-use Rattle.run_model.specs.Worlds.{SameActButForValues, SameCallButForValues, SameCallsButForValues, NobodyLacksMemory, AreTwoWorlds, SamePostingButForValues, SameValues, DifferOnlyIn, AreAlikeOutside, is_spared}
+use Rattle.run_model.specs.RunRows.{banks_and_oil, five_groups, relayed, summed, two_offers}
+use Rattle.run_model.specs.RunRows.{barred_allgather}
+use Rattle.run_model.specs.Worlds.{SameActButForValues, SameCallButForValues, SameCallsButForValues}
+use Rattle.run_model.specs.Worlds.{NobodyLacksMemory, AreTwoWorlds, SamePostingButForValues}
+use Rattle.run_model.specs.Worlds.{SameValues, DifferOnlyIn, AreAlikeOutside, is_spared}
 use Rattle.run_model.specs.WorldRows.{Worlds, Alike, LookAlike}
 use Rattle.run_model.proofs.RunLemmas.{holding_is_history_in_runs}
-use Rattle.run_model.proofs.RunRowProofs.{opened, relayed_broadcast_is_legal, sanitised_sum_is_legal}
+use Rattle.run_model.proofs.RunRowProofs.{opened, relayed_broadcast_is_legal}
+use Rattle.run_model.proofs.RunRowProofs.{sanitised_sum_is_legal}
 use Rattle.run_model.proofs.OutsideLemmas.{who_holds_nothing_learns_nothing}
 
 is_want : Reply → Bool
@@ -98,7 +103,10 @@ groups_are_legal = (
                       (
                         (
                           (
-                            ((((((tt, inl refl), inl refl), inl refl), inl refl), inl refl), inl refl),
+                            (
+                              (((((tt, inl refl), inl refl), inl refl), inl refl), inl refl),
+                              inl refl,
+                            ),
                             inl refl,
                           ),
                           inl refl,
@@ -144,7 +152,10 @@ other_of_relays_is_legal = (
                   (
                     (
                       (
-                        ((relayed_broadcast_is_legal.0.0.0.0.0.0.0.0.0.0.0.0.0.0, inl refl), inl refl),
+                        (
+                          (relayed_broadcast_is_legal.0.0.0.0.0.0.0.0.0.0.0.0.0.0, inl refl),
+                          inl refl,
+                        ),
                         inl refl,
                       ),
                       inl refl,
@@ -187,13 +198,19 @@ relays_differ_in_values = (
           (
             same_self _,
             (
-              record { process = refl; act = number_changed refl refl refl refl (of_one_form refl refl) },
+              record {
+                process = refl;
+                act = number_changed refl refl refl refl (of_one_form refl refl);
+              },
               (
                 same_self _,
                 (
                   same_self _,
                   (
-                    record { process = refl; act = number_changed refl refl refl refl (of_one_form refl refl) },
+                    record {
+                      process = refl;
+                      act = number_changed refl refl refl refl (of_one_form refl refl);
+                    },
                     (
                       same_self _,
                       (
@@ -201,7 +218,12 @@ relays_differ_in_values = (
                         (
                           same_self _,
                           (
-                            record { process = refl; act = number_changed refl refl refl refl (of_one_form refl refl) },
+                            record {
+                              process = refl;
+                              act =
+                                  number_changed refl refl refl refl
+                                  (of_one_form refl refl);
+                            },
                             same_run (reverse (take 12 (relayed (pos 7)))),
                           ),
                         ),
@@ -302,7 +324,8 @@ relays_leave_out holds =
     false≢true ((holding_is_history_in_runs banks_and_oil [] (reverse (relayed (pos 7)))
     relayed_broadcast_is_legal 1 0 (omega arith)).1 holds)
 
-pub two_relays_look_the_same : ValuesAreOfRoutedRanks → LookAlike 0 1 (relayed (pos 7)) (relayed (pos 8))
+pub two_relays_look_the_same : ValuesAreOfRoutedRanks →
+    LookAlike 0 1 (relayed (pos 7)) (relayed (pos 8))
 two_relays_look_the_same values =
     who_holds_nothing_learns_nothing values banks_and_oil
     (reverse (relayed (pos 7)))
@@ -350,7 +373,10 @@ offers_differ_in_values = (
             (
               same_self _,
               (
-                record { process = refl; act = number_changed refl refl refl refl (of_one_form refl refl) },
+                record {
+                  process = refl;
+                  act = number_changed refl refl refl refl (of_one_form refl refl);
+                },
                 same_run (reverse five_groups),
               ),
             ),
@@ -411,7 +437,8 @@ offers_leave_out holds =
     false≢true ((holding_is_history_in_runs banks_and_oil [] (reverse (two_offers (pos 10)))
     one_of_offers_is_legal 1 0 (omega arith)).1 holds)
 
-pub two_offers_look_the_same : ValuesAreOfRoutedRanks → LookAlike 0 1 (two_offers (pos 10)) (two_offers (pos 99))
+pub two_offers_look_the_same : ValuesAreOfRoutedRanks →
+    LookAlike 0 1 (two_offers (pos 10)) (two_offers (pos 99))
 two_offers_look_the_same values =
     who_holds_nothing_learns_nothing values banks_and_oil
     (reverse (two_offers (pos 10)))
@@ -450,7 +477,13 @@ sums_differ_in_values = (
               same_self _,
               (
                 same_self _,
-                (record { process = refl; act = number_changed refl refl refl refl (of_one_form refl refl) }, tt),
+                (
+                  record {
+                    process = refl;
+                    act = number_changed refl refl refl refl (of_one_form refl refl);
+                  },
+                  tt,
+                ),
               ),
             ),
           ),
@@ -495,10 +528,12 @@ two_sums_are_alike = record { worlds = two_sums_are_worlds; values = sums_differ
 sums_leave_out : Holds banks_and_oil (posts (reverse (summed (pos 5) (pos 7) (pos 19)))) 1 0 → ⊥
 unfolding opened
 sums_leave_out holds =
-    false≢true ((holding_is_history_in_runs banks_and_oil [] (reverse (summed (pos 5) (pos 7) (pos 19)))
+    false≢true
+    ((holding_is_history_in_runs banks_and_oil [] (reverse (summed (pos 5) (pos 7) (pos 19)))
     sanitised_sum_is_legal 1 0 (omega arith)).1 holds)
 
-pub two_sums_look_the_same : ValuesAreOfRoutedRanks → LookAlike 0 1 (summed (pos 5) (pos 7) (pos 19)) (summed (pos 6) (pos 7) (pos 20))
+pub two_sums_look_the_same : ValuesAreOfRoutedRanks →
+    LookAlike 0 1 (summed (pos 5) (pos 7) (pos 19)) (summed (pos 6) (pos 7) (pos 20))
 two_sums_look_the_same values =
     who_holds_nothing_learns_nothing values banks_and_oil
     (reverse (summed (pos 5) (pos 7) (pos 19)))
@@ -572,7 +607,10 @@ barred_posts_differ_in_values = (
         (
           same_self _,
           (
-            record { process = refl; act = number_changed refl refl refl refl (of_one_form refl refl) },
+            record {
+              process = refl;
+              act = number_changed refl refl refl refl (of_one_form refl refl);
+            },
             (
               same_self _,
               (
@@ -644,7 +682,8 @@ barred_posts_differ_only_in = (
 )
 
 pub two_barred_posts_are_alike : Alike 2 (barred_allgather (pos 4)) (barred_allgather (pos 8))
-two_barred_posts_are_alike = record { worlds = two_barred_posts_are_worlds; values = barred_posts_differ_only_in }
+two_barred_posts_are_alike =
+    record { worlds = two_barred_posts_are_worlds; values = barred_posts_differ_only_in }
 
 barred_posts_leave_out : Holds banks_and_oil (posts (reverse (barred_allgather (pos 4)))) 0 2 → ⊥
 unfolding opened
@@ -652,7 +691,8 @@ barred_posts_leave_out holds =
     false≢true ((holding_is_history_in_runs banks_and_oil [] (reverse (barred_allgather (pos 4)))
     one_of_barred_posts_is_legal 0 2 (omega arith)).1 holds)
 
-pub two_barred_posts_look_the_same : ValuesAreOfRoutedRanks → LookAlike 2 0 (barred_allgather (pos 4)) (barred_allgather (pos 8))
+pub two_barred_posts_look_the_same : ValuesAreOfRoutedRanks →
+    LookAlike 2 0 (barred_allgather (pos 4)) (barred_allgather (pos 8))
 two_barred_posts_look_the_same values =
     who_holds_nothing_learns_nothing values banks_and_oil
     (reverse (barred_allgather (pos 4)))
@@ -687,7 +727,13 @@ others_sums_differ_in_values = (
           same_self _,
           (
             same_self _,
-            (record { process = refl; act = number_changed refl refl refl refl (of_one_form refl refl) }, (same_self _, (same_self _, tt))),
+            (
+              record {
+                process = refl;
+                act = number_changed refl refl refl refl (of_one_form refl refl);
+              },
+              (same_self _, (same_self _, tt)),
+            ),
           ),
         ),
       ),
@@ -703,7 +749,8 @@ other_of_others_sums_has_memory : NobodyLacksMemory (reverse (summed (pos 5) (po
 unfolding is_want
 other_of_others_sums_has_memory = none_wanted (reverse (summed (pos 5) (pos 8) (pos 20))) refl
 
-pub two_sums_of_another_are_worlds : Worlds (summed (pos 5) (pos 7) (pos 19)) (summed (pos 5) (pos 8) (pos 20))
+pub two_sums_of_another_are_worlds :
+    Worlds (summed (pos 5) (pos 7) (pos 19)) (summed (pos 5) (pos 8) (pos 20))
 two_sums_of_another_are_worlds = record {
   first = sanitised_sum_is_legal;
   second = other_of_others_sums_is_legal;

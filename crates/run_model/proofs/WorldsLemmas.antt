@@ -1,5 +1,7 @@
 -- Two worlds are one to the wall.
-use Rattle.std.proofs.Common.{◌≡◌, ◌≢◌, ℕ, List, [], ◌∷◌, length, map, refl, sym, ap, ◌∙◌, arith, Bool, true, false, not, ◌&&◌, ◌||◌, cond, Option, Some, None, slice_get, option_map}
+use Rattle.std.proofs.Common.{◌≡◌, ◌≢◌, ℕ, List, [], ◌∷◌, length, map, refl, sym, ap, ◌∙◌, arith}
+use Rattle.std.proofs.Common.{Bool, true, false, not, ◌&&◌, ◌||◌, cond, Option, Some, None}
+use Rattle.std.proofs.Common.{slice_get, option_map}
 use Rattle.std.specs.Prelude.{◌==◌, unwrap_or, count_by}
 use Rattle.std.specs.List.{cons_option}
 use Rattle.std.proofs.lemmas.Option.{slice_get-map}
@@ -20,7 +22,9 @@ use Rattle.coll_values.specs.Forms.{form_of_elements, form_of_part, form, AgreeI
 use Rattle.coll_values.proofs.CollValuesLemmas.{forms_are_of_forms, one_form}
 use Rattle.wall_verdict.specs.Star.{star}
 use Rattle.run_model.specs.declared.outcome.Outcome.{Outcome}
-use Rattle.run_model.specs.declared.outcome.Outcome.TheVariants.{Granted, Denied as DeniedBy, Made as MadeComms, NoRoom as NoneMade}
+use Rattle.run_model.specs.declared.outcome.Outcome.TheVariants.{Granted, Denied as DeniedBy}
+use Rattle.run_model.specs.declared.outcome.Outcome.TheVariants.{Made as MadeComms}
+use Rattle.run_model.specs.declared.outcome.Outcome.TheVariants.{NoRoom as NoneMade}
 use Rattle.run_model.specs.declared.refusal.Refusal.{Refusal}
 use Rattle.run_model.specs.declared.refusal.Refusal.TheVariants.{TooManyRequests, NoSuchRequest}
 use Rattle.run_model.specs.Comms.{Comm, new_comms}
@@ -33,11 +37,19 @@ use Rattle.run_model.specs.declared.call.Act.{Act}
 use Rattle.run_model.specs.declared.call.Act.TheVariants.{Post as ToPost, Take, Info as ToInfo}
 use Rattle.run_model.specs.declared.reply.Reply.{Reply}
 use Rattle.run_model.specs.declared.reply.Reply.TheVariants.{Posted, Barred, Delivered, Refused}
-use Rattle.run_model.specs.Runs.{Entry, Effects, effects, contribution_by, given_in, contribution_in, label_in, statement, kept, counted, requests, is_outcome, takes, after_entry}
-use Rattle.run_model.specs.Replies.{posts_in, is_limit_reached, open_requests, refusal, accepted, reply_to_post, joined, reply_by_outcome, comm_at, reply_to_take, reply_to_info, reply_by, reply, IsAnswer, Legal}
-use Rattle.run_model.specs.Worlds.{SamePostingButForValues, SameActButForValues, SameCallButForValues, AreTwoWorlds, form_of_reply, SameButForNumbers, RepliesSameButForNumbers, WallSeesOne, AtEachTurn, ValuesDecideNothing, FrontsOfWorldsAreWorlds}
+use Rattle.run_model.specs.Runs.{Entry, Effects, effects, contribution_by, given_in}
+use Rattle.run_model.specs.Runs.{contribution_in, label_in, statement, kept, counted, requests}
+use Rattle.run_model.specs.Runs.{is_outcome, takes, after_entry}
+use Rattle.run_model.specs.Replies.{posts_in, is_limit_reached, open_requests, refusal, accepted}
+use Rattle.run_model.specs.Replies.{reply_to_post, joined, reply_by_outcome, comm_at, reply_to_take}
+use Rattle.run_model.specs.Replies.{reply_to_info, reply_by, reply, IsAnswer, Legal}
+use Rattle.run_model.specs.Worlds.{SamePostingButForValues, SameActButForValues}
+use Rattle.run_model.specs.Worlds.{SameCallButForValues, AreTwoWorlds, form_of_reply}
+use Rattle.run_model.specs.Worlds.{SameButForNumbers, RepliesSameButForNumbers, WallSeesOne}
+use Rattle.run_model.specs.Worlds.{AtEachTurn, ValuesDecideNothing, FrontsOfWorldsAreWorlds}
 use Rattle.run_model.proofs.RunLemmas.{one_reply_is_due}
-use Rattle.run_model.proofs.SeenLemmas.{View, seen, seen_all, same_posts, map_cons_option, pairs, of_pair, parts_are, own_parts_are}
+use Rattle.run_model.proofs.SeenLemmas.{View, seen, seen_all, same_posts, map_cons_option, pairs}
+use Rattle.run_model.proofs.SeenLemmas.{of_pair, parts_are, own_parts_are}
 
 -- ## what two runs have made that look the same
 
@@ -113,7 +125,8 @@ post_reply wall past p given label None =
     accepted (star (histories wall past) p (Rattle.run_model.specs.Runs.label_if given label))
     (length (requests p past)) label
 
-post_reply_is : (wall : ChineseWall) (m : Effects) (p : ℕ) (posting : Posting) (o : Option Refusal) →
+post_reply_is : (wall : ChineseWall) (m : Effects) (p : ℕ) (posting : Posting) (o : Option Refusal)
+    →
     reply_to_post wall m p posting o ≡ post_reply wall (posts_in m) p (given_in posting)
     posting.label o
 post_reply_is wall m p posting (Some why) = refl
@@ -154,12 +167,14 @@ module _ (wall : ChineseWall) (m n : Effects) (same : LookTheSame forms m n) whe
   instance_told : (p c k : ℕ) → form_of_reply
       (reply_by_outcome p (full_at (comm_at wall (posts_in m) c) c k m.contributions)
       (outcome_at wall c k (posts_in m)))
-      ≡ form_of_reply (reply_by_outcome p (full_at (comm_at wall (posts_in n) c) c k n.contributions)
+      ≡ form_of_reply
+      (reply_by_outcome p (full_at (comm_at wall (posts_in n) c) c k n.contributions)
       (outcome_at wall c k (posts_in n)))
   instance_told p c k =
       outcome_told p (full_at (comm_at wall (posts_in m) c) c k m.contributions)
       (full_at (comm_at wall (posts_in m) c) c k n.contributions) (outcome_at wall c k (posts_in m))
-      (instances_agree (comm_at wall (posts_in m) c) c k m.contributions n.contributions same.contributions)
+      (instances_agree (comm_at wall (posts_in m) c) c k m.contributions n.contributions
+      same.contributions)
       ∙ ap
       (λ past. form_of_reply (reply_by_outcome p (full_at (comm_at wall past c) c k n.contributions)
       (outcome_at wall c k past))) past_one
@@ -268,7 +283,8 @@ module _ (view : View Contents (List Element)) (p q : ℕ) (same : p ≡ q) wher
   post_seen a b other one pass = refl
 
   entry_seen : (act other : Act) (got : Reply) → SameActButForValues act other →
-      PassLookingTheSame view act other got → option_map (seen view) (contribution_by p (counted act got))
+      PassLookingTheSame view act other got →
+      option_map (seen view) (contribution_by p (counted act got))
       ≡ option_map (seen view) (contribution_by q (counted other got))
   entry_seen (ToPost a) (ToPost b) got one pass = post_seen a b got one pass
   entry_seen (Take r) (Take s) got one pass = refl
@@ -350,7 +366,8 @@ module _ (wall : ChineseWall) (run other : List Entry) (e f : Entry)
         ∙ sym (ap form_of_reply second_due)))
 
     by_act : (act given : Act) (b : Posting) → SameActButForValues act given → given ≡ ToPost b →
-        reply_by wall (effects run) e.call.process act ≡ reply_by wall (effects other) e.call.process
+        reply_by wall (effects run) e.call.process act
+        ≡ reply_by wall (effects other) e.call.process
         given
     by_act (ToPost a) (ToPost c) b one is =
         posts_told forms wall (effects run) (effects other) same e.call.process a c one

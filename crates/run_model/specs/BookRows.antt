@@ -6,7 +6,9 @@ use Rattle.wall_labels.specs.declared.label.Label.TheVariants.{Public, Of}
 use Rattle.wall_policy.specs.Policy.{ChineseWall}
 use Rattle.mpi_elems.specs.declared.elem_type.ElemType.TheVariants.{Int32}
 use Rattle.coll_routes.specs.declared.signature.Signature.{Signature}
-use Rattle.coll_routes.specs.declared.signature.Signature.TheVariants.{Bcast, Gatherv, Allreduce, Split, CartCreate, CartSub, Barrier}
+use Rattle.coll_routes.specs.declared.signature.Signature.TheVariants.{Bcast, Gatherv, Allreduce}
+use Rattle.coll_routes.specs.declared.signature.Signature.TheVariants.{Split, CartCreate, CartSub}
+use Rattle.coll_routes.specs.declared.signature.Signature.TheVariants.{Barrier}
 use Rattle.coll_routes.specs.declared.statement.Own.{Own}
 use Rattle.coll_routes.specs.declared.statement.Own.TheVariants.{Plain, Split as SplitBy}
 use Rattle.wall_verdict.specs.declared.verdict.Rule.TheVariants.{Star, Simple}
@@ -14,7 +16,8 @@ use Rattle.run_model.specs.declared.outcome.Outcome.TheVariants.{Granted, Denied
 use Rattle.run_model.specs.declared.entry.Entry.{Entry}
 use Rattle.run_model.specs.declared.entry.Entry.TheVariants.{Posted, Settled}
 
--- Two classes: the banks alpha and beta, and the oil firms crude and delta. Process a0 has home alpha, b0 beta, c0 crude, n0 none.
+-- Two classes: the banks alpha and beta, and the oil firms crude and delta. Process a0 has home
+-- alpha, b0 beta, c0 crude, n0 none.
 abbrev pub banks_and_oil : ChineseWall
 banks_and_oil = record {
   version = 1;
@@ -45,11 +48,13 @@ alpha = Of 0
 
 -- a post with elements
 abbrev pub gave : (p c : ℕ) → Signature → (given : ℕ) → Label → (barred : Bool) → Entry
-gave p c sig given label barred = Posted p c (record { sig = sig; own = Plain; given = given; label = Some label; barred = barred })
+gave p c sig given label barred = Posted p c
+    (record { sig = sig; own = Plain; given = given; label = Some label; barred = barred })
 
 -- a post without elements
 abbrev pub without_elements : (p c : ℕ) → Signature → Own → Entry
-without_elements p c sig own = Posted p c (record { sig = sig; own = own; given = 0; label = None; barred = false })
+without_elements p c sig own =
+    Posted p c (record { sig = sig; own = own; given = 0; label = None; barred = false })
 
 abbrev pub plainly : (p c : ℕ) → Signature → Entry
 plainly p c sig = without_elements p c sig Plain

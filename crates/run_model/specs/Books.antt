@@ -1,6 +1,8 @@
--- The book: for each counted post its statement, and after a post that fills an instance the outcome. A book has its oldest entry first, a
--- list of posts its newest. (Own rules.)
-use Rattle.std.specs.Prelude.{◌≡◌, ℕ, ◌≤◌, ◌+◌, ◌-◌, List, [], ◌∷◌, ◌++◌, Bool, true, not, ◌==◌, length, take, Option, Some, None, reverse, filter_map, is_some, is_none, if◌then◌else◌}
+-- The book: for each counted post its statement, and after a post that fills an instance the
+-- outcome. A book has its oldest entry first, a list of posts its newest. (Own rules.)
+use Rattle.std.specs.Prelude.{◌≡◌, ℕ, ◌≤◌, ◌+◌, ◌-◌, List, [], ◌∷◌, ◌++◌, Bool, true, not, ◌==◌}
+use Rattle.std.specs.Prelude.{length, take, Option, Some, None, reverse, filter_map, is_some}
+use Rattle.std.specs.Prelude.{is_none, if◌then◌else◌}
 use Rattle.std.specs.Option.{option_map, option_to_list}
 use Rattle.wall_policy.specs.Policy.{ChineseWall}
 use Rattle.wall_rules.specs.Histories.{History}
@@ -46,8 +48,8 @@ is_labelled_as given label = if given == 0 then is_none label else is_some label
 abbrev pub is_labelled : Stated → Bool
 is_labelled s = is_labelled_as s.given s.label
 
--- a post that counts, made after these posts: it meets no refusal, it has a label where it gives an element, and it was barred exactly where
--- it fails the star rule
+-- a post that counts, made after these posts: it meets no refusal, it has a label where it gives an
+-- element, and it was barred exactly where it fails the star rule
 pub record IsCounted (wall : ChineseWall) (x : Post) (past : List Post) : Type 0 where
   pub accepted : post_fault wall past x ≡ None
   pub label : is_labelled x.stated ≡ true
@@ -68,8 +70,8 @@ pub record IsSound (wall : ChineseWall) (entries : List Entry) : Type 0 where
 abbrev pub Begins : ChineseWall → List Entry → Type 0
 Begins wall entries = (rest : List Entry) × IsSound wall (entries ++ rest)
 
--- The first entry, counted from 1, that the posts don't give: a sound book begins with those before it, and none with it too. An entry that is
--- missing at the end has the number after the last.
+-- The first entry, counted from 1, that the posts don't give: a sound book begins with those before
+-- it, and none with it too. An entry that is missing at the end has the number after the last.
 pub record IsFirstBad (wall : ChineseWall) (entries : List Entry) (n : ℕ) : Type 0 where
   pub counted : 1 ≤ n
   pub within : n ≤ length entries + 1

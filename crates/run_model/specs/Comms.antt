@@ -1,12 +1,15 @@
--- Communicators with their grids, and those that a constructor makes. (MPI 4.1, sections 7.2, 7.4 and 8.5.)
-use Rattle.std.specs.Prelude.{ℕ, pos, List, [], ◌∷◌, Bool, length, map, filter, Option, Some, None, if◌then◌else◌}
+-- Communicators with their grids, and those that a constructor makes. (MPI 4.1, sections 7.2, 7.4
+-- and 8.5.)
+use Rattle.std.specs.Prelude.{ℕ, pos, List, [], ◌∷◌, Bool, length, map, filter, Option, Some, None}
+use Rattle.std.specs.Prelude.{if◌then◌else◌}
 use Rattle.wall_policy.specs.Policy.{ChineseWall}
 use Rattle.mpi_comm.specs.declared.values.Ask.{Ask}
 use Rattle.mpi_comm.specs.Comms.{dup_groups, create_groups, subset_groups, fits}
 use Rattle.mpi_comm.specs.Splits.{split_groups}
 use Rattle.mpi_cart.specs.Grids.{Topology, volume, below, cells, coords, same_list, kept, dropped}
 use Rattle.coll_routes.specs.declared.signature.Signature.{Signature}
-use Rattle.coll_routes.specs.declared.signature.Signature.TheVariants.{Dup, Split, Create, CartCreate, CartSub}
+use Rattle.coll_routes.specs.declared.signature.Signature.TheVariants.{Dup, Split, Create}
+use Rattle.coll_routes.specs.declared.signature.Signature.TheVariants.{CartCreate, CartSub}
 use Rattle.coll_routes.specs.declared.statement.Own.{Own}
 use Rattle.coll_routes.specs.declared.statement.Own.TheVariants.{Split as SplitBy}
 use Rattle.coll_routes.specs.declared.statement.Stated.{Stated}
@@ -47,23 +50,29 @@ asks roll = map ask_in roll.stated
 
 -- the ranks of a grid whose coordinates in the dimensions that are not kept are these
 abbrev pub ranks_apart : Topology → (keep : List Bool) → (apart : List ℕ) → List ℕ
-ranks_apart g keep apart = filter (λ r. same_list (dropped keep (coords g r)) apart) (below (volume g.dims))
+ranks_apart g keep apart =
+    filter (λ r. same_list (dropped keep (coords g r)) apart) (below (volume g.dims))
 
--- one list of ranks for each value of those coordinates, in row-major order of the values (8.5.7; the order is an own rule)
+-- one list of ranks for each value of those coordinates, in row-major order of the values (8.5.7;
+-- the order is an own rule)
 abbrev pub grid_parts : Topology → (keep : List Bool) → List (List ℕ)
 grid_parts g keep = map (λ apart. ranks_apart g keep apart) (cells (dropped keep g.dims))
 
 abbrev pub subgrids : Option Topology → (keep : List Bool) → (members : List ℕ) → List Comm
-subgrids (Some g) keep members = with_grid (Some (kept keep g)) (subset_groups (grid_parts g keep) members)
+subgrids (Some g) keep members =
+    with_grid (Some (kept keep g)) (subset_groups (grid_parts g keep) members)
 subgrids None keep members = []
 
--- The communicators that a full constructor on this one makes, in order, by what its members ask. A duplicate has the grid too (7.4.2); a split and a subgroup have none; a grid
--- lies over the lowest ranks, in row-major order (8.5.1).
+-- The communicators that a full constructor on this one makes, in order, by what its members ask. A
+-- duplicate has the grid too (7.4.2); a split and a subgroup have none; a grid lies over the lowest
+-- ranks, in row-major order (8.5.1).
 unfoldable pub new_comms_by : Signature → Comm → (wanted : List Ask) → List Comm
 new_comms_by Dup comm wanted = with_grid comm.grid (dup_groups comm.members)
 new_comms_by Split comm wanted = with_grid None (split_groups wanted comm.members)
 new_comms_by (Create ranks) comm wanted = with_grid None (create_groups ranks comm.members)
-new_comms_by (CartCreate dims periods) comm wanted = with_grid (Some (record { dims = dims; periods = periods })) (subset_groups (below (volume dims) ∷ []) comm.members)
+new_comms_by (CartCreate dims periods) comm wanted = with_grid
+    (Some (record { dims = dims; periods = periods }))
+    (subset_groups (below (volume dims) ∷ []) comm.members)
 new_comms_by (CartSub keep) comm wanted = subgrids comm.grid keep comm.members
 new_comms_by _ comm wanted = []
 

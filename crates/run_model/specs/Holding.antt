@@ -1,5 +1,6 @@
--- What a process holds, directly or through others: chains of deliveries, in which no history occurs.
--- (Own rule, after Brewer and Nash 1989 on indirect flow.) A list of posts has the newest first.
+-- What a process holds, directly or through others: chains of deliveries, in which no history
+-- occurs. (Own rule, after Brewer and Nash 1989 on indirect flow.) A list of posts has the newest
+-- first.
 use Rattle.std.specs.Prelude.{◌≡◌, ℕ, List, ◌∷◌, ◌++◌, true, false, slice_get, Some}
 use Rattle.wall_labels.specs.declared.label.Label.TheVariants.{Of}
 use Rattle.wall_policy.specs.Policy.{ChineseWall, home_of}
@@ -20,14 +21,16 @@ pub record IsGrant (wall : ChineseWall) (x : Post) (before : List Post) (roll : 
   pub granted : outcome wall x before ≡ Some Granted
 
 -- post y, made after these posts, is the contribution of rank i to the instance that x filled
-pub record IsPart (roll : Roll) (x : Post) (before : List Post) (i : ℕ) (y : Post) (then : List Post) : Type 0 where
+pub record IsPart (roll : Roll) (x : Post) (before : List Post) (i : ℕ) (y : Post)
+    (then : List Post) : Type 0 where
   pub by_member : slice_get roll.members i ≡ Some y.process
   pub there : y.comm ≡ x.comm
   pub kth : place y then ≡ place x before
   pub moment : IsMoment (x ∷ before) y then
 
 -- an unsanitised contribution, post y, reached p in a grant
-pub record Reaches (wall : ChineseWall) (past : List Post) (p : ℕ) (y : Post) (then : List Post) : Type 0 where
+pub record Reaches (wall : ChineseWall) (past : List Post) (p : ℕ) (y : Post) (then : List Post)
+    : Type 0 where
   pub x : Post
   pub before : List Post
   pub roll : Roll
@@ -45,8 +48,11 @@ pub data Holds (wall : ChineseWall) : List Post → (p d : ℕ) → Type 0 where
   -- its home
   at_home : {past : List Post} {p d : ℕ} → home_of wall p ≡ Some d → Holds wall past p d
   -- what it wrote
-  wrote : {past : List Post} {p d : ℕ} (x : Post) (before : List Post) → IsMoment past x before → x.process ≡ p → x.stated.barred ≡ false → x.stated.label ≡ Some (Of d) → Holds wall past p d
+  wrote : {past : List Post} {p d : ℕ} (x : Post) (before : List Post) → IsMoment past x before →
+      x.process ≡ p → x.stated.barred ≡ false → x.stated.label ≡ Some (Of d) → Holds wall past p d
   -- what another wrote
-  received : {past : List Post} {p d : ℕ} (y : Post) (then : List Post) → Reaches wall past p y then → y.stated.label ≡ Some (Of d) → Holds wall past p d
+  received : {past : List Post} {p d : ℕ} (y : Post) (then : List Post) →
+      Reaches wall past p y then → y.stated.label ≡ Some (Of d) → Holds wall past p d
   -- what another held when it posted
-  passed_on : {past : List Post} {p d : ℕ} (y : Post) (then : List Post) → Reaches wall past p y then → Holds wall then y.process d → Holds wall past p d
+  passed_on : {past : List Post} {p d : ℕ} (y : Post) (then : List Post) →
+      Reaches wall past p y then → Holds wall then y.process d → Holds wall past p d

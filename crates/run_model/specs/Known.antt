@@ -7,12 +7,15 @@ pub use Rattle.wall_policy.specs.Known.{IsKnownProcess, IsKnownLabel}
 use Rattle.run_model.specs.declared.outcome.Outcome.{Outcome}
 use Rattle.run_model.specs.declared.outcome.Outcome.TheVariants.{Denied as DeniedBy}
 use Rattle.run_model.specs.declared.entry.Entry.{Entry}
-use Rattle.run_model.specs.declared.entry.Entry.TheVariants.{Posted as EntryPosted, Settled as EntrySettled}
+use Rattle.run_model.specs.declared.entry.Entry.TheVariants.{Posted as EntryPosted}
+use Rattle.run_model.specs.declared.entry.Entry.TheVariants.{Settled as EntrySettled}
 use Rattle.run_model.specs.declared.call.Act.{Act}
 use Rattle.run_model.specs.declared.call.Act.TheVariants.{Post as ToPost, Take, Info as ToInfo}
 use Rattle.run_model.specs.declared.call.Call.{Call}
 use Rattle.run_model.specs.declared.reply.Reply.{Reply}
-use Rattle.run_model.specs.declared.reply.Reply.TheVariants.{Posted, Barred, Pending, Delivered, NewComm, NullComm, Denied, NoRoom, Info, Refused}
+use Rattle.run_model.specs.declared.reply.Reply.TheVariants.{Posted, Barred, Pending, Delivered}
+use Rattle.run_model.specs.declared.reply.Reply.TheVariants.{NewComm, NullComm, Denied, NoRoom}
+use Rattle.run_model.specs.declared.reply.Reply.TheVariants.{Info, Refused}
 use Rattle.run_model.specs.Posts.{Post}
 
 -- the label of a post, which has none where it gives nothing

@@ -16,7 +16,8 @@ use Rattle.run_model.specs.declared.reply.Reply.TheVariants.{Pending}
 use Rattle.run_model.specs.Runs.{Effects, requests}
 use Rattle.run_model.specs.Replies.{posts_in, comm_at, reply_by_outcome}
 
--- the part has as many elements as its post states, of the type that the signature has, if it has one
+-- the part has as many elements as its post states, of the type that the signature has, if it has
+-- one
 pub record IsAsStated (stated : Stated) (part : Contents) : Type 0 where
   pub number : length (elements part) ≡ stated.given
   pub of_type : (ty : ElemType) → elem_type stated.sig ≡ Some ty → part.elem_type ≡ ty
@@ -24,10 +25,13 @@ pub record IsAsStated (stated : Stated) (part : Contents) : Type 0 where
 -- each post that passed brought what it states
 abbrev pub AreAsStated : List (Contribution Contents) → Type 0
 AreAsStated [] = Unit {0}
-AreAsStated (g ∷ past) = AreAsStated past × (g.post.stated.barred ≡ false → IsAsStated g.post.stated g.part)
+AreAsStated (g ∷ past) =
+    AreAsStated past × (g.post.stated.barred ≡ false → IsAsStated g.post.stated g.part)
 
--- What a legal run makes is proper: each post counts, and brought what it states if it passed; a request that was taken had been given.
+-- What a legal run makes is proper: each post counts, and brought what it states if it passed; a
+-- request that was taken had been given.
 pub record IsProper (wall : ChineseWall) (effects : Effects) : Type 0 where
   pub posts : AreCounted wall (posts_in effects)
   pub parts : AreAsStated effects.contributions
-  pub given : (p request : ℕ) → effects.taken p request ≡ true → request < length (requests p (posts_in effects))
+  pub given : (p request : ℕ) → effects.taken p request ≡ true →
+      request < length (requests p (posts_in effects))

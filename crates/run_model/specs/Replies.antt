@@ -1,5 +1,7 @@
 -- The reply that is due to a call after a run, and legal runs. A run has its newest entry first.
-use Rattle.std.specs.Prelude.{◌≡◌, ℕ, List, [], ◌∷◌, Bool, true, false, not, ◌||◌, ◌+◌, ◌^◌, ◌⊎◌, length, slice_get, Option, Some, None, unwrap_or, nat_lt, nat_le, if◌then◌else◌, count_by}
+use Rattle.std.specs.Prelude.{◌≡◌, ℕ, List, [], ◌∷◌, Bool, true, false, not, ◌||◌, ◌+◌, ◌^◌, ◌⊎◌}
+use Rattle.std.specs.Prelude.{length, slice_get, Option, Some, None, unwrap_or, nat_lt, nat_le}
+use Rattle.std.specs.Prelude.{if◌then◌else◌, count_by}
 use Rattle.std.specs.Option.{option_map}
 use Rattle.wall_labels.specs.declared.label.Label.{Label}
 use Rattle.wall_policy.specs.Policy.{ChineseWall}
@@ -10,9 +12,13 @@ use Rattle.coll_values.specs.declared.full.Full.{Full}
 use Rattle.coll_values.specs.Values.{value}
 use Rattle.wall_verdict.specs.Star.{star}
 use Rattle.run_model.specs.declared.refusal.Refusal.{Refusal}
-use Rattle.run_model.specs.declared.refusal.Refusal.TheVariants.{NoSuchProcess, NoSuchComm, NotMember, TooManyRequests, NoMemory, NoSuchRequest}
+use Rattle.run_model.specs.declared.refusal.Refusal.TheVariants.{NoSuchProcess, NoSuchComm}
+use Rattle.run_model.specs.declared.refusal.Refusal.TheVariants.{NotMember, TooManyRequests}
+use Rattle.run_model.specs.declared.refusal.Refusal.TheVariants.{NoMemory, NoSuchRequest}
 use Rattle.run_model.specs.declared.outcome.Outcome.{Outcome}
-use Rattle.run_model.specs.declared.outcome.Outcome.TheVariants.{Granted, Denied as DeniedBy, Made as MadeComms, NoRoom as NoneMade}
+use Rattle.run_model.specs.declared.outcome.Outcome.TheVariants.{Granted, Denied as DeniedBy}
+use Rattle.run_model.specs.declared.outcome.Outcome.TheVariants.{Made as MadeComms}
+use Rattle.run_model.specs.declared.outcome.Outcome.TheVariants.{NoRoom as NoneMade}
 use Rattle.run_model.specs.Comms.{Comm, processes, new_comms}
 use Rattle.run_model.specs.Posts.{Post, comms, histories, outcome_at}
 use Rattle.run_model.specs.Refusals.{or_else, fault}
@@ -21,7 +27,9 @@ use Rattle.run_model.specs.declared.call.Act.{Act}
 use Rattle.run_model.specs.declared.call.Act.TheVariants.{Post as ToPost, Take, Info as ToInfo}
 use Rattle.run_model.specs.declared.call.Call.{Call}
 use Rattle.run_model.specs.declared.reply.Reply.{Reply}
-use Rattle.run_model.specs.declared.reply.Reply.TheVariants.{Posted, Barred, Pending, Delivered, NewComm, NullComm, Denied, NoRoom, Info, Refused}
+use Rattle.run_model.specs.declared.reply.Reply.TheVariants.{Posted, Barred, Pending, Delivered}
+use Rattle.run_model.specs.declared.reply.Reply.TheVariants.{NewComm, NullComm, Denied, NoRoom}
+use Rattle.run_model.specs.declared.reply.Reply.TheVariants.{Info, Refused}
 use Rattle.run_model.specs.Contributions.{posts_of, full_at}
 use Rattle.run_model.specs.Runs.{Entry, Effects, effects, given_in, label_in, requests}
 
@@ -32,19 +40,21 @@ posts_in effects = posts_of effects.contributions
 
 -- how many requests p has that are not taken
 abbrev pub open_requests : (p : ℕ) → Effects → ℕ
-open_requests p effects = count_by (λ r. not (effects.taken p r)) (below (length (requests p (posts_in effects))))
+open_requests p effects =
+    count_by (λ r. not (effects.taken p r)) (below (length (requests p (posts_in effects))))
 
 -- 256 requests are not taken, or 2^62 were given (own rules)
 abbrev pub is_limit_reached : (waiting given : ℕ) → Bool
 is_limit_reached waiting given = nat_le 256 waiting || nat_le (2 ^ 62) given
 
 abbrev pub too_many : (p : ℕ) → Effects → Bool
-too_many p effects = is_limit_reached (open_requests p effects) (length (requests p (posts_in effects)))
+too_many p effects =
+    is_limit_reached (open_requests p effects) (length (requests p (posts_in effects)))
 
 -- the first of their order that holds
 abbrev pub refusal : ChineseWall → Effects → (p : ℕ) → Posting → Option Refusal
-refusal wall effects p posting = or_else
-    (fault wall (posts_in effects) p posting.comm posting.sig posting.own posting.elements.elem_type (given_in posting))
+refusal wall effects p posting = or_else (fault wall (posts_in effects) p posting.comm posting.sig
+    posting.own posting.elements.elem_type (given_in posting))
     (if too_many p effects then Some TooManyRequests else None)
 
 -- ## replies
@@ -54,8 +64,9 @@ accepted passed request label = if passed then Posted request else Barred reques
 
 abbrev pub reply_to_post : ChineseWall → Effects → (p : ℕ) → Posting → Option Refusal → Reply
 reply_to_post wall effects p posting (Some refusal) = Refused refusal
-reply_to_post wall effects p posting None =
-    accepted (star (histories wall (posts_in effects)) p (label_in posting)) (length (requests p (posts_in effects))) posting.label
+reply_to_post wall effects p posting None = accepted
+    (star (histories wall (posts_in effects)) p (label_in posting))
+    (length (requests p (posts_in effects))) posting.label
 
 -- the new communicator that p is in, of those from this number on, if it is in one
 abbrev pub join : (number : ℕ) → Comm → (rank : Option ℕ) → (others : Reply) → Reply
@@ -69,7 +80,8 @@ joined p first (comm ∷ rest) = join first comm (rank_in comm.members p) (joine
 -- what a process is told of its request for an instance: that it waits, or its outcome
 abbrev pub reply_by_outcome : (p : ℕ) → Full Contents → Option Outcome → Reply
 reply_by_outcome p full None = Pending
-reply_by_outcome p full (Some Granted) = Delivered (value full (unwrap_or (rank_in full.roll.members p) 0))
+reply_by_outcome p full (Some Granted) =
+    Delivered (value full (unwrap_or (rank_in full.roll.members p) 0))
 reply_by_outcome p full (Some (DeniedBy rule q label)) = Denied rule q label
 reply_by_outcome p full (Some (MadeComms first number)) = joined p first (new_comms full.roll)
 reply_by_outcome p full (Some NoneMade) = NoRoom
@@ -82,25 +94,30 @@ comm_at wall past c = unwrap_or (slice_get (comms wall past) c) no_comm
 
 abbrev pub reply_to_take : ChineseWall → Effects → (p request : ℕ) → Option (ℕ × ℕ) → Reply
 reply_to_take wall effects p request None = Refused NoSuchRequest
-reply_to_take wall effects p request (Some (c, k)) =
-    if effects.taken p request then Refused NoSuchRequest
-    else reply_by_outcome p (full_at (comm_at wall (posts_in effects) c) c k effects.contributions) (outcome_at wall c k (posts_in effects))
+reply_to_take wall effects p request (Some (c, k)) = if effects.taken p request
+    then Refused NoSuchRequest
+    else reply_by_outcome p (full_at (comm_at wall (posts_in effects) c) c k effects.contributions)
+    (outcome_at wall c k (posts_in effects))
 
 -- the size, the rank, and the number of dimensions of the grid, if there is one
 abbrev pub info_by : Comm → Option ℕ → Reply
 info_by comm None = Refused NotMember
-info_by comm (Some rank) = Info (length comm.members) rank (option_map (λ (g : Topology). length g.dims) comm.grid)
+info_by comm (Some rank) =
+    Info (length comm.members) rank (option_map (λ (g : Topology). length g.dims) comm.grid)
 
 abbrev pub info_on : (p : ℕ) → Option Comm → Reply
 info_on p None = Refused NoSuchComm
 info_on p (Some comm) = info_by comm (rank_in comm.members p)
 
 abbrev pub reply_to_info : ChineseWall → Effects → (p c : ℕ) → Reply
-reply_to_info wall effects p c = if nat_lt p (processes wall) then info_on p (slice_get (comms wall (posts_in effects)) c) else Refused NoSuchProcess
+reply_to_info wall effects p c = if nat_lt p (processes wall)
+    then info_on p (slice_get (comms wall (posts_in effects)) c) else Refused NoSuchProcess
 
 abbrev pub reply_by : ChineseWall → Effects → (p : ℕ) → Act → Reply
-reply_by wall effects p (ToPost posting) = reply_to_post wall effects p posting (refusal wall effects p posting)
-reply_by wall effects p (Take request) = reply_to_take wall effects p request (slice_get (requests p (posts_in effects)) request)
+reply_by wall effects p (ToPost posting) =
+    reply_to_post wall effects p posting (refusal wall effects p posting)
+reply_by wall effects p (Take request) =
+    reply_to_take wall effects p request (slice_get (requests p (posts_in effects)) request)
 reply_by wall effects p (ToInfo c) = reply_to_info wall effects p c
 
 -- the reply to a call after a run
@@ -126,7 +143,8 @@ may_lack_memory (Refused refusal) = false
 abbrev pub IsAnswer : (due given : Reply) → Type 0
 IsAnswer due given = (given ≡ due) ⊎ ((may_lack_memory due ≡ true) × (given ≡ Refused NoMemory))
 
--- Each reply is the one that is due after the entries before it. (An entry answered out of memory counts nowhere: it makes no post and takes nothing.)
+-- Each reply is the one that is due after the entries before it. (An entry answered out of memory
+-- counts nowhere: it makes no post and takes nothing.)
 abbrev pub Legal : ChineseWall → List Entry → Type 0
 Legal wall [] = Unit {0}
 Legal wall (e ∷ run) = Legal wall run × IsAnswer (reply wall run e.call) e.reply

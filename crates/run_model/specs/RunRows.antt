@@ -1,5 +1,6 @@
 -- Worked lists of calls with their replies.
-use Rattle.std.specs.Prelude.{ℕ, List, [], ◌∷◌, ◌++◌, length, Some, None, ℤ, pos, negsuc, reverse, true, false, codes}
+use Rattle.std.specs.Prelude.{ℕ, List, [], ◌∷◌, ◌++◌, length, Some, None, ℤ, pos, negsuc, reverse}
+use Rattle.std.specs.Prelude.{true, false, codes}
 use Rattle.wall_labels.specs.declared.op.Op.TheVariants.{Sum, Prod, Land, Maxloc}
 use Rattle.wall_labels.specs.declared.label.Label.{Label}
 use Rattle.wall_labels.specs.declared.label.Label.TheVariants.{Public, Of}
@@ -7,23 +8,36 @@ use Rattle.wall_policy.specs.Policy.{ChineseWall}
 use Rattle.mpi_elems.specs.declared.elem_type.ElemType.TheVariants.{Int8, Int32, Uint8, TwoInt}
 use Rattle.mpi_elems.specs.Contents.{contents}
 use Rattle.coll_routes.specs.declared.signature.Signature.{Signature}
-use Rattle.coll_routes.specs.declared.signature.Signature.TheVariants.{Bcast, Gatherv, Allgather, Reduce, Allreduce, ReduceScatterBlock, Scan, Exscan, NeighborAllgather, NeighborAlltoall, NeighborAlltoallv, Dup, Split, Create, CartCreate, CartSub}
+use Rattle.coll_routes.specs.declared.signature.Signature.TheVariants.{Bcast, Gatherv, Allgather}
+use Rattle.coll_routes.specs.declared.signature.Signature.TheVariants.{Reduce, Allreduce}
+use Rattle.coll_routes.specs.declared.signature.Signature.TheVariants.{ReduceScatterBlock, Scan}
+use Rattle.coll_routes.specs.declared.signature.Signature.TheVariants.{Exscan, NeighborAllgather}
+use Rattle.coll_routes.specs.declared.signature.Signature.TheVariants.{NeighborAlltoall}
+use Rattle.coll_routes.specs.declared.signature.Signature.TheVariants.{NeighborAlltoallv, Dup}
+use Rattle.coll_routes.specs.declared.signature.Signature.TheVariants.{Split, Create, CartCreate}
+use Rattle.coll_routes.specs.declared.signature.Signature.TheVariants.{CartSub}
 use Rattle.coll_routes.specs.declared.statement.Own.{Own}
 use Rattle.coll_routes.specs.declared.statement.Own.TheVariants.{Plain, Counts, Split as SplitBy}
 use Rattle.coll_routes.specs.Faults.{stated_type}
 use Rattle.coll_values.specs.declared.delivery.Block.TheVariants.{Missing, Numbers}
 use Rattle.wall_verdict.specs.declared.verdict.Rule.TheVariants.{Star, Simple}
-use Rattle.run_model.specs.declared.refusal.Refusal.TheVariants.{NoSuchProcess, NoSuchComm, NotMember, NoTopology, BadRoot, BadOp, BadCount, BadColour, NotSubgroup, BadDims, Mismatch, NoSuchRequest, NoMemory}
+use Rattle.run_model.specs.declared.refusal.Refusal.TheVariants.{NoSuchProcess, NoSuchComm}
+use Rattle.run_model.specs.declared.refusal.Refusal.TheVariants.{NotMember, NoTopology, BadRoot}
+use Rattle.run_model.specs.declared.refusal.Refusal.TheVariants.{BadOp, BadCount, BadColour}
+use Rattle.run_model.specs.declared.refusal.Refusal.TheVariants.{NotSubgroup, BadDims, Mismatch}
+use Rattle.run_model.specs.declared.refusal.Refusal.TheVariants.{NoSuchRequest, NoMemory}
 use Rattle.run_model.specs.Posts.{Post}
 use Rattle.run_model.specs.declared.call.Act.{Act}
 use Rattle.run_model.specs.declared.call.Act.TheVariants.{Post as ToPost, Take, Info as ToInfo}
 use Rattle.run_model.specs.declared.reply.Reply.{Reply}
-use Rattle.run_model.specs.declared.reply.Reply.TheVariants.{Posted, Barred, Pending, Delivered, NewComm, NullComm, Denied, Info, Refused}
+use Rattle.run_model.specs.declared.reply.Reply.TheVariants.{Posted, Barred, Pending, Delivered}
+use Rattle.run_model.specs.declared.reply.Reply.TheVariants.{NewComm, NullComm, Denied, Info}
+use Rattle.run_model.specs.declared.reply.Reply.TheVariants.{Refused}
 use Rattle.run_model.specs.Runs.{Entry, posts}
 use Rattle.run_model.specs.Replies.{Legal}
 
--- the banks alpha and beta, the oil companies crude and delta; a0, b0 and c0 at home at alpha, beta and crude, n0 nowhere; a sum of three
--- contributors or more is sanitised
+-- the banks alpha and beta, the oil companies crude and delta; a0, b0 and c0 at home at alpha, beta
+-- and crude, n0 nowhere; a sum of three contributors or more is sanitised
 abbrev pub banks_and_oil : ChineseWall
 banks_and_oil = record {
   version = 1;
@@ -97,7 +111,14 @@ said p act reply = record { call = record { process = p; act = act }; reply = re
 
 -- p posts these numbers on communicator c
 abbrev pub gave : (p c : ℕ) → Signature → Own → Label → List ℤ → Reply → Entry
-gave p c sig own label numbers reply = said p (ToPost (record { comm = c; sig = sig; own = own; label = label; elements = contents (stated_type sig) numbers (length numbers) })) reply
+gave p c sig own label numbers reply = said p (ToPost (record {
+  comm = c;
+  sig = sig;
+  own = own;
+  label = label;
+  elements = contents (stated_type sig) numbers (length numbers);
+}))
+    reply
 
 -- p posts there and gives nothing
 abbrev pub stated : (p c : ℕ) → Signature → Own → Reply → Entry
@@ -116,16 +137,19 @@ asked p c reply = said p (ToInfo c) reply
 
 -- processes 0 to 3 do the same, each with its request of this number
 abbrev pub all_came : (c : ℕ) → Signature → (request : ℕ) → List Entry
-all_came c sig request = came 0 c sig (Posted request) ∷ came 1 c sig (Posted request) ∷ came 2 c sig (Posted request) ∷ came 3 c sig (Posted request) ∷ []
+all_came c sig request = came 0 c sig (Posted request) ∷ came 1 c sig (Posted request)
+    ∷ came 2 c sig (Posted request) ∷ came 3 c sig (Posted request) ∷ []
 
 abbrev pub all_but_first_came : (c : ℕ) → Signature → (request : ℕ) → List Entry
-all_but_first_came c sig request = came 1 c sig (Posted request) ∷ came 2 c sig (Posted request) ∷ came 3 c sig (Posted request) ∷ []
+all_but_first_came c sig request = came 1 c sig (Posted request) ∷ came 2 c sig (Posted request)
+    ∷ came 3 c sig (Posted request) ∷ []
 
 abbrev pub all_took : (request : ℕ) → Reply → List Entry
-all_took request reply = took 0 request reply ∷ took 1 request reply ∷ took 2 request reply ∷ took 3 request reply ∷ []
+all_took request reply =
+    took 0 request reply ∷ took 1 request reply ∷ took 2 request reply ∷ took 3 request reply ∷ []
 
--- a0 broadcasts alpha's numbers, which b0 may not get: nobody gets them, and n0, which it would have been charged to, may still post as
--- `public`
+-- a0 broadcasts alpha's numbers, which b0 may not get: nobody gets them, and n0, which it would
+-- have been charged to, may still post as `public`
 abbrev pub denied_broadcast : List Entry
 denied_broadcast =
     gave 0 0 (Bcast 0 Int32 2) Plain alpha (pos 7 ∷ negsuc 0 ∷ []) (Posted 0)
@@ -137,7 +161,8 @@ denied_broadcast =
     ++ gave 3 0 (Bcast 3 Int32 1) Plain Public (pos 2 ∷ []) (Posted 1)
     ∷ []
 
--- a0, which is at home at alpha, may not write under the label `public`: its post is barred, counts, and denies the gather
+-- a0, which is at home at alpha, may not write under the label `public`: its post is barred,
+-- counts, and denies the gather
 abbrev pub barred_gather : List Entry
 barred_gather =
     gave 0 0 (Gatherv 3 Int32) Plain Public (pos 1 ∷ []) (Barred 0 Public)
@@ -146,8 +171,8 @@ barred_gather =
     ∷ came 3 0 (Gatherv 3 Int32) (Posted 0)
     ∷ all_took 0 (Denied Star 0 Public)
 
--- n0 gets alpha's number from a0, among the two of them. It may not pass it on as `public`, and as alpha's it reaches c0, but not alpha's
--- rival b0.
+-- n0 gets alpha's number from a0, among the two of them. It may not pass it on as `public`, and as
+-- alpha's it reaches c0, but not alpha's rival b0.
 abbrev pub relayed : ℤ → List Entry
 relayed number =
     all_came 0 (Create (0 ∷ 3 ∷ [])) 0
@@ -172,7 +197,8 @@ relayed number =
 abbrev pub relayed_broadcast : List Entry
 relayed_broadcast = relayed (pos 7)
 
--- all would get from all, and two of the labels are rivals: the lowest receiver is named, with the first label that it may not get
+-- all would get from all, and two of the labels are rivals: the lowest receiver is named, with the
+-- first label that it may not get
 abbrev pub four_rivals : List Entry
 four_rivals =
     gave 0 0 (Allgather Int32 1) Plain alpha (pos 1 ∷ []) (Posted 0)
@@ -181,8 +207,8 @@ four_rivals =
     ∷ gave 3 0 (Allgather Int32 1) Plain Public (pos 4 ∷ []) (Posted 0)
     ∷ all_took 0 (Denied Simple 0 beta)
 
--- a sum of three contributors, of three datasets, is sanitised: all get it, and it is charged to nobody; with these numbers
--- of a0 and of c0
+-- a sum of three contributors, of three datasets, is sanitised: all get it, and it is charged to
+-- nobody; with these numbers of a0 and of c0
 abbrev pub summed : (first third total : ℤ) → List Entry
 summed first third total =
     gave 0 0 (Allreduce Sum Int32 1) Plain alpha (first ∷ []) (Posted 0)
@@ -254,16 +280,19 @@ split_by_colours =
 
 -- two by two, periodic in the first dimension alone: a neighbour that is missing keeps its slot
 abbrev pub neighbours_of_a_grid : List Entry
-neighbours_of_a_grid =
-    all_came 0 (CartCreate (2 ∷ 2 ∷ []) (true ∷ false ∷ [])) 0
+neighbours_of_a_grid = all_came 0 (CartCreate (2 ∷ 2 ∷ []) (true ∷ false ∷ [])) 0
     ++ gave 0 1 (NeighborAllgather Int32 1) Plain alpha (pos 10 ∷ []) (Posted 1)
     ∷ gave 1 1 (NeighborAllgather Int32 1) Plain alpha (pos 11 ∷ []) (Posted 1)
     ∷ gave 2 1 (NeighborAllgather Int32 1) Plain alpha (pos 12 ∷ []) (Posted 1)
     ∷ gave 3 1 (NeighborAllgather Int32 1) Plain alpha (pos 13 ∷ []) (Posted 1)
-    ∷ took 0 1 (Delivered (Numbers (pos 12 ∷ []) ∷ Numbers (pos 12 ∷ []) ∷ Missing ∷ Numbers (pos 11 ∷ []) ∷ []))
-    ∷ took 1 1 (Delivered (Numbers (pos 13 ∷ []) ∷ Numbers (pos 13 ∷ []) ∷ Numbers (pos 10 ∷ []) ∷ Missing ∷ []))
-    ∷ took 2 1 (Delivered (Numbers (pos 10 ∷ []) ∷ Numbers (pos 10 ∷ []) ∷ Missing ∷ Numbers (pos 13 ∷ []) ∷ []))
-    ∷ took 3 1 (Delivered (Numbers (pos 11 ∷ []) ∷ Numbers (pos 11 ∷ []) ∷ Numbers (pos 12 ∷ []) ∷ Missing ∷ []))
+    ∷ took 0 1 (Delivered
+    (Numbers (pos 12 ∷ []) ∷ Numbers (pos 12 ∷ []) ∷ Missing ∷ Numbers (pos 11 ∷ []) ∷ []))
+    ∷ took 1 1 (Delivered
+    (Numbers (pos 13 ∷ []) ∷ Numbers (pos 13 ∷ []) ∷ Numbers (pos 10 ∷ []) ∷ Missing ∷ []))
+    ∷ took 2 1 (Delivered
+    (Numbers (pos 10 ∷ []) ∷ Numbers (pos 10 ∷ []) ∷ Missing ∷ Numbers (pos 13 ∷ []) ∷ []))
+    ∷ took 3 1 (Delivered
+    (Numbers (pos 11 ∷ []) ∷ Numbers (pos 11 ∷ []) ∷ Numbers (pos 12 ∷ []) ∷ Missing ∷ []))
     ∷ []
 
 -- a duplicate has the grid too, and is cut into its rows
@@ -287,8 +316,7 @@ parts_of_a_grid =
 
 -- each is refused for the first reason that holds, and makes nothing: what was begun goes on
 abbrev pub refused_calls : List Entry
-refused_calls =
-    gave 0 0 (Allgather Int32 1) Plain alpha (pos 5 ∷ []) (Posted 0)
+refused_calls = gave 0 0 (Allgather Int32 1) Plain alpha (pos 5 ∷ []) (Posted 0)
     ∷ gave 1 0 (Allgather Int32 2) Plain alpha (pos 6 ∷ pos 7 ∷ []) (Refused Mismatch)
     ∷ gave 1 0 (Allgather Int32 1) Plain alpha (pos 6 ∷ pos 7 ∷ []) (Refused BadCount)
     ∷ came 4 9 (Bcast 4 Int32 0) (Refused NoSuchProcess)
@@ -301,27 +329,27 @@ refused_calls =
     ∷ came 1 0 (CartCreate (5 ∷ []) (false ∷ [])) (Refused BadDims)
     ∷ gave 1 0 (Allgather Int32 1) Plain alpha (pos 6 ∷ []) (Posted 0)
     ∷ gave 2 0 (Allgather Int32 1) Plain alpha (pos 7 ∷ []) (Posted 0)
-    ∷ took 0 1 (Refused NoSuchRequest)
-    ∷ took 0 0 Pending
+    ∷ took 0 1 (Refused NoSuchRequest) ∷ took 0 0 Pending
     ∷ gave 3 0 (Allgather Int32 1) Plain alpha (pos 8 ∷ []) (Posted 0)
-    ∷ took 0 0 (Delivered (Numbers (pos 5 ∷ []) ∷ Numbers (pos 6 ∷ []) ∷ Numbers (pos 7 ∷ []) ∷ Numbers (pos 8 ∷ []) ∷ []))
-    ∷ took 0 0 (Refused NoSuchRequest)
-    ∷ took 4 0 (Refused NoSuchRequest)
-    ∷ []
+    ∷ took 0 0 (Delivered (Numbers (pos 5 ∷ []) ∷ Numbers (pos 6 ∷ []) ∷ Numbers (pos 7 ∷ [])
+    ∷ Numbers (pos 8 ∷ []) ∷ [])) ∷ took 0 0 (Refused NoSuchRequest)
+    ∷ took 4 0 (Refused NoSuchRequest) ∷ []
 
 -- sums and products wrap at the type's width, and truth is 0 or 1
 abbrev pub wrapped_reductions : List Entry
-wrapped_reductions =
-    gave 0 0 (Allreduce Sum Int8 1) Plain alpha (pos 127 ∷ []) (Posted 0)
+wrapped_reductions = gave 0 0 (Allreduce Sum Int8 1) Plain alpha (pos 127 ∷ []) (Posted 0)
     ∷ gave 1 0 (Allreduce Sum Int8 1) Plain alpha (pos 1 ∷ []) (Posted 0)
     ∷ gave 2 0 (Allreduce Sum Int8 1) Plain alpha (pos 0 ∷ []) (Posted 0)
     ∷ gave 3 0 (Allreduce Sum Int8 1) Plain alpha (pos 0 ∷ []) (Posted 0)
     ∷ all_took 0 (Delivered (Numbers (negsuc 127 ∷ []) ∷ []))
-    ++ gave 0 0 (ReduceScatterBlock Prod Uint8 1) Plain alpha (pos 16 ∷ pos 2 ∷ pos 255 ∷ pos 1 ∷ []) (Posted 1)
-    ∷ gave 1 0 (ReduceScatterBlock Prod Uint8 1) Plain alpha (pos 16 ∷ pos 3 ∷ pos 255 ∷ pos 0 ∷ []) (Posted 1)
-    ∷ gave 2 0 (ReduceScatterBlock Prod Uint8 1) Plain alpha (pos 1 ∷ pos 5 ∷ pos 1 ∷ pos 7 ∷ []) (Posted 1)
-    ∷ gave 3 0 (ReduceScatterBlock Prod Uint8 1) Plain alpha (pos 1 ∷ pos 7 ∷ pos 1 ∷ pos 9 ∷ []) (Posted 1)
-    ∷ took 0 1 (Delivered (Numbers (pos 0 ∷ []) ∷ []))
+    ++ gave 0 0 (ReduceScatterBlock Prod Uint8 1) Plain alpha
+    (pos 16 ∷ pos 2 ∷ pos 255 ∷ pos 1 ∷ []) (Posted 1)
+    ∷ gave 1 0 (ReduceScatterBlock Prod Uint8 1) Plain alpha
+    (pos 16 ∷ pos 3 ∷ pos 255 ∷ pos 0 ∷ []) (Posted 1)
+    ∷ gave 2 0 (ReduceScatterBlock Prod Uint8 1) Plain alpha (pos 1 ∷ pos 5 ∷ pos 1 ∷ pos 7 ∷ [])
+    (Posted 1)
+    ∷ gave 3 0 (ReduceScatterBlock Prod Uint8 1) Plain alpha (pos 1 ∷ pos 7 ∷ pos 1 ∷ pos 9 ∷ [])
+    (Posted 1) ∷ took 0 1 (Delivered (Numbers (pos 0 ∷ []) ∷ []))
     ∷ took 1 1 (Delivered (Numbers (pos 210 ∷ []) ∷ []))
     ∷ took 2 1 (Delivered (Numbers (pos 1 ∷ []) ∷ []))
     ∷ took 3 1 (Delivered (Numbers (pos 0 ∷ []) ∷ []))
@@ -332,8 +360,7 @@ wrapped_reductions =
     ∷ took 0 2 (Delivered (Numbers (pos 5 ∷ []) ∷ []))
     ∷ took 1 2 (Delivered (Numbers (pos 1 ∷ []) ∷ []))
     ∷ took 2 2 (Delivered (Numbers (pos 0 ∷ []) ∷ []))
-    ∷ took 3 2 (Delivered (Numbers (pos 0 ∷ []) ∷ []))
-    ∷ []
+    ∷ took 3 2 (Delivered (Numbers (pos 0 ∷ []) ∷ [])) ∷ []
 
 -- a post and a take that find no memory count nowhere, and may be made again
 abbrev pub short_of_memory : List Entry
@@ -348,10 +375,10 @@ short_of_memory =
     ∷ took 1 0 (Refused NoSuchRequest)
     ∷ []
 
--- what goes to the positive neighbour arrives in its negative slot, also where both neighbours are one, or oneself
+-- what goes to the positive neighbour arrives in its negative slot, also where both neighbours are
+-- one, or oneself
 abbrev pub neighbours_of_oneself : List Entry
-neighbours_of_oneself =
-    all_came 0 (CartCreate (1 ∷ []) (true ∷ [])) 0
+neighbours_of_oneself = all_came 0 (CartCreate (1 ∷ []) (true ∷ [])) 0
     ++ gave 0 1 (NeighborAlltoall Int32 1) Plain alpha (pos 1 ∷ pos 2 ∷ []) (Posted 1)
     ∷ took 0 1 (Delivered (Numbers (pos 2 ∷ []) ∷ Numbers (pos 1 ∷ []) ∷ []))
     ∷ came 0 0 (CartCreate (2 ∷ []) (true ∷ [])) (Posted 2)
@@ -366,11 +393,11 @@ neighbours_of_oneself =
     ∷ came 1 0 (CartCreate (2 ∷ []) (false ∷ [])) (Posted 3)
     ∷ came 2 0 (CartCreate (2 ∷ []) (false ∷ [])) (Posted 2)
     ∷ came 3 0 (CartCreate (2 ∷ []) (false ∷ [])) (Posted 2)
-    ∷ gave 0 3 (NeighborAlltoallv Int32) (Counts (1 ∷ 2 ∷ [])) alpha (pos 1 ∷ pos 2 ∷ pos 3 ∷ []) (Posted 5)
+    ∷ gave 0 3 (NeighborAlltoallv Int32) (Counts (1 ∷ 2 ∷ [])) alpha (pos 1 ∷ pos 2 ∷ pos 3 ∷ [])
+    (Posted 5)
     ∷ gave 1 3 (NeighborAlltoallv Int32) (Counts (1 ∷ 0 ∷ [])) alpha (pos 4 ∷ []) (Posted 4)
     ∷ took 0 5 (Delivered (Missing ∷ Numbers (pos 4 ∷ []) ∷ []))
-    ∷ took 1 4 (Delivered (Numbers (pos 2 ∷ pos 3 ∷ []) ∷ Missing ∷ []))
-    ∷ []
+    ∷ took 1 4 (Delivered (Numbers (pos 2 ∷ pos 3 ∷ []) ∷ Missing ∷ [])) ∷ []
 
 -- of equal values the one of the lower index wins, and nothing comes before the first rank
 abbrev pub ties_and_prefixes : List Entry

@@ -1,5 +1,6 @@
 -- Runs: calls with their replies, and what they have made. A run has its newest entry first.
-use Rattle.std.specs.Prelude.{ℕ, List, [], ◌∷◌, ◌++◌, Bool, true, false, ◌&&◌, ◌||◌, ◌==◌, length, Option, Some, None, if◌then◌else◌, filter_map, map, reverse}
+use Rattle.std.specs.Prelude.{ℕ, List, [], ◌∷◌, ◌++◌, Bool, true, false, ◌&&◌, ◌||◌, ◌==◌, length}
+use Rattle.std.specs.Prelude.{Option, Some, None, if◌then◌else◌, filter_map, map, reverse}
 use Rattle.std.specs.List.{list_any, cons_option, zip}
 use Rattle.wall_labels.specs.declared.label.Label.{Label}
 use Rattle.mpi_elems.specs.Contents.{Contents, contents, elements}
@@ -11,7 +12,9 @@ use Rattle.run_model.specs.declared.call.Act.{Act}
 use Rattle.run_model.specs.declared.call.Act.TheVariants.{Post as ToPost, Take, Info as ToInfo}
 use Rattle.run_model.specs.declared.call.Call.{Call}
 use Rattle.run_model.specs.declared.reply.Reply.{Reply}
-use Rattle.run_model.specs.declared.reply.Reply.TheVariants.{Posted, Barred, Pending, Delivered, NewComm, NullComm, Denied, NoRoom, Info, Refused}
+use Rattle.run_model.specs.declared.reply.Reply.TheVariants.{Posted, Barred, Pending, Delivered}
+use Rattle.run_model.specs.declared.reply.Reply.TheVariants.{NewComm, NullComm, Denied, NoRoom}
+use Rattle.run_model.specs.declared.reply.Reply.TheVariants.{Info, Refused}
 
 -- a call with its reply
 pub record Entry : Type 0 where
@@ -42,7 +45,13 @@ abbrev pub label_in : Posting → Option Label
 label_in posting = label_if (given_in posting) posting.label
 
 abbrev pub statement : Posting → (barred : Bool) → Stated
-statement posting barred = record { sig = posting.sig; own = posting.own; given = given_in posting; label = label_in posting; barred = barred }
+statement posting barred = record {
+  sig = posting.sig;
+  own = posting.own;
+  given = given_in posting;
+  label = label_in posting;
+  barred = barred;
+}
 
 -- a barred post drops its elements
 abbrev pub kept_if : Contents → (barred : Bool) → Contents
@@ -58,7 +67,8 @@ counted (ToPost posting) (Barred request label) = Some (posting, true)
 counted act reply = None
 
 abbrev pub contribution_by : (p : ℕ) → Option (Posting × Bool) → Option (Contribution Contents)
-contribution_by p (Some (posting, barred)) = Some (contribution p posting.comm (statement posting barred) (kept posting barred))
+contribution_by p (Some (posting, barred)) =
+    Some (contribution p posting.comm (statement posting barred) (kept posting barred))
 contribution_by p None = None
 
 abbrev pub contribution_in : Entry → Option (Contribution Contents)
@@ -72,10 +82,12 @@ contributions run = filter_map contribution_in run
 abbrev pub posts : List Entry → List Post
 posts run = posts_of (contributions run)
 
--- The requests of p are its counted posts in order: for each, the communicator and the number of its instance there.
+-- The requests of p are its counted posts in order: for each, the communicator and the number of
+-- its instance there.
 abbrev pub requests : (p : ℕ) → List Post → List (ℕ × ℕ)
 requests p [] = []
-requests p (x ∷ past) = if x.process == p then requests p past ++ (x.comm, place x past) ∷ [] else requests p past
+requests p (x ∷ past) =
+    if x.process == p then requests p past ++ (x.comm, place x past) ∷ [] else requests p past
 
 -- the reply is the outcome of a request
 abbrev pub is_outcome : Reply → Bool
@@ -90,7 +102,8 @@ is_outcome Pending = false
 is_outcome (Info size rank dims) = false
 is_outcome (Refused refusal) = false
 
--- the reply neither makes a post nor tells an outcome: the call is refused, or it waits, or it asked about a communicator
+-- the reply neither makes a post nor tells an outcome: the call is refused, or it waits, or it
+-- asked about a communicator
 abbrev pub MakesNothing : Reply → Type 0
 MakesNothing (Refused refusal) = Unit {0}
 MakesNothing Pending = Unit {0}
@@ -110,29 +123,37 @@ takes (ToInfo c) request = false
 
 -- an earlier take got the outcome of p's request
 abbrev pub is_taken : (p request : ℕ) → List Entry → Bool
-is_taken p request run = list_any (λ e. e.call.process == p && takes e.call.act request && is_outcome e.reply) run
+is_taken p request run =
+    list_any (λ e. e.call.process == p && takes e.call.act request && is_outcome e.reply) run
 
--- What a run has made, as far as later replies depend on it: its counted posts with their elements, and which requests of each process were
--- taken.
+-- What a run has made, as far as later replies depend on it: its counted posts with their elements,
+-- and which requests of each process were taken.
 pub record Effects : Type 0 where
   pub contributions : List (Contribution Contents)
   pub taken : (p request : ℕ) → Bool
 
 abbrev pub effects : List Entry → Effects
-effects run = record { contributions = contributions run; taken = λ p request. is_taken p request run }
+effects run =
+    record { contributions = contributions run; taken = λ p request. is_taken p request run }
 
 -- ## what one entry more makes
 
 -- one counted post more
 abbrev pub with_contribution : Effects → Contribution Contents → Effects
-with_contribution effects g = record { contributions = g ∷ effects.contributions; taken = effects.taken }
+with_contribution effects g =
+    record { contributions = g ∷ effects.contributions; taken = effects.taken }
 
 -- one request of p more that was taken
 abbrev pub with_taken : Effects → (p request : ℕ) → Effects
-with_taken effects p request = record { contributions = effects.contributions; taken = λ q r. p == q && request == r || effects.taken q r }
+with_taken effects p request = record {
+  contributions = effects.contributions;
+  taken = λ q r. p == q && request == r || effects.taken q r;
+}
 
 abbrev pub after_entry : Effects → Entry → Effects
 after_entry effects e = record {
-  contributions = cons_option (contribution_in e) effects.contributions;
-  taken = λ p request. e.call.process == p && takes e.call.act request && is_outcome e.reply || effects.taken p request;
+  contributions =
+      cons_option (contribution_in e) effects.contributions;
+  taken = λ p request. e.call.process == p && takes e.call.act request && is_outcome e.reply
+      || effects.taken p request;
 }

@@ -1,7 +1,10 @@
 -- Worked runs over each type and each operation.
 use Rattle.std.specs.Prelude.{List, [], ◌∷◌, pos, negsuc}
-use Rattle.wall_labels.specs.declared.op.Op.TheVariants.{Max, Min, Sum, Prod, Land, Lor, Lxor, Band, Bor, Bxor, Maxloc, Minloc}
-use Rattle.mpi_elems.specs.declared.elem_type.ElemType.TheVariants.{Int8, Int16, Int32, Int64, Uint8, Uint16, Uint32, Uint64, TwoInt}
+use Rattle.wall_labels.specs.declared.op.Op.TheVariants.{Max, Min, Sum, Prod, Land, Lor, Lxor, Band}
+use Rattle.wall_labels.specs.declared.op.Op.TheVariants.{Bor, Bxor, Maxloc, Minloc}
+use Rattle.mpi_elems.specs.declared.elem_type.ElemType.TheVariants.{Int8, Int16, Int32, Int64}
+use Rattle.mpi_elems.specs.declared.elem_type.ElemType.TheVariants.{Uint8, Uint16, Uint32, Uint64}
+use Rattle.mpi_elems.specs.declared.elem_type.ElemType.TheVariants.{TwoInt}
 use Rattle.coll_routes.specs.declared.signature.Signature.TheVariants.{Allgather, Allreduce}
 use Rattle.coll_routes.specs.declared.statement.Own.TheVariants.{Plain}
 use Rattle.coll_values.specs.declared.delivery.Block.TheVariants.{Numbers}

@@ -3,17 +3,22 @@ use Rattle.std.specs.Prelude.{List, [], ◌∷◌, ◌++◌, pos, Some}
 use Rattle.wall_labels.specs.declared.op.Op.TheVariants.{Max, Sum}
 use Rattle.wall_labels.specs.declared.label.Label.TheVariants.{Public}
 use Rattle.mpi_elems.specs.declared.elem_type.ElemType.TheVariants.{Int32}
-use Rattle.coll_routes.specs.declared.signature.Signature.TheVariants.{Barrier, Bcast, Gather, Allgather, Allgatherv, Reduce, Allreduce, Scan, Create, Dup, Split}
+use Rattle.coll_routes.specs.declared.signature.Signature.TheVariants.{Barrier, Bcast, Gather}
+use Rattle.coll_routes.specs.declared.signature.Signature.TheVariants.{Allgather, Allgatherv}
+use Rattle.coll_routes.specs.declared.signature.Signature.TheVariants.{Reduce, Allreduce, Scan}
+use Rattle.coll_routes.specs.declared.signature.Signature.TheVariants.{Create, Dup, Split}
 use Rattle.coll_routes.specs.declared.statement.Own.TheVariants.{Plain, Split as SplitBy}
 use Rattle.coll_values.specs.declared.delivery.Block.TheVariants.{Numbers}
 use Rattle.wall_verdict.specs.declared.verdict.Rule.TheVariants.{Star, Simple}
 use Rattle.run_model.specs.declared.refusal.Refusal.TheVariants.{Mismatch, NoSuchRequest}
-use Rattle.run_model.specs.declared.reply.Reply.TheVariants.{Posted, Barred, Pending, Delivered, Denied, Refused}
+use Rattle.run_model.specs.declared.reply.Reply.TheVariants.{Posted, Barred, Pending, Delivered}
+use Rattle.run_model.specs.declared.reply.Reply.TheVariants.{Denied, Refused}
 use Rattle.run_model.specs.declared.reply.Reply.{Reply}
 use Rattle.run_model.specs.Runs.{Entry}
 use Rattle.run_model.specs.RunRows.{alpha, beta, crude, gave, stated, came, took, all_came}
 
--- n0 is granted alpha, and has not taken it, when beta would reach it too: denied, and alpha is delivered
+-- n0 is granted alpha, and has not taken it, when beta would reach it too: denied, and alpha is
+-- delivered
 abbrev pub charged_before_it_is_taken : Reply → List Entry
 charged_before_it_is_taken reply =
     stated 0 0 Split (SplitBy (Some (pos 0)) (pos 0)) (Posted 0)
@@ -91,7 +96,8 @@ label_enters_at_the_post reply =
     ∷ took 3 3 reply
     ∷ []
 
--- two contributors where three are asked: the lowest receiver is named, and the rival that it would get
+-- two contributors where three are asked: the lowest receiver is named, and the rival that it would
+-- get
 abbrev pub sum_of_too_few : Reply → List Entry
 sum_of_too_few reply =
     gave 0 0 (Allreduce Sum Int32 1) Plain alpha (pos 5 ∷ []) (Posted 0)
@@ -118,7 +124,8 @@ sum_of_two_datasets reply =
     ∷ took 0 1 reply
     ∷ []
 
--- the same of a bank and an oil firm, which are no rivals: all get the sum, and a0 writes of its bank again
+-- the same of a bank and an oil firm, which are no rivals: all get the sum, and a0 writes of its
+-- bank again
 abbrev pub written_after_a_sum : Reply → List Entry
 written_after_a_sum reply =
     all_came 0 (Create (0 ∷ 2 ∷ 3 ∷ [])) 0

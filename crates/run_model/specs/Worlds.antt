@@ -1,7 +1,8 @@
 -- Two worlds: legal runs whose calls differ in the values of elements alone. What they share, and
 -- what a process that does not hold a dataset sees in both. A run has its newest entry first.
 -- (Own rule, after noninterference: Goguen and Meseguer 1982.)
-use Rattle.std.specs.Prelude.{◌≡◌, ◌≢◌, ◌<◌, ◌⊎◌, ◌==◌, ◌&&◌, ℕ, List, [], ◌∷◌, Bool, true, false, slice_get, Option, Some, None, if◌then◌else◌}
+use Rattle.std.specs.Prelude.{◌≡◌, ◌≢◌, ◌<◌, ◌⊎◌, ◌==◌, ◌&&◌, ℕ, List, [], ◌∷◌, Bool, true, false}
+use Rattle.std.specs.Prelude.{slice_get, Option, Some, None, if◌then◌else◌}
 use Rattle.std.specs.List.{AllZip}
 use Rattle.wall_labels.specs.declared.ids.TheConstants.{DATASET_LIMIT}
 use Rattle.wall_labels.specs.declared.label.Label.TheVariants.{Of}
@@ -84,7 +85,8 @@ pub record WallSeesOne (wall : ChineseWall) (run other : List Entry) : Type 0 wh
   pub same_posts : posts run ≡ posts other
   pub same_histories : (p d : ℕ) →
       histories wall (posts run) p d ≡ histories wall (posts other) p d
-  pub same_outcomes : (c k : ℕ) → outcome_at wall c k (posts run) ≡ outcome_at wall c k (posts other)
+  pub same_outcomes : (c k : ℕ) →
+      outcome_at wall c k (posts run) ≡ outcome_at wall c k (posts other)
   pub same_books : book wall (posts run) ≡ book wall (posts other)
 
 -- a relation holds of two runs of one length before the first turn and after each

@@ -13,9 +13,11 @@ pub struct Posting {
     pub sig: Signature,
     /// What the poster states for itself.
     pub own: Own,
-    /// What the poster says of the elements: public, or a dataset of the policy. It counts only where there are some.
+    /// What the poster says of the elements: public, or a dataset of the policy. It counts only
+    /// where there are some.
     pub label: Label,
-    /// What the poster gives. It is copied in: a later change of the caller's data does not reach it.
+    /// What the poster gives. It is copied in: a later change of the caller's data does not reach
+    /// it.
     pub elements: Buffer,
 }
 
@@ -33,7 +35,8 @@ pub enum Act {
 /// A call of a process, named by its number.
 #[derive(Drop)]
 pub struct Call {
-    /// The place of the process in the policy, from 0. Any number may be named: one that the policy lacks is refused.
+    /// The place of the process in the policy, from 0. Any number may be named: one that the policy
+    /// lacks is refused.
     pub process: u32,
     /// What it asks for.
     pub act: Act,

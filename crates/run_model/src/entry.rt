@@ -27,8 +27,8 @@ pub enum Entry {
 impl Entry {
     ghost use Rattle.run_model.specs.EntryForms.{has_form};
 
-    /// Whether a book may have it: what its member states for itself has the form of its kind, and it has a label exactly where it gives an
-    /// element.
+    /// Whether a book may have it: what its member states for itself has the form of its kind, and
+    /// it has a label exactly where it gives an element.
     pub fn has_form(&self) -> bool
         ensures { result ≡ has_form self.now }
     {

@@ -2,9 +2,12 @@
 ghost use Rattle.std.specs.Prelude.{[], ◌∷◌, pos, negsuc};
 ghost use Rattle.coll_values.specs.declared.delivery.Block.TheVariants.{Missing, Numbers};
 ghost use Rattle.run_model.specs.declared.refusal.Refusal.TheVariants.{NoSuchComm, NotMember};
-ghost use Rattle.run_model.specs.declared.reply.Reply.TheVariants.{Posted, Delivered, NewComm, NullComm, Info, Refused};
+ghost use Rattle.run_model.specs.declared.reply.Reply.TheVariants.{Posted, Delivered, NewComm};
+ghost use Rattle.run_model.specs.declared.reply.Reply.TheVariants.{NullComm, Info, Refused};
 ghost use Rattle.run_model.specs.RunRows.{LegalList, four_of_alpha, alpha};
-ghost use Rattle.run_model.specs.KindRows.{gathers, scatters, exchanges, reductions_by_root_and_block, all_gather_and_wait, neighbours_of_a_line, empty_and_reordered};
+ghost use Rattle.run_model.specs.KindRows.{gathers, scatters, exchanges};
+ghost use Rattle.run_model.specs.KindRows.{reductions_by_root_and_block, all_gather_and_wait};
+ghost use Rattle.run_model.specs.KindRows.{neighbours_of_a_line, empty_and_reordered};
 
 /// A gather gives the root one block of each rank, in order of rank, and the others none.
 pub fn gathers()
@@ -36,7 +39,8 @@ pub fn exchanges()
         ∷ Numbers (pos 9 ∷ []) ∷ [])))) }
 {}
 
-/// A reduction gives its root the fold of all; where it scatters, each rank gets the fold of its block.
+/// A reduction gives its root the fold of all; where it scatters, each rank gets the fold of its
+/// block.
 pub fn reductions_by_root_and_block()
     ensures legal { LegalList four_of_alpha
         (reductions_by_root_and_block (Delivered (Numbers (pos 9 ∷ []) ∷ []))) }
@@ -65,7 +69,8 @@ pub fn neighbours_of_a_line()
         (neighbours_of_a_line (Delivered (Numbers (pos 21 ∷ []) ∷ Numbers [] ∷ [])))) }
 {}
 
-/// A subgroup of nobody makes no communicator; a split orders by key, ties by rank; a grid of no dimensions has one member.
+/// A subgroup of nobody makes no communicator; a split orders by key, ties by rank; a grid of no
+/// dimensions has one member.
 pub fn empty_and_reordered()
     ensures legal { LegalList four_of_alpha (empty_and_reordered (Refused NotMember)) }
     ensures wrong_1 { ¬ (LegalList four_of_alpha (empty_and_reordered (Refused NoSuchComm))) }

@@ -1,5 +1,9 @@
 //! What holds of all posts that count and of their books, as functions that do nothing.
-ghost use Rattle.run_model.specs.PostLaws.{HistoriesGrow, CommunicatorsStay, FilledInstancesAreFit, PostsKeepTheWall, HoldingIsHistory, NobodyHoldsTwoRivals, BooksOfPostsAreSound, WordsAreOfTheStarRule, SoundBooksHaveNoBadEntry, SoundBooksKeepTheWall, FirstBadEntryIsOne};
+ghost use Rattle.run_model.specs.PostLaws.{HistoriesGrow, CommunicatorsStay, FilledInstancesAreFit};
+ghost use Rattle.run_model.specs.PostLaws.{PostsKeepTheWall, HoldingIsHistory};
+ghost use Rattle.run_model.specs.PostLaws.{NobodyHoldsTwoRivals, BooksOfPostsAreSound};
+ghost use Rattle.run_model.specs.PostLaws.{WordsAreOfTheStarRule, SoundBooksHaveNoBadEntry};
+ghost use Rattle.run_model.specs.PostLaws.{SoundBooksKeepTheWall, FirstBadEntryIsOne};
 
 /// A pair that stands in the histories stays there.
 #[tactic(auto, using(crate::proofs::PostLawLemmas::histories_grow))]
@@ -24,8 +28,8 @@ pub fn posts_keep_the_wall()
     ensures { PostsKeepTheWall }
 {}
 
-/// After each post a process holds, through chains of deliveries, exactly what stands in its history: so nothing is refused for data that
-/// nobody holds.
+/// After each post a process holds, through chains of deliveries, exactly what stands in its
+/// history: so nothing is refused for data that nobody holds.
 pub fn holding_is_history()
     ensures { HoldingIsHistory }
 {}
@@ -41,14 +45,15 @@ pub fn books_of_posts_are_sound()
     ensures { BooksOfPostsAreSound }
 {}
 
-/// In a sound book a post was barred exactly where it failed the star rule under the histories that the book gives before it.
+/// In a sound book a post was barred exactly where it failed the star rule under the histories that
+/// the book gives before it.
 #[tactic(auto, using(crate::proofs::BookLemmas::words_are_of_the_star_rule))]
 pub fn words_are_of_the_star_rule()
     ensures { WordsAreOfTheStarRule }
 {}
 
-/// Before each entry of a sound book, and after its last, no process held two rivals, directly or through others, and what each held is what
-/// the book's histories say: an auditor needs no server.
+/// Before each entry of a sound book, and after its last, no process held two rivals, directly or
+/// through others, and what each held is what the book's histories say: an auditor needs no server.
 pub fn sound_books_keep_the_wall()
     ensures { SoundBooksKeepTheWall }
 {}

@@ -1,7 +1,7 @@
 //! Why calls are refused.
 
-/// Why a call is refused. A post is refused by the first of them that holds, in this order; the posts before it alone decide those up to
-/// `Mismatch`. A take is refused by `NoSuchRequest`.
+/// Why a call is refused. A post is refused by the first of them that holds, in this order; the
+/// posts before it alone decide those up to `Mismatch`. A take is refused by `NoSuchRequest`.
 #[derive(Clone, Copy, Debug, PartialEq, Eq)]
 pub enum Refusal {
     /// The policy has no such process.
@@ -16,13 +16,15 @@ pub enum Refusal {
     BadRoot,
     /// The operation isn't one of the type's.
     BadOp,
-    /// The elements or the counts aren't what the kind asks, are above the limit, or are of another type.
+    /// The elements or the counts aren't what the kind asks, are above the limit, or are of another
+    /// type.
     BadCount,
     /// A negative colour.
     BadColour,
     /// `Create`: a rank is out of range or stands twice.
     NotSubgroup,
-    /// The dimensions, the periods or the kept dimensions are wrong, or the grid is larger than the group.
+    /// The dimensions, the periods or the kept dimensions are wrong, or the grid is larger than the
+    /// group.
     BadDims,
     /// The instance has another signature.
     Mismatch,

@@ -10,7 +10,8 @@ use wall_verdict::Rule;
 pub enum Reply {
     /// The post counts, and has this request.
     Posted(u64),
-    /// The post counts and has this request, but the star rule bars its label: it has dropped its elements.
+    /// The post counts and has this request, but the star rule bars its label: it has dropped its
+    /// elements.
     Barred {
         /// The request.
         request: u64,
@@ -36,9 +37,11 @@ pub enum Reply {
     Denied {
         /// The rule that it broke.
         rule: Rule,
-        /// By the star rule the process of the lowest rank that was barred, by the simple rule the lowest receiver that would get what it may not.
+        /// By the star rule the process of the lowest rank that was barred, by the simple rule the
+        /// lowest receiver that would get what it may not.
         process: ProcessId,
-        /// The label of the barred post, or that of the lowest rank from which the receiver would get what it may not.
+        /// The label of the barred post, or that of the lowest rank from which the receiver would
+        /// get what it may not.
         label: Label,
     },
     /// The new communicators would pass the limit of communicators, and none was made.
@@ -52,6 +55,7 @@ pub enum Reply {
         /// The number of dimensions of its grid, none where it has no grid.
         dims: Option<u32>,
     },
-    /// The call is refused, and changes nothing. Out of memory is answered only where the reply would else be `Posted`, `Barred` or `Delivered`.
+    /// The call is refused, and changes nothing. Out of memory is answered only where the reply
+    /// would else be `Posted`, `Barred` or `Delivered`.
     Refused(Refusal),
 }

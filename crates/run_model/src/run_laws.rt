@@ -1,5 +1,17 @@
 //! Laws over all legal runs, as functions that do nothing.
-ghost use Rattle.run_model.specs.RunLaws.{PrefixesAreLegal, OneReplyIsDue, OutOfMemoryIsNeverDue, OutOfMemoryIsOfGrowth, RefusedCallsMakeNothing, TakenRequestsStayTaken, TakenRequestsWereGiven, LegalRunsMakeProper, LegalPostsCount, WordsAreOfTheStarRule, CommunicatorsStay, OutcomesStay, GrantsAreJoint, DenialsNameTheLeast, GrantsAloneAreCharged, GrantedInstancesAreWhole, DeliveriesAreOfGrants, GrantsAreDelivered, DenialsAreTold, NewCommsAreThere, ValuesAreOfRoutedElements, HistoriesGrow, LegalRunsKeepTheWall, HoldingIsHistory, NobodyHoldsTwoRivals, BooksAreSound, BooksGrow, BooksDecide, OnlyPostsMove, QuietEntriesCanBeLeftOut};
+ghost use Rattle.run_model.specs.RunLaws.{PrefixesAreLegal, OneReplyIsDue, OutOfMemoryIsNeverDue};
+ghost use Rattle.run_model.specs.RunLaws.{OutOfMemoryIsOfGrowth, RefusedCallsMakeNothing};
+ghost use Rattle.run_model.specs.RunLaws.{TakenRequestsStayTaken, TakenRequestsWereGiven};
+ghost use Rattle.run_model.specs.RunLaws.{LegalRunsMakeProper, LegalPostsCount};
+ghost use Rattle.run_model.specs.RunLaws.{WordsAreOfTheStarRule, CommunicatorsStay, OutcomesStay};
+ghost use Rattle.run_model.specs.RunLaws.{GrantsAreJoint, DenialsNameTheLeast};
+ghost use Rattle.run_model.specs.RunLaws.{GrantsAloneAreCharged, GrantedInstancesAreWhole};
+ghost use Rattle.run_model.specs.RunLaws.{DeliveriesAreOfGrants, GrantsAreDelivered};
+ghost use Rattle.run_model.specs.RunLaws.{DenialsAreTold, NewCommsAreThere};
+ghost use Rattle.run_model.specs.RunLaws.{ValuesAreOfRoutedElements, HistoriesGrow};
+ghost use Rattle.run_model.specs.RunLaws.{LegalRunsKeepTheWall, HoldingIsHistory};
+ghost use Rattle.run_model.specs.RunLaws.{NobodyHoldsTwoRivals, BooksAreSound, BooksGrow};
+ghost use Rattle.run_model.specs.RunLaws.{BooksDecide, OnlyPostsMove, QuietEntriesCanBeLeftOut};
 
 /// A run with which a legal run begins is legal.
 #[tactic(auto, using(crate::proofs::RunLemmas::prefixes_are_legal))]
@@ -25,7 +37,8 @@ pub fn out_of_memory_is_of_growth()
     ensures { OutOfMemoryIsOfGrowth }
 {}
 
-/// A call that is refused, that waits or that asks about a communicator changes nothing on which later replies depend.
+/// A call that is refused, that waits or that asks about a communicator changes nothing on which
+/// later replies depend.
 #[tactic(auto, using(crate::proofs::RunLemmas::refused_calls_make_nothing))]
 pub fn refused_calls_make_nothing()
     ensures { RefusedCallsMakeNothing }
@@ -43,19 +56,22 @@ pub fn taken_requests_were_given()
     ensures { TakenRequestsWereGiven }
 {}
 
-/// What a legal run makes is proper: its posts count, those that passed brought what they state, and what was taken had been given.
+/// What a legal run makes is proper: its posts count, those that passed brought what they state,
+/// and what was taken had been given.
 #[tactic(auto, using(crate::proofs::RunLemmas::legal_runs_make_proper))]
 pub fn legal_runs_make_proper()
     ensures { LegalRunsMakeProper }
 {}
 
-/// Each post that a legal run counts meets no refusal after the posts before it, and was barred exactly where it fails the star rule.
+/// Each post that a legal run counts meets no refusal after the posts before it, and was barred
+/// exactly where it fails the star rule.
 #[tactic(auto, using(crate::proofs::CountLemmas::legal_posts_count))]
 pub fn legal_posts_count()
     ensures { LegalPostsCount }
 {}
 
-/// A posting that was answered Posted passed the star rule at its turn, and one that was answered Barred failed it.
+/// A posting that was answered Posted passed the star rule at its turn, and one that was answered
+/// Barred failed it.
 #[tactic(auto, using(crate::proofs::RunLemmas::words_are_of_the_star_rule))]
 pub fn words_are_of_the_star_rule()
     ensures { WordsAreOfTheStarRule }
@@ -72,13 +88,15 @@ pub fn outcomes_stay()
     ensures { OutcomesStay }
 {}
 
-/// A collective is granted exactly if nobody was barred, and each member may hold all that is charged to it beside what it holds.
+/// A collective is granted exactly if nobody was barred, and each member may hold all that is
+/// charged to it beside what it holds.
 #[tactic(auto, using(crate::proofs::RunLemmas::grants_are_joint_in_runs))]
 pub fn grants_are_joint()
     ensures { GrantsAreJoint }
 {}
 
-/// A denial names the lowest rank that was barred, or else the least pair of a receiver and a contributor that offends.
+/// A denial names the lowest rank that was barred, or else the least pair of a receiver and a
+/// contributor that offends.
 pub fn denials_name_the_least()
     ensures { DenialsNameTheLeast }
 {}
@@ -94,7 +112,8 @@ pub fn granted_instances_are_whole()
     ensures { GrantedInstancesAreWhole }
 {}
 
-/// What is delivered is the value of a granted instance, at the caller's rank, for a request that the caller has not taken yet.
+/// What is delivered is the value of a granted instance, at the caller's rank, for a request that
+/// the caller has not taken yet.
 #[tactic(auto, using(crate::proofs::RunLemmas::deliveries_are_of_grants))]
 pub fn deliveries_are_of_grants()
     ensures { DeliveriesAreOfGrants }
@@ -136,8 +155,8 @@ pub fn legal_runs_keep_the_wall()
     ensures { LegalRunsKeepTheWall }
 {}
 
-/// After each entry of a legal run a process holds, through chains of deliveries, exactly what stands in its history: so nothing is refused
-/// for data that nobody holds.
+/// After each entry of a legal run a process holds, through chains of deliveries, exactly what
+/// stands in its history: so nothing is refused for data that nobody holds.
 #[tactic(auto, using(crate::proofs::RunLemmas::holding_is_history_in_runs))]
 pub fn holding_is_history()
     ensures { HoldingIsHistory }
@@ -166,12 +185,14 @@ pub fn books_decide()
     ensures { BooksDecide }
 {}
 
-/// An entry that counts no post, as a take, leaves posts, histories, communicators, outcomes and book as they were.
+/// An entry that counts no post, as a take, leaves posts, histories, communicators, outcomes and
+/// book as they were.
 pub fn only_posts_move()
     ensures { OnlyPostsMove }
 {}
 
-/// An entry that was refused, that waits or that asks can be left out of a legal run: what was answered out of memory counts as not made.
+/// An entry that was refused, that waits or that asks can be left out of a legal run: what was
+/// answered out of memory counts as not made.
 pub fn quiet_entries_can_be_left_out()
     ensures { QuietEntriesCanBeLeftOut }
 {}

@@ -57,7 +57,8 @@ impl Acts {
     }
 }
 
-/// For each process of a policy its acts, in the order of the processes. Contracts see the list of lists.
+/// For each process of a policy its acts, in the order of the processes. Contracts see the list of
+/// lists.
 #[derive(Drop)]
 pub struct Scripts {
     rows: Vec<Acts>,

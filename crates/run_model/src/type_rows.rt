@@ -3,7 +3,8 @@ ghost use Rattle.std.specs.Prelude.{[], ◌∷◌, pos, negsuc};
 ghost use Rattle.coll_values.specs.declared.delivery.Block.TheVariants.{Numbers};
 ghost use Rattle.run_model.specs.declared.reply.Reply.TheVariants.{Posted, Delivered};
 ghost use Rattle.run_model.specs.RunRows.{LegalList, two_of_alpha, alpha};
-ghost use Rattle.run_model.specs.TypeRows.{both_ends_of_each_type, orders_sums_and_truth, bits_and_places};
+ghost use Rattle.run_model.specs.TypeRows.{both_ends_of_each_type, orders_sums_and_truth};
+ghost use Rattle.run_model.specs.TypeRows.{bits_and_places};
 
 /// Each type holds the numbers from its least to its greatest.
 pub fn both_ends_of_each_type()

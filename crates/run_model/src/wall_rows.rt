@@ -1,14 +1,23 @@
-//! Worked runs that show the wall: when charges bite, what a post adds, and who is named. The functions do nothing.
+//! Worked runs that show the wall: when charges bite, what a post adds, and who is named. The
+//! functions do nothing.
 ghost use Rattle.std.specs.Prelude.{[], ◌∷◌, pos, negsuc};
 ghost use Rattle.wall_labels.specs.declared.label.Label.TheVariants.{Public};
 ghost use Rattle.coll_values.specs.declared.delivery.Block.TheVariants.{Numbers};
 ghost use Rattle.wall_verdict.specs.declared.verdict.Rule.TheVariants.{Star, Simple};
 ghost use Rattle.run_model.specs.declared.refusal.Refusal.TheVariants.{Mismatch, NoSuchRequest};
-ghost use Rattle.run_model.specs.declared.reply.Reply.TheVariants.{Posted, Barred, Pending, Delivered, Denied, Refused};
-ghost use Rattle.run_model.specs.RunRows.{LegalList, banks_and_oil, banks_and_oil_in_version_2, four_of_alpha, alpha, beta, crude};
-ghost use Rattle.run_model.specs.WallRows.{charged_before_it_is_taken, charged_in_the_other_order, star_rule_at_the_post, label_enters_at_the_post, sum_of_too_few, sum_of_two_datasets, written_after_a_sum, prefix_of_too_few, lowest_barred_is_named, barred_before_offences, several_outstanding};
+ghost use Rattle.run_model.specs.declared.reply.Reply.TheVariants.{Posted, Barred, Pending};
+ghost use Rattle.run_model.specs.declared.reply.Reply.TheVariants.{Delivered, Denied, Refused};
+ghost use Rattle.run_model.specs.RunRows.{LegalList, banks_and_oil, banks_and_oil_in_version_2};
+ghost use Rattle.run_model.specs.RunRows.{four_of_alpha, alpha, beta, crude};
+ghost use Rattle.run_model.specs.WallRows.{charged_before_it_is_taken, charged_in_the_other_order};
+ghost use Rattle.run_model.specs.WallRows.{star_rule_at_the_post, label_enters_at_the_post};
+ghost use Rattle.run_model.specs.WallRows.{sum_of_too_few, sum_of_two_datasets};
+ghost use Rattle.run_model.specs.WallRows.{written_after_a_sum, prefix_of_too_few};
+ghost use Rattle.run_model.specs.WallRows.{lowest_barred_is_named, barred_before_offences};
+ghost use Rattle.run_model.specs.WallRows.{several_outstanding};
 
-/// A grant is charged at once: what n0 may get of beta goes by what it was granted of alpha, taken or not.
+/// A grant is charged at once: what n0 may get of beta goes by what it was granted of alpha, taken
+/// or not.
 pub fn charged_before_it_is_taken()
     ensures legal { LegalList banks_and_oil (charged_before_it_is_taken (Denied Simple 3 beta)) }
     ensures wrong_1 { ¬ (LegalList banks_and_oil
@@ -31,7 +40,8 @@ pub fn charged_in_the_other_order()
         (charged_in_the_other_order (Delivered (Numbers (pos 10 ∷ []) ∷ [])))) }
 {}
 
-/// The star rule is tested at the post: a history that grows before the instance is complete doesn't bar it.
+/// The star rule is tested at the post: a history that grows before the instance is complete
+/// doesn't bar it.
 pub fn star_rule_at_the_post()
     ensures legal { LegalList banks_and_oil
         (star_rule_at_the_post (Delivered (Numbers (pos 8 ∷ []) ∷ Numbers (pos 7 ∷ []) ∷ []))) }
@@ -60,8 +70,8 @@ pub fn sum_of_too_few()
     ensures wrong_3 { ¬ (LegalList banks_and_oil (sum_of_too_few (Denied Simple 2 alpha))) }
 {}
 
-/// Three contributors of two datasets are a crowd where a policy of version 1 asks for three of them, and none where one of version 2 asks
-/// for three different datasets.
+/// Three contributors of two datasets are a crowd where a policy of version 1 asks for three of
+/// them, and none where one of version 2 asks for three different datasets.
 pub fn sum_of_two_datasets()
     ensures legal { LegalList banks_and_oil
         (sum_of_two_datasets (Delivered (Numbers (pos 6 ∷ []) ∷ []))) }
@@ -73,7 +83,8 @@ pub fn sum_of_two_datasets()
         (sum_of_two_datasets (Delivered (Numbers (pos 6 ∷ []) ∷ [])))) }
 {}
 
-/// A sum that is no crowd is charged to all who get it, who may then not write of their own firm; one that is a crowd is charged to nobody.
+/// A sum that is no crowd is charged to all who get it, who may then not write of their own firm;
+/// one that is a crowd is charged to nobody.
 pub fn written_after_a_sum()
     ensures legal { LegalList banks_and_oil
         (written_after_a_sum (Posted 2)) }
@@ -111,7 +122,8 @@ pub fn barred_before_offences()
     ensures wrong_2 { ¬ (LegalList banks_and_oil (barred_before_offences (Denied Star 2 crude))) }
 {}
 
-/// Several instances wait at the same time, settle in any order between communicators, and are taken in any order.
+/// Several instances wait at the same time, settle in any order between communicators, and are
+/// taken in any order.
 pub fn several_outstanding()
     ensures legal { LegalList four_of_alpha
         (several_outstanding (Delivered (Numbers (pos 1 ∷ []) ∷ Numbers (pos 2 ∷ pos 3

@@ -2,7 +2,9 @@
 //! differ in the values of elements alone.
 ghost use Rattle.std.specs.Prelude.{◌≡◌, true, pos};
 ghost use Rattle.run_model.specs.RunRows.{relayed, summed, two_offers, barred_allgather};
-ghost use Rattle.run_model.specs.Worlds.{ValuesDecideNothing, FrontsOfWorldsAreWorlds, WhoHoldsNothingLearnsNothing, NoQuestionTellsWorldsApart, RivalsLearnNothing, HomesOfRivalsSeeNothing};
+ghost use Rattle.run_model.specs.Worlds.{ValuesDecideNothing, FrontsOfWorldsAreWorlds};
+ghost use Rattle.run_model.specs.Worlds.{WhoHoldsNothingLearnsNothing, NoQuestionTellsWorldsApart};
+ghost use Rattle.run_model.specs.Worlds.{RivalsLearnNothing, HomesOfRivalsSeeNothing};
 ghost use Rattle.run_model.specs.WorldRows.{Worlds, Alike, LookAlike, told, sum_is_spared};
 
 /// The wall goes by no value: where calls are equal but for values, verdicts, histories and books
@@ -18,8 +20,8 @@ pub fn fronts_of_worlds_are_worlds()
 {}
 
 /// Who doesn't hold a dataset after the first of two worlds that are alike outside it sees the same
-/// in both: the same replies, with the numbers of deliveries but for those that are sanitised for it
-/// with a contributor of that dataset.
+/// in both: the same replies, with the numbers of deliveries but for those that are sanitised for
+/// it with a contributor of that dataset.
 pub fn who_holds_nothing_learns_nothing()
     ensures { WhoHoldsNothingLearnsNothing }
 {
@@ -70,7 +72,8 @@ pub fn two_offers()
 pub fn two_sums()
     ensures alike { Alike 0 (summed (pos 5) (pos 7) (pos 19)) (summed (pos 6) (pos 7) (pos 20)) }
     ensures spared { sum_is_spared 1 ≡ true }
-    ensures same { LookAlike 0 1 (summed (pos 5) (pos 7) (pos 19)) (summed (pos 6) (pos 7) (pos 20)) }
+    ensures same { LookAlike 0 1 (summed (pos 5) (pos 7) (pos 19))
+        (summed (pos 6) (pos 7) (pos 20)) }
 {
     coll_values::laws::values_are_of_routed_ranks();
 }
@@ -88,5 +91,6 @@ pub fn two_barred_posts()
 /// posted them holds nothing of the bank, and labelled them otherwise.
 pub fn two_sums_of_another()
     ensures worlds { Worlds (summed (pos 5) (pos 7) (pos 19)) (summed (pos 5) (pos 8) (pos 20)) }
-    ensures unlike { ¬ (Alike 0 (summed (pos 5) (pos 7) (pos 19)) (summed (pos 5) (pos 8) (pos 20))) }
+    ensures unlike { ¬
+        (Alike 0 (summed (pos 5) (pos 7) (pos 19)) (summed (pos 5) (pos 8) (pos 20))) }
 {}

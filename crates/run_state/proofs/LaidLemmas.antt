@@ -1,5 +1,7 @@
 -- Groups and shapes that stand side by side, and what a constructor adds to both.
-use Rattle.std.proofs.Common.{◌≡◌, ℕ, zero, suc, ◌<◌, List, [], ◌∷◌, ◌++◌, length, refl, sym, ap, ◌∙◌, subst, arith, Bool, true, false, Option, Some, None, slice_get, map, drop, cond}
+use Rattle.std.proofs.Common.{◌≡◌, ℕ, zero, suc, ◌<◌, List, [], ◌∷◌, ◌++◌, length, refl, sym, ap}
+use Rattle.std.proofs.Common.{◌∙◌, subst, arith, Bool, true, false, Option, Some, None, slice_get}
+use Rattle.std.proofs.Common.{map, drop, cond}
 use Rattle.std.specs.Prelude.{◌==◌, nat_lt, unwrap_or, filter_map}
 use Rattle.std.specs.List.{list_all}
 use Rattle.std.proofs.lemmas.Bool.{cases_Bool, cond-true, cond-false, false≢true, and_parts, lt-ltb}
@@ -26,7 +28,8 @@ laid_length [] (s ∷ ss) h = absurd h
 laid_length (g ∷ gs) [] h = absurd h
 laid_length (g ∷ gs) (s ∷ ss) h = ap suc (laid_length gs ss h.1)
 
-pub joined_length : (gs : List (List ℕ)) (ss : List Shape) → AreLaid gs ss → length (with_shapes gs ss) ≡ length gs
+pub joined_length : (gs : List (List ℕ)) (ss : List Shape) → AreLaid gs ss →
+    length (with_shapes gs ss) ≡ length gs
 joined_length [] ss h = refl
 joined_length (g ∷ gs) [] h = absurd h
 joined_length (g ∷ gs) (s ∷ ss) h = ap suc (joined_length gs ss h.1)
@@ -39,7 +42,8 @@ pub record IsIn (gs : List (List ℕ)) (ss : List Shape) (c : ℕ) (comm : Comm)
   pub is : IsShape comm.members shape
   pub grid : shape.grid ≡ comm.grid
 
-pub is_in : (gs : List (List ℕ)) (ss : List Shape) (c : ℕ) (comm : Comm) → AreLaid gs ss → slice_get (with_shapes gs ss) c ≡ Some comm → IsIn gs ss c comm
+pub is_in : (gs : List (List ℕ)) (ss : List Shape) (c : ℕ) (comm : Comm) → AreLaid gs ss →
+    slice_get (with_shapes gs ss) c ≡ Some comm → IsIn gs ss c comm
 is_in [] ss c comm h e = absurd (cc)
 is_in (g ∷ gs) [] c comm h e = absurd h
 is_in (g ∷ gs) (s ∷ ss) zero comm h e =
@@ -56,14 +60,17 @@ is_in (g ∷ gs) (s ∷ ss) (suc c) comm h e =
     record { shape = rest.shape; group = rest.group; at = rest.at; is = rest.is; grid = rest.grid }
 
 -- the shape of a communicator is that beside its group
-pub shape_there : (gs : List (List ℕ)) (ss : List Shape) (c : ℕ) (comm : Comm) → (h : IsIn gs ss c comm) → h.shape ≡ shape_of comm
+pub shape_there : (gs : List (List ℕ)) (ss : List Shape) (c : ℕ) (comm : Comm) →
+    (h : IsIn gs ss c comm) → h.shape ≡ shape_of comm
 shape_there gs ss c comm h = λ i. record { size = h.is.size i; grid = h.grid i }
 
-pub group_there : (gs : List (List ℕ)) (c : ℕ) (members : List ℕ) → slice_get gs c ≡ Some members → group_at gs c ≡ members
+pub group_there : (gs : List (List ℕ)) (c : ℕ) (members : List ℕ) → slice_get gs c ≡ Some members →
+    group_at gs c ≡ members
 group_there gs c members e = ap (λ o. unwrap_or o []) e
 
 -- every communicator that is there is in both
-pub there_is : (gs : List (List ℕ)) (ss : List Shape) (c : ℕ) → AreLaid gs ss → c < length gs → (comm : Comm) × (slice_get (with_shapes gs ss) c ≡ Some comm)
+pub there_is : (gs : List (List ℕ)) (ss : List Shape) (c : ℕ) → AreLaid gs ss → c < length gs →
+    (comm : Comm) × (slice_get (with_shapes gs ss) c ≡ Some comm)
 there_is [] ss c h lt = absurd (omega (arith, lt))
 there_is (g ∷ gs) [] c h lt = absurd h
 there_is (g ∷ gs) (s ∷ ss) zero h lt = (record { members = g; grid = s.grid }, refl)
@@ -71,7 +78,9 @@ there_is (g ∷ gs) (s ∷ ss) (suc c) h lt = there_is gs ss c h.1 (omega (arith
 
 -- ## what is added
 
-pub joined_append : (gs new : List (List ℕ)) (ss : List Shape) (grid : Option Topology) → AreLaid gs ss → with_shapes (gs ++ new) (ss ++ laid grid new) ≡ with_shapes gs ss ++ with_grid grid new
+pub joined_append : (gs new : List (List ℕ)) (ss : List Shape) (grid : Option Topology) →
+    AreLaid gs ss →
+    with_shapes (gs ++ new) (ss ++ laid grid new) ≡ with_shapes gs ss ++ with_grid grid new
 joined_append [] new [] grid h = all new
   where
     all : (xs : List (List ℕ)) → with_shapes xs (laid grid xs) ≡ with_grid grid xs
@@ -79,14 +88,16 @@ joined_append [] new [] grid h = all new
     all (x ∷ xs) = ap (λ rest. record { members = x; grid = grid } ∷ rest) (all xs)
 joined_append [] new (s ∷ ss) grid h = absurd h
 joined_append (g ∷ gs) new [] grid h = absurd h
-joined_append (g ∷ gs) new (s ∷ ss) grid h = ap (λ rest. record { members = g; grid = s.grid } ∷ rest) (joined_append gs new ss grid h.1)
+joined_append (g ∷ gs) new (s ∷ ss) grid h =
+    ap (λ rest. record { members = g; grid = s.grid } ∷ rest) (joined_append gs new ss grid h.1)
 
 -- each group is as large as the grid
 abbrev pub AreSized : Option Topology → List (List ℕ) → Type 0
 AreSized grid [] = Unit {0}
 AreSized grid (g ∷ gs) = IsSizedGrid (length g) grid × AreSized grid gs
 
-pub laid_append : (gs new : List (List ℕ)) (ss : List Shape) (grid : Option Topology) → AreLaid gs ss → AreSized grid new → AreLaid (gs ++ new) (ss ++ laid grid new)
+pub laid_append : (gs new : List (List ℕ)) (ss : List Shape) (grid : Option Topology) →
+    AreLaid gs ss → AreSized grid new → AreLaid (gs ++ new) (ss ++ laid grid new)
 laid_append [] new [] grid h sized = all new sized
   where
     all : (xs : List (List ℕ)) → AreSized grid xs → AreLaid xs (laid grid xs)
@@ -110,88 +121,135 @@ pub length_map : {A B : Type 0} (f : A → B) (xs : List A) → length (map f xs
 length_map f [] = refl
 length_map f (x ∷ xs) = ap suc (length_map f xs)
 
-pub length_with_grid : (grid : Option Topology) (groups : List (List ℕ)) → length (with_grid grid groups) ≡ length groups
-length_with_grid grid groups = length_map (λ members. record { members = members; grid = grid }) groups
+pub length_with_grid : (grid : Option Topology) (groups : List (List ℕ)) →
+    length (with_grid grid groups) ≡ length groups
+length_with_grid grid groups =
+    length_map (λ members. record { members = members; grid = grid }) groups
 
 -- the outcome of a constructor, whose groups fit or don't
-pub makes_some : (gs new : List (List ℕ)) (ss : List Shape) (grid : Option Topology) → AreLaid gs ss → fits (length gs) (length new) ≡ true →
-    Makes (with_grid grid new) (with_shapes gs ss) (with_shapes (gs ++ new) (ss ++ laid grid new)) (Made (length gs) (length new))
+pub makes_some : (gs new : List (List ℕ)) (ss : List Shape) (grid : Option Topology) →
+    AreLaid gs ss → fits (length gs) (length new) ≡ true →
+    Makes (with_grid grid new) (with_shapes gs ss) (with_shapes (gs ++ new) (ss ++ laid grid new))
+    (Made (length gs) (length new))
 makes_some gs new ss grid h fit =
     let size = length_with_grid grid new in
     let count = joined_length gs ss h in
-    let holds : fits (length (with_shapes gs ss)) (length (with_grid grid new)) ≡ true = (λ i. fits (count i) (size i)) ∙ fit in
+    let holds : fits (length (with_shapes gs ss)) (length (with_grid grid new)) ≡ true =
+    (λ i. fits (count i) (size i)) ∙ fit in
     record {
-      grown = joined_append gs new ss grid h ∙ ap (λ more. with_shapes gs ss ++ more) (sym (cond-true (fits (length (with_shapes gs ss)) (length (with_grid grid new))) (with_grid grid new) [] holds));
-      told = (λ i. Made (sym count i) (sym size i)) ∙ sym (cond-true (fits (length (with_shapes gs ss)) (length (with_grid grid new))) (Made (length (with_shapes gs ss)) (length (with_grid grid new))) NoRoom holds);
+      grown = joined_append gs new ss grid h
+          ∙ ap (λ more. with_shapes gs ss ++ more) (sym (cond-true
+          (fits (length (with_shapes gs ss)) (length (with_grid grid new)))
+          (with_grid grid new) [] holds));
+      told = (λ i. Made (sym count i) (sym size i))
+          ∙ sym (cond-true (fits (length (with_shapes gs ss)) (length (with_grid grid new)))
+          (Made (length (with_shapes gs ss)) (length (with_grid grid new))) NoRoom holds);
     }
 
-pub makes_none : (gs new : List (List ℕ)) (ss : List Shape) (grid : Option Topology) → AreLaid gs ss → fits (length gs) (length new) ≡ false →
+pub makes_none : (gs new : List (List ℕ)) (ss : List Shape) (grid : Option Topology) →
+    AreLaid gs ss → fits (length gs) (length new) ≡ false →
     Makes (with_grid grid new) (with_shapes gs ss) (with_shapes gs ss) NoRoom
 makes_none gs new ss grid h full =
     let size = length_with_grid grid new in
     let count = joined_length gs ss h in
-    let holds : fits (length (with_shapes gs ss)) (length (with_grid grid new)) ≡ false = (λ i. fits (count i) (size i)) ∙ full in
+    let holds : fits (length (with_shapes gs ss)) (length (with_grid grid new)) ≡ false =
+    (λ i. fits (count i) (size i)) ∙ full in
     record {
-      grown = sym (append_nil (with_shapes gs ss)) ∙ ap (λ more. with_shapes gs ss ++ more) (sym (cond-false (fits (length (with_shapes gs ss)) (length (with_grid grid new))) (with_grid grid new) [] holds));
-      told = sym (cond-false (fits (length (with_shapes gs ss)) (length (with_grid grid new))) (Made (length (with_shapes gs ss)) (length (with_grid grid new))) NoRoom holds);
+      grown = sym (append_nil (with_shapes gs ss))
+          ∙ ap (λ more. with_shapes gs ss ++ more) (sym (cond-false
+          (fits (length (with_shapes gs ss)) (length (with_grid grid new)))
+          (with_grid grid new) [] holds));
+      told = sym (cond-false (fits (length (with_shapes gs ss)) (length (with_grid grid new)))
+          (Made (length (with_shapes gs ss)) (length (with_grid grid new))) NoRoom holds);
     }
 
 -- ## faults
 
-room_fault : (gs new : List (List ℕ)) (c : ℕ) → c < length gs → constructor_fault gs c None new ≡ cond (fits (length gs) (length new)) None (Some faults.NoRoom)
-room_fault gs new c lt = cond-true (nat_lt c (length gs)) (cond (fits (length gs) (length new)) None (Some faults.NoRoom)) (Some faults.NoSuchComm) (lt-ltb c (length gs) lt)
+room_fault : (gs new : List (List ℕ)) (c : ℕ) → c < length gs →
+    constructor_fault gs c None new ≡ cond (fits (length gs) (length new)) None (Some faults.NoRoom)
+room_fault gs new c lt = cond-true (nat_lt c (length gs))
+    (cond (fits (length gs) (length new)) None (Some faults.NoRoom)) (Some faults.NoSuchComm)
+    (lt-ltb c (length gs) lt)
 
 -- a constructor without a fault of its own meets no other than these
-pub only_left : (gs new : List (List ℕ)) (c : ℕ) (own : Option CommFault) → own ≡ None → c < length gs → is_left (unwrap_or (constructor_fault gs c own new) faults.NoMemory) ≡ true
+pub only_left : (gs new : List (List ℕ)) (c : ℕ) (own : Option CommFault) → own ≡ None →
+    c < length gs → is_left (unwrap_or (constructor_fault gs c own new) faults.NoMemory) ≡ true
 only_left gs new c own none lt =
     ap (λ o. is_left (unwrap_or (constructor_fault gs c o new) faults.NoMemory)) none
-    ∙ (ap (λ o. is_left (unwrap_or o faults.NoMemory)) (room_fault gs new c lt) ∙ by (fits (length gs) (length new)))
+    ∙ (ap (λ o. is_left (unwrap_or o faults.NoMemory)) (room_fault gs new c lt)
+    ∙ by (fits (length gs) (length new)))
   where
     by : (b : Bool) → is_left (unwrap_or (cond b None (Some faults.NoRoom)) faults.NoMemory) ≡ true
     by true = refl
     by false = refl
 
-pub fits_is : (gs new : List (List ℕ)) (c : ℕ) (own : Option CommFault) → c < length gs → constructor_fault gs c own new ≡ None → fits (length gs) (length new) ≡ true
+pub fits_is : (gs new : List (List ℕ)) (c : ℕ) (own : Option CommFault) → c < length gs →
+    constructor_fault gs c own new ≡ None → fits (length gs) (length new) ≡ true
 fits_is gs new c (Some f) lt e = absurd (cc)
-fits_is gs new c None lt e = by (fits (length gs) (length new)) refl (sym (room_fault gs new c lt) ∙ e)
+fits_is gs new c None lt e =
+    by (fits (length gs) (length new)) refl (sym (room_fault gs new c lt) ∙ e)
   where
-    by : (b : Bool) → fits (length gs) (length new) ≡ b → cond b None (Some faults.NoRoom) ≡ None → fits (length gs) (length new) ≡ true
+    by : (b : Bool) → fits (length gs) (length new) ≡ b → cond b None (Some faults.NoRoom) ≡ None →
+        fits (length gs) (length new) ≡ true
     by true is f = is
     by false is f = absurd (cc)
 
-pub no_room_is : (gs new : List (List ℕ)) (c : ℕ) (own : Option CommFault) → own ≡ None → c < length gs → faults.NoRoom ≡ unwrap_or (constructor_fault gs c own new) faults.NoMemory → fits (length gs) (length new) ≡ false
+pub no_room_is : (gs new : List (List ℕ)) (c : ℕ) (own : Option CommFault) → own ≡ None →
+    c < length gs → faults.NoRoom ≡ unwrap_or (constructor_fault gs c own new) faults.NoMemory →
+    fits (length gs) (length new) ≡ false
 no_room_is gs new c own none lt e =
-    by (fits (length gs) (length new)) refl (e ∙ (ap (λ o. unwrap_or (constructor_fault gs c o new) faults.NoMemory) none ∙ ap (λ o. unwrap_or o faults.NoMemory) (room_fault gs new c lt)))
+    by (fits (length gs) (length new)) refl (e
+    ∙ (ap (λ o. unwrap_or (constructor_fault gs c o new) faults.NoMemory) none
+    ∙ ap (λ o. unwrap_or o faults.NoMemory) (room_fault gs new c lt)))
   where
-    by : (b : Bool) → fits (length gs) (length new) ≡ b → faults.NoRoom ≡ unwrap_or (cond b None (Some faults.NoRoom)) faults.NoMemory → fits (length gs) (length new) ≡ false
+    by : (b : Bool) → fits (length gs) (length new) ≡ b →
+        faults.NoRoom ≡ unwrap_or (cond b None (Some faults.NoRoom)) faults.NoMemory →
+        fits (length gs) (length new) ≡ false
     by true is f = absurd (cc)
     by false is f = is
 
 -- ## lists of ranks
 
-length_at : (members ranks : List ℕ) → are_ranks (length members) ranks ≡ true → length (members_at members ranks) ≡ length ranks
+length_at : (members ranks : List ℕ) → are_ranks (length members) ranks ≡ true →
+    length (members_at members ranks) ≡ length ranks
 unfolding members_at
 length_at members [] h = refl
 length_at members (r ∷ ranks) h =
-    let parts = and_parts (nat_lt r (length members)) (list_all (λ rank. nat_lt rank (length members)) ranks) h in
-    by (slice_get members r) refl (Rattle.std.proofs.lemmas.Bool.ltb-true r (length members) parts.0) (length_at members ranks parts.1)
+    let parts = and_parts (nat_lt r (length members))
+    (list_all (λ rank. nat_lt rank (length members)) ranks) h in
+    by (slice_get members r) refl
+    (Rattle.std.proofs.lemmas.Bool.ltb-true r (length members) parts.0)
+    (length_at members ranks parts.1)
   where
-    by : (o : Option ℕ) → slice_get members r ≡ o → r < length members → length (filter_map (slice_get members) ranks) ≡ length ranks → length (filter_map (slice_get members) (r ∷ ranks)) ≡ suc (length ranks)
-    by None at lt rest = (let bad = sym (Rattle.std.proofs.lemmas.Option.slice_get-get_or members r 0 lt) ∙ at in absurd (cc))
+    by : (o : Option ℕ) → slice_get members r ≡ o → r < length members →
+        length (filter_map (slice_get members) ranks) ≡ length ranks →
+        length (filter_map (slice_get members) (r ∷ ranks)) ≡ suc (length ranks)
+    by None at lt rest = (let bad = sym
+        (Rattle.std.proofs.lemmas.Option.slice_get-get_or members r 0 lt) ∙ at in absurd (cc))
     by (Some m) at lt rest = rw at (ap suc rest)
 
 -- groups of so many ranks each are as large as a grid of so many cells
-pub parts_sized : (g : Topology) (members : List ℕ) (lists : List (List ℕ)) → list_all (is_subgroup (length members)) lists ≡ true → list_all (λ list. length list == volume g.dims) lists ≡ true → AreSized (Some g) (subset_groups lists members)
+pub parts_sized : (g : Topology) (members : List ℕ) (lists : List (List ℕ)) →
+    list_all (is_subgroup (length members)) lists ≡ true →
+    list_all (λ list. length list == volume g.dims) lists ≡ true →
+    AreSized (Some g) (subset_groups lists members)
 parts_sized g members [] subs sizes = tt
 parts_sized g members (list ∷ lists) subs sizes =
-    let sub = and_parts (is_subgroup (length members) list) (list_all (is_subgroup (length members)) lists) subs in
-    let size = and_parts (length list == volume g.dims) (list_all (λ l. length l == volume g.dims) lists) sizes in
-    let ranks = and_parts (are_ranks (length members) list) (Rattle.mpi_group.specs.Groups.is_distinct list) sub.0 in
-    (sym (length_at members list ranks.0 ∙ Rattle.std.proofs.lemmas.Bool.eqb-true (length list) (volume g.dims) size.0), parts_sized g members lists sub.1 size.1)
+    let sub = and_parts (is_subgroup (length members) list)
+    (list_all (is_subgroup (length members)) lists) subs in
+    let size = and_parts (length list == volume g.dims)
+    (list_all (λ l. length l == volume g.dims) lists) sizes in
+    let ranks = and_parts (are_ranks (length members) list)
+    (Rattle.mpi_group.specs.Groups.is_distinct list) sub.0 in (
+      sym (length_at members list ranks.0
+          ∙ Rattle.std.proofs.lemmas.Bool.eqb-true (length list) (volume g.dims) size.0),
+      parts_sized g members lists sub.1 size.1,
+    )
 
 -- ## what is kept, by what is seen of it
 
-module _ (gs : List (List ℕ)) (ss : List Shape) (table : List Comm) (view : with_shapes gs ss ≡ table) (h : AreLaid gs ss) where
+module _ (gs : List (List ℕ)) (ss : List Shape) (table : List Comm)
+    (view : with_shapes gs ss ≡ table) (h : AreLaid gs ss) where
   pub laid_within : (c : ℕ) → c < length table → c < length gs
   laid_within c lt = subst (λ n. c < n) (sym (ap length view) ∙ joined_length gs ss h) lt
 
@@ -204,15 +262,18 @@ module _ (gs : List (List ℕ)) (ss : List Shape) (table : List Comm) (view : wi
   found_in : (c : ℕ) (found : Comm) → slice_get table c ≡ Some found → IsIn gs ss c found
   found_in c found e = is_in gs ss c found h (ap (λ xs. slice_get xs c) view ∙ e)
 
-  pub laid_group : (c : ℕ) (found : Comm) → slice_get table c ≡ Some found → group_at gs c ≡ found.members
+  pub laid_group : (c : ℕ) (found : Comm) → slice_get table c ≡ Some found →
+      group_at gs c ≡ found.members
   laid_group c found e = group_there gs c found.members (found_in c found e).group
 
-  pub laid_sized : (c : ℕ) (found : Comm) → slice_get table c ≡ Some found → IsSized (shape_of found)
+  pub laid_sized : (c : ℕ) (found : Comm) → slice_get table c ≡ Some found →
+      IsSized (shape_of found)
   laid_sized c found e =
       let it = found_in c found e in
       subst IsSized (shape_there gs ss c found it) it.is.sized
 
-  pub laid_shape : (c : ℕ) (found : Comm) (shape : Shape) → slice_get ss c ≡ Some shape → slice_get table c ≡ Some found → shape ≡ shape_of found
+  pub laid_shape : (c : ℕ) (found : Comm) (shape : Shape) → slice_get ss c ≡ Some shape →
+      slice_get table c ≡ Some found → shape ≡ shape_of found
   laid_shape c found shape at e =
       let it = found_in c found e in
       let same : Some shape ≡ Some it.shape = sym at ∙ it.at in

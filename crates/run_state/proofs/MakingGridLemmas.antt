@@ -1,8 +1,11 @@
 -- Grids that are laid over communicators, and cut.
-use Rattle.std.proofs.Common.{◌≡◌, ℕ, ◌<◌, ◌≤◌, List, [], ◌∷◌, length, refl, sym, ap, ◌∙◌, subst, Bool, true, false, Option, Some, None, slice_get, map, cond, is_none, ⊎_elim}
+use Rattle.std.proofs.Common.{◌≡◌, ℕ, ◌<◌, ◌≤◌, List, [], ◌∷◌, length, refl, sym, ap, ◌∙◌, subst}
+use Rattle.std.proofs.Common.{Bool, true, false, Option, Some, None, slice_get, map, cond, is_none}
+use Rattle.std.proofs.Common.{⊎_elim}
 use Rattle.std.specs.Prelude.{◌==◌, nat_lt}
 use Rattle.std.specs.List.{list_all}
-use Rattle.std.proofs.lemmas.Bool.{cases_Bool, cond-false, false≢true, and_from, eq-eqb, eqb-true, lt-ltb, cases_lt}
+use Rattle.std.proofs.lemmas.Bool.{cases_Bool, cond-false, false≢true, and_from, eq-eqb, eqb-true}
+use Rattle.std.proofs.lemmas.Bool.{lt-ltb, cases_lt}
 use Rattle.std.proofs.lemmas.List.FromFn.{length-range_with_len}
 use Rattle.mpi_comm.specs.Comms.{is_subgroup, subset_groups}
 use Rattle.mpi_cart.specs.declared.fault.GridFault.TheVariants.{BadDims, TooLarge}
@@ -19,14 +22,18 @@ use Rattle.run_state.proofs.MakingLemmas.{all_at}
 
 -- ## a grid over the lowest ranks
 
-dims_fit : (bad large : Bool) → cond bad (Some BadDims) (cond large (Some TooLarge) None) ≡ None → large ≡ false
+dims_fit : (bad large : Bool) → cond bad (Some BadDims) (cond large (Some TooLarge) None) ≡ None →
+    large ≡ false
 dims_fit true large e = absurd (cc)
 dims_fit false true e = absurd (cc)
 dims_fit false false e = refl
 
-pub grid_fits : (dims : List ℕ) (periods : List Bool) (size : ℕ) → first_fault dims periods size ≡ None → volume dims ≤ size
+pub grid_fits : (dims : List ℕ) (periods : List Bool) (size : ℕ) →
+    first_fault dims periods size ≡ None → volume dims ≤ size
 grid_fits dims periods size none = ⊎_elim
-    (λ (low : size < volume dims). absurd (false≢true (sym (dims_fit (are_bad_dims dims periods) (nat_lt size (volume dims)) none) ∙ lt-ltb size (volume dims) low)))
+    (λ (low : size < volume dims). absurd (false≢true (sym
+    (dims_fit (are_bad_dims dims periods) (nat_lt size (volume dims)) none)
+    ∙ lt-ltb size (volume dims) low)))
     (λ (high : volume dims ≤ size). high)
     (cases_lt size (volume dims))
 
@@ -34,37 +41,55 @@ module _ {A : Type 0} (xs : List A) (f : A → List ℕ) (n : ℕ) (one : map f 
   pub one_size : (v : ℕ) → n ≡ v → list_all (λ x. length (f x) == v) xs ≡ true
   one_size v is =
       all_at xs f v ∙ (ap (λ lists. list_all (λ list. length list == v) lists) one
-      ∙ and_from (length (below n) == v) true (eq-eqb (length (below n)) v (length-range_with_len 0 n ∙ is)) refl)
+      ∙ and_from (length (below n) == v) true
+      (eq-eqb (length (below n)) v (length-range_with_len 0 n ∙ is)) refl)
 
   pub one_subgroup : (size : ℕ) → n ≤ size → list_all (is_subgroup size) (map f xs) ≡ true
-  one_subgroup size le = ap (λ lists. list_all (is_subgroup size) lists) one ∙ and_from (is_subgroup size (below n)) true (lowest_subgroup size n le) refl
+  one_subgroup size le = ap (λ lists. list_all (is_subgroup size) lists) one
+      ∙ and_from (is_subgroup size (below n)) true (lowest_subgroup size n le) refl
 
 -- ## a grid that is cut
 
-pub kept_length : (keep : List Bool) (g : Topology) → is_kept keep (Some g) ≡ true → length keep ≡ length g.dims
+pub kept_length : (keep : List Bool) (g : Topology) → is_kept keep (Some g) ≡ true →
+    length keep ≡ length g.dims
 kept_length keep g is = ⊎_elim
     (λ t. eqb-true (length keep) (length g.dims) t)
-    (λ f. absurd (false≢true (sym (ap (λ o. is_none o) (cond-false (length keep == length g.dims) None (Some BadDims) f)) ∙ is)))
+    (λ f. absurd (false≢true (sym (ap (λ o. is_none o)
+    (cond-false (length keep == length g.dims) None (Some BadDims) f)) ∙ is)))
     (cases_Bool (length keep == length g.dims))
 
-pub kept_some : (keep : List Bool) (grid : Option Topology) → grid ≡ None → is_kept keep grid ≡ true → ⊥
+pub kept_some : (keep : List Bool) (grid : Option Topology) → grid ≡ None →
+    is_kept keep grid ≡ true → ⊥
 kept_some keep grid none is = false≢true (sym (ap (λ o. is_kept keep o) none) ∙ is)
 
-module _ (gs : List (List ℕ)) (ss : List Shape) (h : AreLaid gs ss) (c : ℕ) (read : Shape) (there : slice_get ss c ≡ Some read) (found : Comm) (at : slice_get (with_shapes gs ss) c ≡ Some found) where
+module _ (gs : List (List ℕ)) (ss : List Shape) (h : AreLaid gs ss) (c : ℕ) (read : Shape)
+    (there : slice_get ss c ≡ Some read) (found : Comm)
+    (at : slice_get (with_shapes gs ss) c ≡ Some found) where
   pub grid_found : (grid : Option Topology) → read.grid ≡ grid → found.grid ≡ grid
-  grid_found grid is = sym (ap (λ (s : Shape). s.grid) (laid_shape gs ss (with_shapes gs ss) refl h c found read there at)) ∙ is
+  grid_found grid is = sym (ap (λ (s : Shape). s.grid)
+      (laid_shape gs ss (with_shapes gs ss) refl h c found read there at)) ∙ is
 
   pub found_sized : (g : Topology) → read.grid ≡ Some g → volume g.dims ≡ length found.members
-  found_sized g is = subst (λ grid. IsSizedGrid (length found.members) grid) (grid_found (Some g) is) (laid_sized gs ss (with_shapes gs ss) refl h c found at)
+  found_sized g is = subst (λ grid. IsSizedGrid (length found.members) grid)
+      (grid_found (Some g) is) (laid_sized gs ss (with_shapes gs ss) refl h c found at)
 
-module _ {A : Type 0} (xs : List A) (f : A → List ℕ) (g : Topology) (keep : List Bool) (parts : map f xs ≡ grid_parts g keep) where
-  pub cut_sizes : (part : Topology) → part ≡ kept keep g → length keep ≡ length g.dims → list_all (λ x. length (f x) == volume part.dims) xs ≡ true
+module _ {A : Type 0} (xs : List A) (f : A → List ℕ) (g : Topology) (keep : List Bool)
+    (parts : map f xs ≡ grid_parts g keep) where
+  pub cut_sizes : (part : Topology) → part ≡ kept keep g → length keep ≡ length g.dims →
+      list_all (λ x. length (f x) == volume part.dims) xs ≡ true
   cut_sizes part is long =
       all_at xs f (volume part.dims)
-      ∙ ((λ i. list_all (λ list. length list == volume (is i).dims) (parts i)) ∙ part_sizes g keep long)
+      ∙ ((λ i. list_all (λ list. length list == volume (is i).dims) (parts i))
+      ∙ part_sizes g keep long)
 
-  pub cut_subgroups : (size : ℕ) → volume g.dims ≤ size → list_all (is_subgroup size) (map f xs) ≡ true
-  cut_subgroups size le = ap (λ lists. list_all (is_subgroup size) lists) parts ∙ parts_subgroups g keep size le
+  pub cut_subgroups : (size : ℕ) → volume g.dims ≤ size →
+      list_all (is_subgroup size) (map f xs) ≡ true
+  cut_subgroups size le =
+      ap (λ lists. list_all (is_subgroup size) lists) parts ∙ parts_subgroups g keep size le
 
-  pub cut_comms : (part : Topology) → part ≡ kept keep g → (found : Comm) → found.grid ≡ Some g → with_grid (Some part) (subset_groups (map f xs) found.members) ≡ subgrids found.grid keep found.members
-  cut_comms part is found grid = (λ i. with_grid (Some (is i)) (subset_groups (parts i) found.members)) ∙ ap (λ o. subgrids o keep found.members) (sym grid)
+  pub cut_comms : (part : Topology) → part ≡ kept keep g → (found : Comm) → found.grid ≡ Some g →
+      with_grid (Some part) (subset_groups (map f xs) found.members)
+      ≡ subgrids found.grid keep found.members
+  cut_comms part is found grid = (λ i.
+      with_grid (Some (is i)) (subset_groups (parts i) found.members))
+      ∙ ap (λ o. subgrids o keep found.members) (sym grid)

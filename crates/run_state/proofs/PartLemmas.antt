@@ -1,8 +1,11 @@
 -- The parts of a grid: lists of ranks, each as long as the grid of the dimensions kept has cells.
-use Rattle.std.proofs.Common.{◌≡◌, ◌≢◌, ℕ, zero, suc, ◌+◌, ◌*◌, ◌<◌, ◌≤◌, List, [], ◌∷◌, ◌++◌, length, refl, sym, ap, ◌∙◌, subst, arith, Bool, true, false, not, ◌&&◌, Some, slice_get, map, cond, eq-eqb, ne_eqb, take, get_or, ◌%◌}
+use Rattle.std.proofs.Common.{◌≡◌, ◌≢◌, ℕ, zero, suc, ◌+◌, ◌*◌, ◌<◌, ◌≤◌, List, [], ◌∷◌, ◌++◌}
+use Rattle.std.proofs.Common.{length, refl, sym, ap, ◌∙◌, subst, arith, Bool, true, false, not}
+use Rattle.std.proofs.Common.{◌&&◌, Some, slice_get, map, cond, eq-eqb, ne_eqb, take, get_or, ◌%◌}
 use Rattle.std.specs.Prelude.{◌==◌, nat_lt, filter, flat_map, unwrap_or}
 use Rattle.std.specs.List.{list_all, range_with_len, items_where_true}
-use Rattle.std.proofs.lemmas.Bool.{cond-true, cond-false, and_from, and_parts, and_left, or_from, not_from_false, lt-ltb}
+use Rattle.std.proofs.lemmas.Bool.{cond-true, cond-false, and_from, and_parts, and_left, or_from}
+use Rattle.std.proofs.lemmas.Bool.{not_from_false, lt-ltb}
 use Rattle.std.proofs.lemmas.Option.{slice_get_within}
 use Rattle.mpi_group.specs.Groups.{is_member, is_distinct, are_ranks}
 use Rattle.mpi_group.proofs.MpiGroupLemmas.{is_distinct-filter}
@@ -18,75 +21,103 @@ use Rattle.run_state.proofs.BelowLemmas.{below_more, map_more}
 
 not_in_range : (a b n : ℕ) → a < b → is_member (range_with_len b n) a ≡ false
 not_in_range a b zero lt = refl
-not_in_range a b (suc n) lt = or_from (b == a) (is_member (range_with_len (b + 1) n) a) (ne_eqb b a (λ e. absurd (omega (arith, lt, e)))) (not_in_range a (b + 1) n (omega (arith, lt)))
+not_in_range a b (suc n) lt = or_from (b == a) (is_member (range_with_len (b + 1) n) a)
+    (ne_eqb b a (λ e. absurd (omega (arith, lt, e)))) (not_in_range a (b + 1) n (omega (arith, lt)))
 
 distinct_range : (a n : ℕ) → is_distinct (range_with_len a n) ≡ true
 distinct_range a zero = refl
-distinct_range a (suc n) = and_from (not (is_member (range_with_len (a + 1) n) a)) (is_distinct (range_with_len (a + 1) n)) (not_from_false (is_member (range_with_len (a + 1) n) a) (not_in_range a (a + 1) n (omega arith))) (distinct_range (a + 1) n)
+distinct_range a (suc n) = and_from (not (is_member (range_with_len (a + 1) n) a))
+    (is_distinct (range_with_len (a + 1) n)) (not_from_false
+    (is_member (range_with_len (a + 1) n) a) (not_in_range a (a + 1) n (omega arith)))
+    (distinct_range (a + 1) n)
 
 pub distinct_below : (n : ℕ) → is_distinct (below n) ≡ true
 distinct_below n = distinct_range 0 n
 
 ranks_in_range : (size a n : ℕ) → a + n ≤ size → are_ranks size (range_with_len a n) ≡ true
 ranks_in_range size a zero le = refl
-ranks_in_range size a (suc n) le = and_from (nat_lt a size) (are_ranks size (range_with_len (a + 1) n)) (lt-ltb a size (omega (arith, le))) (ranks_in_range size (a + 1) n (omega (arith, le)))
+ranks_in_range size a (suc n) le = and_from (nat_lt a size)
+    (are_ranks size (range_with_len (a + 1) n)) (lt-ltb a size (omega (arith, le)))
+    (ranks_in_range size (a + 1) n (omega (arith, le)))
 
 pub lowest_subgroup : (size n : ℕ) → n ≤ size → is_subgroup size (below n) ≡ true
-lowest_subgroup size n le = and_from (are_ranks size (below n)) (is_distinct (below n)) (ranks_in_range size 0 n (omega (arith, le))) (distinct_below n)
+lowest_subgroup size n le = and_from (are_ranks size (below n)) (is_distinct (below n))
+    (ranks_in_range size 0 n (omega (arith, le))) (distinct_below n)
 
-all_filter : {A : Type 0} (test keep : A → Bool) (xs : List A) → list_all test xs ≡ true → list_all test (filter keep xs) ≡ true
+all_filter : {A : Type 0} (test keep : A → Bool) (xs : List A) → list_all test xs ≡ true →
+    list_all test (filter keep xs) ≡ true
 all_filter test keep [] h = refl
 all_filter test keep (x ∷ xs) h =
     let parts = and_parts (test x) (list_all test xs) h in
     by (keep x) parts.0 (all_filter test keep xs parts.1)
   where
-    by : (b : Bool) → test x ≡ true → list_all test (filter keep xs) ≡ true → list_all test (cond b (x ∷ filter keep xs) (filter keep xs)) ≡ true
+    by : (b : Bool) → test x ≡ true → list_all test (filter keep xs) ≡ true →
+        list_all test (cond b (x ∷ filter keep xs) (filter keep xs)) ≡ true
     by true own rest = and_from (test x) (list_all test (filter keep xs)) own rest
     by false own rest = rest
 
-pub some_subgroup : (size n : ℕ) (keep : ℕ → Bool) → n ≤ size → is_subgroup size (filter keep (below n)) ≡ true
-some_subgroup size n keep le = and_from (are_ranks size (filter keep (below n))) (is_distinct (filter keep (below n)))
-    (all_filter (λ rank. nat_lt rank size) keep (below n) (ranks_in_range size 0 n (omega (arith, le))))
+pub some_subgroup : (size n : ℕ) (keep : ℕ → Bool) → n ≤ size →
+    is_subgroup size (filter keep (below n)) ≡ true
+some_subgroup size n keep le =
+    and_from (are_ranks size (filter keep (below n))) (is_distinct (filter keep (below n)))
+    (all_filter (λ rank. nat_lt rank size) keep (below n)
+    (ranks_in_range size 0 n (omega (arith, le))))
     (is_distinct-filter keep (below n) (distinct_below n))
 
-pub parts_subgroups : (g : Topology) (keep : List Bool) (size : ℕ) → volume g.dims ≤ size → list_all (is_subgroup size) (grid_parts g keep) ≡ true
+pub parts_subgroups : (g : Topology) (keep : List Bool) (size : ℕ) → volume g.dims ≤ size →
+    list_all (is_subgroup size) (grid_parts g keep) ≡ true
 parts_subgroups g keep size le = all (cells (dropped keep g.dims))
   where
-    all : (values : List (List ℕ)) → list_all (is_subgroup size) (map (λ apart. ranks_apart g keep apart) values) ≡ true
+    all : (values : List (List ℕ)) →
+        list_all (is_subgroup size) (map (λ apart. ranks_apart g keep apart) values) ≡ true
     all [] = refl
-    all (v ∷ values) = and_from (is_subgroup size (ranks_apart g keep v)) (list_all (is_subgroup size) (map (λ apart. ranks_apart g keep apart) values))
-        (some_subgroup size (volume g.dims) (λ r. same_list (dropped keep (coords g r)) v) le) (all values)
+    all (v ∷ values) = and_from (is_subgroup size (ranks_apart g keep v))
+        (list_all (is_subgroup size) (map (λ apart. ranks_apart g keep apart) values))
+        (some_subgroup size (volume g.dims) (λ r. same_list (dropped keep (coords g r)) v) le)
+        (all values)
 
 -- ## how many ranks a part has
 
 abbrev number : {A : Type 0} → (A → Bool) → List A → ℕ
 number test xs = length (filter test xs)
 
-number-append : {A : Type 0} (test : A → Bool) (xs ys : List A) → number test (xs ++ ys) ≡ number test xs + number test ys
+number-append : {A : Type 0} (test : A → Bool) (xs ys : List A) →
+    number test (xs ++ ys) ≡ number test xs + number test ys
 number-append test [] ys = (let z : number test ys ≡ 0 + number test ys = omega arith in z)
 number-append test (x ∷ xs) ys = by (test x) (number-append test xs ys)
   where
-    by : (b : Bool) → number test (xs ++ ys) ≡ number test xs + number test ys → length (cond b (x ∷ filter test (xs ++ ys)) (filter test (xs ++ ys))) ≡ length (cond b (x ∷ filter test xs) (filter test xs)) + number test ys
-    by true rest = (let z : suc (number test (xs ++ ys)) ≡ suc (number test xs) + number test ys = omega (arith, rest) in z)
+    by : (b : Bool) → number test (xs ++ ys) ≡ number test xs + number test ys →
+        length (cond b (x ∷ filter test (xs ++ ys)) (filter test (xs ++ ys)))
+        ≡ length (cond b (x ∷ filter test xs) (filter test xs)) + number test ys
+    by true rest = (let z : suc (number test (xs ++ ys)) ≡ suc (number test xs) + number test ys =
+        omega (arith, rest) in z)
     by false rest = rest
 
-number-map : {A B : Type 0} (test : B → Bool) (f : A → B) (xs : List A) → number test (map f xs) ≡ number (λ x. test (f x)) xs
+number-map : {A B : Type 0} (test : B → Bool) (f : A → B) (xs : List A) →
+    number test (map f xs) ≡ number (λ x. test (f x)) xs
 number-map test f [] = refl
 number-map test f (x ∷ xs) = by (test (f x)) (number-map test f xs)
   where
-    by : (b : Bool) → number test (map f xs) ≡ number (λ z. test (f z)) xs → length (cond b (f x ∷ filter test (map f xs)) (filter test (map f xs))) ≡ length (cond b (x ∷ filter (λ z. test (f z)) xs) (filter (λ z. test (f z)) xs))
+    by : (b : Bool) → number test (map f xs) ≡ number (λ z. test (f z)) xs →
+        length (cond b (f x ∷ filter test (map f xs)) (filter test (map f xs)))
+        ≡ length (cond b (x ∷ filter (λ z. test (f z)) xs) (filter (λ z. test (f z)) xs))
     by true rest = ap suc rest
     by false rest = rest
 
-number-same : {A : Type 0} (test other : A → Bool) (xs : List A) → ((x : A) → test x ≡ other x) → number test xs ≡ number other xs
+number-same : {A : Type 0} (test other : A → Bool) (xs : List A) → ((x : A) → test x ≡ other x) →
+    number test xs ≡ number other xs
 number-same {A} test other xs same = ap (λ (t : A → Bool). number t xs) (λ i x. same x i)
 
-number-none : {A : Type 0} (test : A → Bool) (xs : List A) → ((x : A) → test x ≡ false) → number test xs ≡ 0
+number-none : {A : Type 0} (test : A → Bool) (xs : List A) → ((x : A) → test x ≡ false) →
+    number test xs ≡ 0
 number-none test [] none = refl
-number-none test (x ∷ xs) none = ap length (cond-false (test x) (x ∷ filter test xs) (filter test xs) (none x)) ∙ number-none test xs none
+number-none test (x ∷ xs) none = ap length
+    (cond-false (test x) (x ∷ filter test xs) (filter test xs) (none x))
+    ∙ number-none test xs none
 
 -- rows with equally many
-number-rows : {A : Type 0} (test : A → Bool) (f : ℕ → List A) (v a n : ℕ) → ((c : ℕ) → number test (f c) ≡ v) → number test (flat_map f (range_with_len a n)) ≡ n * v
+number-rows : {A : Type 0} (test : A → Bool) (f : ℕ → List A) (v a n : ℕ) →
+    ((c : ℕ) → number test (f c) ≡ v) → number test (flat_map f (range_with_len a n)) ≡ n * v
 number-rows test f v a zero even = (let z : 0 ≡ 0 * v = omega arith in z)
 number-rows test f v a (suc n) even =
     number-append test (f a) (flat_map f (range_with_len (a + 1) n))
@@ -94,93 +125,138 @@ number-rows test f v a (suc n) even =
     ∙ (let z : v + n * v ≡ suc n * v = omega arith in z))
 
 -- rows of which one alone has any
-number-row : {A : Type 0} (test : A → Bool) (f : ℕ → List A) (v a n q : ℕ) → q < n → ((c : ℕ) → c ≢ a + q → number test (f c) ≡ 0) → number test (f (a + q)) ≡ v → number test (flat_map f (range_with_len a n)) ≡ v
+number-row : {A : Type 0} (test : A → Bool) (f : ℕ → List A) (v a n q : ℕ) → q < n →
+    ((c : ℕ) → c ≢ a + q → number test (f c) ≡ 0) → number test (f (a + q)) ≡ v →
+    number test (flat_map f (range_with_len a n)) ≡ v
 number-row test f v a zero q lt none own = absurd (omega (arith, lt))
 number-row test f v a (suc n) zero lt none own =
     number-append test (f a) (flat_map f (range_with_len (a + 1) n))
-    ∙ ((λ i. (ap (λ c. number test (f c)) (let z : a ≡ a + 0 = omega arith in z) ∙ own) i + nothing (a + 1) n (omega arith) i)
+    ∙ ((λ i. (ap (λ c. number test (f c)) (let z : a ≡ a + 0 = omega arith in z) ∙ own) i
+    + nothing (a + 1) n (omega arith) i)
     ∙ (let z : v + 0 ≡ v = omega arith in z))
   where
     nothing : (b m : ℕ) → a < b → number test (flat_map f (range_with_len b m)) ≡ 0
     nothing b zero lt = refl
     nothing b (suc m) lt =
         number-append test (f b) (flat_map f (range_with_len (b + 1) m))
-        ∙ ((λ i. none b (λ e. absurd (omega (arith, lt, e))) i + nothing (b + 1) m (omega (arith, lt)) i)
+        ∙ ((λ i.
+        none b (λ e. absurd (omega (arith, lt, e))) i + nothing (b + 1) m (omega (arith, lt)) i)
         ∙ (let z : 0 + 0 ≡ 0 = omega arith in z))
 number-row test f v a (suc n) (suc q) lt none own =
     number-append test (f a) (flat_map f (range_with_len (a + 1) n))
-    ∙ ((λ i. none a (λ e. absurd (omega (arith, e))) i + number-row test f v (a + 1) n q (omega (arith, lt)) (λ c ne. none c (λ e. ne (omega (arith, e)))) (ap (λ c. number test (f c)) (let z : (a + 1) + q ≡ a + suc q = omega arith in z) ∙ own) i)
+    ∙ ((λ i. none a (λ e. absurd (omega (arith, e))) i
+    + number-row test f v (a + 1) n q (omega (arith, lt))
+    (λ c ne. none c (λ e. ne (omega (arith, e))))
+    (ap (λ c. number test (f c)) (let z : (a + 1) + q ≡ a + suc q = omega arith in z) ∙ own)
+    i)
     ∙ (let z : 0 + v ≡ v = omega arith in z))
 
 -- the cells whose coordinates apart are these are as many as the cells of the dimensions kept
-number_apart : (keep : List Bool) (dims apart : List ℕ) → length keep ≡ length dims → IsCell (dropped keep dims) apart → number (λ cs. same_list (dropped keep cs) apart) (cells dims) ≡ volume (items_where_true keep dims)
+number_apart : (keep : List Bool) (dims apart : List ℕ) → length keep ≡ length dims →
+    IsCell (dropped keep dims) apart →
+    number (λ cs. same_list (dropped keep cs) apart) (cells dims)
+    ≡ volume (items_where_true keep dims)
 unfolding cells
 number_apart [] [] [] e is = refl
 number_apart [] [] (a ∷ bs) e is = absurd is
 number_apart [] (n ∷ dims) apart e is = absurd (omega (arith, e))
 number_apart (b ∷ keep) [] apart e is = absurd (omega (arith, e))
 number_apart (true ∷ keep) (n ∷ dims) apart e is =
-    number-rows (λ cs. same_list (dropped (true ∷ keep) cs) apart) (λ c. map (λ rest. c ∷ rest) (cells dims)) (volume (items_where_true keep dims)) 0 n
-    (λ c. number-map (λ cs. same_list (dropped (true ∷ keep) cs) apart) (λ rest. c ∷ rest) (cells dims) ∙ number_apart keep dims apart (omega (arith, e)) is)
+    number-rows (λ cs. same_list (dropped (true ∷ keep) cs) apart)
+    (λ c. map (λ rest. c ∷ rest) (cells dims)) (volume (items_where_true keep dims)) 0 n
+    (λ c. number-map (λ cs. same_list (dropped (true ∷ keep) cs) apart) (λ rest. c ∷ rest)
+    (cells dims) ∙ number_apart keep dims apart (omega (arith, e)) is)
 number_apart (false ∷ keep) (n ∷ dims) [] e is = absurd is
 number_apart (false ∷ keep) (n ∷ dims) (a ∷ bs) e is =
-    number-row (λ cs. same_list (dropped (false ∷ keep) cs) (a ∷ bs)) (λ c. map (λ rest. c ∷ rest) (cells dims)) (volume (items_where_true keep dims)) 0 n a is.0
-    (λ c ne. number-map (λ cs. same_list (dropped (false ∷ keep) cs) (a ∷ bs)) (λ rest. c ∷ rest) (cells dims)
-    ∙ number-none (λ rest. (c == a) && same_list (dropped keep rest) bs) (cells dims) (λ rest. and_left (c == a) (same_list (dropped keep rest) bs) (ne_eqb c a (λ z. ne (omega (arith, z))))))
-    (number-map (λ cs. same_list (dropped (false ∷ keep) cs) (a ∷ bs)) (λ rest. (0 + a) ∷ rest) (cells dims)
-    ∙ (number-same (λ rest. ((0 + a) == a) && same_list (dropped keep rest) bs) (λ rest. same_list (dropped keep rest) bs) (cells dims) (λ rest. ap (λ t. t && same_list (dropped keep rest) bs) (eq-eqb (0 + a) a (omega arith)))
+    number-row (λ cs. same_list (dropped (false ∷ keep) cs) (a ∷ bs))
+    (λ c. map (λ rest. c ∷ rest) (cells dims)) (volume (items_where_true keep dims)) 0 n a is.0
+    (λ c ne. number-map (λ cs. same_list (dropped (false ∷ keep) cs) (a ∷ bs)) (λ rest. c ∷ rest)
+    (cells dims)
+    ∙ number-none (λ rest. (c == a) && same_list (dropped keep rest) bs) (cells dims)
+    (λ rest. and_left (c == a) (same_list (dropped keep rest) bs)
+    (ne_eqb c a (λ z. ne (omega (arith, z))))))
+    (number-map (λ cs. same_list (dropped (false ∷ keep) cs) (a ∷ bs)) (λ rest. (0 + a) ∷ rest)
+    (cells dims)
+    ∙ (number-same (λ rest. ((0 + a) == a) && same_list (dropped keep rest) bs)
+    (λ rest. same_list (dropped keep rest) bs) (cells dims)
+    (λ rest. ap (λ t. t && same_list (dropped keep rest) bs) (eq-eqb (0 + a) a (omega arith)))
     ∙ number_apart keep dims bs (omega (arith, e)) is.1))
 
 -- those numbers whose item passes, of a list of items
-number_at : {A : Type 0} (test : A → Bool) (f : ℕ → A) (a : ℕ) (xs : List A) → ((k : ℕ) (x : A) → slice_get xs k ≡ Some x → f (a + k) ≡ x) → number (λ r. test (f r)) (range_with_len a (length xs)) ≡ number test xs
+number_at : {A : Type 0} (test : A → Bool) (f : ℕ → A) (a : ℕ) (xs : List A) →
+    ((k : ℕ) (x : A) → slice_get xs k ≡ Some x → f (a + k) ≡ x) →
+    number (λ r. test (f r)) (range_with_len a (length xs)) ≡ number test xs
 number_at test f a [] at = refl
 number_at {A} test f a (x ∷ xs) at =
     let own : f a ≡ x = ap f (let z : a ≡ a + 0 = omega arith in z) ∙ at 0 x refl in
-    by own (test (f a)) (test x) (ap test own) (number_at test f (a + 1) xs (λ k y e. ap f (let z : (a + 1) + k ≡ a + suc k = omega arith in z) ∙ at (suc k) y e))
+    by own (test (f a)) (test x) (ap test own) (number_at test f (a + 1) xs
+    (λ k y e. ap f (let z : (a + 1) + k ≡ a + suc k = omega arith in z) ∙ at (suc k) y e))
   where
-    by : f a ≡ x → (b d : Bool) → b ≡ d → number (λ r. test (f r)) (range_with_len (a + 1) (length xs)) ≡ number test xs →
-        length (cond b (a ∷ filter (λ r. test (f r)) (range_with_len (a + 1) (length xs))) (filter (λ r. test (f r)) (range_with_len (a + 1) (length xs)))) ≡ length (cond d (x ∷ filter test xs) (filter test xs))
+    by : f a ≡ x → (b d : Bool) → b ≡ d →
+        number (λ r. test (f r)) (range_with_len (a + 1) (length xs)) ≡ number test xs →
+        length (cond b (a ∷ filter (λ r. test (f r)) (range_with_len (a + 1) (length xs)))
+        (filter (λ r. test (f r)) (range_with_len (a + 1) (length xs))))
+        ≡ length (cond d (x ∷ filter test xs) (filter test xs))
     by own true true same rest = ap suc rest
     by own false false same rest = rest
     by own true false same rest = absurd (cc)
     by own false true same rest = absurd (cc)
 
-part_size : (g : Topology) (keep : List Bool) (apart : List ℕ) → length keep ≡ length g.dims → IsCell (dropped keep g.dims) apart → length (ranks_apart g keep apart) ≡ volume (items_where_true keep g.dims)
+part_size : (g : Topology) (keep : List Bool) (apart : List ℕ) → length keep ≡ length g.dims →
+    IsCell (dropped keep g.dims) apart →
+    length (ranks_apart g keep apart) ≡ volume (items_where_true keep g.dims)
 part_size g keep apart e is =
-    ap (λ n. number (λ r. same_list (dropped keep (coords g r)) apart) (below n)) (sym (length-cells g.dims))
-    ∙ (number_at (λ cs. same_list (dropped keep cs) apart) (coords g) 0 (cells g.dims) (λ k x at. ap (λ n. coords g n) (let z : 0 + k ≡ k = omega arith in z) ∙ ap (λ o. unwrap_or o []) at)
+    ap (λ n. number (λ r. same_list (dropped keep (coords g r)) apart) (below n))
+    (sym (length-cells g.dims))
+    ∙ (number_at (λ cs. same_list (dropped keep cs) apart) (coords g) 0 (cells g.dims)
+    (λ k x at. ap (λ n. coords g n) (let z : 0 + k ≡ k = omega arith in z)
+    ∙ ap (λ o. unwrap_or o []) at)
     ∙ number_apart keep g.dims apart e is)
 
 -- each value of the coordinates apart is a cell
-all_cells : (test : List ℕ → Bool) (dims : List ℕ) → ((cs : List ℕ) → IsCell dims cs → test cs ≡ true) → list_all test (cells dims) ≡ true
+all_cells : (test : List ℕ → Bool) (dims : List ℕ) →
+    ((cs : List ℕ) → IsCell dims cs → test cs ≡ true) → list_all test (cells dims) ≡ true
 all_cells test dims each = all (cells dims) (λ k cs at. each cs (cell k cs at))
   where
     cell : (k : ℕ) (cs : List ℕ) → slice_get (cells dims) k ≡ Some cs → IsCell dims cs
     cell k cs at =
-        let lt : k < volume dims = subst (λ n. k < n) (length-cells dims) (slice_get_within (cells dims) k cs at) in
+        let lt : k < volume dims = subst (λ n. k < n) (length-cells dims)
+        (slice_get_within (cells dims) k cs at) in
         let same : Some (digits dims k) ≡ Some cs = sym (cell_has_digits dims k lt) ∙ at in
         let is : digits dims k ≡ cs = cc in
         subst (IsCell dims) is (digits_in_range dims k lt)
 
-    all : (xs : List (List ℕ)) → ((k : ℕ) (cs : List ℕ) → slice_get xs k ≡ Some cs → test cs ≡ true) → list_all test xs ≡ true
+    all : (xs : List (List ℕ)) →
+        ((k : ℕ) (cs : List ℕ) → slice_get xs k ≡ Some cs → test cs ≡ true) →
+        list_all test xs ≡ true
     all [] h = refl
-    all (x ∷ xs) h = and_from (test x) (list_all test xs) (h 0 x refl) (all xs (λ k cs at. h (suc k) cs at))
+    all (x ∷ xs) h =
+        and_from (test x) (list_all test xs) (h 0 x refl) (all xs (λ k cs at. h (suc k) cs at))
 
-all_map : {A B : Type 0} (test : B → Bool) (f : A → B) (xs : List A) → list_all (λ x. test (f x)) xs ≡ true → list_all test (map f xs) ≡ true
+all_map : {A B : Type 0} (test : B → Bool) (f : A → B) (xs : List A) →
+    list_all (λ x. test (f x)) xs ≡ true → list_all test (map f xs) ≡ true
 all_map test f [] h = refl
-all_map test f (x ∷ xs) h = (let parts = and_parts (test (f x)) (list_all (λ z. test (f z)) xs) h in and_from (test (f x)) (list_all test (map f xs)) parts.0 (all_map test f xs parts.1))
+all_map test f (x ∷ xs) h = (let parts = and_parts (test (f x)) (list_all (λ z. test (f z)) xs) h in
+    and_from (test (f x)) (list_all test (map f xs)) parts.0 (all_map test f xs parts.1))
 
-pub part_sizes : (g : Topology) (keep : List Bool) → length keep ≡ length g.dims → list_all (λ list. length list == volume (kept keep g).dims) (grid_parts g keep) ≡ true
+pub part_sizes : (g : Topology) (keep : List Bool) → length keep ≡ length g.dims →
+    list_all (λ list. length list == volume (kept keep g).dims) (grid_parts g keep) ≡ true
 part_sizes g keep e =
-    all_map (λ list. length list == volume (kept keep g).dims) (λ apart. ranks_apart g keep apart) (cells (dropped keep g.dims))
-    (all_cells (λ apart. length (ranks_apart g keep apart) == volume (kept keep g).dims) (dropped keep g.dims) (λ cs is. eq-eqb (length (ranks_apart g keep cs)) (volume (kept keep g).dims) (part_size g keep cs e is)))
+    all_map (λ list. length list == volume (kept keep g).dims) (λ apart. ranks_apart g keep apart)
+    (cells (dropped keep g.dims))
+    (all_cells (λ apart. length (ranks_apart g keep apart) == volume (kept keep g).dims)
+    (dropped keep g.dims) (λ cs is. eq-eqb (length (ranks_apart g keep cs))
+    (volume (kept keep g).dims) (part_size g keep cs e is)))
 
 -- ## coordinates, one after another
 
-pub take_next : {A : Type 0} (xs : List A) (k : ℕ) (x : A) → slice_get xs k ≡ Some x → take (k + 1) xs ≡ take k xs ++ x ∷ []
+pub take_next : {A : Type 0} (xs : List A) (k : ℕ) (x : A) → slice_get xs k ≡ Some x →
+    take (k + 1) xs ≡ take k xs ++ x ∷ []
 take_next [] k x at = absurd (cc)
 take_next (y ∷ xs) zero x at = ap (λ z. z ∷ []) (let is : y ≡ x = cc in is)
-take_next (y ∷ xs) (suc k) x at = ap (λ n. take n (y ∷ xs)) (let z : suc k + 1 ≡ suc (k + 1) = omega arith in z) ∙ ap (λ zs. y ∷ zs) (take_next xs k x at)
+take_next (y ∷ xs) (suc k) x at = ap (λ n. take n (y ∷ xs))
+    (let z : suc k + 1 ≡ suc (k + 1) = omega arith in z)
+    ∙ ap (λ zs. y ∷ zs) (take_next xs k x at)
 
 take_whole : {A : Type 0} (xs : List A) (n : ℕ) → length xs ≤ n → take n xs ≡ xs
 take_whole [] zero h = refl
@@ -194,80 +270,123 @@ digits_length [] r = refl
 digits_length (n ∷ dims) r = ap suc (digits_length dims (r % volume dims))
 
 pub coords_length : (g : Topology) (r : ℕ) → r < volume g.dims → length (coords g r) ≡ length g.dims
-coords_length g r lt = ap (λ o. length (unwrap_or o [])) (cell_has_digits g.dims r lt) ∙ digits_length g.dims r
+coords_length g r lt =
+    ap (λ o. length (unwrap_or o [])) (cell_has_digits g.dims r lt) ∙ digits_length g.dims r
 
-pub all_coords : (g : Topology) (r n : ℕ) → r < volume g.dims → length g.dims ≤ n → take n (coords g r) ≡ coords g r
-all_coords g r n lt le = take_whole (coords g r) n (let e = coords_length g r lt in omega (arith, le, e))
+pub all_coords : (g : Topology) (r n : ℕ) → r < volume g.dims → length g.dims ≤ n →
+    take n (coords g r) ≡ coords g r
+all_coords g r n lt le =
+    take_whole (coords g r) n (let e = coords_length g r lt in omega (arith, le, e))
 
 -- ## those of the numbers below one that pass a test
 
-filter_append : {A : Type 0} (test : A → Bool) (xs ys : List A) → filter test (xs ++ ys) ≡ filter test xs ++ filter test ys
+filter_append : {A : Type 0} (test : A → Bool) (xs ys : List A) →
+    filter test (xs ++ ys) ≡ filter test xs ++ filter test ys
 filter_append test [] ys = refl
 filter_append test (x ∷ xs) ys = by (test x) (filter_append test xs ys)
   where
-    by : (b : Bool) → filter test (xs ++ ys) ≡ filter test xs ++ filter test ys → cond b (x ∷ filter test (xs ++ ys)) (filter test (xs ++ ys)) ≡ cond b (x ∷ filter test xs) (filter test xs) ++ filter test ys
+    by : (b : Bool) → filter test (xs ++ ys) ≡ filter test xs ++ filter test ys →
+        cond b (x ∷ filter test (xs ++ ys)) (filter test (xs ++ ys))
+        ≡ cond b (x ∷ filter test xs) (filter test xs) ++ filter test ys
     by true rest = ap (λ zs. x ∷ zs) rest
     by false rest = rest
 
-filter_takes : (test : ℕ → Bool) (n : ℕ) → test n ≡ true → filter test (below (n + 1)) ≡ filter test (below n) ++ n ∷ []
-filter_takes test n t = ap (λ xs. filter test xs) (below_more n) ∙ (filter_append test (below n) (n ∷ []) ∙ ap (λ xs. filter test (below n) ++ xs) (cond-true (test n) (n ∷ []) [] t))
+filter_takes : (test : ℕ → Bool) (n : ℕ) → test n ≡ true →
+    filter test (below (n + 1)) ≡ filter test (below n) ++ n ∷ []
+filter_takes test n t = ap (λ xs. filter test xs) (below_more n)
+    ∙ (filter_append test (below n) (n ∷ [])
+    ∙ ap (λ xs. filter test (below n) ++ xs) (cond-true (test n) (n ∷ []) [] t))
 
-filter_leaves : (test : ℕ → Bool) (n : ℕ) → test n ≡ false → filter test (below (n + 1)) ≡ filter test (below n)
-filter_leaves test n f = ap (λ xs. filter test xs) (below_more n) ∙ (filter_append test (below n) (n ∷ []) ∙ (ap (λ xs. filter test (below n) ++ xs) (cond-false (test n) (n ∷ []) [] f) ∙ append_nil (filter test (below n))))
+filter_leaves : (test : ℕ → Bool) (n : ℕ) → test n ≡ false →
+    filter test (below (n + 1)) ≡ filter test (below n)
+filter_leaves test n f = ap (λ xs. filter test xs) (below_more n)
+    ∙ (filter_append test (below n) (n ∷ [])
+    ∙ (ap (λ xs. filter test (below n) ++ xs) (cond-false (test n) (n ∷ []) [] f)
+    ∙ append_nil (filter test (below n))))
   where
     append_nil : {A : Type 0} (xs : List A) → xs ++ [] ≡ xs
     append_nil [] = refl
     append_nil (x ∷ xs) = ap (λ ys. x ∷ ys) (append_nil xs)
 
-filter_range : (test other : ℕ → Bool) (a n : ℕ) → ((k : ℕ) → k < n → test (a + k) ≡ other (a + k)) → filter test (range_with_len a n) ≡ filter other (range_with_len a n)
+filter_range : (test other : ℕ → Bool) (a n : ℕ) →
+    ((k : ℕ) → k < n → test (a + k) ≡ other (a + k)) →
+    filter test (range_with_len a n) ≡ filter other (range_with_len a n)
 filter_range test other a zero same = refl
 filter_range test other a (suc n) same =
-    by (test a) (other a) (subst (λ m. test m ≡ other m) (let z : a + 0 ≡ a = omega arith in z) (same 0 (omega arith)))
-    (filter_range test other (a + 1) n (λ k lt. subst (λ m. test m ≡ other m) (let z : a + suc k ≡ (a + 1) + k = omega arith in z) (same (suc k) (omega (arith, lt)))))
+    by (test a) (other a) (subst (λ m. test m ≡ other m) (let z : a + 0 ≡ a = omega arith in z)
+    (same 0 (omega arith)))
+    (filter_range test other (a + 1) n (λ k lt. subst (λ m. test m ≡ other m)
+    (let z : a + suc k ≡ (a + 1) + k = omega arith in z)
+    (same (suc k) (omega (arith, lt)))))
   where
-    by : (b d : Bool) → b ≡ d → filter test (range_with_len (a + 1) n) ≡ filter other (range_with_len (a + 1) n) → cond b (a ∷ filter test (range_with_len (a + 1) n)) (filter test (range_with_len (a + 1) n)) ≡ cond d (a ∷ filter other (range_with_len (a + 1) n)) (filter other (range_with_len (a + 1) n))
+    by : (b d : Bool) → b ≡ d →
+        filter test (range_with_len (a + 1) n) ≡ filter other (range_with_len (a + 1) n) →
+        cond b (a ∷ filter test (range_with_len (a + 1) n)) (filter test (range_with_len (a + 1) n))
+        ≡ cond d (a ∷ filter other (range_with_len (a + 1) n))
+        (filter other (range_with_len (a + 1) n))
     by true true e rest = ap (λ xs. a ∷ xs) rest
     by false false e rest = rest
     by true false e rest = absurd (cc)
     by false true e rest = absurd (cc)
 
-filter_alike : (test other : ℕ → Bool) (n : ℕ) → ((k : ℕ) → k < n → test k ≡ other k) → filter test (below n) ≡ filter other (below n)
-filter_alike test other n same = filter_range test other 0 n (λ k lt. subst (λ m. test m ≡ other m) (let z : k ≡ 0 + k = omega arith in z) (same k lt))
+filter_alike : (test other : ℕ → Bool) (n : ℕ) → ((k : ℕ) → k < n → test k ≡ other k) →
+    filter test (below n) ≡ filter other (below n)
+filter_alike test other n same = filter_range test other 0 n
+    (λ k lt. subst (λ m. test m ≡ other m) (let z : k ≡ 0 + k = omega arith in z) (same k lt))
 
 -- ## a table by numbers
 
-get_range : {A : Type 0} (f : ℕ → A) (a n k : ℕ) → k < n → slice_get (map f (range_with_len a n)) k ≡ Some (f (a + k))
+get_range : {A : Type 0} (f : ℕ → A) (a n k : ℕ) → k < n →
+    slice_get (map f (range_with_len a n)) k ≡ Some (f (a + k))
 get_range f a zero k lt = absurd (omega (arith, lt))
 get_range f a (suc n) zero lt = ap (λ m. Some (f m)) (let z : a ≡ a + 0 = omega arith in z)
-get_range f a (suc n) (suc k) lt = get_range f (a + 1) n k (omega (arith, lt)) ∙ ap (λ m. Some (f m)) (let z : (a + 1) + k ≡ a + suc k = omega arith in z)
+get_range f a (suc n) (suc k) lt = get_range f (a + 1) n k (omega (arith, lt))
+    ∙ ap (λ m. Some (f m)) (let z : (a + 1) + k ≡ a + suc k = omega arith in z)
 
 get_below : {A : Type 0} (f : ℕ → A) (n k : ℕ) → k < n → slice_get (map f (below n)) k ≡ Some (f k)
-get_below f n k lt = get_range f 0 n k lt ∙ ap (λ m. Some (f m)) (let z : 0 + k ≡ k = omega arith in z)
+get_below f n k lt =
+    get_range f 0 n k lt ∙ ap (λ m. Some (f m)) (let z : 0 + k ≡ k = omega arith in z)
 
 -- the ranks whose coordinates apart are these, by a table of the coordinates apart of all
-pub ranks_by_table : (g : Topology) (keep gone : List Bool) (each : List (List ℕ)) (size : ℕ) (value : List ℕ) → gone ≡ map not keep → size ≡ volume g.dims → each ≡ map (apart_of g gone) (below (volume g.dims)) →
-    filter (λ r. same_list (unwrap_or (slice_get each r) []) value) (below size) ≡ ranks_apart g keep value
+pub ranks_by_table :
+    (g : Topology) (keep gone : List Bool) (each : List (List ℕ)) (size : ℕ) (value : List ℕ) →
+    gone ≡ map not keep → size ≡ volume g.dims →
+    each ≡ map (apart_of g gone) (below (volume g.dims)) →
+    filter (λ r. same_list (unwrap_or (slice_get each r) []) value) (below size)
+    ≡ ranks_apart g keep value
 ranks_by_table g keep gone each size value others sized table =
     ap (λ n. filter (λ r. same_list (unwrap_or (slice_get each r) []) value) (below n)) sized
-    ∙ filter_alike (λ r. same_list (unwrap_or (slice_get each r) []) value) (λ r. same_list (dropped keep (coords g r)) value) (volume g.dims)
-    (λ r lt. ap (λ o. same_list (unwrap_or o []) value) (ap (λ xs. slice_get xs r) table ∙ get_below (apart_of g gone) (volume g.dims) r lt) ∙ ap (λ bs. same_list (items_where_true bs (coords g r)) value) others)
+    ∙ filter_alike (λ r. same_list (unwrap_or (slice_get each r) []) value)
+    (λ r. same_list (dropped keep (coords g r)) value) (volume g.dims)
+    (λ r lt. ap (λ o. same_list (unwrap_or o []) value)
+    (ap (λ xs. slice_get xs r) table ∙ get_below (apart_of g gone) (volume g.dims) r lt)
+    ∙ ap (λ bs. same_list (items_where_true bs (coords g r)) value) others)
 
 -- the list by its places
-places_range : {A : Type 0} (xs : List A) (f : ℕ → A) (a : ℕ) → ((k : ℕ) (x : A) → slice_get xs k ≡ Some x → f (a + k) ≡ x) → map f (range_with_len a (length xs)) ≡ xs
+places_range : {A : Type 0} (xs : List A) (f : ℕ → A) (a : ℕ) →
+    ((k : ℕ) (x : A) → slice_get xs k ≡ Some x → f (a + k) ≡ x) →
+    map f (range_with_len a (length xs)) ≡ xs
 places_range [] f a at = refl
 places_range (x ∷ xs) f a at =
-    λ i. (ap f (let z : a ≡ a + 0 = omega arith in z) ∙ at 0 x refl) i ∷ places_range xs f (a + 1) (λ k y e. ap f (let z : (a + 1) + k ≡ a + suc k = omega arith in z) ∙ at (suc k) y e) i
+    λ i. (ap f (let z : a ≡ a + 0 = omega arith in z) ∙ at 0 x refl) i
+    ∷ places_range xs f (a + 1)
+    (λ k y e. ap f (let z : (a + 1) + k ≡ a + suc k = omega arith in z) ∙ at (suc k) y e) i
 
-map_map : {A B C : Type 0} (f : B → C) (h : A → B) (xs : List A) → map f (map h xs) ≡ map (λ x. f (h x)) xs
+map_map : {A B C : Type 0} (f : B → C) (h : A → B) (xs : List A) →
+    map f (map h xs) ≡ map (λ x. f (h x)) xs
 map_map f h [] = refl
 map_map f h (x ∷ xs) = ap (λ rest. f (h x) ∷ rest) (map_map f h xs)
 
 -- the parts of a grid, by the ranks of the grid of the dimensions that are not kept
-pub parts_by_rank : (g : Topology) (keep : List Bool) (apart : Topology) → apart.dims ≡ dropped keep g.dims → map (λ r. ranks_apart g keep (coords apart r)) (below (volume apart.dims)) ≡ grid_parts g keep
+pub parts_by_rank : (g : Topology) (keep : List Bool) (apart : Topology) →
+    apart.dims ≡ dropped keep g.dims →
+    map (λ r. ranks_apart g keep (coords apart r)) (below (volume apart.dims)) ≡ grid_parts g keep
 parts_by_rank g keep apart dims =
     sym (map_map (ranks_apart g keep) (coords apart) (below (volume apart.dims)))
-    ∙ ap (λ values. map (ranks_apart g keep) values) (ap (λ n. map (coords apart) (below n)) (sym (length-cells apart.dims))
-    ∙ (places_range (cells apart.dims) (coords apart) 0 (λ k x at. ap (coords apart) (let z : 0 + k ≡ k = omega arith in z) ∙ ap (λ o. unwrap_or o []) at)
+    ∙ ap (λ values. map (ranks_apart g keep) values)
+    (ap (λ n. map (coords apart) (below n)) (sym (length-cells apart.dims))
+    ∙ (places_range (cells apart.dims) (coords apart) 0 (λ k x at.
+    ap (coords apart) (let z : 0 + k ≡ k = omega arith in z) ∙ ap (λ o. unwrap_or o []) at)
     ∙ ap cells dims))
 
 -- ## steps of loops
@@ -278,7 +397,8 @@ read_again [] k x lt = absurd (omega (arith, lt))
 read_again (y ∷ xs) zero x lt = refl
 read_again (y ∷ xs) (suc k) x lt = read_again xs k x (omega (arith, lt))
 
-pub read_map : {A B : Type 0} (f : A → B) (xs : List A) (k : ℕ) (x : A) → k < length xs → x ≡ get_or xs k x → slice_get (map f xs) k ≡ Some (f x)
+pub read_map : {A B : Type 0} (f : A → B) (xs : List A) (k : ℕ) (x : A) → k < length xs →
+    x ≡ get_or xs k x → slice_get (map f xs) k ≡ Some (f x)
 read_map f [] k x lt e = absurd (omega (arith, lt))
 read_map f (y ∷ xs) zero x lt e = ap (λ z. Some (f z)) (sym e)
 read_map f (y ∷ xs) (suc k) x lt e = read_map f xs k x (omega (arith, lt)) e
@@ -288,21 +408,27 @@ map_append f [] ys = refl
 map_append f (x ∷ xs) ys = ap (λ rest. f x ∷ rest) (map_append f xs ys)
 
 -- one more of a table by numbers
-pub table_next : {A B : Type 0} (f : A → B) (h : ℕ → B) (n : ℕ) (xs now : List A) (x : A) → map f xs ≡ map h (below n) → f x ≡ h n → now ≡ xs ++ x ∷ [] → map f now ≡ map h (below (n + 1))
+pub table_next : {A B : Type 0} (f : A → B) (h : ℕ → B) (n : ℕ) (xs now : List A) (x : A) →
+    map f xs ≡ map h (below n) → f x ≡ h n → now ≡ xs ++ x ∷ [] → map f now ≡ map h (below (n + 1))
 table_next f h n xs now x before same more =
     ap (λ ys. map f ys) more ∙ (map_append f xs (x ∷ [])
     ∙ ((λ i. before i ++ same i ∷ []) ∙ sym (map_more h n)))
 
 -- one more number that passes, and one that does not
-pub filter_next : (test : ℕ → Bool) (n : ℕ) (made now : List ℕ) → test n ≡ true → made ≡ filter test (below n) → now ≡ made ++ n ∷ [] → now ≡ filter test (below (n + 1))
-filter_next test n made now t before more = more ∙ (ap (λ xs. xs ++ n ∷ []) before ∙ sym (filter_takes test n t))
+pub filter_next : (test : ℕ → Bool) (n : ℕ) (made now : List ℕ) → test n ≡ true →
+    made ≡ filter test (below n) → now ≡ made ++ n ∷ [] → now ≡ filter test (below (n + 1))
+filter_next test n made now t before more =
+    more ∙ (ap (λ xs. xs ++ n ∷ []) before ∙ sym (filter_takes test n t))
 
-pub filter_past : (test : ℕ → Bool) (n : ℕ) (made now : List ℕ) → test n ≡ false → made ≡ filter test (below n) → now ≡ made → now ≡ filter test (below (n + 1))
+pub filter_past : (test : ℕ → Bool) (n : ℕ) (made now : List ℕ) → test n ≡ false →
+    made ≡ filter test (below n) → now ≡ made → now ≡ filter test (below (n + 1))
 filter_past test n made now f before same = same ∙ (before ∙ sym (filter_leaves test n f))
 
 -- a table of so many
-pub table_length : {A B : Type 0} (f : A → B) (h : ℕ → B) (n : ℕ) (xs : List A) → map f xs ≡ map h (below n) → length xs ≡ n
-table_length f h n xs e = sym (length_map f xs) ∙ (ap length e ∙ (length_map h (below n) ∙ range_length 0 n))
+pub table_length : {A B : Type 0} (f : A → B) (h : ℕ → B) (n : ℕ) (xs : List A) →
+    map f xs ≡ map h (below n) → length xs ≡ n
+table_length f h n xs e =
+    sym (length_map f xs) ∙ (ap length e ∙ (length_map h (below n) ∙ range_length 0 n))
   where
     range_length : (a m : ℕ) → length (range_with_len a m) ≡ m
     range_length a zero = refl
@@ -312,5 +438,6 @@ table_length f h n xs e = sym (length_map f xs) ∙ (ap length e ∙ (length_map
     length_map k [] = refl
     length_map k (y ∷ ys) = ap suc (length_map k ys)
 
-pub table_same : {A B : Type 0} (f : A → B) (h : ℕ → B) (n : ℕ) (xs ys : List A) → ys ≡ xs → map f xs ≡ map h (below n) → map f ys ≡ map h (below n)
+pub table_same : {A B : Type 0} (f : A → B) (h : ℕ → B) (n : ℕ) (xs ys : List A) → ys ≡ xs →
+    map f xs ≡ map h (below n) → map f ys ≡ map h (below n)
 table_same f h n xs ys same e = ap (λ zs. map f zs) same ∙ e

@@ -1,5 +1,9 @@
 -- The next post, by what is seen: what a refusal is, and what the post makes of its instance.
-use Rattle.std.proofs.Common.{◌≡◌, ◌≢◌, ℕ, zero, suc, ◌+◌, ◌<◌, ◌≤◌, List, [], ◌∷◌, ◌++◌, length, refl, sym, ap, ◌∙◌, subst, arith, Bool, true, false, not, ◌&&◌, ◌||◌, Option, Some, None, slice_get, map, set, replicate, is_some, take, drop, cond, ⊎_elim, ◌⊎◌, inl, inr, eqb, eqb-true, eq-eqb, ne_eqb, length-set}
+use Rattle.std.proofs.Common.{◌≡◌, ◌≢◌, ℕ, zero, suc, ◌+◌, ◌<◌, ◌≤◌, List, [], ◌∷◌, ◌++◌, length}
+use Rattle.std.proofs.Common.{refl, sym, ap, ◌∙◌, subst, arith, Bool, true, false, not, ◌&&◌, ◌||◌}
+use Rattle.std.proofs.Common.{Option, Some, None, slice_get, map, set, replicate, is_some, take}
+use Rattle.std.proofs.Common.{drop, cond, ⊎_elim, ◌⊎◌, inl, inr, eqb, eqb-true, eq-eqb, ne_eqb}
+use Rattle.std.proofs.Common.{length-set}
 use Rattle.std.specs.Prelude.{◌==◌, nat_lt, if◌then◌else◌, IsSome}
 use Rattle.std.specs.Option.{option_map}
 use Rattle.std.specs.List.{list_any, range_with_len}
@@ -22,35 +26,46 @@ use Rattle.coll_routes.specs.Faults.{shape_fault, stated_fault, stated_type}
 use Rattle.coll_routes.specs.Fit.{IsSized, IsSound, IsStatement, IsFit}
 use Rattle.coll_pending.specs.declared.arrival.Next.{Next}
 use Rattle.coll_pending.specs.declared.arrival.Next.TheVariants.{Opens, Joins, Fills, Mismatch}
-use Rattle.coll_pending.specs.Instances.{Instance, is_begun, is_full, is_full_but_for, next_by, roll_in}
+use Rattle.coll_pending.specs.Instances.{Instance, is_begun, is_full, is_full_but_for, next_by}
+use Rattle.coll_pending.specs.Instances.{roll_in}
 use Rattle.coll_pending.specs.Waiting.{PendingView, next, before}
 use Rattle.wall_verdict.specs.Star.{star}
 use Rattle.run_model.specs.Comms.{Comm, shape_of, processes, ask_by, ask_in, asks}
 use Rattle.run_model.specs.Posts.{Post, posts_on, kth_posts, signature_in}
-use Rattle.run_model.specs.Refusals.{refused_for, differs, mismatches, or_else, fault, fault_as as told_as, fault_on as told_on}
+use Rattle.run_model.specs.Refusals.{refused_for, differs, mismatches, or_else, fault}
+use Rattle.run_model.specs.Refusals.{fault_as as told_as, fault_on as told_on}
 use Rattle.run_model.specs.declared.refusal.Refusal.TheVariants as refusals
 use Rattle.run_model.specs.Contributions.{Contribution, posts_of, kth_parts}
-use Rattle.run_state.specs.Views.{PostStateView, IsPostState, communicator_of, place_as, place_on, place_of, is_mismatch, fault_after, fault_as, fault_on, fault_among, fault_of}
+use Rattle.run_state.specs.Views.{PostStateView, IsPostState, communicator_of, place_as, place_on}
+use Rattle.run_state.specs.Views.{place_of, is_mismatch, fault_after, fault_as, fault_on}
+use Rattle.run_state.specs.Views.{fault_among, fault_of}
 use Rattle.run_state.specs.Stands.{StandsForPosts, arrivals_in, arrivals_as, waiting_by, waiting_in}
-use Rattle.run_state.specs.Upcoming.{IsNext, roll_with, roll_next, is_last, stated_in as stated_among, ask_of, asks_with}
+use Rattle.run_state.specs.Upcoming.{IsNext, roll_with, roll_next, is_last}
+use Rattle.run_state.specs.Upcoming.{stated_in as stated_among, ask_of, asks_with}
 use Rattle.run_state.proofs.RowLemmas.{row-empty, not_full}
 use Rattle.run_state.proofs.AfterLemmas.{member_at, agreed, instance_by}
 
 -- ## refusals
 
-none_differs : (sig : Signature) (rows : List (Option Stated)) → is_begun rows ≡ false → list_any (differs sig) rows ≡ false
+none_differs : (sig : Signature) (rows : List (Option Stated)) → is_begun rows ≡ false →
+    list_any (differs sig) rows ≡ false
 none_differs sig [] f = refl
 none_differs sig (None ∷ rows) f = none_differs sig rows f
 none_differs sig (Some s ∷ rows) f = absurd (false≢true (sym f))
 
 -- statements of one signature differ from another all alike
-all_differ : (own sig : Signature) (rows : List (Option Stated)) → ((i : ℕ) (s : Stated) → stated_in (slice_get rows i) ≡ Some s → s.sig ≡ own) → is_begun rows ≡ true → list_any (differs sig) rows ≡ not (same_signature own sig)
+all_differ : (own sig : Signature) (rows : List (Option Stated)) →
+    ((i : ℕ) (s : Stated) → stated_in (slice_get rows i) ≡ Some s → s.sig ≡ own) →
+    is_begun rows ≡ true → list_any (differs sig) rows ≡ not (same_signature own sig)
 all_differ own sig [] same t = absurd (false≢true t)
 all_differ own sig (None ∷ rows) same t = all_differ own sig rows (λ i s e. same (suc i) s e) t
 all_differ own sig (Some s ∷ rows) same t =
     (λ i. not (same_signature (same 0 s refl i) sig) || list_any (differs sig) rows) ∙ ⊎_elim
-    (λ more. (λ i. not (same_signature own sig) || all_differ own sig rows (λ i r e. same (suc i) r e) more i) ∙ twice (not (same_signature own sig)))
-    (λ none. (λ i. not (same_signature own sig) || none_differs sig rows none i) ∙ once_more (not (same_signature own sig)))
+    (λ more. (λ i. not (same_signature own sig)
+    || all_differ own sig rows (λ i r e. same (suc i) r e) more i)
+    ∙ twice (not (same_signature own sig)))
+    (λ none. (λ i. not (same_signature own sig) || none_differs sig rows none i)
+    ∙ once_more (not (same_signature own sig)))
     (cases_Bool (is_begun rows))
   where
     twice : (b : Bool) → (b || b) ≡ b
@@ -61,21 +76,27 @@ all_differ own sig (Some s ∷ rows) same t =
     once_more true = refl
     once_more false = refl
 
-mismatch_by : (roll : Roll) (rank : ℕ) (sig : Signature) → is_mismatch (next_by (Some roll) rank sig) ≡ not (same_signature roll.sig sig)
+mismatch_by : (roll : Roll) (rank : ℕ) (sig : Signature) →
+    is_mismatch (next_by (Some roll) rank sig) ≡ not (same_signature roll.sig sig)
 mismatch_by roll rank sig = ⊎_elim
-    (λ t. ap is_mismatch (cond-true (same_signature roll.sig sig) (cond (is_full_but_for roll.stated rank) Fills Joins) Mismatch t) ∙ (none (is_full_but_for roll.stated rank) ∙ sym (ap not t)))
-    (λ f. ap is_mismatch (cond-false (same_signature roll.sig sig) (cond (is_full_but_for roll.stated rank) Fills Joins) Mismatch f) ∙ sym (ap not f))
+    (λ t. ap is_mismatch (cond-true (same_signature roll.sig sig)
+    (cond (is_full_but_for roll.stated rank) Fills Joins) Mismatch t)
+    ∙ (none (is_full_but_for roll.stated rank) ∙ sym (ap not t)))
+    (λ f. ap is_mismatch (cond-false (same_signature roll.sig sig)
+    (cond (is_full_but_for roll.stated rank) Fills Joins) Mismatch f) ∙ sym (ap not f))
     (cases_Bool (same_signature roll.sig sig))
   where
     none : (b : Bool) → is_mismatch (cond b Fills Joins) ≡ false
     none true = refl
     none false = refl
 
-module _ {X : Type 0} (wall : ChineseWall) (seen : PostStateView X) (past : List (Contribution X)) (stands : StandsForPosts wall seen past) (post_state : IsPostState seen) where
+module _ {X : Type 0} (wall : ChineseWall) (seen : PostStateView X) (past : List (Contribution X))
+    (stands : StandsForPosts wall seen past) (post_state : IsPostState seen) where
   abbrev posts : List Post
   posts = posts_of past
 
-  module _ (c p rank : ℕ) (comm : Comm) (there : slice_get seen.comms c ≡ Some comm) (at : rank_in comm.members p ≡ Some rank) where
+  module _ (c p rank : ℕ) (comm : Comm) (there : slice_get seen.comms c ≡ Some comm)
+      (at : rank_in comm.members p ≡ Some rank) where
     abbrev count : ℕ
     count = length (posts_on c p posts)
 
@@ -86,56 +107,77 @@ module _ {X : Type 0} (wall : ChineseWall) (seen : PostStateView X) (past : List
     own = member_at comm.members p rank at
 
     pub arrivals_is : seen.waiting.arrivals c rank ≡ count
-    arrivals_is = stands.arrivals c rank ∙ (ap (λ o. arrivals_in o c rank posts) there ∙ ap (λ o. arrivals_as o c posts) own)
+    arrivals_is = stands.arrivals c rank
+        ∙ (ap (λ o. arrivals_in o c rank posts) there ∙ ap (λ o. arrivals_as o c posts) own)
 
     waits_is : before seen.waiting c rank ≡ waiting_by comm rows (kth_parts comm c count past)
-    waits_is = ap (λ k. seen.waiting.pending c k) arrivals_is ∙ (stands.pending c count ∙ ap (λ o. waiting_in o c count past) there)
+    waits_is = ap (λ k. seen.waiting.pending c k) arrivals_is
+        ∙ (stands.pending c count ∙ ap (λ o. waiting_in o c count past) there)
 
-    mismatch_is : (sig : Signature) → is_mismatch (next seen.waiting c rank sig) ≡ mismatches sig rows
+    mismatch_is : (sig : Signature) →
+        is_mismatch (next seen.waiting c rank sig) ≡ mismatches sig rows
     mismatch_is sig = ⊎_elim begun bare (cases_Bool (is_begun rows))
       where
         some : is_full rows ≡ false
-        some = not_full rows rank (row-empty (λ m. posts_on c m posts) p comm.members rank count refl own)
+        some = not_full rows rank
+            (row-empty (λ m. posts_on c m posts) p comm.members rank count refl own)
 
-        begun : is_begun rows ≡ true → is_mismatch (next seen.waiting c rank sig) ≡ mismatches sig rows
+        begun : is_begun rows ≡ true →
+            is_mismatch (next seen.waiting c rank sig) ≡ mismatches sig rows
         begun t =
             let inst = instance_by comm rows (kth_parts comm c count past) in
             let both : (is_begun rows && not (is_full rows)) ≡ true = λ i. t i && not (some i) in
-            let now : before seen.waiting c rank ≡ Some inst = waits_is ∙ cond-true (is_begun rows && not (is_full rows)) (Some inst) None both in
+            let now : before seen.waiting c rank ≡ Some inst = waits_is ∙ cond-true
+            (is_begun rows && not (is_full rows)) (Some inst) None both in
             let is = post_state.sound c (seen.waiting.arrivals c rank) comm inst there now in
             ap (λ o. is_mismatch (next_by (roll_in o) rank sig)) now
             ∙ (mismatch_by inst.roll rank sig
-            ∙ sym (all_differ (signature_in rows) sig rows (λ i s e. (is.sound.statements i s e).sig) t))
+            ∙ sym (all_differ (signature_in rows) sig rows
+            (λ i s e. (is.sound.statements i s e).sig) t))
 
-        bare : is_begun rows ≡ false → is_mismatch (next seen.waiting c rank sig) ≡ mismatches sig rows
+        bare : is_begun rows ≡ false →
+            is_mismatch (next seen.waiting c rank sig) ≡ mismatches sig rows
         bare f =
             let inst = instance_by comm rows (kth_parts comm c count past) in
-            let both : (is_begun rows && not (is_full rows)) ≡ false = λ i. f i && not (is_full rows) in
-            let now : before seen.waiting c rank ≡ None = waits_is ∙ cond-false (is_begun rows && not (is_full rows)) (Some inst) None both in
+            let both : (is_begun rows && not (is_full rows)) ≡ false = λ i. f i && not
+            (is_full rows) in
+            let now : before seen.waiting c rank ≡ None = waits_is ∙ cond-false
+            (is_begun rows && not (is_full rows)) (Some inst) None both in
             ap (λ o. is_mismatch (next_by (roll_in o) rank sig)) now ∙ sym (none_differs sig rows f)
 
-  as_is : (c p : ℕ) (comm : Comm) (sig : Signature) (own : Own) (ty : ElemType) (given : ℕ) (o : Option ℕ) → slice_get seen.comms c ≡ Some comm → rank_in comm.members p ≡ o →
-      fault_as seen.waiting c comm o sig own ty given ≡ told_as comm o sig own ty given (kth_posts comm c (length (posts_on c p posts)) posts)
+  as_is : (c p : ℕ) (comm : Comm) (sig : Signature) (own : Own) (ty : ElemType) (given : ℕ)
+      (o : Option ℕ) → slice_get seen.comms c ≡ Some comm → rank_in comm.members p ≡ o →
+      fault_as seen.waiting c comm o sig own ty given
+      ≡ told_as comm o sig own ty given (kth_posts comm c (length (posts_on c p posts)) posts)
   as_is c p comm sig stated ty given None there at = refl
-  as_is c p comm sig stated ty given (Some rank) there at = λ i. or_else (option_map refused_for (shape_fault (shape_of comm) rank sig stated ty given)) (if mismatch_is c p rank comm there at sig i then Some refusals.Mismatch else None)
+  as_is c p comm sig stated ty given (Some rank) there at = λ i.
+      or_else (option_map refused_for (shape_fault (shape_of comm) rank sig stated ty given))
+      (if mismatch_is c p rank comm there at sig i then Some refusals.Mismatch else None)
 
-  on_is : (c p : ℕ) (sig : Signature) (own : Own) (ty : ElemType) (given : ℕ) (o : Option Comm) → slice_get seen.comms c ≡ o →
+  on_is : (c p : ℕ) (sig : Signature) (own : Own) (ty : ElemType) (given : ℕ) (o : Option Comm) →
+      slice_get seen.comms c ≡ o →
       fault_on seen.waiting p c o sig own ty given ≡ told_on posts p c o sig own ty given
   on_is c p sig stated ty given None there = refl
-  on_is c p sig stated ty given (Some comm) there = as_is c p comm sig stated ty given (rank_in comm.members p) there refl
+  on_is c p sig stated ty given (Some comm) there =
+      as_is c p comm sig stated ty given (rank_in comm.members p) there refl
 
   -- the refusal by what is seen is that of the posts
-  pub fault_is : (p c : ℕ) (sig : Signature) (own : Own) (ty : ElemType) (given : ℕ) → fault_of wall seen p c sig own ty given ≡ fault wall posts p c sig own ty given
+  pub fault_is : (p c : ℕ) (sig : Signature) (own : Own) (ty : ElemType) (given : ℕ) →
+      fault_of wall seen p c sig own ty given ≡ fault wall posts p c sig own ty given
   unfolding fault
   fault_is p c sig own ty given =
       ap (λ o. if nat_lt p (processes wall) then o else Some refusals.NoSuchProcess)
-      (on_is c p sig own ty given (slice_get seen.comms c) refl ∙ ap (λ table. told_on posts p c (slice_get table c) sig own ty given) stands.comms)
+      (on_is c p sig own ty given (slice_get seen.comms c) refl
+      ∙ ap (λ table. told_on posts p c (slice_get table c) sig own ty given) stands.comms)
 
   -- how often a member has posted
-  pub place_is_count : (p c : ℕ) (comm : Comm) → slice_get seen.comms c ≡ Some comm → IsSome (rank_in comm.members p) → place_of seen p c ≡ length (posts_on c p posts)
-  place_is_count p c comm there member = ap (λ o. place_on seen.waiting p c o) there ∙ by (rank_in comm.members p) refl member
+  pub place_is_count : (p c : ℕ) (comm : Comm) → slice_get seen.comms c ≡ Some comm →
+      IsSome (rank_in comm.members p) → place_of seen p c ≡ length (posts_on c p posts)
+  place_is_count p c comm there member =
+      ap (λ o. place_on seen.waiting p c o) there ∙ by (rank_in comm.members p) refl member
     where
-      by : (o : Option ℕ) → rank_in comm.members p ≡ o → IsSome o → place_as seen.waiting c o ≡ length (posts_on c p posts)
+      by : (o : Option ℕ) → rank_in comm.members p ≡ o → IsSome o →
+          place_as seen.waiting c o ≡ length (posts_on c p posts)
       by (Some rank) at some = arrivals_is c p rank comm there at
       by None at some = absurd (false≢true some)
 
@@ -144,8 +186,13 @@ module _ {X : Type 0} (wall : ChineseWall) (seen : PostStateView X) (past : List
   posts_few c m (x ∷ xs) =
       let less = posts_few c m xs in
       ⊎_elim
-      (λ t. subst (λ ys. length ys ≤ suc (length xs)) (sym (cond-true (x.comm == c && x.process == m) (posts_on c m xs ++ x.stated ∷ []) (posts_on c m xs) t)) (let one = Rattle.run_state.proofs.RowLemmas.length_snoc (posts_on c m xs) x.stated in omega (arith, less, one)))
-      (λ f. subst (λ ys. length ys ≤ suc (length xs)) (sym (cond-false (x.comm == c && x.process == m) (posts_on c m xs ++ x.stated ∷ []) (posts_on c m xs) f)) (omega (arith, less)))
+      (λ t. subst (λ ys. length ys ≤ suc (length xs)) (sym (cond-true
+      (x.comm == c && x.process == m) (posts_on c m xs ++ x.stated ∷ [])
+      (posts_on c m xs) t)) (let one = Rattle.run_state.proofs.RowLemmas.length_snoc
+      (posts_on c m xs) x.stated in omega (arith, less, one)))
+      (λ f. subst (λ ys. length ys ≤ suc (length xs)) (sym (cond-false
+      (x.comm == c && x.process == m) (posts_on c m xs ++ x.stated ∷ [])
+      (posts_on c m xs) f)) (omega (arith, less)))
       (cases_Bool (x.comm == c && x.process == m))
 
   length_posts : (xs : List (Contribution X)) → length (posts_of xs) ≡ length xs
@@ -155,7 +202,8 @@ module _ {X : Type 0} (wall : ChineseWall) (seen : PostStateView X) (past : List
   pub place_is_small : (p c : ℕ) → place_of seen p c ≤ length past
   place_is_small p c = on (slice_get seen.comms c) refl
     where
-      ranked : (comm : Comm) (o : Option ℕ) → slice_get seen.comms c ≡ Some comm → rank_in comm.members p ≡ o → place_as seen.waiting c o ≤ length past
+      ranked : (comm : Comm) (o : Option ℕ) → slice_get seen.comms c ≡ Some comm →
+          rank_in comm.members p ≡ o → place_as seen.waiting c o ≤ length past
       ranked comm None there at = omega arith
       ranked comm (Some rank) there at =
           let is = arrivals_is c p rank comm there at in
@@ -163,13 +211,15 @@ module _ {X : Type 0} (wall : ChineseWall) (seen : PostStateView X) (past : List
           let all = length_posts past in
           omega (arith, is, few, all)
 
-      on : (o : Option Comm) → slice_get seen.comms c ≡ o → place_on seen.waiting p c o ≤ length past
+      on : (o : Option Comm) → slice_get seen.comms c ≡ o →
+          place_on seen.waiting p c o ≤ length past
       on None there = omega arith
       on (Some comm) there = ranked comm (rank_in comm.members p) there refl
 
 -- ## a post that meets no refusal
 
-pub record IsAccepted {X : Type 0} (table : List Comm) (waiting : PendingView X) (p c : ℕ) (sig : Signature) (own : Own) (ty : ElemType) (given : ℕ) : Type 0 where
+pub record IsAccepted {X : Type 0} (table : List Comm) (waiting : PendingView X) (p c : ℕ)
+    (sig : Signature) (own : Own) (ty : ElemType) (given : ℕ) : Type 0 where
   pub comm : Comm
   pub rank : ℕ
   pub there : slice_get table c ≡ Some comm
@@ -177,62 +227,89 @@ pub record IsAccepted {X : Type 0} (table : List Comm) (waiting : PendingView X)
   pub faultless : shape_fault (shape_of comm) rank sig own ty given ≡ None
   pub agrees : next waiting c rank sig ≢ Mismatch
 
-no_fault_after : (fault : Option ShapeFault) (upcoming : Next) → fault_after fault upcoming ≡ None → (fault ≡ None) × (upcoming ≢ Mismatch)
+no_fault_after : (fault : Option ShapeFault) (upcoming : Next) → fault_after fault upcoming ≡ None →
+    (fault ≡ None) × (upcoming ≢ Mismatch)
 no_fault_after (Some f) upcoming e = absurd (cc)
 no_fault_after None Opens e = (refl, λ is. absurd (cc))
 no_fault_after None Joins e = (refl, λ is. absurd (cc))
 no_fault_after None Fills e = (refl, λ is. absurd (cc))
 no_fault_after None Mismatch e = absurd (cc)
 
-module _ {X : Type 0} (table : List Comm) (waiting : PendingView X) (p c : ℕ) (sig : Signature) (own : Own) (ty : ElemType) (given : ℕ) where
+module _ {X : Type 0} (table : List Comm) (waiting : PendingView X) (p c : ℕ) (sig : Signature)
+    (own : Own) (ty : ElemType) (given : ℕ) where
   abbrev Accepted : Type 0
   Accepted = IsAccepted table waiting p c sig own ty given
 
-  accepted_as : (comm : Comm) (o : Option ℕ) → slice_get table c ≡ Some comm → rank_in comm.members p ≡ o → fault_as waiting c comm o sig own ty given ≡ None → Accepted
+  accepted_as : (comm : Comm) (o : Option ℕ) → slice_get table c ≡ Some comm →
+      rank_in comm.members p ≡ o → fault_as waiting c comm o sig own ty given ≡ None → Accepted
   accepted_as comm None there at e = absurd (cc)
   accepted_as comm (Some rank) there at e =
-      let parts = no_fault_after (shape_fault (shape_of comm) rank sig own ty given) (next waiting c rank sig) e in
-      record { comm = comm; rank = rank; there = there; at = at; faultless = parts.0; agrees = parts.1 }
+      let parts = no_fault_after (shape_fault (shape_of comm) rank sig own ty given)
+      (next waiting c rank sig) e in
+      record {
+        comm = comm;
+        rank = rank;
+        there = there;
+        at = at;
+        faultless = parts.0;
+        agrees = parts.1;
+      }
 
-  accepted_on : (o : Option Comm) → slice_get table c ≡ o → fault_on waiting p c o sig own ty given ≡ None → Accepted
+  accepted_on : (o : Option Comm) → slice_get table c ≡ o →
+      fault_on waiting p c o sig own ty given ≡ None → Accepted
   accepted_on None there e = absurd (cc)
   accepted_on (Some comm) there e = accepted_as comm (rank_in comm.members p) there refl e
 
-  pub accepted : (number : ℕ) → fault_among number table waiting p c sig own ty given ≡ None → Accepted
+  pub accepted : (number : ℕ) → fault_among number table waiting p c sig own ty given ≡ None →
+      Accepted
   accepted number e = ⊎_elim
-      (λ t. accepted_on (slice_get table c) refl (sym (cond-true (nat_lt p number) (fault_on waiting p c (slice_get table c) sig own ty given) (Some refusals.NoSuchProcess) t) ∙ e))
-      (λ f. let bad = sym (cond-false (nat_lt p number) (fault_on waiting p c (slice_get table c) sig own ty given) (Some refusals.NoSuchProcess) f) ∙ e in absurd (cc))
+      (λ t. accepted_on (slice_get table c) refl (sym (cond-true (nat_lt p number)
+      (fault_on waiting p c (slice_get table c) sig own ty given)
+      (Some refusals.NoSuchProcess) t) ∙ e))
+      (λ f. let bad = sym (cond-false (nat_lt p number)
+      (fault_on waiting p c (slice_get table c) sig own ty given)
+      (Some refusals.NoSuchProcess) f) ∙ e in absurd (cc))
       (cases_Bool (nat_lt p number))
 
 -- what is barred has a label
-barred_labelled : (held : History) (p : ℕ) (label : Option Label) (barred : Bool) → barred ≡ not (star held p label) → barred ≡ true → IsSome label
+barred_labelled : (held : History) (p : ℕ) (label : Option Label) (barred : Bool) →
+    barred ≡ not (star held p label) → barred ≡ true → IsSome label
 barred_labelled held p None barred word t = absurd (false≢true (sym word ∙ t))
 barred_labelled held p (Some label) barred word t = refl
 
 some_same : {X : Type 0} (x y : X) → Some x ≡ Some y → x ≡ y
 some_same x y e = cc
 
-pub is_next : {X : Type 0} (seen : PostStateView X) (number p c rank : ℕ) (comm : Comm) (stated : Stated) → IsPostState seen →
-    fault_among number seen.comms seen.waiting p c stated.sig stated.own (stated_type stated.sig) stated.given ≡ None →
-    stated.barred ≡ not (star (has seen.accesses) p stated.label) → slice_get seen.comms c ≡ Some comm → rank_in comm.members p ≡ Some rank → IsSized (shape_of comm) →
+pub is_next : {X : Type 0} (seen : PostStateView X) (number p c rank : ℕ) (comm : Comm)
+    (stated : Stated) → IsPostState seen →
+    fault_among number seen.comms seen.waiting p c stated.sig stated.own (stated_type stated.sig)
+    stated.given ≡ None →
+    stated.barred ≡ not (star (has seen.accesses) p stated.label) →
+    slice_get seen.comms c ≡ Some comm → rank_in comm.members p ≡ Some rank →
+    IsSized (shape_of comm) →
     IsNext seen.waiting c rank comm stated
 is_next seen number p c rank comm stated post_state none word there at sized =
-    let a = accepted seen.comms seen.waiting p c stated.sig stated.own (stated_type stated.sig) stated.given number none in
+    let a = accepted seen.comms seen.waiting p c stated.sig stated.own (stated_type stated.sig)
+    stated.given number none in
     let same : a.comm ≡ comm = some_same a.comm comm (sym a.there ∙ there) in
-    let at_same : a.rank ≡ rank = some_same a.rank rank (sym a.at ∙ (ap (λ (k : Comm). rank_in k.members p) same ∙ at)) in
+    let at_same : a.rank ≡ rank = some_same a.rank rank
+    (sym a.at ∙ (ap (λ (k : Comm). rank_in k.members p) same ∙ at)) in
     record {
       member = slice_get_within comm.members rank p (member_at comm.members p rank at);
       sized = sized;
       known = post_state.known c comm there;
       sound = λ inst e. post_state.sound c (seen.waiting.arrivals c rank) comm inst there e;
       agrees = subst (λ r. next seen.waiting c r stated.sig ≢ Mismatch) at_same a.agrees;
-      faultless = (λ i. shape_fault (shape_of (sym same i)) (sym at_same i) stated.sig stated.own (stated_type stated.sig) stated.given) ∙ a.faultless;
+      faultless = (λ i. shape_fault (shape_of (sym same i)) (sym at_same i) stated.sig stated.own
+          (stated_type stated.sig) stated.given) ∙ a.faultless;
       labelled = barred_labelled (has seen.accesses) p stated.label stated.barred word;
     }
 
 -- ## its instance
 
-pub roll_is : {X : Type 0} (comm : Comm) (rank : ℕ) (s : Stated) (part : X) (waits : Option (Instance X)) → (Rattle.coll_pending.specs.Instances.joined (communicator_of comm) rank s part waits).roll ≡ roll_with comm rank s (roll_in waits)
+pub roll_is : {X : Type 0} (comm : Comm) (rank : ℕ) (s : Stated) (part : X)
+    (waits : Option (Instance X)) → (Rattle.coll_pending.specs.Instances.joined
+    (communicator_of comm) rank s part waits).roll ≡ roll_with comm rank s (roll_in waits)
 roll_is comm rank s part (Some w) = refl
 roll_is comm rank s part None = refl
 
@@ -240,7 +317,8 @@ and_assoc : (a b c : Bool) → (a && (b && c)) ≡ ((a && b) && c)
 and_assoc true b c = refl
 and_assoc false b c = refl
 
-pub full_set : {A : Type 0} (rows : List (Option A)) (r : ℕ) (a : A) → r < length rows → is_full (set rows r (Some a)) ≡ is_full_but_for rows r
+pub full_set : {A : Type 0} (rows : List (Option A)) (r : ℕ) (a : A) → r < length rows →
+    is_full (set rows r (Some a)) ≡ is_full_but_for rows r
 full_set [] r a lt = absurd (omega (arith, lt))
 full_set (row ∷ rows) zero a lt = refl
 full_set (row ∷ rows) (suc r) a lt =
@@ -257,41 +335,59 @@ full_none (suc zero) (suc r) s lt = absurd (omega (arith, lt))
 full_none (suc (suc n)) (suc r) s lt = sym (ne_eqb (suc (suc n)) 1 (λ e. absurd (omega (arith, e))))
 
 -- the post is the last one exactly where the arrival says so
-pub last_is : {X : Type 0} (waiting : PendingView X) (c rank : ℕ) (comm : Comm) (s : Stated) → IsNext waiting c rank comm s → is_full (roll_next waiting c rank comm s).stated ≡ is_last (next waiting c rank s.sig) (length comm.members)
+pub last_is : {X : Type 0} (waiting : PendingView X) (c rank : ℕ) (comm : Comm) (s : Stated) →
+    IsNext waiting c rank comm s →
+    is_full (roll_next waiting c rank comm s).stated
+    ≡ is_last (next waiting c rank s.sig) (length comm.members)
 last_is {X} waiting c rank comm s is = by (before waiting c rank) refl is.agrees
   where
-    by : (w : Option (Instance X)) → before waiting c rank ≡ w → next_by (roll_in w) rank s.sig ≢ Mismatch → is_full (roll_with comm rank s (roll_in w)).stated ≡ is_last (next_by (roll_in w) rank s.sig) (length comm.members)
+    by : (w : Option (Instance X)) → before waiting c rank ≡ w →
+        next_by (roll_in w) rank s.sig ≢ Mismatch →
+        is_full (roll_with comm rank s (roll_in w)).stated
+        ≡ is_last (next_by (roll_in w) rank s.sig) (length comm.members)
     by None e agrees = full_none (length comm.members) rank s is.member
     by (Some w) e agrees =
         let of = is.sound w e in
-        let rows : length w.roll.stated ≡ length comm.members = of.sound.rows ∙ ap (λ (shape : Rattle.coll_routes.specs.declared.roll.Shape.Shape). shape.size) of.shape in
-        let same : same_signature w.roll.sig s.sig ≡ true = ⊎_elim (λ t. t) (λ f. absurd (agrees (cond-false (same_signature w.roll.sig s.sig) (cond (is_full_but_for w.roll.stated rank) Fills Joins) Mismatch f))) (cases_Bool (same_signature w.roll.sig s.sig)) in
+        let rows : length w.roll.stated ≡ length comm.members = of.sound.rows ∙ ap
+        (λ (shape : Rattle.coll_routes.specs.declared.roll.Shape.Shape). shape.size) of.shape in
+        let same : same_signature w.roll.sig s.sig ≡ true = ⊎_elim (λ t. t)
+        (λ f. absurd (agrees (cond-false (same_signature w.roll.sig s.sig)
+        (cond (is_full_but_for w.roll.stated rank) Fills Joins) Mismatch f)))
+        (cases_Bool (same_signature w.roll.sig s.sig)) in
         full_set w.roll.stated rank s (subst (λ n. rank < n) (sym rows) is.member)
         ∙ (said (is_full_but_for w.roll.stated rank)
-        ∙ sym (ap (λ n. is_last n (length comm.members)) (cond-true (same_signature w.roll.sig s.sig) (cond (is_full_but_for w.roll.stated rank) Fills Joins) Mismatch same)))
+        ∙ sym (ap (λ n. is_last n (length comm.members)) (cond-true
+        (same_signature w.roll.sig s.sig)
+        (cond (is_full_but_for w.roll.stated rank) Fills Joins) Mismatch same)))
       where
         said : (b : Bool) → b ≡ is_last (cond b Fills Joins) (length comm.members)
         said true = refl
         said false = refl
 
-pub sig_is : {X : Type 0} (waiting : PendingView X) (c rank : ℕ) (comm : Comm) (s : Stated) → IsNext waiting c rank comm s → (roll_next waiting c rank comm s).sig ≡ s.sig
+pub sig_is : {X : Type 0} (waiting : PendingView X) (c rank : ℕ) (comm : Comm) (s : Stated) →
+    IsNext waiting c rank comm s → (roll_next waiting c rank comm s).sig ≡ s.sig
 sig_is {X} waiting c rank comm s is = by (before waiting c rank) is.agrees
   where
-    by : (w : Option (Instance X)) → next_by (roll_in w) rank s.sig ≢ Mismatch → (roll_with comm rank s (roll_in w)).sig ≡ s.sig
+    by : (w : Option (Instance X)) → next_by (roll_in w) rank s.sig ≢ Mismatch →
+        (roll_with comm rank s (roll_in w)).sig ≡ s.sig
     by None agrees = refl
     by (Some w) agrees = agreed w.roll rank s.sig agrees
 
-pub members_is : {X : Type 0} (waiting : PendingView X) (c rank : ℕ) (comm : Comm) (s : Stated) → IsNext waiting c rank comm s → (roll_next waiting c rank comm s).members ≡ comm.members
+pub members_is : {X : Type 0} (waiting : PendingView X) (c rank : ℕ) (comm : Comm) (s : Stated) →
+    IsNext waiting c rank comm s → (roll_next waiting c rank comm s).members ≡ comm.members
 members_is {X} waiting c rank comm s is = by (before waiting c rank) refl
   where
-    by : (w : Option (Instance X)) → before waiting c rank ≡ w → (roll_with comm rank s (roll_in w)).members ≡ comm.members
+    by : (w : Option (Instance X)) → before waiting c rank ≡ w →
+        (roll_with comm rank s (roll_in w)).members ≡ comm.members
     by None e = refl
     by (Some w) e = (is.sound w e).members
 
-pub shape_is : {X : Type 0} (waiting : PendingView X) (c rank : ℕ) (comm : Comm) (s : Stated) → IsNext waiting c rank comm s → (roll_next waiting c rank comm s).shape ≡ shape_of comm
+pub shape_is : {X : Type 0} (waiting : PendingView X) (c rank : ℕ) (comm : Comm) (s : Stated) →
+    IsNext waiting c rank comm s → (roll_next waiting c rank comm s).shape ≡ shape_of comm
 shape_is {X} waiting c rank comm s is = by (before waiting c rank) refl
   where
-    by : (w : Option (Instance X)) → before waiting c rank ≡ w → (roll_with comm rank s (roll_in w)).shape ≡ shape_of comm
+    by : (w : Option (Instance X)) → before waiting c rank ≡ w →
+        (roll_with comm rank s (roll_in w)).shape ≡ shape_of comm
     by None e = refl
     by (Some w) e = (is.sound w e).shape
 
@@ -299,90 +395,138 @@ length_none : {A : Type 0} (n : ℕ) (x : A) → length (replicate n x) ≡ n
 length_none zero x = refl
 length_none (suc n) x = ap suc (length_none n x)
 
-pub rows_is : {X : Type 0} (waiting : PendingView X) (c rank : ℕ) (comm : Comm) (s : Stated) → IsNext waiting c rank comm s → length (roll_next waiting c rank comm s).stated ≡ length comm.members
+pub rows_is : {X : Type 0} (waiting : PendingView X) (c rank : ℕ) (comm : Comm) (s : Stated) →
+    IsNext waiting c rank comm s →
+    length (roll_next waiting c rank comm s).stated ≡ length comm.members
 rows_is {X} waiting c rank comm s is = by (before waiting c rank) refl
   where
     nothing : Option Stated
     nothing = None
 
-    by : (w : Option (Instance X)) → before waiting c rank ≡ w → length (roll_with comm rank s (roll_in w)).stated ≡ length comm.members
-    by None e = length-set (replicate (length comm.members) nothing) rank (Some s) ∙ length_none (length comm.members) nothing
-    by (Some w) e = length-set w.roll.stated rank (Some s) ∙ ((is.sound w e).sound.rows ∙ ap (λ (shape : Rattle.coll_routes.specs.declared.roll.Shape.Shape). shape.size) (is.sound w e).shape)
+    by : (w : Option (Instance X)) → before waiting c rank ≡ w →
+        length (roll_with comm rank s (roll_in w)).stated ≡ length comm.members
+    by None e = length-set (replicate (length comm.members) nothing) rank (Some s)
+        ∙ length_none (length comm.members) nothing
+    by (Some w) e = length-set w.roll.stated rank (Some s)
+        ∙ ((is.sound w e).sound.rows
+        ∙ ap (λ (shape : Rattle.coll_routes.specs.declared.roll.Shape.Shape). shape.size)
+        (is.sound w e).shape)
 
 -- a row after one was set is that one, or as it was
-stated_set : (rows : List (Option Stated)) (r i : ℕ) (s t : Stated) → stated_in (slice_get (set rows r (Some s)) i) ≡ Some t → ((i ≡ r) × (s ≡ t)) ⊎ (stated_in (slice_get rows i) ≡ Some t)
+stated_set : (rows : List (Option Stated)) (r i : ℕ) (s t : Stated) →
+    stated_in (slice_get (set rows r (Some s)) i) ≡ Some t →
+    ((i ≡ r) × (s ≡ t)) ⊎ (stated_in (slice_get rows i) ≡ Some t)
 stated_set [] zero i s t e = inr e
 stated_set [] (suc r) i s t e = inr e
 stated_set (row ∷ rest) zero zero s t e = inl (refl, some_same s t e)
 stated_set (row ∷ rest) zero (suc i) s t e = inr e
 stated_set (row ∷ rest) (suc r) zero s t e = inr e
-stated_set (row ∷ rest) (suc r) (suc i) s t e = ⊎_elim (λ (own : (i ≡ r) × (s ≡ t)). inl (ap suc own.0, own.1)) (λ old. inr old) (stated_set rest r i s t e)
+stated_set (row ∷ rest) (suc r) (suc i) s t e = ⊎_elim
+    (λ (own : (i ≡ r) × (s ≡ t)). inl (ap suc own.0, own.1)) (λ old. inr old)
+    (stated_set rest r i s t e)
 
 stated_none : (n i : ℕ) (t : Stated) → stated_in (slice_get (replicate n None) i) ≡ Some t → ⊥
 stated_none zero i t e = absurd (cc)
 stated_none (suc n) zero t e = absurd (cc)
 stated_none (suc n) (suc i) t e = stated_none n i t e
 
-pub sound_next : {X : Type 0} (waiting : PendingView X) (c rank : ℕ) (comm : Comm) (s : Stated) → IsNext waiting c rank comm s → IsSound (roll_next waiting c rank comm s)
+pub sound_next : {X : Type 0} (waiting : PendingView X) (c rank : ℕ) (comm : Comm) (s : Stated) →
+    IsNext waiting c rank comm s → IsSound (roll_next waiting c rank comm s)
 sound_next {X} waiting c rank comm s is = record {
-  members = ap length (members_is waiting c rank comm s is) ∙ sym (ap (λ (shape : Rattle.coll_routes.specs.declared.roll.Shape.Shape). shape.size) (shape_is waiting c rank comm s is));
+  members = ap length (members_is waiting c rank comm s is)
+      ∙ sym (ap (λ (shape : Rattle.coll_routes.specs.declared.roll.Shape.Shape). shape.size)
+      (shape_is waiting c rank comm s is));
   grid = subst IsSized (sym (shape_is waiting c rank comm s is)) is.sized;
-  rows = rows_is waiting c rank comm s is ∙ sym (ap (λ (shape : Rattle.coll_routes.specs.declared.roll.Shape.Shape). shape.size) (shape_is waiting c rank comm s is));
+  rows = rows_is waiting c rank comm s is
+      ∙ sym (ap (λ (shape : Rattle.coll_routes.specs.declared.roll.Shape.Shape). shape.size)
+      (shape_is waiting c rank comm s is));
   statements = λ i t e. by (before waiting c rank) refl is.agrees i t e;
 }
   where
-    by : (w : Option (Instance X)) → before waiting c rank ≡ w → next_by (roll_in w) rank s.sig ≢ Mismatch → (i : ℕ) (t : Stated) → stated_by (roll_with comm rank s (roll_in w)) i ≡ Some t → IsStatement (roll_with comm rank s (roll_in w)) i t
+    by : (w : Option (Instance X)) → before waiting c rank ≡ w →
+        next_by (roll_in w) rank s.sig ≢ Mismatch → (i : ℕ) (t : Stated) →
+        stated_by (roll_with comm rank s (roll_in w)) i ≡ Some t →
+        IsStatement (roll_with comm rank s (roll_in w)) i t
     by None w-is agrees i t e = ⊎_elim
-        (λ (own : (i ≡ rank) × (s ≡ t)). subst (λ z. IsStatement (roll_with comm rank s None) i z) own.1 (record { sig = refl; fault = ap (λ r. stated_fault (shape_of comm) r s) own.0 ∙ is.faultless; labelled = is.labelled }))
+        (λ (own : (i ≡ rank) × (s ≡ t)). subst (λ z. IsStatement (roll_with comm rank s None) i z)
+        own.1 (record {
+          sig = refl;
+          fault = ap (λ r. stated_fault (shape_of comm) r s) own.0 ∙ is.faultless;
+          labelled = is.labelled;
+        }))
         (λ old. absurd (stated_none (length comm.members) i t old))
         (stated_set (replicate (length comm.members) None) rank i s t e)
     by (Some w) w-is agrees i t e =
         let of = is.sound w w-is in
         ⊎_elim
-        (λ (own : (i ≡ rank) × (s ≡ t)). subst (λ z. IsStatement (roll_with comm rank s (Some w.roll)) i z) own.1 (record { sig = sym (agreed w.roll rank s.sig agrees); fault = (λ j. stated_fault (of.shape j) (own.0 j) s) ∙ is.faultless; labelled = is.labelled }))
-        (λ old. let was = of.sound.statements i t old in record { sig = was.sig; fault = was.fault; labelled = was.labelled })
+        (λ (own : (i ≡ rank) × (s ≡ t)). subst
+        (λ z. IsStatement (roll_with comm rank s (Some w.roll)) i z) own.1
+        (record {
+          sig = sym (agreed w.roll rank s.sig agrees);
+          fault = (λ j. stated_fault (of.shape j) (own.0 j) s) ∙ is.faultless;
+          labelled = is.labelled;
+        }))
+        (λ old. let was = of.sound.statements i t old in
+        record { sig = was.sig; fault = was.fault; labelled = was.labelled })
         (stated_set w.roll.stated rank i s t e)
 
-full_at : (rows : List (Option Stated)) (i : ℕ) → is_full rows ≡ true → i < length rows → IsSome (stated_in (slice_get rows i))
+full_at : (rows : List (Option Stated)) (i : ℕ) → is_full rows ≡ true → i < length rows →
+    IsSome (stated_in (slice_get rows i))
 full_at [] i all lt = absurd (omega (arith, lt))
 full_at (None ∷ rows) zero all lt = absurd (false≢true all)
 full_at (Some s ∷ rows) zero all lt = refl
-full_at (row ∷ rows) (suc i) all lt = full_at rows i (and_parts (is_some row) (is_full rows) all).1 (omega (arith, lt))
+full_at (row ∷ rows) (suc i) all lt =
+    full_at rows i (and_parts (is_some row) (is_full rows) all).1 (omega (arith, lt))
 
-pub fit_next : {X : Type 0} (waiting : PendingView X) (c rank : ℕ) (comm : Comm) (s : Stated) → IsNext waiting c rank comm s → is_full (roll_next waiting c rank comm s).stated ≡ true → IsFit (roll_next waiting c rank comm s)
+pub fit_next : {X : Type 0} (waiting : PendingView X) (c rank : ℕ) (comm : Comm) (s : Stated) →
+    IsNext waiting c rank comm s → is_full (roll_next waiting c rank comm s).stated ≡ true →
+    IsFit (roll_next waiting c rank comm s)
 fit_next waiting c rank comm s is all =
     let sound = sound_next waiting c rank comm s is in
     record {
       sound = sound;
-      full = λ i lt. full_at (roll_next waiting c rank comm s).stated i all (subst (λ n. i < n) (sym sound.rows) lt);
+      full = λ i lt. full_at (roll_next waiting c rank comm s).stated i all
+          (subst (λ n. i < n) (sym sound.rows) lt);
     }
 
 -- ## what the members ask
 
-map_range : {A : Type 0} (f : ℕ → A) (a n : ℕ) (xs : List A) → length xs ≡ n → ((k : ℕ) → k < n → slice_get xs k ≡ Some (f (a + k))) → map f (range_with_len a n) ≡ xs
+map_range : {A : Type 0} (f : ℕ → A) (a n : ℕ) (xs : List A) → length xs ≡ n →
+    ((k : ℕ) → k < n → slice_get xs k ≡ Some (f (a + k))) → map f (range_with_len a n) ≡ xs
 map_range f a zero [] e at = refl
 map_range f a zero (x ∷ xs) e at = absurd (omega (arith, e))
 map_range f a (suc n) [] e at = absurd (omega (arith, e))
 map_range f a (suc n) (x ∷ xs) e at =
     let here : a + 0 ≡ a = omega arith in
-    let first : f a ≡ x = sym (some_same x (f a) (at 0 (omega arith) ∙ ap (λ m. Some (f m)) here)) in
-    let rest = map_range f (a + 1) n xs (omega (arith, e)) (λ k lt. at (suc k) (omega (arith, lt)) ∙ ap (λ m. Some (f m)) (let next : a + suc k ≡ (a + 1) + k = omega arith in next)) in
+    let first : f a ≡ x = sym (some_same x (f a) (at 0 (omega arith) ∙ ap (λ m. Some (f m)) here))
+    in
+    let rest = map_range f (a + 1) n xs (omega (arith, e)) (λ k lt.
+    at (suc k) (omega (arith, lt))
+    ∙ ap (λ m. Some (f m)) (let next : a + suc k ≡ (a + 1) + k = omega arith in next)) in
     λ i. first i ∷ rest i
 
-map_below : {A : Type 0} (f : ℕ → A) (n : ℕ) (xs : List A) → length xs ≡ n → ((k : ℕ) → k < n → slice_get xs k ≡ Some (f k)) → map f (below n) ≡ xs
-map_below f n xs e at = map_range f 0 n xs e (λ k lt. at k lt ∙ ap (λ m. Some (f m)) (let here : k ≡ 0 + k = omega arith in here))
+map_below : {A : Type 0} (f : ℕ → A) (n : ℕ) (xs : List A) → length xs ≡ n →
+    ((k : ℕ) → k < n → slice_get xs k ≡ Some (f k)) → map f (below n) ≡ xs
+map_below f n xs e at = map_range f 0 n xs e
+    (λ k lt. at k lt ∙ ap (λ m. Some (f m)) (let here : k ≡ 0 + k = omega arith in here))
 
-get-set : {A : Type 0} (xs : List A) (r k : ℕ) (x : A) → k < length xs → slice_get (set xs r x) k ≡ cond (k == r) (Some x) (slice_get xs k)
+get-set : {A : Type 0} (xs : List A) (r k : ℕ) (x : A) → k < length xs →
+    slice_get (set xs r x) k ≡ cond (k == r) (Some x) (slice_get xs k)
 get-set [] r k x lt = absurd (omega (arith, lt))
 get-set (y ∷ xs) zero zero x lt = refl
-get-set (y ∷ xs) zero (suc k) x lt = sym (cond-false (suc k == 0) (Some x) (slice_get (y ∷ xs) (suc k)) (ne_eqb (suc k) 0 (λ e. absurd (omega (arith, e)))))
-get-set (y ∷ xs) (suc r) zero x lt = sym (cond-false (0 == suc r) (Some x) (Some y) (ne_eqb 0 (suc r) (λ e. absurd (omega (arith, e)))))
-get-set (y ∷ xs) (suc r) (suc k) x lt = get-set xs r k x (omega (arith, lt)) ∙ ap (λ b. cond b (Some x) (slice_get xs k)) (shift k r)
+get-set (y ∷ xs) zero (suc k) x lt = sym (cond-false (suc k == 0) (Some x)
+    (slice_get (y ∷ xs) (suc k)) (ne_eqb (suc k) 0 (λ e. absurd (omega (arith, e)))))
+get-set (y ∷ xs) (suc r) zero x lt = sym
+    (cond-false (0 == suc r) (Some x) (Some y) (ne_eqb 0 (suc r) (λ e. absurd (omega (arith, e)))))
+get-set (y ∷ xs) (suc r) (suc k) x lt =
+    get-set xs r k x (omega (arith, lt)) ∙ ap (λ b. cond b (Some x) (slice_get xs k)) (shift k r)
   where
     shift : (a b : ℕ) → eqb a b ≡ eqb (suc a) (suc b)
     shift a b = ⊎_elim
         (λ t. t ∙ sym (eq-eqb (suc a) (suc b) (ap suc (eqb-true a b t))))
-        (λ f. f ∙ sym (ne_eqb (suc a) (suc b) (λ e. false≢true (sym f ∙ eq-eqb a b (omega (arith, e))))))
+        (λ f. f
+        ∙ sym
+        (ne_eqb (suc a) (suc b) (λ e. false≢true (sym f ∙ eq-eqb a b (omega (arith, e))))))
         (cases_Bool (eqb a b))
 
 length_map : {A B : Type 0} (f : A → B) (xs : List A) → length (map f xs) ≡ length xs
@@ -390,24 +534,38 @@ length_map f [] = refl
 length_map f (x ∷ xs) = ap suc (length_map f xs)
 
 -- the asks of rows with one set
-asks_set : (rows : List (Option Stated)) (o : Option Roll) (n rank : ℕ) (s : Stated) → length rows ≡ n → ((k : ℕ) → k < n → slice_get rows k ≡ Some (stated_among o k)) → map (ask_of o rank s.own) (below n) ≡ map ask_in (set rows rank (Some s))
-asks_set rows o n rank s len at = map_below (ask_of o rank s.own) n (map ask_in (set rows rank (Some s))) (length_map ask_in (set rows rank (Some s)) ∙ (length-set rows rank (Some s) ∙ len)) each
+asks_set : (rows : List (Option Stated)) (o : Option Roll) (n rank : ℕ) (s : Stated) →
+    length rows ≡ n → ((k : ℕ) → k < n → slice_get rows k ≡ Some (stated_among o k)) →
+    map (ask_of o rank s.own) (below n) ≡ map ask_in (set rows rank (Some s))
+asks_set rows o n rank s len at = map_below (ask_of o rank s.own) n
+    (map ask_in (set rows rank (Some s)))
+    (length_map ask_in (set rows rank (Some s)) ∙ (length-set rows rank (Some s) ∙ len)) each
   where
-    each : (k : ℕ) → k < n → slice_get (map ask_in (set rows rank (Some s))) k ≡ Some (ask_of o rank s.own k)
+    each : (k : ℕ) → k < n →
+        slice_get (map ask_in (set rows rank (Some s))) k ≡ Some (ask_of o rank s.own k)
     each k lt =
         slice_get-map ask_in (set rows rank (Some s)) k
-        ∙ (ap (λ v. option_map ask_in v) (get-set rows rank k (Some s) (subst (λ m. k < m) (sym len) lt))
+        ∙ (ap (λ v. option_map ask_in v)
+        (get-set rows rank k (Some s) (subst (λ m. k < m) (sym len) lt))
         ∙ by (k == rank))
       where
-        by : (b : Bool) → option_map ask_in (cond b (Some (Some s)) (slice_get rows k)) ≡ Some (cond b (ask_by s.own) (ask_in (stated_among o k)))
+        by : (b : Bool) →
+            option_map ask_in (cond b (Some (Some s)) (slice_get rows k))
+            ≡ Some (cond b (ask_by s.own) (ask_in (stated_among o k)))
         by true = refl
         by false = ap (λ v. option_map ask_in v) (at k lt)
 
-pub asks_are : {X : Type 0} (waiting : PendingView X) (c rank : ℕ) (comm : Comm) (s : Stated) → IsNext waiting c rank comm s → asks_with (roll_in (before waiting c rank)) (length comm.members) rank s.own ≡ asks (roll_next waiting c rank comm s)
+pub asks_are : {X : Type 0} (waiting : PendingView X) (c rank : ℕ) (comm : Comm) (s : Stated) →
+    IsNext waiting c rank comm s →
+    asks_with (roll_in (before waiting c rank)) (length comm.members) rank s.own
+    ≡ asks (roll_next waiting c rank comm s)
 asks_are {X} waiting c rank comm s is = by (before waiting c rank) refl
   where
-    by : (w : Option (Instance X)) → before waiting c rank ≡ w → asks_with (roll_in w) (length comm.members) rank s.own ≡ asks (roll_with comm rank s (roll_in w))
-    by None e = asks_set (replicate (length comm.members) nothing) None (length comm.members) rank s (length_none (length comm.members) nothing) (λ k lt. bare (length comm.members) k lt)
+    by : (w : Option (Instance X)) → before waiting c rank ≡ w →
+        asks_with (roll_in w) (length comm.members) rank s.own
+        ≡ asks (roll_with comm rank s (roll_in w))
+    by None e = asks_set (replicate (length comm.members) nothing) None (length comm.members) rank s
+        (length_none (length comm.members) nothing) (λ k lt. bare (length comm.members) k lt)
       where
         nothing : Option Stated
         nothing = None
@@ -417,26 +575,40 @@ asks_are {X} waiting c rank comm s is = by (before waiting c rank) refl
         bare (suc n) zero lt = refl
         bare (suc n) (suc k) lt = bare n k (omega (arith, lt))
     by (Some w) e =
-        let len : length w.roll.stated ≡ length comm.members = (is.sound w e).sound.rows ∙ ap (λ (shape : Rattle.coll_routes.specs.declared.roll.Shape.Shape). shape.size) (is.sound w e).shape in
-        asks_set w.roll.stated (Some w.roll) (length comm.members) rank s len (λ k lt. row_at w.roll.stated k (subst (λ n. k < n) (sym len) lt))
+        let len : length w.roll.stated ≡ length comm.members = (is.sound w e).sound.rows ∙ ap
+        (λ (shape : Rattle.coll_routes.specs.declared.roll.Shape.Shape). shape.size)
+        (is.sound w e).shape in
+        asks_set w.roll.stated (Some w.roll) (length comm.members) rank s len
+        (λ k lt. row_at w.roll.stated k (subst (λ n. k < n) (sym len) lt))
       where
-        row_at : (rows : List (Option Stated)) (k : ℕ) → k < length rows → slice_get rows k ≡ Some (stated_in (slice_get rows k))
+        row_at : (rows : List (Option Stated)) (k : ℕ) → k < length rows →
+            slice_get rows k ≡ Some (stated_in (slice_get rows k))
         row_at [] k lt = absurd (omega (arith, lt))
         row_at (row ∷ rows) zero lt = refl
         row_at (row ∷ rows) (suc k) lt = row_at rows k (omega (arith, lt))
 
 -- ## for the steps
 
-pub accepted_there : {X : Type 0} (number : ℕ) (table : List Comm) (waiting : PendingView X) (p c : ℕ) (s : Stated) → fault_among number table waiting p c s.sig s.own (stated_type s.sig) s.given ≡ None → c < length table
+pub accepted_there : {X : Type 0} (number : ℕ) (table : List Comm) (waiting : PendingView X)
+    (p c : ℕ) (s : Stated) →
+    fault_among number table waiting p c s.sig s.own (stated_type s.sig) s.given ≡ None →
+    c < length table
 accepted_there number table waiting p c s none =
     let a = accepted table waiting p c s.sig s.own (stated_type s.sig) s.given number none in
     slice_get_within table c a.comm a.there
 
-pub not_absent : {X : Type 0} (number : ℕ) (table : List Comm) (waiting : PendingView X) (p c : ℕ) (s : Stated) (members : List ℕ) → fault_among number table waiting p c s.sig s.own (stated_type s.sig) s.given ≡ None → ((found : Comm) → slice_get table c ≡ Some found → members ≡ found.members) → None ≡ rank_in members p → ⊥
+pub not_absent : {X : Type 0} (number : ℕ) (table : List Comm) (waiting : PendingView X) (p c : ℕ)
+    (s : Stated) (members : List ℕ) →
+    fault_among number table waiting p c s.sig s.own (stated_type s.sig) s.given ≡ None →
+    ((found : Comm) → slice_get table c ≡ Some found → members ≡ found.members) →
+    None ≡ rank_in members p → ⊥
 not_absent number table waiting p c s members none group gone =
     let a = accepted table waiting p c s.sig s.own (stated_type s.sig) s.given number none in
     let bad = gone ∙ (ap (λ ms. rank_in ms p) (group a.comm a.there) ∙ a.at) in
     absurd (cc)
 
-pub asks_length : {X : Type 0} (waiting : PendingView X) (c rank : ℕ) (comm : Comm) (s : Stated) → IsNext waiting c rank comm s → length (asks (roll_next waiting c rank comm s)) ≡ length comm.members
-asks_length waiting c rank comm s is = length_map ask_in (roll_next waiting c rank comm s).stated ∙ rows_is waiting c rank comm s is
+pub asks_length : {X : Type 0} (waiting : PendingView X) (c rank : ℕ) (comm : Comm) (s : Stated) →
+    IsNext waiting c rank comm s →
+    length (asks (roll_next waiting c rank comm s)) ≡ length comm.members
+asks_length waiting c rank comm s is =
+    length_map ask_in (roll_next waiting c rank comm s).stated ∙ rows_is waiting c rank comm s is

@@ -1,5 +1,6 @@
 -- What a post that meets no refusal makes of a state, by what is seen.
-use Rattle.std.specs.Prelude.{◌≡◌, ◌≢◌, ℕ, ◌+◌, ◌++◌, true, false, length, map, slice_get, Option, Some, None, if◌then◌else◌}
+use Rattle.std.specs.Prelude.{◌≡◌, ◌≢◌, ℕ, ◌+◌, ◌++◌, true, false, length, map, slice_get, Option}
+use Rattle.std.specs.Prelude.{Some, None, if◌then◌else◌}
 use Rattle.wall_policy.specs.Policy.{ChineseWall}
 use Rattle.wall_rules.specs.Histories.{History, has}
 use Rattle.mpi_group.specs.Groups.{rank_in, is_distinct}
@@ -27,7 +28,8 @@ place_at seen spot g = seen.waiting.arrivals g.post.comm spot.rank
 
 -- the instance that it joins, with it
 abbrev pub after : {X : Type 0} → PostStateView X → Spot → Contribution X → Instance X
-after seen spot g = joined_at seen.waiting g.post.comm spot.rank (communicator_of spot.comm) g.post.stated g.part
+after seen spot g =
+    joined_at seen.waiting g.post.comm spot.rank (communicator_of spot.comm) g.post.stated g.part
 
 -- the roll that it fills, if it fills one
 abbrev pub fills : {X : Type 0} → PostStateView X → Spot → Contribution X → Option Roll
@@ -42,22 +44,30 @@ abbrev pub written : {X : Type 0} → PostStateView X → Contribution X → His
 written seen g = labelled (has seen.accesses) g.post
 
 -- the rank is that of the poster
-pub record IsAt {X : Type 0} (seen : PostStateView X) (spot : Spot) (g : Contribution X) : Type 0 where
+pub record IsAt {X : Type 0} (seen : PostStateView X) (spot : Spot) (g : Contribution X)
+    : Type 0 where
   pub there : slice_get seen.comms g.post.comm ≡ Some spot.comm
   pub rank : rank_in spot.comm.members g.post.process ≡ Some spot.rank
   pub once : is_distinct spot.comm.members ≡ true
 
--- what has arrived and waits, and the histories, once the post has been counted, where so many communicators were there before
-pub record Changes {X : Type 0} (wall : ChineseWall) (count : ℕ) (old new : PostStateView X) (spot : Spot) (g : Contribution X) : Type 0 where
-  pub arrivals : new.waiting.arrivals ≡ updated_at old.waiting.arrivals g.post.comm spot.rank (place_at old spot g + 1)
-  pub known : new.waiting.known ≡ updated old.waiting.known g.post.comm (Some (communicator_of spot.comm))
-  pub pending : new.waiting.pending ≡ updated_at old.waiting.pending g.post.comm (place_at old spot g) (if_waiting (after old spot g))
+-- what has arrived and waits, and the histories, once the post has been counted, where so many
+-- communicators were there before
+pub record Changes {X : Type 0} (wall : ChineseWall) (count : ℕ) (old new : PostStateView X)
+    (spot : Spot) (g : Contribution X) : Type 0 where
+  pub arrivals : new.waiting.arrivals
+      ≡ updated_at old.waiting.arrivals g.post.comm spot.rank (place_at old spot g + 1)
+  pub known :
+      new.waiting.known ≡ updated old.waiting.known g.post.comm (Some (communicator_of spot.comm))
+  pub pending : new.waiting.pending
+      ≡ updated_at old.waiting.pending g.post.comm (place_at old spot g)
+      (if_waiting (after old spot g))
   pub histories : has new.accesses ≡ with_delivery wall (written old g) count (fills old spot g)
   pub processes : new.accesses.processes ≡ old.accesses.processes
   pub classes : new.accesses.classes ≡ old.accesses.classes
 
 -- and this is told of it
-abbrev pub Answers : {X : Type 0} → ChineseWall → (count : ℕ) → PostStateView X → Spot → Contribution X → Entered X → Type 0
+abbrev pub Answers : {X : Type 0} → ChineseWall → (count : ℕ) → PostStateView X → Spot →
+    Contribution X → Entered X → Type 0
 Answers wall count old spot g (Waiting k) =
     (k ≡ place_at old spot g)
     × (is_full (after old spot g).roll.stated ≡ false)
@@ -70,7 +80,8 @@ Answers wall count old spot g (Settled full k outcome) =
     × IsFit full.roll
 
 -- the post has been counted, of some rank, and this is told of it
-pub record Enters {X : Type 0} (wall : ChineseWall) (old new : PostStateView X) (g : Contribution X) (entered : Entered X) : Type 0 where
+pub record Enters {X : Type 0} (wall : ChineseWall) (old new : PostStateView X) (g : Contribution X)
+    (entered : Entered X) : Type 0 where
   pub spot : Spot
   pub at : IsAt old spot g
   pub agrees : next old.waiting g.post.comm spot.rank g.post.stated.sig ≢ Mismatch

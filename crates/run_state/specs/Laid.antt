@@ -9,7 +9,8 @@ use Rattle.run_model.specs.Comms.{Comm}
 abbrev pub with_shapes : List (List ℕ) → List Shape → List Comm
 with_shapes [] shapes = []
 with_shapes (members ∷ groups) [] = []
-with_shapes (members ∷ groups) (shape ∷ shapes) = record { members = members; grid = shape.grid } ∷ with_shapes groups shapes
+with_shapes (members ∷ groups) (shape ∷ shapes) =
+    record { members = members; grid = shape.grid } ∷ with_shapes groups shapes
 
 -- the shape is one of a group
 pub record IsShape (members : List ℕ) (shape : Shape) : Type 0 where

@@ -1,5 +1,6 @@
 -- What a full constructor makes, by its communicator and what its members ask.
-use Rattle.std.specs.Prelude.{◌≡◌, ◌++◌, ◌∷◌, [], ℕ, List, Bool, true, false, not, length, Option, None, Some, is_none, if◌then◌else◌}
+use Rattle.std.specs.Prelude.{◌≡◌, ◌++◌, ◌∷◌, [], ℕ, List, Bool, true, false, not, length, Option}
+use Rattle.std.specs.Prelude.{None, Some, is_none, if◌then◌else◌}
 use Rattle.mpi_comm.specs.declared.values.Ask.{Ask}
 use Rattle.mpi_comm.specs.Comms.{dup_groups, create_groups, subset_groups, fits, is_subgroup}
 use Rattle.mpi_comm.specs.declared.fault.CommFault.{CommFault}
@@ -8,7 +9,8 @@ use Rattle.mpi_comm.specs.Splits.{split_groups, has_bad_colour}
 use Rattle.mpi_cart.specs.Grids.{Topology, volume, below}
 use Rattle.mpi_cart.specs.Faults.{first_fault, keep_fault}
 use Rattle.coll_routes.specs.declared.signature.Signature.{Signature}
-use Rattle.coll_routes.specs.declared.signature.Signature.TheVariants.{Dup, Split, Create, CartCreate, CartSub}
+use Rattle.coll_routes.specs.declared.signature.Signature.TheVariants.{Dup, Split, Create}
+use Rattle.coll_routes.specs.declared.signature.Signature.TheVariants.{CartCreate, CartSub}
 use Rattle.run_model.specs.Comms.{Comm, with_grid, subgrids, if_fit}
 use Rattle.run_model.specs.Posts.{constructor_outcome}
 use Rattle.run_model.specs.declared.outcome.Outcome.{Outcome}
@@ -22,7 +24,8 @@ is_kept keep None = false
 unfoldable pub is_faultless : Signature → Comm → List Ask → Bool
 is_faultless Split comm asks = not (has_bad_colour asks)
 is_faultless (Create ranks) comm asks = is_subgroup (length comm.members) ranks
-is_faultless (CartCreate dims periods) comm asks = is_none (first_fault dims periods (length comm.members))
+is_faultless (CartCreate dims periods) comm asks =
+    is_none (first_fault dims periods (length comm.members))
 is_faultless (CartSub keep) comm asks = is_kept keep comm.grid
 is_faultless _ comm asks = true
 

@@ -1,5 +1,6 @@
 -- A member's next post, before it is counted.
-use Rattle.std.specs.Prelude.{◌≡◌, ◌≢◌, ◌<◌, ◌++◌, ◌==◌, ◌&&◌, ℕ, List, Bool, true, false, length, map, replicate, slice_set, Option, Some, None, IsSome, if◌then◌else◌}
+use Rattle.std.specs.Prelude.{◌≡◌, ◌≢◌, ◌<◌, ◌++◌, ◌==◌, ◌&&◌, ℕ, List, Bool, true, false, length}
+use Rattle.std.specs.Prelude.{map, replicate, slice_set, Option, Some, None, IsSome, if◌then◌else◌}
 use Rattle.mpi_comm.specs.declared.values.Ask.{Ask}
 use Rattle.mpi_cart.specs.Grids.{below}
 use Rattle.coll_routes.specs.declared.statement.Own.{Own}
@@ -19,19 +20,31 @@ use Rattle.run_model.specs.declared.outcome.Outcome.{Outcome}
 use Rattle.run_state.specs.Views.{IsInstanceOf, communicator_of}
 
 -- the post of this rank of the communicator can be counted
-pub record IsNext {X : Type 0} (waiting : PendingView X) (c rank : ℕ) (comm : Comm) (stated : Stated) : Type 0 where
+pub record IsNext {X : Type 0} (waiting : PendingView X) (c rank : ℕ) (comm : Comm)
+    (stated : Stated) : Type 0 where
   pub member : rank < length comm.members
   pub sized : IsSized (shape_of comm)
   pub known : Rattle.coll_pending.specs.Waiting.IsKnownAs (communicator_of comm) (waiting.known c)
-  pub sound : (instance : Instance X) → before waiting c rank ≡ Some instance → IsInstanceOf comm instance
+  pub sound : (instance : Instance X) → before waiting c rank ≡ Some instance →
+      IsInstanceOf comm instance
   pub agrees : next waiting c rank stated.sig ≢ Mismatch
   pub faultless : stated_fault (shape_of comm) rank stated ≡ None
   pub labelled : stated.barred ≡ true → IsSome stated.label
 
 -- the roll of its instance, with it
 abbrev pub roll_with : Comm → (rank : ℕ) → Stated → Option Roll → Roll
-roll_with comm rank stated (Some roll) = record { members = roll.members; shape = roll.shape; sig = roll.sig; stated = slice_set roll.stated rank (Some stated) }
-roll_with comm rank stated None = record { members = comm.members; shape = shape_of comm; sig = stated.sig; stated = slice_set (replicate (length comm.members) None) rank (Some stated) }
+roll_with comm rank stated (Some roll) = record {
+  members = roll.members;
+  shape = roll.shape;
+  sig = roll.sig;
+  stated = slice_set roll.stated rank (Some stated);
+}
+roll_with comm rank stated None = record {
+  members = comm.members;
+  shape = shape_of comm;
+  sig = stated.sig;
+  stated = slice_set (replicate (length comm.members) None) rank (Some stated);
+}
 
 abbrev pub roll_next : {X : Type 0} → PendingView X → (c rank : ℕ) → Comm → Stated → Roll
 roll_next waiting c rank comm stated = roll_with comm rank stated (roll_in (before waiting c rank))
@@ -54,11 +67,14 @@ ask_of roll rank own k = if k == rank then ask_by own else ask_in (stated_in rol
 abbrev pub asks_with : Option Roll → (size rank : ℕ) → Own → List Ask
 asks_with roll size rank own = map (ask_of roll rank own) (below size)
 
--- the outcome of a constructor if this is its roll and it is full, where so many communicators are there
+-- the outcome of a constructor if this is its roll and it is full, where so many communicators are
+-- there
 abbrev pub constructed : (count : ℕ) → Roll → Option Outcome
-constructed count roll = if is_constructor roll.sig && is_full roll.stated then Some (constructor_outcome count (new_comms roll)) else None
+constructed count roll = if is_constructor roll.sig && is_full roll.stated
+    then Some (constructor_outcome count (new_comms roll)) else None
 
--- what has been made for it, if it fills a constructor: this is its outcome, and the communicators have grown
+-- what has been made for it, if it fills a constructor: this is its outcome, and the communicators
+-- have grown
 pub record IsPrepared (old new : List Comm) (answer : Option Outcome) (roll : Roll) : Type 0 where
   pub outcome : answer ≡ constructed (length old) roll
   pub comms : new ≡ old ++ added (length old) (if_full roll)

@@ -1,5 +1,6 @@
 -- What contracts see of a state: look-ups, and what follows from them for the next post.
-use Rattle.std.specs.Prelude.{◌≡◌, ◌≤◌, ℕ, List, Bool, true, false, length, slice_get, Option, Some, None, nat_lt, if◌then◌else◌}
+use Rattle.std.specs.Prelude.{◌≡◌, ◌≤◌, ℕ, List, Bool, true, false, length, slice_get, Option, Some}
+use Rattle.std.specs.Prelude.{None, nat_lt, if◌then◌else◌}
 use Rattle.std.specs.Option.{option_map}
 use Rattle.wall_policy.specs.Policy.{ChineseWall}
 use Rattle.wall_rules.specs.Histories.{Accesses}
@@ -17,7 +18,8 @@ use Rattle.coll_pending.specs.Waiting.{PendingView, State, view_of_pending, next
 use Rattle.run_model.specs.Comms.{Comm, processes, shape_of}
 use Rattle.run_model.specs.Refusals.{refused_for, or_else}
 use Rattle.run_model.specs.declared.refusal.Refusal.{Refusal}
-use Rattle.run_model.specs.declared.refusal.Refusal.TheVariants.{NoSuchProcess, NoSuchComm, NotMember, Mismatch}
+use Rattle.run_model.specs.declared.refusal.Refusal.TheVariants.{NoSuchProcess, NoSuchComm}
+use Rattle.run_model.specs.declared.refusal.Refusal.TheVariants.{NotMember, Mismatch}
 
 -- the value of a state in clauses
 pub record PostStateValue (X : Type 0) : Type 0 where
@@ -25,14 +27,16 @@ pub record PostStateValue (X : Type 0) : Type 0 where
   pub lines : State X
   pub accesses : Accesses
 
--- all that callers see: the communicators, who has had access to what, and what has arrived and waits
+-- all that callers see: the communicators, who has had access to what, and what has arrived and
+-- waits
 pub record PostStateView (X : Type 0) : Type 0 where
   pub comms : List Comm
   pub accesses : Accesses
   pub waiting : PendingView X
 
 abbrev pub view_of : {X : Type 0} → PostStateValue X → PostStateView X
-view_of kept = record { comms = kept.comms; accesses = kept.accesses; waiting = view_of_pending kept.lines }
+view_of kept =
+    record { comms = kept.comms; accesses = kept.accesses; waiting = view_of_pending kept.lines }
 
 -- what is seen of these parts
 abbrev pub seen : {X : Type 0} → List Comm → State X → Accesses → PostStateView X
@@ -43,7 +47,8 @@ communicator_of comm = record { members = comm.members; shape = shape_of comm }
 
 -- ## the next post
 
--- the number of the instance that the next post of a process on a communicator belongs to: how often it has posted there
+-- the number of the instance that the next post of a process on a communicator belongs to: how
+-- often it has posted there
 abbrev pub place_as : {X : Type 0} → PendingView X → (c : ℕ) → Option ℕ → ℕ
 place_as waiting c (Some rank) = waiting.arrivals c rank
 place_as waiting c None = 0
@@ -62,22 +67,31 @@ is_mismatch nexts.Fills = false
 is_mismatch nexts.Mismatch = true
 
 abbrev pub fault_after : Option ShapeFault → Next → Option Refusal
-fault_after fault upcoming = or_else (option_map refused_for fault) (if is_mismatch upcoming then Some Mismatch else None)
+fault_after fault upcoming =
+    or_else (option_map refused_for fault) (if is_mismatch upcoming then Some Mismatch else None)
 
-abbrev pub fault_as : {X : Type 0} → PendingView X → (c : ℕ) → Comm → Option ℕ → Signature → Own → ElemType → (given : ℕ) → Option Refusal
+abbrev pub fault_as : {X : Type 0} → PendingView X → (c : ℕ) → Comm → Option ℕ → Signature → Own →
+    ElemType → (given : ℕ) → Option Refusal
 fault_as waiting c comm None sig own ty given = Some NotMember
-fault_as waiting c comm (Some rank) sig own ty given = fault_after (shape_fault (shape_of comm) rank sig own ty given) (next waiting c rank sig)
+fault_as waiting c comm (Some rank) sig own ty given =
+    fault_after (shape_fault (shape_of comm) rank sig own ty given) (next waiting c rank sig)
 
-abbrev pub fault_on : {X : Type 0} → PendingView X → (p c : ℕ) → Option Comm → Signature → Own → ElemType → (given : ℕ) → Option Refusal
+abbrev pub fault_on : {X : Type 0} → PendingView X → (p c : ℕ) → Option Comm → Signature → Own →
+    ElemType → (given : ℕ) → Option Refusal
 fault_on waiting p c None sig own ty given = Some NoSuchComm
-fault_on waiting p c (Some comm) sig own ty given = fault_as waiting c comm (rank_in comm.members p) sig own ty given
+fault_on waiting p c (Some comm) sig own ty given =
+    fault_as waiting c comm (rank_in comm.members p) sig own ty given
 
-abbrev pub fault_among : {X : Type 0} → (number : ℕ) → List Comm → PendingView X → (p c : ℕ) → Signature → Own → ElemType → (given : ℕ) → Option Refusal
-fault_among number table waiting p c sig own ty given = if nat_lt p number then fault_on waiting p c (slice_get table c) sig own ty given else Some NoSuchProcess
+abbrev pub fault_among : {X : Type 0} → (number : ℕ) → List Comm → PendingView X → (p c : ℕ) →
+    Signature → Own → ElemType → (given : ℕ) → Option Refusal
+fault_among number table waiting p c sig own ty given = if nat_lt p number
+    then fault_on waiting p c (slice_get table c) sig own ty given else Some NoSuchProcess
 
 -- the first refusal that holds of the next post of p on communicator c, by what is seen
-abbrev pub fault_of : {X : Type 0} → ChineseWall → PostStateView X → (p c : ℕ) → Signature → Own → ElemType → (given : ℕ) → Option Refusal
-fault_of wall seen p c sig own ty given = fault_among (processes wall) seen.comms seen.waiting p c sig own ty given
+abbrev pub fault_of : {X : Type 0} → ChineseWall → PostStateView X → (p c : ℕ) → Signature → Own →
+    ElemType → (given : ℕ) → Option Refusal
+fault_of wall seen p c sig own ty given =
+    fault_among (processes wall) seen.comms seen.waiting p c sig own ty given
 
 -- ## what is so of every state
 
@@ -94,6 +108,8 @@ pub record IsUnused {X : Type 0} (waiting : PendingView X) (c : ℕ) : Type 0 wh
 
 -- instances are those of the communicators that are there
 pub record IsPostState {X : Type 0} (seen : PostStateView X) : Type 0 where
-  pub known : (c : ℕ) (comm : Comm) → slice_get seen.comms c ≡ Some comm → IsKnownAs (communicator_of comm) (seen.waiting.known c)
-  pub sound : (c k : ℕ) (comm : Comm) (instance : Instance X) → slice_get seen.comms c ≡ Some comm → seen.waiting.pending c k ≡ Some instance → IsInstanceOf comm instance
+  pub known : (c : ℕ) (comm : Comm) → slice_get seen.comms c ≡ Some comm →
+      IsKnownAs (communicator_of comm) (seen.waiting.known c)
+  pub sound : (c k : ℕ) (comm : Comm) (instance : Instance X) → slice_get seen.comms c ≡ Some comm →
+      seen.waiting.pending c k ≡ Some instance → IsInstanceOf comm instance
   pub unused : (c : ℕ) → length seen.comms ≤ c → IsUnused seen.waiting c

@@ -1,5 +1,6 @@
 //! The book.
-ghost use Rattle.std.specs.Prelude.{◌≡◌, ◌==◌, ◌<◌, ◌≤◌, ◌+◌, ◌^◌, [], ◌∷◌, ◌++◌, length, OnOk, OnErr, slice_get, Some};
+ghost use Rattle.std.specs.Prelude.{◌≡◌, ◌==◌, ◌<◌, ◌≤◌, ◌+◌, ◌^◌, [], ◌∷◌, ◌++◌, length, OnOk};
+ghost use Rattle.std.specs.Prelude.{OnErr, slice_get, Some};
 ghost use Rattle.run_model.specs.EntryForms.{HasForm};
 
 use run_model::Entry;
@@ -7,9 +8,11 @@ use std::alloc::Global;
 use std::marker::Model;
 use wall_labels::NoMemory;
 
-/// What happened, the oldest entry first: for each counted post what it stated, and after a post that filled an instance the outcome.
+/// What happened, the oldest entry first: for each counted post what it stated, and after a post
+/// that filled an instance the outcome.
 ///
-/// Each entry has its form: see `Entry::has_form`. Contracts see the entries, and for how many more there is room.
+/// Each entry has its form: see `Entry::has_form`. Contracts see the entries, and for how many more
+/// there is room.
 #[derive(Drop)]
 pub struct Book {
     entries: Vec<Entry>,
@@ -22,7 +25,8 @@ impl Model for Book {
 
     ghost Value = { Entries };
 
-    ghost view = { λ b. record { list = b.entries.items; room = vec_capacity b.entries - vec_len b.entries } };
+    ghost view = { λ b.
+        record { list = b.entries.items; room = vec_capacity b.entries - vec_len b.entries } };
 
     ghost invariant = { λ b. All HasForm b.entries.items };
 }

@@ -1,5 +1,6 @@
 //! Communicators with their grids.
-ghost use Rattle.std.specs.Prelude.{◌≡◌, ◌<◌, ◌∷◌, [], length, slice_get, IfOk, OnErr, Some, None, true};
+ghost use Rattle.std.specs.Prelude.{◌≡◌, ◌<◌, ◌∷◌, [], length, slice_get, IfOk, OnErr, Some, None};
+ghost use Rattle.std.specs.Prelude.{true};
 ghost use Rattle.mpi_group.specs.Groups.{is_distinct};
 ghost use Rattle.coll_routes.specs.Fit.{IsSized};
 ghost use Rattle.run_model.specs.Comms.{Comm, shape_of, new_comms_by};
@@ -60,9 +61,11 @@ impl Communicators {
     /// The group of a communicator that is there.
     pub fn group(&self, comm: u32) -> &Group
         requires { comm < length self.now }
-        ensures members { (found : Comm) → slice_get self.now comm ≡ Some found → result.now ≡ found.members }
+        ensures members { (found : Comm) → slice_get self.now comm ≡ Some found →
+            result.now ≡ found.members }
         ensures distinct { is_distinct result.now ≡ true }
-        ensures sized { (found : Comm) → slice_get self.now comm ≡ Some found → IsSized (shape_of found) }
+        ensures sized { (found : Comm) → slice_get self.now comm ≡ Some found →
+            IsSized (shape_of found) }
     {
         let group = self.table.group(comm);
         let _ = group.size();
@@ -72,17 +75,22 @@ impl Communicators {
     /// Its size and its grid, if it has one.
     pub fn shape(&self, comm: u32) -> &Shape
         requires { comm < length self.now }
-        ensures { (found : Comm) → slice_get self.now comm ≡ Some found → result.now ≡ shape_of found }
+        ensures { (found : Comm) → slice_get self.now comm ≡ Some found →
+            result.now ≡ shape_of found }
     {
         &self.shapes[comm as usize]
     }
 
     /// Carries out a constructor that is full, and tells its outcome. Members ask by rank.
     pub fn make(&mut self, comm: u32, sig: &Signature, asks: &[Ask]) -> Result<Outcome, NoMemory>
-        requires asks { (found : Comm) → slice_get self.old comm ≡ Some found → length asks.now ≡ length found.members }
+        requires asks { (found : Comm) → slice_get self.old comm ≡ Some found →
+            length asks.now ≡ length found.members }
         requires there { comm < length self.old }
-        requires faultless { (found : Comm) → slice_get self.old comm ≡ Some found → is_faultless sig.now found asks.now ≡ true }
-        ensures made { IfOk result (λ outcome. (found : Comm) → slice_get self.old comm ≡ Some found → Makes (new_comms_by sig.now found asks.now) self.old self.new outcome) }
+        requires faultless { (found : Comm) → slice_get self.old comm ≡ Some found →
+            is_faultless sig.now found asks.now ≡ true }
+        ensures made { IfOk result (λ outcome. (found : Comm) →
+            slice_get self.old comm ≡ Some found →
+            Makes (new_comms_by sig.now found asks.now) self.old self.new outcome) }
         ensures kept { OnErr result (self.new ≡ self.old) }
     {
         making::make(

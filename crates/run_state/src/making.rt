@@ -1,7 +1,10 @@
 //! What constructors make of the communicators. (MPI 4.1, sections 7.4.2, 8.5.1 and 8.5.7.)
 //!
-//! Each call makes room first; the table then takes all new groups or none, and after it nothing can fail.
-ghost use Rattle.std.specs.Prelude.{◌≡◌, ◌<◌, ◌≤◌, ◌+◌, ◌-◌, ◌++◌, ◌∷◌, [], ◌==◌, length, map, drop, replicate, slice_get, vec_len, vec_capacity, IfOk, OnOk, OnErr, Some, None, true, false};
+//! Each call makes room first; the table then takes all new groups or none, and after it nothing
+//! can fail.
+ghost use Rattle.std.specs.Prelude.{◌≡◌, ◌<◌, ◌≤◌, ◌+◌, ◌-◌, ◌++◌, ◌∷◌, [], ◌==◌, length, map};
+ghost use Rattle.std.specs.Prelude.{drop, replicate, slice_get, vec_len, vec_capacity, IfOk, OnOk};
+ghost use Rattle.std.specs.Prelude.{OnErr, Some, None, true, false};
 ghost use Rattle.mpi_comm.specs.declared.table.TheConstants.{COMMUNICATOR_LIMIT};
 ghost use Rattle.mpi_comm.specs.declared.values.Made.{Made};
 ghost use Rattle.std.specs.List.{list_all};
@@ -23,7 +26,8 @@ use run_model::Outcome;
 use std::alloc::Global;
 use wall_labels::NoMemory;
 
-/// Carries out a constructor of this signature on a communicator that is there. Members ask by rank.
+/// Carries out a constructor of this signature on a communicator that is there. Members ask by
+/// rank.
 #[tactic(auto, unfolding(run_model::specs::Comms::new_comms_by, crate::specs::Making::is_faultless))]
 pub fn make(
     alloc: Global,
@@ -35,11 +39,19 @@ pub fn make(
 ) -> Result<Outcome, NoMemory>
     requires laid { AreLaid table.old shapes.old.items }
     requires there { comm < length table.old }
-    requires asks { (found : Comm) → slice_get (with_shapes table.old shapes.old.items) comm ≡ Some found → length asks.now ≡ length found.members }
-    requires faultless { (found : Comm) → slice_get (with_shapes table.old shapes.old.items) comm ≡ Some found → is_faultless sig.now found asks.now ≡ true }
+    requires asks { (found : Comm) →
+        slice_get (with_shapes table.old shapes.old.items) comm ≡ Some found →
+        length asks.now ≡ length found.members }
+    requires faultless { (found : Comm) →
+        slice_get (with_shapes table.old shapes.old.items) comm ≡ Some found →
+        is_faultless sig.now found asks.now ≡ true }
     ensures laid { AreLaid table.new shapes.new.items }
-    ensures made { IfOk result (λ outcome. (found : Comm) → slice_get (with_shapes table.old shapes.old.items) comm ≡ Some found → Makes (new_comms_by sig.now found asks.now) (with_shapes table.old shapes.old.items) (with_shapes table.new shapes.new.items) outcome) }
-    ensures kept { OnErr result (with_shapes table.new shapes.new.items ≡ with_shapes table.old shapes.old.items) }
+    ensures made { IfOk result (λ outcome. (found : Comm) →
+        slice_get (with_shapes table.old shapes.old.items) comm ≡ Some found →
+        Makes (new_comms_by sig.now found asks.now) (with_shapes table.old shapes.old.items)
+        (with_shapes table.new shapes.new.items) outcome) }
+    ensures kept { OnErr result
+        (with_shapes table.new shapes.new.items ≡ with_shapes table.old shapes.old.items) }
 {
     match sig {
         Signature::Dup => duplicate(alloc, table, shapes, comm),
@@ -76,7 +88,8 @@ fn make_room(table: &CommTable, shapes: &mut Vec<Shape>) -> Result<(), NoMemory>
 fn enter_plain(table: &CommTable, shapes: &mut Vec<Shape>)
     requires more { length shapes.old.items ≤ length table.now }
     requires room { COMMUNICATOR_LIMIT ≤ vec_capacity shapes.old }
-    ensures { shapes.new.items ≡ shapes.old.items ++ laid None (drop (length shapes.old.items) table.now) }
+    ensures { shapes.new.items
+        ≡ shapes.old.items ++ laid None (drop (length shapes.old.items) table.now) }
 {
     let end = table.len();
     let first = shapes.len() as u32;
@@ -90,7 +103,9 @@ fn enter_plain(table: &CommTable, shapes: &mut Vec<Shape>)
 fn enter_grids(table: &CommTable, shapes: &mut Vec<Shape>, grids: Vec<Grid>)
     requires all { length shapes.old.items + length grids.items ≡ length table.now }
     requires room { COMMUNICATOR_LIMIT ≤ vec_capacity shapes.old }
-    ensures { (g : Topology) → grids.items ≡ replicate (length grids.items) g → shapes.new.items ≡ shapes.old.items ++ laid (Some g) (drop (length shapes.old.items) table.now) }
+    ensures { (g : Topology) → grids.items ≡ replicate (length grids.items) g →
+        shapes.new.items
+        ≡ shapes.old.items ++ laid (Some g) (drop (length shapes.old.items) table.now) }
 {
     let mut comm = table.len() - grids.len() as u32;
     for grid in grids {
@@ -127,9 +142,13 @@ fn duplicate(
     requires laid { AreLaid table.old shapes.old.items }
     requires there { comm < length table.old }
     ensures laid { AreLaid table.new shapes.new.items }
-    ensures made { IfOk result (λ outcome. (found : Comm) → slice_get (with_shapes table.old shapes.old.items) comm ≡ Some found →
-        Makes (with_grid found.grid (dup_groups found.members)) (with_shapes table.old shapes.old.items) (with_shapes table.new shapes.new.items) outcome) }
-    ensures kept { OnErr result (with_shapes table.new shapes.new.items ≡ with_shapes table.old shapes.old.items) }
+    ensures made { IfOk result (λ outcome. (found : Comm) →
+        slice_get (with_shapes table.old shapes.old.items) comm ≡ Some found →
+        Makes (with_grid found.grid (dup_groups found.members))
+        (with_shapes table.old shapes.old.items) (with_shapes table.new shapes.new.items)
+        outcome) }
+    ensures kept { OnErr result
+        (with_shapes table.new shapes.new.items ≡ with_shapes table.old shapes.old.items) }
 {
     make_room(table, shapes)?;
     let shape = shapes[comm as usize].copy(alloc)?;
@@ -172,12 +191,18 @@ fn split(
 ) -> Result<Outcome, NoMemory>
     requires laid { AreLaid table.old shapes.old.items }
     requires there { comm < length table.old }
-    requires asks { (found : Comm) → slice_get (with_shapes table.old shapes.old.items) comm ≡ Some found → length asks.now ≡ length found.members }
+    requires asks { (found : Comm) →
+        slice_get (with_shapes table.old shapes.old.items) comm ≡ Some found →
+        length asks.now ≡ length found.members }
     requires colours { has_bad_colour asks.now ≡ false }
     ensures laid { AreLaid table.new shapes.new.items }
-    ensures made { IfOk result (λ outcome. (found : Comm) → slice_get (with_shapes table.old shapes.old.items) comm ≡ Some found →
-        Makes (with_grid None (split_groups asks.now found.members)) (with_shapes table.old shapes.old.items) (with_shapes table.new shapes.new.items) outcome) }
-    ensures kept { OnErr result (with_shapes table.new shapes.new.items ≡ with_shapes table.old shapes.old.items) }
+    ensures made { IfOk result (λ outcome. (found : Comm) →
+        slice_get (with_shapes table.old shapes.old.items) comm ≡ Some found →
+        Makes (with_grid None (split_groups asks.now found.members))
+        (with_shapes table.old shapes.old.items) (with_shapes table.new shapes.new.items)
+        outcome) }
+    ensures kept { OnErr result
+        (with_shapes table.new shapes.new.items ≡ with_shapes table.old shapes.old.items) }
 {
     make_room(table, shapes)?;
     match table.split(comm, asks) {
@@ -197,11 +222,17 @@ fn create(
 ) -> Result<Outcome, NoMemory>
     requires laid { AreLaid table.old shapes.old.items }
     requires there { comm < length table.old }
-    requires ranks { (found : Comm) → slice_get (with_shapes table.old shapes.old.items) comm ≡ Some found → is_subgroup (length found.members) ranks.now ≡ true }
+    requires ranks { (found : Comm) →
+        slice_get (with_shapes table.old shapes.old.items) comm ≡ Some found →
+        is_subgroup (length found.members) ranks.now ≡ true }
     ensures laid { AreLaid table.new shapes.new.items }
-    ensures made { IfOk result (λ outcome. (found : Comm) → slice_get (with_shapes table.old shapes.old.items) comm ≡ Some found →
-        Makes (with_grid None (create_groups ranks.now found.members)) (with_shapes table.old shapes.old.items) (with_shapes table.new shapes.new.items) outcome) }
-    ensures kept { OnErr result (with_shapes table.new shapes.new.items ≡ with_shapes table.old shapes.old.items) }
+    ensures made { IfOk result (λ outcome. (found : Comm) →
+        slice_get (with_shapes table.old shapes.old.items) comm ≡ Some found →
+        Makes (with_grid None (create_groups ranks.now found.members))
+        (with_shapes table.old shapes.old.items) (with_shapes table.new shapes.new.items)
+        outcome) }
+    ensures kept { OnErr result
+        (with_shapes table.new shapes.new.items ≡ with_shapes table.old shapes.old.items) }
 {
     make_room(table, shapes)?;
     match table.create(comm, ranks) {
@@ -224,11 +255,18 @@ fn lay_grid(
 ) -> Result<Outcome, NoMemory>
     requires laid { AreLaid table.old shapes.old.items }
     requires there { comm < length table.old }
-    requires dims { (found : Comm) → slice_get (with_shapes table.old shapes.old.items) comm ≡ Some found → first_fault dims.now periods.now (length found.members) ≡ None }
+    requires dims { (found : Comm) →
+        slice_get (with_shapes table.old shapes.old.items) comm ≡ Some found →
+        first_fault dims.now periods.now (length found.members) ≡ None }
     ensures laid { AreLaid table.new shapes.new.items }
-    ensures made { IfOk result (λ outcome. (found : Comm) → slice_get (with_shapes table.old shapes.old.items) comm ≡ Some found →
-        Makes (with_grid (Some (record { dims = dims.now; periods = periods.now })) (subset_groups (below (volume dims.now) ∷ []) found.members)) (with_shapes table.old shapes.old.items) (with_shapes table.new shapes.new.items) outcome) }
-    ensures kept { OnErr result (with_shapes table.new shapes.new.items ≡ with_shapes table.old shapes.old.items) }
+    ensures made { IfOk result (λ outcome. (found : Comm) →
+        slice_get (with_shapes table.old shapes.old.items) comm ≡ Some found →
+        Makes (with_grid (Some (record { dims = dims.now; periods = periods.now }))
+        (subset_groups (below (volume dims.now) ∷ []) found.members))
+        (with_shapes table.old shapes.old.items) (with_shapes table.new shapes.new.items)
+        outcome) }
+    ensures kept { OnErr result
+        (with_shapes table.new shapes.new.items ≡ with_shapes table.old shapes.old.items) }
 {
     let size = table.group(comm).size();
     let grid = laid_grid(alloc, dims, periods, size)?;
@@ -250,7 +288,8 @@ fn laid_grid(alloc: Global, dims: &[u32], periods: &[bool], size: u32) -> Result
 
 // One list, of the numbers below this one.
 fn lowest(alloc: Global, number: u32) -> Result<Vec<Vec<u32>>, NoMemory>
-    ensures lists { IfOk result (λ lists. map (λ list. list.items) lists.items ≡ below number ∷ []) }
+    ensures lists { IfOk result
+        (λ lists. map (λ list. list.items) lists.items ≡ below number ∷ []) }
 {
     let ranks = numbers_below(alloc, number)?;
     let mut lists = Vec::with_capacity(alloc, 1)?;
@@ -268,11 +307,17 @@ fn cut_grid(
 ) -> Result<Outcome, NoMemory>
     requires laid { AreLaid table.old shapes.old.items }
     requires there { comm < length table.old }
-    requires keep { (found : Comm) → slice_get (with_shapes table.old shapes.old.items) comm ≡ Some found → is_kept keep.now found.grid ≡ true }
+    requires keep { (found : Comm) →
+        slice_get (with_shapes table.old shapes.old.items) comm ≡ Some found →
+        is_kept keep.now found.grid ≡ true }
     ensures laid { AreLaid table.new shapes.new.items }
-    ensures made { IfOk result (λ outcome. (found : Comm) → slice_get (with_shapes table.old shapes.old.items) comm ≡ Some found →
-        Makes (subgrids found.grid keep.now found.members) (with_shapes table.old shapes.old.items) (with_shapes table.new shapes.new.items) outcome) }
-    ensures kept { OnErr result (with_shapes table.new shapes.new.items ≡ with_shapes table.old shapes.old.items) }
+    ensures made { IfOk result (λ outcome. (found : Comm) →
+        slice_get (with_shapes table.old shapes.old.items) comm ≡ Some found →
+        Makes (subgrids found.grid keep.now found.members)
+        (with_shapes table.old shapes.old.items) (with_shapes table.new shapes.new.items)
+        outcome) }
+    ensures kept { OnErr result
+        (with_shapes table.new shapes.new.items ≡ with_shapes table.old shapes.old.items) }
 {
     let Some(grid) = &shapes[comm as usize].grid else {
         unreachable!()
@@ -294,11 +339,18 @@ fn add_parts(
     requires laid { AreLaid table.old shapes.old.items }
     requires there { comm < length table.old }
     requires sizes { list_all (λ list. length list.items == volume grid.now.dims) lists.now ≡ true }
-    requires ranks { (found : Comm) → slice_get (with_shapes table.old shapes.old.items) comm ≡ Some found → list_all (is_subgroup (length found.members)) (map (λ list. list.items) lists.now) ≡ true }
+    requires ranks { (found : Comm) →
+        slice_get (with_shapes table.old shapes.old.items) comm ≡ Some found →
+        list_all (is_subgroup (length found.members)) (map (λ list. list.items) lists.now) ≡ true }
     ensures laid { AreLaid table.new shapes.new.items }
-    ensures made { IfOk result (λ outcome. (found : Comm) → slice_get (with_shapes table.old shapes.old.items) comm ≡ Some found →
-        Makes (with_grid (Some grid.now) (subset_groups (map (λ list. list.items) lists.now) found.members)) (with_shapes table.old shapes.old.items) (with_shapes table.new shapes.new.items) outcome) }
-    ensures kept { OnErr result (with_shapes table.new shapes.new.items ≡ with_shapes table.old shapes.old.items) }
+    ensures made { IfOk result (λ outcome. (found : Comm) →
+        slice_get (with_shapes table.old shapes.old.items) comm ≡ Some found →
+        Makes (with_grid (Some grid.now)
+        (subset_groups (map (λ list. list.items) lists.now) found.members))
+        (with_shapes table.old shapes.old.items) (with_shapes table.new shapes.new.items)
+        outcome) }
+    ensures kept { OnErr result
+        (with_shapes table.new shapes.new.items ≡ with_shapes table.old shapes.old.items) }
 {
     make_room(table, shapes)?;
     let grids = copies(alloc, grid, lists.len())?;

@@ -1,5 +1,6 @@
 //! The ranks of the parts of a grid. (MPI 4.1, section 8.5.7.)
-ghost use Rattle.std.specs.Prelude.{◌≡◌, ◌<◌, [], length, map, filter, not, slice_get, unwrap_or, IfOk};
+ghost use Rattle.std.specs.Prelude.{◌≡◌, ◌<◌, [], length, map, filter, not, slice_get, unwrap_or};
+ghost use Rattle.std.specs.Prelude.{IfOk};
 ghost use Rattle.std.specs.List.{items_where_true};
 ghost use Rattle.mpi_cart.specs.Grids.{below, volume, coords, kept, same_list};
 ghost use Rattle.run_model.specs.Comms.{grid_parts};
@@ -21,10 +22,12 @@ pub fn numbers_below(alloc: Global, number: u32) -> Result<Vec<u32>, NoMemory>
     Ok(list)
 }
 
-/// For each value of the coordinates that are not kept, in row-major order, the ranks that have them.
+/// For each value of the coordinates that are not kept, in row-major order, the ranks that have
+/// them.
 pub fn grid_parts(alloc: Global, grid: &Grid, keep: &[bool]) -> Result<Vec<Vec<u32>>, NoMemory>
     requires { length keep.now ≡ length grid.now.dims }
-    ensures { IfOk result (λ lists. map (λ list. list.items) lists.items ≡ grid_parts grid.now keep.now) }
+    ensures { IfOk result
+        (λ lists. map (λ list. list.items) lists.items ≡ grid_parts grid.now keep.now) }
 {
     let gone = others(alloc, keep)?;
     let apart = part_of(alloc, grid, &gone)?;
@@ -75,7 +78,8 @@ fn coordinates(alloc: Global, grid: &Grid, rank: u32) -> Result<Vec<u32>, NoMemo
 // For each rank its coordinates in the dimensions of which the list says true.
 fn all_apart(alloc: Global, grid: &Grid, gone: &[bool]) -> Result<Vec<Vec<u32>>, NoMemory>
     requires { length gone.now ≡ length grid.now.dims }
-    ensures { IfOk result (λ lists. map (λ list. list.items) lists.items ≡ map (apart_of grid.now gone.now) (below (volume grid.now.dims))) }
+    ensures { IfOk result (λ lists. map (λ list. list.items) lists.items
+        ≡ map (apart_of grid.now gone.now) (below (volume grid.now.dims))) }
 {
     let mut lists = Vec::with_capacity(alloc, grid.size() as usize)?;
     for rank in 0..grid.size() {
@@ -108,7 +112,10 @@ fn ranks_apart(
     value: &[u32],
 ) -> Result<Vec<u32>, NoMemory>
     requires { length each.now ≡ number }
-    ensures { IfOk result (λ list. list.items ≡ filter (λ r. same_list (unwrap_or (slice_get (map (λ v. v.items) each.now) r) []) value.now) (below number)) }
+    ensures { IfOk result (λ list. list.items
+        ≡ filter
+        (λ r. same_list (unwrap_or (slice_get (map (λ v. v.items) each.now) r) []) value.now)
+        (below number)) }
 {
     let mut list = Vec::with_capacity(alloc, number as usize)?;
     for rank in 0..number {

@@ -1,5 +1,6 @@
 //! The counted posts so far, in the parts that go on from them.
-ghost use Rattle.std.specs.Prelude.{◌≡◌, ◌<◌, ◌≤◌, ◌^◌, ◌∷◌, [], List, not, length, slice_get, IfOk, IfErr, OnErr, IsSome, Some, None};
+ghost use Rattle.std.specs.Prelude.{◌≡◌, ◌<◌, ◌≤◌, ◌^◌, ◌∷◌, [], List, not, length, slice_get};
+ghost use Rattle.std.specs.Prelude.{IfOk, IfErr, OnErr, IsSome, Some, None};
 ghost use Rattle.wall_policy.specs.Policy.{ChineseWall};
 ghost use Rattle.wall_rules.specs.Histories.{has};
 ghost use Rattle.mpi_group.specs.Groups.{rank_in};
@@ -24,11 +25,11 @@ use wall_policy::Policy;
 use wall_rules::Histories;
 use wall_verdict::passes_star;
 
-/// The communicators with their grids, the instances that wait for members, each with what its members have brought so far, and who has had
-/// access to what.
+/// The communicators with their grids, the instances that wait for members, each with what its
+/// members have brought so far, and who has had access to what.
 ///
-/// It stands for the posts that were entered, which contracts list with the newest first. The policy is handed in each time: it is the one
-/// that the state was opened with.
+/// It stands for the posts that were entered, which contracts list with the newest first. The
+/// policy is handed in each time: it is the one that the state was opened with.
 #[derive(Drop)]
 pub struct PostState<X> {
     alloc: Global,
@@ -48,7 +49,8 @@ impl<X> Model for PostState<X> {
 
     ghost view = { λ c. record { comms = c.comms; lines = c.pending; accesses = c.histories } };
 
-    ghost invariant = { λ c. IsPostState (view_of (record { comms = c.comms; lines = c.pending; accesses = c.histories })) };
+    ghost invariant = { λ c. IsPostState
+        (view_of (record { comms = c.comms; lines = c.pending; accesses = c.histories })) };
 }
 
 impl<X: Drop> PostState<X> {
@@ -57,8 +59,8 @@ impl<X: Drop> PostState<X> {
     ghost use Rattle.run_state.specs.Entering.{Enters};
     ghost use Rattle.run_state.specs.Stands.{StandsForPosts, Tells};
 
-    /// A state that stands for no post: the world alone, and each process with access to its home. `NoMemory` is answered only where a
-    /// growth was refused.
+    /// A state that stands for no post: the world alone, and each process with access to its home.
+    /// `NoMemory` is answered only where a growth was refused.
     pub fn open(alloc: Global, policy: &Policy) -> Result<PostState<X>, NoMemory>
         ensures { IfOk result (λ post_state. StandsForPosts policy.now (view_of post_state) []) }
     {
@@ -85,7 +87,8 @@ impl<X: Drop> PostState<X> {
     /// The group of a communicator that is there.
     pub fn group(&self, comm: u32) -> &Group
         requires { comm < length self.now.comms }
-        ensures { (found : Comm) → slice_get self.now.comms comm ≡ Some found → result.now ≡ found.members }
+        ensures { (found : Comm) → slice_get self.now.comms comm ≡ Some found →
+            result.now ≡ found.members }
     {
         self.comms.group(comm)
     }
@@ -93,7 +96,8 @@ impl<X: Drop> PostState<X> {
     /// The size of a communicator that is there, and its grid, if it has one.
     pub fn shape(&self, comm: u32) -> &Shape
         requires { comm < length self.now.comms }
-        ensures { (found : Comm) → slice_get self.now.comms comm ≡ Some found → result.now ≡ shape_of found }
+        ensures { (found : Comm) → slice_get self.now.comms comm ≡ Some found →
+            result.now ≡ shape_of found }
     {
         self.comms.shape(comm)
     }
@@ -101,25 +105,34 @@ impl<X: Drop> PostState<X> {
     /// Who has had access to what. Nobody has had access to two rivals.
     pub fn histories(&self) -> &Histories
         ensures value { result.now ≡ self.now.accesses }
-        ensures posts { (wall : ChineseWall) (past : List (Contribution X)) → StandsForPosts wall (view_of self.now) past → has result.now ≡ histories wall (posts_of past) }
+        ensures posts { (wall : ChineseWall) (past : List (Contribution X)) →
+            StandsForPosts wall (view_of self.now) past →
+            has result.now ≡ histories wall (posts_of past) }
     {
         &self.histories
     }
 
-    /// Whether the star rule lets the process post elements with this label; a post of no elements has none, and passes.
+    /// Whether the star rule lets the process post elements with this label; a post of no elements
+    /// has none, and passes.
     pub fn passes(&self, process: ProcessId, label: &Option<Label>) -> bool
         ensures test { result ≡ star (has self.now.accesses) process label.now }
-        ensures posts { (wall : ChineseWall) (past : List (Contribution X)) → StandsForPosts wall (view_of self.now) past → result ≡ star (histories wall (posts_of past)) process label.now }
+        ensures posts { (wall : ChineseWall) (past : List (Contribution X)) →
+            StandsForPosts wall (view_of self.now) past →
+            result ≡ star (histories wall (posts_of past)) process label.now }
     {
         passes_star(&self.histories, process, label)
     }
 
-    /// The number of the instance that the next post of a process on a communicator belongs to: how often it has posted there.
+    /// The number of the instance that the next post of a process on a communicator belongs to: how
+    /// often it has posted there.
     pub fn place(&self, process: ProcessId, comm: u32) -> u64
         ensures value { result ≡ place_of (view_of self.now) process comm }
-        ensures posts { (wall : ChineseWall) (past : List (Contribution X)) (found : Comm) → StandsForPosts wall (view_of self.now) past → slice_get self.now.comms comm ≡ Some found → IsSome (rank_in found.members process) →
+        ensures posts { (wall : ChineseWall) (past : List (Contribution X)) (found : Comm) →
+            StandsForPosts wall (view_of self.now) past →
+            slice_get self.now.comms comm ≡ Some found → IsSome (rank_in found.members process) →
             result ≡ length (posts_on comm process (posts_of past)) }
-        ensures few { (wall : ChineseWall) (past : List (Contribution X)) → StandsForPosts wall (view_of self.now) past → result ≤ length past }
+        ensures few { (wall : ChineseWall) (past : List (Contribution X)) →
+            StandsForPosts wall (view_of self.now) past → result ≤ length past }
     {
         if comm >= self.comms.len() {
             return 0;
@@ -130,8 +143,9 @@ impl<X: Drop> PostState<X> {
         }
     }
 
-    /// Why the next post of a process on a communicator would be refused, which gives so many elements of this type: the first refusal that
-    /// holds, of those that posts alone decide. Takes no memory.
+    /// Why the next post of a process on a communicator would be refused, which gives so many
+    /// elements of this type: the first refusal that holds, of those that posts alone decide. Takes
+    /// no memory.
     pub fn refusal(
         &self,
         policy: &Policy,
@@ -142,8 +156,11 @@ impl<X: Drop> PostState<X> {
         elem_type: ElemType,
         given: usize,
     ) -> Option<Refusal>
-        ensures test { result ≡ fault_of policy.now (view_of self.now) process comm sig.now own.now elem_type given }
-        ensures posts { (past : List (Contribution X)) → StandsForPosts policy.now (view_of self.now) past → result ≡ fault policy.now (posts_of past) process comm sig.now own.now elem_type given }
+        ensures test { result
+            ≡ fault_of policy.now (view_of self.now) process comm sig.now own.now elem_type given }
+        ensures posts { (past : List (Contribution X)) →
+            StandsForPosts policy.now (view_of self.now) past →
+            result ≡ fault policy.now (posts_of past) process comm sig.now own.now elem_type given }
     {
         steps::refusal(
             &self.comms,
@@ -158,8 +175,9 @@ impl<X: Drop> PostState<X> {
         )
     }
 
-    /// Enters a post that meets no refusal, and says by its word whether the star rule barred it. Where it is the last of its instance, it
-    /// tells the outcome of the instance, and hands it out with all parts; a constructor whose communicators do not fit makes none.
+    /// Enters a post that meets no refusal, and says by its word whether the star rule barred it.
+    /// Where it is the last of its instance, it tells the outcome of the instance, and hands it out
+    /// with all parts; a constructor whose communicators do not fit makes none.
     ///
     /// Where memory runs out, nothing has changed, and statement and part come back.
     pub fn enter(
@@ -171,11 +189,15 @@ impl<X: Drop> PostState<X> {
         part: X,
     ) -> Result<Entered<X>, Unentered<X>>
         requires policy { self.old.accesses.classes ≡ policy.now.classes }
-        requires accepted { fault_of policy.now (view_of self.old) process comm stated.sig stated.own (stated_type stated.sig) stated.given ≡ None }
+        requires accepted { fault_of policy.now (view_of self.old) process comm stated.sig
+            stated.own (stated_type stated.sig) stated.given ≡ None }
         requires word { stated.barred ≡ not (star (has self.old.accesses) process stated.label) }
         requires few { place_of (view_of self.old) process comm < 2 ^ 62 }
-        ensures entered { IfOk result (λ entered. (past : List (Contribution X)) → StandsForPosts policy.now (view_of self.old) past →
-            StandsForPosts policy.now (view_of self.new) (contribution process comm stated part ∷ past) × Tells policy.now (contribution process comm stated part) past entered) }
+        ensures entered { IfOk result (λ entered. (past : List (Contribution X)) →
+            StandsForPosts policy.now (view_of self.old) past →
+            StandsForPosts policy.now (view_of self.new)
+            (contribution process comm stated part ∷ past)
+            × Tells policy.now (contribution process comm stated part) past entered) }
         ensures classes { self.new.accesses.classes ≡ self.old.accesses.classes }
         ensures unchanged { OnErr result (view_of self.new ≡ view_of self.old) }
         ensures back { IfErr result (λ refused. (refused.stated ≡ stated) × (refused.part ≡ part)) }
@@ -193,10 +215,12 @@ impl<X: Drop> PostState<X> {
         part: X,
     ) -> Result<Entered<X>, Unentered<X>>
         requires policy { self.old.accesses.classes ≡ policy.now.classes }
-        requires accepted { fault_of policy.now (view_of self.old) process comm stated.sig stated.own (stated_type stated.sig) stated.given ≡ None }
+        requires accepted { fault_of policy.now (view_of self.old) process comm stated.sig
+            stated.own (stated_type stated.sig) stated.given ≡ None }
         requires word { stated.barred ≡ not (star (has self.old.accesses) process stated.label) }
         requires few { place_of (view_of self.old) process comm < 2 ^ 62 }
-        ensures counted { IfOk result (λ entered. Enters policy.now (view_of self.old) (view_of self.new) (contribution process comm stated part) entered) }
+        ensures counted { IfOk result (λ entered. Enters policy.now (view_of self.old)
+            (view_of self.new) (contribution process comm stated part) entered) }
         ensures classes { self.new.accesses.classes ≡ self.old.accesses.classes }
         ensures unchanged { OnErr result (view_of self.new ≡ view_of self.old) }
         ensures back { IfErr result (λ refused. (refused.stated ≡ stated) × (refused.part ≡ part)) }

@@ -1,5 +1,6 @@
 //! The steps of a post, on the parts of a state.
-ghost use Rattle.std.specs.Prelude.{◌≡◌, ◌<◌, ◌≤◌, ◌^◌, ◌==◌, ℕ, not, length, slice_get, IfOk, IfErr, OnOk, OnErr, Some, None, true};
+ghost use Rattle.std.specs.Prelude.{◌≡◌, ◌<◌, ◌≤◌, ◌^◌, ◌==◌, ℕ, not, length, slice_get, IfOk};
+ghost use Rattle.std.specs.Prelude.{IfErr, OnOk, OnErr, Some, None, true};
 ghost use Rattle.std.specs.Option.{option_copied};
 ghost use Rattle.wall_labels.specs.declared.ids.TheConstants.{PROCESS_LIMIT};
 ghost use Rattle.wall_rules.specs.Histories.{has};
@@ -14,9 +15,11 @@ ghost use Rattle.run_model.specs.Comms.{Comm, processes, ask_by, ask_in, asks};
 ghost use Rattle.run_model.specs.Posts.{outcome_of, with_delivery, by_verdict};
 ghost use Rattle.run_model.specs.Refusals.{refused_for};
 ghost use Rattle.run_model.specs.Contributions.{contribution};
-ghost use Rattle.run_state.specs.Views.{IsPostState, seen, communicator_of, fault_among, fault_after, fault_of, place_of};
+ghost use Rattle.run_state.specs.Views.{IsPostState, seen, communicator_of, fault_among};
+ghost use Rattle.run_state.specs.Views.{fault_after, fault_of, place_of};
 ghost use Rattle.run_state.specs.Entering.{Changes, Answers, Enters};
-ghost use Rattle.run_state.specs.Upcoming.{IsNext, IsPrepared, roll_next, is_last, asks_with, stated_in, constructed};
+ghost use Rattle.run_state.specs.Upcoming.{IsNext, IsPrepared, roll_next, is_last, asks_with};
+ghost use Rattle.run_state.specs.Upcoming.{stated_in, constructed};
 
 use crate::communicators::Communicators;
 use crate::entered::{Entered, Unentered};
@@ -62,7 +65,8 @@ fn all_processes(alloc: Global, processes: u32) -> Result<Vec<ProcessId>, NoMemo
     Ok(list)
 }
 
-/// The first refusal that holds of the next post of a process on a communicator, where there are so many processes.
+/// The first refusal that holds of the next post of a process on a communicator, where there are so
+/// many processes.
 pub fn refusal<X: Drop>(
     comms: &Communicators,
     pending: &Pending<X>,
@@ -75,7 +79,9 @@ pub fn refusal<X: Drop>(
     given: usize,
 ) -> Option<Refusal>
     requires { processes ≤ PROCESS_LIMIT }
-    ensures { result ≡ fault_among processes comms.now (view_of_pending pending.now) process comm sig.now own.now elem_type given }
+    ensures { result
+        ≡ fault_among processes comms.now (view_of_pending pending.now) process comm sig.now own.now
+        elem_type given }
 {
     if process >= processes {
         return Some(Refusal::NoSuchProcess);
@@ -136,13 +142,17 @@ pub fn count<X: Drop>(
 ) -> Result<Entered<X>, Unentered<X>>
     requires post_state { IsPostState (seen comms.old pending.old histories.old) }
     requires policy { histories.old.classes ≡ policy.now.classes }
-    requires accepted { fault_of policy.now (seen comms.old pending.old histories.old) process comm stated.sig stated.own (stated_type stated.sig) stated.given ≡ None }
+    requires accepted { fault_of policy.now (seen comms.old pending.old histories.old) process comm
+        stated.sig stated.own (stated_type stated.sig) stated.given ≡ None }
     requires word { stated.barred ≡ not (star (has histories.old) process stated.label) }
     requires few { place_of (seen comms.old pending.old histories.old) process comm < 2 ^ 62 }
     ensures post_state { IsPostState (seen comms.new pending.new histories.new) }
-    ensures counted { IfOk result (λ entered. Enters policy.now (seen comms.old pending.old histories.old) (seen comms.new pending.new histories.new) (contribution process comm stated part) entered) }
+    ensures counted { IfOk result (λ entered. Enters policy.now
+        (seen comms.old pending.old histories.old) (seen comms.new pending.new histories.new)
+        (contribution process comm stated part) entered) }
     ensures classes { histories.new.classes ≡ histories.old.classes }
-    ensures unchanged { OnErr result (seen comms.new pending.new histories.new ≡ seen comms.old pending.old histories.old) }
+    ensures unchanged { OnErr result
+        (seen comms.new pending.new histories.new ≡ seen comms.old pending.old histories.old) }
     ensures back { IfErr result (λ refused. (refused.stated ≡ stated) × (refused.part ≡ part)) }
 {
     let Some(rank) = comms.group(comm).rank_of(process) else {
@@ -166,10 +176,14 @@ fn prepare<X: Drop>(
     stated: &Stated,
 ) -> Result<Option<Outcome>, NoMemory>
     requires there { comm < length comms.old }
-    requires upcoming { (found : Comm) → slice_get comms.old comm ≡ Some found → IsNext (view_of_pending pending.old) comm rank found stated.now }
+    requires upcoming { (found : Comm) → slice_get comms.old comm ≡ Some found →
+        IsNext (view_of_pending pending.old) comm rank found stated.now }
     ensures waiting { view_of_pending pending.new ≡ view_of_pending pending.old }
-    ensures room { OnOk result ((found : Comm) → slice_get comms.old comm ≡ Some found → HasRoom pending.new comm rank (communicator_of found)) }
-    ensures made { IfOk result (λ made. (found : Comm) → slice_get comms.old comm ≡ Some found → IsPrepared comms.old comms.new made (roll_next (view_of_pending pending.old) comm rank found stated.now)) }
+    ensures room { OnOk result ((found : Comm) → slice_get comms.old comm ≡ Some found →
+        HasRoom pending.new comm rank (communicator_of found)) }
+    ensures made { IfOk result (λ made. (found : Comm) → slice_get comms.old comm ≡ Some found →
+        IsPrepared comms.old comms.new made
+        (roll_next (view_of_pending pending.old) comm rank found stated.now)) }
     ensures kept { OnErr result (comms.new ≡ comms.old) }
 {
     pending.ready(comm, rank, comms.group(comm), comms.shape(comm))?;
@@ -186,8 +200,11 @@ fn make_if_full<X: Drop>(
     stated: &Stated,
 ) -> Result<Option<Outcome>, NoMemory>
     requires there { comm < length comms.old }
-    requires upcoming { (found : Comm) → slice_get comms.old comm ≡ Some found → IsNext (view_of_pending pending.now) comm rank found stated.now }
-    ensures made { IfOk result (λ made. (found : Comm) → slice_get comms.old comm ≡ Some found → IsPrepared comms.old comms.new made (roll_next (view_of_pending pending.now) comm rank found stated.now)) }
+    requires upcoming { (found : Comm) → slice_get comms.old comm ≡ Some found →
+        IsNext (view_of_pending pending.now) comm rank found stated.now }
+    ensures made { IfOk result (λ made. (found : Comm) → slice_get comms.old comm ≡ Some found →
+        IsPrepared comms.old comms.new made
+        (roll_next (view_of_pending pending.now) comm rank found stated.now)) }
     ensures kept { OnErr result (comms.new ≡ comms.old) }
 {
     if !stated.sig.is_constructor() {
@@ -224,7 +241,8 @@ fn all_asks(
     rank: u32,
     own: &Own,
 ) -> Result<Vec<Ask>, NoMemory>
-    ensures { IfOk result (λ asks. asks.items ≡ asks_with (option_copied roll.entry) size rank own.now) }
+    ensures { IfOk result
+        (λ asks. asks.items ≡ asks_with (option_copied roll.entry) size rank own.now) }
 {
     let mut asks = Vec::with_capacity(alloc, size as usize)?;
     for k in 0..size {
@@ -284,15 +302,22 @@ fn change<X: Drop>(
     made: Option<Outcome>,
 ) -> Entered<X>
     requires there { comm < length comms.now }
-    requires upcoming { (found : Comm) → slice_get comms.now comm ≡ Some found → IsNext (view_of_pending pending.old) comm rank found stated }
-    requires room { (found : Comm) → slice_get comms.now comm ≡ Some found → HasRoom pending.old comm rank (communicator_of found) }
+    requires upcoming { (found : Comm) → slice_get comms.now comm ≡ Some found →
+        IsNext (view_of_pending pending.old) comm rank found stated }
+    requires room { (found : Comm) → slice_get comms.now comm ≡ Some found →
+        HasRoom pending.old comm rank (communicator_of found) }
     requires word { stated.barred ≡ not (star (has histories.old) process stated.label) }
     requires policy { histories.old.classes ≡ policy.now.classes }
     requires few { (view_of_pending pending.old).arrivals comm rank < 2 ^ 62 }
     ensures classes { histories.new.classes ≡ histories.old.classes }
-    ensures changes { (found : Comm) (count : ℕ) → slice_get comms.now comm ≡ Some found → made ≡ constructed count (roll_next (view_of_pending pending.old) comm rank found stated) →
-        Changes policy.now count (seen comms.now pending.old histories.old) (seen comms.now pending.new histories.new) (record { rank = rank; comm = found }) (contribution process comm stated part)
-        × Answers policy.now count (seen comms.now pending.old histories.old) (record { rank = rank; comm = found }) (contribution process comm stated part) result }
+    ensures changes { (found : Comm) (count : ℕ) → slice_get comms.now comm ≡ Some found →
+        made ≡ constructed count (roll_next (view_of_pending pending.old) comm rank found stated) →
+        Changes policy.now count (seen comms.now pending.old histories.old)
+        (seen comms.now pending.new histories.new) (record { rank = rank; comm = found })
+        (contribution process comm stated part)
+        × Answers policy.now count (seen comms.now pending.old histories.old)
+        (record { rank = rank; comm = found }) (contribution process comm stated part)
+        result }
 {
     faultless_signatures_fit();
     let k = pending.arrivals(comm, rank);
@@ -314,7 +339,8 @@ fn change<X: Drop>(
     }
 }
 
-// The outcome of a full instance: what its constructor made, or else the verdict, by which the histories grow.
+// The outcome of a full instance: what its constructor made, or else the verdict, by which the
+// histories grow.
 fn settle_full(
     policy: &Policy,
     histories: &mut Histories,
@@ -323,8 +349,10 @@ fn settle_full(
 ) -> Outcome
     requires fit { IsFit roll.now }
     requires classes { histories.old.classes ≡ policy.now.classes }
-    ensures outcome { (before : ℕ) → made ≡ constructed before roll.now → result ≡ outcome_of policy.now (has histories.old) before roll.now }
-    ensures pairs { (before : ℕ) → made ≡ constructed before roll.now → has histories.new ≡ with_delivery policy.now (has histories.old) before (Some roll.now) }
+    ensures outcome { (before : ℕ) → made ≡ constructed before roll.now →
+        result ≡ outcome_of policy.now (has histories.old) before roll.now }
+    ensures pairs { (before : ℕ) → made ≡ constructed before roll.now →
+        has histories.new ≡ with_delivery policy.now (has histories.old) before (Some roll.now) }
     ensures processes { histories.new.processes ≡ histories.old.processes }
     ensures classes { histories.new.classes ≡ histories.old.classes }
 {

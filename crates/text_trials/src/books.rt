@@ -33,7 +33,8 @@ op = \"sum\"
 least = 3
 ";
 
-// The book of a broadcast of a bank's data to all, denied since the second process is at home at its rival.
+// The book of a broadcast of a bank's data to all, denied since the second process is at home at
+// its rival.
 const BOOK: &str = "book 1
 post 0 0 bcast 0 int32 2 gives 2 as alpha passed
 post 1 0 bcast 0 int32 2 gives 0 as none passed
@@ -68,7 +69,8 @@ least = 3
 distinct = 3
 ";
 
-// Reads a policy and lends it to the steps of a test. What is let go of without `drop` is taken apart in the function's own proof.
+// Reads a policy and lends it to the steps of a test. What is let go of without `drop` is taken
+// apart in the function's own proof.
 pub(crate) fn under<F>(rt: &(impl AllocGlobal + Abort), wall: &str, steps: F) -> Result<(), Fail>
 where
     F: FnOnce(&Policy) -> Result<(), Fail>,
@@ -95,8 +97,8 @@ fn fault_of(alloc: Global, policy: &Policy, text: &[u8]) -> Option<ReadFault> {
     }
 }
 
-// How the book of a text is written by a writer with this fuse, and how much is left of the text. None where the text is not read, or where
-// other bytes than its own are written.
+// How the book of a text is written by a writer with this fuse, and how much is left of the text.
+// None where the text is not read, or where other bytes than its own are written.
 fn written(
     alloc: Global,
     policy: &Policy,

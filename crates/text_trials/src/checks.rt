@@ -14,7 +14,8 @@ use wall_labels::{DatasetId, Label, ProcessId};
 use wall_policy::Policy;
 use wall_verdict::Rule;
 
-// The datasets 0 alpha and 1 beta are rivals. Process 0 is at home at alpha, process 1 at beta, and the others nowhere.
+// The datasets 0 alpha and 1 beta are rivals. Process 0 is at home at alpha, process 1 at beta, and
+// the others nowhere.
 const POLICY: &str =
     "version = 1\n[[class]]\nname = \"banks\"\ndatasets = [\"alpha\", \"beta\"]\n[[process]]\nname = \"a0\"\nhome = \"alpha\"\n[[process]]\nname = \"b0\"\nhome = \"beta\"\n[[process]]\nname = \"n0\"\n[[process]]\nname = \"n1\"\n";
 

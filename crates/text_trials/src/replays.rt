@@ -6,7 +6,8 @@ use std::process::Abort;
 use std::test::Fail;
 use wall_labels::memory::{ExpectingSink, Fuse, MemorySource};
 
-// The first of the worked examples, with comments, empty lines, ends of two kinds, and a last line without one.
+// The first of the worked examples, with comments, empty lines, ends of two kinds, and a last line
+// without one.
 const SCRIPT: &[u8] = b"# a0 sends alpha's numbers to all
 post 0 0 bcast 0 int32 2 as alpha 7 -1\r
 post 1 0 bcast 0 int32 2\r

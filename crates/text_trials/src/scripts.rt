@@ -5,7 +5,8 @@
 //! apart in the function's own proof, which costs half a minute.
 ghost use Rattle.std.specs.Prelude.{◌≡◌, ◌<◌, IfOk, All, length};
 ghost use Rattle.wall_policy.specs.Policy.{ChineseWall};
-ghost use Rattle.run_model.specs.Known.{HasKnownLabel, IsKnownReply, ScriptsHaveKnownLabels, IsKnownLabel};
+ghost use Rattle.run_model.specs.Known.{HasKnownLabel, IsKnownReply, ScriptsHaveKnownLabels};
+ghost use Rattle.run_model.specs.Known.{IsKnownLabel};
 
 use coll_text::{label_text, put, put_decimal, put_spaced, write_statement};
 use hall_script::*;
@@ -238,7 +239,8 @@ fn lines_say_their_calls(rt: HostRuntime) {
 
 // Whether the reply has this line, which is put behind what is there.
 fn has_line(rt: &(impl AllocGlobal + Abort), reply: Reply, line: &str) -> bool
-    requires { (wall : ChineseWall) → 1 < length wall.process_names → 0 < length wall.dataset_names → IsKnownReply wall reply }
+    requires { (wall : ChineseWall) → 1 < length wall.process_names →
+        0 < length wall.dataset_names → IsKnownReply wall reply }
 {
     let policy = wall(rt);
     assert!(rt; 1 < policy.processes() && 0 < policy.datasets());

@@ -6,4 +6,5 @@ use Rattle.audit_book.proofs.CheckLemmas.{bare_posts}
 use Rattle.audit_book.proofs.check.passes.Goals as goal
 
 pub returns : goal.returns
-returns c = λ wall past stands. c.passes.ensures.posts wall (bare past) stands ∙ ap (λ ps. star (histories wall ps) c.args.process c.args.label.now) (bare_posts past)
+returns c = λ wall past stands. c.passes.ensures.posts wall (bare past) stands
+    ∙ ap (λ ps. star (histories wall ps) c.args.process c.args.label.now) (bare_posts past)

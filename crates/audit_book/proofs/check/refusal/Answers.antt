@@ -10,4 +10,5 @@ pub returns : goal.returns
 returns c = λ past stands.
     let ty = c.unwrap_or-elem_type.ensures ∙ ap (λ o. unwrap_or o Int8) c.elem_type.ensures in
     c.refusal.ensures.posts (bare past) stands
-    ∙ (λ i. fault c.args.policy.now (bare_posts past i) (c.number.ensures.value i) c.args.comm c.args.stated.now.sig c.args.stated.now.own (ty i) c.args.stated.now.given)
+    ∙ (λ i. fault c.args.policy.now (bare_posts past i) (c.number.ensures.value i) c.args.comm
+    c.args.stated.now.sig c.args.stated.now.own (ty i) c.args.stated.now.given)

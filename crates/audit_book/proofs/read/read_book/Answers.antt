@@ -13,7 +13,9 @@ unfolding book_in
 returns-in-Ok-clause-answer c = search rules
 
 pub returns-in-Ok-clause-spelled : goal.returns-in-Ok-clause-spelled
-returns-in-Ok-clause-spelled c = book_found c.args.policy.now c.args.text.now c.take_lines.new.book.list (returns-in-Ok-clause-answer c)
+returns-in-Ok-clause-spelled c = book_found c.args.policy.now c.args.text.now
+    c.take_lines.new.book.list (returns-in-Ok-clause-answer c)
 
 pub returns-in-Ok-clause-known : goal.returns-in-Ok-clause-known
-returns-in-Ok-clause-known c = book_known c.args.policy.now c.args.text.now c.take_lines.new.book.list (returns-in-Ok-clause-answer c)
+returns-in-Ok-clause-known c = book_known c.args.policy.now c.args.text.now
+    c.take_lines.new.book.list (returns-in-Ok-clause-answer c)

@@ -6,5 +6,6 @@ use Rattle.audit_book.proofs.write.write_entries.Given as goal
 abbrev pub invariant-loop-entry : goal.invariant-loop-entry
 invariant-loop-entry g l = record {
   count : g.W.Sink.failures l.sink ≡ g.W.Sink.failures l.fn.sink;
-  moved : Moves (g.W.Sink.contents l.fn.sink) (g.W.Sink.contents l.sink) (l.fn.text.items ++ entry_lines l.policy (take l.entry-index l.entries)) l.text.items;
+  moved : Moves (g.W.Sink.contents l.fn.sink) (g.W.Sink.contents l.sink)
+      (l.fn.text.items ++ entry_lines l.policy (take l.entry-index l.entries)) l.text.items;
 }

@@ -8,6 +8,8 @@ use Rattle.hall_core.proofs.requests.no_requests.Goals as goal
 
 pub loop-preserved : goal.loop-preserved
 loop-preserved c = record {
-  none = ap requests_of c.in_ok-push.ensures.items ∙ (look_push (λ (o : Option Asked). option_map_or (λ a. a.list) o []) _ _ c.new.ensures ∙ c.loop.invariant.none);
+  none = ap requests_of c.in_ok-push.ensures.items
+      ∙ (look_push (λ (o : Option Asked). option_map_or (λ a. a.list) o []) _ _ c.new.ensures
+      ∙ c.loop.invariant.none);
   number = grind (arith, common_steps);
 }

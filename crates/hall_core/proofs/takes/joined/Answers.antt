@@ -14,7 +14,8 @@ returns-in-Some-clause-told c =
     let size : c.size.result ≡ length at.0.members = c.size.ensures.value ∙ ap length group in
     ap (λ n. NewComm c.loop-comm.comm c.in-Some.rank n) size
     ∙ sym (c.loop-comm.invariant.rest
-    ∙ joined_here c.args.member c.args.post_state.now.comms c.loop-comm.comm (c.args.first + c.args.number) c.in-Some.rank at.0 c.loop-comm-test.true at.1
+    ∙ joined_here c.args.member c.args.post_state.now.comms c.loop-comm.comm
+    (c.args.first + c.args.number) c.in-Some.rank at.0 c.loop-comm-test.true at.1
     (ap (λ ms. rank_in ms c.args.member) (sym group) ∙ (sym c.rank_of.ensures ∙ c.in-Some.is)))
 
 pub loop-comm-preserved : goal.loop-comm-preserved
@@ -25,6 +26,8 @@ loop-comm-preserved c =
     record {
       end = refl;
       rest = c.loop-comm.invariant.rest
-          ∙ joined_next c.args.member c.args.post_state.now.comms c.loop-comm.comm (c.args.first + c.args.number) at.0 c.loop-comm-test.true at.1
-          (ap (λ ms. rank_in ms c.args.member) (sym group) ∙ (sym c.rank_of.ensures ∙ c.in-None.is));
+          ∙ joined_next c.args.member c.args.post_state.now.comms c.loop-comm.comm
+          (c.args.first + c.args.number) at.0 c.loop-comm-test.true at.1
+          (ap (λ ms. rank_in ms c.args.member) (sym group)
+          ∙ (sym c.rank_of.ensures ∙ c.in-None.is));
     }

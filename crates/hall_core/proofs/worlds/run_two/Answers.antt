@@ -1,4 +1,5 @@
-use Rattle.hall_core.proofs.WorldsLemmas.{values_decide_nothing_in, who_holds_nothing_learns_nothing_in}
+use Rattle.hall_core.proofs.WorldsLemmas.{values_decide_nothing_in}
+use Rattle.hall_core.proofs.WorldsLemmas.{who_holds_nothing_learns_nothing_in}
 use Rattle.hall_core.proofs.worlds.run_two.Goals as goal
 
 pub returns-clause-one_wall : goal.returns-clause-one_wall

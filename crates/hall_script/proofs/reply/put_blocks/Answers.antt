@@ -8,5 +8,6 @@ returns-in_err-put_block-clause-front c =
     let old = c.args.line.now.items in
     let so_far = blocks_text (take c.loop-block.block-index c.args.blocks.now) in
     front_behind old c.put.new.text.items c.put_block.new.line.items (so_far ++ 32 ∷ [])
-    (c.in_ok-put.ensures.ok ∙ ap (λ t. t ++ 32 ∷ []) c.loop-block.invariant ∙ append_assoc old so_far (32 ∷ []))
+    (c.in_ok-put.ensures.ok ∙ ap (λ t. t ++ 32 ∷ []) c.loop-block.invariant
+    ∙ append_assoc old so_far (32 ∷ []))
     c.put_block.ensures.front

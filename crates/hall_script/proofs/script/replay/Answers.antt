@@ -6,33 +6,45 @@ use Rattle.hall_script.proofs.script.replay.Goals as goal
 
 pub returns-in-Err-NoMemory-clause-fault : goal.returns-in-Err-NoMemory-clause-fault
 returns-in-Err-NoMemory-clause-fault g c =
-    let source = used g.R.Source.failures g.R.Source.remaining c.args.source.now c.read_device.new.source in
+    let source = used g.R.Source.failures g.R.Source.remaining c.args.source.now
+    c.read_device.new.source in
     let sink = used g.W.Sink.failures g.W.Sink.contents c.args.sink.now c.args.sink.now in
-    short_of_memory c.args.policy source sink (rw c.in-Err-NoMemory.field-0-is at c.in-Err-NoMemory.ensures.fault) refl
+    short_of_memory c.args.policy source sink
+    (rw c.in-Err-NoMemory.field-0-is at c.in-Err-NoMemory.ensures.fault) refl
 
 pub returns-clause-fault : goal.returns-clause-fault
 returns-clause-fault g c =
-    let source = used g.R.Source.failures g.R.Source.remaining c.args.source.now c.read_device.new.source in
+    let source = used g.R.Source.failures g.R.Source.remaining c.args.source.now
+    c.read_device.new.source in
     let sink = used g.W.Sink.failures g.W.Sink.contents c.args.sink.now c.args.sink.now in
     short_of_memory c.args.policy source sink c.in-Ok.ensures.whole.0 refl
 
 pub returns-in-Ok-open-clause-fault : goal.returns-in-Ok-open-clause-fault
 returns-in-Ok-open-clause-fault g c =
-    let source = used g.R.Source.failures g.R.Source.remaining c.args.source.now c.read_device.new.source in
+    let source = used g.R.Source.failures g.R.Source.remaining c.args.source.now
+    c.read_device.new.source in
     let sink = used g.W.Sink.failures g.W.Sink.contents c.args.sink.now c.answered.new.sink in
-    not_handed_back StandsFor (λ (h : HallValue). h.policy) c.args.policy source sink c.in-Ok-open.hall.policy c.in-Ok.script.items c.deref.result.now
-    c.in-Ok-open.ensures.policy c.deref.ensures.value c.in-Ok.ensures.whole c.answered.result c.answered.ensures.stopped
+    not_handed_back StandsFor (λ (h : HallValue). h.policy) c.args.policy source sink
+    c.in-Ok-open.hall.policy c.in-Ok.script.items c.deref.result.now
+    c.in-Ok-open.ensures.policy c.deref.ensures.value c.in-Ok.ensures.whole c.answered.result
+    c.answered.ensures.stopped
 
 pub returns-in-Ok-open-clause-replayed : goal.returns-in-Ok-open-clause-replayed
 returns-in-Ok-open-clause-replayed g c =
-    let source = used g.R.Source.failures g.R.Source.remaining c.args.source.now c.read_device.new.source in
+    let source = used g.R.Source.failures g.R.Source.remaining c.args.source.now
+    c.read_device.new.source in
     let sink = used g.W.Sink.failures g.W.Sink.contents c.args.sink.now c.answered.new.sink in
-    handed_back StandsFor (λ (h : HallValue). h.policy) c.args.policy source sink c.in-Ok-open.hall.policy c.in-Ok.script.items c.deref.result.now
-    c.in-Ok-open.ensures.policy c.deref.ensures.value c.in-Ok.ensures.whole c.answered.result c.answered.ensures.finished
+    handed_back StandsFor (λ (h : HallValue). h.policy) c.args.policy source sink
+    c.in-Ok-open.hall.policy c.in-Ok.script.items c.deref.result.now
+    c.in-Ok-open.ensures.policy c.deref.ensures.value c.in-Ok.ensures.whole c.answered.result
+    c.answered.ensures.finished
 
 pub returns-in-Ok-open-clause-policy : goal.returns-in-Ok-open-clause-policy
 returns-in-Ok-open-clause-policy g c =
-    let source = used g.R.Source.failures g.R.Source.remaining c.args.source.now c.read_device.new.source in
+    let source = used g.R.Source.failures g.R.Source.remaining c.args.source.now
+    c.read_device.new.source in
     let sink = used g.W.Sink.failures g.W.Sink.contents c.args.sink.now c.answered.new.sink in
-    same_policy StandsFor (λ (h : HallValue). h.policy) c.args.policy source sink c.in-Ok-open.hall.policy c.in-Ok.script.items c.deref.result.now
-    c.in-Ok-open.ensures.policy c.deref.ensures.value c.in-Ok.ensures.whole c.answered.result c.answered.ensures.finished
+    same_policy StandsFor (λ (h : HallValue). h.policy) c.args.policy source sink
+    c.in-Ok-open.hall.policy c.in-Ok.script.items c.deref.result.now
+    c.in-Ok-open.ensures.policy c.deref.ensures.value c.in-Ok.ensures.whole c.answered.result
+    c.answered.ensures.finished

@@ -1,4 +1,5 @@
-use Rattle.run_model.proofs.KindRowProofs.{all_gather_and_wait_is_legal, all_gather_and_wait_is_wrong_1}
+use Rattle.run_model.proofs.KindRowProofs.{all_gather_and_wait_is_legal}
+use Rattle.run_model.proofs.KindRowProofs.{all_gather_and_wait_is_wrong_1}
 use Rattle.run_model.proofs.kind_rows.all_gather_and_wait.Goals as goal
 
 pub returns-clause-legal : goal.returns-clause-legal

@@ -1,4 +1,6 @@
-use Rattle.run_model.proofs.KindRowProofs.{empty_and_reordered_is_legal, empty_and_reordered_is_wrong_1, empty_and_reordered_is_wrong_2}
+use Rattle.run_model.proofs.KindRowProofs.{empty_and_reordered_is_legal}
+use Rattle.run_model.proofs.KindRowProofs.{empty_and_reordered_is_wrong_1}
+use Rattle.run_model.proofs.KindRowProofs.{empty_and_reordered_is_wrong_2}
 use Rattle.run_model.proofs.kind_rows.empty_and_reordered.Goals as goal
 
 pub returns-clause-legal : goal.returns-clause-legal

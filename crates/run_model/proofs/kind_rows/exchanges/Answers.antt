@@ -1,4 +1,5 @@
-use Rattle.run_model.proofs.KindRowProofs.{exchanges_is_legal, exchanges_is_wrong_1, exchanges_is_wrong_2}
+use Rattle.run_model.proofs.KindRowProofs.{exchanges_is_legal, exchanges_is_wrong_1}
+use Rattle.run_model.proofs.KindRowProofs.{exchanges_is_wrong_2}
 use Rattle.run_model.proofs.kind_rows.exchanges.Goals as goal
 
 pub returns-clause-legal : goal.returns-clause-legal

@@ -1,4 +1,7 @@
-use Rattle.run_model.proofs.KindRowProofs.{neighbours_of_a_line_is_legal, neighbours_of_a_line_is_wrong_1, neighbours_of_a_line_is_wrong_2, neighbours_of_a_line_is_wrong_3}
+use Rattle.run_model.proofs.KindRowProofs.{neighbours_of_a_line_is_legal}
+use Rattle.run_model.proofs.KindRowProofs.{neighbours_of_a_line_is_wrong_1}
+use Rattle.run_model.proofs.KindRowProofs.{neighbours_of_a_line_is_wrong_2}
+use Rattle.run_model.proofs.KindRowProofs.{neighbours_of_a_line_is_wrong_3}
 use Rattle.run_model.proofs.kind_rows.neighbours_of_a_line.Goals as goal
 
 pub returns-clause-legal : goal.returns-clause-legal

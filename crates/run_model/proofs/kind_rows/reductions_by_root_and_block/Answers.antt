@@ -1,4 +1,6 @@
-use Rattle.run_model.proofs.KindRowProofs.{reductions_by_root_and_block_is_legal, reductions_by_root_and_block_is_wrong_1, reductions_by_root_and_block_is_wrong_2}
+use Rattle.run_model.proofs.KindRowProofs.{reductions_by_root_and_block_is_legal}
+use Rattle.run_model.proofs.KindRowProofs.{reductions_by_root_and_block_is_wrong_1}
+use Rattle.run_model.proofs.KindRowProofs.{reductions_by_root_and_block_is_wrong_2}
 use Rattle.run_model.proofs.kind_rows.reductions_by_root_and_block.Goals as goal
 
 pub returns-clause-legal : goal.returns-clause-legal

@@ -1,4 +1,5 @@
-use Rattle.run_model.proofs.KindRowProofs.{scatters_is_legal, scatters_is_wrong_1, scatters_is_wrong_2}
+use Rattle.run_model.proofs.KindRowProofs.{scatters_is_legal, scatters_is_wrong_1}
+use Rattle.run_model.proofs.KindRowProofs.{scatters_is_wrong_2}
 use Rattle.run_model.proofs.kind_rows.scatters.Goals as goal
 
 pub returns-clause-legal : goal.returns-clause-legal

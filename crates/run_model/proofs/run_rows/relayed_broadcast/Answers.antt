@@ -1,4 +1,5 @@
-use Rattle.run_model.proofs.RunRowProofs.{relayed_broadcast_is_legal, broker_holds_alpha, crude_holds_alpha, beta_holds_no_alpha}
+use Rattle.run_model.proofs.RunRowProofs.{relayed_broadcast_is_legal, broker_holds_alpha}
+use Rattle.run_model.proofs.RunRowProofs.{crude_holds_alpha, beta_holds_no_alpha}
 use Rattle.run_model.proofs.run_rows.relayed_broadcast.Goals as goal
 
 pub returns-clause-legal : goal.returns-clause-legal

@@ -1,4 +1,5 @@
-use Rattle.run_model.proofs.TypeRowProofs.{bits_and_places_is_legal, bits_and_places_is_wrong_1, bits_and_places_is_wrong_2}
+use Rattle.run_model.proofs.TypeRowProofs.{bits_and_places_is_legal, bits_and_places_is_wrong_1}
+use Rattle.run_model.proofs.TypeRowProofs.{bits_and_places_is_wrong_2}
 use Rattle.run_model.proofs.type_rows.bits_and_places.Goals as goal
 
 pub returns-clause-legal : goal.returns-clause-legal

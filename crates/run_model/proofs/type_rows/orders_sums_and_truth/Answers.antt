@@ -1,4 +1,7 @@
-use Rattle.run_model.proofs.TypeRowProofs.{orders_sums_and_truth_is_legal, orders_sums_and_truth_is_wrong_1, orders_sums_and_truth_is_wrong_2, orders_sums_and_truth_is_wrong_3}
+use Rattle.run_model.proofs.TypeRowProofs.{orders_sums_and_truth_is_legal}
+use Rattle.run_model.proofs.TypeRowProofs.{orders_sums_and_truth_is_wrong_1}
+use Rattle.run_model.proofs.TypeRowProofs.{orders_sums_and_truth_is_wrong_2}
+use Rattle.run_model.proofs.TypeRowProofs.{orders_sums_and_truth_is_wrong_3}
 use Rattle.run_model.proofs.type_rows.orders_sums_and_truth.Goals as goal
 
 pub returns-clause-legal : goal.returns-clause-legal

@@ -1,4 +1,6 @@
-use Rattle.run_model.proofs.WallRowProofs.{barred_before_offences_is_legal, barred_before_offences_is_wrong_1, barred_before_offences_is_wrong_2}
+use Rattle.run_model.proofs.WallRowProofs.{barred_before_offences_is_legal}
+use Rattle.run_model.proofs.WallRowProofs.{barred_before_offences_is_wrong_1}
+use Rattle.run_model.proofs.WallRowProofs.{barred_before_offences_is_wrong_2}
 use Rattle.run_model.proofs.wall_rows.barred_before_offences.Goals as goal
 
 pub returns-clause-legal : goal.returns-clause-legal

@@ -1,4 +1,10 @@
-use Rattle.run_model.proofs.WallRowProofs.{charged_before_it_is_taken_is_legal, charged_before_it_is_taken_is_wrong_1, charged_before_it_is_taken_is_wrong_2, charged_before_it_is_taken_is_wrong_3, charged_before_it_is_taken_is_wrong_4, charged_before_it_is_taken_is_wrong_5, charged_before_it_is_taken_is_wrong_6}
+use Rattle.run_model.proofs.WallRowProofs.{charged_before_it_is_taken_is_legal}
+use Rattle.run_model.proofs.WallRowProofs.{charged_before_it_is_taken_is_wrong_1}
+use Rattle.run_model.proofs.WallRowProofs.{charged_before_it_is_taken_is_wrong_2}
+use Rattle.run_model.proofs.WallRowProofs.{charged_before_it_is_taken_is_wrong_3}
+use Rattle.run_model.proofs.WallRowProofs.{charged_before_it_is_taken_is_wrong_4}
+use Rattle.run_model.proofs.WallRowProofs.{charged_before_it_is_taken_is_wrong_5}
+use Rattle.run_model.proofs.WallRowProofs.{charged_before_it_is_taken_is_wrong_6}
 use Rattle.run_model.proofs.wall_rows.charged_before_it_is_taken.Goals as goal
 
 pub returns-clause-legal : goal.returns-clause-legal

@@ -1,4 +1,5 @@
-use Rattle.run_model.proofs.WallRowProofs.{charged_in_the_other_order_is_legal, charged_in_the_other_order_is_wrong_1}
+use Rattle.run_model.proofs.WallRowProofs.{charged_in_the_other_order_is_legal}
+use Rattle.run_model.proofs.WallRowProofs.{charged_in_the_other_order_is_wrong_1}
 use Rattle.run_model.proofs.wall_rows.charged_in_the_other_order.Goals as goal
 
 pub returns-clause-legal : goal.returns-clause-legal

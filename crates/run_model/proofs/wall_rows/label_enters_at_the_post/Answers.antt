@@ -1,4 +1,5 @@
-use Rattle.run_model.proofs.WallRowProofs.{label_enters_at_the_post_is_legal, label_enters_at_the_post_is_wrong_1}
+use Rattle.run_model.proofs.WallRowProofs.{label_enters_at_the_post_is_legal}
+use Rattle.run_model.proofs.WallRowProofs.{label_enters_at_the_post_is_wrong_1}
 use Rattle.run_model.proofs.wall_rows.label_enters_at_the_post.Goals as goal
 
 pub returns-clause-legal : goal.returns-clause-legal

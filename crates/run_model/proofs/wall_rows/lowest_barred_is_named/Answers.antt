@@ -1,4 +1,8 @@
-use Rattle.run_model.proofs.WallRowProofs.{lowest_barred_is_named_is_legal, lowest_barred_is_named_is_wrong_1, lowest_barred_is_named_is_wrong_2, lowest_barred_is_named_is_wrong_3, lowest_barred_is_named_is_wrong_4}
+use Rattle.run_model.proofs.WallRowProofs.{lowest_barred_is_named_is_legal}
+use Rattle.run_model.proofs.WallRowProofs.{lowest_barred_is_named_is_wrong_1}
+use Rattle.run_model.proofs.WallRowProofs.{lowest_barred_is_named_is_wrong_2}
+use Rattle.run_model.proofs.WallRowProofs.{lowest_barred_is_named_is_wrong_3}
+use Rattle.run_model.proofs.WallRowProofs.{lowest_barred_is_named_is_wrong_4}
 use Rattle.run_model.proofs.wall_rows.lowest_barred_is_named.Goals as goal
 
 pub returns-clause-legal : goal.returns-clause-legal

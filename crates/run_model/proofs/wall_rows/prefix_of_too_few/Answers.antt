@@ -1,4 +1,5 @@
-use Rattle.run_model.proofs.WallRowProofs.{prefix_of_too_few_is_legal, prefix_of_too_few_is_wrong_1, prefix_of_too_few_is_wrong_2}
+use Rattle.run_model.proofs.WallRowProofs.{prefix_of_too_few_is_legal, prefix_of_too_few_is_wrong_1}
+use Rattle.run_model.proofs.WallRowProofs.{prefix_of_too_few_is_wrong_2}
 use Rattle.run_model.proofs.wall_rows.prefix_of_too_few.Goals as goal
 
 pub returns-clause-legal : goal.returns-clause-legal

@@ -1,4 +1,7 @@
-use Rattle.run_model.proofs.WallRowProofs.{several_outstanding_is_legal, several_outstanding_is_wrong_1, several_outstanding_is_wrong_2, several_outstanding_is_wrong_3}
+use Rattle.run_model.proofs.WallRowProofs.{several_outstanding_is_legal}
+use Rattle.run_model.proofs.WallRowProofs.{several_outstanding_is_wrong_1}
+use Rattle.run_model.proofs.WallRowProofs.{several_outstanding_is_wrong_2}
+use Rattle.run_model.proofs.WallRowProofs.{several_outstanding_is_wrong_3}
 use Rattle.run_model.proofs.wall_rows.several_outstanding.Goals as goal
 
 pub returns-clause-legal : goal.returns-clause-legal

@@ -1,4 +1,8 @@
-use Rattle.run_model.proofs.WallRowProofs.{star_rule_at_the_post_is_legal, star_rule_at_the_post_is_wrong_1, star_rule_at_the_post_is_wrong_2, star_rule_at_the_post_is_wrong_3, star_rule_at_the_post_is_wrong_4}
+use Rattle.run_model.proofs.WallRowProofs.{star_rule_at_the_post_is_legal}
+use Rattle.run_model.proofs.WallRowProofs.{star_rule_at_the_post_is_wrong_1}
+use Rattle.run_model.proofs.WallRowProofs.{star_rule_at_the_post_is_wrong_2}
+use Rattle.run_model.proofs.WallRowProofs.{star_rule_at_the_post_is_wrong_3}
+use Rattle.run_model.proofs.WallRowProofs.{star_rule_at_the_post_is_wrong_4}
 use Rattle.run_model.proofs.wall_rows.star_rule_at_the_post.Goals as goal
 
 pub returns-clause-legal : goal.returns-clause-legal

@@ -1,4 +1,5 @@
-use Rattle.run_model.proofs.WallRowProofs.{sum_of_too_few_is_legal, sum_of_too_few_is_wrong_1, sum_of_too_few_is_wrong_2, sum_of_too_few_is_wrong_3}
+use Rattle.run_model.proofs.WallRowProofs.{sum_of_too_few_is_legal, sum_of_too_few_is_wrong_1}
+use Rattle.run_model.proofs.WallRowProofs.{sum_of_too_few_is_wrong_2, sum_of_too_few_is_wrong_3}
 use Rattle.run_model.proofs.wall_rows.sum_of_too_few.Goals as goal
 
 pub returns-clause-legal : goal.returns-clause-legal

@@ -1,4 +1,7 @@
-use Rattle.run_model.proofs.WallRowProofs.{sum_of_two_datasets_is_legal, sum_of_two_datasets_is_legal_in_version_2, sum_of_two_datasets_is_wrong_1, sum_of_two_datasets_is_wrong_2}
+use Rattle.run_model.proofs.WallRowProofs.{sum_of_two_datasets_is_legal}
+use Rattle.run_model.proofs.WallRowProofs.{sum_of_two_datasets_is_legal_in_version_2}
+use Rattle.run_model.proofs.WallRowProofs.{sum_of_two_datasets_is_wrong_1}
+use Rattle.run_model.proofs.WallRowProofs.{sum_of_two_datasets_is_wrong_2}
 use Rattle.run_model.proofs.wall_rows.sum_of_two_datasets.Goals as goal
 
 pub returns-clause-legal : goal.returns-clause-legal

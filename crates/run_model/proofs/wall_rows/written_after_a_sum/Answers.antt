@@ -1,4 +1,7 @@
-use Rattle.run_model.proofs.WallRowProofs.{written_after_a_sum_is_legal, written_after_a_sum_is_legal_in_version_2, written_after_a_sum_is_wrong_1, written_after_a_sum_is_wrong_2}
+use Rattle.run_model.proofs.WallRowProofs.{written_after_a_sum_is_legal}
+use Rattle.run_model.proofs.WallRowProofs.{written_after_a_sum_is_legal_in_version_2}
+use Rattle.run_model.proofs.WallRowProofs.{written_after_a_sum_is_wrong_1}
+use Rattle.run_model.proofs.WallRowProofs.{written_after_a_sum_is_wrong_2}
 use Rattle.run_model.proofs.wall_rows.written_after_a_sum.Goals as goal
 
 pub returns-clause-legal : goal.returns-clause-legal

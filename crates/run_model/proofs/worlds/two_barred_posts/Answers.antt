@@ -1,4 +1,5 @@
-use Rattle.run_model.proofs.WorldRowProofs.{two_barred_posts_are_alike, two_barred_posts_look_the_same}
+use Rattle.run_model.proofs.WorldRowProofs.{two_barred_posts_are_alike}
+use Rattle.run_model.proofs.WorldRowProofs.{two_barred_posts_look_the_same}
 use Rattle.run_model.proofs.worlds.two_barred_posts.Goals as goal
 
 pub returns-clause-alike : goal.returns-clause-alike

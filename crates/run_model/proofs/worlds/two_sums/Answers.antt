@@ -1,4 +1,5 @@
-use Rattle.run_model.proofs.WorldRowProofs.{two_sums_are_alike, two_sums_look_the_same, sums_are_spared}
+use Rattle.run_model.proofs.WorldRowProofs.{two_sums_are_alike, two_sums_look_the_same}
+use Rattle.run_model.proofs.WorldRowProofs.{sums_are_spared}
 use Rattle.run_model.proofs.worlds.two_sums.Goals as goal
 
 pub returns-clause-alike : goal.returns-clause-alike

@@ -1,4 +1,5 @@
-use Rattle.std.proofs.Common.{◌∙◌, ◌+◌, ◌++◌, ◌∷◌, [], length, ap, sym, arith, Some, append_assoc, length-append, drop}
+use Rattle.std.proofs.Common.{◌∙◌, ◌+◌, ◌++◌, ◌∷◌, [], length, ap, sym, arith, Some, append_assoc}
+use Rattle.std.proofs.Common.{length-append, drop}
 use Rattle.mpi_cart.specs.Grids.{Topology}
 use Rattle.run_state.specs.Laid.{laid}
 use Rattle.run_state.proofs.MakingLemmas.{entered_more, is_copy}
@@ -21,9 +22,12 @@ loop-grid-preserved c =
       count = omega (arith, length-append c.loop-grid.yielded (c.in-Some.grid ∷ []));
       at = omega arith;
       all = λ g copies.
-          let copy = is_copy c.loop-grid.yielded c.in-Some.grid rest (length c.args.grids.items) g (front ∙ copies) in
-          let items = push.items ∙ ap (λ (t : Topology). c.loop-grid.shapes.items ++ record { size = c.size-size.result; grid = Some t } ∷ []) copy in
+          let copy = is_copy c.loop-grid.yielded c.in-Some.grid rest (length c.args.grids.items) g
+          (front ∙ copies) in
+          let items = push.items ∙ ap (λ (t : Topology). c.loop-grid.shapes.items
+          ++ record { size = c.size-size.result; grid = Some t } ∷ []) copy in
           ap (λ xs. xs ++ laid (Some g) (drop (c.loop-grid.comm + 1) c.args.table.now)) items
-          ∙ entered_more (Some g) c.args.table.now c.loop-grid.comm c.loop-grid.shapes.items _ _ (omega arith) size (i.all g copies);
+          ∙ entered_more (Some g) c.args.table.now c.loop-grid.comm c.loop-grid.shapes.items _ _
+          (omega arith) size (i.all g copies);
       room = (let kept = push.capacity in let room = i.room in omega arith);
     }

@@ -11,6 +11,7 @@ invariant-loop-grid l = record {
   count : length l.shapes.items ≡ length l.initial.shapes.items + length l.yielded;
   at : length l.shapes.items ≡ l.comm;
   all : (g : Topology) → l.fn.grids.items ≡ replicate (length l.fn.grids.items) g →
-      l.shapes.items ++ laid (Some g) (drop l.comm l.table) ≡ l.initial.shapes.items ++ laid (Some g) (drop (length l.initial.shapes.items) l.table);
+      l.shapes.items ++ laid (Some g) (drop l.comm l.table)
+      ≡ l.initial.shapes.items ++ laid (Some g) (drop (length l.initial.shapes.items) l.table);
   room : COMMUNICATOR_LIMIT ≤ vec_capacity l.shapes;
 }

@@ -14,7 +14,9 @@ loop-comm-preserved c =
     let end = c.len-end.ensures.value in
     record {
       count = omega arith;
-      all = ap (λ xs. xs ++ laid None (drop (c.loop-comm.comm + 1) c.args.table.now)) push.items ∙ entered_more None c.args.table.now c.loop-comm.comm c.loop-comm.shapes.items _ _ (omega arith) size i.all;
+      all = ap (λ xs. xs ++ laid None (drop (c.loop-comm.comm + 1) c.args.table.now)) push.items
+          ∙ entered_more None c.args.table.now c.loop-comm.comm c.loop-comm.shapes.items _ _
+          (omega arith) size i.all;
       room = (let kept = push.capacity in let room = i.room in omega arith);
     }
 
@@ -22,4 +24,5 @@ pub returns : goal.returns
 returns c =
     let test = c.loop-comm-test.false in
     let end = c.len-end.ensures.value in
-    entered_last None c.args.table.now c.loop-comm.comm c.loop-comm.shapes.items _ (omega arith) c.loop-comm.invariant.all
+    entered_last None c.args.table.now c.loop-comm.comm c.loop-comm.shapes.items _ (omega arith)
+    c.loop-comm.invariant.all

@@ -10,10 +10,15 @@ loop-k-preserved c =
     let items = c.args.numbers.now in
     let k = c.loop-k.k in
     let x = get_or items k 0 in
-    let within : k < length items = let low = c.loop-k-test.true in let same = c.requires in omega (arith, low, same) in
+    let within : k < length items = let low = c.loop-k-test.true in let same = c.requires in omega
+    (arith, low, same) in
     elim c.if-is_gone.branch [
-      | then-is_gone+in_ok-push w ↦ subst (Kept keep items (k + 1)) (sym (ap (λ v. v.items) w.list-is ∙ w.in_ok-push.ensures.items))
-          (kept_more keep items k c.loop-k.list.items x c.loop-k-test.true c.requires w.if-is_gone.true (read_again items k x within) c.loop-k.invariant)
+      | then-is_gone+in_ok-push w
+          ↦ subst (Kept keep items (k + 1))
+          (sym (ap (λ v. v.items) w.list-is ∙ w.in_ok-push.ensures.items))
+          (kept_more keep items k c.loop-k.list.items x c.loop-k-test.true c.requires
+          w.if-is_gone.true (read_again items k x within) c.loop-k.invariant)
       | else-is_gone w ↦ subst (Kept keep items (k + 1)) (sym (ap (λ v. v.items) w.list-is))
-          (kept_less keep items k c.loop-k.list.items x c.loop-k-test.true c.requires w.if-is_gone.false c.loop-k.invariant)
+          (kept_less keep items k c.loop-k.list.items x c.loop-k-test.true c.requires
+          w.if-is_gone.false c.loop-k.invariant)
     ]

@@ -8,16 +8,25 @@ use Rattle.hall_core.proofs.hall.Hall.apply.Goals as goal
 
 pub invariant_of-self : goal.invariant_of-self
 invariant_of-self c =
-    kept_after (value_in c.self.inside.records) (value_in c.step.new.self) c.args.call c.step.result c.self.invariant c.step.ensures.policy c.step.ensures.each c.step.ensures.counted
-    (subst (λ (h : HallValue). HasKnownLabel h.policy c.args.call.act) (sym c.self.view_is) c.requires) c.step.ensures.steps
+    kept_after (value_in c.self.inside.records) (value_in c.step.new.self) c.args.call c.step.result
+    c.self.invariant c.step.ensures.policy c.step.ensures.each c.step.ensures.counted
+    (subst (λ (h : HallValue). HasKnownLabel h.policy c.args.call.act) (sym c.self.view_is)
+    c.requires) c.step.ensures.steps
 
 pub returns-clause-runs : goal.returns-clause-runs
-returns-clause-runs c = rw (← c.self.view_is) (applied (value_in c.self.inside.records) (value_in c.step.new.self) c.args.call c.step.result c.step.ensures.policy c.step.ensures.steps)
+returns-clause-runs c = rw (← c.self.view_is) (applied (value_in c.self.inside.records)
+    (value_in c.step.new.self) c.args.call c.step.result c.step.ensures.policy
+    c.step.ensures.steps)
 
 pub returns-clause-apart : goal.returns-clause-apart
-returns-clause-apart c = rw (← c.self.view_is) (applied_apart (value_in c.self.inside.records) (value_in c.step.new.self) c.args.call c.step.result c.self.invariant.policy c.step.ensures.policy c.step.ensures.steps)
+returns-clause-apart c = rw (← c.self.view_is) (applied_apart (value_in c.self.inside.records)
+    (value_in c.step.new.self) c.args.call c.step.result c.self.invariant.policy
+    c.step.ensures.policy c.step.ensures.steps)
 
 pub returns-clause-named : goal.returns-clause-named
 returns-clause-named c =
-    rw c.step.ensures.policy (step_named (view_of (value_in c.self.inside.records)) (view_of (value_in c.step.new.self)) c.args.call.process c.args.call.act c.step.result c.self.invariant.policy c.self.invariant.stands
-    (subst (λ (h : HallValue). HasKnownLabel h.policy c.args.call.act) (sym c.self.view_is) c.requires) c.step.ensures.steps)
+    rw c.step.ensures.policy (step_named (view_of (value_in c.self.inside.records))
+    (view_of (value_in c.step.new.self)) c.args.call.process c.args.call.act c.step.result
+    c.self.invariant.policy c.self.invariant.stands
+    (subst (λ (h : HallValue). HasKnownLabel h.policy c.args.call.act) (sym c.self.view_is)
+    c.requires) c.step.ensures.steps)

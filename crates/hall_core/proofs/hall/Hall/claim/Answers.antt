@@ -9,7 +9,8 @@ pub invariant_of-self : goal.invariant_of-self
 invariant_of-self c =
     kept_after (value_in c.self.inside.records) (value_in c.claim.new.self)
     (to_take c.args.process c.args.request) (claim_reply c.claim.result)
-    c.self.invariant c.claim.ensures.policy c.claim.ensures.each c.claim.ensures.counted tt c.claim.ensures.steps
+    c.self.invariant c.claim.ensures.policy c.claim.ensures.each c.claim.ensures.counted tt
+    c.claim.ensures.steps
 
 pub returns-clause-runs : goal.returns-clause-runs
 returns-clause-runs c =
@@ -19,7 +20,8 @@ returns-clause-runs c =
 
 pub returns-clause-apart : goal.returns-clause-apart
 returns-clause-apart c =
-    rw (← c.self.view_is) (applied_apart (value_in c.self.inside.records) (value_in c.claim.new.self)
+    rw (← c.self.view_is)
+    (applied_apart (value_in c.self.inside.records) (value_in c.claim.new.self)
     (to_take c.args.process c.args.request) (claim_reply c.claim.result)
     c.self.invariant.policy c.claim.ensures.policy c.claim.ensures.steps)
 

@@ -1,17 +1,23 @@
 use Rattle.std.proofs.Common.{ap, ◌∙◌}
 use Rattle.wall_rules.specs.Histories.{has, Accesses}
 use Rattle.hall_core.specs.Invariant.{value_in}
-use Rattle.hall_core.proofs.ApplyLemmas.{histories_are, histories_of_book, processes_are, classes_are, nobody_holds_rivals, is_held}
+use Rattle.hall_core.proofs.ApplyLemmas.{histories_are, histories_of_book, processes_are}
+use Rattle.hall_core.proofs.ApplyLemmas.{classes_are, nobody_holds_rivals, is_held}
 use Rattle.hall_core.proofs.hall.Hall.histories.Goals as goal
 
 pub returns-clause-runs : goal.returns-clause-runs
-returns-clause-runs c = rw (← c.self.view_is) (λ run stands. histories_are (value_in c.self.inside.records) (has c.histories.result.now) run c.histories.ensures.posts stands)
+returns-clause-runs c = rw (← c.self.view_is) (λ run stands.
+    histories_are (value_in c.self.inside.records) (has c.histories.result.now) run
+    c.histories.ensures.posts stands)
 
 pub returns-clause-apart : goal.returns-clause-apart
-returns-clause-apart c = rw (← c.self.view_is) (nobody_holds_rivals (value_in c.self.inside.records) (has c.histories.result.now) c.self.invariant c.histories.ensures.posts)
+returns-clause-apart c = rw (← c.self.view_is) (nobody_holds_rivals (value_in c.self.inside.records)
+    (has c.histories.result.now) c.self.invariant c.histories.ensures.posts)
 
 pub returns-clause-flow : goal.returns-clause-flow
-returns-clause-flow c = rw (← c.self.view_is) (λ run legal stands. is_held (value_in c.self.inside.records) (has c.histories.result.now) run c.histories.ensures.posts legal stands)
+returns-clause-flow c = rw (← c.self.view_is) (λ run legal stands.
+    is_held (value_in c.self.inside.records) (has c.histories.result.now) run
+    c.histories.ensures.posts legal stands)
 
 pub returns-clause-book : goal.returns-clause-book
 returns-clause-book c =

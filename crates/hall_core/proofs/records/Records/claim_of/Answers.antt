@@ -8,7 +8,8 @@ use Rattle.run_model.specs.Replies.{reply_by_outcome}
 use Rattle.hall_core.specs.Claims.{IsClaimOn, claim_reply}
 use Rattle.hall_core.specs.Invariant.{view_in}
 use Rattle.hall_core.specs.Settling.{settlement_at}
-use Rattle.hall_core.proofs.TakeLemmas.{quiet_steps, wanting, taken_steps, told_not_quiet, rank_there}
+use Rattle.hall_core.proofs.TakeLemmas.{quiet_steps, wanting, taken_steps, told_not_quiet}
+use Rattle.hall_core.proofs.TakeLemmas.{rank_there}
 use Rattle.hall_core.proofs.TellLemmas.{tellable}
 use Rattle.hall_core.proofs.ClaimLemmas.{of_held}
 use Rattle.hall_core.proofs.records.Records.claim_of.Goals as goal

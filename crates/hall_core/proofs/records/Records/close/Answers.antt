@@ -1,6 +1,7 @@
 use Rattle.std.proofs.Common.{length, refl}
 use Rattle.hall_core.specs.Asking.{requests_of}
-use Rattle.hall_core.proofs.CountLemmas.{some_open, counted_left, counted_as, kept_open, nobody_asks}
+use Rattle.hall_core.proofs.CountLemmas.{some_open, counted_left, counted_as, kept_open}
+use Rattle.hall_core.proofs.CountLemmas.{nobody_asks}
 use Rattle.hall_core.proofs.records.Records.close.Goals as goal
 
 pub leave-requires : goal.leave-requires

@@ -22,65 +22,127 @@ use Rattle.hall_core.proofs.records.Records.enter.Goals as goal
 pub make_room-requires-clause-low : goal.make_room-requires-clause-low
 make_room-requires-clause-low c =
     let hall = c.requires.hall in
-    let s = spot c.args.self.now.policy (seen c.args.self.now.post_state) c.args.member c.args.comm c.args.stated.sig c.args.stated.own c.args.stated.given (stated_type c.args.stated.sig) c.requires.free in
-    let number : c.place-k.result ≡ length (posts_on c.args.comm c.args.member (posts_in hall.effects)) =
-    c.place-k.ensures.posts c.args.self.now.policy hall.effects.contributions s.comm hall.stands.post_state s.at (subst (λ o. Rattle.std.specs.Prelude.IsSome o) (sym s.is_member) refl) in
+    let s = spot c.args.self.now.policy (seen c.args.self.now.post_state) c.args.member c.args.comm
+    c.args.stated.sig c.args.stated.own c.args.stated.given (stated_type c.args.stated.sig)
+    c.requires.free in
+    let number : c.place-k.result ≡ length
+    (posts_on c.args.comm c.args.member (posts_in hall.effects)) =
+    c.place-k.ensures.posts c.args.self.now.policy hall.effects.contributions s.comm
+    hall.stands.post_state s.at
+    (subst (λ o. Rattle.std.specs.Prelude.IsSome o) (sym s.is_member) refl) in
     let few = posts_within c.args.comm c.args.member (posts_in hall.effects) in
     let asked = hall.stands.given c.args.member in
-    let limit : length (requests_of c.args.self.now.requests.items c.args.member) < 4611686018427387904 = c.requires.few in
+    let limit : length (requests_of c.args.self.now.requests.items c.args.member) <
+    4611686018427387904 = c.requires.few in
     omega (arith, number, few, asked, limit)
 
 pub make_room-requires-clause-few_open : goal.make_room-requires-clause-few_open
 make_room-requires-clause-few_open c =
     let hall = c.requires.hall in
     let count = c.requires.counted.waiting c.args.comm c.place-k.result in
-    let few = asked_few c.args.comm c.place-k.result (view_in c.args.self.now) hall.effects hall.stands (length c.args.self.now.requests.items) in
+    let few = asked_few c.args.comm c.place-k.result (view_in c.args.self.now) hall.effects
+    hall.stands (length c.args.self.now.requests.items) in
     let each = c.requires.each in
-    let limit : processes c.args.self.now.policy < 4611686018427387904 = few_processes c.args.self.now.policy c.requires.policy in
+    let limit : processes c.args.self.now.policy < 4611686018427387904 = few_processes
+    c.args.self.now.policy c.requires.policy in
     omega (arith, count, few, each, limit)
 
 pub enter-requires-clause-few : goal.enter-requires-clause-few
 enter-requires-clause-few c =
     let hall = c.requires.hall in
-    let s = spot c.args.self.now.policy (seen c.args.self.now.post_state) c.args.member c.args.comm c.args.stated.sig c.args.stated.own c.args.stated.given (stated_type c.args.stated.sig) c.requires.free in
-    let number : c.place-k.result ≡ length (posts_on c.args.comm c.args.member (posts_in hall.effects)) =
-    c.place-k.ensures.posts c.args.self.now.policy hall.effects.contributions s.comm hall.stands.post_state s.at (subst (λ o. Rattle.std.specs.Prelude.IsSome o) (sym s.is_member) refl) in
+    let s = spot c.args.self.now.policy (seen c.args.self.now.post_state) c.args.member c.args.comm
+    c.args.stated.sig c.args.stated.own c.args.stated.given (stated_type c.args.stated.sig)
+    c.requires.free in
+    let number : c.place-k.result ≡ length
+    (posts_on c.args.comm c.args.member (posts_in hall.effects)) =
+    c.place-k.ensures.posts c.args.self.now.policy hall.effects.contributions s.comm
+    hall.stands.post_state s.at
+    (subst (λ o. Rattle.std.specs.Prelude.IsSome o) (sym s.is_member) refl) in
     let few = posts_within c.args.comm c.args.member (posts_in hall.effects) in
     let asked = hall.stands.given c.args.member in
-    let limit : length (requests_of c.args.self.now.requests.items c.args.member) < 4611686018427387904 = c.requires.few in
+    let limit : length (requests_of c.args.self.now.requests.items c.args.member) <
+    4611686018427387904 = c.requires.few in
     let low : c.place-k.result < 4611686018427387904 = omega (arith, number, few, asked, limit) in
-    subst (λ n. n < 4611686018427387904) (c.place-k.ensures.value ∙ ap (λ (k : PostStateValue Contents). place_of (seen k) c.args.member c.args.comm) (sym c.make_room.ensures.post_state)) low
+    subst (λ n. n < 4611686018427387904) (c.place-k.ensures.value
+    ∙ ap (λ (k : PostStateValue Contents). place_of (seen k) c.args.member c.args.comm)
+    (sym c.make_room.ensures.post_state)) low
 
 pub record-requires-clause-room : goal.record-requires-clause-room
 record-requires-clause-room c =
     let hall = c.requires.hall in
     let room = c.in-Ok-make_room.ensures.room in
-    let stood : StandsForPosts c.make_room.new.self.policy (seen c.make_room.new.self.post_state) hall.effects.contributions =
-    subst (λ (w : ChineseWall). StandsForPosts w (seen c.make_room.new.self.post_state) hall.effects.contributions) (sym c.make_room.ensures.policy)
-    (subst (λ (k : PostStateValue Contents). StandsForPosts c.args.self.now.policy (seen k) hall.effects.contributions) (sym c.make_room.ensures.post_state) hall.stands.post_state) in
-    let s = spot c.args.self.now.policy (seen c.args.self.now.post_state) c.args.member c.args.comm c.args.stated.sig c.args.stated.own c.args.stated.given (stated_type c.args.stated.sig) c.requires.free in
-    let number : c.place-k.result ≡ length (posts_on c.args.comm c.args.member (posts_in hall.effects)) =
-    c.place-k.ensures.posts c.args.self.now.policy hall.effects.contributions s.comm hall.stands.post_state s.at (subst (λ o. Rattle.std.specs.Prelude.IsSome o) (sym s.is_member) refl) in
-    let told : number_in c.in-Ok-enter.entered ≡ length (posts_on c.args.comm c.args.member (posts_in hall.effects)) =
-    number_told c.make_room.new.self.policy (contribution c.args.member c.args.comm c.args.stated c.args.part) hall.effects.contributions c.in-Ok-enter.entered (c.in-Ok-enter.ensures.entered hall.effects.contributions stood).1 in
+    let stood : StandsForPosts c.make_room.new.self.policy (seen c.make_room.new.self.post_state)
+    hall.effects.contributions =
+    subst (λ (w : ChineseWall).
+    StandsForPosts w (seen c.make_room.new.self.post_state) hall.effects.contributions)
+    (sym c.make_room.ensures.policy)
+    (subst (λ (k : PostStateValue Contents).
+    StandsForPosts c.args.self.now.policy (seen k) hall.effects.contributions)
+    (sym c.make_room.ensures.post_state) hall.stands.post_state) in
+    let s = spot c.args.self.now.policy (seen c.args.self.now.post_state) c.args.member c.args.comm
+    c.args.stated.sig c.args.stated.own c.args.stated.given (stated_type c.args.stated.sig)
+    c.requires.free in
+    let number : c.place-k.result ≡ length
+    (posts_on c.args.comm c.args.member (posts_in hall.effects)) =
+    c.place-k.ensures.posts c.args.self.now.policy hall.effects.contributions s.comm
+    hall.stands.post_state s.at
+    (subst (λ o. Rattle.std.specs.Prelude.IsSome o) (sym s.is_member) refl) in
+    let told : number_in c.in-Ok-enter.entered ≡ length
+    (posts_on c.args.comm c.args.member (posts_in hall.effects)) =
+    number_told c.make_room.new.self.policy
+    (contribution c.args.member c.args.comm c.args.stated c.args.part)
+    hall.effects.contributions c.in-Ok-enter.entered
+    (c.in-Ok-enter.ensures.entered hall.effects.contributions stood).1 in
     let k : c.place-k.result ≡ number_in c.in-Ok-enter.entered = number ∙ sym told in
-    let at : HasRoom c.make_room.new.self c.args.member c.args.comm (number_in c.in-Ok-enter.entered) = (subst (λ (n : ℕ). HasRoom c.make_room.new.self n c.args.comm (number_in c.in-Ok-enter.entered)) c.number.ensures.value (subst (λ (n : ℕ). HasRoom c.make_room.new.self c.number.result c.args.comm n) k room)) in
-    record { request = at.request; entries = at.entries; place = at.place; few = at.few; few_open = at.few_open }
+    let at : HasRoom c.make_room.new.self c.args.member c.args.comm
+    (number_in c.in-Ok-enter.entered) = (subst (λ (n : ℕ).
+    HasRoom c.make_room.new.self n c.args.comm (number_in c.in-Ok-enter.entered))
+    c.number.ensures.value
+    (subst (λ (n : ℕ). HasRoom c.make_room.new.self c.number.result c.args.comm n) k room))
+    in
+    record {
+      request = at.request;
+      entries = at.entries;
+      place = at.place;
+      few = at.few;
+      few_open = at.few_open;
+    }
 
 pub returns-in-Ok-enter-clause-entered : goal.returns-in-Ok-enter-clause-entered
 returns-in-Ok-enter-clause-entered c = λ done m stands counts.
     let old : HallView = view_in c.args.self.now in
     let same : view_in c.make_room.new.self ≡ view_in c.args.self.now = c.make_room.ensures.same in
-    let stood : StandsForPosts c.make_room.new.self.policy (seen c.make_room.new.self.post_state) m.contributions =
-    subst (λ (w : ChineseWall). StandsForPosts w (seen c.make_room.new.self.post_state) m.contributions) (sym c.make_room.ensures.policy)
-    (subst (λ (k : PostStateValue Contents). StandsForPosts c.args.self.now.policy (seen k) m.contributions) (sym c.make_room.ensures.post_state) stands.post_state) in
+    let stood : StandsForPosts c.make_room.new.self.policy (seen c.make_room.new.self.post_state)
+    m.contributions =
+    subst (λ (w : ChineseWall).
+    StandsForPosts w (seen c.make_room.new.self.post_state) m.contributions)
+    (sym c.make_room.ensures.policy)
+    (subst (λ (k : PostStateValue Contents).
+    StandsForPosts c.args.self.now.policy (seen k) m.contributions)
+    (sym c.make_room.ensures.post_state) stands.post_state) in
     let moved = c.in-Ok-enter.ensures.entered m.contributions stood in
-    let g : Contribution Contents = contribution c.args.member c.args.comm c.args.stated c.args.part in
-    let post_state : StandsForPosts c.args.self.now.policy (seen c.record.new.self.post_state) (g ∷ m.contributions) =
-    subst (λ (w : ChineseWall). StandsForPosts w (seen c.record.new.self.post_state) (g ∷ m.contributions)) c.make_room.ensures.policy
-    (subst (λ (k : PostStateValue Contents). StandsForPosts c.make_room.new.self.policy (seen k) (g ∷ m.contributions)) (sym c.record.ensures.post_state) moved.0) in
-    let tells : Tells c.args.self.now.policy g m.contributions c.in-Ok-enter.entered = subst (λ (w : ChineseWall). Tells w g m.contributions c.in-Ok-enter.entered) c.make_room.ensures.policy moved.1 in
-    let none = none_there (view_in c.args.self.now) m (length c.args.self.now.requests.items) c.args.self.now.settled stands c.requires.counted refl c.args.comm (place g.post (posts_in m)) (unsettled c.args.self.now.policy g.post (posts_in m) counts) in
-    stands_recorded (view_in c.args.self.now) (view_in c.record.new.self) m g c.in-Ok-enter.entered stands counts none post_state tells
-    (recorded_from (view_in c.args.self.now) (view_in (record c.make_room.new.self { post_state = c.enter.new.self })) (view_in c.record.new.self) c.args.member c.args.comm c.in-Ok.copy c.args.stated c.in-Ok-enter.entered
-    c.make_room.ensures.policy (ap (λ (h : HallView). h.asked) same) (ap (λ (h : HallView). h.settled) same) (ap (λ (h : HallView). h.book) same) c.in-Ok.ensures.made c.record.ensures.recorded)
+    let g : Contribution Contents = contribution c.args.member c.args.comm c.args.stated c.args.part
+    in
+    let post_state : StandsForPosts c.args.self.now.policy (seen c.record.new.self.post_state)
+    (g ∷ m.contributions) =
+    subst (λ (w : ChineseWall).
+    StandsForPosts w (seen c.record.new.self.post_state) (g ∷ m.contributions))
+    c.make_room.ensures.policy
+    (subst (λ (k : PostStateValue Contents).
+    StandsForPosts c.make_room.new.self.policy (seen k) (g ∷ m.contributions))
+    (sym c.record.ensures.post_state) moved.0) in
+    let tells : Tells c.args.self.now.policy g m.contributions c.in-Ok-enter.entered = subst
+    (λ (w : ChineseWall). Tells w g m.contributions c.in-Ok-enter.entered)
+    c.make_room.ensures.policy moved.1 in
+    let none = none_there (view_in c.args.self.now) m (length c.args.self.now.requests.items)
+    c.args.self.now.settled stands c.requires.counted refl c.args.comm
+    (place g.post (posts_in m)) (unsettled c.args.self.now.policy g.post (posts_in m) counts) in
+    stands_recorded (view_in c.args.self.now) (view_in c.record.new.self) m g c.in-Ok-enter.entered
+    stands counts none post_state tells
+    (recorded_from (view_in c.args.self.now)
+    (view_in (record c.make_room.new.self { post_state = c.enter.new.self }))
+    (view_in c.record.new.self) c.args.member c.args.comm c.in-Ok.copy c.args.stated
+    c.in-Ok-enter.entered
+    c.make_room.ensures.policy (ap (λ (h : HallView). h.asked) same)
+    (ap (λ (h : HallView). h.settled) same) (ap (λ (h : HallView). h.book) same)
+    c.in-Ok.ensures.made c.record.ensures.recorded)

@@ -11,12 +11,24 @@ use Rattle.hall_core.proofs.records.Records.info.Goals as goal
 
 pub returns-in-None : goal.returns-in-None
 returns-in-None c =
-    let at = there c.args.self.now.post_state.comms c.args.comm (subst (λ n. c.args.comm < n) c.len.ensures.value c.if-len-comm.false) in
-    info_is (view_in c.args.self.now) c.args.process c.args.comm at.0 None (subst (λ n. c.args.process < n) c.processes.ensures.number c.if-processes-process.false) at.1
-    ((λ i. rank_in (sym (c.group.ensures at.0 at.1) i) (sym c.member-member.ensures i)) ∙ (sym c.rank_of.ensures ∙ c.in-None.is))
+    let at = there c.args.self.now.post_state.comms c.args.comm
+    (subst (λ n. c.args.comm < n) c.len.ensures.value c.if-len-comm.false) in
+    info_is (view_in c.args.self.now) c.args.process c.args.comm at.0 None
+    (subst (λ n. c.args.process < n) c.processes.ensures.number c.if-processes-process.false)
+    at.1
+    ((λ i. rank_in (sym (c.group.ensures at.0 at.1) i) (sym c.member-member.ensures i))
+    ∙ (sym c.rank_of.ensures ∙ c.in-None.is))
 
 pub returns-in-Some : goal.returns-in-Some
 returns-in-Some c =
-    let at = there c.args.self.now.post_state.comms c.args.comm (subst (λ n. c.args.comm < n) c.len.ensures.value c.if-len-comm.false) in
-    c.described.ensures ∙ (ap (λ (s : Shape). Info s.size c.in-Some.rank (option_map (λ (g : Topology). length g.dims) s.grid)) (c.shape.ensures at.0 at.1) ∙ info_is (view_in c.args.self.now) c.args.process c.args.comm at.0 (Some c.in-Some.rank) (subst (λ n. c.args.process < n) c.processes.ensures.number c.if-processes-process.false) at.1
-    ((λ i. rank_in (sym (c.group.ensures at.0 at.1) i) (sym c.member-member.ensures i)) ∙ (sym c.rank_of.ensures ∙ c.in-Some.is)))
+    let at = there c.args.self.now.post_state.comms c.args.comm
+    (subst (λ n. c.args.comm < n) c.len.ensures.value c.if-len-comm.false) in
+    c.described.ensures
+    ∙ (ap (λ (s : Shape).
+    Info s.size c.in-Some.rank (option_map (λ (g : Topology). length g.dims) s.grid))
+    (c.shape.ensures at.0 at.1)
+    ∙ info_is (view_in c.args.self.now) c.args.process c.args.comm at.0 (Some c.in-Some.rank)
+    (subst (λ n. c.args.process < n) c.processes.ensures.number c.if-processes-process.false)
+    at.1
+    ((λ i. rank_in (sym (c.group.ensures at.0 at.1) i) (sym c.member-member.ensures i))
+    ∙ (sym c.rank_of.ensures ∙ c.in-Some.is)))

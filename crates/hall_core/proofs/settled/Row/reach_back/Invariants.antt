@@ -5,7 +5,8 @@ use Rattle.hall_core.proofs.settled.Row.reach_back.Given as goal
 
 abbrev pub invariant-loop-self : goal.invariant-loop-self
 invariant-loop-self l = record {
-  same : replicate l.self-inside.first nothing ++ l.self-inside.places.items ≡ replicate l.initial.self-inside.first nothing ++ l.initial.self-inside.places.items;
+  same : replicate l.self-inside.first nothing ++ l.self-inside.places.items
+      ≡ replicate l.initial.self-inside.first nothing ++ l.initial.self-inside.places.items;
   few : l.self-inside.first + length l.self-inside.places.items ≤ 2 ^ 62;
   counted : deque_len l.self-inside.places ≡ length l.self-inside.places.items;
 }

@@ -5,7 +5,10 @@ use Rattle.hall_core.proofs.settled.Row.reach_on.Given as goal
 
 abbrev pub invariant-loop-self : goal.invariant-loop-self
 invariant-loop-self l = record {
-  same : (j : ℕ) → place_in (replicate l.self-inside.first nothing ++ l.self-inside.places.items) j ≡ place_in (replicate l.initial.self-inside.first nothing ++ l.initial.self-inside.places.items) j;
+  same : (j : ℕ) →
+      place_in (replicate l.self-inside.first nothing ++ l.self-inside.places.items) j
+      ≡ place_in
+      (replicate l.initial.self-inside.first nothing ++ l.initial.self-inside.places.items) j;
   first : l.self-inside.first ≡ l.initial.self-inside.first;
   few : l.self-inside.first + length l.self-inside.places.items ≤ 2 ^ 62;
   counted : deque_len l.self-inside.places ≡ length l.self-inside.places.items;

@@ -14,5 +14,7 @@ new-requires c =
     let few = n.few in
     let some = n.some in
     let hall = c.in_ok-hall.hall in
-    opens Stands wall hall c.push.new.self.items (cc (c.in_ok-push.ensures.items, c.new-slots.ensures.items))
-    (c.in_ok-hall.ensures.policy ∙ sym c.of-key.ensures, c.in_ok-hall.ensures.stands) (omega arith) (omega arith)
+    opens Stands wall hall c.push.new.self.items
+    (cc (c.in_ok-push.ensures.items, c.new-slots.ensures.items))
+    (c.in_ok-hall.ensures.policy ∙ sym c.of-key.ensures, c.in_ok-hall.ensures.stands) (omega arith)
+    (omega arith)

@@ -4,7 +4,8 @@ use Rattle.hall_turn.specs.Views.{own_of}
 use Rattle.hall_turn.specs.Steps.{told_of}
 use Rattle.hall_turn.specs.Known.{Known}
 use Rattle.hall_turn.proofs.MoveLemmas.{joins_pass}
-use Rattle.hall_turn.proofs.GatherLemmas.{gathers_one, gathers_more, gathers_all, nil_of, door_is, of_rest}
+use Rattle.hall_turn.proofs.GatherLemmas.{gathers_one, gathers_more, gathers_all, nil_of, door_is}
+use Rattle.hall_turn.proofs.GatherLemmas.{of_rest}
 use Rattle.hall_turn.proofs.gather.Turns+Hall.gather.Goals as goal
 
 pub loop-pass-init : goal.loop-pass-init
@@ -15,8 +16,11 @@ loop-pass-init c =
     let name = c.args.self.now.table.shared.table_id in
     let e = c.in-Some.ensures.items in
     let s = c.first.inside.seat in
-    let own : told_of k ≡ own_of s.me.0 = ap told_of (sym c.first.view_is) ∙ (λ i. record { process = sym c.first.invariant.process_is i; seen = s.me.0.seen }) in record {
-      at = ap (λ (x : Known). x.door.name) c.first.view_is ∙ door_is all rest k name e c.requires.of;
+    let own : told_of k ≡ own_of s.me.0 = ap told_of (sym c.first.view_is) ∙
+    (λ i. record { process = sym c.first.invariant.process_is i; seen = s.me.0.seen }) in
+    record {
+      at =
+          ap (λ (x : Known). x.door.name) c.first.view_is ∙ door_is all rest k name e c.requires.of;
       of = of_rest all rest k name e c.requires.of;
       gathers = gathers_one all rest k c.first.inside.process s.me e own c.first.invariant;
     }
@@ -33,7 +37,9 @@ join_seat-requires c =
     let p = c.pass.invariant in
     let parts = p.parts in (
       i.at,
-      ap (λ (x : Known). x.door.name) c.pass.view_is ∙ door_is all rest c.in-Some-pop.pass t.table.shared.table_id c.in-Some-pop.ensures.items i.of,
+      ap (λ (x : Known). x.door.name) c.pass.view_is
+          ∙ door_is all rest c.in-Some-pop.pass t.table.shared.table_id c.in-Some-pop.ensures.items
+          i.of,
       p.slots,
       omega arith,
       joins_pass Stands t.table.shared.key.value m.id m.me.0 o.id o.me.0 i.gathers.out p.out
@@ -49,14 +55,19 @@ loop-pass-preserved c =
     let k = c.in-Some-pop.pass in
     let o = c.pass.inside.seat in
     let e = c.in-Some-pop.ensures.items in
-    let own : told_of k ≡ own_of o.me.0 = ap told_of (sym c.pass.view_is) ∙ (λ n. record { process = sym c.pass.invariant.process_is n; seen = o.me.0.seen }) in record {
+    let own : told_of k ≡ own_of o.me.0 = ap told_of (sym c.pass.view_is) ∙
+    (λ n. record { process = sym c.pass.invariant.process_is n; seen = o.me.0.seen }) in
+    record {
       at = c.join_seat.ensures.0 ∙ i.at;
       of = of_rest all rest k t.table.shared.table_id e i.of;
-      gathers = gathers_more c.args.passes.items all rest k c.pass.inside.process c.loop-pass.seat.me o.me c.join_seat.new.seat.me i.gathers e own c.pass.invariant c.join_seat.ensures.2;
+      gathers = gathers_more c.args.passes.items all rest k c.pass.inside.process
+          c.loop-pass.seat.me o.me c.join_seat.new.seat.me i.gathers e own c.pass.invariant
+          c.join_seat.ensures.2;
     }
 
 pub returns-clause-has : goal.returns-clause-has
 returns-clause-has c =
     let none = c.in_default-pop.ensures.cases in
     let o = c.loop-pass.passes.ok in
-    gathers_all c.args.passes.items c.loop-pass.passes.items c.loop-pass.seat.me c.loop-pass.invariant.gathers (nil_of c.loop-pass.passes.items (omega (arith, none)))
+    gathers_all c.args.passes.items c.loop-pass.passes.items c.loop-pass.seat.me
+    c.loop-pass.invariant.gathers (nil_of c.loop-pass.passes.items (omega (arith, none)))

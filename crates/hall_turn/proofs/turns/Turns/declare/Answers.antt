@@ -6,5 +6,9 @@ pub load-requires : goal.load-requires
 load-requires g c =
     let t = c.args.self.now in
     let m = c.args.seat.now.me in
-    let w = t.counts.0 in
-    (c.requires.at, omega arith, declares g.M.Machine.stands t.table.shared.key.value t.table.shared.table_id.slots c.args.seat.now.id m.0 m.1 g.J.Saying.entry c.requires.out)
+    let w = t.counts.0 in (
+      c.requires.at,
+      omega arith,
+      declares g.M.Machine.stands t.table.shared.key.value t.table.shared.table_id.slots
+          c.args.seat.now.id m.0 m.1 g.J.Saying.entry c.requires.out,
+    )

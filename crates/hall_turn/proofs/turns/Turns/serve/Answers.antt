@@ -14,5 +14,11 @@ fetch_add-requires g c =
     let r = c.requires.ready in
     let n = t.table.shared.table_id.slots in
     let k = t.table.shared.key.value in
-    let P : List (ℕ × Option g.row.M.Denot) → Type 0 = λ x. Allows (Ruled g.M.Machine.stands k) n c.args.seat.now.id (m.0, x) 0 (λ y. (y + 1) % 2 ^ 64) (Serves (step n 0 1 0 none) (m.0, x)) in
-    (c.requires.at, omega arith, subst P (sym r.held) (serves g.M.Machine.stands k n c.args.seat.now.id m.0 r.entry r.machine r.out r.said r.joined r.by r.legal r.stood))
+    let P : List (ℕ × Option g.row.M.Denot) → Type 0 = λ x. Allows (Ruled g.M.Machine.stands k) n
+    c.args.seat.now.id (m.0, x) 0 (λ y. (y + 1) % 2 ^ 64) (Serves (step n 0 1 0 none) (m.0, x))
+    in (
+      c.requires.at,
+      omega arith,
+      subst P (sym r.held) (serves g.M.Machine.stands k n c.args.seat.now.id m.0 r.entry r.machine
+          r.out r.said r.joined r.by r.legal r.stood),
+    )

@@ -7,12 +7,14 @@ use Rattle.hall_turn.proofs.turns.Turns.turn.Goals as goal
 pub slot_mut-slot-requires : goal.slot_mut-slot-requires
 slot_mut-slot-requires g c = (
   c.await_turn.ensures.at.0 ∙ c.draw-ticket.ensures.at.0 ∙ c.requires.at,
-  holds_one g.M.Machine.stands c.draw-ticket.new.seat.me.0 c.await_turn.new.seat.me c.await_turn.ensures.holds,
+  holds_one g.M.Machine.stands c.draw-ticket.new.seat.me.0 c.await_turn.new.seat.me
+      c.await_turn.ensures.holds,
 )
 
 pub carry_out_in-ended-requires : goal.carry_out_in-ended-requires
 carry_out_in-ended-requires g c =
-    may_apply g.M.Machine.stands c.args.seat.now.me.0 c.draw-ticket.new.seat.me c.await_turn.new.seat.me
+    may_apply g.M.Machine.stands c.args.seat.now.me.0 c.draw-ticket.new.seat.me
+    c.await_turn.new.seat.me
     c.slot_mut-slot.result.now (λ wall. g.D.Deed.may wall c.args.deed)
     (ap (λ m. m.0.policy) c.draw-ticket.ensures.draws) c.await_turn.ensures.holds
     c.slot_mut-slot.ensures.value c.requires.may
@@ -23,7 +25,8 @@ serve-requires-clause-ready g c =
     let reply = g.D.Deed.reply c.carry_out_in-ended.result.told in
     let i = c.requires.idle in
     let k = c.carry_out_in-ended.ensures.carries in
-    ready g.M.Machine.stands v c.draw-ticket.result c.draw-ticket.new.seat.me c.await_turn.new.seat.me
+    ready g.M.Machine.stands v c.draw-ticket.result c.draw-ticket.new.seat.me
+    c.await_turn.new.seat.me
     _ c.declare.new.seat.me c.slot_mut-slot.result.now c.carry_out_in-ended.new.slot
     (g.D.Deed.call c.of-asked.result.value) reply
     (c.draw-ticket.ensures.draws
@@ -35,5 +38,6 @@ serve-requires-clause-ready g c =
       k.1,
       k.2,
       k.3,
-      subst (λ x. Carries g.M.Machine.stands k.0 k.1 (g.D.Deed.call x) reply) (sym c.of-asked.ensures) k.4,
+      subst (λ x. Carries g.M.Machine.stands k.0 k.1 (g.D.Deed.call x) reply)
+          (sym c.of-asked.ensures) k.4,
     )

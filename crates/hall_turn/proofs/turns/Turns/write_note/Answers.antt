@@ -6,5 +6,8 @@ pub split_seat-requires : goal.split_seat-requires
 split_seat-requires g c =
     let t = c.args.self.now in
     let w = t.counts.0 in
-    let s = c.args.seat.now in
-    (c.requires.at, omega arith, splits_note g.M.Machine.stands t.table.shared.key.value s.id s.me.0 c.requires.out)
+    let s = c.args.seat.now in (
+      c.requires.at,
+      omega arith,
+      splits_note g.M.Machine.stands t.table.shared.key.value s.id s.me.0 c.requires.out,
+    )

@@ -10,6 +10,9 @@ only members = record { members = members; grid = None } ∷ []
 
 pub returns : goal.returns
 unfolding only
-returns g c = stands_first c.args.policy.now (seen c.in_ok-comms.comms c.new-pending.result c.in_ok-histories.histories)
+returns g c = stands_first c.args.policy.now
+    (seen c.in_ok-comms.comms c.new-pending.result c.in_ok-histories.histories)
     (c.in_ok-comms.ensures ∙ ap only (c.in_ok-world.ensures ∙ ap below c.processes.ensures.number))
-    c.in_ok-histories.ensures.pairs c.in_ok-histories.ensures.processes c.in_ok-histories.ensures.classes c.new-pending.ensures.arrivals c.new-pending.ensures.pending
+    c.in_ok-histories.ensures.pairs c.in_ok-histories.ensures.processes
+    c.in_ok-histories.ensures.classes c.new-pending.ensures.arrivals
+    c.new-pending.ensures.pending
