@@ -1,5 +1,7 @@
 -- The text of a run, process by process, and what becomes of a script whose scripts were run.
-use Rattle.std.proofs.Common.{◌≡◌, ℕ, zero, suc, ◌+◌, ◌-◌, ◌≤◌, ◌⊎◌, inl, inr, List, [], ◌++◌, length, slice_index_or, Option, None, sym, ap, subst, subst₂, ◌∙◌, append_assoc, append-nil, arith}
+use Rattle.std.proofs.Common.{◌≡◌, ℕ, zero, suc, ◌+◌, ◌-◌, ◌≤◌, ◌⊎◌, inl, inr, List, [], ◌++◌}
+use Rattle.std.proofs.Common.{length, slice_index_or, Option, None, sym, ap, subst, subst₂, ◌∙◌}
+use Rattle.std.proofs.Common.{append_assoc, append-nil, arith}
 use Rattle.std.specs.Io.KnownBytes.{Appends}
 use Rattle.wall_labels.specs.Known.{AppendsFront}
 use Rattle.wall_policy.specs.Policy.{ChineseWall}
@@ -14,97 +16,148 @@ use Rattle.rank_run.specs.declared.waiting.TheConstants.{PATIENCE}
 use Rattle.rank_run.specs.Ran.{Ran}
 use Rattle.consortium.specs.declared.ending.Ending.{Ending}
 use Rattle.consortium.specs.Replaying.{IsKept, IsUnkept, no_book}
-use Rattle.consortium.specs.Running.{rank_line, reply_lines, ranks_text, rank_text, break_ending, IsScriptOf, IsNoRun, Tells, Breaks, Runs, RunEnds, Reached, FellShort}
+use Rattle.consortium.specs.Running.{rank_line, reply_lines, ranks_text, rank_text, break_ending}
+use Rattle.consortium.specs.Running.{IsScriptOf, IsNoRun, Tells, Breaks, Runs, RunEnds, Reached}
+use Rattle.consortium.specs.Running.{FellShort}
 use Rattle.consortium.proofs.KnownLemmas.{appends_none, appends_then, front_more, front_then}
 
 -- the text of one process more
 pub ranks_more : (wall : ChineseWall) (rows : List (List Reply)) (n : ℕ)
-    → ranks_text wall rows (n + 1) ≡ ranks_text wall rows n ++ (rank_line wall n ++ reply_lines wall (slice_index_or rows n []))
+    →
+    ranks_text wall rows (n + 1)
+    ≡ ranks_text wall rows n
+    ++ (rank_line wall n ++ reply_lines wall (slice_index_or rows n []))
 unfolding ranks_text
 ranks_more wall rows n = let e : n + 1 ≡ suc n = omega arith in ap (ranks_text wall rows) e
 
 -- the text of the first processes begins that of more of them
 pub ranks_front : (wall : ChineseWall) (rows : List (List Reply)) (n more : ℕ)
     → (rest : List ℕ) × (ranks_text wall rows n ++ rest ≡ ranks_text wall rows (n + more))
-ranks_front wall rows n zero = let e : n ≡ n + 0 = omega arith in ([], append-nil (ranks_text wall rows n) ∙ ap (ranks_text wall rows) e)
+ranks_front wall rows n zero = let e : n ≡ n + 0 = omega arith in
+    ([], append-nil (ranks_text wall rows n) ∙ ap (ranks_text wall rows) e)
 ranks_front wall rows n (suc more) =
     let front = ranks_front wall rows n more in
     let last = rank_line wall (n + more) ++ reply_lines wall (slice_index_or rows (n + more) []) in
     let e : n + more + 1 ≡ n + suc more = omega arith in (
       front.0 ++ last,
-      sym (append_assoc (ranks_text wall rows n) front.0 last) ∙ ap (λ (l : List ℕ). l ++ last) front.1
+      sym (append_assoc (ranks_text wall rows n) front.0 last)
+          ∙ ap (λ (l : List ℕ). l ++ last) front.1
           ∙ sym (ranks_more wall rows (n + more)) ∙ ap (ranks_text wall rows) e,
     )
 
-pub ranks_none : (wall : ChineseWall) (rows : List (List Reply)) (a : Option (List ℕ)) → Appends a a (ranks_text wall rows 0)
+pub ranks_none : (wall : ChineseWall) (rows : List (List Reply)) (a : Option (List ℕ)) →
+    Appends a a (ranks_text wall rows 0)
 unfolding ranks_text
 ranks_none wall rows a = appends_none a
 
 -- the lines of process n were written behind those of the processes before
-pub ranks_step : (wall : ChineseWall) (rows : List (List Reply)) (n p : ℕ) (given : List Reply) (a b c : Option (List ℕ)) → p ≡ n → given ≡ slice_index_or rows n []
-    → Appends a b (ranks_text wall rows n) → Appends b c (rank_line wall p ++ reply_lines wall given) → Appends a c (ranks_text wall rows (n + 1))
+pub ranks_step : (wall : ChineseWall) (rows : List (List Reply)) (n p : ℕ) (given : List Reply)
+    (a b c : Option (List ℕ)) → p ≡ n → given ≡ slice_index_or rows n []
+    → Appends a b (ranks_text wall rows n) →
+    Appends b c (rank_line wall p ++ reply_lines wall given) →
+    Appends a c (ranks_text wall rows (n + 1))
 ranks_step wall rows n p given a b c is are before now =
     let now' = subst₂ (λ q g. Appends b c (rank_line wall q ++ reply_lines wall g)) is are now in
     let last = rank_line wall n ++ reply_lines wall (slice_index_or rows n []) in
-    subst (Appends a c) (sym (ranks_more wall rows n)) (appends_then a b c (ranks_text wall rows n) last before now')
+    subst (Appends a c) (sym (ranks_more wall rows n))
+    (appends_then a b c (ranks_text wall rows n) last before now')
 
 -- the writer broke off in the lines of process n
-pub ranks_broken : (wall : ChineseWall) (rows : List (List Reply)) (n p : ℕ) (given : List Reply) (a b c : Option (List ℕ)) → p ≡ n → given ≡ slice_index_or rows n []
-    → n + 1 ≤ length rows → Appends a b (ranks_text wall rows n) → AppendsFront b c (rank_line wall p ++ reply_lines wall given)
+pub ranks_broken : (wall : ChineseWall) (rows : List (List Reply)) (n p : ℕ) (given : List Reply)
+    (a b c : Option (List ℕ)) → p ≡ n → given ≡ slice_index_or rows n []
+    → n + 1 ≤ length rows → Appends a b (ranks_text wall rows n) →
+    AppendsFront b c (rank_line wall p ++ reply_lines wall given)
     → AppendsFront a c (ranks_text wall rows (length rows))
 ranks_broken wall rows n p given a b c is are lt before broken =
-    let broken' = subst₂ (λ q g. AppendsFront b c (rank_line wall q ++ reply_lines wall g)) is are broken in
+    let broken' = subst₂ (λ q g. AppendsFront b c (rank_line wall q ++ reply_lines wall g)) is are
+    broken in
     let last = rank_line wall n ++ reply_lines wall (slice_index_or rows n []) in
-    let begun = subst (AppendsFront a c) (sym (ranks_more wall rows n)) (front_then a b c (ranks_text wall rows n) last before broken') in
+    let begun = subst (AppendsFront a c) (sym (ranks_more wall rows n))
+    (front_then a b c (ranks_text wall rows n) last before broken') in
     let whole = ranks_front wall rows (n + 1) (length rows - (n + 1)) in
     let e : n + 1 + (length rows - (n + 1)) ≡ length rows = omega arith in
-    subst (AppendsFront a c) (whole.1 ∙ ap (ranks_text wall rows) e) (front_more a c (ranks_text wall rows (n + 1)) whole.0 begun)
+    subst (AppendsFront a c) (whole.1 ∙ ap (ranks_text wall rows) e)
+    (front_more a c (ranks_text wall rows (n + 1)) whole.0 begun)
 
-pub ranks_done : (wall : ChineseWall) (rows : List (List Reply)) (n : ℕ) (a b : Option (List ℕ)) → n ≡ length rows → Appends a b (ranks_text wall rows n)
+pub ranks_done : (wall : ChineseWall) (rows : List (List Reply)) (n : ℕ) (a b : Option (List ℕ)) →
+    n ≡ length rows → Appends a b (ranks_text wall rows n)
     → Appends a b (rank_text wall rows)
 ranks_done wall rows n a b e written = subst (λ m. Appends a b (ranks_text wall rows m)) e written
 
 -- in the lines of process n the writer failed, or memory ran out
-pub ranks_fell_short : {O : Type 0} (failures : O → ℕ) (contents : O → Option (List ℕ)) (wall : ChineseWall) (rows : List (List Reply)) (n p : ℕ) (given : List Reply) (a b c : O) (fault : WriteFault)
-    → p ≡ n → given ≡ slice_index_or rows n [] → n + 1 ≤ length rows → failures b ≡ failures a → Appends (contents a) (contents b) (ranks_text wall rows n)
-    → Breaks (used failures contents b c) (rank_line wall p ++ reply_lines wall given) (break_ending fault)
+pub ranks_fell_short : {O : Type 0} (failures : O → ℕ) (contents : O → Option (List ℕ))
+    (wall : ChineseWall) (rows : List (List Reply)) (n p : ℕ) (given : List Reply) (a b c : O)
+    (fault : WriteFault)
+    → p ≡ n → given ≡ slice_index_or rows n [] → n + 1 ≤ length rows → failures b ≡ failures a →
+    Appends (contents a) (contents b) (ranks_text wall rows n)
+    →
+    Breaks (used failures contents b c) (rank_line wall p ++ reply_lines wall given)
+    (break_ending fault)
     → Breaks (used failures contents a c) (ranks_text wall rows (length rows)) (break_ending fault)
-ranks_fell_short failures contents wall rows n p given a b c writes.Write is are lt same before broke =
-    (broke.0 ∙ ap (λ (m : ℕ). m + 1) same, ranks_broken wall rows n p given (contents a) (contents b) (contents c) is are lt before broke.1)
-ranks_fell_short failures contents wall rows n p given a b c writes.NoMemory is are lt same before broke =
-    (broke.0 ∙ same, ranks_broken wall rows n p given (contents a) (contents b) (contents c) is are lt before broke.1)
+ranks_fell_short failures contents wall rows n p given a b c writes.Write is are lt same before
+    broke = (
+      broke.0 ∙ ap (λ (m : ℕ). m + 1) same,
+      ranks_broken wall rows n p given (contents a) (contents b) (contents c) is are lt before
+          broke.1,
+    )
+ranks_fell_short failures contents wall rows n p given a b c writes.NoMemory is are lt same before
+    broke = (
+      broke.0 ∙ same,
+      ranks_broken wall rows n p given (contents a) (contents b) (contents c) is are lt before
+          broke.1,
+    )
 
 -- ---- a run that ended before its book
 
 module _ {S O : Type 0} (wall : ChineseWall) (script : Used S) (out : Used O) where
   -- the writer failed, or memory ran out, in the text
-  pub broken : (named : ChineseWall) (scripts : List (List Act)) (replies : List (List Reply)) (hall : HallValue) (fault : WriteFault) (ending : Ending)
-      → IsScriptOf wall script scripts → Ran PATIENCE wall scripts replies hall → named ≡ hall.policy → ending ≡ break_ending fault
+  pub broken : (named : ChineseWall) (scripts : List (List Act)) (replies : List (List Reply))
+      (hall : HallValue) (fault : WriteFault) (ending : Ending)
+      → IsScriptOf wall script scripts → Ran PATIENCE wall scripts replies hall →
+      named ≡ hall.policy → ending ≡ break_ending fault
       → Breaks out (rank_text named replies) (break_ending fault) → FellShort wall script out ending
   broken named scripts replies hall fault ending read ran is so breaks = inr (
     scripts,
     read,
-    inr (replies, hall, ran, subst₂ (λ w e. Breaks out (rank_text w replies) e) (is ∙ ran.policy) (sym so) breaks),
+    inr (
+      replies,
+      hall,
+      ran,
+      subst₂ (λ w e. Breaks out (rank_text w replies) e) (is ∙ ran.policy) (sym so) breaks,
+    ),
   )
 
-  short : {B : Type 0} (book : Option (Used B)) (scripts : List (List Act)) (ending : Ending) → IsUnkept book
-      → (IsNoRun ending × IsUntouched out) ⊎ ((replies : List (List Reply)) × (hall : HallValue) × Ran PATIENCE wall scripts replies hall × Breaks out (rank_text wall replies) ending)
+  short : {B : Type 0} (book : Option (Used B)) (scripts : List (List Act)) (ending : Ending) →
+      IsUnkept book
+      → (IsNoRun ending × IsUntouched out)
+      ⊎ ((replies : List (List Reply)) × (hall : HallValue)
+      × Ran PATIENCE wall scripts replies hall
+      × Breaks out (rank_text wall replies) ending)
       → (IsNoRun ending × IsUntouched out × IsUnkept book) ⊎ Tells wall scripts out book ending
   short book scripts ending none (inl a) = inl (a.0, a.1, none)
-  short book scripts ending none (inr a) = inr (record { replies = a.0; hall = a.1; ran = a.2; told = inr (a.3, none) })
+  short book scripts ending none (inr a) =
+      inr (record { replies = a.0; hall = a.1; ran = a.2; told = inr (a.3, none) })
 
   -- the run ended before the book was looked at
-  pub ended : {B : Type 0} (book : Option (Used B)) (ending : Ending) → FellShort wall script out ending → IsUnkept book → Runs wall script out book ending
+  pub ended : {B : Type 0} (book : Option (Used B)) (ending : Ending) →
+      FellShort wall script out ending → IsUnkept book → Runs wall script out book ending
   ended book ending (inl a) none = inl (a.0, a.1, none)
   ended book ending (inr a) none = inr (a.0, a.1, short book a.0 ending none a.2)
 
   -- the text was written, and the book of each run that the hall stands for was kept so
-  pub reached : {B : Type 0} (book : Option (Used B)) (hall : HallValue) (ending : Ending) → Reached wall script out hall
-      → ((run : List Entry) → StandsFor hall run → IsKept wall run book ending) → Runs wall script out book ending
+  pub reached : {B : Type 0} (book : Option (Used B)) (hall : HallValue) (ending : Ending) →
+      Reached wall script out hall
+      → ((run : List Entry) → StandsFor hall run → IsKept wall run book ending) →
+      Runs wall script out book ending
   reached book hall ending r kept = inr (
     r.scripts,
     r.read,
-    inr (record { replies = r.replies; hall = hall; ran = r.ran; told = inl (r.written, kept r.ran.run r.ran.stands) }),
+    inr (record {
+      replies = r.replies;
+      hall = hall;
+      ran = r.ran;
+      told = inl (r.written, kept r.ran.run r.ran.stands);
+    }),
   )
 
 -- ---- a run without a book, whichever kind of writer there is none of
@@ -112,22 +165,31 @@ module _ {S O : Type 0} (wall : ChineseWall) (script : Used S) (out : Used O) wh
 abbrev no_writer : (W : Type 0) → Option (Used W)
 no_writer W = None
 
-module _ {S O : Type 0} (A B : Type 0) (wall : ChineseWall) (script : Used S) (out : Used O) (ending : Ending) where
-  told_bookless : (scripts : List (List Act)) → (IsNoRun ending × IsUntouched out × IsUnkept (no_writer A)) ⊎ Tells wall scripts out (no_writer A) ending
-      → (IsNoRun ending × IsUntouched out × IsUnkept (no_writer B)) ⊎ Tells wall scripts out (no_writer B) ending
+module _ {S O : Type 0} (A B : Type 0) (wall : ChineseWall) (script : Used S) (out : Used O)
+    (ending : Ending) where
+  told_bookless : (scripts : List (List Act)) → (IsNoRun ending × IsUntouched out
+      × IsUnkept (no_writer A)) ⊎ Tells wall scripts out (no_writer A) ending
+      → (IsNoRun ending × IsUntouched out × IsUnkept (no_writer B))
+      ⊎ Tells wall scripts out (no_writer B) ending
   told_bookless scripts (inl a) = inl a
-  told_bookless scripts (inr t) = inr (record { replies = t.replies; hall = t.hall; ran = t.ran; told = t.told })
+  told_bookless scripts (inr t) =
+      inr (record { replies = t.replies; hall = t.hall; ran = t.ran; told = t.told })
 
-  run_bookless : Runs wall script out (no_writer A) ending → Runs wall script out (no_writer B) ending
+  run_bookless : Runs wall script out (no_writer A) ending →
+      Runs wall script out (no_writer B) ending
   run_bookless (inl a) = inl a
   run_bookless (inr a) = inr (a.0, a.1, told_bookless a.0 a.2)
 
-pub kept_nowhere : {P S O A B : Type 0} (policy : Used P) (script : Used S) (out : Used O) (ending : Ending)
+pub kept_nowhere :
+    {P S O A B : Type 0} (policy : Used P) (script : Used S) (out : Used O) (ending : Ending)
     → RunEnds {B = A} policy script out None ending → RunEnds {B = B} policy script out None ending
 kept_nowhere policy script out ending (inl a) = inl a
-kept_nowhere {A = A} {B = B} policy script out ending (inr a) = inr (a.0, a.1, run_bookless A B a.0 script out ending a.2)
+kept_nowhere {A = A} {B = B} policy script out ending (inr a) =
+    inr (a.0, a.1, run_bookless A B a.0 script out ending a.2)
 
-pub bookless : {P S O B : Type 0} (policy : Used P) (script : Used S) (out : Used O) (ending : Ending) (book : Option (Used B)) → book ≡ None
+pub bookless : {P S O B : Type 0} (policy : Used P) (script : Used S) (out : Used O)
+    (ending : Ending) (book : Option (Used B)) → book ≡ None
     → RunEnds policy script out no_book ending → RunEnds policy script out book ending
 bookless {B = B} policy script out ending book is ends =
-    subst (λ b. RunEnds policy script out b ending) (sym is) (kept_nowhere {A = Unit {0}} {B = B} policy script out ending ends)
+    subst (λ b. RunEnds policy script out b ending) (sym is)
+    (kept_nowhere {A = Unit {0}} {B = B} policy script out ending ends)

@@ -7,11 +7,13 @@ use Rattle.run_model.specs.PostLaws.{KeepsTheWall}
 use Rattle.audit_book.specs.declared.fault.ReadFault.{ReadFault as TextFault}
 use Rattle.audit_book.specs.declared.fault.ReadFault.TheVariants as texts
 use Rattle.audit_book.specs.Reading.{book_in}
-use Rattle.hall_script.specs.Devices.{Used, IsUntouched, NeverFailed, IsRead, IsUnreadable, IsWritten, BrokeOff}
+use Rattle.hall_script.specs.Devices.{Used, IsUntouched, NeverFailed, IsRead, IsUnreadable}
+use Rattle.hall_script.specs.Devices.{IsWritten, BrokeOff}
 use Rattle.consortium.specs.declared.audit.Finding.{Finding}
 use Rattle.consortium.specs.declared.audit.Finding.TheVariants as findings
 use Rattle.consortium.specs.declared.ending.Ending.{Ending}
-use Rattle.consortium.specs.declared.ending.Ending.TheVariants.{Done, BadBookLine, CutBook, Unsound, ReadFault, WriteFault, NoMemory}
+use Rattle.consortium.specs.declared.ending.Ending.TheVariants.{Done, BadBookLine, CutBook, Unsound}
+use Rattle.consortium.specs.declared.ending.Ending.TheVariants.{ReadFault, WriteFault, NoMemory}
 use Rattle.consortium.specs.Endings.{numbered_line}
 use Rattle.consortium.specs.Walls.{IsPolicyOf, IsNoPolicy}
 

@@ -7,7 +7,10 @@ use Rattle.wall_policy.specs.declared.fault.PolicyFault.TheVariants as policies
 use Rattle.coll_text.specs.declared.fault.LineFault.{LineFault}
 use Rattle.coll_text.specs.declared.fault.LineFault.TheVariants as lines
 use Rattle.consortium.specs.declared.ending.Ending.{Ending}
-use Rattle.consortium.specs.declared.ending.Ending.TheVariants.{Done, BadPolicy, BadLine, BadBookLine, CutBook, Unsound, ReadFault, WriteFault, NoThread, Exhausted, NoMemory, BadArguments}
+use Rattle.consortium.specs.declared.ending.Ending.TheVariants.{Done, BadPolicy, BadLine}
+use Rattle.consortium.specs.declared.ending.Ending.TheVariants.{BadBookLine, CutBook, Unsound}
+use Rattle.consortium.specs.declared.ending.Ending.TheVariants.{ReadFault, WriteFault, NoThread}
+use Rattle.consortium.specs.declared.ending.Ending.TheVariants.{Exhausted, NoMemory, BadArguments}
 
 abbrev pub status_of : Ending → ℕ
 status_of Done = 0

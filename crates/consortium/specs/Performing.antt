@@ -5,13 +5,15 @@ use Rattle.hall_script.specs.Devices.{Used, used, IsUntouched}
 use Rattle.consortium.specs.declared.ending.Ending.{Ending}
 use Rattle.consortium.specs.declared.ending.Ending.TheVariants.{BadArguments, NoMemory}
 use Rattle.consortium.specs.Endings.{EndsSo}
-use Rattle.consortium.specs.Grammar.{Asked, to_replay, to_run, to_audit, ReplayFiles, RunFiles, AuditFiles}
+use Rattle.consortium.specs.Grammar.{Asked, to_replay, to_run, to_audit, ReplayFiles, RunFiles}
+use Rattle.consortium.specs.Grammar.{AuditFiles}
 use Rattle.consortium.specs.Replaying.{ReplayEnds}
 use Rattle.consortium.specs.Running.{RunEnds}
 use Rattle.consortium.specs.Auditing.{AuditEnds}
 
--- Devices over files, of one type: how many of its calls failed, its bytes where they are known, and
--- its path where its file is still to be opened; and how many failures such a device begins with.
+-- Devices over files, of one type: how many of its calls failed, its bytes where they are known,
+-- and its path where its file is still to be opened; and how many failures such a device begins
+-- with.
 pub record FileKind (D : Type 0) : Type 0 where
   pub failures : D → ℕ
   pub bytes : D → Option (List ℕ)

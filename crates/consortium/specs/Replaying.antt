@@ -11,7 +11,8 @@ use Rattle.hall_script.specs.declared.fault.ScriptFault.TheVariants as scripts
 use Rattle.hall_script.specs.Devices.{Used, used, IsUntouched}
 use Rattle.hall_script.specs.Scripts.{IsReplayed, StopsWith}
 use Rattle.consortium.specs.declared.ending.Ending.{Ending}
-use Rattle.consortium.specs.declared.ending.Ending.TheVariants.{Done, BadLine, ReadFault, WriteFault, NoMemory}
+use Rattle.consortium.specs.declared.ending.Ending.TheVariants.{Done, BadLine, ReadFault}
+use Rattle.consortium.specs.declared.ending.Ending.TheVariants.{WriteFault, NoMemory}
 use Rattle.consortium.specs.Endings.{Writes}
 use Rattle.consortium.specs.Walls.{IsPolicyOf, IsNoPolicy}
 

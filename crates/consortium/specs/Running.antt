@@ -1,5 +1,6 @@
 -- How the run of a script ends whose calls each process makes for itself.
-use Rattle.std.specs.Prelude.{◌≡◌, ℕ, zero, suc, ◌⊎◌, List, [], ◌++◌, length, slice_index_or, codes, Option, Some, None}
+use Rattle.std.specs.Prelude.{◌≡◌, ℕ, zero, suc, ◌⊎◌, List, [], ◌++◌, length, slice_index_or, codes}
+use Rattle.std.specs.Prelude.{Option, Some, None}
 use Rattle.std.specs.List.{flat_map}
 use Rattle.std.specs.Fmt.{decimal}
 use Rattle.wall_policy.specs.Policy.{ChineseWall}
@@ -9,7 +10,8 @@ use Rattle.hall_core.specs.Halls.{HallValue}
 use Rattle.coll_text.specs.Words.{name_at}
 use Rattle.audit_book.specs.declared.fault.WriteFault.{WriteFault as BookWriteFault}
 use Rattle.audit_book.specs.declared.fault.WriteFault.TheVariants as writes
-use Rattle.hall_script.specs.Devices.{Used, IsUntouched, NeverFailed, IsRead, IsUnreadable, IsWritten, IsBegun, BrokeOff}
+use Rattle.hall_script.specs.Devices.{Used, IsUntouched, NeverFailed, IsRead, IsUnreadable}
+use Rattle.hall_script.specs.Devices.{IsWritten, IsBegun, BrokeOff}
 use Rattle.hall_script.specs.Replies.{reply_line}
 use Rattle.hall_script.specs.Scripts.{script_limit, members_script, AreActs}
 use Rattle.rank_run.specs.declared.waiting.TheConstants.{PATIENCE}
@@ -17,7 +19,8 @@ use Rattle.rank_run.specs.declared.fault.RunFault.{RunFault}
 use Rattle.rank_run.specs.declared.fault.RunFault.TheVariants as runs
 use Rattle.rank_run.specs.Ran.{Ran}
 use Rattle.consortium.specs.declared.ending.Ending.{Ending}
-use Rattle.consortium.specs.declared.ending.Ending.TheVariants.{BadLine, ReadFault, WriteFault, NoThread, Exhausted, NoMemory}
+use Rattle.consortium.specs.declared.ending.Ending.TheVariants.{BadLine, ReadFault, WriteFault}
+use Rattle.consortium.specs.declared.ending.Ending.TheVariants.{NoThread, Exhausted, NoMemory}
 use Rattle.consortium.specs.Replaying.{IsKept, IsUnkept}
 use Rattle.consortium.specs.Walls.{IsPolicyOf, IsNoPolicy}
 

@@ -2,7 +2,8 @@
 ghost use Rattle.std.specs.Prelude.{◌≡◌, IfOk, IfErr, OnOk, OnErr};
 ghost use Rattle.hall_script.specs.Devices.{used, IsWritten, BrokeOff};
 ghost use Rattle.consortium.specs.Endings.{EndsSo};
-ghost use Rattle.consortium.specs.Auditing.{text_ending, finding_ending, finding_line, IsBookOf, IsNoBook, IsFound, Announces, Audits, AuditEnds};
+ghost use Rattle.consortium.specs.Auditing.{text_ending, finding_ending, finding_line, IsBookOf};
+ghost use Rattle.consortium.specs.Auditing.{IsNoBook, IsFound, Announces, Audits, AuditEnds};
 
 use crate::ending::{Ending, end, write_numbered};
 use crate::wall::read_wall;
@@ -15,7 +16,8 @@ use wall_policy::Policy;
 /// The most bytes that a book may have.
 pub const BOOK_LIMIT: usize = 134217728;
 
-// What the check of a book found: that it is sound, with the number of its entries, or the number of its first bad entry, from 1.
+// What the check of a book found: that it is sound, with the number of its entries, or the number
+// of its first bad entry, from 1.
 #[derive(Clone, Copy)]
 pub(crate) enum Finding {
     Sound(u64),
@@ -138,11 +140,13 @@ fn audit_devices<P: Source, B: Source, O: Sink>(
     ending
 }
 
-/// Reads the policy and a book, checks that the book is what its posts give under the policy, and writes `sound N`, with the number of its
-/// entries, or `unsound at entry N`, with that of the first bad one, to `out`. It writes the line of a fault to `err`, and gives the status:
-/// 0 exactly where the book is sound and the line was written.
+/// Reads the policy and a book, checks that the book is what its posts give under the policy, and
+/// writes `sound N`, with the number of its entries, or `unsound at entry N`, with that of the
+/// first bad one, to `out`. It writes the line of a fault to `err`, and gives the status: 0 exactly
+/// where the book is sound and the line was written.
 ///
-/// The policy is read and judged before the book is looked at. A book of more than `BOOK_LIMIT` bytes is a read fault.
+/// The policy is read and judged before the book is looked at. A book of more than `BOOK_LIMIT`
+/// bytes is a read fault.
 pub fn audit_on<P: Source, B: Source, O: Sink, E: Sink>(
     alloc: Global,
     policy: &mut P,

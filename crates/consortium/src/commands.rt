@@ -2,10 +2,12 @@
 ghost use Rattle.std.specs.Prelude.{◌≡◌, Some, None, map};
 ghost use Rattle.hall_script.specs.Devices.{used};
 ghost use Rattle.consortium.specs.Endings.{EndsSo};
-ghost use Rattle.consortium.specs.Grammar.{asked, replay_files, run_files, audit_files, refusal_ending};
+ghost use Rattle.consortium.specs.Grammar.{asked, replay_files, run_files, audit_files};
+ghost use Rattle.consortium.specs.Grammar.{refusal_ending};
 ghost use Rattle.consortium.specs.Replaying.{ReplayEnds};
 ghost use Rattle.consortium.specs.Running.{RunEnds};
-ghost use Rattle.consortium.specs.Performing.{file_kind, path_unopened, ReplaysFiles, RunsFiles, AuditsFiles, Performs};
+ghost use Rattle.consortium.specs.Performing.{file_kind, path_unopened, ReplaysFiles, RunsFiles};
+ghost use Rattle.consortium.specs.Performing.{AuditsFiles, Performs};
 
 use crate::audit::audit_on;
 use crate::devices::{Count, FileSink, FileSource};
@@ -31,7 +33,8 @@ pub struct Counts<P: Ledger, S: Ledger, B: Ledger> {
     pub kept: Count<B>,
 }
 
-/// Does what the words behind the program's name ask for, and gives the status. Each file is opened at its first use, and once.
+/// Does what the words behind the program's name ask for, and gives the status. Each file is opened
+/// at its first use, and once.
 pub fn perform<'a, R, F: Files, P: Ledger, S: Ledger, B: Ledger, O: Sink, E: Sink>(
     rt: &R,
     files: &'a F,

@@ -1,5 +1,6 @@
 //! Devices over std's files and streams, with a count of failures that takes no bytes.
-ghost use Rattle.std.specs.Prelude.{◌≡◌, ℕ, ◌+◌, ◌<◌, ◌≤◌, List, Option, length, IsSome, IfOk, OnOk, OnErr, Ok};
+ghost use Rattle.std.specs.Prelude.{◌≡◌, ℕ, ◌+◌, ◌<◌, ◌≤◌, List, Option, length, IsSome, IfOk};
+ghost use Rattle.std.specs.Prelude.{OnOk, OnErr, Ok};
 ghost use Rattle.std.specs.Io.KnownBytes.{ReadConsumes, WriteAppends};
 ghost use Rattle.consortium.specs.Files.{bytes_of};
 
@@ -48,7 +49,8 @@ impl<L: Ledger> Count<L> {
     }
 }
 
-/// A file that is opened at its first read, and never again. A file that is missing is a read that failed.
+/// A file that is opened at its first read, and never again. A file that is missing is a read that
+/// failed.
 #[derive(Drop)]
 pub struct FileSource<'a, R: Files, L: Ledger> {
     pub rt: &'a R,

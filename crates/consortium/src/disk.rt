@@ -62,7 +62,8 @@ impl<'a> Disk<'a> {
         }
     }
 
-    // Gives the file anew where it is made, and refuses one that is opened otherwise than its use wants.
+    // Gives the file anew where it is made, and refuses one that is opened otherwise than its use
+    // wants.
     fn admit(&self, name: Name, how: &OpenOptions) -> io::Result<()> {
         if name != Name::Kept {
             return if how.asks_write() {
@@ -235,7 +236,8 @@ impl<'a> Env for System<'a> {
     }
 }
 
-/// A stream that keeps what it is given, in pieces of no more than `step` bytes, until a call fails.
+/// A stream that keeps what it is given, in pieces of no more than `step` bytes, until a call
+/// fails.
 #[derive(Drop)]
 pub struct Stream<'a> {
     pub kept: &'a RefCell<Vec<u8>>,

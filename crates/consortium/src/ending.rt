@@ -1,7 +1,8 @@
 //! How the program ends: its status, and its line on standard error. (Own format.)
 ghost use Rattle.std.specs.Prelude.{◌≡◌, ◌++◌, OnOk, OnErr};
 ghost use Rattle.hall_script.specs.Devices.{used, IsWritten, BrokeOff};
-ghost use Rattle.consortium.specs.Endings.{status_of, error_line, numbered_line, policy_fault_text, line_fault_text, IsTold};
+ghost use Rattle.consortium.specs.Endings.{status_of, error_line, numbered_line, policy_fault_text};
+ghost use Rattle.consortium.specs.Endings.{line_fault_text, IsTold};
 
 use coll_text::LineFault;
 use wall_labels::{Failed, Sink, write_all};
@@ -16,7 +17,8 @@ pub enum Ending {
     BadPolicy(PolicyFault),
     /// The line of the script of this number is no call.
     BadLine(u64, LineFault),
-    /// The line of the book of this number is the first that is not in its form, or that stands behind the end.
+    /// The line of the book of this number is the first that is not in its form, or that stands
+    /// behind the end.
     BadBookLine(u64),
     /// The book stops before a finished `end` line, and all finished lines are in their form.
     CutBook,
@@ -163,7 +165,8 @@ fn write_ending<W: Sink>(sink: &mut W, ending: Ending) -> Result<(), Failed>
     }
 }
 
-/// Writes the ending's line, if it has one, and gives the status. A writer that fails changes nothing of that.
+/// Writes the ending's line, if it has one, and gives the status. A writer that fails changes
+/// nothing of that.
 pub fn end<W: Sink>(err: &mut W, ending: Ending) -> u8
     ensures status { result ≡ status_of ending }
     ensures told { IsTold (used W.failures W.contents err.old err.new) (error_line ending) }

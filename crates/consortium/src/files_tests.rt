@@ -1,4 +1,5 @@
-//! The commands over a system in memory: long files, short reads and writes, and each call at a file failing in turn.
+//! The commands over a system in memory: long files, short reads and writes, and each call at a
+//! file failing in turn.
 use super::*;
 use crate::disk::{Disk, Name, Stream, System};
 use crate::serving::Blanks;
@@ -33,7 +34,8 @@ struct Case<'a> {
     status: u8,
 }
 
-// How the devices of a use fail: the most bytes of a call, and how many calls go well at the files and at each stream.
+// How the devices of a use fail: the most bytes of a call, and how many calls go well at the files
+// and at each stream.
 #[derive(Clone, Copy)]
 struct Faults {
     step: usize,
@@ -131,7 +133,8 @@ fn is_as_told(ended: &Ended, case: &Case) -> bool {
     ended.status == case.status && is_written && is_kept
 }
 
-// The texts of a long run of one process: so many barriers that script, replies and book are longer than a piece that is read or written.
+// The texts of a long run of one process: so many barriers that script, replies and book are longer
+// than a piece that is read or written.
 #[derive(Drop)]
 struct Long {
     script: String,
@@ -224,7 +227,8 @@ fn long_files_are_read_and_written_whole(rt: HostRuntime) -> Result<(), Fail> {
     Ok(())
 }
 
-// Each call at a file fails once: the line and the status are of that file, and what is written is a prefix.
+// Each call at a file fails once: the line and the status are of that file, and what is written is
+// a prefix.
 #[test]
 fn each_call_at_a_file_fails(rt: HostRuntime) -> Result<(), Fail> {
     let long = long_texts(&rt, 30)?;

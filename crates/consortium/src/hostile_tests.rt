@@ -110,7 +110,8 @@ where
     if is_same { Some(status) } else { None }
 }
 
-// The limit is 16,777,216 bytes: a text of that length is read and judged, one byte more is a read fault, and the script is not looked at.
+// The limit is 16,777,216 bytes: a text of that length is read and judged, one byte more is a read
+// fault, and the script is not looked at.
 #[test]
 fn policies_have_a_limit(rt: HostRuntime) {
     let rows = [
@@ -157,7 +158,8 @@ fn audit_status<B: Source>(
     if is_same { Some(status) } else { None }
 }
 
-// The limit is 134,217,728 bytes: a text of that length is read and judged, one byte more is a read fault.
+// The limit is 134,217,728 bytes: a text of that length is read and judged, one byte more is a read
+// fault.
 #[test]
 fn books_have_a_limit(rt: HostRuntime) {
     let rows = [

@@ -90,10 +90,12 @@ fn replay_keeping<P: Source, S: Source, O: Sink, B: Sink>(
     ending
 }
 
-/// Reads the policy, replays the script on it, writes the replies to `out` and the line of a fault to `err`, and gives the status. Where
-/// there is a `book`, and all lines were answered, it then writes the audit book of the run to it.
+/// Reads the policy, replays the script on it, writes the replies to `out` and the line of a fault
+/// to `err`, and gives the status. Where there is a `book`, and all lines were answered, it then
+/// writes the audit book of the run to it.
 ///
-/// The policy is read and judged before the script is looked at. After any fault of policy or script no book is written.
+/// The policy is read and judged before the script is looked at. After any fault of policy or
+/// script no book is written.
 pub fn replay_on<P: Source, S: Source, O: Sink, E: Sink, B: Sink>(
     alloc: Global,
     policy: &mut P,

@@ -1,5 +1,6 @@
 //! Runs the calls of a script, each process's in a thread of its own, over any devices.
-ghost use Rattle.std.specs.Prelude.{◌≡◌, ◌≢◌, ◌<◌, ◌++◌, Some, IfOk, IfErr, OnOk, OnErr, length, codes, decimal, string_bytes};
+ghost use Rattle.std.specs.Prelude.{◌≡◌, ◌≢◌, ◌<◌, ◌++◌, Some, IfOk, IfErr, OnOk, OnErr, length};
+ghost use Rattle.std.specs.Prelude.{codes, decimal, string_bytes};
 ghost use Rattle.std.specs.List.{All};
 ghost use Rattle.run_model.specs.Comms.{processes};
 ghost use Rattle.run_model.specs.Known.{IsKnownReply, ScriptsHaveKnownLabels};
@@ -9,7 +10,9 @@ ghost use Rattle.rank_run.specs.Ran.{Ran};
 ghost use Rattle.consortium.specs.Endings.{EndsSo};
 ghost use Rattle.hall_script.specs.Devices.{used, IsWritten};
 ghost use Rattle.consortium.specs.Replaying.{perhaps, no_book};
-ghost use Rattle.consortium.specs.Running.{rank_line, reply_lines, rank_text, IsScriptOf, IsNoScript, IsRunEnding, IsNoRun, break_ending, Breaks, FellShort, Reached, RunEnds};
+ghost use Rattle.consortium.specs.Running.{rank_line, reply_lines, rank_text, IsScriptOf};
+ghost use Rattle.consortium.specs.Running.{IsNoScript, IsRunEnding, IsNoRun, break_ending, Breaks};
+ghost use Rattle.consortium.specs.Running.{FellShort, Reached, RunEnds};
 
 use crate::ending::{Ending, end};
 use crate::replay::{keep, script_ending};
@@ -281,13 +284,15 @@ fn run_keeping<R: Threads + Wait + Sync, P: Source, S: Source, O: Sink, B: Sink>
     ending
 }
 
-/// Reads the policy and the script, runs the calls of each process in a thread of its own, all at the same time, and writes to `out` for each
-/// process in order the line `rank P NAME` and the lines of its replies. A take is tried again while its outcome is pending. It writes the line
-/// of a fault to `err`, and gives the status. Where there is a `book`, and the replies were written, it then writes the audit book of the run
-/// to it.
+/// Reads the policy and the script, runs the calls of each process in a thread of its own, all at
+/// the same time, and writes to `out` for each process in order the line `rank P NAME` and the
+/// lines of its replies. A take is tried again while its outcome is pending. It writes the line of
+/// a fault to `err`, and gives the status. Where there is a `book`, and the replies were written,
+/// it then writes the audit book of the run to it.
 ///
-/// The policy is read and judged before the script is looked at, and the whole script before a call is made: after a fault of policy or script,
-/// and where a thread or memory was refused before the end of the run, nothing is written to `out`, and no book.
+/// The policy is read and judged before the script is looked at, and the whole script before a call
+/// is made: after a fault of policy or script, and where a thread or memory was refused before the
+/// end of the run, nothing is written to `out`, and no book.
 pub fn run_on<R: Threads + Wait + Sync, P: Source, S: Source, O: Sink, E: Sink, B: Sink>(
     rt: &R,
     alloc: Global,

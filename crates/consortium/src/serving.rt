@@ -13,7 +13,8 @@ use std::sync::ledger::{Blank, Ledger};
 use std::thread::Threads;
 use std::{env, io};
 
-// A new ledger for the failures of each device: the policy, the second file that a command reads, the book that it keeps, and the streams.
+// A new ledger for the failures of each device: the policy, the second file that a command reads,
+// the book that it keeps, and the streams.
 pub(crate) struct Blanks {
     pub(crate) policy: Blank,
     pub(crate) second: Blank,

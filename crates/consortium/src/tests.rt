@@ -104,7 +104,8 @@ fn status_of(
     )
 }
 
-// Whether replaying the script writes these replies and this line on standard error, with this status.
+// Whether replaying the script writes these replies and this line on standard error, with this
+// status.
 pub(crate) fn ends_so(
     rt: &impl AllocGlobal,
     policy: &str,
@@ -269,7 +270,8 @@ take 3 0
 post 3 0 bcast 3 int32 1 as public 2
 ";
 
-// Three contributors of two firms are a crowd in version 1 only; three firms are one in version 2 too.
+// Three contributors of two firms are a crowd in version 1 only; three firms are one in version 2
+// too.
 #[test]
 fn sums_of_few_firms_are_charged(rt: HostRuntime) -> Result<(), Fail> {
     let got = "delivered [6]\ndelivered [6]\ndelivered [6]\n";
@@ -453,7 +455,8 @@ fn devices_of_an_audit_fail(rt: HostRuntime) -> Result<(), Fail> {
     Ok(())
 }
 
-// Whether replaying the script writes these replies, this book, and this line on standard error, with this status.
+// Whether replaying the script writes these replies, this book, and this line on standard error,
+// with this status.
 fn keeps_so(
     rt: &impl AllocGlobal,
     policy: &str,

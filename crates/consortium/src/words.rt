@@ -1,8 +1,12 @@
 //! Reads the words of the command line.
 ghost use Rattle.std.specs.Prelude.{◌≡◌, IfOk, map, false, option_map, [], ◌≢◌, Err};
-ghost use Rattle.clap.specs.Words.{app_of, rule_of, first_of, found_of, rows_of, fault_of, subcommand_of, subcommand_rows_of};
+ghost use Rattle.clap.specs.Words.{app_of, rule_of, first_of, found_of, rows_of, fault_of};
+ghost use Rattle.clap.specs.Words.{subcommand_of, subcommand_rows_of};
 ghost use Rattle.clap.specs.declared.builder.Command.TheViews.{out-Command as fields_of};
-ghost use Rattle.consortium.specs.Grammar.{required_rule, optional_rule, script_app, scripts_app, audit_app, program_app, replay_in, run_in, audit_in, command_in, asked, replay_files, run_files, audit_files, asked_by, SaysCommand};
+ghost use Rattle.consortium.specs.Grammar.{required_rule, optional_rule, script_app, scripts_app};
+ghost use Rattle.consortium.specs.Grammar.{audit_app, program_app, replay_in, run_in, audit_in};
+ghost use Rattle.consortium.specs.Grammar.{command_in, asked, replay_files, run_files, audit_files};
+ghost use Rattle.consortium.specs.Grammar.{asked_by, SaysCommand};
 
 use clap::error::ErrorKind;
 use clap::{Arg, ArgMatches};
@@ -205,8 +209,9 @@ fn matches_of<'a>(alloc: Global, words: &'a [&'a str]) -> Result<ArgMatches<'a>,
     }
 }
 
-/// What the words after the program's name ask for: `replay POLICY SCRIPT [--book FILE]`, `run POLICY SCRIPT [--book FILE]` or `audit POLICY BOOK`.
-/// They are bad arguments exactly where `clap` refuses them for another cause than memory.
+/// What the words after the program's name ask for: `replay POLICY SCRIPT [--book FILE]`, `run
+/// POLICY SCRIPT [--book FILE]` or `audit POLICY BOOK`. They are bad arguments exactly where `clap`
+/// refuses them for another cause than memory.
 #[tactic(auto, unfolding(crate::specs::Grammar::asked))]
 pub fn read_words<'a>(alloc: Global, words: &'a [&'a str]) -> Result<Command<'a>, ArgFault>
     ensures { SaysCommand result (asked (map (λ w. w.now) words.entry.now)) }

@@ -1,5 +1,7 @@
 -- Requests, counted by communicators.
-use Rattle.std.proofs.Common.{◌≡◌, ◌≢◌, ℕ, suc, ◌+◌, ◌<◌, ◌≤◌, List, [], ◌∷◌, ◌++◌, length, take, set, get_or, refl, sym, ap, subst, ◌∙◌, arith, eq-eqb, ne_eqb, length-append}
+use Rattle.std.proofs.Common.{◌≡◌, ◌≢◌, ℕ, suc, ◌+◌, ◌<◌, ◌≤◌, List, [], ◌∷◌, ◌++◌, length, take}
+use Rattle.std.proofs.Common.{set, get_or, refl, sym, ap, subst, ◌∙◌, arith, eq-eqb, ne_eqb}
+use Rattle.std.proofs.Common.{length-append}
 use native.Mathlib.Decide.{ℕ_discrete}
 use Rattle.std.specs.List.{count_by}
 use Rattle.std.proofs.lemmas.List.{take-append-le, get_or-set_same, get_or-set_other}
@@ -28,7 +30,8 @@ pub counted_more : (all : List Instance) (it : Instance) → it.number ≡ on_co
 counted_more all it is h request lt = elim (ℕ_discrete request (length all)) [
   | yes same ↦
       let last : get_or (all ++ it ∷ []) request no_instance ≡ it =
-      ap (λ n. get_or (all ++ it ∷ []) n no_instance) same ∙ get_or-append_seam all it [] no_instance in
+      ap (λ n. get_or (all ++ it ∷ []) n no_instance) same
+      ∙ get_or-append_seam all it [] no_instance in
       let before : take request (all ++ it ∷ []) ≡ all =
       ap (λ n. take n (all ++ it ∷ [])) same ∙ take-append_seam all (it ∷ []) in
       ap (λ (x : Instance). x.number) last ∙ is
@@ -45,7 +48,8 @@ counted_more all it is h request lt = elim (ℕ_discrete request (length all)) [
 
 pub counts_more : (entered : List ℕ) (all : List Instance) (it : Instance) (more : ℕ)
     → more ≡ it.number + 1 → it.number ≡ on_comm it.comm all → it.comm < length entered
-    → CountsAll entered all → (lens : (comm : ℕ) → comm < length (set entered it.comm more) → comm < length entered)
+    → CountsAll entered all →
+    (lens : (comm : ℕ) → comm < length (set entered it.comm more) → comm < length entered)
     → CountsAll (set entered it.comm more) (all ++ it ∷ [])
 counts_more entered all it more is number low h lens comm lt = elim (ℕ_discrete comm it.comm) [
   | yes same ↦
@@ -54,7 +58,8 @@ counts_more entered all it more is number low h lens comm lt = elim (ℕ_discret
       let one = one_own it in
       let here : get_or (set entered it.comm more) it.comm 0 ≡ on_comm it.comm (all ++ it ∷ []) =
       own ∙ is ∙ ap (λ n. n + 1) number ∙ ap (λ n. on_comm it.comm all + n) (sym one) ∙ sym by in
-      subst (λ c. get_or (set entered it.comm more) c 0 ≡ on_comm c (all ++ it ∷ [])) (sym same) here
+      subst (λ c. get_or (set entered it.comm more) c 0 ≡ on_comm c (all ++ it ∷ [])) (sym same)
+      here
   | no ne ↦
       let by = more_by comm all it in
       let none = one_other comm it (λ x. ne (sym x)) in

@@ -28,13 +28,16 @@ pub reverse_replicate : {A : Type 0} (n : ℕ) (x : A) → reverse (replicate n 
 reverse_replicate zero x = refl
 reverse_replicate (suc n) x =
     let e : n + 1 ≡ suc n = omega arith in
-    reverse-append (x ∷ []) (replicate n x) ∙ ap (λ l. l ++ x ∷ []) (reverse_replicate n x) ∙ replicate_more n x ∙ ap (λ m. replicate m x) e
+    reverse-append (x ∷ []) (replicate n x) ∙ ap (λ l. l ++ x ∷ []) (reverse_replicate n x)
+    ∙ replicate_more n x ∙ ap (λ m. replicate m x) e
 
 -- the calls after, the oldest first, where the newest are in front of those before
 made_more : (before after : Known) (new : List Entry) → IsSamePass before after
-    → calls_of before.process after.seen ≡ new ++ calls_of before.process before.seen → made after ≡ made before ++ reverse new
+    → calls_of before.process after.seen ≡ new ++ calls_of before.process before.seen →
+    made after ≡ made before ++ reverse new
 made_more before after new same own =
-    ap (λ p. reverse (calls_of p after.seen)) same.1 ∙ ap reverse own ∙ reverse-append new (calls_of before.process before.seen)
+    ap (λ p. reverse (calls_of p after.seen)) same.1 ∙ ap reverse own
+    ∙ reverse-append new (calls_of before.process before.seen)
 
 -- a call that the door did not make: no call more
 stopped_at_once : (patience : ℕ) (before after : Known) → IsSamePass before after
@@ -104,15 +107,23 @@ performs_few patience p (Take request) reply calls (again, within, patient, is) 
     let many = length-replicate again once in
     omega arith
 
-pub plays_more : (patience p : ℕ) (script : List Act) (replies : List Reply) (calls : List Entry) (act : Act) (reply : Reply) (more : List Entry)
+pub plays_more : (patience p : ℕ) (script : List Act) (replies : List Reply) (calls : List Entry)
+    (act : Act) (reply : Reply) (more : List Entry)
     → Plays patience p script replies calls → Performs patience p act reply more
     → Plays patience p (script ++ act ∷ []) (replies ++ reply ∷ []) (calls ++ more)
 unfolding Plays
-plays_more patience p [] [] calls act reply more h new = (more, [], ap (λ l. l ++ more) h ∙ sym (append-nil more), new, refl)
+plays_more patience p [] [] calls act reply more h new =
+    (more, [], ap (λ l. l ++ more) h ∙ sym (append-nil more), new, refl)
 plays_more patience p [] (r ∷ replies) calls act reply more h new = absurd h
 plays_more patience p (a ∷ script) [] calls act reply more h new = absurd h
-plays_more patience p (a ∷ script) (r ∷ replies) calls act reply more (first, rest, is, here, there) new =
-    (first, rest ++ more, ap (λ l. l ++ more) is ∙ append_assoc first rest more, here, plays_more patience p script replies rest act reply more there new)
+plays_more patience p (a ∷ script) (r ∷ replies) calls act reply more (first, rest, is, here, there)
+    new = (
+      first,
+      rest ++ more,
+      ap (λ l. l ++ more) is ∙ append_assoc first rest more,
+      here,
+      plays_more patience p script replies rest act reply more there new,
+    )
 
 -- so much of a job's script was played, with these replies
 pub record HasCome (patience : ℕ) (job : Job) (script : List Act) (replies : List Reply)
@@ -152,7 +163,8 @@ pub come_more : (patience : ℕ) (job : Job) (script : List Act) (replies all : 
     → Performed patience now act answer after → answer ≡ Replied reply
     → all ≡ replies ++ reply ∷ [] → NamesKnown job.pass.door.policy answer
     → HasCome patience job (script ++ act ∷ []) all after
-come_more patience job script replies all act answer reply now after h same performed is pushed known =
+come_more patience job script replies all act answer reply now after h same performed is pushed
+    known =
     let p = job.pass.process in
     let wall = job.pass.door.policy in
     let new = subst (λ (a : Answer). Performed patience now act a after) is performed in

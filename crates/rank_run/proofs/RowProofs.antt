@@ -4,11 +4,18 @@ use Rattle.std.proofs.lemmas.List.{length-replicate}
 use Rattle.run_model.specs.Runs.{Entry}
 use Rattle.rank_run.specs.Waits.{pending_takes}
 use Rattle.rank_run.specs.Plays.{Plays}
-use Rattle.rank_run.specs.Rows.{ScriptWaits, ScriptGivesUp, ActsLeftOut, WaitEnds, WaitOnce, WaitGivesUp, waits_for, ends, other}
+use Rattle.rank_run.specs.Rows.{ScriptWaits, ScriptGivesUp, ActsLeftOut, WaitEnds, WaitOnce}
+use Rattle.rank_run.specs.Rows.{WaitGivesUp, waits_for, ends, other}
 
 pub script_waits : ScriptWaits
 unfolding Plays
-script_waits = λ posting. (_, waits_for ∷ waits_for ∷ ends ∷ [], refl, refl, (waits_for ∷ waits_for ∷ ends ∷ [], [], refl, (2, omega arith, (λ e. absurd (cc)), refl), refl))
+script_waits = λ posting. (
+  _,
+  waits_for ∷ waits_for ∷ ends ∷ [],
+  refl,
+  refl,
+  (waits_for ∷ waits_for ∷ ends ∷ [], [], refl, (2, omega arith, (λ e. absurd (cc)), refl), refl),
+)
 
 pub script_gives_up : ScriptGivesUp
 unfolding Plays

@@ -53,7 +53,8 @@ pub more_played : (patience : ℕ) (handles : List (PromisedHandle Played Playin
     → after ≡ before ++ played ∷ [] → AllPlayed patience (handed (handles ++ handle ∷ [])) after
 more_played patience handles handle before after played h new pushed =
     subst₂ (λ (l : List Job) (m : List Played). AllPlayed patience l m)
-    (sym (map-append (λ (x : PromisedHandle Played Playing). x.promise.0.value) handles (handle ∷ [])))
+    (sym (map-append (λ (x : PromisedHandle Played Playing). x.promise.0.value) handles
+    (handle ∷ [])))
     (sym pushed)
     (push_played patience (handed handles) before handle.promise.0.value played h new)
 
@@ -116,32 +117,41 @@ whole_at (x ∷ all) (suc i) d e lt =
     whole_at all i d (both_true x.whole (are_whole all) e).1 (omega arith)
 
 -- the jobs of a new door: as many as its passes
-pub jobs_long : (door : Doorway) (n : ℕ) (jobs : List Job) → passes_of jobs ≡ new_passes door n → length jobs ≡ n
-jobs_long door n jobs are = sym (length-map jobs (λ (j : Job). j.pass)) ∙ passes_length door n (passes_of jobs) are
+pub jobs_long : (door : Doorway) (n : ℕ) (jobs : List Job) → passes_of jobs ≡ new_passes door n →
+    length jobs ≡ n
+jobs_long door n jobs are =
+    sym (length-map jobs (λ (j : Job). j.pass)) ∙ passes_length door n (passes_of jobs) are
 
-pub pass_at : (door : Doorway) (n : ℕ) (jobs : List Job) (i : ℕ) (d : Job) → passes_of jobs ≡ new_passes door n → i < length jobs
+pub pass_at : (door : Doorway) (n : ℕ) (jobs : List Job) (i : ℕ) (d : Job) →
+    passes_of jobs ≡ new_passes door n → i < length jobs
     → (get_or jobs i d).pass ≡ new_pass door i
 pass_at door n jobs i d are lt =
     let long = jobs_long door n jobs are in
-    sym (get_or-map (λ (j : Job). j.pass) jobs i d d.pass lt) ∙ ap (λ (l : List Known). get_or l i d.pass) are
+    sym (get_or-map (λ (j : Job). j.pass) jobs i d d.pass lt)
+    ∙ ap (λ (l : List Known). get_or l i d.pass) are
     ∙ get_or-map-range_with_len (new_pass door) 0 n i i d.pass (omega arith) (omega arith)
 
-pub script_at : (jobs : List Job) (scripts : List (List Act)) (i : ℕ) (d : Job) (e : List Act) → scripts_of jobs ≡ scripts → i < length jobs
+pub script_at : (jobs : List Job) (scripts : List (List Act)) (i : ℕ) (d : Job) (e : List Act) →
+    scripts_of jobs ≡ scripts → i < length jobs
     → get_or scripts i e ≡ (get_or jobs i d).script.items
-script_at jobs scripts i d e are lt = ap (λ (l : List (List Act)). get_or l i e) (sym are) ∙ get_or-map (λ (j : Job). j.script.items) jobs i d e lt
+script_at jobs scripts i d e are lt = ap (λ (l : List (List Act)). get_or l i e) (sym are)
+    ∙ get_or-map (λ (j : Job). j.script.items) jobs i d e lt
 
 -- jobs at a new door have not begun
-pub all_fresh : (door : Doorway) (n : ℕ) (jobs : List Job) (scripts : List (List Act)) → passes_of jobs ≡ new_passes door n → scripts_of jobs ≡ scripts
+pub all_fresh : (door : Doorway) (n : ℕ) (jobs : List Job) (scripts : List (List Act)) →
+    passes_of jobs ≡ new_passes door n → scripts_of jobs ≡ scripts
     → HaveRoom jobs → ScriptsHaveKnownLabels door.policy scripts → All (IsFresh door) jobs
 all_fresh door n jobs scripts passes are room labels = λ k d lt.
     let pass = pass_at door n jobs k d passes lt in
-    let long : k < length scripts = (let a = ap length are in let b = length-map jobs (λ (j : Job). j.script.items) in omega arith) in
+    let long : k < length scripts = (let a = ap length are in
+    let b = length-map jobs (λ (j : Job). j.script.items) in omega arith) in
     record {
       door_is = ap (λ (p : Known). p.door) pass;
       unseen = ap (λ (p : Known). p.seen) pass;
       none = (room k d lt).0;
       room = (room k d lt).1;
-      labels = subst (All (HasKnownLabel door.policy)) (script_at jobs scripts k d d.script.items are lt) (labels k d.script.items long);
+      labels = subst (All (HasKnownLabel door.policy))
+          (script_at jobs scripts k d d.script.items are lt) (labels k d.script.items long);
     }
 
 pub pass_in : (all : List Played) (passes : List Known) (i : ℕ) (d : Known) (x : Played)
@@ -162,7 +172,8 @@ all_back patience door jobs all passes fresh played is = λ k d lt.
     let at = played_at patience jobs all k low played in
     let j = at.job in
     ap (λ (p : Known). p.door)
-    (pass_in all passes k d at.played is in_all ∙ ap (λ (x : Played). x.pass) (at.played_is at.played))
+    (pass_in all passes k d at.played is in_all
+    ∙ ap (λ (x : Played). x.pass) (at.played_is at.played))
     ∙ at.has.same.0 ∙ sym (ap (λ (x : Job). x.pass.door) (at.job_is j)) ∙ (fresh k j low).door_is
 
 -- a door that was opened, handed to threads and closed
@@ -293,7 +304,8 @@ module _ (patience : ℕ) (wall : ChineseWall) (scripts : List (List Act)) (door
       let before = few_below n (omega arith) in
       let script = at.job.script.items in
       let own : length (calls_of n run) ≤ t * length script =
-      subst (λ m. m ≤ t * length script) (ap length at.calls ∙ length-reverse (calls_of n run)) at.has.few in
+      subst (λ m. m ≤ t * length script) (ap length at.calls ∙ length-reverse (calls_of n run))
+      at.has.few in
       let s = sum_by length (take n scripts) in
       let e : n + 1 ≡ suc n = omega arith in
       let one : sum_by length (take (suc n) scripts) ≡ s + length script =
@@ -325,17 +337,23 @@ module _ (patience : ℕ) (wall : ChineseWall) (scripts : List (List Act)) (door
       (both_le (2 ^ 62) (calls_below n run) (t * sum_by length (take n scripts)) (omega arith) few)
       less
 
-pub shared_passes : (jobs : List Job) (job : Job) (rest : List Known) → passes_of (jobs ++ job ∷ []) ++ rest ≡ passes_of jobs ++ (job.pass ∷ rest)
+pub shared_passes : (jobs : List Job) (job : Job) (rest : List Known) →
+    passes_of (jobs ++ job ∷ []) ++ rest ≡ passes_of jobs ++ (job.pass ∷ rest)
 shared_passes jobs job rest =
-    ap (λ (l : List Known). l ++ rest) (map-append (λ (j : Job). j.pass) jobs (job ∷ [])) ∙ append_assoc (passes_of jobs) (job.pass ∷ []) rest
+    ap (λ (l : List Known). l ++ rest) (map-append (λ (j : Job). j.pass) jobs (job ∷ []))
+    ∙ append_assoc (passes_of jobs) (job.pass ∷ []) rest
 
-pub shared_scripts : (jobs : List Job) (job : Job) → scripts_of (jobs ++ job ∷ []) ≡ scripts_of jobs ++ job.script.items ∷ []
+pub shared_scripts : (jobs : List Job) (job : Job) →
+    scripts_of (jobs ++ job ∷ []) ≡ scripts_of jobs ++ job.script.items ∷ []
 shared_scripts jobs job = map-append (λ (j : Job). j.script.items) jobs (job ∷ [])
 
-pub shared_room : (jobs : List Job) (job : Job) → HaveRoom jobs → job.replies.items ≡ [] → length job.script.items ≤ vec_capacity job.replies
+pub shared_room : (jobs : List Job) (job : Job) → HaveRoom jobs → job.replies.items ≡ [] →
+    length job.script.items ≤ vec_capacity job.replies
     → HaveRoom (jobs ++ job ∷ [])
 shared_room jobs job room none fits =
-    All-push (λ (j : Job). (j.replies.items ≡ []) × (length j.script.items ≤ vec_capacity j.replies)) jobs job room (none, fits)
+    All-push
+    (λ (j : Job). (j.replies.items ≡ []) × (length j.script.items ≤ vec_capacity j.replies))
+    jobs job room (none, fits)
 
 pub not_true : (b : Bool) → not b ≡ true → b ≡ false
 not_true true e = absurd (true≢false (sym e))

@@ -18,13 +18,16 @@ abbrev pub ends : Entry
 ends = asked 2 (Take 0) NullComm
 
 abbrev pub ScriptWaits : Type 0
-ScriptWaits = (posting : Posting) → Plays 5 2 (ToPost posting ∷ Take 0 ∷ []) (Posted 0 ∷ NullComm ∷ []) (asked 2 (ToPost posting) (Posted 0) ∷ waits_for ∷ waits_for ∷ ends ∷ [])
+ScriptWaits = (posting : Posting) →
+    Plays 5 2 (ToPost posting ∷ Take 0 ∷ []) (Posted 0 ∷ NullComm ∷ [])
+    (asked 2 (ToPost posting) (Posted 0) ∷ waits_for ∷ waits_for ∷ ends ∷ [])
 
 abbrev pub ScriptGivesUp : Type 0
 ScriptGivesUp = Plays 3 2 (Take 0 ∷ []) (Pending ∷ []) (waits_for ∷ waits_for ∷ []) → ⊥
 
 abbrev pub ActsLeftOut : Type 0
-ActsLeftOut = Plays 3 2 (ToInfo 0 ∷ ToInfo 0 ∷ []) (NullComm ∷ NullComm ∷ []) (asked 2 (ToInfo 0) NullComm ∷ []) → ⊥
+ActsLeftOut = Plays 3 2 (ToInfo 0 ∷ ToInfo 0 ∷ []) (NullComm ∷ NullComm ∷ [])
+    (asked 2 (ToInfo 0) NullComm ∷ []) → ⊥
 
 -- a pass of process 2 that has seen this run
 abbrev pub at_door : Doorway → List Entry → Known
@@ -35,10 +38,14 @@ abbrev pub other : Entry
 other = asked 1 (Take 4) Pending
 
 abbrev pub WaitEnds : Type 0
-WaitEnds = (door : Doorway) → Waited 2 (at_door door (other ∷ [])) 0 (Replied Pending) (at_door door (waits_for ∷ other ∷ waits_for ∷ other ∷ []))
+WaitEnds = (door : Doorway) →
+    Waited 2 (at_door door (other ∷ [])) 0 (Replied Pending)
+    (at_door door (waits_for ∷ other ∷ waits_for ∷ other ∷ []))
 
 abbrev pub WaitOnce : Type 0
-WaitOnce = (door : Doorway) → Waited 0 (at_door door []) 0 (Replied Pending) (at_door door (waits_for ∷ []))
+WaitOnce = (door : Doorway) →
+    Waited 0 (at_door door []) 0 (Replied Pending) (at_door door (waits_for ∷ []))
 
 abbrev pub WaitGivesUp : Type 0
-WaitGivesUp = (door : Doorway) → Waited 3 (at_door door []) 0 (Replied Pending) (at_door door (waits_for ∷ waits_for ∷ [])) → ⊥
+WaitGivesUp = (door : Doorway) →
+    Waited 3 (at_door door []) 0 (Replied Pending) (at_door door (waits_for ∷ waits_for ∷ [])) → ⊥

@@ -1,9 +1,12 @@
 -- What waiting for a request does to a pass. (Own rules.)
-use Rattle.std.specs.Prelude.{◌≡◌, ℕ, ◌+◌, ◌^◌, ◌<◌, ◌≤◌, Bool, true, false, List, [], ◌∷◌, ◌++◌, length, max, replicate}
+use Rattle.std.specs.Prelude.{◌≡◌, ℕ, ◌+◌, ◌^◌, ◌<◌, ◌≤◌, Bool, true, false, List, [], ◌∷◌, ◌++◌}
+use Rattle.std.specs.Prelude.{length, max, replicate}
 use Rattle.run_model.specs.declared.call.Act.{Act}
 use Rattle.run_model.specs.declared.call.Act.TheVariants.{Take}
 use Rattle.run_model.specs.declared.reply.Reply.{Reply}
-use Rattle.run_model.specs.declared.reply.Reply.TheVariants.{Posted, Barred, Pending, Delivered, NewComm, NullComm, Denied, NoRoom, Info, Refused}
+use Rattle.run_model.specs.declared.reply.Reply.TheVariants.{Posted, Barred, Pending, Delivered}
+use Rattle.run_model.specs.declared.reply.Reply.TheVariants.{NewComm, NullComm, Denied, NoRoom}
+use Rattle.run_model.specs.declared.reply.Reply.TheVariants.{Info, Refused}
 use Rattle.run_model.specs.Runs.{Entry, entry}
 use Rattle.hall_turn.specs.declared.answer.Answer.{Answer}
 use Rattle.hall_turn.specs.declared.answer.Answer.TheVariants.{Reply as Replied, Exhausted}
@@ -40,13 +43,17 @@ is_pending (Replied (Info size rank dims)) = false
 is_pending (Replied (Refused refusal)) = false
 is_pending Exhausted = false
 
--- The request was taken again and again, at most `tries patience` times. All takes but the last were answered Pending, and the answer is that
--- of the last. It is Pending only if all tries were made. The run seen after begins with the run seen before, and the new calls of the
--- process in it are these takes; its newest call is the first in the list.
-pub record Waited (patience : ℕ) (before : Known) (request : ℕ) (answer : Answer) (after : Known) : Type 0 where
+-- The request was taken again and again, at most `tries patience` times. All takes but the last
+-- were answered Pending, and the answer is that of the last. It is Pending only if all tries were
+-- made. The run seen after begins with the run seen before, and the new calls of the process in it
+-- are these takes; its newest call is the first in the list.
+pub record Waited (patience : ℕ) (before : Known) (request : ℕ) (answer : Answer) (after : Known)
+    : Type 0 where
   pub again : ℕ
   pub within : again < tries patience
   pub begins : Continues after.seen before.seen
-  pub own : calls_of before.process after.seen ≡ last_take before.process request answer ++ pending_takes before.process request again ++ calls_of before.process before.seen
+  pub own : calls_of before.process after.seen
+      ≡ last_take before.process request answer ++ pending_takes before.process request again
+      ++ calls_of before.process before.seen
   pub patient : answer ≡ Replied Pending → again + 1 ≡ tries patience
   pub exhausted : answer ≡ Exhausted → 2 ^ 62 ≤ length after.seen

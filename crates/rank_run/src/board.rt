@@ -1,9 +1,13 @@
 //! Where the ranks of a run stand: who plays, who waits for the place, and who sleeps for what.
-ghost use Rattle.std.specs.Prelude.{◌≡◌, ◌≢◌, ℕ, Option, ◌+◌, ◌-◌, ◌^◌, ◌<◌, ◌≤◌, IfOk, IfSome, IfNone, None, Some, true, false, length, slice_set, slice_index_or};
-ghost use Rattle.rank_run.specs.declared.board.Place.TheVariants.{Plays, InLine, Aside, Sleeps as AtRest, Ended};
+ghost use Rattle.std.specs.Prelude.{◌≡◌, ◌≢◌, ℕ, Option, ◌+◌, ◌-◌, ◌^◌, ◌<◌, ◌≤◌, IfOk, IfSome};
+ghost use Rattle.std.specs.Prelude.{IfNone, None, Some, true, false, length, slice_set};
+ghost use Rattle.std.specs.Prelude.{slice_index_or};
+ghost use Rattle.rank_run.specs.declared.board.Place.TheVariants.{Plays, InLine, Aside};
+ghost use Rattle.rank_run.specs.declared.board.Place.TheVariants.{Sleeps as AtRest, Ended};
 ghost use Rattle.rank_run.specs.declared.board.Lying.TheVariants.{Stays, Sleeps};
 ghost use Rattle.rank_run.specs.declared.board.Instance.{Instance};
-ghost use Rattle.rank_run.specs.Boards.{IsInLineOrNone, place_of, settled_on, is_awake, IsHeard, PlaysAlone, IsWatched, IsOrderly, Calls, HasComeToLine};
+ghost use Rattle.rank_run.specs.Boards.{IsInLineOrNone, place_of, settled_on, is_awake, IsHeard};
+ghost use Rattle.rank_run.specs.Boards.{PlaysAlone, IsWatched, IsOrderly, Calls, HasComeToLine};
 
 use std::alloc::{AllocError, Global};
 
@@ -40,7 +44,8 @@ pub(crate) struct Board {
 
 // So many places in line.
 fn places_in_line(alloc: Global, ranks: usize) -> Result<Vec<Place>, AllocError>
-    ensures { IfOk result (λ places. (rank : ℕ) → IsInLineOrNone (slice_index_or places.items rank Ended)) }
+    ensures { IfOk result
+        (λ places. (rank : ℕ) → IsInLineOrNone (slice_index_or places.items rank Ended)) }
 {
     let mut places = Vec::with_capacity(alloc, ranks)?;
     for _ in 0..ranks {
@@ -131,8 +136,10 @@ impl Board {
         requires watched { IsWatched self.old }
         ensures orderly { IsOrderly self.new }
         ensures calls { Calls self.old self.new result }
-        ensures stays { (rank : ℕ) → place_of self.new rank ≢ Plays → place_of self.new rank ≡ place_of self.old rank }
-        ensures from { (rank : ℕ) → place_of self.new rank ≡ Plays → place_of self.old rank ≡ InLine }
+        ensures stays { (rank : ℕ) → place_of self.new rank ≢ Plays →
+            place_of self.new rank ≡ place_of self.old rank }
+        ensures from { (rank : ℕ) → place_of self.new rank ≡ Plays →
+            place_of self.old rank ≡ InLine }
         ensures settled { self.new.settled ≡ self.old.settled }
     {
         let rank = self.first_in_line()?;
@@ -144,7 +151,8 @@ impl Board {
 
     // Whether a rank but this one is awake.
     fn others_are_awake(&self, rank: usize) -> bool
-        ensures yes { result ≡ true → (other : ℕ) × (other ≢ rank) × (is_awake (place_of self.now other) ≡ true) }
+        ensures yes { result ≡ true →
+            (other : ℕ) × (other ≢ rank) × (is_awake (place_of self.now other) ≡ true) }
     {
         for other in 0..self.places.len() {
             if other != rank && self.is_awake(other) {
@@ -165,8 +173,10 @@ impl Board {
     }
 
     fn first_asleep(&self) -> Option<usize>
-        ensures found { IfSome result (λ rank. (it : Instance) × (place_of self.now rank ≡ AtRest it)) }
-        ensures none { IfNone result ((rank : ℕ) (it : Instance) → place_of self.now rank ≢ AtRest it) }
+        ensures found { IfSome result
+            (λ rank. (it : Instance) × (place_of self.now rank ≡ AtRest it)) }
+        ensures none { IfNone result
+            ((rank : ℕ) (it : Instance) → place_of self.now rank ≢ AtRest it) }
     {
         for rank in 0..self.places.len() {
             if let Place::Sleeps(_) = self.place_of(rank) {
@@ -181,12 +191,15 @@ impl Board {
         requires orderly { IsOrderly self.old }
         requires plays { place_of self.old rank ≡ Plays }
         requires goes { (place ≢ Plays) × (place ≢ InLine) }
-        requires heard { (it : Instance) → place ≡ AtRest it → settled_on self.old it.comm ≤ it.number }
-        requires watched { is_awake place ≡ false → (other : ℕ) × (other ≢ rank) × (is_awake (place_of self.old other) ≡ true) }
+        requires heard { (it : Instance) → place ≡ AtRest it →
+            settled_on self.old it.comm ≤ it.number }
+        requires watched { is_awake place ≡ false →
+            (other : ℕ) × (other ≢ rank) × (is_awake (place_of self.old other) ≡ true) }
         ensures orderly { IsOrderly self.new }
         ensures calls { Calls self.old self.new result }
         ensures place { place_of self.new rank ≡ place }
-        ensures stays { (other : ℕ) → other ≢ rank → place_of self.new other ≢ Plays → place_of self.new other ≡ place_of self.old other }
+        ensures stays { (other : ℕ) → other ≢ rank → place_of self.new other ≢ Plays →
+            place_of self.new other ≡ place_of self.old other }
     {
         self.set(rank, place);
         self.player = None;
@@ -199,7 +212,8 @@ impl Board {
         ensures orderly { IsOrderly self.new }
         ensures calls { Calls self.old self.new result }
         ensures aside { place_of self.old rank ≡ Plays → place_of self.new rank ≡ Aside }
-        ensures stays { (other : ℕ) → other ≢ rank → place_of self.new other ≢ Plays → place_of self.new other ≡ place_of self.old other }
+        ensures stays { (other : ℕ) → other ≢ rank → place_of self.new other ≢ Plays →
+            place_of self.new other ≡ place_of self.old other }
     {
         if !self.plays(rank) {
             return None;
@@ -207,13 +221,16 @@ impl Board {
         self.leave(rank, Place::Aside)
     }
 
-    /// A rank that had stepped aside comes back: it plays at once, or stands in line. Gives whether it plays.
+    /// A rank that had stepped aside comes back: it plays at once, or stands in line. Gives whether
+    /// it plays.
     pub(crate) fn step_back(&mut self, rank: usize) -> bool
         requires { IsOrderly self.old }
         ensures orderly { IsOrderly self.new }
         ensures plays { result ≡ true → place_of self.new rank ≡ Plays }
-        ensures in_line { result ≡ false → place_of self.old rank ≡ Aside → place_of self.new rank ≡ InLine }
-        ensures others { (other : ℕ) → other ≢ rank → place_of self.new other ≡ place_of self.old other }
+        ensures in_line { result ≡ false → place_of self.old rank ≡ Aside →
+            place_of self.new rank ≡ InLine }
+        ensures others { (other : ℕ) → other ≢ rank →
+            place_of self.new other ≡ place_of self.old other }
     {
         let Place::Aside = self.place_of(rank) else {
             return self.plays(rank);
@@ -235,7 +252,8 @@ impl Board {
         ensures lies { (called : Option ℕ) → result ≡ Sleeps called
             → Calls self.old self.new called × (place_of self.new rank ≡ AtRest it) }
         ensures awake { result ≡ Stays → self.new ≡ self.old }
-        ensures stays { (other : ℕ) → other ≢ rank → place_of self.new other ≢ Plays → place_of self.new other ≡ place_of self.old other }
+        ensures stays { (other : ℕ) → other ≢ rank → place_of self.new other ≢ Plays →
+            place_of self.new other ≡ place_of self.old other }
     {
         if !self.plays(rank) || self.has_settled(it) || !self.others_are_awake(rank) {
             return Lying::Stays;
@@ -246,11 +264,15 @@ impl Board {
     // It stands in line if it sleeps for what has settled.
     fn call_if_settled(&mut self, rank: usize)
         requires { rank < length self.old.places.items }
-        ensures heard { (it : Instance) → place_of self.new rank ≡ AtRest it → settled_on self.new it.comm ≤ it.number }
-        ensures only { place_of self.new rank ≢ place_of self.old rank → HasComeToLine self.old self.new rank }
+        ensures heard { (it : Instance) → place_of self.new rank ≡ AtRest it →
+            settled_on self.new it.comm ≤ it.number }
+        ensures only { place_of self.new rank ≢ place_of self.old rank →
+            HasComeToLine self.old self.new rank }
         ensures one { PlaysAlone self.old → PlaysAlone self.new }
-        ensures awake { (r : ℕ) → is_awake (place_of self.old r) ≡ true → is_awake (place_of self.new r) ≡ true }
-        ensures others { (other : ℕ) → other ≢ rank → place_of self.new other ≡ place_of self.old other }
+        ensures awake { (r : ℕ) → is_awake (place_of self.old r) ≡ true →
+            is_awake (place_of self.new r) ≡ true }
+        ensures others { (other : ℕ) → other ≢ rank →
+            place_of self.new other ≡ place_of self.old other }
         ensures settled { self.new.settled ≡ self.old.settled }
         ensures player { self.new.player ≡ self.old.player }
         ensures len { length self.new.places.items ≡ length self.old.places.items }
@@ -270,7 +292,8 @@ impl Board {
         ensures heard { IsHeard self.new }
         ensures one { PlaysAlone self.new }
         ensures watched { IsWatched self.new }
-        ensures only { (rank : ℕ) → place_of self.new rank ≢ place_of self.old rank → HasComeToLine self.old self.new rank }
+        ensures only { (rank : ℕ) → place_of self.new rank ≢ place_of self.old rank →
+            HasComeToLine self.old self.new rank }
         ensures settled { self.new.settled ≡ self.old.settled }
         ensures player { self.new.player ≡ self.old.player }
     {
@@ -281,8 +304,11 @@ impl Board {
 
     // One more instance has settled on the communicator.
     fn count(&mut self, comm: u32)
-        ensures more { settled_on self.old comm < 2 ^ 64 - 1 → comm < length self.old.settled.items → settled_on self.new comm ≡ settled_on self.old comm + 1 }
-        ensures others { (other : ℕ) → other ≢ comm → settled_on self.new other ≡ settled_on self.old other }
+        ensures more { settled_on self.old comm < 2 ^ 64 - 1 →
+            comm < length self.old.settled.items →
+            settled_on self.new comm ≡ settled_on self.old comm + 1 }
+        ensures others { (other : ℕ) → other ≢ comm →
+            settled_on self.new other ≡ settled_on self.old other }
         ensures places { self.new.places ≡ self.old.places }
         ensures player { self.new.player ≡ self.old.player }
     {
@@ -298,8 +324,10 @@ impl Board {
         ensures heard { IsHeard self.new }
         ensures one { PlaysAlone self.new }
         ensures watched { IsWatched self.new }
-        ensures ended { (rank : ℕ) → place_of self.old rank ≡ Ended → place_of self.new rank ≡ Ended }
-        ensures stays { (rank : ℕ) → place_of self.new rank ≡ Plays → place_of self.old rank ≡ Plays }
+        ensures ended { (rank : ℕ) → place_of self.old rank ≡ Ended →
+            place_of self.new rank ≡ Ended }
+        ensures stays { (rank : ℕ) → place_of self.new rank ≡ Plays →
+            place_of self.old rank ≡ Plays }
         ensures player { self.new.player ≡ self.old.player }
     {
         if let Some(rank) = self.first_asleep() {
@@ -313,7 +341,8 @@ impl Board {
         ensures heard { IsHeard self.new }
         ensures one { PlaysAlone self.new }
         ensures ended { place_of self.new rank ≡ Ended }
-        ensures others { (other : ℕ) → other ≢ rank → place_of self.new other ≡ place_of self.old other }
+        ensures others { (other : ℕ) → other ≢ rank →
+            place_of self.new other ≡ place_of self.old other }
     {
         if rank < self.places.len() {
             self.set(rank, Place::Ended);
@@ -347,8 +376,11 @@ impl Board {
         requires { IsOrderly self.old }
         ensures orderly { IsOrderly self.new }
         ensures calls { Calls self.old self.new result }
-        ensures only { (rank : ℕ) → place_of self.new rank ≢ Plays → place_of self.new rank ≢ place_of self.old rank → HasComeToLine self.old self.new rank }
-        ensures more { settled_on self.old comm < 2 ^ 64 - 1 → comm < length self.old.settled.items → settled_on self.new comm ≡ settled_on self.old comm + 1 }
+        ensures only { (rank : ℕ) → place_of self.new rank ≢ Plays →
+            place_of self.new rank ≢ place_of self.old rank → HasComeToLine self.old self.new rank }
+        ensures more { settled_on self.old comm < 2 ^ 64 - 1 →
+            comm < length self.old.settled.items →
+            settled_on self.new comm ≡ settled_on self.old comm + 1 }
     {
         self.count(comm);
         self.call_sleepers();

@@ -4,7 +4,8 @@ ghost use Rattle.std.specs.Prelude.{◌≡◌, ◌<◌, [], length, map, vec_ite
 use hall_core::Reply;
 use std::marker::Model;
 
-/// For each process, from 0, the replies that it got, in order. Contracts see a list for each process.
+/// For each process, from 0, the replies that it got, in order. Contracts see a list for each
+/// process.
 #[derive(Drop)]
 pub struct RunReplies {
     replies: Vec<Vec<Reply>>,

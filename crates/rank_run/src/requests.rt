@@ -94,7 +94,8 @@ impl Requests {
 
     /// The instance of a request.
     pub(crate) fn instance_of(&self, request: u64) -> Option<Instance>
-        ensures { IfSome result (λ it. it ≡ slice_index_or self.now.instances.items request no_instance) }
+        ensures { IfSome result
+            (λ it. it ≡ slice_index_or self.now.instances.items request no_instance) }
     {
         self.instances.get(request as usize).copied()
     }

@@ -1,7 +1,9 @@
 //! Worked rows of what waiting and scripts come to, as functions that do nothing.
-ghost use Rattle.rank_run.specs.Rows.{ScriptWaits, ScriptGivesUp, ActsLeftOut, WaitEnds, WaitOnce, WaitGivesUp};
+ghost use Rattle.rank_run.specs.Rows.{ScriptWaits, ScriptGivesUp, ActsLeftOut, WaitEnds, WaitOnce};
+ghost use Rattle.rank_run.specs.Rows.{WaitGivesUp};
 
-/// A post and a take that was tried three times are the calls of a script of two acts, with two replies.
+/// A post and a take that was tried three times are the calls of a script of two acts, with two
+/// replies.
 #[tactic(auto, using(crate::proofs::RowProofs::script_waits))]
 pub fn script_waits()
     ensures { ScriptWaits }

@@ -26,7 +26,8 @@ const ALONE: &str =
 const FRIENDS: &str =
     "version = 1\n[[class]]\nname = \"banks\"\ndatasets = [\"alpha\", \"beta\"]\n[[process]]\nname = \"p0\"\nhome = \"alpha\"\n[[process]]\nname = \"p1\"\nhome = \"alpha\"\n";
 
-/// Four processes: a0 at home with alpha, b0 with beta, c0 with crude, n0 nowhere. Sums of three contributors are sanitised.
+/// Four processes: a0 at home with alpha, b0 with beta, c0 with crude, n0 nowhere. Sums of three
+/// contributors are sanitised.
 const RIVALS: &str =
     "version = 1\n[[class]]\nname = \"banks\"\ndatasets = [\"alpha\", \"beta\"]\n[[class]]\nname = \"oil\"\ndatasets = [\"crude\", \"delta\"]\n[[process]]\nname = \"a0\"\nhome = \"alpha\"\n[[process]]\nname = \"b0\"\nhome = \"beta\"\n[[process]]\nname = \"c0\"\nhome = \"crude\"\n[[process]]\nname = \"n0\"\n[[sanitise]]\nop = \"sum\"\nleast = 3\n";
 

@@ -1,5 +1,5 @@
-//! Four processes: a0 at home with alpha, b0 with beta, c0 with crude, n0 nowhere. Alpha and beta are rivals; sums of three contributors are
-//! sanitised.
+//! Four processes: a0 at home with alpha, b0 with beta, c0 with crude, n0 nowhere. Alpha and beta
+//! are rivals; sums of three contributors are sanitised.
 //!
 //! A way out that lets a wide value go by itself, as a door, a run or an answer, takes the prover
 //! half a minute. So `expect` stands in place of `?`, and what is wide is handed to `drop` at the
@@ -63,8 +63,8 @@ impl Gate for Counting {
     }
 }
 
-/// Holds each process before its second call until the first calls of all four were answered. Scripts that are run one after another, or on fewer
-/// threads than processes, are late.
+/// Holds each process before its second call until the first calls of all four were answered.
+/// Scripts that are run one after another, or on fewer threads than processes, are late.
 #[derive(Drop)]
 struct Meeting {
     met: AtomicU64,
@@ -273,7 +273,8 @@ fn four_ranks_run(rt: HostRuntime) {
     drop(hall);
 }
 
-/// All ranks run at the same time: none is before its second call while another has not made its first.
+/// All ranks run at the same time: none is before its second call while another has not made its
+/// first.
 #[test]
 fn ranks_meet(rt: HostRuntime) {
     let gate = Meeting {

@@ -7,7 +7,11 @@ returns-in-Err g c = inl (c.in-Err.ensures.ending, refl, refl, tt)
 
 pub returns-in-Err-replay : goal.returns-in-Err-replay
 returns-in-Err-replay g c =
-    inr (c.in-Ok.wall, c.in-Ok.ensures.policy, inl (c.in-Err-replay.fault, c.in-Err-replay.ensures.fault, c.script_ending.ensures, tt))
+    inr (
+      c.in-Ok.wall,
+      c.in-Ok.ensures.policy,
+      inl (c.in-Err-replay.fault, c.in-Err-replay.ensures.fault, c.script_ending.ensures, tt),
+    )
 
 pub returns : goal.returns
 returns g c =

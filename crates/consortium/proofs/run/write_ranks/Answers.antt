@@ -14,9 +14,11 @@ returns-in-Err-clause-broken g c =
     let test = c.loop-number-test.true in
     let some = c.processes-number-end.ensures.number in
     let long = c.requires.long in
-    ranks_fell_short g.O.Sink.failures g.O.Sink.contents c.args.wall.now c.args.replies.now c.loop-number.number c.in-Some.process c.of.result.now
+    ranks_fell_short g.O.Sink.failures g.O.Sink.contents c.args.wall.now c.args.replies.now
+    c.loop-number.number c.in-Some.process c.of.result.now
     c.args.out.now c.loop-number.out c.write_process.new.out c.in-Err.fault
-    c.in-Some.ensures.value c.of.ensures (omega arith) c.loop-number.invariant.count c.loop-number.invariant.written c.in-Err.ensures.broken
+    c.in-Some.ensures.value c.of.ensures (omega arith) c.loop-number.invariant.count
+    c.loop-number.invariant.written c.in-Err.ensures.broken
 
 pub loop-number-preserved : goal.loop-number-preserved
 loop-number-preserved g c =
@@ -25,7 +27,10 @@ loop-number-preserved g c =
     record {
       within = omega arith;
       count = c.in-Ok.ensures.written.0 ∙ c.loop-number.invariant.count;
-      written = ranks_step c.args.wall.now c.args.replies.now c.loop-number.number c.in-Some.process c.of.result.now
-          (g.O.Sink.contents c.args.out.now) (g.O.Sink.contents c.loop-number.out) (g.O.Sink.contents c.write_process.new.out)
-          c.in-Some.ensures.value c.of.ensures c.loop-number.invariant.written c.in-Ok.ensures.written.1;
+      written = ranks_step c.args.wall.now c.args.replies.now c.loop-number.number c.in-Some.process
+          c.of.result.now
+          (g.O.Sink.contents c.args.out.now) (g.O.Sink.contents c.loop-number.out)
+          (g.O.Sink.contents c.write_process.new.out)
+          c.in-Some.ensures.value c.of.ensures c.loop-number.invariant.written
+          c.in-Ok.ensures.written.1;
     }

@@ -8,5 +8,6 @@ abbrev pub invariant-loop-number : goal.invariant-loop-number
 invariant-loop-number g l = record {
   within : l.number ≤ processes l.wall;
   count : g.O.Sink.failures l.out ≡ g.O.Sink.failures l.fn.out;
-  written : Appends (g.O.Sink.contents l.fn.out) (g.O.Sink.contents l.out) (ranks_text l.wall l.replies l.number);
+  written : Appends (g.O.Sink.contents l.fn.out) (g.O.Sink.contents l.out)
+      (ranks_text l.wall l.replies l.number);
 }

@@ -15,7 +15,8 @@ loop-act-init g c =
     let none = ap (λ (l : List Reply). length l) c.requires.none in
     record {
       whole = c.into_iter-act-iterator.ensures.into_iter_gives.0;
-      come = come_none PATIENCE c.args.job c.args.job.replies.items c.requires.unseen c.requires.none;
+      come =
+          come_none PATIENCE c.args.job c.args.job.replies.items c.requires.unseen c.requires.none;
       count = omega arith;
       room = c.requires.room;
     }
@@ -30,11 +31,14 @@ loop-act-preserved g c =
     let long = length_push done act in
     let count = i.count in
     record {
-      whole = append_assoc done (act ∷ []) (into_iter_items c.next.new.self) ∙ ap (λ l. done ++ l) (sym c.in-Some.ensures.steps.0) ∙ i.whole;
+      whole = append_assoc done (act ∷ []) (into_iter_items c.next.new.self)
+          ∙ ap (λ l. done ++ l) (sym c.in-Some.ensures.steps.0) ∙ i.whole;
       come =
-          come_more PATIENCE c.args.job done c.loop-act.replies.items c.push_reserved.new.self.items act p.result c.in-Reply.reply c.loop-act.pass p.new.pass i.come
+          come_more PATIENCE c.args.job done c.loop-act.replies.items c.push_reserved.new.self.items
+          act p.result c.in-Reply.reply c.loop-act.pass p.new.pass i.come
           p.ensures.same p.ensures.performed c.in-Reply.is push.items
-          (subst (λ (w : ChineseWall). NamesKnown w p.result) (sym (ap (λ (d : Doorway). d.policy) c.requires.door_is)) p.ensures.named);
+          (subst (λ (w : ChineseWall). NamesKnown w p.result)
+          (sym (ap (λ (d : Doorway). d.policy) c.requires.door_is)) p.ensures.named);
       count = omega (arith, push.len);
       room = omega (arith, push.capacity, i.room);
     }

@@ -26,7 +26,8 @@ loop-handle-preserved g c =
     let long = length_push done h in
     let count = i.count in
     record {
-      whole = append_assoc done (h ∷ []) (into_iter_items c.next.new.self) ∙ ap (λ l. done ++ l) (sym c.in-Some.ensures.steps.0) ∙ i.whole;
+      whole = append_assoc done (h ∷ []) (into_iter_items c.next.new.self)
+          ∙ ap (λ l. done ++ l) (sym c.in-Some.ensures.steps.0) ∙ i.whole;
       played = more_played PATIENCE done h c.loop-handle.ended.items c.push_reserved.new.self.items
           c.join.result i.played c.join.ensures push.items;
       count = omega (arith, push.len);

@@ -10,7 +10,8 @@ use Rattle.rank_run.specs.declared.waiting.TheConstants.{PATIENCE}
 use Rattle.rank_run.specs.declared.rank.Played.{Played}
 use Rattle.rank_run.specs.Ran.{Ran}
 use Rattle.run_model.specs.Known.{ScriptsHaveKnownLabels}
-use Rattle.rank_run.proofs.RunLemmas.{all_fresh, all_back, jobs_long, played_long, Story, ran, cut_short, not_true, not_false}
+use Rattle.rank_run.proofs.RunLemmas.{all_fresh, all_back, jobs_long, played_long, Story, ran}
+use Rattle.rank_run.proofs.RunLemmas.{cut_short, not_true, not_false}
 use Rattle.rank_run.proofs.run.run_all.Goals as goal
 
 pub share_out-requires : goal.share_out-requires
@@ -18,7 +19,8 @@ share_out-requires g c =
     let n = processes c.args.policy in
     let o = c.in_ok-door.passes.ok in
     let p = c.into_vec.result.ok in
-    let a = passes_length c.in_ok-door.door n c.in_ok-door.passes.items c.in_ok-door.ensures.passes in
+    let a = passes_length c.in_ok-door.door n c.in_ok-door.passes.items c.in_ok-door.ensures.passes
+    in
     let e = ap (λ (l : List (List Act)). length l) c.into_vec.ensures in
     let long = c.requires.long in
     omega arith
@@ -29,7 +31,8 @@ run_jobs-requires-after_bounds g c κs within =
     let e = c.in_ok-jobs.ensures in
     all_fresh door (processes c.args.policy) c.in_ok-jobs.jobs.items c.args.scripts
     (e.passes ∙ c.in_ok-door.ensures.passes) (e.scripts ∙ c.into_vec.ensures) e.room
-    (subst (λ (w : ChineseWall). ScriptsHaveKnownLabels w c.args.scripts) (sym c.in_ok-door.ensures.policy)
+    (subst (λ (w : ChineseWall). ScriptsHaveKnownLabels w c.args.scripts)
+    (sym c.in_ok-door.ensures.policy)
     c.requires.labels)
 
 pub close-requires : goal.close-requires
@@ -40,7 +43,8 @@ close-requires g c =
     let h = c.in_ok-ended.ensures.ended in
     let fresh = all_fresh door (processes c.args.policy) jobs c.args.scripts
     (e.passes ∙ c.in_ok-door.ensures.passes) (e.scripts ∙ c.into_vec.ensures) e.room
-    (subst (λ (w : ChineseWall). ScriptsHaveKnownLabels w c.args.scripts) (sym c.in_ok-door.ensures.policy)
+    (subst (λ (w : ChineseWall). ScriptsHaveKnownLabels w c.args.scripts)
+    (sym c.in_ok-door.ensures.policy)
     c.requires.labels) in
     all_back PATIENCE door jobs h.all c.in_ok-ended.ended.passes.items fresh h.played h.passes
 

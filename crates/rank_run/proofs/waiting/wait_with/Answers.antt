@@ -9,7 +9,8 @@ returns-then-not-is_pending-clause-waited g c =
     let within = i.within in
     let test = c.loop-tried-test.true in
     let t = c.take_once-answer in
-    waited c.args.patience c.args.request (c.loop-tried.tried - 1) t.result c.args.pass.now c.loop-tried.pass t.new.pass i.waits t.ensures.answered (omega arith)
+    waited c.args.patience c.args.request (c.loop-tried.tried - 1) t.result c.args.pass.now
+    c.loop-tried.pass t.new.pass i.waits t.ensures.answered (omega arith)
     (not_pending t.result (sym c.is_pending.ensures ∙ c.if-not-is_pending.true))
 
 pub loop-tried-preserved : goal.loop-tried-preserved
@@ -24,7 +25,9 @@ loop-tried-preserved g c =
       some = omega arith;
       within = omega arith;
       waits = subst (λ n. Waits c.args.request n c.args.pass.now t.new.pass) e
-          (waits_more c.args.request (c.loop-tried.tried - 1) t.result c.args.pass.now c.loop-tried.pass t.new.pass i.waits t.ensures.same t.ensures.answered (sym c.is_pending.ensures ∙ c.if-not-is_pending.false));
+          (waits_more c.args.request (c.loop-tried.tried - 1) t.result c.args.pass.now
+          c.loop-tried.pass t.new.pass i.waits t.ensures.same t.ensures.answered
+          (sym c.is_pending.ensures ∙ c.if-not-is_pending.false));
     }
 
 pub returns-clause-waited : goal.returns-clause-waited
@@ -34,5 +37,6 @@ returns-clause-waited g c =
     let within = i.within in
     let test = c.loop-tried-test.false in
     let t = c.take_once in
-    waited c.args.patience c.args.request (c.loop-tried.tried - 1) t.result c.args.pass.now c.loop-tried.pass t.new.pass i.waits t.ensures.answered (omega arith)
+    waited c.args.patience c.args.request (c.loop-tried.tried - 1) t.result c.args.pass.now
+    c.loop-tried.pass t.new.pass i.waits t.ensures.answered (omega arith)
     (λ e. omega arith)

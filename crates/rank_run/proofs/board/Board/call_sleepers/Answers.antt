@@ -1,4 +1,5 @@
-use Rattle.std.proofs.Common.{◌≡◌, ◌≢◌, ◌⊎◌, ℕ, ◌+◌, ◌<◌, ◌≤◌, true, false, sym, subst, ap, ◌∙◌, ⊎_elim, arith}
+use Rattle.std.proofs.Common.{◌≡◌, ◌≢◌, ◌⊎◌, ℕ, ◌+◌, ◌<◌, ◌≤◌, true, false, sym, subst, ap, ◌∙◌}
+use Rattle.std.proofs.Common.{⊎_elim, arith}
 use native.Mathlib.Decide.{ℕ_discrete}
 use Rattle.std.proofs.lemmas.Grind.{common_steps}
 use Rattle.rank_run.specs.declared.board.Board.{Board}
@@ -19,7 +20,9 @@ loop-rank-preserved c =
         | yes is ↦ e.heard it (subst (λ x. place_of after x ≡ Sleeps it) is at)
         | no ne ↦ let same = e.others r ne in let low : r < n = omega arith in
             let h = i.heard r it low (sym same ∙ at) in
-            subst (λ s. s ≤ it.number) (ap (λ (l : _). settled_on (record before { settled = l }) it.comm) (sym e.settled)) h
+            subst (λ s. s ≤ it.number)
+            (ap (λ (l : _). settled_on (record before { settled = l }) it.comm) (sym e.settled))
+            h
       ];
       one = e.one i.one;
       only = λ r moved. elim (ℕ_discrete r n) [
@@ -27,7 +30,9 @@ loop-rank-preserved c =
             let kept : place_of before r ≡ place_of first r = i.still r (omega arith) in
             let h : HasComeToLine before after r =
             subst (λ x. HasComeToLine before after x) (sym is)
-            (e.only (λ x. moved (subst (λ y. place_of after y ≡ place_of before y) (sym is) x ∙ kept))) in record {
+            (e.only (λ x. moved
+            (subst (λ y. place_of after y ≡ place_of before y) (sym is) x ∙ kept))) in
+            record {
               it = h.it;
               slept = sym kept ∙ h.slept;
               settled = h.settled;
@@ -38,11 +43,14 @@ loop-rank-preserved c =
             let h = i.only r (λ x. moved (same ∙ x)) in record {
               it = h.it;
               slept = h.slept;
-              settled = subst (λ s. h.it.number < s) (ap (λ (l : _). settled_on (record before { settled = l }) h.it.comm) (sym e.settled)) h.settled;
+              settled = subst (λ s. h.it.number < s) (ap
+                  (λ (l : _). settled_on (record before { settled = l }) h.it.comm)
+                  (sym e.settled)) h.settled;
               stands = same ∙ h.stands;
             }
       ];
-      still = λ r le. let ne : r ≢ n = (λ x. absurd (omega arith)) in e.others r ne ∙ i.still r (omega arith);
+      still = λ r le.
+          let ne : r ≢ n = (λ x. absurd (omega arith)) in e.others r ne ∙ i.still r (omega arith);
       awake = λ r a. e.awake r (i.awake r a);
       settled = e.settled ∙ i.settled;
       player = e.player ∙ i.player;

@@ -6,7 +6,8 @@ use Rattle.rank_run.proofs.board.Board.cast.Goals as goal
 
 pub returns-clause-orderly : goal.returns-clause-orderly
 returns-clause-orderly c =
-    let own : place_of c.set.new.self c.in_ok-rank.rank ≡ Plays = grind (arith, common_steps) in record {
+    let own : place_of c.set.new.self c.in_ok-rank.rank ≡ Plays = grind (arith, common_steps) in
+    record {
       heard = grind (arith, common_steps);
       one = grind (arith, common_steps);
       watched = λ rank it e none. true≢false (sym (ap is_awake own) ∙ none c.in_ok-rank.rank);

@@ -13,6 +13,7 @@ cast-requires-clause-watched c rank it e none =
     (λ (no : is_awake c.args.place ≡ false).
     let w = c.requires.watched no in
     let ne = w.1 in
-    let same : place_of c.set.new.self w.0 ≡ place_of c.args.self.now w.0 = grind (arith, common_steps) in
+    let same : place_of c.set.new.self w.0 ≡ place_of c.args.self.now w.0 = grind
+    (arith, common_steps) in
     true≢false (sym (ap is_awake same ∙ w.2) ∙ none w.0))
     (cases_Bool (is_awake c.args.place))

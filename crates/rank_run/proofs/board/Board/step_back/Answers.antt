@@ -15,7 +15,8 @@ returns-then-is_some-clause-orderly c =
 
 pub returns-clause-orderly : goal.returns-clause-orderly
 returns-clause-orderly c =
-    let own : place_of c.set-2.new.self c.args.rank ≡ Plays = grind (arith, common_steps) in record {
+    let own : place_of c.set-2.new.self c.args.rank ≡ Plays = grind (arith, common_steps) in
+    record {
       heard = grind (arith, common_steps);
       one = grind (arith, common_steps);
       watched = λ rank it e none. true≢false (sym (ap is_awake own) ∙ none c.args.rank);
