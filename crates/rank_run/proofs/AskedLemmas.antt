@@ -10,7 +10,7 @@ use Rattle.std.proofs.Math.Seq.{take-append_seam, get_or-append_seam}
 use Rattle.std.proofs.Math.ListN.{get_or-append}
 use Rattle.std.proofs.lemmas.Bool.{cases_lt}
 use Rattle.std.specs.Prelude.{slice_index_or, nat_eq, cond}
-use Rattle.rank_run.specs.declared.board.Instance.{Instance}
+use Rattle.rank_stage.specs.declared.board.Instance.{Instance}
 use Rattle.rank_run.specs.Asked.{AreCounted, CountsAll, on_comm, no_instance}
 
 -- one request more

@@ -1,8 +1,9 @@
 -- Scripts, act by act.
-use Rattle.std.proofs.Common.{◌≡◌, ℕ, zero, suc, ◌+◌, ◌*◌, ◌^◌, ◌<◌, ◌≤◌, true, false, true≢false}
+use Rattle.std.proofs.Common.{◌≡◌, ℕ, zero, suc, ◌+◌, ◌*◌, ◌^◌, ◌<◌, ◌≤◌}
 use Rattle.std.proofs.Common.{List, [], ◌∷◌, ◌++◌, length, replicate, reverse, append_assoc}
 use Rattle.std.proofs.Common.{length-append, append-nil, refl, sym, ap, subst, subst₂, ◌∙◌, arith}
 use Rattle.std.specs.List.{All}
+use Rattle.std.specs.Global.{Vec}
 use Rattle.std.proofs.Math.Nat.{le-max_left, mul-le-mul_left}
 use Rattle.std.proofs.lemmas.List.{reverse-append, replicate_more, length-replicate, length_push}
 use Rattle.std.proofs.lemmas.List.Elements.{All-push}
@@ -18,6 +19,7 @@ use Rattle.hall_turn.specs.Runs.{calls_of}
 use Rattle.hall_turn.specs.Known.{Known}
 use Rattle.hall_turn.specs.Answers.{IsSamePass, Answered, NamesKnown}
 use Rattle.rank_run.specs.declared.rank.Job.{Job}
+use Rattle.rank_run.specs.declared.rank.Ending.TheVariants.{Whole, Cut, NotBegun}
 use Rattle.rank_run.specs.declared.rank.Played.{Played}
 use Rattle.rank_run.specs.Waits.{asked, pending_takes, tries, Waited}
 use Rattle.rank_run.specs.Plays.{Performs, Plays}
@@ -184,13 +186,14 @@ come_more patience job script replies all act answer reply now after h same perf
 -- the whole script was played
 pub come_whole : (patience : ℕ) (job : Job) (script : List Act) (played : Played)
     → HasCome patience job script played.replies.items played.pass → script ≡ job.script.items
-    → played.whole ≡ true → HasPlayed patience job played
+    → played.ending ≡ Whole → HasPlayed patience job played
 come_whole patience job script played h is whole = record {
   same = h.same;
   few = subst (λ s. length (made played.pass) ≤ tries patience * length s) is h.few;
   whole = λ e. subst
       (λ s. Plays patience job.pass.process s played.replies.items (made played.pass)) is h.plays;
-  cut = λ e. absurd (true≢false (sym whole ∙ e));
+  cut = λ e. absurd (cc);
+  not_begun = λ e. absurd (cc);
   named = h.named;
 }
 
@@ -199,7 +202,7 @@ pub come_cut : (patience : ℕ) (job : Job) (script rest : List Act) (act : Act)
     (now : Known) (played : Played) → HasCome patience job script played.replies.items now
     → IsSamePass now played.pass → Performed patience now act answer played.pass
     → answer ≡ Exhausted → (script ++ act ∷ []) ++ rest ≡ job.script.items
-    → played.whole ≡ false → HasPlayed patience job played
+    → played.ending ≡ Cut → HasPlayed patience job played
 come_cut patience job script rest act answer now played h same performed is all cut =
     let s = subst (λ (a : Answer). Performed patience now act a played.pass) is performed in
     let few = few_more patience now played.pass s.calls script act h.few s.more
@@ -212,7 +215,25 @@ come_cut patience job script rest act answer now played h same performed is all 
       same = (same.0 ∙ h.same.0, same.1 ∙ h.same.1);
       few = both_le (length (made played.pass)) (tries patience * length (script ++ act ∷ []))
           (tries patience * length job.script.items) few times;
-      whole = λ e. absurd (true≢false (sym e ∙ cut));
+      whole = λ e. absurd (cc);
       cut = λ e. s.long;
+      not_begun = λ e. absurd (cc);
       named = h.named;
+    }
+
+-- the run was given up before the job began
+pub come_not_begun : (patience : ℕ) (job : Job) (played : Played) → job.pass.seen ≡ []
+    → job.replies.items ≡ [] → played.pass ≡ job.pass → played.replies ≡ job.replies
+    → played.ending ≡ NotBegun → HasPlayed patience job played
+come_not_begun patience job played unseen none pass replies ending =
+    let nothing : made played.pass ≡ [] =
+    ap made pass ∙ ap (λ run. reverse (calls_of job.pass.process run)) unseen in record {
+      same = (ap (λ (p : Known). p.door) pass, ap (λ (p : Known). p.process) pass);
+      few = subst (λ (l : List Entry). length l ≤ tries patience * length job.script.items)
+          (sym nothing) (omega arith);
+      whole = λ e. absurd (cc);
+      cut = λ e. absurd (cc);
+      not_begun = λ e. (pass, replies);
+      named = subst (All (IsKnownReply job.pass.door.policy))
+          (sym (ap (λ (v : Vec Reply). v.items) replies ∙ none)) (λ k d lt. absurd (omega arith));
     }

@@ -1,6 +1,6 @@
 -- Jobs that are handed out and played.
 use Rattle.std.proofs.Common.{◌≡◌, ℕ, zero, suc, ◌+◌, ◌*◌, ◌^◌, ◌<◌, ◌≤◌}
-use Rattle.std.proofs.Common.{◌&&◌, Bool, true, false, not, true≢false}
+use Rattle.std.proofs.Common.{◌&&◌, ◌||◌, Bool, true, false, true≢false, if◌then◌else◌}
 use Rattle.std.proofs.Common.{List, [], ◌∷◌, ◌++◌, length, map, take, get_or, reverse, append_assoc}
 use Rattle.std.proofs.Common.{vec_items, vec_capacity, Global, refl, sym, ap, subst, subst₂}
 use Rattle.std.proofs.Common.{◌∙◌, arith}
@@ -25,11 +25,14 @@ use Rattle.hall_turn.specs.Answers.{new_pass, new_passes}
 use Rattle.hall_turn.specs.Ending.{HasMade, Closed}
 use Rattle.hall_turn.proofs.HallTurnLemmas.{passes_length, continues_length}
 use Rattle.rank_run.specs.declared.rank.Job.{Job}
+use Rattle.rank_run.specs.declared.rank.Ending.{Ending}
+use Rattle.rank_run.specs.declared.rank.Ending.TheVariants.{Whole, Cut, NotBegun}
 use Rattle.rank_run.specs.declared.rank.Played.{Played}
 use Rattle.rank_run.specs.declared.run.Playing.{Playing}
 use Rattle.rank_run.specs.Waits.{tries}
 use Rattle.rank_run.specs.Plays.{Plays}
-use Rattle.rank_run.specs.Jobs.{made, IsFresh, HasPlayed, HaveRoom, AllPlayed, are_whole}
+use Rattle.rank_run.specs.Jobs.{made, IsFresh, HasPlayed, HaveRoom, AllPlayed}
+use Rattle.rank_run.specs.Jobs.{is_whole, is_cut, are_whole, has_cut, ending_of}
 use Rattle.rank_run.specs.Jobs.{handed, passes_of, scripts_of, passes_in, replies_in}
 use Rattle.rank_run.specs.Ran.{Ran, most_turns}
 use Rattle.rank_run.proofs.CountLemmas.{calls_below, calls_whole, sum_le, both_le}
@@ -94,27 +97,58 @@ played_long patience (j ∷ jobs) [] h = absurd h
 pub record CutAt (all : List Played) : Type 0 where
   pub i : ℕ
   pub low : i < length all
-  pub cut : (d : Played) → (get_or all i d).whole ≡ false
+  pub cut : (d : Played) → (get_or all i d).ending ≡ Cut
 
-pub cut_at : (all : List Played) → are_whole all ≡ false → CutAt all
-cut_at [] e = absurd (true≢false e)
+cut_is : (ending : Ending) → is_cut ending ≡ true → ending ≡ Cut
+cut_is Whole e = absurd (true≢false (sym e))
+cut_is Cut e = refl
+cut_is NotBegun e = absurd (true≢false (sym e))
+
+whole_is : (ending : Ending) → is_whole ending ≡ true → ending ≡ Whole
+whole_is Whole e = refl
+whole_is Cut e = absurd (true≢false (sym e))
+whole_is NotBegun e = absurd (true≢false (sym e))
+
+cut_at : (all : List Played) → has_cut all ≡ true → CutAt all
+cut_at [] e = absurd (true≢false (sym e))
 cut_at (x ∷ all) e =
-    elim x.whole as (λ b. (x.whole ≡ b) → ((b && are_whole all) ≡ false) → CutAt (x ∷ all)) [
-      | true ↦ λ is f. (let c = cut_at all f in
+    elim (is_cut x.ending) as (λ b. (is_cut x.ending ≡ b) → ((b || has_cut all) ≡ true)
+    → CutAt (x ∷ all)) [
+      | true ↦ λ is f. record { i = 0; low = omega arith; cut = λ d. cut_is x.ending is }
+      | false ↦ λ is f. (let c = cut_at all f in
           record { i = suc c.i; low = (let l = c.low in omega arith); cut = c.cut })
-      | false ↦ λ is f. record { i = 0; low = omega arith; cut = λ d. is }
     ] refl e
+
+-- what the ending of all tells
+pub ends_whole : (all : List Played) → ending_of all ≡ Whole → are_whole all ≡ true
+ends_whole all e =
+    elim (are_whole all) as (λ b. ((if b then Whole else if has_cut all then Cut else NotBegun)
+    ≡ Whole) → b ≡ true) [
+      | true ↦ λ is. refl
+      | false ↦ λ is. (elim (has_cut all) as (λ c. ((if c then Cut else NotBegun) ≡ Whole)
+          → false ≡ true) [ true ↦ λ f. absurd (cc) | false ↦ λ f. absurd (cc) ] is)
+    ] e
+
+pub ends_cut : (all : List Played) → ending_of all ≡ Cut → has_cut all ≡ true
+ends_cut all e =
+    elim (are_whole all) as (λ b. ((if b then Whole else if has_cut all then Cut else NotBegun)
+    ≡ Cut) → has_cut all ≡ true) [
+      | true ↦ λ is. absurd (cc)
+      | false ↦ λ is. (elim (has_cut all) as (λ c. ((if c then Cut else NotBegun) ≡ Cut)
+          → c ≡ true) [ true ↦ λ f. refl | false ↦ λ f. absurd (cc) ] is)
+    ] e
 
 both_true : (a b : Bool) → (a && b) ≡ true → (a ≡ true) × (b ≡ true)
 both_true true b e = (refl, e)
 both_true false b e = absurd (true≢false (sym e))
 
 pub whole_at : (all : List Played) (i : ℕ) (d : Played) → are_whole all ≡ true → i < length all
-    → (get_or all i d).whole ≡ true
+    → (get_or all i d).ending ≡ Whole
 whole_at [] i d e lt = absurd (omega arith)
-whole_at (x ∷ all) zero d e lt = (both_true x.whole (are_whole all) e).0
+whole_at (x ∷ all) zero d e lt =
+    whole_is x.ending (both_true (is_whole x.ending) (are_whole all) e).0
 whole_at (x ∷ all) (suc i) d e lt =
-    whole_at all i d (both_true x.whole (are_whole all) e).1 (omega arith)
+    whole_at all i d (both_true (is_whole x.ending) (are_whole all) e).1 (omega arith)
 
 -- the jobs of a new door: as many as its passes
 pub jobs_long : (door : Doorway) (n : ℕ) (jobs : List Job) → passes_of jobs ≡ new_passes door n →
@@ -271,8 +305,8 @@ module _ (patience : ℕ) (wall : ChineseWall) (scripts : List (List Act)) (door
     each = λ p lt.
         let at = rank_at p lt in
         let x = at.played in
-        let one : x.whole ≡ true =
-        sym (ap (λ (y : Played). y.whole) (at.played_is x)) ∙ whole_at all p x whole at.low in
+        let one : x.ending ≡ Whole =
+        sym (ap (λ (y : Played). y.ending) (at.played_is x)) ∙ whole_at all p x whole at.low in
         let calls = reverse (calls_of p story.closed.run) in
         subst (λ s. Plays patience p s (get_or (map vec_items (replies_in all)) p []) calls)
         (sym (at.script []))
@@ -315,8 +349,8 @@ module _ (patience : ℕ) (wall : ChineseWall) (scripts : List (List Act)) (door
       (subst (λ m. calls_below (suc n) run ≤ m) (sym (mul-add t s (length script)))
       (sum_le (calls_below n run) (t * s) (length (calls_of n run)) (t * length script) before own))
 
-  -- where one was not, the scripts could take 2^62 turns
-  pub cut_short : are_whole all ≡ false → 2 ^ 62 ≤ most_turns patience scripts
+  -- where one was cut, the scripts could take 2^62 turns
+  pub cut_short : has_cut all ≡ true → 2 ^ 62 ≤ most_turns patience scripts
   cut_short cut =
       let c = cut_at all cut in
       let n = processes wall in
@@ -325,8 +359,8 @@ module _ (patience : ℕ) (wall : ChineseWall) (scripts : List (List Act)) (door
       let low = c.low in
       let many = many_played in
       let at = rank_at c.i (omega arith) in
-      let one : at.played.whole ≡ false =
-      sym (ap (λ (y : Played). y.whole) (at.played_is at.played)) ∙ c.cut at.played in
+      let one : at.played.ending ≡ Cut =
+      sym (ap (λ (y : Played). y.ending) (at.played_is at.played)) ∙ c.cut at.played in
       let long = at.has.cut one in
       let seen = continues_length run at.played.pass.seen at.begins in
       let all_calls = calls_whole n run
@@ -354,11 +388,3 @@ shared_room jobs job room none fits =
     All-push
     (λ (j : Job). (j.replies.items ≡ []) × (length j.script.items ≤ vec_capacity j.replies))
     jobs job room (none, fits)
-
-pub not_true : (b : Bool) → not b ≡ true → b ≡ false
-not_true true e = absurd (true≢false (sym e))
-not_true false e = refl
-
-pub not_false : (b : Bool) → not b ≡ false → b ≡ true
-not_false true e = refl
-not_false false e = absurd (true≢false e)

@@ -1,7 +1,7 @@
 -- Which instance each request of a rank is for. (Own rules.)
 use Rattle.std.specs.Prelude.{◌≡◌, ℕ, ◌<◌, List, length, take, slice_index_or, nat_eq}
 use Rattle.std.specs.List.{count_by}
-use Rattle.rank_run.specs.declared.board.Instance.{Instance}
+use Rattle.rank_stage.specs.declared.board.Instance.{Instance}
 
 -- how many of these instances are of the communicator
 abbrev pub on_comm : (comm : ℕ) → List Instance → ℕ

@@ -1,7 +1,7 @@
 -- What the thread of a process is given, and what it comes to. (Own rules.)
-use Rattle.std.specs.Prelude.{◌≡◌, ℕ, ◌+◌, ◌*◌, ◌^◌, ◌<◌, ◌≤◌, Bool, true, false}
+use Rattle.std.specs.Prelude.{◌≡◌, ℕ, ◌+◌, ◌*◌, ◌^◌, ◌<◌, ◌≤◌, Bool, true, false, if◌then◌else◌}
 use Rattle.std.specs.Prelude.{List, [], ◌++◌, length, map, reverse, vec_capacity}
-use Rattle.std.specs.List.{All, AllZip, list_all}
+use Rattle.std.specs.List.{All, AllZip, list_all, list_any}
 use Rattle.std.specs.Global.{Vec}
 use Rattle.std.specs.declared.thread.PromisedHandle.{PromisedHandle}
 use Rattle.run_model.specs.declared.call.Act.{Act}
@@ -14,6 +14,8 @@ use Rattle.hall_turn.specs.Runs.{calls_of}
 use Rattle.hall_turn.specs.Known.{Doorway, Known}
 use Rattle.hall_turn.specs.Answers.{IsSamePass}
 use Rattle.rank_run.specs.declared.rank.Job.{Job}
+use Rattle.rank_run.specs.declared.rank.Ending.{Ending}
+use Rattle.rank_run.specs.declared.rank.Ending.TheVariants.{Whole, Cut, NotBegun}
 use Rattle.rank_run.specs.declared.rank.Played.{Played}
 use Rattle.rank_run.specs.declared.run.Playing.{Playing}
 use Rattle.rank_run.specs.declared.run.Ended.{Ended}
@@ -49,14 +51,17 @@ pub record IsFresh (door : Doorway) (job : Job) : Type 0 where
   pub labels : All (HasKnownLabel door.policy) job.script.items
 
 -- What became of a job. If it was played to its end, the calls of its process are those of its
--- script, with these replies; if not, its pass has seen 2^62 turns. Its calls are no more than the
--- acts of its script may be tried, and the replies name what the policy has.
+-- script, with these replies. If it was cut, its pass has seen 2^62 turns. If it did not begin, the
+-- pass and the replies are as they were handed in. Its calls are no more than the acts of its
+-- script may be tried, and the replies name what the policy has.
 pub record HasPlayed (patience : ℕ) (job : Job) (played : Played) : Type 0 where
   pub same : IsSamePass job.pass played.pass
   pub few : length (made played.pass) ≤ tries patience * length job.script.items
-  pub whole : played.whole ≡ true
+  pub whole : played.ending ≡ Whole
       → Plays patience job.pass.process job.script.items played.replies.items (made played.pass)
-  pub cut : played.whole ≡ false → 2 ^ 62 ≤ length played.pass.seen
+  pub cut : played.ending ≡ Cut → 2 ^ 62 ≤ length played.pass.seen
+  pub not_begun : played.ending ≡ NotBegun
+      → (played.pass ≡ job.pass) × (played.replies ≡ job.replies)
   pub named : All (IsKnownReply job.pass.door.policy) played.replies.items
 
 abbrev pub passes_of : List Job → List Known
@@ -82,9 +87,27 @@ passes_in all = map (λ played. played.pass) all
 abbrev pub replies_in : List Played → List (Vec Reply)
 replies_in all = map (λ played. played.replies) all
 
+abbrev pub is_whole : Ending → Bool
+is_whole Whole = true
+is_whole Cut = false
+is_whole NotBegun = false
+
+abbrev pub is_cut : Ending → Bool
+is_cut Whole = false
+is_cut Cut = true
+is_cut NotBegun = false
+
 -- whether each job was played to its end
 abbrev pub are_whole : List Played → Bool
-are_whole all = list_all (λ played. played.whole) all
+are_whole all = list_all (λ played. is_whole played.ending) all
+
+-- whether one of the jobs was cut
+abbrev pub has_cut : List Played → Bool
+has_cut all = list_any (λ played. is_cut played.ending) all
+
+-- how the jobs ended, taken together: whole if each did, else cut if one did
+abbrev pub ending_of : List Played → Ending
+ending_of all = if are_whole all then Whole else if has_cut all then Cut else NotBegun
 
 -- what became of each job
 abbrev pub AllPlayed : (patience : ℕ) → List Job → List Played → Type 0
@@ -96,4 +119,4 @@ pub record HaveEnded (patience : ℕ) (jobs : List Job) (ended : Ended) : Type 0
   pub played : AllPlayed patience jobs all
   pub passes : ended.passes.items ≡ passes_in all
   pub replies : ended.replies.items ≡ replies_in all
-  pub whole : ended.whole ≡ are_whole all
+  pub ending : ended.ending ≡ ending_of all

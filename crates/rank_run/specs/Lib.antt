@@ -3,5 +3,4 @@ pub mod Plays
 pub mod Jobs
 pub mod Ran
 pub mod Rows
-pub mod Boards
 pub mod Asked

@@ -11,7 +11,7 @@ pub enum RunFault {
     /// There is not one script for each process. No thread was started.
     #[error("not one script for each process")]
     BadScripts,
-    /// A thread was refused. The threads that had started ran their scripts to the end.
+    /// A thread was refused. No call was made: the threads that had started were told to give up.
     #[error("a thread was refused")]
     NoThread,
     /// The door had 2^62 turns before the scripts were at their ends. So it comes only where the

@@ -5,7 +5,6 @@
 //! that waits for others sleeps; what it is delivered it works out beside the others' calls.
 #![tactic(auto)]
 
-mod board;
 mod fault;
 mod gate;
 mod part;
@@ -14,7 +13,6 @@ mod replies;
 mod requests;
 mod rows;
 mod run;
-mod stage;
 mod waiting;
 
 pub use fault::RunFault;

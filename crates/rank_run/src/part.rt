@@ -2,9 +2,9 @@
 
 use crate::gate::Gate;
 use crate::requests::Requests;
-use crate::stage::Stage;
 use crate::waiting::Pause;
 use hall_core::{Claim, Reply};
+use rank_stage::Stage;
 use std::sync::Wait;
 
 /// What the ranks of a run share, beside the door.
@@ -56,9 +56,9 @@ impl<'r, G: Gate> Part<'r, G> {
         }
     }
 
-    /// It begins, as soon as it may.
-    pub(crate) fn begin<R: Wait>(&self, rt: &R) {
-        self.stage.begin(rt, self.process as usize);
+    /// It begins, as soon as it may. False if the run was given up: then it makes no call.
+    pub(crate) fn begin<R: Wait>(&self, rt: &R) -> bool {
+        self.stage.begin(rt, self.process as usize)
     }
 
     /// It has ended.

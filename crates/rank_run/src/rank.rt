@@ -3,15 +3,15 @@ ghost use Rattle.std.specs.Prelude.{◌≡◌};
 ghost use Rattle.run_model.specs.Known.{HasKnownLabel};
 ghost use Rattle.hall_turn.specs.Answers.{IsSamePass, NamesKnown};
 ghost use Rattle.rank_run.specs.declared.waiting.TheConstants.{PATIENCE};
-ghost use Rattle.rank_run.specs.Jobs.{Performed, IsFresh, HasPlayed};
+ghost use Rattle.rank_run.specs.Jobs.{Performed, IsFresh, HasPlayed, is_whole, is_cut};
 
 use crate::gate::Gate;
 use crate::part::Part;
 use crate::requests::{Requests, comm_of};
-use crate::stage::Stage;
 use crate::waiting::{PATIENCE, wait_with};
 use hall_core::{Act, Reply};
 use hall_turn::{Answer, Door, Pass};
+use rank_stage::Stage;
 use std::sync::Wait;
 
 /// What a thread is given: the pass of its process, its script, and room for its replies and
@@ -24,14 +24,44 @@ pub(crate) struct Job {
     pub(crate) requests: Requests,
 }
 
+/// How a script ended.
+#[derive(Clone, Copy)]
+pub(crate) enum Ending {
+    /// All acts were played.
+    Whole,
+    /// The door was exhausted at an act.
+    Cut,
+    /// The run was given up before it began, and no call was made.
+    NotBegun,
+}
+
+impl Ending {
+    pub(crate) fn is_whole(&self) -> bool
+        ensures { result ≡ is_whole self.now }
+    {
+        match self {
+            Ending::Whole => true,
+            Ending::Cut | Ending::NotBegun => false,
+        }
+    }
+
+    pub(crate) fn is_cut(&self) -> bool
+        ensures { result ≡ is_cut self.now }
+    {
+        match self {
+            Ending::Cut => true,
+            Ending::Whole | Ending::NotBegun => false,
+        }
+    }
+}
+
 /// What a thread gives back.
 #[derive(Drop)]
 pub(crate) struct Played {
     pub(crate) pass: Pass,
     /// The replies to the acts of the script, in order.
     pub(crate) replies: Vec<Reply>,
-    /// Whether all acts were played. If not, the door was exhausted.
-    pub(crate) whole: bool,
+    pub(crate) ending: Ending,
 }
 
 // One act of a script.
@@ -78,7 +108,8 @@ fn play_act<R: Wait, G: Gate>(
     answer
 }
 
-// A script from its first act to its last, or as far as the door lets it. Takes no memory.
+// A script from its first act to its last, or as far as the door lets it; or nothing of it, where
+// the run is given up. Takes no memory.
 pub(crate) fn play<R: Wait, G: Gate>(
     rt: &R,
     door: &Door,
@@ -96,25 +127,32 @@ pub(crate) fn play<R: Wait, G: Gate>(
         requests,
     } = job;
     let mut part = Part::new(gate, stage, pass.process(), requests);
-    part.begin(rt);
+    if !part.begin(rt) {
+        let ending = Ending::NotBegun;
+        return Played {
+            pass,
+            replies,
+            ending,
+        };
+    }
     for act in script {
         part.number = replies.len() as u64;
         let Answer::Reply(reply) = play_act(rt, door, &mut pass, act, &mut part) else {
             part.end(rt);
-            let whole = false;
+            let ending = Ending::Cut;
             return Played {
                 pass,
                 replies,
-                whole,
+                ending,
             };
         };
         replies.push_reserved(reply);
     }
     part.end(rt);
-    let whole = true;
+    let ending = Ending::Whole;
     Played {
         pass,
         replies,
-        whole,
+        ending,
     }
 }

@@ -2,9 +2,9 @@
 ghost use Rattle.std.specs.Prelude.{◌≡◌, ℕ, [], IfOk, IfSome, slice_index_or};
 ghost use Rattle.rank_run.specs.Asked.{AreCounted, CountsAll, no_instance};
 
-use crate::board::Instance;
-use crate::stage::COMMUNICATORS;
 use hall_core::{Act, NoMemory, Reply};
+use mpi_comm::COMMUNICATOR_LIMIT;
+use rank_stage::Instance;
 use std::alloc::{AllocError, Global};
 
 /// The requests that a rank was given.
@@ -57,7 +57,8 @@ impl Requests {
                 comms = comms.max((comm as usize).saturating_add(1));
             }
         }
-        let requests = Requests::with_room(alloc, comms.min(COMMUNICATORS), posts)?;
+        let comms = comms.min(COMMUNICATOR_LIMIT as usize);
+        let requests = Requests::with_room(alloc, comms, posts)?;
         Ok(requests)
     }
 

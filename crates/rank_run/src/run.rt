@@ -6,19 +6,21 @@ ghost use Rattle.run_model.specs.Comms.{processes};
 ghost use Rattle.rank_run.specs.declared.fault.RunFault.TheVariants.{BadScripts, Exhausted};
 ghost use Rattle.rank_run.specs.declared.waiting.TheConstants.{PATIENCE};
 ghost use Rattle.rank_run.specs.Jobs.{IsFresh, HasPlayed, HaveRoom, AllPlayed, HaveEnded, handed};
-ghost use Rattle.rank_run.specs.Jobs.{passes_of, scripts_of, passes_in, replies_in, are_whole};
+ghost use Rattle.rank_run.specs.Jobs.{passes_of, scripts_of, passes_in, replies_in};
+ghost use Rattle.rank_run.specs.Jobs.{are_whole, has_cut, ending_of};
 ghost use Rattle.rank_run.specs.Ran.{Ran, MayRunOut};
 ghost use Rattle.run_model.specs.Known.{ScriptsHaveKnownLabels};
 
 use crate::fault::{RunFault, ThreadRefused};
 use crate::gate::Gate;
 use crate::part::Setting;
-use crate::rank::{Job, Played, play};
+use crate::rank::{Ending, Job, Played, play};
 use crate::replies::RunReplies;
 use crate::requests::Requests;
-use crate::stage::Stage;
 use hall_core::{Hall, NoMemory, Reply};
 use hall_turn::{Door, Passes};
+use mpi_comm::COMMUNICATOR_LIMIT;
+use rank_stage::Stage;
 use run_model::{Acts, Scripts};
 use std::alloc::Global;
 use std::snapshot::Snapshot;
@@ -52,8 +54,8 @@ impl Promise<Played> for Playing {
 struct Ended {
     passes: Passes,
     replies: Vec<Vec<Reply>>,
-    // Whether all scripts were played to their ends. If not, the door is exhausted.
-    whole: bool,
+    // How the scripts ended, taken together.
+    ending: Ending,
 }
 
 // A pass, a script and room for replies and requests for each process.
@@ -98,20 +100,45 @@ fn join_all<R: Threads>(
     ended
 }
 
-// The passes and the replies, and whether all scripts were played to their ends.
+fn are_whole(ended: &[Played]) -> bool
+    ensures { result ≡ are_whole ended.now }
+{
+    ended.iter().all(|played| played.ending.is_whole())
+}
+
+fn has_cut(ended: &[Played]) -> bool
+    ensures { result ≡ has_cut ended.now }
+{
+    ended.iter().any(|played| played.ending.is_cut())
+}
+
+// Whole if all scripts were played to their ends; else cut if one was.
+fn ending_of(ended: &[Played]) -> Ending
+    ensures { result ≡ ending_of ended.now }
+{
+    if are_whole(ended) {
+        Ending::Whole
+    } else if has_cut(ended) {
+        Ending::Cut
+    } else {
+        Ending::NotBegun
+    }
+}
+
+// The passes and the replies, and how the scripts ended.
 fn sort_out(ended: Vec<Played>, mut passes: Passes, mut replies: Vec<Vec<Reply>>) -> Ended
     requires passes { (passes.items ≡ []) × (vec_len ended ≤ vec_capacity passes) }
     requires replies { (replies.items ≡ []) × (vec_len ended ≤ vec_capacity replies) }
     ensures passes { result.passes.items ≡ passes_in ended.items }
     ensures replies { result.replies.items ≡ replies_in ended.items }
-    ensures whole { result.whole ≡ are_whole ended.items }
+    ensures ending { result.ending ≡ ending_of ended.items }
 {
-    let whole = ended.iter().all(|played| played.whole);
+    let ending = ending_of(&ended);
     for played in ended {
         let Played {
             pass,
             replies: given,
-            whole: _,
+            ending: _,
         } = played;
         passes.push_reserved(pass);
         replies.push_reserved(given);
@@ -119,11 +146,12 @@ fn sort_out(ended: Vec<Played>, mut passes: Passes, mut replies: Vec<Vec<Reply>>
     Ended {
         passes,
         replies,
-        whole,
+        ending,
     }
 }
 
-// A thread for each job. All have ended, and are joined, when it returns.
+// A thread for each job, and the start when all have one. Where a thread is refused, the others are
+// told to give up. All have ended, and are joined, when it returns.
 fn run_each<R: Threads + Wait + Sync, G: Gate + Sync>(
     rt: &R,
     door: &Door,
@@ -158,12 +186,13 @@ fn run_each<R: Threads + Wait + Sync, G: Gate + Sync>(
                         ensures { HasPlayed PATIENCE job result }
                     { play(rt, door, job, gate, stage) },
                 ) else {
-                    stage.end_from(rt, handles.len());
+                    stage.give_up();
                     let _ended = join_all(rt, handles, ended);
                     return Err(ThreadRefused);
                 };
                 handles.push_reserved(handle);
             }
+            stage.start();
             Ok(join_all(rt, handles, ended))
         },
     )
@@ -186,7 +215,8 @@ fn run_jobs<R: Threads + Wait + Sync, G: Gate + Sync>(
     let replies = Vec::with_capacity(alloc, count)?;
     let ended = Vec::with_capacity(alloc, count)?;
     let handles = Vec::with_capacity(alloc, count)?;
-    let stage = Stage::new(alloc, count, gate.holds())?;
+    let communicators = COMMUNICATOR_LIMIT as usize;
+    let stage = Stage::new(alloc, count, communicators, gate.holds())?;
     let setting = Setting {
         gate,
         stage: &stage,
@@ -215,26 +245,28 @@ fn run_all<R: Threads + Wait + Sync, G: Gate + Sync>(
     let Ok(hall) = door.close(ended.passes) else {
         unreachable!()
     };
-    if !ended.whole {
-        return Err(RunFault::Exhausted);
+    match ended.ending {
+        Ending::Whole => Ok(Run {
+            replies: RunReplies::from(ended.replies),
+            hall,
+        }),
+        Ending::Cut => Err(RunFault::Exhausted),
+        Ending::NotBegun => Err(RunFault::NoThread),
     }
-    Ok(Run {
-        replies: RunReplies::from(ended.replies),
-        hall,
-    })
 }
 
 /// Runs the scripts of all processes, each in a thread of its own, at one hall. A take in a script
-/// is tried as by [`wait`](crate::wait), at most [`PATIENCE`](crate::PATIENCE) times. Every thread
-/// has ended when it returns. The gate is passed round each act of each script, and `computing` at
-/// each try of a take; the acts of a script are numbered from 0.
+/// is tried as by [`wait`](crate::wait), at most [`PATIENCE`](crate::PATIENCE) times. No script
+/// begins before all threads have started, and every thread has ended when it returns. The gate is
+/// passed round each act of each script, and `computing` at each try of a take; the acts of a
+/// script are numbered from 0.
 ///
 /// The caller sees to it that the labels of the postings are public or datasets of the policy.
 /// `BadScripts` is answered exactly if there is not one script for each process. `NoThread` is
-/// answered where a thread was refused; those that had started have run to their ends. `Exhausted`
-/// is answered only where the door had 2^62 turns, so never where all acts, each tried as often as
-/// it may be, are fewer. `NoMemory` is answered only where a growth was refused, before any thread
-/// starts.
+/// answered where a thread was refused; then no call was made, and the gate was not passed round
+/// any. `Exhausted` is answered only where the door had 2^62 turns, so never where all acts, each
+/// tried as often as it may be, are fewer. `NoMemory` is answered only where a growth was refused,
+/// before any thread starts.
 pub fn run_ranks<R: Threads + Wait + Sync, G: Gate + Sync>(
     rt: &R,
     alloc: Global,

@@ -11,7 +11,7 @@ use Rattle.rank_run.specs.declared.rank.Played.{Played}
 use Rattle.rank_run.specs.Ran.{Ran}
 use Rattle.run_model.specs.Known.{ScriptsHaveKnownLabels}
 use Rattle.rank_run.proofs.RunLemmas.{all_fresh, all_back, jobs_long, played_long, Story, ran}
-use Rattle.rank_run.proofs.RunLemmas.{cut_short, not_true, not_false}
+use Rattle.rank_run.proofs.RunLemmas.{cut_short, ends_whole, ends_cut}
 use Rattle.rank_run.proofs.run.run_all.Goals as goal
 
 pub share_out-requires : goal.share_out-requires
@@ -62,8 +62,8 @@ unreachable-requires g c =
     let same = ap (λ (w : ChineseWall). processes w) c.in_ok-door.ensures.policy in
     omega arith
 
-pub returns-then-not-ended-clause-exhausted : goal.returns-then-not-ended-clause-exhausted
-returns-then-not-ended-clause-exhausted g c =
+pub returns-in-Cut-clause-exhausted : goal.returns-in-Cut-clause-exhausted
+returns-in-Cut-clause-exhausted g c =
     let e = c.in_ok-jobs.ensures in
     let h = c.in_ok-ended.ensures.ended in
     λ _. cut_short PATIENCE c.args.policy c.args.scripts c.in_ok-door.door c.in_ok-jobs.jobs.items
@@ -76,10 +76,10 @@ returns-then-not-ended-clause-exhausted g c =
       back = h.passes;
       closed = c.in-Ok.ensures.hall;
     })
-    (sym h.whole ∙ not_true c.in_ok-ended.ended.whole c.if-not-ended.true)
+    (ends_cut h.all (sym h.ending ∙ c.in-Cut.is))
 
-pub returns-clause-ran : goal.returns-clause-ran
-returns-clause-ran g c =
+pub returns-in-Whole-clause-ran : goal.returns-in-Whole-clause-ran
+returns-in-Whole-clause-ran g c =
     let e = c.in_ok-jobs.ensures in
     let h = c.in_ok-ended.ensures.ended in
     subst (λ (l : List (List Reply)). Ran PATIENCE c.args.policy c.args.scripts l c.in-Ok.hall)
@@ -94,4 +94,4 @@ returns-clause-ran g c =
       back = h.passes;
       closed = c.in-Ok.ensures.hall;
     })
-    (sym h.whole ∙ not_false c.in_ok-ended.ended.whole c.if-not-ended.false))
+    (ends_whole h.all (sym h.ending ∙ c.in-Whole.is)))

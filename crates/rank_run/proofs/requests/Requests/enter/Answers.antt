@@ -1,7 +1,7 @@
 use Rattle.std.proofs.Common.{◌≡◌, ℕ, ◌<◌, ◌++◌, ◌∷◌, [], length, subst, sym, ap, ◌∙◌, arith}
 use Rattle.std.proofs.lemmas.Grind.{common_steps}
 use Rattle.std.specs.Prelude.{slice_index_or, slice_set}
-use Rattle.rank_run.specs.declared.board.Instance.{Instance}
+use Rattle.rank_stage.specs.declared.board.Instance.{Instance}
 use Rattle.rank_run.specs.Asked.{AreCounted, CountsAll, on_comm}
 use Rattle.rank_run.proofs.AskedLemmas.{counted_more, counts_more}
 use Rattle.rank_run.proofs.requests.Requests.enter.Goals as goal

@@ -1,8 +1,8 @@
 use Rattle.std.proofs.Common.{◌≡◌, ◌≢◌, ℕ, ◌<◌, ◌≤◌, length, true}
-use Rattle.rank_run.specs.declared.board.Instance.{Instance}
-use Rattle.rank_run.specs.declared.board.Place.TheVariants.{Sleeps}
-use Rattle.rank_run.specs.Boards.{place_of, settled_on, is_awake, PlaysAlone, HasComeToLine}
-use Rattle.rank_run.proofs.board.Board.call_sleepers.Given as goal
+use Rattle.rank_stage.specs.declared.board.Instance.{Instance}
+use Rattle.rank_stage.specs.declared.board.Place.TheVariants.{Sleeps}
+use Rattle.rank_stage.specs.Boards.{place_of, settled_on, is_awake, PlaysAlone, HasComeToLine}
+use Rattle.rank_stage.proofs.board.Board.call_sleepers.Given as goal
 
 abbrev pub invariant-loop-rank : goal.invariant-loop-rank
 invariant-loop-rank l = record {

@@ -2,11 +2,11 @@ use Rattle.std.proofs.Common.{◌≡◌, ◌≢◌, ◌⊎◌, ℕ, ◌+◌, ◌
 use Rattle.std.proofs.Common.{⊎_elim, arith}
 use native.Mathlib.Decide.{ℕ_discrete}
 use Rattle.std.proofs.lemmas.Grind.{common_steps}
-use Rattle.rank_run.specs.declared.board.Board.{Board}
-use Rattle.rank_run.specs.declared.board.Instance.{Instance}
-use Rattle.rank_run.specs.declared.board.Place.TheVariants.{Sleeps, InLine, Plays}
-use Rattle.rank_run.specs.Boards.{place_of, settled_on, is_awake, HasComeToLine}
-use Rattle.rank_run.proofs.board.Board.call_sleepers.Goals as goal
+use Rattle.rank_stage.specs.declared.board.Board.{Board}
+use Rattle.rank_stage.specs.declared.board.Instance.{Instance}
+use Rattle.rank_stage.specs.declared.board.Place.TheVariants.{Sleeps, InLine, Plays}
+use Rattle.rank_stage.specs.Boards.{place_of, settled_on, is_awake, HasComeToLine}
+use Rattle.rank_stage.proofs.board.Board.call_sleepers.Goals as goal
 
 pub loop-rank-preserved : goal.loop-rank-preserved
 loop-rank-preserved c =

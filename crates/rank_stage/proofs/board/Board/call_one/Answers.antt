@@ -1,8 +1,8 @@
 use Rattle.std.proofs.Common.{◌≡◌, true, true≢false, sym, ap, ◌∙◌, arith}
 use Rattle.std.proofs.lemmas.Grind.{common_steps}
-use Rattle.rank_run.specs.declared.board.Place.TheVariants.{InLine}
-use Rattle.rank_run.specs.Boards.{place_of, is_awake}
-use Rattle.rank_run.proofs.board.Board.call_one.Goals as goal
+use Rattle.rank_stage.specs.declared.board.Place.TheVariants.{InLine}
+use Rattle.rank_stage.specs.Boards.{place_of, is_awake}
+use Rattle.rank_stage.proofs.board.Board.call_one.Goals as goal
 
 pub returns-in-Some-clause-watched : goal.returns-in-Some-clause-watched
 returns-in-Some-clause-watched c rank it e none =

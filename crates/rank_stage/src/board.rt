@@ -2,20 +2,20 @@
 ghost use Rattle.std.specs.Prelude.{◌≡◌, ◌≢◌, ℕ, Option, ◌+◌, ◌-◌, ◌^◌, ◌<◌, ◌≤◌, IfOk, IfSome};
 ghost use Rattle.std.specs.Prelude.{IfNone, None, Some, true, false, length, slice_set};
 ghost use Rattle.std.specs.Prelude.{slice_index_or};
-ghost use Rattle.rank_run.specs.declared.board.Place.TheVariants.{Plays, InLine, Aside};
-ghost use Rattle.rank_run.specs.declared.board.Place.TheVariants.{Sleeps as AtRest, Ended};
-ghost use Rattle.rank_run.specs.declared.board.Lying.TheVariants.{Stays, Sleeps};
-ghost use Rattle.rank_run.specs.declared.board.Instance.{Instance};
-ghost use Rattle.rank_run.specs.Boards.{IsInLineOrNone, place_of, settled_on, is_awake, IsHeard};
-ghost use Rattle.rank_run.specs.Boards.{PlaysAlone, IsWatched, IsOrderly, Calls, HasComeToLine};
+ghost use Rattle.rank_stage.specs.declared.board.Place.TheVariants.{Plays, InLine, Aside};
+ghost use Rattle.rank_stage.specs.declared.board.Place.TheVariants.{Sleeps as AtRest, Ended};
+ghost use Rattle.rank_stage.specs.declared.board.Lying.TheVariants.{Stays, Sleeps};
+ghost use Rattle.rank_stage.specs.declared.board.Instance.{Instance};
+ghost use Rattle.rank_stage.specs.Boards.{IsInLineOrNone, place_of, settled_on, is_awake, IsHeard};
+ghost use Rattle.rank_stage.specs.Boards.{PlaysAlone, IsWatched, IsOrderly, Calls, HasComeToLine};
 
 use std::alloc::{AllocError, Global};
 
 /// An instance: the communicator, and how many there were before it.
 #[derive(Clone, Copy)]
-pub(crate) struct Instance {
-    pub(crate) comm: u32,
-    pub(crate) number: u64,
+pub struct Instance {
+    pub comm: u32,
+    pub number: u64,
 }
 
 /// Where a rank stands.

@@ -20,8 +20,18 @@
 //! - Where every other rank has ended or sleeps, a rank does not sleep: it makes its tries one
 //!   after another, is answered `Pending`, and goes on. Where the last that is awake ends, one that
 //!   sleeps is called, and does the same.
-//! - Where a thread is refused, the ranks that have none have ended, as far as the others can tell.
 //! - Memory for all of this is there before the first thread starts.
+//!
+//! No rank begins before all threads have started, so that where one is refused nobody waits for a
+//! rank that has none. No rank waits for the start for ever:
+//!
+//! - It waits for its bell, which nobody rings before the start: nobody plays yet, and the gate is
+//!   not asked yet, so it holds nobody.
+//! - The function that starts the threads waits for nobody before it has told the ranks to begin,
+//!   or to give up: it joins them afterwards.
+//! - To begin, the first to play is called, and the others are called by those before them; where
+//!   all play, each bell is rung. To give up, that is noted before each bell is rung, whether its
+//!   rank has a thread or not. A rank that wakes looks at the note, and goes home if it is there.
 
 use crate::board::{Call, Instance, Rest, Standing};
 use std::alloc::{AllocError, Global};
@@ -29,10 +39,6 @@ use std::sync::atomic::{AtomicBool, AtomicU64, Ordering};
 use std::sync::{Mutex, Wait};
 use std::thread;
 use std::thread::Parker;
-
-// A hall has at most so many communicators. A rank that waits for one of a greater number would
-// not sleep.
-pub(crate) const COMMUNICATORS: usize = 1024;
 
 // By which a rank is called.
 #[derive(Drop)]
@@ -43,13 +49,17 @@ struct Bell {
 
 /// The stage that the ranks of a run share.
 #[derive(Drop)]
-pub(crate) struct Stage {
+pub struct Stage {
     standing: Mutex<Standing>,
     // How many instances have settled on each communicator: a quick look, which may be late.
     settled: Vec<AtomicU64>,
     bells: Vec<Bell>,
     // All play, and nobody sleeps.
     open: bool,
+    // Who is called at the start, if one plays at a time.
+    first: Option<usize>,
+    // No rank begins.
+    given_up: AtomicBool,
 }
 
 impl Bell {
@@ -93,29 +103,35 @@ fn silent_bells(alloc: Global, ranks: usize) -> Result<Vec<Bell>, AllocError> {
     Ok(bells)
 }
 
-fn no_counts(alloc: Global) -> Result<Vec<AtomicU64>, AllocError> {
-    let mut counts = Vec::with_capacity(alloc, COMMUNICATORS)?;
-    for _ in 0..COMMUNICATORS {
+fn no_counts(alloc: Global, communicators: usize) -> Result<Vec<AtomicU64>, AllocError> {
+    let mut counts = Vec::with_capacity(alloc, communicators)?;
+    for _ in 0..communicators {
         counts.push(AtomicU64::new(0))?;
     }
     Ok(counts)
 }
 
 impl Stage {
-    /// A stage for so many ranks, of which one plays at a time. If it is open, all play, and nobody
-    /// sleeps.
-    pub(crate) fn new(alloc: Global, ranks: usize, open: bool) -> Result<Stage, AllocError> {
+    /// A stage for so many ranks, of which one plays at a time, with as many communicators as there
+    /// can be: a rank that waits for one of a greater number would not sleep. If the stage is open,
+    /// all play, and nobody sleeps. No rank begins before [`Stage::start`].
+    pub fn new(
+        alloc: Global,
+        ranks: usize,
+        communicators: usize,
+        open: bool,
+    ) -> Result<Stage, AllocError> {
         let bells = silent_bells(alloc, ranks)?;
-        let settled = no_counts(alloc)?;
-        let (standing, first) = Standing::new(alloc, ranks, COMMUNICATORS)?;
-        let stage = Stage {
+        let settled = no_counts(alloc, communicators)?;
+        let (standing, first) = Standing::new(alloc, ranks, communicators)?;
+        Ok(Stage {
             standing: Mutex::new(standing),
             settled,
             bells,
             open,
-        };
-        stage.ring(first);
-        Ok(stage)
+            first: first.rank(),
+            given_up: AtomicBool::new(false),
+        })
     }
 
     fn wait<R: Wait>(&self, rt: &R, rank: usize) {
@@ -126,21 +142,45 @@ impl Stage {
 
     // No lock is held, so that the rank does not wait for it.
     fn ring(&self, call: Call) {
-        let Some(rank) = call.rank() else { return };
+        self.wake(call.rank());
+    }
+
+    fn wake(&self, rank: Option<usize>) {
+        let Some(rank) = rank else { return };
         if let Some(bell) = self.bells.get(rank) {
             bell.ring();
         }
     }
 
-    /// The rank begins, as soon as it may.
-    pub(crate) fn begin<R: Wait>(&self, rt: &R, rank: usize) {
-        if !self.open {
-            self.wait(rt, rank);
+    fn wake_all(&self) {
+        for bell in self.bells.iter() {
+            bell.ring();
         }
     }
 
+    /// All threads have started: the ranks begin.
+    pub fn start(&self) {
+        if self.open {
+            self.wake_all();
+        } else {
+            self.wake(self.first);
+        }
+    }
+
+    /// A thread was refused: no rank begins. Comes before any is joined, which waits for this.
+    pub fn give_up(&self) {
+        self.given_up.store(true, Ordering::SeqCst);
+        self.wake_all();
+    }
+
+    /// The rank begins, as soon as it may. False if the run was given up.
+    pub fn begin<R: Wait>(&self, rt: &R, rank: usize) -> bool {
+        self.wait(rt, rank);
+        !self.given_up.load(Ordering::SeqCst)
+    }
+
     /// The rank has ended.
-    pub(crate) fn end<R: Wait>(&self, rt: &R, rank: usize) {
+    pub fn end<R: Wait>(&self, rt: &R, rank: usize) {
         let mut standing = self.standing.lock(rt);
         let call = standing.end(rank);
         drop(standing);
@@ -148,7 +188,7 @@ impl Stage {
     }
 
     /// The rank makes no call for a while.
-    pub(crate) fn step_aside<R: Wait>(&self, rt: &R, rank: usize) {
+    pub fn step_aside<R: Wait>(&self, rt: &R, rank: usize) {
         if self.open {
             return;
         }
@@ -159,7 +199,7 @@ impl Stage {
     }
 
     /// The rank, which had stepped aside, goes on as soon as it may.
-    pub(crate) fn step_back<R: Wait>(&self, rt: &R, rank: usize) {
+    pub fn step_back<R: Wait>(&self, rt: &R, rank: usize) {
         if self.open {
             return;
         }
@@ -172,7 +212,7 @@ impl Stage {
     }
 
     /// An instance has settled on the communicator.
-    pub(crate) fn settle<R: Wait>(&self, rt: &R, comm: u32) {
+    pub fn settle<R: Wait>(&self, rt: &R, comm: u32) {
         if !self.open {
             let mut standing = self.standing.lock(rt);
             let call = standing.settle(comm);
@@ -194,7 +234,7 @@ impl Stage {
     /// Sleeps until the instance has settled; where all play, it yields instead. False where the
     /// instance has not settled, and every other rank has ended or sleeps: then it will not settle
     /// before this rank goes on.
-    pub(crate) fn sleep<R: Wait>(&self, rt: &R, rank: usize, it: Instance) -> bool {
+    pub fn sleep<R: Wait>(&self, rt: &R, rank: usize, it: Instance) -> bool {
         if self.is_settled(it) {
             return true;
         }
@@ -216,12 +256,5 @@ impl Stage {
 
     fn has_settled<R: Wait>(&self, rt: &R, it: Instance) -> bool {
         self.standing.lock(rt).has_settled(it)
-    }
-
-    /// No thread comes for this rank, nor for any after it: they have ended.
-    pub(crate) fn end_from<R: Wait>(&self, rt: &R, rank: usize) {
-        for missing in rank..self.bells.len() {
-            self.end(rt, missing);
-        }
     }
 }

@@ -1,8 +1,8 @@
 use Rattle.std.proofs.Common.{◌≡◌, true, true≢false, sym, ap, ◌∙◌, arith, refl}
 use Rattle.std.proofs.lemmas.Grind.{common_steps}
-use Rattle.rank_run.specs.declared.board.Place.TheVariants.{Plays, InLine}
-use Rattle.rank_run.specs.Boards.{place_of, is_awake}
-use Rattle.rank_run.proofs.board.Board.step_back.Goals as goal
+use Rattle.rank_stage.specs.declared.board.Place.TheVariants.{Plays, InLine}
+use Rattle.rank_stage.specs.Boards.{place_of, is_awake}
+use Rattle.rank_stage.proofs.board.Board.step_back.Goals as goal
 
 pub returns-then-is_some-clause-orderly : goal.returns-then-is_some-clause-orderly
 returns-then-is_some-clause-orderly c =

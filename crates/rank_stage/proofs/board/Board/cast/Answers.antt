@@ -1,8 +1,8 @@
 use Rattle.std.proofs.Common.{◌≡◌, true, true≢false, sym, ap, ◌∙◌, arith}
 use Rattle.std.proofs.lemmas.Grind.{common_steps}
-use Rattle.rank_run.specs.declared.board.Place.TheVariants.{Plays}
-use Rattle.rank_run.specs.Boards.{place_of, is_awake}
-use Rattle.rank_run.proofs.board.Board.cast.Goals as goal
+use Rattle.rank_stage.specs.declared.board.Place.TheVariants.{Plays}
+use Rattle.rank_stage.specs.Boards.{place_of, is_awake}
+use Rattle.rank_stage.proofs.board.Board.cast.Goals as goal
 
 pub returns-clause-orderly : goal.returns-clause-orderly
 returns-clause-orderly c =

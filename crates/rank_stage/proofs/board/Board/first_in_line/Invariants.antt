@@ -1,7 +1,7 @@
 use Rattle.std.proofs.Common.{◌≡◌, ◌≢◌, ℕ, ◌<◌}
-use Rattle.rank_run.specs.declared.board.Place.TheVariants.{InLine}
-use Rattle.rank_run.specs.Boards.{place_of}
-use Rattle.rank_run.proofs.board.Board.first_in_line.Given as goal
+use Rattle.rank_stage.specs.declared.board.Place.TheVariants.{InLine}
+use Rattle.rank_stage.specs.Boards.{place_of}
+use Rattle.rank_stage.proofs.board.Board.first_in_line.Given as goal
 
 abbrev pub invariant-loop-rank-2 : goal.invariant-loop-rank-2
 invariant-loop-rank-2 l = (r : ℕ) → r < l.rank → place_of l.self r ≢ InLine

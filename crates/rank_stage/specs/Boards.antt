@@ -1,10 +1,10 @@
 -- Where the ranks of a run stand, and what may be said of it at any time. (Own rules.)
 use Rattle.std.specs.Prelude.{◌≡◌, ◌≢◌, ◌↔◌, ◌⊎◌, ℕ, ◌+◌, ◌<◌, ◌≤◌, Bool, true, false, List, Option}
 use Rattle.std.specs.Prelude.{Some, None, IfSome, IsSome, min, slice_index_or}
-use Rattle.rank_run.specs.declared.board.Instance.{Instance}
-use Rattle.rank_run.specs.declared.board.Place.{Place}
-use Rattle.rank_run.specs.declared.board.Place.TheVariants.{Plays, InLine, Aside, Sleeps, Ended}
-use Rattle.rank_run.specs.declared.board.Board.{Board}
+use Rattle.rank_stage.specs.declared.board.Instance.{Instance}
+use Rattle.rank_stage.specs.declared.board.Place.{Place}
+use Rattle.rank_stage.specs.declared.board.Place.TheVariants.{Plays, InLine, Aside, Sleeps, Ended}
+use Rattle.rank_stage.specs.declared.board.Board.{Board}
 
 -- where the rank stands; what is no rank has ended
 abbrev pub place_of : Board → (rank : ℕ) → Place

@@ -1,8 +1,8 @@
 use Rattle.std.proofs.Common.{◌≡◌, true, false, true≢false, sym, ap, ◌∙◌, ⊎_elim, arith}
 use Rattle.std.proofs.lemmas.Bool.{cases_Bool}
 use Rattle.std.proofs.lemmas.Grind.{common_steps}
-use Rattle.rank_run.specs.Boards.{place_of, is_awake}
-use Rattle.rank_run.proofs.board.Board.leave.Goals as goal
+use Rattle.rank_stage.specs.Boards.{place_of, is_awake}
+use Rattle.rank_stage.proofs.board.Board.leave.Goals as goal
 
 pub cast-requires-clause-watched : goal.cast-requires-clause-watched
 cast-requires-clause-watched c rank it e none =

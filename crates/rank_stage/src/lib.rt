@@ -1,0 +1,10 @@
+//! Which of the ranks of a run plays, and which sleep until an instance settles.
+//!
+//! Nothing here knows of a hall: a rank is a number, and so is a communicator.
+#![tactic(auto)]
+
+mod board;
+mod stage;
+
+pub use board::Instance;
+pub use stage::Stage;
