@@ -1,3 +1,1 @@
-pub mod KnownLemmas
-pub mod RankLemmas
 pub mod PerformLemmas

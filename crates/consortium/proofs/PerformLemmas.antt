@@ -2,11 +2,11 @@
 use Rattle.std.proofs.Common.{◌≡◌, ℕ, Option, Some, None, ap}
 use Rattle.clap.specs.Words.{Text}
 use Rattle.hall_script.specs.Devices.{Used}
-use Rattle.consortium.specs.Grammar.{RunFiles}
-use Rattle.consortium.specs.Endings.{EndsSo}
-use Rattle.consortium.specs.Running.{RunEnds}
+use Rattle.program_words.specs.Grammar.{RunFiles}
+use Rattle.program_commands.specs.Endings.{EndsSo}
+use Rattle.program_commands.specs.Running.{RunEnds}
 use Rattle.consortium.specs.Performing.{FileKind, FileUse, used_file, path_unopened, RunsFiles}
-use Rattle.consortium.proofs.RankLemmas.{kept_nowhere}
+use Rattle.program_commands.proofs.ProgramCommandsLemmas.{kept_nowhere}
 
 -- a device that is not opened has its path
 pub at_path : {F : Type 0} {file : Option F} {path want : Text}

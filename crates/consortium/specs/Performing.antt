@@ -2,14 +2,21 @@
 use Rattle.std.specs.Prelude.{◌≡◌, ℕ, ◌⊎◌, List, Option, Some, None}
 use Rattle.clap.specs.Words.{Text}
 use Rattle.hall_script.specs.Devices.{Used, used, IsUntouched}
-use Rattle.consortium.specs.declared.ending.Ending.{Ending}
-use Rattle.consortium.specs.declared.ending.Ending.TheVariants.{BadArguments, NoMemory}
-use Rattle.consortium.specs.Endings.{EndsSo}
-use Rattle.consortium.specs.Grammar.{Asked, to_replay, to_run, to_audit, ReplayFiles, RunFiles}
-use Rattle.consortium.specs.Grammar.{AuditFiles}
-use Rattle.consortium.specs.Replaying.{ReplayEnds}
-use Rattle.consortium.specs.Running.{RunEnds}
-use Rattle.consortium.specs.Auditing.{AuditEnds}
+use Rattle.program_commands.specs.declared.ending.Ending.{Ending}
+use Rattle.program_commands.specs.declared.ending.Ending.TheVariants.{BadArguments, NoMemory}
+use Rattle.program_commands.specs.Endings.{EndsSo}
+use Rattle.program_words.specs.declared.words.ArgFault.{ArgFault}
+use Rattle.program_words.specs.declared.words.ArgFault.TheVariants as refusals
+use Rattle.program_words.specs.Grammar.{Asked, to_replay, to_run, to_audit, ReplayFiles, RunFiles}
+use Rattle.program_words.specs.Grammar.{AuditFiles}
+use Rattle.program_commands.specs.Replaying.{ReplayEnds}
+use Rattle.program_commands.specs.Running.{RunEnds}
+use Rattle.program_commands.specs.Auditing.{AuditEnds}
+
+-- how the program ends where its words are refused
+abbrev pub refusal_ending : ArgFault → Ending
+refusal_ending refusals.BadArguments = BadArguments
+refusal_ending refusals.NoMemory = NoMemory
 
 -- Devices over files, of one type: how many of its calls failed, its bytes where they are known,
 -- and its path where its file is still to be opened; and how many failures such a device begins

@@ -1,20 +1,16 @@
 //! Does what the words of the command line ask for, over the files of a system.
 ghost use Rattle.std.specs.Prelude.{◌≡◌, Some, None, map};
 ghost use Rattle.hall_script.specs.Devices.{used};
-ghost use Rattle.consortium.specs.Endings.{EndsSo};
-ghost use Rattle.consortium.specs.Grammar.{asked, replay_files, run_files, audit_files};
-ghost use Rattle.consortium.specs.Grammar.{refusal_ending};
-ghost use Rattle.consortium.specs.Replaying.{ReplayEnds};
-ghost use Rattle.consortium.specs.Running.{RunEnds};
+ghost use Rattle.program_commands.specs.Endings.{EndsSo};
+ghost use Rattle.program_words.specs.Grammar.{asked, replay_files, run_files, audit_files};
+ghost use Rattle.program_commands.specs.Replaying.{ReplayEnds};
+ghost use Rattle.program_commands.specs.Running.{RunEnds};
 ghost use Rattle.consortium.specs.Performing.{file_kind, path_unopened, ReplaysFiles, RunsFiles};
-ghost use Rattle.consortium.specs.Performing.{AuditsFiles, Performs};
+ghost use Rattle.consortium.specs.Performing.{AuditsFiles, Performs, refusal_ending};
 
-use crate::audit::audit_on;
-use crate::devices::{Count, FileSink, FileSource};
-use crate::ending::{Ending, end};
-use crate::replay::replay_on;
-use crate::run::run_on;
-use crate::words::{ArgFault, AuditPaths, Command, ReplayPaths, RunPaths, read_words};
+use program_commands::{Ending, audit_on, end, replay_on, run_on};
+use program_files::{Count, FileSink, FileSource};
+use program_words::{ArgFault, AuditPaths, Command, ReplayPaths, RunPaths, read_words};
 use std::alloc::Global;
 use std::rt::Files;
 use std::sync::Wait;

@@ -1,5 +1,6 @@
 //! Devices at their limits, and texts that are cut or spoiled.
 use super::*;
+use program_commands::{audit_on, replay_on, run_on};
 use std::process::Abort;
 use std::sync::Wait;
 use std::test::Fail;

@@ -4,28 +4,15 @@
 //! what its posts give.
 #![tactic(auto)]
 
-mod audit;
 mod commands;
-mod devices;
-mod ending;
-mod replay;
-mod run;
 mod serving;
-mod wall;
-mod words;
 
-pub use audit::{BOOK_LIMIT, audit_on};
 pub use commands::{Counts, perform};
-pub use devices::{Count, FileSink, FileSource, StreamSink};
-pub use ending::{Ending, end};
-pub use replay::replay_on;
-pub use run::run_on;
 use serving::{Blanks, serve};
 use std::io::{Stderr, Stdout};
 use std::marker::Brand;
 use std::process::ExitCode;
 use std::sync::ledger::Blank;
-pub use words::{ArgFault, AuditPaths, Command, ReplayPaths, RunPaths, read_words};
 
 #[cfg(test)]
 mod disk;
@@ -39,8 +26,6 @@ mod limit_tests;
 mod run_tests;
 #[cfg(test)]
 mod tests;
-#[cfg(test)]
-mod words_tests;
 
 fn main(rt: HostRuntime) -> ExitCode {
     let blanks = Blanks {

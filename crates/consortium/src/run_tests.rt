@@ -1,6 +1,7 @@
 //! Runs of scripts whose calls each process makes for itself.
 use super::tests::{WALL, sink, source};
 use super::*;
+use program_commands::run_on;
 use std::process::Abort;
 use std::sync::Wait;
 use std::thread::Threads;

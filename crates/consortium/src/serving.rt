@@ -2,9 +2,9 @@
 ghost use Rattle.std.specs.Prelude.{◌≡◌};
 
 use crate::commands::{Counts, fault_ending, perform};
-use crate::devices::{Count, StreamSink};
-use crate::ending::end;
-use crate::words::ArgFault;
+use program_commands::end;
+use program_files::{Count, StreamSink};
+use program_words::ArgFault;
 use std::alloc::Global;
 use std::io::Write;
 use std::rt::{Env, Files};

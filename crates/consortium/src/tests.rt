@@ -1,5 +1,5 @@
-use super::*;
 use coll_text::LineFault;
+use program_commands::{Ending, audit_on, end, replay_on};
 use std::alloc::AllocError;
 use std::process::Abort;
 use std::test::Fail;

@@ -1,0 +1,3 @@
+pub mod KnownLemmas
+pub mod RankLemmas
+pub mod ProgramCommandsLemmas

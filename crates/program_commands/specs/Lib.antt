@@ -1,0 +1,5 @@
+pub mod Endings
+pub mod Walls
+pub mod Replaying
+pub mod Running
+pub mod Auditing

@@ -1,0 +1,167 @@
+//! Audits a book under a policy, over any devices.
+ghost use Rattle.std.specs.Prelude.{◌≡◌, IfOk, IfErr, OnOk, OnErr};
+ghost use Rattle.hall_script.specs.Devices.{used, IsWritten, BrokeOff};
+ghost use Rattle.program_commands.specs.Endings.{EndsSo};
+ghost use Rattle.program_commands.specs.Auditing.{text_ending, finding_ending, finding_line, IsBookOf};
+ghost use Rattle.program_commands.specs.Auditing.{IsNoBook, IsFound, Announces, Audits, AuditEnds};
+
+use crate::ending::{Ending, end, write_numbered};
+use crate::wall::read_wall;
+use audit_book::{Book, BookFault, ReadFault, check_book, read_book};
+use hall_script::{DeviceFault, read_device};
+use std::alloc::Global;
+use wall_labels::{Failed, NoMemory, Sink, Source};
+use wall_policy::Policy;
+
+/// The most bytes that a book may have.
+pub const BOOK_LIMIT: usize = 134217728;
+
+// What the check of a book found: that it is sound, with the number of its entries, or the number
+// of its first bad entry, from 1.
+#[derive(Clone, Copy)]
+pub(crate) enum Finding {
+    Sound(u64),
+    Unsound(u64),
+}
+
+fn text_ending(fault: ReadFault) -> Ending
+    ensures { result ≡ text_ending fault }
+{
+    match fault {
+        ReadFault::BadLine(number) => Ending::BadBookLine(number),
+        ReadFault::Cut => Ending::CutBook,
+        ReadFault::NoMemory => Ending::NoMemory,
+    }
+}
+
+fn finding_ending(finding: Finding) -> Ending
+    ensures { result ≡ finding_ending finding }
+{
+    match finding {
+        Finding::Sound(_) => Ending::Done,
+        Finding::Unsound(number) => Ending::Unsound(number),
+    }
+}
+
+// Reads a book whole.
+fn read_entries<B: Source>(alloc: Global, wall: &Policy, source: &mut B) -> Result<Book, Ending>
+    ensures book { let device = used B.failures B.remaining source.old source.new in
+        IfOk result (λ book. IsBookOf wall.now device book.list) }
+    ensures ending { let device = used B.failures B.remaining source.old source.new in
+        IfErr result (IsNoBook wall.now device) }
+{
+    match read_device(alloc, source, BOOK_LIMIT) {
+        Ok(bytes) => match read_book(alloc, wall, &bytes) {
+            Ok(book) => Ok(book),
+            Err(fault) => Err(text_ending(fault)),
+        },
+        Err(DeviceFault::Read) => Err(Ending::ReadFault),
+        Err(DeviceFault::NoMemory) => Err(Ending::NoMemory),
+    }
+}
+
+// Checks a book.
+fn judge(alloc: Global, wall: &Policy, book: &Book) -> Result<Finding, NoMemory>
+    ensures { IfOk result (IsFound wall.now book.now.list) }
+{
+    match check_book(alloc, wall, book) {
+        Ok(()) => Ok(Finding::Sound(book.len() as u64)),
+        Err(BookFault::BadEntry(number)) => Ok(Finding::Unsound(number)),
+        Err(BookFault::NoMemory) => Err(NoMemory),
+    }
+}
+
+// Writes the finding's line.
+fn write_finding<O: Sink>(out: &mut O, finding: Finding) -> Result<(), Failed>
+    ensures written { let device = used O.failures O.contents out.old out.new in
+        OnOk result (IsWritten device (finding_line finding)) }
+    ensures broken { let device = used O.failures O.contents out.old out.new in
+        OnErr result (BrokeOff device (finding_line finding)) }
+{
+    match finding {
+        Finding::Sound(number) => write_numbered(out, b"sound ", number),
+        Finding::Unsound(number) => write_numbered(out, b"unsound at entry ", number),
+    }
+}
+
+// Tells the finding.
+fn tell<O: Sink>(out: &mut O, finding: Finding) -> Ending
+    ensures { Announces finding (used O.failures O.contents out.old out.new) result }
+{
+    match write_finding(out, finding) {
+        Ok(()) => finding_ending(finding),
+        Err(_) => Ending::WriteFault,
+    }
+}
+
+// Reads and checks the book.
+fn audit_under<B: Source, O: Sink>(
+    alloc: Global,
+    wall: &Policy,
+    book: &mut B,
+    out: &mut O,
+) -> Ending
+    ensures { Audits wall.now
+        (used B.failures B.remaining book.old book.new)
+        (used O.failures O.contents out.old out.new)
+        result }
+{
+    let entries = match read_entries(alloc, wall, book) {
+        Ok(entries) => entries,
+        Err(ending) => return ending,
+    };
+    let judged = judge(alloc, wall, &entries);
+    drop(entries);
+    match judged {
+        Ok(finding) => tell(out, finding),
+        Err(_) => Ending::NoMemory,
+    }
+}
+
+// Reads and judges the policy, and then audits the book.
+fn audit_devices<P: Source, B: Source, O: Sink>(
+    alloc: Global,
+    policy: &mut P,
+    book: &mut B,
+    out: &mut O,
+) -> Ending
+    ensures { AuditEnds
+        (used P.failures P.remaining policy.old policy.new)
+        (used B.failures B.remaining book.old book.new)
+        (used O.failures O.contents out.old out.new)
+        result }
+{
+    let wall = match read_wall(alloc, policy) {
+        Ok(wall) => wall,
+        Err(ending) => return ending,
+    };
+    let ending = audit_under(alloc, &wall, book, out);
+    drop(wall);
+    ending
+}
+
+/// Reads the policy and a book, checks that the book is what its posts give under the policy, and
+/// writes `sound N`, with the number of its entries, or `unsound at entry N`, with that of the
+/// first bad one, to `out`. It writes the line of a fault to `err`, and gives the status: 0 exactly
+/// where the book is sound and the line was written.
+///
+/// The policy is read and judged before the book is looked at. A book of more than `BOOK_LIMIT`
+/// bytes is a read fault.
+pub fn audit_on<P: Source, B: Source, O: Sink, E: Sink>(
+    alloc: Global,
+    policy: &mut P,
+    book: &mut B,
+    out: &mut O,
+    err: &mut E,
+) -> u8
+    ensures { EndsSo
+        (AuditEnds
+        (used P.failures P.remaining policy.old policy.new)
+        (used B.failures B.remaining book.old book.new)
+        (used O.failures O.contents out.old out.new))
+        (used E.failures E.contents err.old err.new)
+        result }
+{
+    let ending = audit_devices(alloc, policy, book, out);
+    end(err, ending)
+}

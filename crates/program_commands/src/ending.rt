@@ -1,0 +1,178 @@
+//! How the program ends: its status, and its line on standard error. (Own format.)
+ghost use Rattle.std.specs.Prelude.{◌≡◌, ◌++◌, OnOk, OnErr};
+ghost use Rattle.hall_script.specs.Devices.{used, IsWritten, BrokeOff};
+ghost use Rattle.program_commands.specs.Endings.{status_of, error_line, numbered_line, policy_fault_text};
+ghost use Rattle.program_commands.specs.Endings.{line_fault_text, IsTold};
+
+use coll_text::LineFault;
+use wall_labels::{Failed, Sink, write_all};
+use wall_policy::PolicyFault;
+
+/// How the program ends. Lines and entries count from 1.
+#[derive(Clone, Copy, Debug, PartialEq, Eq)]
+pub enum Ending {
+    /// All was done.
+    Done,
+    /// The policy file is refused.
+    BadPolicy(PolicyFault),
+    /// The line of the script of this number is no call.
+    BadLine(u64, LineFault),
+    /// The line of the book of this number is the first that is not in its form, or that stands
+    /// behind the end.
+    BadBookLine(u64),
+    /// The book stops before a finished `end` line, and all finished lines are in their form.
+    CutBook,
+    /// The entry of this number is the first that is not what the posts of the book give.
+    Unsound(u64),
+    /// A reader failed, or a file is too long.
+    ReadFault,
+    /// The writer failed.
+    WriteFault,
+    /// A thread was refused.
+    NoThread,
+    /// The calls of a run were too many for its door.
+    Exhausted,
+    /// Memory ran out.
+    NoMemory,
+    /// The words of the command line ask for nothing that the program does.
+    BadArguments,
+}
+
+fn status(ending: Ending) -> u8
+    ensures { result ≡ status_of ending }
+{
+    match ending {
+        Ending::Done => 0,
+        Ending::BadPolicy(_) => 1,
+        Ending::BadLine(..) => 2,
+        Ending::BadBookLine(_) | Ending::CutBook => 2,
+        Ending::Unsound(_) => 2,
+        Ending::ReadFault | Ending::WriteFault => 3,
+        Ending::NoThread | Ending::Exhausted => 4,
+        Ending::NoMemory => 4,
+        Ending::BadArguments => 5,
+    }
+}
+
+// The fault's name, and the end of the line.
+fn policy_fault(fault: PolicyFault) -> &'static str
+    ensures { result.now ≡ policy_fault_text fault }
+{
+    match fault {
+        PolicyFault::NotToml => "NotToml\n",
+        PolicyFault::BadVersion => "BadVersion\n",
+        PolicyFault::MissingKey => "MissingKey\n",
+        PolicyFault::UnknownKey => "UnknownKey\n",
+        PolicyFault::BadName => "BadName\n",
+        PolicyFault::DuplicateName => "DuplicateName\n",
+        PolicyFault::UnknownDataset => "UnknownDataset\n",
+        PolicyFault::BadOp => "BadOp\n",
+        PolicyFault::BadLeast => "BadLeast\n",
+        PolicyFault::TooMany => "TooMany\n",
+        PolicyFault::NoMemory => "NoMemory\n",
+    }
+}
+
+// The fault's name, and the end of the line.
+fn line_fault(fault: LineFault) -> &'static str
+    ensures { result.now ≡ line_fault_text fault }
+{
+    match fault {
+        LineFault::BadVerb => "BadVerb\n",
+        LineFault::BadShape => "BadShape\n",
+        LineFault::BadField => "BadField\n",
+        LineFault::BadKind => "BadKind\n",
+        LineFault::BadType => "BadType\n",
+        LineFault::UnknownOp => "UnknownOp\n",
+        LineFault::BadLabel => "BadLabel\n",
+        LineFault::BadNumber => "BadNumber\n",
+        LineFault::OddPair => "OddPair\n",
+        LineFault::NoMemory => "NoMemory\n",
+    }
+}
+
+// Writes one after the other.
+fn write_two<W: Sink>(sink: &mut W, first: &[u8], second: &[u8]) -> Result<(), Failed>
+    ensures written { let device = used W.failures W.contents sink.old sink.new in
+        OnOk result (IsWritten device (first.now ++ second.now)) }
+    ensures broken { let device = used W.failures W.contents sink.old sink.new in
+        OnErr result (BrokeOff device (first.now ++ second.now)) }
+{
+    match write_all(sink, first) {
+        Ok(()) => match write_all(sink, second) {
+            Ok(()) => Ok(()),
+            Err(_) => Err(Failed),
+        },
+        Err(_) => Err(Failed),
+    }
+}
+
+// Writes the words, the number and the end of the line.
+pub(crate) fn write_numbered<W: Sink>(sink: &mut W, words: &[u8], number: u64) -> Result<(), Failed>
+    ensures written { let device = used W.failures W.contents sink.old sink.new in
+        OnOk result (IsWritten device (numbered_line words.now number)) }
+    ensures broken { let device = used W.failures W.contents sink.old sink.new in
+        OnErr result (BrokeOff device (numbered_line words.now number)) }
+{
+    let mut buffer = itoa::Buffer::new();
+    let digits = buffer.format(number);
+    match write_all(sink, words) {
+        Ok(()) => match write_two(sink, digits.as_bytes(), b"\n") {
+            Ok(()) => Ok(()),
+            Err(_) => Err(Failed),
+        },
+        Err(_) => Err(Failed),
+    }
+}
+
+// Writes `script: line N: NAME`.
+fn write_bad_line<W: Sink>(sink: &mut W, number: u64, fault: LineFault) -> Result<(), Failed>
+    ensures written { let device = used W.failures W.contents sink.old sink.new in
+        OnOk result (IsWritten device (error_line (Ending.BadLine number fault))) }
+    ensures broken { let device = used W.failures W.contents sink.old sink.new in
+        OnErr result (BrokeOff device (error_line (Ending.BadLine number fault))) }
+{
+    let mut buffer = itoa::Buffer::new();
+    let digits = buffer.format(number);
+    match write_two(sink, b"script: line ", digits.as_bytes()) {
+        Ok(()) => match write_two(sink, b": ", line_fault(fault).as_bytes()) {
+            Ok(()) => Ok(()),
+            Err(_) => Err(Failed),
+        },
+        Err(_) => Err(Failed),
+    }
+}
+
+// Writes the ending's line, if it has one.
+fn write_ending<W: Sink>(sink: &mut W, ending: Ending) -> Result<(), Failed>
+    ensures written { let device = used W.failures W.contents sink.old sink.new in
+        OnOk result (IsWritten device (error_line ending)) }
+    ensures broken { let device = used W.failures W.contents sink.old sink.new in
+        OnErr result (BrokeOff device (error_line ending)) }
+{
+    match ending {
+        Ending::Done | Ending::Unsound(_) => Ok(()),
+        Ending::BadPolicy(fault) => { write_two(sink, b"policy: ", policy_fault(fault).as_bytes()) }
+        Ending::BadLine(number, fault) => write_bad_line(sink, number, fault),
+        Ending::BadBookLine(number) => write_numbered(sink, b"book: line ", number),
+        Ending::CutBook => write_all(sink, b"book: cut\n"),
+        Ending::ReadFault => write_all(sink, b"read fault\n"),
+        Ending::WriteFault => write_all(sink, b"write fault\n"),
+        Ending::NoThread => write_all(sink, b"no thread\n"),
+        Ending::Exhausted => write_all(sink, b"exhausted\n"),
+        Ending::NoMemory => write_all(sink, b"out of memory\n"),
+        Ending::BadArguments => write_all(sink, b"bad arguments\n"),
+    }
+}
+
+/// Writes the ending's line, if it has one, and gives the status. A writer that fails changes
+/// nothing of that.
+pub fn end<W: Sink>(err: &mut W, ending: Ending) -> u8
+    ensures status { result ≡ status_of ending }
+    ensures told { IsTold (used W.failures W.contents err.old err.new) (error_line ending) }
+{
+    match write_ending(err, ending) {
+        Ok(()) => status(ending),
+        Err(_) => status(ending),
+    }
+}

@@ -1,0 +1,14 @@
+//! The commands over devices: from the bytes of a policy and a script, or a book, to the lines that
+//! are written, the book that is kept, and how it ends.
+#![tactic(auto)]
+
+mod audit;
+mod ending;
+mod replay;
+mod run;
+mod wall;
+
+pub use audit::{BOOK_LIMIT, audit_on};
+pub use ending::{Ending, end};
+pub use replay::replay_on;
+pub use run::run_on;

@@ -1,0 +1,324 @@
+//! Runs the calls of a script, each process's in a thread of its own, over any devices.
+ghost use Rattle.std.specs.Prelude.{◌≡◌, ◌≢◌, ◌<◌, ◌++◌, Some, IfOk, IfErr, OnOk, OnErr, length};
+ghost use Rattle.std.specs.Prelude.{codes, decimal, string_bytes};
+ghost use Rattle.std.specs.List.{All};
+ghost use Rattle.run_model.specs.Comms.{processes};
+ghost use Rattle.run_model.specs.Known.{IsKnownReply, ScriptsHaveKnownLabels};
+ghost use Rattle.rank_run.specs.declared.fault.RunFault.TheVariants.{BadScripts};
+ghost use Rattle.rank_run.specs.declared.waiting.TheConstants.{PATIENCE};
+ghost use Rattle.rank_run.specs.Ran.{Ran};
+ghost use Rattle.program_commands.specs.Endings.{EndsSo};
+ghost use Rattle.hall_script.specs.Devices.{used, IsWritten};
+ghost use Rattle.program_commands.specs.Replaying.{perhaps, no_book};
+ghost use Rattle.program_commands.specs.Running.{rank_line, reply_lines, rank_text, IsScriptOf};
+ghost use Rattle.program_commands.specs.Running.{IsNoScript, IsRunEnding, IsNoRun, break_ending, Breaks};
+ghost use Rattle.program_commands.specs.Running.{FellShort, Reached, RunEnds};
+
+use crate::ending::{Ending, end};
+use crate::replay::{keep, script_ending};
+use crate::wall::read_wall;
+use audit_book::WriteFault;
+use hall_core::{Hall, Reply};
+use hall_script::{DeviceFault, SCRIPT_LIMIT, Scripts, read_device, split_script, write_reply};
+use rank_run::{OpenGate, Run, RunFault, RunReplies, run_ranks};
+use std::alloc::{AllocError, Global};
+use std::sync::Wait;
+use std::thread::Threads;
+use wall_labels::{NoMemory, ProcessId, Sink, Source, write_all};
+use wall_policy::Policy;
+
+// Reads a script whole, and gives each process its acts.
+fn read_scripts<S: Source>(alloc: Global, wall: &Policy, source: &mut S) -> Result<Scripts, Ending>
+    ensures scripts { let device = used S.failures S.remaining source.old source.new in
+        IfOk result (IsScriptOf wall.now device) }
+    ensures named { IfOk result (ScriptsHaveKnownLabels wall.now) }
+    ensures ending { let device = used S.failures S.remaining source.old source.new in
+        IfErr result (IsNoScript wall.now device) }
+{
+    match read_device(alloc, source, SCRIPT_LIMIT) {
+        Ok(bytes) => match split_script(alloc, wall, &bytes) {
+            Ok(scripts) => Ok(scripts),
+            Err(fault) => Err(script_ending(fault)),
+        },
+        Err(DeviceFault::Read) => Err(Ending::ReadFault),
+        Err(DeviceFault::NoMemory) => Err(Ending::NoMemory),
+    }
+}
+
+fn run_ending(fault: RunFault) -> Ending
+    requires { fault ≢ BadScripts }
+    ensures { IsRunEnding fault result }
+{
+    match fault {
+        RunFault::BadScripts => unreachable!(),
+        RunFault::NoThread => Ending::NoThread,
+        RunFault::Exhausted => Ending::Exhausted,
+        RunFault::NoMemory => Ending::NoMemory,
+    }
+}
+
+// Runs the scripts of all processes at the same time.
+fn run_scripts<R: Threads + Wait + Sync>(
+    rt: &R,
+    alloc: Global,
+    wall: Policy,
+    scripts: Scripts,
+) -> Result<Run, Ending>
+    requires named { ScriptsHaveKnownLabels wall scripts }
+    requires long { length scripts ≡ processes wall }
+    ensures ran { IfOk result (λ run. Ran PATIENCE wall scripts run.replies run.hall) }
+    ensures ending { IfErr result IsNoRun }
+{
+    match run_ranks(rt, alloc, wall, scripts, &OpenGate) {
+        Ok(run) => Ok(run),
+        Err(fault) => Err(run_ending(fault)),
+    }
+}
+
+// Puts the line of a process.
+fn put_line(line: &mut String, number: u32, name: &str) -> Result<(), AllocError>
+    ensures { OnOk result (string_bytes line.new ≡ string_bytes line.old
+        ++ (codes "rank " ++ decimal number ++ codes " " ++ name.now ++ codes "\n")) }
+{
+    write!(line, "rank {number} {name}\n")
+}
+
+// Appends the line of a process.
+fn put_rank(
+    alloc: Global,
+    wall: &Policy,
+    process: ProcessId,
+    text: &mut Vec<u8>,
+) -> Result<(), NoMemory>
+    requires { process < processes wall.now }
+    ensures { OnOk result (text.new.items ≡ text.old.items ++ rank_line wall.now process) }
+{
+    let mut line = String::new(alloc);
+    put_line(&mut line, process.number(), wall.process_name(process))?;
+    text.extend_from_slice(line.as_bytes())?;
+    Ok(())
+}
+
+// Appends the lines of replies.
+fn put_replies(wall: &Policy, replies: &[Reply], text: &mut Vec<u8>) -> Result<(), NoMemory>
+    requires { All (IsKnownReply wall.now) replies.now }
+    ensures { OnOk result (text.new.items ≡ text.old.items ++ reply_lines wall.now replies.now) }
+{
+    for reply in replies {
+        write_reply(wall, reply, text)?;
+    }
+    Ok(())
+}
+
+// The line of a process, and those of its replies.
+fn process_text(
+    alloc: Global,
+    wall: &Policy,
+    process: ProcessId,
+    replies: &[Reply],
+) -> Result<Vec<u8>, NoMemory>
+    requires process { process < processes wall.now }
+    requires named { All (IsKnownReply wall.now) replies.now }
+    ensures { IfOk result (λ text.
+        text.items ≡ rank_line wall.now process ++ reply_lines wall.now replies.now) }
+{
+    let mut text = Vec::new(alloc);
+    put_rank(alloc, wall, process, &mut text)?;
+    put_replies(wall, replies, &mut text)?;
+    Ok(text)
+}
+
+// Writes the line of a process, and those of its replies.
+fn write_process<O: Sink>(
+    alloc: Global,
+    wall: &Policy,
+    process: ProcessId,
+    replies: &[Reply],
+    out: &mut O,
+) -> Result<(), WriteFault>
+    requires process { process < processes wall.now }
+    requires named { All (IsKnownReply wall.now) replies.now }
+    ensures written { let device = used O.failures O.contents out.old out.new in
+        let lines = rank_line wall.now process ++ reply_lines wall.now replies.now in
+        OnOk result (IsWritten device lines) }
+    ensures broken { let device = used O.failures O.contents out.old out.new in
+        let lines = rank_line wall.now process ++ reply_lines wall.now replies.now in
+        IfErr result (λ fault. Breaks device lines (break_ending fault)) }
+{
+    let text = match process_text(alloc, wall, process, replies) {
+        Ok(text) => text,
+        Err(_) => return Err(WriteFault::NoMemory),
+    };
+    match write_all(out, &text) {
+        Ok(()) => Ok(()),
+        Err(_) => Err(WriteFault::Write),
+    }
+}
+
+// Writes the lines of all processes, and of their replies.
+fn write_ranks<O: Sink>(
+    alloc: Global,
+    wall: &Policy,
+    replies: &RunReplies,
+    out: &mut O,
+) -> Result<(), WriteFault>
+    requires long { length replies.now ≡ processes wall.now }
+    requires named { All (All (IsKnownReply wall.now)) replies.now }
+    ensures written { let device = used O.failures O.contents out.old out.new in
+        OnOk result (IsWritten device (rank_text wall.now replies.now)) }
+    ensures broken { let device = used O.failures O.contents out.old out.new in
+        let text = rank_text wall.now replies.now in
+        IfErr result (λ fault. Breaks device text (break_ending fault)) }
+{
+    for number in 0..wall.processes() {
+        let Some(process) = ProcessId::new(number) else {
+            unreachable!()
+        };
+        match write_process(alloc, wall, process, replies.of(number as usize), out) {
+            Ok(()) => {}
+            Err(fault) => return Err(fault),
+        }
+    }
+    Ok(())
+}
+
+fn break_ending(fault: WriteFault) -> Ending
+    ensures { result ≡ break_ending fault }
+{
+    match fault {
+        WriteFault::Write => Ending::WriteFault,
+        WriteFault::NoMemory => Ending::NoMemory,
+    }
+}
+
+// Reads the script, runs its calls, and writes the text of the replies.
+fn play<R: Threads + Wait + Sync, S: Source, O: Sink>(
+    rt: &R,
+    alloc: Global,
+    wall: Policy,
+    script: &mut S,
+    out: &mut O,
+) -> Result<Hall, Ending>
+    ensures reached { let script = used S.failures S.remaining script.old script.new in
+        let out = used O.failures O.contents out.old out.new in
+        IfOk result (Reached wall script out) }
+    ensures ended { let script = used S.failures S.remaining script.old script.new in
+        let out = used O.failures O.contents out.old out.new in
+        IfErr result (FellShort wall script out) }
+{
+    let scripts = match read_scripts(alloc, &wall, script) {
+        Ok(scripts) => scripts,
+        Err(ending) => {
+            drop(wall);
+            return Err(ending);
+        }
+    };
+    let run = match run_scripts(rt, alloc, wall, scripts) {
+        Ok(run) => run,
+        Err(ending) => return Err(ending),
+    };
+    let Run { replies, hall } = run;
+    let written = write_ranks(alloc, hall.policy(), &replies, out);
+    drop(replies);
+    match written {
+        Ok(()) => Ok(hall),
+        Err(fault) => {
+            drop(hall);
+            Err(break_ending(fault))
+        }
+    }
+}
+
+// Reads and judges the policy, and then runs the script.
+fn run_devices<R: Threads + Wait + Sync, P: Source, S: Source, O: Sink>(
+    rt: &R,
+    alloc: Global,
+    policy: &mut P,
+    script: &mut S,
+    out: &mut O,
+) -> Ending
+    ensures { RunEnds
+        (used P.failures P.remaining policy.old policy.new)
+        (used S.failures S.remaining script.old script.new)
+        (used O.failures O.contents out.old out.new)
+        no_book
+        result }
+{
+    let wall = match read_wall(alloc, policy) {
+        Ok(wall) => wall,
+        Err(ending) => return ending,
+    };
+    match play(rt, alloc, wall, script, out) {
+        Ok(hall) => drop(hall),
+        Err(ending) => return ending,
+    }
+    Ending::Done
+}
+
+// Reads and judges the policy, runs the script, and writes the book of its run.
+fn run_keeping<R: Threads + Wait + Sync, P: Source, S: Source, O: Sink, B: Sink>(
+    rt: &R,
+    alloc: Global,
+    policy: &mut P,
+    script: &mut S,
+    out: &mut O,
+    book: &mut B,
+) -> Ending
+    ensures { RunEnds
+        (used P.failures P.remaining policy.old policy.new)
+        (used S.failures S.remaining script.old script.new)
+        (used O.failures O.contents out.old out.new)
+        (Some (used B.failures B.contents book.old book.new))
+        result }
+{
+    let wall = match read_wall(alloc, policy) {
+        Ok(wall) => wall,
+        Err(ending) => return ending,
+    };
+    let hall = match play(rt, alloc, wall, script, out) {
+        Ok(hall) => hall,
+        Err(ending) => return ending,
+    };
+    let ending = keep(alloc, &hall, book);
+    drop(hall);
+    ending
+}
+
+/// Reads the policy and the script, runs the calls of each process in a thread of its own, all at
+/// the same time, and writes to `out` for each process in order the line `rank P NAME` and the
+/// lines of its replies. A take is tried again while its outcome is pending. It writes the line of
+/// a fault to `err`, and gives the status. Where there is a `book`, and the replies were written,
+/// it then writes the audit book of the run to it.
+///
+/// The policy is read and judged before the script is looked at, and the whole script before a call
+/// is made: after a fault of policy or script, and where a thread or memory was refused before the
+/// end of the run, nothing is written to `out`, and no book.
+pub fn run_on<R: Threads + Wait + Sync, P: Source, S: Source, O: Sink, E: Sink, B: Sink>(
+    rt: &R,
+    alloc: Global,
+    policy: &mut P,
+    script: &mut S,
+    out: &mut O,
+    err: &mut E,
+    book: Option<&mut B>,
+) -> u8
+    ensures { EndsSo
+        (RunEnds
+        (used P.failures P.remaining policy.old policy.new)
+        (used S.failures S.remaining script.old script.new)
+        (used O.failures O.contents out.old out.new)
+        (perhaps B.failures B.contents book.entry book.exit))
+        (used E.failures E.contents err.old err.new)
+        result }
+{
+    match book {
+        Some(book) => {
+            let ending = run_keeping(rt, alloc, policy, script, out, book);
+            end(err, ending)
+        }
+        None => {
+            let ending = run_devices(rt, alloc, policy, script, out);
+            end(err, ending)
+        }
+    }
+}

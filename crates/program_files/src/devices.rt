@@ -1,0 +1,211 @@
+//! Devices over std's files and streams, with a count of failures that takes no bytes.
+ghost use Rattle.std.specs.Prelude.{◌≡◌, ℕ, ◌+◌, ◌<◌, ◌≤◌, List, Option, length, IsSome, IfOk};
+ghost use Rattle.std.specs.Prelude.{OnOk, OnErr, Ok};
+ghost use Rattle.std.specs.Io.KnownBytes.{ReadConsumes, WriteAppends};
+ghost use Rattle.program_files.specs.Files.{bytes_of};
+
+use std::fs::File;
+use std::io;
+use std::io::{Read, Write};
+use std::marker::Model;
+use std::rt::Files;
+use std::sync::ledger::{Blank, Book, Ledger, Share};
+use wall_labels::{Failed, Sink, Source};
+
+/// A count that only `rise` changes. It takes no bytes.
+#[derive(Drop)]
+pub struct Count<L: Ledger> {
+    book: Book<L>,
+    share: Share<L>,
+}
+
+impl<L: Ledger> Model for Count<L> {
+    ghost use Rattle.std.specs.Prelude.{ℕ, ◌<◌};
+
+    ghost Value = { ℕ };
+
+    ghost view = { λ s. s.book.total };
+
+    ghost invariant = { λ s. 0 < s.share.parts };
+}
+
+impl<L: Ledger> Count<L> {
+    /// A count of none, kept in this ledger.
+    pub fn new(blank: Blank) -> Count<L>
+        requires name { blank.name ≡ L.name }
+        requires parts { blank.parts ≡ L.parts }
+        requires some { 0 < blank.parts }
+        ensures { result ≡ 0 }
+    {
+        let (book, share) = blank.open::<L>();
+        Count { book, share }
+    }
+
+    /// One more.
+    pub fn rise(&mut self)
+        ensures { self.new ≡ self.old + 1 }
+    {
+        self.book.add(&mut self.share, 1);
+    }
+}
+
+/// A file that is opened at its first read, and never again. A file that is missing is a read that
+/// failed.
+#[derive(Drop)]
+pub struct FileSource<'a, R: Files, L: Ledger> {
+    pub rt: &'a R,
+    pub path: &'a str,
+    pub file: Option<R::File>,
+    pub failures: Count<L>,
+}
+
+// Reads from a file that was opened, or opens it first.
+fn read_opened<R: Files>(
+    rt: &R,
+    path: &str,
+    file: &mut Option<R::File>,
+    buffer: &mut [u8],
+) -> io::Result<usize>
+    ensures within { IfOk result (λ n. n ≤ length buffer.new) }
+    ensures opened { OnOk result (IsSome file.new) }
+    ensures bytes { let left = bytes_of R.File.remaining in
+        ReadConsumes (left file.old) (left file.new) result buffer.new }
+{
+    match file {
+        Some(opened) => opened.read(buffer),
+        None => {
+            let mut opened = File::open(rt, path)?;
+            let outcome = opened.read(buffer);
+            *file = Some(opened);
+            outcome
+        }
+    }
+}
+
+impl<'a, R: Files, L: Ledger> Source for FileSource<'a, R, L> {
+    ghost use Rattle.program_files.specs.Files.{bytes_of};
+
+    ghost failures = { λ s. s.failures };
+
+    ghost remaining = { λ s. bytes_of R.File.remaining s.file };
+
+    fn read(&mut self, buffer: &mut [u8]) -> Result<usize, Failed>
+        ensures within { IfOk result (λ n. n ≤ length buffer.new) }
+        ensures went { OnOk result (self.new.failures ≡ self.old.failures) }
+        ensures failed { OnErr result (self.new.failures ≡ self.old.failures + 1) }
+        ensures bytes { let left = bytes_of R.File.remaining in
+            ReadConsumes (left self.old.file) (left self.new.file) result buffer.new }
+        ensures opened { OnOk result (IsSome self.new.file) }
+        ensures path { self.new.path ≡ self.old.path }
+    {
+        match read_opened(self.rt, self.path, &mut self.file, buffer) {
+            Ok(n) => Ok(n),
+            Err(_) => {
+                self.failures.rise();
+                Err(Failed)
+            }
+        }
+    }
+}
+
+// What a write of some bytes came to. It failed where it took none.
+fn counted<L: Ledger>(outcome: io::Result<usize>, failures: &mut Count<L>) -> Result<usize, Failed>
+    ensures went { OnOk result (failures.new ≡ failures.old) }
+    ensures failed { OnErr result (failures.new ≡ failures.old + 1) }
+    ensures some { IfOk result (λ n. 0 < n) }
+    ensures bytes { (old : Option (List ℕ)) → (new : Option (List ℕ)) → (given : List ℕ) →
+        WriteAppends old new outcome given → WriteAppends old new result given }
+    ensures same { IfOk result (λ n. outcome ≡ Ok n) }
+{
+    match outcome {
+        Ok(n) => {
+            if n == 0 {
+                failures.rise();
+                return Err(Failed);
+            }
+            Ok(n)
+        }
+        Err(_) => {
+            failures.rise();
+            Err(Failed)
+        }
+    }
+}
+
+/// A file that is made at its first write, in place of one that was there, and never again.
+#[derive(Drop)]
+pub struct FileSink<'a, R: Files, L: Ledger> {
+    pub rt: &'a R,
+    pub path: &'a str,
+    pub file: Option<R::File>,
+    pub failures: Count<L>,
+}
+
+// Writes to a file that was made, or makes it first.
+fn write_made<R: Files>(
+    rt: &R,
+    path: &str,
+    file: &mut Option<R::File>,
+    bytes: &[u8],
+) -> io::Result<usize>
+    ensures within { IfOk result (λ n. n ≤ length bytes.now) }
+    ensures made { OnOk result (IsSome file.new) }
+    ensures bytes { let held = bytes_of R.File.contents in
+        WriteAppends (held file.old) (held file.new) result bytes.now }
+{
+    match file {
+        Some(made) => made.write(bytes),
+        None => {
+            let mut made = File::create(rt, path)?;
+            let outcome = made.write(bytes);
+            *file = Some(made);
+            outcome
+        }
+    }
+}
+
+impl<'a, R: Files, L: Ledger> Sink for FileSink<'a, R, L> {
+    ghost use Rattle.program_files.specs.Files.{bytes_of};
+
+    ghost failures = { λ s. s.failures };
+
+    ghost contents = { λ s. bytes_of R.File.contents s.file };
+
+    fn write(&mut self, bytes: &[u8]) -> Result<usize, Failed>
+        ensures within { IfOk result (λ n. n ≤ length bytes.now) }
+        ensures some { IfOk result (λ n. 0 < length bytes.now → 0 < n) }
+        ensures went { OnOk result (self.new.failures ≡ self.old.failures) }
+        ensures failed { OnErr result (self.new.failures ≡ self.old.failures + 1) }
+        ensures bytes { let held = bytes_of R.File.contents in
+            WriteAppends (held self.old.file) (held self.new.file) result bytes.now }
+        ensures made { OnOk result (0 < length bytes.now → IsSome self.new.file) }
+        ensures path { self.new.path ≡ self.old.path }
+    {
+        if bytes.is_empty() {
+            return Ok(0);
+        }
+        let outcome = write_made(self.rt, self.path, &mut self.file, bytes);
+        counted(outcome, &mut self.failures)
+    }
+}
+
+/// A stream of std's.
+#[derive(Drop)]
+pub struct StreamSink<W: io::Write + Drop, L: Ledger> {
+    pub stream: W,
+    pub failures: Count<L>,
+}
+
+impl<W: io::Write + Drop, L: Ledger> Sink for StreamSink<W, L> {
+    ghost failures = { λ s. s.failures };
+
+    ghost contents = { λ s. W.contents s.stream };
+
+    fn write(&mut self, bytes: &[u8]) -> Result<usize, Failed> {
+        if bytes.is_empty() {
+            return Ok(0);
+        }
+        let outcome = self.stream.write(bytes);
+        counted(outcome, &mut self.failures)
+    }
+}

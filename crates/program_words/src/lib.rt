@@ -1,0 +1,9 @@
+//! The command line: which command its words ask for, and over which files.
+#![tactic(auto)]
+
+mod words;
+
+pub use words::{ArgFault, AuditPaths, Command, ReplayPaths, RunPaths, read_words};
+
+#[cfg(test)]
+mod tests;
