@@ -1,6 +1,6 @@
 //! Writes numbers from the last to the first into a small buffer.
 ghost use Rattle.std.specs.Prelude.{◌≡◌, ◌<◌, ◌≤◌, ◌+◌, ◌^◌, ◌++◌, ◌∷◌, OnOk, OnErr, length, drop};
-ghost use Rattle.std.specs.Prelude.{take, get_or, pos, unsigned_abs};
+ghost use Rattle.std.specs.Prelude.{take, get_or, pos, unsigned_abs, vec_len, vec_capacity};
 ghost use Rattle.std.specs.Fmt.{signed_decimal};
 ghost use Rattle.coll_text.specs.Writing.{spaced_numbers, IsFront};
 
@@ -51,6 +51,8 @@ pub fn put_number_at(text: &mut Vec<u8>, numbers: &Buffer, i: usize) -> Result<(
     ensures ok { OnOk result
         (text.new.items ≡ text.old.items ++ signed_decimal (get_or numbers.now.numbers i (pos 0))) }
     ensures err { OnErr result (text.new.items ≡ text.old.items) }
+    ensures memory { OnErr result (vec_capacity text.old
+        < vec_len text.old + length (signed_decimal (get_or numbers.now.numbers i (pos 0)))) }
 {
     let mut bytes = [0; 22];
     let start = put_number(&mut bytes, 22, numbers.number_at(i));

@@ -43,11 +43,12 @@ impl Book {
         }
     }
 
-    /// Makes room for so many more entries.
+    /// Makes room for so many more entries. Out of memory only where there was none for them.
     pub fn reserve(&mut self, number: usize) -> Result<(), NoMemory>
         ensures room { OnOk result (number ≤ self.new.room) }
         ensures same { self.new.list ≡ self.old.list }
         ensures unchanged { OnErr result (self.new ≡ self.old) }
+        ensures memory { OnErr result (self.old.room < number) }
     {
         self.entries.reserve(number)?;
         Ok(())
