@@ -1,2 +1,3 @@
 -- What crates above may cite of the lemmas of this crate. Everything else in proofs/ is its own.
+pub use Rattle.coll_pending.proofs.PendingLemmas.{stays_known}
 pub use Rattle.coll_pending.proofs.RowLemmas.{begun_set}

@@ -14,8 +14,6 @@ mod queue;
 mod queues;
 mod slot;
 mod spare;
-#[cfg(test)]
-mod tests;
 
 pub use arrival::{ArrivalFault, Arrived, Next, Unarrived};
 pub use pending::Pending;

@@ -13,8 +13,6 @@ mod fault;
 mod native;
 mod operation;
 mod reading;
-#[cfg(test)]
-mod tests;
 
 pub use buffer::{Buffer, allowed, combine_into};
 pub use builder::BufferBuilder;

@@ -12,8 +12,6 @@ mod label_set;
 pub mod memory;
 mod no_memory;
 mod op;
-#[cfg(test)]
-mod tests;
 
 pub use device::{Failed, Sink, Source, write_all};
 pub use ids::{CLASS_LIMIT, ClassId, DATASET_LIMIT, DatasetId, PROCESS_LIMIT, ProcessId};

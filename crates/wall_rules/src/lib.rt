@@ -4,8 +4,6 @@
 #![tactic(auto)]
 
 mod histories;
-#[cfg(test)]
-mod tests;
 
 pub use histories::Histories;
 pub use wall_labels::NoMemory;

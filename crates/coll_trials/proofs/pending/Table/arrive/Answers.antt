@@ -1,6 +1,6 @@
 use Rattle.coll_pending.specs.Waiting.{view_of_pending}
-use Rattle.coll_pending.proofs.PendingLemmas.{stays_known}
-use Rattle.coll_pending.proofs.tests.Table.arrive.Goals as goal
+use Rattle.coll_pending.proofs.CollPendingLemmas.{stays_known}
+use Rattle.coll_trials.proofs.pending.Table.arrive.Goals as goal
 
 pub invariant_of-self : goal.invariant_of-self
 invariant_of-self g c =

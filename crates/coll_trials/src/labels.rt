@@ -1,8 +1,9 @@
+//! Ids, labels, sets of datasets and devices in memory.
 ghost use Rattle.std.specs.Prelude.{◌≡◌, ◌<◌};
 
-use super::memory::{ExpectingSink, Fuse, MemorySource};
-use super::*;
 use std::test::*;
+use wall_labels::memory::{ExpectingSink, Fuse, MemorySource};
+use wall_labels::{ClassId, DATASET_LIMIT, DatasetId, Failed, Label, LabelSet, Op, ProcessId, Source, write_all};
 
 fn dataset(number: u32) -> DatasetId
     requires { number < DATASET_LIMIT }

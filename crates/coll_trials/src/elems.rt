@@ -1,6 +1,7 @@
+//! Buffers and operations.
 ghost use Rattle.std.specs.Prelude.{◌≡◌, [], length};
 
-use crate::{Buffer, BufferBuilder, BufferFault, ElemType, allowed, combine_into};
+use mpi_elems::{Buffer, BufferBuilder, BufferFault, ElemType, allowed, combine_into};
 use std::process::Abort;
 use std::test::Fail;
 use wall_labels::Op;

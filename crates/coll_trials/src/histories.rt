@@ -1,10 +1,11 @@
+//! What each process holds, and the star rule.
 ghost use Rattle.std.specs.Prelude.{◌≡◌, ◌<◌};
 
-use super::*;
 use std::alloc::Global;
 use std::test::Fail;
 use wall_labels::{DATASET_LIMIT, DatasetId, Label, LabelSet, PROCESS_LIMIT, ProcessId};
 use wall_policy::read_policy;
+use wall_rules::Histories;
 
 // Datasets: 0 alpha and 1 beta of banks, 2 crude and 3 delta of oil. Processes: 0 a0, 1 b0, 2 c0, 3
 // n0.

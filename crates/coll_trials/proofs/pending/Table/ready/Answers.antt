@@ -1,6 +1,6 @@
 use Rattle.std.proofs.Common.{ℕ, sym, subst}
 use Rattle.coll_pending.specs.Waiting.{PendingView, IsKnownAs}
-use Rattle.coll_pending.proofs.tests.Table.ready.Goals as goal
+use Rattle.coll_trials.proofs.pending.Table.ready.Goals as goal
 
 pub invariant_of-self : goal.invariant_of-self
 invariant_of-self g c =

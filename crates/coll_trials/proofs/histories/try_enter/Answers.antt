@@ -3,8 +3,8 @@ use Rattle.std.specs.Ordering.{nat_cmp}
 use Rattle.std.specs.FinSet.{FinSet}
 use Rattle.wall_rules.specs.Rules.{HoldsNoRivals, joined}
 use Rattle.wall_rules.specs.Histories.{has}
-use Rattle.wall_rules.proofs.RuleLemmas.{no_rivals-empty, no_rivals-insert}
-use Rattle.wall_rules.proofs.tests.try_enter.Goals as goal
+use Rattle.wall_rules.proofs.WallRulesLemmas.{no_rivals-empty, no_rivals-insert}
+use Rattle.coll_trials.proofs.histories.try_enter.Goals as goal
 
 pub enter-requires : goal.enter-requires
 enter-requires c =

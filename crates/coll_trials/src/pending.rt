@@ -1,6 +1,6 @@
 //! Arrivals on small communicators, worked by hand: the k-th arrivals of the members meet.
 
-use super::{ArrivalFault, Arrived, Next, NoMemory, Pending, Unarrived};
+use coll_pending::{ArrivalFault, Arrived, Next, NoMemory, Pending, Unarrived};
 use coll_routes::{Numbers, Own, Shape, Signature, Stated};
 use mpi_elems::ElemType;
 use mpi_group::Group;
