@@ -3,7 +3,9 @@ ghost use Rattle.std.specs.Prelude.{◌≡◌, ◌<◌};
 
 use std::test::*;
 use wall_labels::memory::{ExpectingSink, Fuse, MemorySource};
-use wall_labels::{ClassId, DATASET_LIMIT, DatasetId, Failed, Label, LabelSet, Op, ProcessId, Source, write_all};
+use wall_labels::{
+    ClassId, DATASET_LIMIT, DatasetId, Failed, Label, LabelSet, Op, ProcessId, Source, write_all,
+};
 
 fn dataset(number: u32) -> DatasetId
     requires { number < DATASET_LIMIT }
