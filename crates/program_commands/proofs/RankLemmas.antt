@@ -12,7 +12,7 @@ use Rattle.audit_book.specs.declared.fault.WriteFault.{WriteFault}
 use Rattle.audit_book.specs.declared.fault.WriteFault.TheVariants as writes
 use Rattle.hall_core.specs.Halls.{HallValue, StandsFor}
 use Rattle.hall_script.specs.Devices.{Used, used, IsUntouched}
-use Rattle.rank_run.specs.declared.waiting.TheConstants.{PATIENCE}
+use Rattle.rank_run.specs.Waits.{script_patience}
 use Rattle.rank_run.specs.Ran.{Ran}
 use Rattle.program_commands.specs.declared.ending.Ending.{Ending}
 use Rattle.program_commands.specs.Replaying.{IsKept, IsUnkept}
@@ -113,7 +113,7 @@ module _ {S O : Type 0} (wall : ChineseWall) (script : Used S) (out : Used O) wh
   -- the writer failed, or memory ran out, in the text
   pub broken : (named : ChineseWall) (scripts : List (List Act)) (replies : List (List Reply))
       (hall : HallValue) (fault : WriteFault) (ending : Ending)
-      → IsScriptOf wall script scripts → Ran PATIENCE wall scripts replies hall →
+      → IsScriptOf wall script scripts → Ran script_patience wall scripts replies hall →
       named ≡ hall.policy → ending ≡ break_ending fault
       → Breaks out (rank_text named replies) (break_ending fault) → FellShort wall script out ending
   broken named scripts replies hall fault ending read ran is so breaks = inr (
@@ -131,7 +131,7 @@ module _ {S O : Type 0} (wall : ChineseWall) (script : Used S) (out : Used O) wh
       IsUnkept book
       → (IsNoRun ending × IsUntouched out)
       ⊎ ((replies : List (List Reply)) × (hall : HallValue)
-      × Ran PATIENCE wall scripts replies hall
+      × Ran script_patience wall scripts replies hall
       × Breaks out (rank_text wall replies) ending)
       → (IsNoRun ending × IsUntouched out × IsUnkept book) ⊎ Tells wall scripts out book ending
   short book scripts ending none (inl a) = inl (a.0, a.1, none)

@@ -14,7 +14,7 @@ use Rattle.hall_script.specs.Devices.{Used, IsUntouched, NeverFailed, IsRead, Is
 use Rattle.hall_script.specs.Devices.{IsWritten, IsBegun, BrokeOff}
 use Rattle.hall_script.specs.Replies.{reply_line}
 use Rattle.hall_script.specs.Scripts.{script_limit, members_script, AreActs}
-use Rattle.rank_run.specs.declared.waiting.TheConstants.{PATIENCE}
+use Rattle.rank_run.specs.Waits.{script_patience}
 use Rattle.rank_run.specs.declared.fault.RunFault.{RunFault}
 use Rattle.rank_run.specs.declared.fault.RunFault.TheVariants as runs
 use Rattle.rank_run.specs.Ran.{Ran}
@@ -99,7 +99,7 @@ pub record Tells {O B : Type 0} (wall : ChineseWall) (scripts : List (List Act))
     (out : Used O) (book : Option (Used B)) (ending : Ending) : Type 0 where
   pub replies : List (List Reply)
   pub hall : HallValue
-  pub ran : Ran PATIENCE wall scripts replies hall
+  pub ran : Ran script_patience wall scripts replies hall
   pub told : (IsWritten out (rank_text wall replies) × IsKept wall ran.run book ending)
       ⊎ (Breaks out (rank_text wall replies) ending × IsUnkept book)
 
@@ -128,7 +128,7 @@ pub record Reached {S O : Type 0}
   pub scripts : List (List Act)
   pub read : IsScriptOf wall script scripts
   pub replies : List (List Reply)
-  pub ran : Ran PATIENCE wall scripts replies hall
+  pub ran : Ran script_patience wall scripts replies hall
   pub written : IsWritten out (rank_text wall replies)
 
 -- the script was not run, or its text not written, and it ended so
@@ -138,4 +138,4 @@ FellShort wall script out ending =
     ⊎ ((scripts : List (List Act)) × IsScriptOf wall script scripts
     × ((IsNoRun ending × IsUntouched out)
     ⊎ ((replies : List (List Reply)) × (hall : HallValue)
-    × Ran PATIENCE wall scripts replies hall × Breaks out (rank_text wall replies) ending)))
+    × Ran script_patience wall scripts replies hall × Breaks out (rank_text wall replies) ending)))

@@ -5,7 +5,7 @@ ghost use Rattle.std.specs.List.{All};
 ghost use Rattle.run_model.specs.Comms.{processes};
 ghost use Rattle.run_model.specs.Known.{IsKnownReply, ScriptsHaveKnownLabels};
 ghost use Rattle.rank_run.specs.declared.fault.RunFault.TheVariants.{BadScripts};
-ghost use Rattle.rank_run.specs.declared.waiting.TheConstants.{PATIENCE};
+ghost use Rattle.rank_run.specs.Waits.{script_patience};
 ghost use Rattle.rank_run.specs.Ran.{Ran};
 ghost use Rattle.program_commands.specs.Endings.{EndsSo};
 ghost use Rattle.hall_script.specs.Devices.{used, IsWritten};
@@ -66,7 +66,7 @@ fn run_scripts<R: Threads + Wait + Sync>(
 ) -> Result<Run, Ending>
     requires named { ScriptsHaveKnownLabels wall scripts }
     requires long { length scripts ≡ processes wall }
-    ensures ran { IfOk result (λ run. Ran PATIENCE wall scripts run.replies run.hall) }
+    ensures ran { IfOk result (λ run. Ran script_patience wall scripts run.replies run.hall) }
     ensures ending { IfErr result IsNoRun }
 {
     match run_ranks(rt, alloc, wall, scripts, &OpenGate) {

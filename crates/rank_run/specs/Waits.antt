@@ -26,6 +26,10 @@ abbrev pub last_take : (process request : ℕ) → Answer → List Entry
 last_take process request (Replied reply) = asked process (Take request) reply ∷ []
 last_take process request Exhausted = []
 
+-- how often a take of a script may be tried
+abbrev pub script_patience : ℕ
+script_patience = 10000000
+
 -- how many takes may be tried: one at least
 abbrev pub tries : (patience : ℕ) → ℕ
 tries patience = max 1 patience

@@ -9,6 +9,7 @@ ghost use Rattle.rank_run.specs.Jobs.{IsFresh, HasPlayed, HaveRoom, AllPlayed, H
 ghost use Rattle.rank_run.specs.Jobs.{passes_of, scripts_of, passes_in, replies_in};
 ghost use Rattle.rank_run.specs.Jobs.{are_whole, has_cut, ending_of};
 ghost use Rattle.rank_run.specs.Ran.{Ran, MayRunOut};
+ghost use Rattle.rank_run.specs.Waits.{script_patience};
 ghost use Rattle.run_model.specs.Known.{ScriptsHaveKnownLabels};
 
 use crate::fault::{RunFault, ThreadRefused};
@@ -275,10 +276,10 @@ pub fn run_ranks<R: Threads + Wait + Sync, G: Gate + Sync>(
     gate: &G,
 ) -> Result<Run, RunFault>
     requires { ScriptsHaveKnownLabels policy scripts }
-    ensures ran { IfOk result (λ run. Ran PATIENCE policy scripts run.replies run.hall) }
+    ensures ran { IfOk result (λ run. Ran script_patience policy scripts run.replies run.hall) }
     ensures bad_scripts { IfErr result (λ fault.
         (fault ≡ BadScripts) ↔ (length scripts ≢ processes policy)) }
-    ensures exhausted { IfErr result (λ fault. fault ≡ Exhausted → MayRunOut PATIENCE scripts) }
+    ensures exhausted { IfErr result (λ fault. fault ≡ Exhausted → MayRunOut script_patience scripts) }
 {
     if scripts.len() != policy.processes() as usize {
         return Err(RunFault::BadScripts);

@@ -162,7 +162,7 @@ impl Gate for Listening {
         };
         let mut heard = heard.lock(rt);
         self.expect(heard.begun && heard.number == number && is_due(process, number, reply));
-        self.expect((number == 1) == (heard.computed > 0));
+        self.expect(heard.computed == u64::from(number == 1));
         *heard = Heard {
             number: number.saturating_add(1),
             begun: false,
@@ -175,14 +175,34 @@ impl Gate for Listening {
     }
 }
 
-/// A number of a process for all, as alpha.
-fn number<R: Abort>(rt: &R, alloc: Global, policy: &Policy, process: u32) -> Posting
+/// Counts the tries of takes, and holds nobody.
+#[derive(Drop)]
+struct Tallying {
+    tries: AtomicU64,
+}
+
+impl Gate for Tallying {
+    fn before_call<R: Wait>(&self, _rt: &R, _process: u32, _number: u64) {}
+
+    fn computing<R: Wait>(&self, _rt: &R, _process: u32, _number: u64) {
+        self.tries.fetch_add(1, Ordering::SeqCst);
+    }
+
+    fn answered<R: Wait>(&self, _rt: &R, _process: u32, _number: u64, _reply: &Reply) {}
+
+    fn holds(&self) -> bool {
+        false
+    }
+}
+
+/// A number of a process for all members of a communicator, as alpha.
+fn number<R: Abort>(rt: &R, alloc: Global, policy: &Policy, process: u32, comm: u32) -> Posting
     ensures { IsKnownLabel policy.now result.label }
 {
     let number = process as i128 + 1;
     let elements = Buffer::from_numbers(alloc, ElemType::Int32, &[number]).expect(rt, "no number");
     Posting {
-        comm: 0,
+        comm,
         sig: Signature::Allgather {
             elem_type: ElemType::Int32,
             count: 1,
@@ -193,12 +213,13 @@ fn number<R: Abort>(rt: &R, alloc: Global, policy: &Policy, process: u32) -> Pos
     }
 }
 
-fn barrier(alloc: Global) -> Posting
+/// A post on the world that gives nothing.
+fn nothing(alloc: Global, sig: Signature) -> Posting
     ensures { result.label ≡ Public }
 {
     Posting {
         comm: 0,
-        sig: Signature::Barrier,
+        sig,
         own: Own::Plain,
         label: Label::Public,
         elements: Buffer::empty(alloc, ElemType::Int8),
@@ -209,12 +230,17 @@ fn barrier(alloc: Global) -> Posting
 fn script<R: Abort>(rt: &R, alloc: Global, policy: &Policy, process: u32) -> Acts
     ensures { All (HasKnownLabel policy.now) result }
 {
-    let number = number(rt, alloc, policy, process);
+    let number = number(rt, alloc, policy, process, 0);
     let mut script = Acts::from(Vec::new(alloc));
     add(rt, policy, &mut script, Act::Post(number));
     add(rt, policy, &mut script, Act::Take(0));
     if process == 1 {
-        add(rt, policy, &mut script, Act::Post(barrier(alloc)));
+        add(
+            rt,
+            policy,
+            &mut script,
+            Act::Post(nothing(alloc, Signature::Barrier)),
+        );
     }
     script
 }
@@ -312,5 +338,53 @@ fn hear_all<R: Threads + Wait + Sync + Abort>(rt: &R, alloc: Global) {
 fn a_gate_hears_all_calls(rt: HostRuntime) {
     for _ in 0..50 {
         hear_all(&rt, rt.alloc());
+    }
+}
+
+/// A copy of the world, and then a number for all on it, each taken before the next post.
+fn twin_script<R: Abort>(rt: &R, alloc: Global, policy: &Policy, process: u32) -> Acts
+    ensures { All (HasKnownLabel policy.now) result }
+{
+    let number = number(rt, alloc, policy, process, 1);
+    let mut script = Acts::from(Vec::new(alloc));
+    add(
+        rt,
+        policy,
+        &mut script,
+        Act::Post(nothing(alloc, Signature::Dup)),
+    );
+    add(rt, policy, &mut script, Act::Take(0));
+    add(rt, policy, &mut script, Act::Post(number));
+    add(rt, policy, &mut script, Act::Take(1));
+    script
+}
+
+fn twin_scripts<R: Abort>(rt: &R, alloc: Global, policy: &Policy) -> Scripts
+    ensures { ScriptsHaveKnownLabels policy.now result }
+{
+    let mut scripts = Vec::new(alloc);
+    put(rt, policy, &mut scripts, twin_script(rt, alloc, policy, 0));
+    put(rt, policy, &mut scripts, twin_script(rt, alloc, policy, 1));
+    put(rt, policy, &mut scripts, twin_script(rt, alloc, policy, 2));
+    put(rt, policy, &mut scripts, twin_script(rt, alloc, policy, 3));
+    Scripts::from(scripts)
+}
+
+fn tally<R: Threads + Wait + Sync + Abort>(rt: &R, alloc: Global) {
+    let gate = Tallying {
+        tries: AtomicU64::new(0),
+    };
+    let policy = wall(rt, alloc, FOUR);
+    let scripts = twin_scripts(rt, alloc, &policy);
+    let run = run_ranks(rt, alloc, policy, scripts, &gate).expect(rt, "the ranks did not run");
+    drop(run);
+    stands(rt, &gate.tries, 8);
+}
+
+/// A rank sleeps until its instance has settled, on any communicator: no take is tried twice.
+#[test]
+fn no_take_is_tried_twice(rt: HostRuntime) {
+    for _ in 0..50 {
+        tally(&rt, rt.alloc());
     }
 }
