@@ -1,4 +1,4 @@
-//! The tests of the door and of the ranks, through their public calls.
+//! The tests of the door, the stage and the ranks, through their public calls.
 //!
 //! They stand in a crate of their own, since a check of a crate's tests proves the crate once more;
 //! here there is nothing to prove but the tests.
@@ -10,5 +10,7 @@ mod doors;
 mod gates;
 #[cfg(test)]
 mod ranks;
+#[cfg(test)]
+mod stages;
 #[cfg(test)]
 mod stops;
