@@ -5,7 +5,6 @@ ghost use Rattle.coll_routes.specs.Faults.{is_listed, no_topology, bad_root, bad
 ghost use Rattle.coll_routes.specs.Faults.{bad_colour, not_subgroup, bad_dims, is_refused};
 ghost use Rattle.coll_routes.specs.Faults.{is_ill_kept, shape_fault as first_fault};
 
-use super::lane::slot_count;
 use super::roll::Shape;
 use super::signature::Signature;
 use super::statement::Own;
@@ -135,11 +134,8 @@ fn asked_of(shape: &Shape, sig: &Signature) -> Asked
         Signature::Exscan { count, .. } => Asked::Exactly(u128::from(*count)),
         Signature::NeighborAllgather { count, .. } => Asked::Exactly(u128::from(*count)),
         Signature::NeighborAllgatherv { .. } => Asked::AnyNumber,
-        Signature::NeighborAlltoall { count, .. } => Asked::Exactly(times(
-            slot_count(shape),
-            *count,
-        )),
-        Signature::NeighborAlltoallv { .. } => Asked::SumOfCounts(slot_count(shape)),
+        Signature::NeighborAlltoall { count, .. } => Asked::Exactly(times(shape.slots(), *count)),
+        Signature::NeighborAlltoallv { .. } => Asked::SumOfCounts(shape.slots()),
         Signature::Split => Asked::ColourAndKey,
         _ => Asked::Exactly(0),
     }

@@ -2,12 +2,12 @@
 ghost use Rattle.std.specs.Prelude.{◌≡◌, ℕ, ◌+◌, ◌<◌, ◌≤◌, ◌^◌, sum, take, replicate, get_or};
 ghost use Rattle.std.specs.Prelude.{IfSome, None, if◌then◌else◌};
 ghost use Rattle.mpi_cart.specs.Grids.{opposite};
-ghost use Rattle.coll_routes.specs.Rolls.{goes_by, counts_in, slots, is_neighbour, neighbour_in};
+ghost use Rattle.coll_routes.specs.Rolls.{goes_by, counts_in, slots, is_neighbour};
 ghost use Rattle.coll_routes.specs.Faults.{shape_fault, stated_type};
 ghost use Rattle.coll_routes.specs.Fit.{IsSized};
 ghost use Rattle.coll_routes.specs.Lanes.{lane_by, sizes_by, covers, sends_by};
 
-use super::roll::Shape;
+use super::roll::{Roll, Shape};
 use super::signature::Signature;
 use super::statement::Own;
 
@@ -34,37 +34,14 @@ fn lane_if(goes: bool, lane: Lane) -> Lane
     if goes { lane } else { Lane::Nowhere }
 }
 
-// The neighbour of a rank in a slot.
-pub(crate) fn neighbour_at(shape: &Shape, rank: u32, slot: u32) -> Option<u32>
-    requires grid { IsSized shape.now }
-    requires rank { rank < shape.now.size }
-    ensures value { result ≡ neighbour_in shape.now.grid rank slot }
-    ensures below { IfSome result (λ q. q < shape.now.size) }
-{
-    match &shape.grid {
-        Some(grid) => grid.neighbour(rank, slot),
-        None => None,
-    }
-}
-
 pub(crate) fn has_neighbour(shape: &Shape, from: u32, to: u32, slot: u32) -> bool
     requires grid { IsSized shape.now }
     requires rank { to < shape.now.size }
     ensures { result ≡ is_neighbour shape.now from to slot }
 {
-    match neighbour_at(shape, to, slot) {
+    match shape.neighbour(to, slot) {
         Some(rank) => rank == from,
         None => false,
-    }
-}
-
-// Two slots for each dimension of the grid.
-pub(crate) fn slot_count(shape: &Shape) -> u32
-    ensures { result ≡ slots shape.now }
-{
-    match &shape.grid {
-        Some(grid) => 2 * grid.ndims(),
-        None => 0,
     }
 }
 
@@ -175,7 +152,7 @@ pub(crate) fn block(sig: &Signature, shape: &Shape, counts: &[u32], b: u32) -> P
         Signature::Alltoallv { .. } => block_of(counts, b),
         Signature::ReduceScatter { counts: sizes, .. } => block_of(sizes.as_slice(), b),
         Signature::ReduceScatterBlock { count, .. } => even_block(shape.size, *count, b),
-        Signature::NeighborAlltoall { count, .. } => even_block(slot_count(shape), *count, b),
+        Signature::NeighborAlltoall { count, .. } => even_block(shape.slots(), *count, b),
         Signature::NeighborAlltoallv { .. } => block_of(counts, b),
         _ => Piece { start: 0, len: 0 },
     }
@@ -211,7 +188,7 @@ fn block_size(sig: &Signature, shape: &Shape, counts: &[u32], b: u32) -> u32
         Signature::Alltoallv { .. } => size_at(counts, b),
         Signature::ReduceScatter { counts: sizes, .. } => size_at(sizes.as_slice(), b),
         Signature::ReduceScatterBlock { count, .. } => even_size(shape.size, *count, b),
-        Signature::NeighborAlltoall { count, .. } => even_size(slot_count(shape), *count, b),
+        Signature::NeighborAlltoall { count, .. } => even_size(shape.slots(), *count, b),
         Signature::NeighborAlltoallv { .. } => size_at(counts, b),
         _ => 0,
     }
@@ -219,49 +196,50 @@ fn block_size(sig: &Signature, shape: &Shape, counts: &[u32], b: u32) -> u32
 
 // The elements of a rank that go to a place, where its post has no fault.
 pub(crate) fn cut(
-    sig: &Signature,
-    shape: &Shape,
+    roll: &Roll,
     own: &Own,
     given: u32,
     from: u32,
     to: u32,
     place: u32,
 ) -> Option<Piece>
-    requires sound { shape_fault shape.now from sig.now own.now (stated_type sig.now) given ≡ None }
-    requires grid { IsSized shape.now }
-    requires rank { to < shape.now.size }
-    ensures covers { (x : ℕ) → x < given →
-        covers result x ≡ goes_by sig.now shape.now (counts_in own.now) from x to place }
+    requires sound { shape_fault roll.now.shape from roll.now.sig own.now
+        (stated_type roll.now.sig) given ≡ None }
+    requires grid { IsSized roll.now.shape }
+    requires rank { to < roll.now.shape.size }
+    ensures covers { (x : ℕ) → x < given → covers result x ≡
+        goes_by roll.now.sig roll.now.shape (counts_in own.now) from x to place }
     ensures within { IfSome result (λ p. p.start + p.len ≤ given) }
 {
-    match lane_of(sig, shape, from, to, place) {
+    match lane_of(&roll.sig, &roll.shape, from, to, place) {
         Lane::Nowhere => None,
         Lane::Whole => Some(Piece {
             start: 0,
             len: given,
         }),
-        Lane::Block(b) => Some(block(sig, shape, own.counts(), b)),
+        Lane::Block(b) => Some(block(&roll.sig, &roll.shape, own.counts(), b)),
     }
 }
 
 // Whether some element of a rank goes to a place, where its post has no fault.
 pub(crate) fn has_element(
-    sig: &Signature,
-    shape: &Shape,
+    roll: &Roll,
     own: &Own,
     given: u32,
     from: u32,
     to: u32,
     place: u32,
 ) -> bool
-    requires sound { shape_fault shape.now from sig.now own.now (stated_type sig.now) given ≡ None }
-    requires grid { IsSized shape.now }
-    requires rank { to < shape.now.size }
-    ensures { result ≡ sends_by sig.now shape.now (counts_in own.now) given from to place }
+    requires sound { shape_fault roll.now.shape from roll.now.sig own.now
+        (stated_type roll.now.sig) given ≡ None }
+    requires grid { IsSized roll.now.shape }
+    requires rank { to < roll.now.shape.size }
+    ensures { result ≡ sends_by roll.now.sig roll.now.shape (counts_in own.now) given from to
+        place }
 {
-    match lane_of(sig, shape, from, to, place) {
+    match lane_of(&roll.sig, &roll.shape, from, to, place) {
         Lane::Nowhere => false,
         Lane::Whole => given > 0,
-        Lane::Block(b) => block_size(sig, shape, own.counts(), b) > 0,
+        Lane::Block(b) => block_size(&roll.sig, &roll.shape, own.counts(), b) > 0,
     }
 }

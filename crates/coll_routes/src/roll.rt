@@ -1,6 +1,6 @@
 //! The roll of an instance: who takes part, and what each has stated.
 ghost use Rattle.std.specs.Prelude.{◌≡◌, ◌↔◌, ◌<◌, length, IsTrue, slice_get, slice_set, replicate};
-ghost use Rattle.std.specs.Prelude.{Some, None, IfOk, IsErr};
+ghost use Rattle.std.specs.Prelude.{Some, None, IfSome, IfOk, IsErr};
 ghost use Rattle.std.specs.Option.{option_copied};
 ghost use Rattle.std.specs.List.{list_any};
 ghost use Rattle.mpi_cart.specs.Grids.{below};
@@ -23,7 +23,8 @@ pub struct Shape {
 }
 
 impl Shape {
-    ghost use Rattle.coll_routes.specs.Rolls.{slots};
+    ghost use Rattle.coll_routes.specs.Fit.{IsSized};
+    ghost use Rattle.coll_routes.specs.Rolls.{slots, neighbour_in};
 
     /// An equal shape. Takes memory only for the dimensions of a grid.
     pub fn copy(&self, alloc: Global) -> Result<Shape, NoMemory>
@@ -38,6 +39,29 @@ impl Shape {
             size: self.size,
             grid,
         })
+    }
+
+    /// The number of slots for neighbours: two for each dimension of the grid.
+    pub fn slots(&self) -> u32
+        ensures { result ≡ slots self.now }
+    {
+        match &self.grid {
+            Some(grid) => 2 * grid.ndims(),
+            None => 0,
+        }
+    }
+
+    /// The neighbour of a rank in a slot: nobody where there is no grid, or past an edge of it.
+    pub fn neighbour(&self, rank: u32, slot: u32) -> Option<u32>
+        requires grid { IsSized self.now }
+        requires rank { rank < self.now.size }
+        ensures value { result ≡ neighbour_in self.now.grid rank slot }
+        ensures below { IfSome result (λ q. q < self.now.size) }
+    {
+        match &self.grid {
+            Some(grid) => grid.neighbour(rank, slot),
+            None => None,
+        }
     }
 
     /// Whether both have one size, and the same grid or none.

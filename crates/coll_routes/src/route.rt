@@ -9,7 +9,7 @@ ghost use Rattle.coll_routes.specs.Signatures.{is_neighbourly};
 ghost use Rattle.coll_routes.specs.Fit.{IsFit, IsSized};
 ghost use Rattle.coll_routes.specs.Lanes.{place_by, covers};
 
-use super::lane::{Piece, cut, has_element, has_neighbour, neighbour_at, slot_count};
+use super::lane::{Piece, cut, has_element, has_neighbour};
 use super::roll::Roll;
 use super::signature::Signature;
 use super::statement::Stated;
@@ -38,16 +38,7 @@ pub fn piece(roll: &Roll, from: u32, to: u32, place: u32) -> Option<Piece>
     ensures filled { IfSome result (λ p. 0 < p.len) }
 {
     let sender = stated(roll, from);
-    let piece = cut(
-        &roll.sig,
-        &roll.shape,
-        &sender.own,
-        sender.given,
-        from,
-        to,
-        place,
-    );
-    match piece {
+    match cut(roll, &sender.own, sender.given, from, to, place) {
         Some(piece) => if piece.len > 0 { Some(piece) } else { None },
         None => None,
     }
@@ -76,10 +67,10 @@ pub fn places(roll: &Roll, to: u32) -> u32
         Signature::ReduceScatterBlock { .. } => 1,
         Signature::Scan { .. } => 1,
         Signature::Exscan { .. } => u32::from(to != 0),
-        Signature::NeighborAllgather { .. } => slot_count(&roll.shape),
-        Signature::NeighborAllgatherv { .. } => slot_count(&roll.shape),
-        Signature::NeighborAlltoall { .. } => slot_count(&roll.shape),
-        Signature::NeighborAlltoallv { .. } => slot_count(&roll.shape),
+        Signature::NeighborAllgather { .. } => roll.shape.slots(),
+        Signature::NeighborAllgatherv { .. } => roll.shape.slots(),
+        Signature::NeighborAlltoall { .. } => roll.shape.slots(),
+        Signature::NeighborAlltoallv { .. } => roll.shape.slots(),
         _ => 0,
     }
 }
@@ -92,7 +83,7 @@ pub fn is_missing(roll: &Roll, to: u32, place: u32) -> bool
     requires to { to < roll.now.shape.size }
     ensures { result ≡ is_missing_at roll.now to place }
 {
-    roll.sig.is_neighbourly() && neighbour_at(&roll.shape, to, place).is_none()
+    roll.sig.is_neighbourly() && roll.shape.neighbour(to, place).is_none()
 }
 
 // Where a rank sends to one place of each, that place; the kinds between neighbours aside.
@@ -120,15 +111,7 @@ pub(crate) fn sends_to(roll: &Roll, from: u32, to: u32, place: u32) -> bool
     ensures { result ≡ sends roll.now from to place }
 {
     let giver = stated(roll, from);
-    has_element(
-        &roll.sig,
-        &roll.shape,
-        &giver.own,
-        giver.given,
-        from,
-        to,
-        place,
-    )
+    has_element(roll, &giver.own, giver.given, from, to, place)
 }
 
 // Whether some element of a rank goes to a slot of another: only its neighbour's there can.
@@ -154,7 +137,7 @@ fn sends_to_slots(roll: &Roll, from: u32, to: u32) -> bool
     requires between { is_neighbourly roll.now.sig ≡ true }
     ensures { result ≡ list_any (λ t. sends roll.now from to t) (below (slots roll.now.shape)) }
 {
-    for slot in 0..slot_count(&roll.shape) {
+    for slot in 0..roll.shape.slots() {
         if sends_to_slot(roll, from, to, slot) {
             return true;
         }

@@ -9,7 +9,7 @@ ghost use Rattle.coll_routes.specs.Lanes.{covers, sizes_by};
 ghost use Rattle.coll_routes.specs.Spreads.{is_spread, sender as sender_at, spread_by, until_by};
 ghost use Rattle.coll_routes.specs.Spreads.{share_by, share_start, share_end};
 
-use super::lane::{Lane, Piece, block, neighbour_at};
+use super::lane::{Lane, Piece, block};
 use super::roll::{Roll, Shape};
 use super::route::{sends_to, stated};
 use super::signature::Signature;
@@ -81,7 +81,7 @@ pub fn sender(roll: &Roll, to: u32, place: u32) -> Option<u32>
     requires to { to < roll.now.shape.size }
     ensures { result ≡ sender_at roll.now to place }
 {
-    match neighbour_at(&roll.shape, to, place) {
+    match roll.shape.neighbour(to, place) {
         Some(from) => if sends_to(roll, from, to, place) {
             Some(from)
         } else {

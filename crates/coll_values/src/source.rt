@@ -2,27 +2,14 @@
 ghost use Rattle.std.specs.Prelude.{◌≡◌, ◌+◌, ◌<◌, ◌≤◌, ◌++◌, length, Some};
 ghost use Rattle.mpi_elems.specs.Contents.{elements, IsFit};
 ghost use Rattle.coll_routes.specs.Signatures.{elem_type};
-ghost use Rattle.coll_routes.specs.Rolls.{neighbour_in};
 ghost use Rattle.coll_routes.specs.Fit.{IsSized};
 ghost use Rattle.coll_values.specs.Instances.{IsWhole};
 ghost use Rattle.coll_values.specs.Sources.{source_by};
 ghost use Rattle.coll_values.specs.Values.{sent};
 
 use super::full::Full;
-use coll_routes::{Roll, Shape, Signature, piece};
+use coll_routes::{Roll, Signature, piece};
 use mpi_elems::Buffer;
-
-// The neighbour of a rank in a slot, if there is a grid.
-fn neighbour_at(shape: &Shape, rank: u32, slot: u32) -> Option<u32>
-    requires grid { IsSized shape.now }
-    requires rank { rank < shape.now.size }
-    ensures { result ≡ neighbour_in shape.now.grid rank slot }
-{
-    match &shape.grid {
-        Some(grid) => grid.neighbour(rank, slot),
-        None => None,
-    }
-}
 
 // The only rank that may send to a place, in a kind that doesn't reduce.
 #[tactic(auto, unfolding(crate::specs::Sources::source_by))]
@@ -41,10 +28,10 @@ pub(crate) fn source_of(roll: &Roll, to: u32, place: u32) -> Option<u32>
         Signature::Allgatherv { .. } => Some(place),
         Signature::Alltoall { .. } => Some(place),
         Signature::Alltoallv { .. } => Some(place),
-        Signature::NeighborAllgather { .. } => neighbour_at(&roll.shape, to, place),
-        Signature::NeighborAllgatherv { .. } => neighbour_at(&roll.shape, to, place),
-        Signature::NeighborAlltoall { .. } => neighbour_at(&roll.shape, to, place),
-        Signature::NeighborAlltoallv { .. } => neighbour_at(&roll.shape, to, place),
+        Signature::NeighborAllgather { .. } => roll.shape.neighbour(to, place),
+        Signature::NeighborAllgatherv { .. } => roll.shape.neighbour(to, place),
+        Signature::NeighborAlltoall { .. } => roll.shape.neighbour(to, place),
+        Signature::NeighborAlltoallv { .. } => roll.shape.neighbour(to, place),
         _ => None,
     }
 }

@@ -1,9 +1,9 @@
 //! What comes to the receivers of an instance, kept from one to the next where it is the same.
 ghost use Rattle.std.specs.Prelude.{◌≡◌, ℕ, ◌+◌, ◌<◌, ◌≤◌, ◌^◌, ◌-◌, slice_index_or, if◌then◌else◌};
-ghost use Rattle.std.specs.Prelude.{IfSome, true, false};
+ghost use Rattle.std.specs.Prelude.{true, false};
 ghost use Rattle.std.specs.FinSet as sets;
-ghost use Rattle.coll_routes.specs.Fit.{IsFit, IsSized};
-ghost use Rattle.coll_routes.specs.Rolls.{places as places_of, neighbour_in};
+ghost use Rattle.coll_routes.specs.Fit.{IsFit};
+ghost use Rattle.coll_routes.specs.Rolls.{places as places_of};
 ghost use Rattle.coll_routes.specs.Signatures.{is_neighbourly};
 ghost use Rattle.wall_rules.specs.Histories.{AddsRivals};
 ghost use Rattle.wall_verdict.specs.Charges.{contributors, different_datasets, contributed};
@@ -13,7 +13,7 @@ ghost use Rattle.wall_verdict.specs.Inflows.{all_at, from_slot, IsTaken, IsTaken
 ghost use Rattle.wall_verdict.specs.Inflows.{IsInflowOf, IsWhole, Serves};
 
 use super::charge::{add_another, contribution, is_enough};
-use coll_routes::{Roll, Shape, Signature, places};
+use coll_routes::{Roll, Signature, places};
 use wall_labels::{DatasetId, LabelSet};
 use wall_policy::Policy;
 use wall_rules::Histories;
@@ -178,20 +178,8 @@ fn from_slot(roll: &Roll, slot: u32, to: u32) -> Option<DatasetId>
     requires to { to < roll.now.shape.size }
     ensures { result ≡ from_slot roll.now slot to }
 {
-    match neighbour_of(&roll.shape, to, slot) {
+    match roll.shape.neighbour(to, slot) {
         Some(from) => contribution(roll, from, to),
-        None => None,
-    }
-}
-
-fn neighbour_of(shape: &Shape, rank: u32, slot: u32) -> Option<u32>
-    requires grid { IsSized shape.now }
-    requires rank { rank < shape.now.size }
-    ensures value { result ≡ neighbour_in shape.now.grid rank slot }
-    ensures below { IfSome result (λ q. q < shape.now.size) }
-{
-    match &shape.grid {
-        Some(grid) => grid.neighbour(rank, slot),
         None => None,
     }
 }

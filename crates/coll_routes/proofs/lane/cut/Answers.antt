@@ -8,36 +8,41 @@ use Rattle.coll_routes.proofs.lane.cut.Goals as goal
 pub block-requires : goal.block-requires
 block-requires c =
     rw c.counts.ensures
-    (let all : sum (sizes_by c.args.sig.now c.args.shape.now (counts_in c.args.own.now)) ≡
-    c.args.given = blocks_fit c.args.sig.now c.args.shape.now c.args.own.now _ c.args.from
+    (let all : sum (sizes_by c.args.roll.now.sig c.args.roll.now.shape (counts_in c.args.own.now)) ≡
+    c.args.given = blocks_fit c.args.roll.now.sig c.args.roll.now.shape c.args.own.now _ c.args.from
     c.args.to c.args.place _ c.in-Block.b c.requires.sound (sym (c.in-Block.ensures)) in
     omega arith)
 
 pub returns-in-Nowhere-clause-covers : goal.returns-in-Nowhere-clause-covers
-returns-in-Nowhere-clause-covers c = covers_nowhere c.args.sig.now c.args.shape.now c.args.own.now
+returns-in-Nowhere-clause-covers c = covers_nowhere c.args.roll.now.sig c.args.roll.now.shape
+    c.args.own.now
     c.args.given c.args.from c.args.to c.args.place (c.in-Nowhere.ensures)
 
 pub returns-in-Whole-clause-covers : goal.returns-in-Whole-clause-covers
-returns-in-Whole-clause-covers c = covers_whole c.args.sig.now c.args.shape.now c.args.own.now
+returns-in-Whole-clause-covers c = covers_whole c.args.roll.now.sig c.args.roll.now.shape
+    c.args.own.now
     c.args.given c.args.from c.args.to c.args.place (c.in-Whole.ensures)
 
 pub returns-in-Block-clause-covers : goal.returns-in-Block-clause-covers
 returns-in-Block-clause-covers c =
-    covers_block c.args.sig.now c.args.shape.now c.args.own.now c.args.given c.args.from c.args.to
+    covers_block c.args.roll.now.sig c.args.roll.now.shape c.args.own.now c.args.given c.args.from
+    c.args.to
     c.args.place c.in-Block.b c.block.result.start c.block.result.len (c.in-Block.ensures)
     (c.block.ensures.start
-    ∙ ap (λ counts. sum (take c.in-Block.b (sizes_by c.args.sig.now c.args.shape.now counts)))
+    ∙ ap (λ counts. sum (take c.in-Block.b (sizes_by c.args.roll.now.sig c.args.roll.now.shape
+    counts)))
     c.counts.ensures)
     (c.block.ensures.end
     ∙ ap (λ counts.
-    sum (take (c.in-Block.b + 1) (sizes_by c.args.sig.now c.args.shape.now counts)))
+    sum (take (c.in-Block.b + 1) (sizes_by c.args.roll.now.sig c.args.roll.now.shape counts)))
     c.counts.ensures)
 
 pub returns-in-Block-clause-within : goal.returns-in-Block-clause-within
 returns-in-Block-clause-within c =
-    ends_within c.args.sig.now c.args.shape.now c.args.own.now c.args.given c.args.from c.args.to
+    ends_within c.args.roll.now.sig c.args.roll.now.shape c.args.own.now c.args.given c.args.from
+    c.args.to
     c.args.place _ c.in-Block.b _ c.requires.sound (c.in-Block.ensures)
     (c.block.ensures.end
     ∙ ap (λ counts.
-    sum (take (c.in-Block.b + 1) (sizes_by c.args.sig.now c.args.shape.now counts)))
+    sum (take (c.in-Block.b + 1) (sizes_by c.args.roll.now.sig c.args.roll.now.shape counts)))
     c.counts.ensures)
