@@ -1,5 +1,5 @@
 -- Where the ranks of a run stand, and what may be said of it at any time. (Own rules.)
-use Rattle.std.specs.Prelude.{◌≡◌, ◌≢◌, ◌↔◌, ◌⊎◌, ℕ, ◌+◌, ◌<◌, ◌≤◌, Bool, true, false, List, Option}
+use Rattle.std.specs.Prelude.{◌≡◌, ◌≢◌, ◌↔◌, ◌⊎◌, ℕ, ◌+◌, ◌<◌, ◌≤◌, Bool, true, false, List, Option, length}
 use Rattle.std.specs.Prelude.{Some, None, IfSome, IsSome, min, slice_index_or}
 use Rattle.rank_stage.specs.declared.board.Instance.{Instance}
 use Rattle.rank_stage.specs.declared.board.Place.{Place}
@@ -65,3 +65,27 @@ pub record HasComeToLine (before after : Board) (rank : ℕ) : Type 0 where
   pub slept : place_of before rank ≡ Sleeps it
   pub settled : it.number < settled_on after it.comm
   pub stands : place_of after rank ≡ InLine
+
+-- the rank slept, and now stands in line
+pub record HasWoken (before after : Board) (rank : ℕ) : Type 0 where
+  pub it : Instance
+  pub slept : place_of before rank ≡ Sleeps it
+  pub stands : place_of after rank ≡ InLine
+
+-- nobody but the rank is awake
+abbrev pub IsLastAwake : Board → (rank : ℕ) → Type 0
+IsLastAwake board rank = (other : ℕ) → other ≢ rank → is_awake (place_of board other) ≡ false
+
+-- Nobody but the rank has moved, unless it has come from the line to play.
+pub record OthersStay (before after : Board) (rank : ℕ) : Type 0 where
+  pub same : (other : ℕ) → other ≢ rank → place_of after other ≢ Plays
+      → place_of after other ≡ place_of before other
+  pub from : (other : ℕ) → other ≢ rank → place_of after other ≡ Plays
+      → place_of before other ≢ Plays → place_of before other ≡ InLine
+
+-- A board of so many ranks, all awake, with so many communicators, on which nothing has settled.
+pub record Opens (board : Board) (ranks communicators : ℕ) : Type 0 where
+  pub places : length board.places.items ≡ ranks
+  pub awake : (rank : ℕ) → rank < ranks → is_awake (place_of board rank) ≡ true
+  pub counts : length board.settled.items ≡ communicators
+  pub none : (comm : ℕ) → settled_on board comm ≡ 0

@@ -8,6 +8,9 @@ ghost use Rattle.rank_stage.specs.declared.board.Lying.TheVariants.{Stays, Sleep
 ghost use Rattle.rank_stage.specs.declared.board.Instance.{Instance};
 ghost use Rattle.rank_stage.specs.Boards.{IsInLineOrNone, place_of, settled_on, is_awake, IsHeard};
 ghost use Rattle.rank_stage.specs.Boards.{PlaysAlone, IsWatched, IsOrderly, Calls, HasComeToLine};
+ghost use Rattle.rank_stage.specs.declared.board.Rest.TheVariants.{Stays as IsUp, Sleeps as Rests};
+ghost use Rattle.rank_stage.specs.declared.board.Call.{Call};
+ghost use Rattle.rank_stage.specs.Boards.{HasWoken, IsLastAwake, OthersStay, Opens};
 
 use std::alloc::{AllocError, Global};
 
@@ -44,22 +47,21 @@ pub(crate) struct Board {
 
 // So many places in line.
 fn places_in_line(alloc: Global, ranks: usize) -> Result<Vec<Place>, AllocError>
-    ensures { IfOk result
+    ensures places { IfOk result
         (λ places. (rank : ℕ) → IsInLineOrNone (slice_index_or places.items rank Ended)) }
+    ensures in_line { IfOk result (λ places. (rank : ℕ) → rank < ranks →
+        slice_index_or places.items rank Ended ≡ InLine) }
+    ensures len { IfOk result (λ places. length places.items ≡ ranks) }
 {
-    let mut places = Vec::with_capacity(alloc, ranks)?;
-    for _ in 0..ranks {
-        places.push(Place::InLine)?;
-    }
-    Ok(places)
+    vec![in alloc; Place::InLine; ranks]
 }
 
-fn no_counts(alloc: Global, communicators: usize) -> Result<Vec<u64>, AllocError> {
-    let mut counts = Vec::with_capacity(alloc, communicators)?;
-    for _ in 0..communicators {
-        counts.push(0)?;
-    }
-    Ok(counts)
+// So many counts, of which each is 0.
+fn no_counts(alloc: Global, communicators: usize) -> Result<Vec<u64>, AllocError>
+    ensures none { IfOk result (λ counts. (comm : ℕ) → slice_index_or counts.items comm 0 ≡ 0) }
+    ensures len { IfOk result (λ counts. length counts.items ≡ communicators) }
+{
+    vec![in alloc; 0; communicators]
 }
 
 impl Board {
@@ -141,6 +143,7 @@ impl Board {
         ensures from { (rank : ℕ) → place_of self.new rank ≡ Plays →
             place_of self.old rank ≡ InLine }
         ensures settled { self.new.settled ≡ self.old.settled }
+        ensures len { length self.new.places.items ≡ length self.old.places.items }
     {
         let rank = self.first_in_line()?;
         self.next = rank.wrapping_add(1);
@@ -153,6 +156,7 @@ impl Board {
     fn others_are_awake(&self, rank: usize) -> bool
         ensures yes { result ≡ true →
             (other : ℕ) × (other ≢ rank) × (is_awake (place_of self.now other) ≡ true) }
+        ensures no { result ≡ false → IsLastAwake self.now rank }
     {
         for other in 0..self.places.len() {
             if other != rank && self.is_awake(other) {
@@ -198,8 +202,8 @@ impl Board {
         ensures orderly { IsOrderly self.new }
         ensures calls { Calls self.old self.new result }
         ensures place { place_of self.new rank ≡ place }
-        ensures stays { (other : ℕ) → other ≢ rank → place_of self.new other ≢ Plays →
-            place_of self.new other ≡ place_of self.old other }
+        ensures stay { OthersStay self.old self.new rank }
+        ensures settled { self.new.settled ≡ self.old.settled }
     {
         self.set(rank, place);
         self.player = None;
@@ -212,8 +216,9 @@ impl Board {
         ensures orderly { IsOrderly self.new }
         ensures calls { Calls self.old self.new result }
         ensures aside { place_of self.old rank ≡ Plays → place_of self.new rank ≡ Aside }
-        ensures stays { (other : ℕ) → other ≢ rank → place_of self.new other ≢ Plays →
-            place_of self.new other ≡ place_of self.old other }
+        ensures same { place_of self.old rank ≢ Plays → self.new ≡ self.old }
+        ensures stay { OthersStay self.old self.new rank }
+        ensures settled { self.new.settled ≡ self.old.settled }
     {
         if !self.plays(rank) {
             return None;
@@ -229,8 +234,10 @@ impl Board {
         ensures plays { result ≡ true → place_of self.new rank ≡ Plays }
         ensures in_line { result ≡ false → place_of self.old rank ≡ Aside →
             place_of self.new rank ≡ InLine }
+        ensures same { place_of self.old rank ≢ Aside → self.new ≡ self.old }
         ensures others { (other : ℕ) → other ≢ rank →
             place_of self.new other ≡ place_of self.old other }
+        ensures settled { self.new.settled ≡ self.old.settled }
     {
         let Place::Aside = self.place_of(rank) else {
             return self.plays(rank);
@@ -252,8 +259,10 @@ impl Board {
         ensures lies { (called : Option ℕ) → result ≡ Sleeps called
             → Calls self.old self.new called × (place_of self.new rank ≡ AtRest it) }
         ensures awake { result ≡ Stays → self.new ≡ self.old }
-        ensures stays { (other : ℕ) → other ≢ rank → place_of self.new other ≢ Plays →
-            place_of self.new other ≡ place_of self.old other }
+        ensures only { result ≡ Stays → place_of self.old rank ≡ Plays →
+            settled_on self.old it.comm ≤ it.number → IsLastAwake self.old rank }
+        ensures stay { OthersStay self.old self.new rank }
+        ensures settled { self.new.settled ≡ self.old.settled }
     {
         if !self.plays(rank) || self.has_settled(it) || !self.others_are_awake(rank) {
             return Lying::Stays;
@@ -326,8 +335,9 @@ impl Board {
         ensures watched { IsWatched self.new }
         ensures ended { (rank : ℕ) → place_of self.old rank ≡ Ended →
             place_of self.new rank ≡ Ended }
-        ensures stays { (rank : ℕ) → place_of self.new rank ≡ Plays →
-            place_of self.old rank ≡ Plays }
+        ensures only { (rank : ℕ) → place_of self.new rank ≢ place_of self.old rank →
+            HasWoken self.old self.new rank }
+        ensures settled { self.new.settled ≡ self.old.settled }
         ensures player { self.new.player ≡ self.old.player }
     {
         if let Some(rank) = self.first_asleep() {
@@ -343,6 +353,7 @@ impl Board {
         ensures ended { place_of self.new rank ≡ Ended }
         ensures others { (other : ℕ) → other ≢ rank →
             place_of self.new other ≡ place_of self.old other }
+        ensures settled { self.new.settled ≡ self.old.settled }
     {
         if rank < self.places.len() {
             self.set(rank, Place::Ended);
@@ -359,6 +370,11 @@ impl Board {
         ensures orderly { IsOrderly self.new }
         ensures ended { place_of self.new rank ≡ Ended }
         ensures calls { Calls self.old self.new result }
+        ensures others { (other : ℕ) → other ≢ rank → place_of self.new other ≢ Plays →
+            place_of self.new other ≢ place_of self.old other → HasWoken self.old self.new other }
+        ensures from { (other : ℕ) → place_of self.new other ≡ Plays →
+            (place_of self.old other ≢ Aside) × (place_of self.old other ≢ Ended) }
+        ensures settled { self.new.settled ≡ self.old.settled }
     {
         self.take_off(rank);
         if !self.others_are_awake(rank) {
@@ -381,6 +397,10 @@ impl Board {
         ensures more { settled_on self.old comm < 2 ^ 64 - 1 →
             comm < length self.old.settled.items →
             settled_on self.new comm ≡ settled_on self.old comm + 1 }
+        ensures others { (other : ℕ) → other ≢ comm →
+            settled_on self.new other ≡ settled_on self.old other }
+        ensures from { (rank : ℕ) → place_of self.new rank ≡ Plays →
+            (place_of self.old rank ≢ Aside) × (place_of self.old rank ≢ Ended) }
     {
         self.count(comm);
         self.call_sleepers();
@@ -396,7 +416,9 @@ pub(crate) struct Call(Option<usize>);
 
 impl Call {
     /// The rank to call, if there is one.
-    pub(crate) fn rank(self) -> Option<usize> {
+    pub(crate) fn rank(self) -> Option<usize>
+        ensures { result ≡ self.0 }
+    {
         let Call(rank) = self;
         rank
     }
@@ -423,7 +445,10 @@ impl Standing {
         alloc: Global,
         ranks: usize,
         communicators: usize,
-    ) -> Result<(Standing, Call), AllocError> {
+    ) -> Result<(Standing, Call), AllocError>
+        ensures opens { IfOk result (λ opened. Opens opened.0.board ranks communicators) }
+        ensures called { IfOk result (λ opened. opened.1.0 ≡ opened.0.board.player) }
+    {
         let places = places_in_line(alloc, ranks)?;
         let settled = no_counts(alloc, communicators)?;
         let mut board = Board {
@@ -437,19 +462,40 @@ impl Standing {
     }
 
     /// The rank, if it plays, steps aside: it makes no call for a while.
-    pub(crate) fn step_aside(&mut self, rank: usize) -> Call {
+    pub(crate) fn step_aside(&mut self, rank: usize) -> Call
+        ensures calls { Calls self.old.board self.new.board result.0 }
+        ensures aside { place_of self.old.board rank ≡ Plays →
+            place_of self.new.board rank ≡ Aside }
+        ensures stay { OthersStay self.old.board self.new.board rank }
+        ensures settled { self.new.board.settled ≡ self.old.board.settled }
+    {
         Call(self.board.step_aside(rank))
     }
 
     /// A rank that had stepped aside comes back: it plays at once, or stands in line. Gives whether
     /// it plays.
-    pub(crate) fn step_back(&mut self, rank: usize) -> bool {
+    pub(crate) fn step_back(&mut self, rank: usize) -> bool
+        ensures plays { result ≡ true → place_of self.new.board rank ≡ Plays }
+        ensures in_line { result ≡ false → place_of self.old.board rank ≡ Aside →
+            place_of self.new.board rank ≡ InLine }
+        ensures others { (other : ℕ) → other ≢ rank →
+            place_of self.new.board other ≡ place_of self.old.board other }
+        ensures settled { self.new.board.settled ≡ self.old.board.settled }
+    {
         self.board.step_back(rank)
     }
 
     /// The rank, if it plays, lies down to sleep until the instance settles. It does not where that
     /// has settled, or where no other rank is awake.
-    pub(crate) fn lie_down(&mut self, rank: usize, it: Instance) -> Rest {
+    pub(crate) fn lie_down(&mut self, rank: usize, it: Instance) -> Rest
+        ensures lies { (call : Call) → result ≡ Rests call → Calls self.old.board self.new.board call.0
+            × (place_of self.new.board rank ≡ AtRest it) }
+        ensures awake { result ≡ IsUp → self.new.board ≡ self.old.board }
+        ensures only { result ≡ IsUp → place_of self.old.board rank ≡ Plays →
+            settled_on self.old.board it.comm ≤ it.number → IsLastAwake self.old.board rank }
+        ensures stay { OthersStay self.old.board self.new.board rank }
+        ensures settled { self.new.board.settled ≡ self.old.board.settled }
+    {
         match self.board.lie_down(rank, it) {
             Lying::Stays => Rest::Stays,
             Lying::Sleeps(called) => Rest::Sleeps(Call(called)),
@@ -457,18 +503,38 @@ impl Standing {
     }
 
     /// Whether the instance has settled.
-    pub(crate) fn has_settled(&self, it: Instance) -> bool {
+    pub(crate) fn has_settled(&self, it: Instance) -> bool
+        ensures yes { result ≡ true → it.number < settled_on self.now.board it.comm }
+        ensures no { result ≡ false → settled_on self.now.board it.comm ≤ it.number }
+    {
         self.board.has_settled(it)
     }
 
     /// One more instance has settled on the communicator: whoever sleeps for it stands in line.
-    pub(crate) fn settle(&mut self, comm: u32) -> Call {
+    pub(crate) fn settle(&mut self, comm: u32) -> Call
+        ensures calls { Calls self.old.board self.new.board result.0 }
+        ensures only { (rank : ℕ) → place_of self.new.board rank ≢ Plays →
+            place_of self.new.board rank ≢ place_of self.old.board rank →
+            HasComeToLine self.old.board self.new.board rank }
+        ensures more { settled_on self.old.board comm < 2 ^ 64 - 1 →
+            comm < length self.old.board.settled.items →
+            settled_on self.new.board comm ≡ settled_on self.old.board comm + 1 }
+        ensures others { (other : ℕ) → other ≢ comm →
+            settled_on self.new.board other ≡ settled_on self.old.board other }
+    {
         Call(self.board.settle(comm))
     }
 
     /// The rank has ended, wherever it stood. Where that was the last that was awake, one that
     /// sleeps is to play.
-    pub(crate) fn end(&mut self, rank: usize) -> Call {
+    pub(crate) fn end(&mut self, rank: usize) -> Call
+        ensures calls { Calls self.old.board self.new.board result.0 }
+        ensures ended { place_of self.new.board rank ≡ Ended }
+        ensures others { (other : ℕ) → other ≢ rank → place_of self.new.board other ≢ Plays →
+            place_of self.new.board other ≢ place_of self.old.board other →
+            HasWoken self.old.board self.new.board other }
+        ensures settled { self.new.board.settled ≡ self.old.board.settled }
+    {
         Call(self.board.end(rank))
     }
 }

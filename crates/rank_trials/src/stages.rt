@@ -1,36 +1,343 @@
-//! A stage by itself: its ranks begin at the start, one after the other or all, or go home.
-use rank_stage::Stage;
+//! A stage by itself: many ranks play at it without a hall, one at a time, and count what they see.
+//!
+//! Each rank has a thread. The test looks at their counts, and fails after too many looks: a rank
+//! that is left asleep, and one that never begins, end a test too.
+use rank_stage::{Instance, Stage};
+use std::process::Abort;
+use std::sync::Wait;
+use std::sync::atomic::{AtomicU64, Ordering};
 use std::test::Fail;
+use std::thread;
+use std::thread::Threads;
 
-/// One plays at a time: who comes next begins where the one before has ended.
+/// How often the counts are looked at before a test fails.
+const LOOKS: u64 = 10_000_000;
+
+/// On how many communicators the ranks post.
+const COMMS: u32 = 3;
+
+/// What the ranks of a stage see.
+#[derive(Drop)]
+struct Sight {
+    /// How many ranks there are.
+    ranks: u64,
+    /// How many have begun, and ended.
+    begun: AtomicU64,
+    ended: AtomicU64,
+    /// How many went home.
+    home: AtomicU64,
+    /// How many play: one at most.
+    playing: AtomicU64,
+    /// How many posts were made, on each communicator.
+    posts: [AtomicU64; 3],
+    /// How many of those who slept for something that never settles were told so.
+    told: AtomicU64,
+    /// What does not fit.
+    wrong: AtomicU64,
+}
+
+fn new_sight(ranks: u64) -> Sight {
+    Sight {
+        ranks,
+        begun: AtomicU64::new(0),
+        ended: AtomicU64::new(0),
+        home: AtomicU64::new(0),
+        playing: AtomicU64::new(0),
+        posts: [AtomicU64::new(0), AtomicU64::new(0), AtomicU64::new(0)],
+        told: AtomicU64::new(0),
+        wrong: AtomicU64::new(0),
+    }
+}
+
+fn add_one(count: &AtomicU64) -> u64 {
+    count.fetch_add(1, Ordering::SeqCst)
+}
+
+impl Sight {
+    fn expect(&self, is: bool) {
+        if !is {
+            add_one(&self.wrong);
+        }
+    }
+
+    /// It plays, and nobody else does.
+    fn enter(&self) {
+        self.expect(add_one(&self.playing) == 0);
+    }
+
+    /// It plays no more. Another that played meanwhile was seen.
+    fn leave(&self) {
+        self.expect(self.playing.fetch_sub(1, Ordering::SeqCst) == 1);
+    }
+
+    fn begin<R: Wait>(&self, rt: &R, stage: &Stage, rank: usize) {
+        self.expect(stage.begin(rt, rank));
+        self.enter();
+        add_one(&self.begun);
+    }
+
+    fn end<R: Wait>(&self, rt: &R, stage: &Stage, rank: usize) {
+        self.leave();
+        stage.end(rt, rank);
+        add_one(&self.ended);
+    }
+
+    /// A post on a communicator, which settles the instance if it is the last.
+    fn post<R: Wait>(&self, rt: &R, stage: &Stage, comm: u32) {
+        let Some(posts) = self.posts.get(comm as usize) else {
+            return;
+        };
+        let before = add_one(posts);
+        if before.wrapping_add(1).is_multiple_of(self.ranks.max(1)) {
+            stage.settle(rt, comm);
+        }
+    }
+
+    fn has_settled(&self, it: Instance) -> bool {
+        let Some(posts) = self.posts.get(it.comm as usize) else {
+            return false;
+        };
+        posts.load(Ordering::SeqCst) / self.ranks.max(1) > it.number
+    }
+
+    /// It sleeps, and is told whether the instance has settled.
+    fn sleep<R: Wait>(&self, rt: &R, stage: &Stage, rank: usize, it: Instance) -> bool {
+        self.leave();
+        let settled = stage.sleep(rt, rank, it);
+        self.enter();
+        self.expect(settled == self.has_settled(it));
+        settled
+    }
+
+    /// It steps aside, and comes back.
+    fn compute<R: Wait>(&self, rt: &R, stage: &Stage, rank: usize) {
+        self.leave();
+        stage.step_aside(rt, rank);
+        thread::yield_now();
+        stage.step_back(rt, rank);
+        self.enter();
+    }
+}
+
+/// A count comes to a number. Fails after too many looks.
+fn await_count<R: Abort>(rt: &R, count: &AtomicU64, wanted: u64) {
+    for _ in 0..LOOKS {
+        if count.load(Ordering::SeqCst) >= wanted {
+            return;
+        }
+        thread::yield_now();
+    }
+    assert!(rt; false, "a rank is left asleep");
+}
+
+fn stands<R: Abort>(rt: &R, count: &AtomicU64, wanted: u64) {
+    assert!(rt; count.load(Ordering::SeqCst) == wanted);
+}
+
+/// What a rank does once it may.
+#[derive(Clone, Copy)]
+enum Plan {
+    /// So often: it posts on one communicator after another, and sleeps until that has settled; now
+    /// and then it computes beside the others.
+    Rounds(u64),
+    /// It waits for what never settles.
+    InVain,
+    /// It goes home.
+    GoHome,
+}
+
+fn play_rounds<R: Wait>(rt: &R, stage: &Stage, sight: &Sight, rank: usize, rounds: u64) {
+    sight.begin(rt, stage, rank);
+    for number in 0..rounds {
+        for comm in 0..COMMS {
+            sight.post(rt, stage, comm);
+            sight.expect(sight.sleep(rt, stage, rank, Instance { comm, number }));
+        }
+        if (number ^ rank as u64).is_multiple_of(4) {
+            sight.compute(rt, stage, rank);
+        }
+    }
+    sight.end(rt, stage, rank);
+}
+
+fn play_in_vain<R: Wait>(rt: &R, stage: &Stage, sight: &Sight, rank: usize) {
+    sight.begin(rt, stage, rank);
+    let comm = rank as u32 % COMMS;
+    if !sight.sleep(rt, stage, rank, Instance { comm, number: 0 }) {
+        add_one(&sight.told);
+    }
+    sight.end(rt, stage, rank);
+}
+
+fn play<R: Wait>(rt: &R, stage: &Stage, sight: &Sight, rank: usize, plan: Plan) {
+    match plan {
+        Plan::Rounds(rounds) => play_rounds(rt, stage, sight, rank, rounds),
+        Plan::InVain => play_in_vain(rt, stage, sight, rank),
+        Plan::GoHome => {
+            sight.expect(!stage.begin(rt, rank));
+            add_one(&sight.home);
+        }
+    }
+}
+
+/// Gives the threads time to do what they should not.
+fn linger() {
+    for _ in 0..2000 {
+        thread::yield_now();
+    }
+}
+
+/// A thread for each rank; nobody begins before the start, and all come to their ends.
+fn play_all<R: Threads + Wait + Sync + Abort>(rt: &R, stage: &Stage, sight: &Sight, plan: Plan) {
+    thread::scope(thread::scope_env(), rt, |scope| {
+        for rank in 0..sight.ranks as usize {
+            let refused = scope
+                .spawn(move || play(rt, stage, sight, rank, plan))
+                .is_err();
+            assert!(rt; !refused);
+        }
+        linger();
+        stands(rt, &sight.begun, 0);
+        stands(rt, &sight.home, 0);
+        match plan {
+            Plan::GoHome => {
+                stage.give_up();
+                await_count(rt, &sight.home, sight.ranks);
+            }
+            Plan::Rounds(_) | Plan::InVain => {
+                stage.start();
+                await_count(rt, &sight.ended, sight.ranks);
+            }
+        }
+    });
+    stands(rt, &sight.wrong, 0);
+}
+
+/// Ranks that post and sleep, two of them often, many of them now and then, on several
+/// communicators: each sleeps until what it waits for has settled, and one plays at a time.
 #[test]
-fn ranks_begin_one_after_the_other(rt: HostRuntime) -> Result<(), Fail> {
-    let stage = Stage::new(rt.alloc(), 2, 1, false)?;
-    stage.start();
-    assert!(rt; stage.begin(&rt, 0));
-    stage.end(&rt, 0);
-    assert!(rt; stage.begin(&rt, 1));
+fn ranks_sleep_until_their_instances_settle(rt: HostRuntime) -> Result<(), Fail> {
+    for (ranks, rounds) in [(1, 3), (2, 500), (3, 300), (8, 60), (64, 6), (256, 2)] {
+        let stage = Stage::new(rt.alloc(), ranks as usize, COMMS as usize, false)?;
+        let sight = new_sight(ranks);
+        play_all(&rt, &stage, &sight, Plan::Rounds(rounds));
+        stands(&rt, &sight.begun, ranks);
+    }
     Ok(())
 }
 
-/// All play.
+/// Ranks that wait for what never settles: the last that is awake is told so, and as it ends, the
+/// next.
 #[test]
-fn all_ranks_begin_at_once(rt: HostRuntime) -> Result<(), Fail> {
-    let stage = Stage::new(rt.alloc(), 2, 1, true)?;
-    stage.start();
-    assert!(rt; stage.begin(&rt, 1));
-    assert!(rt; stage.begin(&rt, 0));
+fn ranks_that_wait_in_vain_are_told_so(rt: HostRuntime) -> Result<(), Fail> {
+    for ranks in [1, 2, 3, 8, 64, 256] {
+        let stage = Stage::new(rt.alloc(), ranks as usize, COMMS as usize, false)?;
+        let sight = new_sight(ranks);
+        play_all(&rt, &stage, &sight, Plan::InVain);
+        stands(&rt, &sight.told, ranks);
+    }
     Ok(())
 }
 
-/// No rank begins where the run is given up.
+/// No rank begins where the run is given up, whether one plays at a time or all.
 #[test]
 fn ranks_go_home_where_a_run_is_given_up(rt: HostRuntime) -> Result<(), Fail> {
-    for open in [false, true] {
-        let stage = Stage::new(rt.alloc(), 2, 1, open)?;
-        stage.give_up();
-        assert!(rt; !stage.begin(&rt, 0));
-        assert!(rt; !stage.begin(&rt, 1));
+    for (ranks, open) in [(1, false), (1, true), (64, false), (64, true)] {
+        let stage = Stage::new(rt.alloc(), ranks as usize, COMMS as usize, open)?;
+        let sight = new_sight(ranks);
+        play_all(&rt, &stage, &sight, Plan::GoHome);
     }
+    Ok(())
+}
+
+/// The ranks of an open stage begin at its start, and each goes on while another has not ended.
+fn play_open<R: Wait>(rt: &R, stage: &Stage, sight: &Sight, rank: usize) {
+    sight.expect(stage.begin(rt, rank));
+    add_one(&sight.begun);
+    let it = Instance { comm: 0, number: 0 };
+    for _ in 0..LOOKS {
+        if sight.begun.load(Ordering::SeqCst) >= sight.ranks {
+            break;
+        }
+        sight.expect(stage.sleep(rt, rank, it));
+    }
+    stage.step_aside(rt, rank);
+    stage.step_back(rt, rank);
+    sight.expect(sight.begun.load(Ordering::SeqCst) == sight.ranks);
+    stage.settle(rt, 0);
+    stage.end(rt, rank);
+    add_one(&sight.ended);
+}
+
+/// On an open stage all play, and nobody sleeps.
+#[test]
+fn all_ranks_play_on_an_open_stage(rt: HostRuntime) -> Result<(), Fail> {
+    for ranks in [1, 2, 64] {
+        let stage = Stage::new(rt.alloc(), ranks as usize, 1, true)?;
+        let sight = new_sight(ranks);
+        play_all_open(&rt, &stage, &sight);
+    }
+    Ok(())
+}
+
+fn play_all_open<R: Threads + Wait + Sync + Abort>(rt: &R, stage: &Stage, sight: &Sight) {
+    thread::scope(thread::scope_env(), rt, |scope| {
+        for rank in 0..sight.ranks as usize {
+            let refused = scope
+                .spawn(move || play_open(rt, stage, sight, rank))
+                .is_err();
+            assert!(rt; !refused);
+        }
+        linger();
+        stands(rt, &sight.begun, 0);
+        stage.start();
+        await_count(rt, &sight.ended, sight.ranks);
+    });
+    stands(rt, &sight.wrong, 0);
+}
+
+/// Rank 0 steps aside until rank 1 has ended, so rank 1 plays meanwhile.
+fn step_aside_for_another<R: Wait>(rt: &R, stage: &Stage, sight: &Sight) {
+    sight.begin(rt, stage, 0);
+    sight.leave();
+    stage.step_aside(rt, 0);
+    for _ in 0..LOOKS {
+        if sight.ended.load(Ordering::SeqCst) == 1 {
+            break;
+        }
+        thread::yield_now();
+    }
+    sight.expect(sight.ended.load(Ordering::SeqCst) == 1);
+    stage.step_back(rt, 0);
+    sight.enter();
+    sight.end(rt, stage, 0);
+}
+
+fn begin_and_end<R: Wait>(rt: &R, stage: &Stage, sight: &Sight) {
+    sight.begin(rt, stage, 1);
+    sight.end(rt, stage, 1);
+}
+
+fn aside<R: Threads + Wait + Sync + Abort>(rt: &R, stage: &Stage, sight: &Sight) {
+    thread::scope(thread::scope_env(), rt, |scope| {
+        let first = scope
+            .spawn(move || step_aside_for_another(rt, stage, sight))
+            .is_err();
+        let second = scope
+            .spawn(move || begin_and_end(rt, stage, sight))
+            .is_err();
+        assert!(rt; !first && !second);
+        stage.start();
+        await_count(rt, &sight.ended, 2);
+    });
+    stands(rt, &sight.wrong, 0);
+}
+
+/// Another plays while a rank has stepped aside.
+#[test]
+fn a_rank_that_steps_aside_makes_room(rt: HostRuntime) -> Result<(), Fail> {
+    let stage = Stage::new(rt.alloc(), 2, 1, false)?;
+    let sight = new_sight(2);
+    aside(&rt, &stage, &sight);
     Ok(())
 }
