@@ -5,6 +5,8 @@ use Rattle.rank_stage.specs.declared.board.Instance.{Instance}
 use Rattle.rank_stage.specs.declared.board.Place.{Place}
 use Rattle.rank_stage.specs.declared.board.Place.TheVariants.{Plays, InLine, Aside, Sleeps, Ended}
 use Rattle.rank_stage.specs.declared.board.Board.{Board}
+use Rattle.rank_stage.specs.declared.board.Rest.{Rest}
+use Rattle.rank_stage.specs.declared.board.Rest.TheVariants.{Stays as IsUp, Sleeps as Rests}
 
 -- where the rank stands; what is no rank has ended
 abbrev pub place_of : Board → (rank : ℕ) → Place
@@ -89,3 +91,8 @@ pub record Opens (board : Board) (ranks communicators : ℕ) : Type 0 where
   pub awake : (rank : ℕ) → rank < ranks → is_awake (place_of board rank) ≡ true
   pub counts : length board.settled.items ≡ communicators
   pub none : (comm : ℕ) → settled_on board comm ≡ 0
+
+-- whom a rank calls that lies down
+abbrev pub called_by : Rest → Option ℕ
+called_by IsUp = None
+called_by (Rests call) = call.0

@@ -8,9 +8,8 @@ ghost use Rattle.rank_stage.specs.declared.board.Lying.TheVariants.{Stays, Sleep
 ghost use Rattle.rank_stage.specs.declared.board.Instance.{Instance};
 ghost use Rattle.rank_stage.specs.Boards.{IsInLineOrNone, place_of, settled_on, is_awake, IsHeard};
 ghost use Rattle.rank_stage.specs.Boards.{PlaysAlone, IsWatched, IsOrderly, Calls, HasComeToLine};
-ghost use Rattle.rank_stage.specs.declared.board.Rest.TheVariants.{Stays as IsUp, Sleeps as Rests};
-ghost use Rattle.rank_stage.specs.declared.board.Call.{Call};
-ghost use Rattle.rank_stage.specs.Boards.{HasWoken, IsLastAwake, OthersStay, Opens};
+ghost use Rattle.rank_stage.specs.declared.board.Rest.TheVariants.{Stays as IsUp};
+ghost use Rattle.rank_stage.specs.Boards.{HasWoken, IsLastAwake, OthersStay, Opens, called_by};
 
 use std::alloc::{AllocError, Global};
 
@@ -137,6 +136,7 @@ impl Board {
         requires one { PlaysAlone self.old }
         requires watched { IsWatched self.old }
         ensures orderly { IsOrderly self.new }
+        ensures player { result ≡ self.new.player }
         ensures calls { Calls self.old self.new result }
         ensures stays { (rank : ℕ) → place_of self.new rank ≢ Plays →
             place_of self.new rank ≡ place_of self.old rank }
@@ -488,7 +488,7 @@ impl Standing {
     /// The rank, if it plays, lies down to sleep until the instance settles. It does not where that
     /// has settled, or where no other rank is awake.
     pub(crate) fn lie_down(&mut self, rank: usize, it: Instance) -> Rest
-        ensures lies { (call : Call) → result ≡ Rests call → Calls self.old.board self.new.board call.0
+        ensures lies { result ≢ IsUp → Calls self.old.board self.new.board (called_by result)
             × (place_of self.new.board rank ≡ AtRest it) }
         ensures awake { result ≡ IsUp → self.new.board ≡ self.old.board }
         ensures only { result ≡ IsUp → place_of self.old.board rank ≡ Plays →
