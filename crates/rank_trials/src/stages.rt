@@ -162,7 +162,7 @@ fn play_rounds<R: Wait>(rt: &R, stage: &Stage, sight: &Sight, rank: usize, round
 
 fn play_in_vain<R: Wait>(rt: &R, stage: &Stage, sight: &Sight, rank: usize) {
     sight.begin(rt, stage, rank);
-    let comm = rank as u32 % COMMS;
+    let comm = (rank % COMMS as usize) as u32;
     if !sight.sleep(rt, stage, rank, Instance { comm, number: 0 }) {
         add_one(&sight.told);
     }
