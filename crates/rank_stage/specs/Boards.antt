@@ -1,6 +1,6 @@
 -- Where the ranks of a run stand, and what may be said of it at any time. (Own rules.)
-use Rattle.std.specs.Prelude.{◌≡◌, ◌≢◌, ◌↔◌, ◌⊎◌, ℕ, ◌+◌, ◌<◌, ◌≤◌, Bool, true, false, List, Option, length}
-use Rattle.std.specs.Prelude.{Some, None, IfSome, IsSome, min, slice_index_or}
+use Rattle.std.specs.Prelude.{◌≡◌, ◌≢◌, ◌↔◌, ◌⊎◌, ℕ, ◌<◌, ◌≤◌, Bool, true, false, Option, length}
+use Rattle.std.specs.Prelude.{Some, None, IfSome, IsSome, slice_index_or}
 use Rattle.rank_stage.specs.declared.board.Instance.{Instance}
 use Rattle.rank_stage.specs.declared.board.Place.{Place}
 use Rattle.rank_stage.specs.declared.board.Place.TheVariants.{Plays, InLine, Aside, Sleeps, Ended}

@@ -1,11 +1,8 @@
-use Rattle.std.proofs.Common.{◌≡◌, ◌≢◌, ◌⊎◌, ℕ, ◌+◌, ◌<◌, ◌≤◌, true, false, sym, subst, ap, ◌∙◌}
-use Rattle.std.proofs.Common.{⊎_elim, arith}
+use Rattle.std.proofs.Common.{◌≡◌, ◌≢◌, ◌<◌, ◌≤◌, sym, subst, ap, ◌∙◌}
+use Rattle.std.proofs.Common.{arith}
 use native.Mathlib.Decide.{ℕ_discrete}
-use Rattle.std.proofs.lemmas.Grind.{common_steps}
-use Rattle.rank_stage.specs.declared.board.Board.{Board}
-use Rattle.rank_stage.specs.declared.board.Instance.{Instance}
-use Rattle.rank_stage.specs.declared.board.Place.TheVariants.{Sleeps, InLine, Plays}
-use Rattle.rank_stage.specs.Boards.{place_of, settled_on, is_awake, HasComeToLine}
+use Rattle.rank_stage.specs.declared.board.Place.TheVariants.{Sleeps}
+use Rattle.rank_stage.specs.Boards.{place_of, settled_on, HasComeToLine}
 use Rattle.rank_stage.proofs.board.Board.call_sleepers.Goals as goal
 
 pub loop-rank-preserved : goal.loop-rank-preserved

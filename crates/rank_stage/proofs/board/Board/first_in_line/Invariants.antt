@@ -1,4 +1,4 @@
-use Rattle.std.proofs.Common.{◌≡◌, ◌≢◌, ℕ, ◌<◌}
+use Rattle.std.proofs.Common.{◌≢◌, ℕ, ◌<◌}
 use Rattle.rank_stage.specs.declared.board.Place.TheVariants.{InLine}
 use Rattle.rank_stage.specs.Boards.{place_of}
 use Rattle.rank_stage.proofs.board.Board.first_in_line.Given as goal
