@@ -68,6 +68,7 @@ fn read_opened<R: Files>(
 ) -> io::Result<usize>
     ensures within { IfOk result (λ n. n ≤ length buffer.new) }
     ensures opened { OnOk result (IsSome file.new) }
+    ensures stays { IsSome file.old → IsSome file.new }
     ensures bytes { let left = bytes_of R.File.remaining in
         ReadConsumes (left file.old) (left file.new) result buffer.new }
 {
@@ -96,6 +97,7 @@ impl<'a, R: Files, L: Ledger> Source for FileSource<'a, R, L> {
         ensures bytes { let left = bytes_of R.File.remaining in
             ReadConsumes (left self.old.file) (left self.new.file) result buffer.new }
         ensures opened { OnOk result (IsSome self.new.file) }
+        ensures stays { IsSome self.old.file → IsSome self.new.file }
         ensures path { self.new.path ≡ self.old.path }
     {
         match read_opened(self.rt, self.path, &mut self.file, buffer) {
@@ -150,6 +152,7 @@ fn write_made<R: Files>(
 ) -> io::Result<usize>
     ensures within { IfOk result (λ n. n ≤ length bytes.now) }
     ensures made { OnOk result (IsSome file.new) }
+    ensures stays { IsSome file.old → IsSome file.new }
     ensures bytes { let held = bytes_of R.File.contents in
         WriteAppends (held file.old) (held file.new) result bytes.now }
 {
@@ -179,6 +182,9 @@ impl<'a, R: Files, L: Ledger> Sink for FileSink<'a, R, L> {
         ensures bytes { let held = bytes_of R.File.contents in
             WriteAppends (held self.old.file) (held self.new.file) result bytes.now }
         ensures made { OnOk result (0 < length bytes.now → IsSome self.new.file) }
+        ensures stays { IsSome self.old.file → IsSome self.new.file }
+        ensures nothing { length bytes.now ≡ 0 →
+            (result ≡ Ok 0) × (self.new.file ≡ self.old.file) }
         ensures path { self.new.path ≡ self.old.path }
     {
         if bytes.is_empty() {
