@@ -1,71 +1,102 @@
 //! Words of the command line.
 use super::*;
+use std::alloc::Global;
 use std::process::Abort;
+use std::test::Fail;
 
-// Whether the words are bad arguments.
-fn is_bad(rt: &impl AllocGlobal, words: &[&str]) -> bool {
-    match read_words(rt.alloc(), words) {
-        Ok(_) => false,
-        Err(fault) => fault == ArgFault::BadArguments,
-    }
-}
+// Words, and the command with its files that they ask for, `none` where no book is wanted.
+const ASKED: &[(&[&str], &str)] = &[
+    (&["replay", "w", "s"], "replay w s none"),
+    (&["replay", "w", "s", "--book", "b"], "replay w s b"),
+    (&["replay", "w", "--book", "b", "s"], "replay w s b"),
+    (&["replay", "--book", "b", "w", "s"], "replay w s b"),
+    (&["replay", "w", "s", "--book=b"], "replay w s b"),
+    (&["replay", "--book=b", "w", "s"], "replay w s b"),
+    (&["replay", "w", "--book", "b", "--", "s"], "replay w s b"),
+    (&["replay", "w", "s", "--book=-b"], "replay w s -b"),
+    (&["replay", "--", "-w", "--book"], "replay -w --book none"),
+    (&["replay", "-", "-"], "replay - - none"),
+    (&["replay", "replay", "help"], "replay replay help none"),
+    (&["replay", "w", "w", "--book", "w"], "replay w w w"),
+    (&["run", "w", "s"], "run w s none"),
+    (&["run", "--book", "b", "w", "s"], "run w s b"),
+    (&["run", "w", "--book=b", "s"], "run w s b"),
+    (&["run", "w", "s", "--book", "b"], "run w s b"),
+    (&["audit", "w", "b"], "audit w b"),
+    (&["audit", "--", "-w", "-b"], "audit -w -b"),
+];
 
-// Whether the words ask for a replay of `s` on `w` whose book goes to `b`.
-fn keeps_words(rt: &impl AllocGlobal, words: &[&str]) -> bool {
-    match read_words(rt.alloc(), words) {
+// Words that ask for nothing that the program does.
+const BAD: &[&[&str]] = &[
+    &[],
+    &[""],
+    &["w"],
+    &["replay"],
+    &["replay", "w"],
+    &["replay", "w", "s", "t"],
+    &["replay", "w", "s", "--book"],
+    &["replay", "w", "s", "--book", "--"],
+    &["replay", "w", "s", "--book", "-b"],
+    &["replay", "w", "--", "s", "--book", "b"],
+    &["replay", "w", "s", "--boo", "b"],
+    &["replay", "w", "s", "-b", "b"],
+    &["replay", "-w", "s"],
+    &["replay", "w", "s", "--book", "b", "--book", "c"],
+    &["replay", "--book=b", "w", "s", "--book=b"],
+    &["replay", "--book", "b", "w"],
+    &["--book", "b", "replay", "w", "s"],
+    &["--", "replay", "w", "s"],
+    &["rep", "w", "s"],
+    &["Replay", "w", "s"],
+    &["run", "w"],
+    &["run", "w", "s", "t"],
+    &["audit", "w"],
+    &["audit", "w", "b", "c"],
+    &["audit", "w", "b", "--book", "c"],
+    &["help"],
+    &["help", "replay"],
+    &["-h"],
+    &["--help"],
+    &["-V"],
+    &["--version"],
+    &["replay", "--help"],
+    &["replay", "w", "s", "-h"],
+    &["run", "--help"],
+    &["audit", "--help"],
+    &["replay", "--version"],
+];
+
+// The command that the words ask for with its files, or why they are refused.
+fn told(alloc: Global, words: &[&str]) -> Result<String, Fail> {
+    let text = match read_words(alloc, words) {
         Ok(Command::Replay(paths)) => {
-            paths.policy == "w" && paths.script == "s" && paths.book == Some("b")
+            let book = paths.book.unwrap_or("none");
+            format!(in alloc; "replay {} {} {book}", paths.policy, paths.script)?
         }
-        _ => false,
-    }
+        Ok(Command::Run(paths)) => {
+            let book = paths.book.unwrap_or("none");
+            format!(in alloc; "run {} {} {book}", paths.policy, paths.script)?
+        }
+        Ok(Command::Audit(paths)) => format!(in alloc; "audit {} {}", paths.policy, paths.book)?,
+        Err(fault) => format!(in alloc; "{fault}")?,
+    };
+    Ok(text)
 }
 
 #[test]
-fn words_ask_for_a_command(rt: HostRuntime) {
-    match read_words(rt.alloc(), ["replay", "w", "s"].as_slice()) {
-        Ok(Command::Replay(paths)) => {
-            assert!(&rt; paths.policy == "w" && paths.script == "s" && paths.book.is_none());
-        }
-        _ => assert!(&rt; false),
+fn words_ask_for_a_command(rt: HostRuntime) -> Result<(), Fail> {
+    for (words, command) in ASKED {
+        let text = told(rt.alloc(), words)?;
+        assert!(&rt; text.as_str() == *command, "{text}: {command}");
     }
-    assert!(&rt; keeps_words(&rt, ["replay", "w", "s", "--book", "b"].as_slice()));
-    assert!(&rt; keeps_words(&rt, ["replay", "w", "--book", "b", "s"].as_slice()));
-    assert!(&rt; keeps_words(&rt, ["replay", "--book", "b", "w", "s"].as_slice()));
-    match read_words(rt.alloc(), ["run", "w", "s"].as_slice()) {
-        Ok(Command::Run(paths)) => {
-            assert!(&rt; paths.policy == "w" && paths.script == "s" && paths.book.is_none());
-        }
-        _ => assert!(&rt; false),
+    Ok(())
+}
+
+#[test]
+fn other_words_are_bad_arguments(rt: HostRuntime) -> Result<(), Fail> {
+    for words in BAD {
+        let text = told(rt.alloc(), words)?;
+        assert!(&rt; text.as_str() == "bad arguments", "{text}");
     }
-    match read_words(rt.alloc(), ["run", "--book", "b", "w", "s"].as_slice()) {
-        Ok(Command::Run(paths)) => {
-            assert!(&rt; paths.policy == "w" && paths.script == "s" && paths.book == Some("b"));
-        }
-        _ => assert!(&rt; false),
-    }
-    match read_words(rt.alloc(), ["audit", "w", "b"].as_slice()) {
-        Ok(Command::Audit(paths)) => assert!(&rt; paths.policy == "w" && paths.book == "b"),
-        _ => assert!(&rt; false),
-    }
-    assert!(&rt; is_bad(&rt, [].as_slice()));
-    assert!(&rt; is_bad(&rt, ["replay", "w"].as_slice()));
-    assert!(&rt; is_bad(&rt, ["replay", "w", "s", "t"].as_slice()));
-    assert!(&rt; is_bad(&rt, ["replay", "w", "s", "--book"].as_slice()));
-    assert!(&rt;
-        is_bad(
-            &rt,
-            ["replay", "w", "s", "--book", "b", "--book", "c"].as_slice()
-        )
-    );
-    assert!(&rt; is_bad(&rt, ["--book", "b", "replay", "w", "s"].as_slice()));
-    assert!(&rt; is_bad(&rt, ["audit", "w", "b", "--book", "c"].as_slice()));
-    assert!(&rt; is_bad(&rt, ["audit", "w"].as_slice()));
-    assert!(&rt; is_bad(&rt, ["audit", "w", "b", "c"].as_slice()));
-    assert!(&rt; is_bad(&rt, ["run", "w"].as_slice()));
-    assert!(&rt; is_bad(&rt, ["run", "w", "s", "t"].as_slice()));
-    assert!(&rt; is_bad(&rt, ["run", "--help"].as_slice()));
-    assert!(&rt; is_bad(&rt, ["--help"].as_slice()));
-    assert!(&rt; is_bad(&rt, ["help"].as_slice()));
-    assert!(&rt; is_bad(&rt, ["replay", "--help"].as_slice()));
-    assert!(&rt; is_bad(&rt, ["audit", "--help"].as_slice()));
+    Ok(())
 }

@@ -185,7 +185,8 @@ fn command_named<'a>(name: &str, matches: &ArgMatches<'a>) -> Option<Command<'a>
 
 // Out of memory is told apart from every other cause.
 fn fault_for(kind: ErrorKind) -> ArgFault
-    ensures { result ≡ ArgFault.BadArguments → kind ≢ ErrorKind.OutOfMemory }
+    ensures bad { result ≡ ArgFault.BadArguments → kind ≢ ErrorKind.OutOfMemory }
+    ensures memory { result ≡ ArgFault.NoMemory → kind ≡ ErrorKind.OutOfMemory }
 {
     match kind {
         ErrorKind::OutOfMemory => ArgFault::NoMemory,
