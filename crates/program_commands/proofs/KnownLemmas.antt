@@ -2,7 +2,7 @@
 use Rattle.std.proofs.Common.{ℕ, ◌+◌, List, [], ◌++◌, Option, Some, None, sym, ap, ◌∙◌}
 use Rattle.std.proofs.Common.{append_assoc}
 use Rattle.std.proofs.lemmas.List.{append-nil}
-use Rattle.std.specs.Io.KnownBytes.{Appends, Keeps}
+use Rattle.std.specs.Io.KnownBytes.{Appends}
 use Rattle.wall_labels.specs.Known.{AppendsFront}
 use Rattle.wall_labels.proofs.WallLabelsLemmas.{Appends-then}
 use Rattle.hall_script.specs.Devices.{used, IsWritten, BrokeOff}
@@ -10,16 +10,6 @@ use Rattle.hall_script.specs.Devices.{used, IsWritten, BrokeOff}
 pub appends_none : (a : Option (List ℕ)) → Appends a a []
 appends_none None = tt
 appends_none (Some xs) = sym (append-nil xs)
-
--- a write that took nothing left the known bytes as they were
-pub took_none : (a b : Option (List ℕ)) → Appends a b [] → Keeps a b
-took_none None b h = tt
-took_none (Some xs) None h = h
-took_none (Some xs) (Some ys) h = h ∙ append-nil xs
-
-pub appends_then : (a b c : Option (List ℕ)) (xs ys : List ℕ) → Appends a b xs → Appends b c ys →
-    Appends a c (xs ++ ys)
-appends_then = Appends-then
 
 -- a prefix of the first is a prefix of both
 pub front_more : (a b : Option (List ℕ)) (xs ys : List ℕ) → AppendsFront a b xs →
@@ -45,7 +35,7 @@ module _ {W : Type 0} (failures : W → ℕ) (contents : W → Option (List ℕ)
       → IsWritten (used failures contents a c) (xs ++ ys)
   both_written a b c xs ys first second = (
     second.0 ∙ first.0,
-    appends_then (contents a) (contents b) (contents c) xs ys first.1 second.1,
+    Appends-then (contents a) (contents b) (contents c) xs ys first.1 second.1,
   )
 
   -- it broke off in the first

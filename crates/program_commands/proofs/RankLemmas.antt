@@ -19,7 +19,8 @@ use Rattle.program_commands.specs.Replaying.{IsKept, IsUnkept}
 use Rattle.program_commands.specs.Running.{rank_line, reply_lines, ranks_text, rank_text, break_ending}
 use Rattle.program_commands.specs.Running.{IsScriptOf, IsNoRun, Tells, Breaks, Runs, Reached}
 use Rattle.program_commands.specs.Running.{FellShort}
-use Rattle.program_commands.proofs.KnownLemmas.{appends_none, appends_then, front_more, front_then}
+use Rattle.wall_labels.proofs.WallLabelsLemmas.{Appends-then}
+use Rattle.program_commands.proofs.KnownLemmas.{appends_none, front_more, front_then}
 
 -- the text of one process more
 pub ranks_more : (wall : ChineseWall) (rows : List (List Reply)) (n : ℕ)
@@ -60,7 +61,7 @@ ranks_step wall rows n p given a b c is are before now =
     let now' = subst₂ (λ q g. Appends b c (rank_line wall q ++ reply_lines wall g)) is are now in
     let last = rank_line wall n ++ reply_lines wall (slice_index_or rows n []) in
     subst (Appends a c) (sym (ranks_more wall rows n))
-    (appends_then a b c (ranks_text wall rows n) last before now')
+    (Appends-then a b c (ranks_text wall rows n) last before now')
 
 -- the writer broke off in the lines of process n
 pub ranks_broken : (wall : ChineseWall) (rows : List (List Reply)) (n p : ℕ) (given : List Reply)
