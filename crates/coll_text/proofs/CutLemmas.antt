@@ -1,13 +1,14 @@
 -- The parts of a text, by the place of the first separator.
-use Rattle.std.proofs.Common.{◌≡◌, ℕ, zero, suc, ◌+◌, ◌<◌, ◌≤◌, Bool, true, false, cond, eqb, ltb}
-use Rattle.std.proofs.Common.{List, [], ◌∷◌, ◌++◌, length, get_or, take, drop, Some, None, All}
-use Rattle.std.proofs.Common.{refl, sym, ap, ◌∙◌, subst, eq-eqb, take-add, length-drop, arith}
-use Rattle.std.specs.List.{list_all, slice_split, position, position_or_len, count_by}
+use Rattle.std.proofs.Common.{◌≡◌, ℕ, ◌+◌, ◌<◌, ◌≤◌, Bool, true, false, cond, eqb, ltb, List, []}
+use Rattle.std.proofs.Common.{◌∷◌, ◌++◌, length, get_or, take, drop, Option, Some, None, All, refl}
+use Rattle.std.proofs.Common.{sym, ap, ◌∙◌, subst, eq-eqb, arith}
+use Rattle.std.specs.List.{list_all, slice_split, position, position_or_len}
 use Rattle.std.proofs.lemmas.Bool.{ltb-false, ltb-true, lt-ltb, le-ltb, and_parts, ne_eqb}
 use Rattle.std.proofs.lemmas.List.{take_all, take-append-drop, drop_more}
 use Rattle.std.proofs.lemmas.List.Elements.{All-nil, All-cons}
 use Rattle.std.proofs.lemmas.List.Splits.{slice_split_first, slice_split_none, slice_split_at}
-use Rattle.std.proofs.lemmas.List.Sums.{fails_before_first, sum_by-append}
+use Rattle.std.proofs.lemmas.List.Sums.{fails_before_first, position_or_len_is}
+use Rattle.memchr.specs.Find.{IsFirstByte, is_byte}
 
 some_is : (b : Bool) (i j : ℕ) → cond b (Some i) None ≡ Some j → (b ≡ true) × (i ≡ j)
 some_is true i j e = (refl, cc)
@@ -57,64 +58,22 @@ front_part s i w low h lt e =
     ∙ slice_split_at (λ b. eqb b s) (take i w) (get_or w i 0) (drop (i + 1) w)
     (free s (take i w) low h) (eq-eqb (get_or w i 0) s e)
 
-count_by-append : (p : ℕ → Bool) (xs ys : List ℕ) →
-    count_by p (xs ++ ys) ≡ count_by p xs + count_by p ys
-count_by-append p xs ys = sum_by-append _ xs ys
+not_true : (b : Bool) → (b ≡ true → ⊥) → b ≡ false
+not_true true h = absurd (h refl)
+not_true false h = refl
 
-pub count_split : (p : ℕ → Bool) (i : ℕ) (w : List ℕ) →
-    count_by p (take i w) + count_by p (drop i w) ≡ count_by p w
-count_split p i w =
-    sym (count_by-append p (take i w) (drop i w)) ∙ ap (count_by p) (take-append-drop i w)
-
-one_in : (p : ℕ → Bool) (x : ℕ) (b : Bool) → p x ≡ b → count_by p (x ∷ []) ≡ 0 → b ≡ false
-one_in p x true e h = absurd (let k : count_by p (x ∷ []) ≡ 1 = rw e refl in omega (arith, h, k))
-one_in p x false e h = refl
-
-none_in : (p : ℕ → Bool) (x : ℕ) (xs : List ℕ) (b : Bool) → p x ≡ b → count_by p (x ∷ xs) ≡ 0 →
-    (b ≡ false) × (count_by p xs ≡ 0)
-none_in p x xs b e h =
-    let k : count_by p (x ∷ xs) ≡ count_by p (x ∷ []) + count_by p xs = count_by-append p (x ∷ [])
-    xs in
-    (one_in p x b e (omega (arith, h, k)), omega (arith, h, k))
-
-past : (p : ℕ → Bool) (x : ℕ) (xs : List ℕ) → p x ≡ false →
-    position_or_len p (x ∷ xs) ≡ 1 + position_or_len p xs
-past p x xs e = rw e refl
-
--- where the front has none, the first is the first behind it
-skipped : (p : ℕ → Bool) (w : List ℕ) (i : ℕ) → i ≤ length w → count_by p (take i w) ≡ 0 →
-    position_or_len p w ≡ i + position_or_len p (drop i w)
-skipped p w zero le h =
-    let k : position_or_len p w ≡ position_or_len p (drop 0 w) = refl in omega (arith, k)
-skipped p [] (suc i) le h = absurd (omega arith)
-skipped p (x ∷ xs) (suc i) le h =
-    let n = none_in p x (take i xs) (p x) refl h in
-    let k = skipped p xs i (omega arith) n.1 in
-    past p x xs n.0 ∙ omega (arith, k)
-
-pub count_more : (p : ℕ → Bool) (i n : ℕ) (w : List ℕ) → count_by p (take i w) ≡ 0 →
-    count_by p (take n (drop i w)) ≡ 0 → count_by p (take (i + n) w) ≡ 0
-count_more p i n w h k = ap (count_by p) (take-add i n w)
-    ∙ count_by-append p (take i w) (take n (drop i w)) ∙ omega (arith, h, k)
-
-pub place_none : (p : ℕ → Bool) (w : List ℕ) (i : ℕ) → i ≤ length w → count_by p (take i w) ≡ 0 →
-    position p (drop i w) ≡ None → None ≡ position p w
-place_none p w i le h e =
-    let far : length (drop i w) ≤ position_or_len p (drop i w) = ltb-false _ _
-    (none_is (ltb (position_or_len p (drop i w)) (length (drop i w)))
-    (position_or_len p (drop i w)) e) in
-    let size = length-drop i w in
-    let k = skipped p w i le h in
-    rw (le-ltb (position_or_len p w) (length w) (omega (arith, far, size, k, le))) refl
-
-pub place_some : (p : ℕ → Bool) (w : List ℕ) (i j : ℕ) → i ≤ length w → count_by p (take i w) ≡ 0 →
-    position p (drop i w) ≡ Some j → Some (i + j) ≡ position p w
-place_some p w i j le h e =
-    let t = some_is (ltb (position_or_len p (drop i w)) (length (drop i w)))
-    (position_or_len p (drop i w)) j e in
-    let near : position_or_len p (drop i w) < length (drop i w) = ltb-true _ _ t.0 in
-    let size = length-drop i w in
-    let k = skipped p w i le h in
-    let same : i + j ≡ position_or_len p w = omega (arith, k, t.1) in
-    rw (lt-ltb (position_or_len p w) (length w) (omega (arith, near, size, k)))
-    (ap (λ (n : ℕ). Some n) same)
+-- what a search for a byte answers is its first place
+pub place_is : (s : ℕ) (w : List ℕ) (r : Option ℕ) → IsFirstByte (is_byte s) w r →
+    r ≡ position (λ b. eqb b s) w
+place_is s w None h =
+    let p = λ (b : ℕ). eqb b s in
+    let far : position_or_len p w ≡ length w = position_or_len_is p w (length w) 0 (omega arith)
+    (λ k lt. not_true (p (get_or w k 0)) (h k (omega arith) lt)) (λ lt. absurd (omega arith)) in
+    rw (le-ltb (position_or_len p w) (length w) (omega (arith, far))) refl
+place_is s w (Some k) h =
+    let p = λ (b : ℕ). eqb b s in
+    let near : k < length w = h.0.high in
+    let first : position_or_len p w ≡ k = position_or_len_is p w k 0 (omega (arith, near))
+    (λ j lt. not_true (p (get_or w j 0)) (h.0.before j (omega arith) lt)) (λ lt. h.1) in
+    rw (lt-ltb (position_or_len p w) (length w) (omega (arith, first, near)))
+    (ap (λ (n : ℕ). Some n) (sym first))

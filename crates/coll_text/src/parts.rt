@@ -6,6 +6,7 @@ ghost use Rattle.coll_text.specs.Numbers.{signed_within};
 
 use crate::front::front_signed;
 use crate::numbers::signed;
+use memchr::memchr;
 use std::marker::Model;
 
 /// The parts that are still to be read, seen as their list.
@@ -56,33 +57,12 @@ fn place_of(text: &[u8], separator: u8) -> Option<usize>
     text.iter().position(|b| *b == separator)
 }
 
-// So many bytes at the front have no separator among them, counted in whole steps.
-fn clear_front(text: &[u8], separator: u8) -> usize
-    ensures within { result ≤ length text.now }
-    ensures clear { count_by (λ b. b == separator) (take result text.now) ≡ 0 }
-{
-    let mut clear = 0;
-    while text.len() - clear >= 128 {
-        let (_, rest) = text.split_at(clear);
-        let (step, _) = rest.split_at(128);
-        if count_few(step, separator) != 0 {
-            return clear;
-        }
-        clear += 128;
-    }
-    clear
-}
-
-// The same place, found in steps of many bytes.
+// The same place, found many bytes at a time.
+#[tactic(auto, using(crate::proofs::CutLemmas::place_is))]
 fn far_place_of(text: &[u8], separator: u8) -> Option<usize>
     ensures { result ≡ position (λ b. b == separator) text.now }
 {
-    let clear = clear_front(text, separator);
-    let (_, rest) = text.split_at(clear);
-    match place_of(rest, separator) {
-        None => None,
-        Some(at) => Some(clear + at),
-    }
+    memchr(separator, text)
 }
 
 // The part before the first separator, and what is after it.
@@ -161,7 +141,7 @@ impl<'a> Parts<'a> {
         Some(part)
     }
 
-    /// The next part, found in steps of many bytes: for parts that are long.
+    /// The next part, found many bytes at a time: for texts that are long.
     pub fn next_long(&mut self) -> Option<&'a [u8]>
         ensures { MatchOption result ((self.old ≡ []) × (self.new ≡ []))
             (λ part. self.old ≡ part.now ∷ self.new) }
