@@ -140,49 +140,48 @@ impl<X: Drop> Pending<X> {
             fits (room_by shape.now) stated.sig ≡ true) →
             IfErr result (λ refused. refused.fault ≢ ArrivalFault.NoMemory) }
     {
-        match self.next(comm, rank, &stated.sig) {
-            Next::Mismatch => Err(Unarrived {
-                fault: ArrivalFault::Mismatch,
+        match self.meet(comm, rank, group, shape, &stated.sig) {
+            Ok(()) => Ok(self.queues.arrive(comm, rank, stated, part)),
+            Err(fault) => Err(Unarrived {
+                fault,
                 stated,
                 part,
             }),
-            _ => self.admit(comm, rank, group, shape, stated, part),
         }
     }
 
-    // Makes room for an arrival of the instance's signature, and accepts it.
-    fn admit(
+    // Sees to it that the instance which an arrival of a rank meets waits and is of this signature.
+    fn meet(
         &mut self,
         comm: u32,
         rank: u32,
         group: &Group,
         shape: &Shape,
-        stated: Stated,
-        part: X,
-    ) -> Result<Arrived<X>, Unarrived<X>>
+        sig: &Signature,
+    ) -> Result<(), ArrivalFault>
         requires rank { rank < length group.now }
         requires known { IsKnownAs (made_of group.now shape.now)
             ((view_of_pending self.old).known comm) }
-        requires few { (view_of_pending self.old).arrivals comm rank < 2 ^ 62 }
-        requires agrees { next (view_of_pending self.old) comm rank stated.sig ≢ Mismatch }
-        ensures arrived { IfOk result
-            (HasArrived (view_of_pending self.old) (view_of_pending self.new) comm rank
-            (made_of group.now shape.now) stated part) }
+        ensures agrees { OnOk result (next (view_of_pending self.old) comm rank sig.now ≢ Mismatch) }
+        ensures opened { OnOk result
+            (IsOpened (view_of_pending self.old) (view_of_pending self.new) comm rank
+            (made_of group.now shape.now) sig.now) }
+        ensures meets { OnOk result
+            (CanArrive self.new.queues comm rank (made_of group.now shape.now) sig.now) }
         ensures unchanged { OnErr result (view_of_pending self.new ≡ view_of_pending self.old) }
-        ensures back { IfErr result
-            (λ u. (u.fault ≡ ArrivalFault.NoMemory) × (u.stated ≡ stated) × (u.part ≡ part)) }
+        ensures fault { IfErr result (λ fault.
+            fault ≡ fault_at (next (view_of_pending self.old) comm rank sig.now)) }
         ensures memory { HasRoom self.old comm rank (made_of group.now shape.now) →
-            (next (view_of_pending self.old) comm rank stated.sig ≡ Opens →
-            fits (room_by shape.now) stated.sig ≡ true) →
-            OnErr result ⊥ }
+            (next (view_of_pending self.old) comm rank sig.now ≡ Opens →
+            fits (room_by shape.now) sig.now ≡ true) →
+            IfErr result (λ fault. fault ≢ ArrivalFault.NoMemory) }
     {
-        match self.open(comm, rank, group, shape, &stated.sig) {
-            Ok(()) => Ok(self.queues.arrive(comm, rank, stated, part)),
-            Err(_) => Err(Unarrived {
-                fault: ArrivalFault::NoMemory,
-                stated,
-                part,
-            }),
+        match self.next(comm, rank, sig) {
+            Next::Mismatch => Err(ArrivalFault::Mismatch),
+            _ => match self.open(comm, rank, group, shape, sig) {
+                Ok(()) => Ok(()),
+                Err(_) => Err(ArrivalFault::NoMemory),
+            },
         }
     }
 
