@@ -12,4 +12,5 @@ pub mod MakingKindLemmas
 pub mod PartLemmas
 pub mod PostStateLemmas
 pub mod VerdictLemmas
+pub mod EnterLemmas
 pub mod RunStateLemmas

@@ -12,7 +12,7 @@ ghost use Rattle.run_model.specs.Refusals.{fault};
 
 use crate::communicators::Communicators;
 use crate::entered::{Entered, Unentered};
-use crate::steps;
+use crate::steps::{self, MemberPost, Terms};
 use coll_pending::Pending;
 use coll_routes::{Own, Shape, Signature, Stated};
 use mpi_elems::ElemType;
@@ -168,10 +168,12 @@ impl<X: Drop> PostState<X> {
             policy.processes(),
             process,
             comm,
-            sig,
-            own,
-            elem_type,
-            given,
+            Terms {
+                sig,
+                own,
+                elem_type,
+                given,
+            },
         )
     }
 
@@ -202,39 +204,32 @@ impl<X: Drop> PostState<X> {
         ensures unchanged { OnErr result (view_of self.new ≡ view_of self.old) }
         ensures back { IfErr result (λ refused. (refused.stated ≡ stated) × (refused.part ≡ part)) }
     {
-        self.count(policy, process, comm, stated, part)
-    }
-
-    // The same, by what is seen.
-    fn count(
-        &mut self,
-        policy: &Policy,
-        process: ProcessId,
-        comm: u32,
-        stated: Stated,
-        part: X,
-    ) -> Result<Entered<X>, Unentered<X>>
-        requires policy { self.old.accesses.classes ≡ policy.now.classes }
-        requires accepted { fault_of policy.now (view_of self.old) process comm stated.sig
-            stated.own (stated_type stated.sig) stated.given ≡ None }
-        requires word { stated.barred ≡ not (star (has self.old.accesses) process stated.label) }
-        requires few { place_of (view_of self.old) process comm < 2 ^ 62 }
-        ensures counted { IfOk result (λ entered. Enters policy.now (view_of self.old)
-            (view_of self.new) (contribution process comm stated part) entered) }
-        ensures classes { self.new.accesses.classes ≡ self.old.accesses.classes }
-        ensures unchanged { OnErr result (view_of self.new ≡ view_of self.old) }
-        ensures back { IfErr result (λ refused. (refused.stated ≡ stated) × (refused.part ≡ part)) }
-    {
-        steps::count(
+        let Some(rank) = self.comms.group(comm).rank_of(process) else {
+            unreachable!()
+        };
+        match steps::prepare(
             self.alloc,
             &mut self.comms,
             &mut self.pending,
-            &mut self.histories,
-            policy,
-            process,
             comm,
-            stated,
-            part,
-        )
+            rank,
+            &stated,
+        ) {
+            Err(_) => Err(Unentered { stated, part }),
+            Ok(made) => Ok(steps::change(
+                &self.comms,
+                &mut self.pending,
+                &mut self.histories,
+                policy,
+                MemberPost {
+                    process,
+                    comm,
+                    rank,
+                    stated,
+                    part,
+                },
+                made,
+            )),
+        }
     }
 }

@@ -22,7 +22,7 @@ ghost use Rattle.run_state.specs.Upcoming.{IsNext, IsPrepared, roll_next, is_las
 ghost use Rattle.run_state.specs.Upcoming.{stated_in, constructed};
 
 use crate::communicators::Communicators;
-use crate::entered::{Entered, Unentered};
+use crate::entered::Entered;
 use coll_pending::laws::faultless_signatures_fit;
 use coll_pending::{Arrived, Next, Pending};
 use coll_routes::{Own, Roll, Shape, ShapeFault, Signature, Stated, shape_fault};
@@ -35,6 +35,16 @@ use wall_labels::{NoMemory, ProcessId};
 use wall_policy::Policy;
 use wall_rules::Histories;
 use wall_verdict::{Verdict, enter_label, settle};
+
+/// A post of the member that has this rank on a communicator, with its part.
+#[derive(Drop)]
+pub struct MemberPost<X> {
+    pub process: ProcessId,
+    pub comm: u32,
+    pub rank: u32,
+    pub stated: Stated,
+    pub part: X,
+}
 
 /// The group of all processes, in order.
 #[tactic(auto, using(crate::proofs::PartLemmas::distinct_below))]
@@ -65,6 +75,16 @@ fn all_processes(alloc: Global, processes: u32) -> Result<Vec<ProcessId>, NoMemo
     Ok(list)
 }
 
+/// What is judged of a post by itself: its signature, what its member states for itself, and that
+/// it gives so many elements of this type.
+#[derive(Clone, Copy)]
+pub struct Terms<'a> {
+    pub sig: &'a Signature,
+    pub own: &'a Own,
+    pub elem_type: ElemType,
+    pub given: usize,
+}
+
 /// The first refusal that holds of the next post of a process on a communicator, where there are so
 /// many processes.
 pub fn refusal<X: Drop>(
@@ -73,15 +93,12 @@ pub fn refusal<X: Drop>(
     processes: u32,
     process: u32,
     comm: u32,
-    sig: &Signature,
-    own: &Own,
-    elem_type: ElemType,
-    given: usize,
+    terms: Terms<'_>,
 ) -> Option<Refusal>
     requires { processes ≤ PROCESS_LIMIT }
     ensures { result
-        ≡ fault_among processes comms.now (view_of_pending pending.now) process comm sig.now own.now
-        elem_type given }
+        ≡ fault_among processes comms.now (view_of_pending pending.now) process comm
+        terms.entry.sig.now terms.entry.own.now terms.entry.elem_type terms.entry.given }
 {
     if process >= processes {
         return Some(Refusal::NoSuchProcess);
@@ -94,8 +111,15 @@ pub fn refusal<X: Drop>(
     };
     match comms.group(comm).rank_of(member) {
         Some(rank) => refusal_after(
-            shape_fault(comms.shape(comm), rank, sig, own, elem_type, given),
-            pending.next(comm, rank, sig),
+            shape_fault(
+                comms.shape(comm),
+                rank,
+                terms.sig,
+                terms.own,
+                terms.elem_type,
+                terms.given,
+            ),
+            pending.next(comm, rank, terms.sig),
         ),
         None => Some(Refusal::NotMember),
     }
@@ -128,46 +152,8 @@ fn refused_for(fault: ShapeFault) -> Refusal
     }
 }
 
-/// Counts a post that meets no refusal: all growth first, and then all change.
-pub fn count<X: Drop>(
-    alloc: Global,
-    comms: &mut Communicators,
-    pending: &mut Pending<X>,
-    histories: &mut Histories,
-    policy: &Policy,
-    process: ProcessId,
-    comm: u32,
-    stated: Stated,
-    part: X,
-) -> Result<Entered<X>, Unentered<X>>
-    requires post_state { IsPostState (seen comms.old pending.old histories.old) }
-    requires policy { histories.old.classes ≡ policy.now.classes }
-    requires accepted { fault_of policy.now (seen comms.old pending.old histories.old) process comm
-        stated.sig stated.own (stated_type stated.sig) stated.given ≡ None }
-    requires word { stated.barred ≡ not (star (has histories.old) process stated.label) }
-    requires few { place_of (seen comms.old pending.old histories.old) process comm < 2 ^ 62 }
-    ensures post_state { IsPostState (seen comms.new pending.new histories.new) }
-    ensures counted { IfOk result (λ entered. Enters policy.now
-        (seen comms.old pending.old histories.old) (seen comms.new pending.new histories.new)
-        (contribution process comm stated part) entered) }
-    ensures classes { histories.new.classes ≡ histories.old.classes }
-    ensures unchanged { OnErr result
-        (seen comms.new pending.new histories.new ≡ seen comms.old pending.old histories.old) }
-    ensures back { IfErr result (λ refused. (refused.stated ≡ stated) × (refused.part ≡ part)) }
-{
-    let Some(rank) = comms.group(comm).rank_of(process) else {
-        unreachable!()
-    };
-    match prepare(alloc, comms, pending, comm, rank, &stated) {
-        Err(_) => Err(Unentered { stated, part }),
-        Ok(made) => Ok(change(
-            comms, pending, histories, policy, process, comm, rank, stated, part, made,
-        )),
-    }
-}
-
-// Makes all that a member's post needs, and the communicators that it completes, if they fit.
-fn prepare<X: Drop>(
+/// Makes all that a member's post needs, and the communicators that it completes, if they fit.
+pub fn prepare<X: Drop>(
     alloc: Global,
     comms: &mut Communicators,
     pending: &mut Pending<X>,
@@ -288,38 +274,43 @@ fn ask_by(own: &Own) -> Ask
     }
 }
 
-// Enters a post for which there is room.
-fn change<X: Drop>(
+/// Enters a post for which there is room.
+pub fn change<X: Drop>(
     comms: &Communicators,
     pending: &mut Pending<X>,
     histories: &mut Histories,
     policy: &Policy,
-    process: ProcessId,
-    comm: u32,
-    rank: u32,
-    stated: Stated,
-    part: X,
+    post: MemberPost<X>,
     made: Option<Outcome>,
 ) -> Entered<X>
-    requires there { comm < length comms.now }
-    requires upcoming { (found : Comm) → slice_get comms.now comm ≡ Some found →
-        IsNext (view_of_pending pending.old) comm rank found stated }
-    requires room { (found : Comm) → slice_get comms.now comm ≡ Some found →
-        HasRoom pending.old comm rank (communicator_of found) }
-    requires word { stated.barred ≡ not (star (has histories.old) process stated.label) }
+    requires there { post.comm < length comms.now }
+    requires upcoming { (found : Comm) → slice_get comms.now post.comm ≡ Some found →
+        IsNext (view_of_pending pending.old) post.comm post.rank found post.stated }
+    requires room { (found : Comm) → slice_get comms.now post.comm ≡ Some found →
+        HasRoom pending.old post.comm post.rank (communicator_of found) }
+    requires word { post.stated.barred
+        ≡ not (star (has histories.old) post.process post.stated.label) }
     requires policy { histories.old.classes ≡ policy.now.classes }
-    requires few { (view_of_pending pending.old).arrivals comm rank < 2 ^ 62 }
+    requires few { (view_of_pending pending.old).arrivals post.comm post.rank < 2 ^ 62 }
     ensures classes { histories.new.classes ≡ histories.old.classes }
-    ensures changes { (found : Comm) (count : ℕ) → slice_get comms.now comm ≡ Some found →
-        made ≡ constructed count (roll_next (view_of_pending pending.old) comm rank found stated) →
+    ensures changes { (found : Comm) (count : ℕ) → slice_get comms.now post.comm ≡ Some found →
+        made ≡ constructed count
+        (roll_next (view_of_pending pending.old) post.comm post.rank found post.stated) →
         Changes policy.now count (seen comms.now pending.old histories.old)
-        (seen comms.now pending.new histories.new) (record { rank = rank; comm = found })
-        (contribution process comm stated part)
+        (seen comms.now pending.new histories.new) (record { rank = post.rank; comm = found })
+        (contribution post.process post.comm post.stated post.part)
         × Answers policy.now count (seen comms.now pending.old histories.old)
-        (record { rank = rank; comm = found }) (contribution process comm stated part)
-        result }
+        (record { rank = post.rank; comm = found })
+        (contribution post.process post.comm post.stated post.part) result }
 {
     faultless_signatures_fit();
+    let MemberPost {
+        process,
+        comm,
+        rank,
+        stated,
+        part,
+    } = post;
     let k = pending.arrivals(comm, rank);
     let _ = enter_label(histories, process, &stated.label);
     match pending.arrive(
