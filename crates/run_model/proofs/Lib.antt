@@ -20,6 +20,7 @@ pub mod HeadlineLemmas
 pub mod OmitLemmas
 pub mod SeenLemmas
 pub mod WorldsLemmas
+pub mod BufferLemmas
 pub mod OutsideLemmas
 pub mod RunRowProofs
 pub mod WallRowProofs

@@ -16,6 +16,8 @@ pub mod Holding
 pub mod PostLaws
 -- calls with their replies, and what a run has made
 pub mod Runs
+-- what is the same but for the room of buffers
+pub mod Buffers
 -- the one reply that is due to a call, and which runs are legal
 pub mod Replies
 -- what names only processes and datasets that the policy has
