@@ -2,9 +2,7 @@
 use crate::parties::dataset;
 use std::test::*;
 use wall_labels::memory::{ExpectingSink, Fuse, MemorySource};
-use wall_labels::{
-    ClassId, DatasetId, Failed, Label, LabelSet, Op, ProcessId, Source, write_all,
-};
+use wall_labels::{ClassId, DatasetId, Failed, Label, LabelSet, Op, ProcessId, Source, write_all};
 
 #[test]
 fn ids_are_the_numbers_below_their_limits(rt: HostRuntime) {
