@@ -13,8 +13,8 @@ use Rattle.mpi_group.proofs.MpiGroupLemmas.{no_fault}
 use Rattle.mpi_cart.specs.Grids.{Topology}
 use Rattle.mpi_cart.specs.Faults.{first_fault, keep_fault}
 use Rattle.mpi_comm.specs.declared.values.Ask.{Ask}
-use Rattle.mpi_comm.specs.Comms.{dup_groups, create_groups, subset_groups, fits}
-use Rattle.mpi_comm.specs.Splits.{split_groups, has_bad_colour}
+use Rattle.mpi_comm.specs.Comms.{fits}
+use Rattle.mpi_comm.specs.Splits.{has_bad_colour}
 use Rattle.coll_routes.specs.declared.signature.Signature.{Signature}
 use Rattle.coll_routes.specs.declared.signature.Signature.TheVariants.{Barrier, Bcast, Gather}
 use Rattle.coll_routes.specs.declared.signature.Signature.TheVariants.{Gatherv, Scatter, Scatterv}
@@ -41,7 +41,7 @@ use Rattle.coll_routes.specs.Faults.{shape_fault, stated_type, first_that, no_to
 use Rattle.coll_routes.specs.Faults.{bad_op, bad_count, bad_colour, not_subgroup, bad_dims}
 use Rattle.coll_routes.specs.Faults.{is_ill_kept}
 use Rattle.coll_routes.specs.Fit.{IsSound}
-use Rattle.run_model.specs.Comms.{Comm, shape_of, ask_by, ask_in, asks, with_grid, subgrids}
+use Rattle.run_model.specs.Comms.{Comm, shape_of, ask_by, ask_in, asks}
 use Rattle.run_model.specs.Comms.{new_comms_by, new_comms, added, comm_in}
 use Rattle.run_model.specs.Posts.{if_full, is_full}
 use Rattle.run_state.specs.Making.{is_faultless, is_kept}

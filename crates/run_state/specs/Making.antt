@@ -1,17 +1,17 @@
 -- What a full constructor makes, by its communicator and what its members ask.
-use Rattle.std.specs.Prelude.{◌≡◌, ◌++◌, ◌∷◌, [], ℕ, List, Bool, true, false, not, length, Option}
-use Rattle.std.specs.Prelude.{None, Some, is_none, if◌then◌else◌}
+use Rattle.std.specs.Prelude.{◌≡◌, ◌++◌, List, Bool, true, false, not, length, Option}
+use Rattle.std.specs.Prelude.{None, Some, is_none}
 use Rattle.mpi_comm.specs.declared.values.Ask.{Ask}
-use Rattle.mpi_comm.specs.Comms.{dup_groups, create_groups, subset_groups, fits, is_subgroup}
+use Rattle.mpi_comm.specs.Comms.{is_subgroup}
 use Rattle.mpi_comm.specs.declared.fault.CommFault.{CommFault}
 use Rattle.mpi_comm.specs.declared.fault.CommFault.TheVariants as faults
-use Rattle.mpi_comm.specs.Splits.{split_groups, has_bad_colour}
-use Rattle.mpi_cart.specs.Grids.{Topology, volume, below}
+use Rattle.mpi_comm.specs.Splits.{has_bad_colour}
+use Rattle.mpi_cart.specs.Grids.{Topology}
 use Rattle.mpi_cart.specs.Faults.{first_fault, keep_fault}
 use Rattle.coll_routes.specs.declared.signature.Signature.{Signature}
-use Rattle.coll_routes.specs.declared.signature.Signature.TheVariants.{Dup, Split, Create}
+use Rattle.coll_routes.specs.declared.signature.Signature.TheVariants.{Split, Create}
 use Rattle.coll_routes.specs.declared.signature.Signature.TheVariants.{CartCreate, CartSub}
-use Rattle.run_model.specs.Comms.{Comm, with_grid, subgrids, if_fit}
+use Rattle.run_model.specs.Comms.{Comm, if_fit}
 use Rattle.run_model.specs.Posts.{constructor_outcome}
 use Rattle.run_model.specs.declared.outcome.Outcome.{Outcome}
 
