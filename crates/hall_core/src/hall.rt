@@ -51,7 +51,6 @@ impl Hall {
         ensures stands { IfOk result (λ hall. StandsFor hall []) }
         ensures policy { IfOk result (λ hall. hall.policy ≡ policy) }
     {
-        let _ = policy.processes();
         match Records::open(alloc, policy) {
             Ok(records) => Ok(Hall { records }),
             Err(_) => Err(NoMemory),

@@ -1,7 +1,7 @@
 //! What a posting states and gives.
 ghost use Rattle.std.specs.Prelude.{◌≡◌, ◌<◌, IsTrue, IsFalse};
 ghost use Rattle.run_model.specs.declared.refusal.Refusal.TheVariants.{NoMemory};
-ghost use Rattle.run_model.specs.Comms.{processes};
+ghost use Rattle.wall_labels.specs.declared.ids.TheConstants.{PROCESS_LIMIT};
 ghost use Rattle.run_model.specs.declared.reply.Reply.TheVariants.{Refused};
 ghost use Rattle.run_model.specs.Replies.{accepted};
 ghost use Rattle.run_model.specs.Runs.{given_in, label_in, kept_if};
@@ -10,14 +10,12 @@ use mpi_elems::Buffer;
 use run_model::{Posting, Refusal, Reply};
 use std::alloc::Global;
 use wall_labels::{Label, ProcessId};
-use wall_policy::Policy;
 
-/// The id of a process of the policy.
-pub fn member(policy: &Policy, process: u32) -> ProcessId
-    requires { process < processes policy.now }
+/// The id of a process.
+pub fn member(process: u32) -> ProcessId
+    requires { process < PROCESS_LIMIT }
     ensures { result ≡ process }
 {
-    let _ = policy.processes();
     let Some(member) = ProcessId::new(process) else {
         unreachable!()
     };

@@ -56,6 +56,7 @@ impl Records {
     /// Records of no call.
     pub fn open(alloc: Global, policy: Policy) -> Result<Records, NoMemory>
         ensures policy { IfOk result (λ records. records.policy ≡ policy) }
+        ensures is_policy { IfOk result (λ records. IsPolicy records.policy) }
         ensures each { IfOk result (λ records. length records.requests.items ≡ processes policy) }
         ensures counted { IfOk result AreCounted }
         ensures stands { IfOk result (λ records. StandsForEffects (view_in records) (effects [])) }
@@ -107,7 +108,7 @@ impl Records {
         if self.post_state.len() <= comm {
             return Reply::Refused(Refusal::NoSuchComm);
         }
-        let member = posts::member(&self.policy, process);
+        let member = posts::member(process);
         match self.post_state.group(comm).rank_of(member) {
             None => Reply::Refused(Refusal::NotMember),
             Some(rank) => described(self.post_state.shape(comm), rank),
@@ -187,7 +188,7 @@ impl Records {
         let Some(settlement) = self.settled.get(asked.comm, asked.k) else {
             return Claim::Done(Reply::Pending);
         };
-        let member = posts::member(&self.policy, process);
+        let member = posts::member(process);
         match claimed(self.alloc, &self.post_state, member, settlement) {
             Err(_) => Claim::Done(Reply::Refused(Refusal::NoMemory)),
             Ok(claim) => {
@@ -276,7 +277,7 @@ impl Records {
             result }
         ensures unchanged { MakesNothing result → view_in self.new ≡ view_in self.old }
     {
-        let member = posts::member(&self.policy, process);
+        let member = posts::member(process);
         let label = posts::label(&posting);
         let passed = self.post_state.passes(member, &label);
         let request = requests::given_to(&self.requests, process);
@@ -442,6 +443,7 @@ impl Records {
 fn first_requests(alloc: Global, policy: &Policy) -> Result<Vec<Requests>, NoMemory>
     ensures none { IfOk result (λ v. requests_of v.items ≡ (λ p. [])) }
     ensures each { IfOk result (λ v. length v.items ≡ processes policy.now) }
+    ensures is_policy { IsPolicy policy.now }
 {
     Ok(requests::no_requests(alloc, policy.processes())?)
 }

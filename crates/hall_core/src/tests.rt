@@ -19,12 +19,24 @@ use wall_policy::{Policy, read_policy};
 
 /// Four processes: a0 at home with alpha, b0 with beta, c0 with crude, n0 nowhere. Sums of three
 /// and more are sanitised.
-pub(crate) const RIVALS: &str =
-    "version = 1\n[[class]]\nname = \"banks\"\ndatasets = [\"alpha\", \"beta\"]\n[[class]]\nname = \"oil\"\ndatasets = [\"crude\", \"delta\"]\n[[process]]\nname = \"a0\"\nhome = \"alpha\"\n[[process]]\nname = \"b0\"\nhome = \"beta\"\n[[process]]\nname = \"c0\"\nhome = \"crude\"\n[[process]]\nname = \"n0\"\n[[sanitise]]\nop = \"sum\"\nleast = 3\n";
+pub(crate) const RIVALS: &str = "\
+version = 1\n\
+[[class]]\nname = \"banks\"\ndatasets = [\"alpha\", \"beta\"]\n\
+[[class]]\nname = \"oil\"\ndatasets = [\"crude\", \"delta\"]\n\
+[[process]]\nname = \"a0\"\nhome = \"alpha\"\n\
+[[process]]\nname = \"b0\"\nhome = \"beta\"\n\
+[[process]]\nname = \"c0\"\nhome = \"crude\"\n\
+[[process]]\nname = \"n0\"\n\
+[[sanitise]]\nop = \"sum\"\nleast = 3\n";
 
 /// Four processes, all at home with alpha.
-pub(crate) const FRIENDS: &str =
-    "version = 1\n[[class]]\nname = \"banks\"\ndatasets = [\"alpha\", \"beta\"]\n[[process]]\nname = \"p0\"\nhome = \"alpha\"\n[[process]]\nname = \"p1\"\nhome = \"alpha\"\n[[process]]\nname = \"p2\"\nhome = \"alpha\"\n[[process]]\nname = \"p3\"\nhome = \"alpha\"\n";
+pub(crate) const FRIENDS: &str = "\
+version = 1\n\
+[[class]]\nname = \"banks\"\ndatasets = [\"alpha\", \"beta\"]\n\
+[[process]]\nname = \"p0\"\nhome = \"alpha\"\n\
+[[process]]\nname = \"p1\"\nhome = \"alpha\"\n\
+[[process]]\nname = \"p2\"\nhome = \"alpha\"\n\
+[[process]]\nname = \"p3\"\nhome = \"alpha\"\n";
 
 /// What a process does: a broadcast on a communicator from a root of so many numbers, with its own
 /// under a label; a sum over all, of its own numbers under a label; a split of the world, by colour

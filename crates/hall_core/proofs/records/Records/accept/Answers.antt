@@ -20,6 +20,12 @@ use Rattle.hall_core.proofs.PostLemmas.{few_elements, free_stated, has_form_of, 
 use Rattle.hall_core.proofs.PostLemmas.{post_wanted}
 use Rattle.hall_core.proofs.records.Records.accept.Goals as goal
 
+pub member-member-requires : goal.member-member-requires
+member-member-requires c =
+    let few = c.requires.policy.few_processes in
+    let process = c.requires.process in
+    omega (arith, few, process)
+
 pub overflow_cast-given : goal.overflow_cast-given
 overflow_cast-given c =
     let few = few_elements c.args.self.now.policy (seen c.args.self.now.post_state) c.args.process

@@ -1,4 +1,4 @@
-use Rattle.std.proofs.Common.{◌≡◌, ◌≢◌, ℕ, Some, None, refl, sym, ap, ◌∙◌, subst}
+use Rattle.std.proofs.Common.{◌≡◌, ◌≢◌, ℕ, Some, None, refl, sym, ap, ◌∙◌, subst, arith}
 use Rattle.std.specs.Option.{option_copied}
 use Rattle.mpi_group.specs.Groups.{rank_in}
 use Rattle.run_model.specs.declared.refusal.Refusal.TheVariants.{NoMemory}
@@ -13,6 +13,13 @@ use Rattle.hall_core.proofs.TakeLemmas.{rank_there}
 use Rattle.hall_core.proofs.TellLemmas.{tellable}
 use Rattle.hall_core.proofs.ClaimLemmas.{of_held}
 use Rattle.hall_core.proofs.records.Records.claim_of.Goals as goal
+
+pub member-member-requires : goal.member-member-requires
+member-member-requires c =
+    let few = c.requires.policy.few_processes in
+    let each = c.requires.each in
+    let process = c.requires.process in
+    omega (arith, few, each, process)
 
 pub claimed-requires-clause-tellable : goal.claimed-requires-clause-tellable
 claimed-requires-clause-tellable c =

@@ -1,4 +1,4 @@
-use Rattle.std.proofs.Common.{◌<◌, None, Some, length, sym, ap, ◌∙◌, subst}
+use Rattle.std.proofs.Common.{◌<◌, None, Some, length, sym, ap, ◌∙◌, subst, arith}
 use Rattle.mpi_group.specs.Groups.{rank_in}
 use Rattle.std.specs.Option.{option_map}
 use Rattle.mpi_cart.specs.Grids.{Topology}
@@ -8,6 +8,12 @@ use Rattle.hall_core.specs.Invariant.{view_in}
 use Rattle.hall_core.proofs.LookLemmas.{there}
 use Rattle.hall_core.proofs.InfoLemmas.{info_is}
 use Rattle.hall_core.proofs.records.Records.info.Goals as goal
+
+pub member-member-requires : goal.member-member-requires
+member-member-requires c =
+    let few = c.processes.ensures.few in
+    let within = c.if-processes-process.false in
+    omega (arith, few, within)
 
 pub returns-in-None : goal.returns-in-None
 returns-in-None c =
