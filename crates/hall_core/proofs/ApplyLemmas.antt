@@ -8,17 +8,19 @@ use Rattle.run_model.specs.Books.{book, IsSound, posts_in as posts_in_book}
 use Rattle.run_model.specs.PostLaws.{IsWhatIsHeld, NobodyHoldsBoth}
 use Rattle.run_model.proofs.RunModelLemmas.{book_is_sound, posts_in-book, posts_keep_the_wall}
 use Rattle.run_model.proofs.RunModelLemmas.{legal_proper, nobody_holds_two_rivals_in_runs}
-use Rattle.run_model.proofs.RunModelLemmas.{holding_is_history_in_runs}
+use Rattle.run_model.proofs.RunModelLemmas.{holding_is_history_in_runs, posts_but_for_room}
+use Rattle.run_model.proofs.RunModelLemmas.{proper_but_for_room, reply_but_for_room}
+use Rattle.run_model.proofs.RunModelLemmas.{after_but_for_room}
 use Rattle.run_model.specs.Contributions.{posts_of}
 use Rattle.run_state.specs.Stands.{StandsForPosts}
 use Rattle.run_model.specs.declared.call.Call.{Call}
 use Rattle.run_model.specs.declared.reply.Reply.{Reply}
-use Rattle.run_model.specs.Runs.{Entry, effects, contributions, posts, entry}
-use Rattle.run_model.specs.Replies.{Legal, posts_in, reply}
+use Rattle.run_model.specs.Runs.{Entry, effects, posts, entry, after_entry}
+use Rattle.run_model.specs.Replies.{IsAnswer, Legal, posts_in, reply}
 use Rattle.hall_core.specs.declared.claims.Claim.{Claim}
 use Rattle.hall_core.specs.Claims.{HoldsWhatIsKept, Claims}
 use Rattle.hall_core.proofs.ClaimLemmas.{held_claims}
-use Rattle.hall_core.specs.Halls.{HallValue, StandsForEffects, StandsFor, view_of}
+use Rattle.hall_core.specs.Halls.{HallValue, StandsForEffects, StandsForRun, StandsFor, view_of}
 use Rattle.hall_core.specs.Asking.{requests_of}
 use Rattle.hall_core.specs.Settling.{KeepsCount}
 use Rattle.hall_core.specs.Invariant.{IsHallValue}
@@ -27,14 +29,23 @@ use Rattle.run_model.specs.Known.{HasKnownLabel, IsKnownEntry}
 use Rattle.hall_core.proofs.NamedLemmas.{is_hall_after, book_named}
 
 pub stands_for : (hall : HallValue) (run : List Entry) → StandsFor hall run →
-    StandsForEffects (view_of hall) (effects run)
+    StandsForRun (view_of hall) run
 unfolding StandsFor
 stands_for hall run stands = stands
 
-pub for_stands : (hall : HallValue) (run : List Entry) →
-    StandsForEffects (view_of hall) (effects run) → StandsFor hall run
+pub for_stands : (hall : HallValue) (run : List Entry) → StandsForRun (view_of hall) run →
+    StandsFor hall run
 unfolding StandsFor
 for_stands hall run stands = stands
+
+-- a hall that keeps just what the run has made
+pub stands_exactly : (hall : HallValue) (run : List Entry) →
+    StandsForEffects (view_of hall) (effects run) → StandsFor hall run
+stands_exactly hall run stands = for_stands hall run (record {
+  kept = effects run;
+  same = record { contributions = refl; taken = λ p r. refl };
+  stands = stands;
+})
 
 -- the contract of `apply`, from that of a step
 pub applied : (old new : HallValue) (call : Call) (got : Reply) → new.policy ≡ old.policy →
@@ -43,10 +54,18 @@ pub applied : (old new : HallValue) (call : Call) (got : Reply) → new.policy �
     Legal new.policy (entry call got ∷ run) × StandsFor new (entry call got ∷ run)
 unfolding reply
 applied old new call got same steps run legal stands =
-    let step = steps (effects run) (legal_proper old.policy run legal) (stands_for old run stands)
-    in (
-      subst (λ (w : ChineseWall). Legal w (entry call got ∷ run)) (sym same) (legal, step.0),
-      for_stands new (entry call got ∷ run) step.1,
+    let of = stands_for old run stands in
+    let step = steps of.kept
+    (proper_but_for_room old.policy of.kept (effects run) of.same
+    (legal_proper old.policy run legal)) of.stands in
+    let due = subst (λ (r : Reply). IsAnswer r got)
+    (reply_but_for_room old.policy of.kept (effects run) of.same call.process call.act) step.0 in (
+      subst (λ (w : ChineseWall). Legal w (entry call got ∷ run)) (sym same) (legal, due),
+      for_stands new (entry call got ∷ run) (record {
+        kept = after_entry of.kept (entry call got);
+        same = after_but_for_room old.policy of.kept (effects run) of.same (entry call got);
+        stands = step.1;
+      }),
     )
 
 pub applied_apart : (old new : HallValue) (call : Call) (got : Reply) → IsPolicy old.policy →
@@ -78,7 +97,8 @@ pub claimed : (old : HallValue) (p r : ℕ) (claim : Claim) → HoldsWhatIsKept 
     → (run : List Entry) → Legal old.policy run → StandsFor old run
     → Claims old.policy (effects run) p r claim
 claimed old p r claim holds run legal stands =
-    held_claims (view_of old) (effects run) (stands_for old run stands) p r claim holds
+    let of = stands_for old run stands in
+    held_claims (view_of old) of.kept (effects run) of.stands of.same p r claim holds
 
 -- ## what is shown of a hall
 
@@ -87,7 +107,10 @@ pub histories_are : (hall : HallValue) (h : History) (run : List Entry) →
     h ≡ histories wall (posts_of past)) → StandsFor hall run →
     h ≡ histories hall.policy (posts run)
 histories_are hall h run by stands =
-    by hall.policy (contributions run) (stands_for hall run stands).post_state
+    let of = stands_for hall run stands in
+    by hall.policy of.kept.contributions of.stands.post_state
+    ∙ ap (λ past. histories hall.policy past)
+    (posts_but_for_room hall.policy of.kept (effects run) of.same)
 
 -- the histories are those of the posts in the book
 pub histories_of_book : (hall : HallValue) (h : History) → IsHallValue hall
@@ -128,7 +151,11 @@ is_held hall h run by legal stands = subst (IsWhatIsHeld hall.policy (posts run)
 
 pub book_is : (hall : HallValue) (run : List Entry) → StandsFor hall run →
     hall.book.list ≡ book hall.policy (posts run)
-book_is hall run stands = (stands_for hall run stands).book
+book_is hall run stands =
+    let of = stands_for hall run stands in
+    of.stands.book
+    ∙ ap (λ past. book hall.policy past)
+    (posts_but_for_room hall.policy of.kept (effects run) of.same)
 
 pub sound : (hall : HallValue) → IsHallValue hall → IsSound hall.policy hall.book.list
 sound hall is = subst (IsSound hall.policy) (sym is.stands.stands.book)

@@ -1,8 +1,15 @@
 -- What a claim holds, from the hall to its runs.
-use Rattle.std.proofs.Common.{◌≡◌, ℕ, Some, sym, ap, ◌∙◌}
+use Rattle.std.proofs.Common.{◌≡◌, ℕ, List, Some, slice_get, ap, ◌∙◌, subst}
 use Rattle.std.specs.Arc.{arc_value}
+use Rattle.mpi_elems.specs.Contents.{Contents}
+use Rattle.coll_values.specs.declared.full.Full.{Full}
 use Rattle.run_model.specs.declared.outcome.Outcome.TheVariants.{Granted}
-use Rattle.run_model.specs.Runs.{Effects}
+use Rattle.run_model.specs.Posts.{Post, outcome_at}
+use Rattle.run_model.specs.Contributions.{full_at}
+use Rattle.run_model.specs.Runs.{Effects, requests}
+use Rattle.run_model.specs.Buffers.{SameInstanceButForRoom, SameButForRoom}
+use Rattle.run_model.specs.Replies.{posts_in, comm_at}
+use Rattle.run_model.proofs.RunModelLemmas.{posts_but_for_room, instance_but_for_room}
 use Rattle.hall_core.specs.declared.claims.Claim.{Claim}
 use Rattle.hall_core.specs.declared.claims.Claim.TheVariants.{Done, Ready}
 use Rattle.hall_core.specs.declared.requests.Request.{Request}
@@ -23,18 +30,26 @@ of_held hall p r q s (Ready full rank room) waits there of = record {
   is_member = of.is_member;
 }
 
--- what stands in the hall is what the run has made
-pub held_claims : (hall : HallView) (m : Effects) → StandsForEffects hall m →
-    (p r : ℕ) (claim : Claim)
-    → HoldsWhatIsKept hall p r claim → Claims hall.policy m p r claim
-held_claims hall m stands p r (Done reply) held = held
-held_claims hall m stands p r (Ready full rank room) held =
-    let kept = settlement (arc_value full) Granted in
-    let known = known_as hall m stands p r held.asked kept held.waits held.granted in record {
-      comm = held.asked.comm;
-      k = held.asked.k;
-      asked = open_at hall m stands p r held.asked held.waits;
-      granted = known.came;
-      is_full = sym known.full;
+-- what stands in the hall is what the run has made, but for the room of buffers
+pub held_claims : (hall : HallView) (kept m : Effects) → StandsForEffects hall kept →
+    SameButForRoom kept m → (p r : ℕ) (claim : Claim) → HoldsWhatIsKept hall p r claim →
+    Claims hall.policy m p r claim
+held_claims hall kept m stands same p r (Done reply) held = held
+held_claims hall kept m stands same p r (Ready full rank room) held =
+    let comm = held.asked.comm in
+    let k = held.asked.k in
+    let posts = posts_but_for_room hall.policy kept m same in
+    let known = known_as hall kept stands p r held.asked (settlement (arc_value full) Granted)
+    held.waits held.granted in
+    record {
+      comm = comm;
+      k = k;
+      asked = subst (λ (past : List Post). slice_get (requests p past) r ≡ Some (comm, k)) posts
+          (open_at hall kept stands p r held.asked held.waits);
+      granted = subst (λ (past : List Post). outcome_at hall.policy comm k past ≡ Some Granted)
+          posts known.came;
+      is_full = subst (λ (F : Full Contents). SameInstanceButForRoom F
+          (full_at (comm_at hall.policy (posts_in m) comm) comm k m.contributions)) known.full
+          (instance_but_for_room hall.policy kept m same comm k);
       is_member = held.is_member;
     }

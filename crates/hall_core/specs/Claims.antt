@@ -19,6 +19,7 @@ use Rattle.run_model.specs.declared.reply.Reply.TheVariants.{Posted, Barred, Pen
 use Rattle.run_model.specs.declared.reply.Reply.TheVariants.{NewComm, NullComm, Denied, NoRoom}
 use Rattle.run_model.specs.declared.reply.Reply.TheVariants.{Info, Refused}
 use Rattle.run_model.specs.Runs.{Entry, Effects, requests, entry}
+use Rattle.run_model.specs.Buffers.{SameInstanceButForRoom}
 use Rattle.run_model.specs.Replies.{posts_in, comm_at}
 use Rattle.hall_core.specs.declared.claims.Claim.{Claim}
 use Rattle.hall_core.specs.declared.claims.Claim.TheVariants.{Done, Ready}
@@ -66,14 +67,16 @@ IsNoDelivery (Refused refusal) = Unit {0}
 
 -- ## what a claim holds
 
--- p's request is for this instance, which was granted, and in it p has this rank
+-- p's request is for this instance, which was granted, and in it p has this rank. Its buffers may
+-- have other room than those that the members handed in.
 pub record IsClaimed (wall : ChineseWall) (effects : Effects) (p request : ℕ) (full : Full Contents)
     (rank : ℕ) : Type 0 where
   pub comm : ℕ
   pub k : ℕ
   pub asked : slice_get (requests p (posts_in effects)) request ≡ Some (comm, k)
   pub granted : outcome_at wall comm k (posts_in effects) ≡ Some Granted
-  pub is_full : full ≡ full_at (comm_at wall (posts_in effects) comm) comm k effects.contributions
+  pub is_full : SameInstanceButForRoom full
+      (full_at (comm_at wall (posts_in effects) comm) comm k effects.contributions)
   pub is_member : rank_in full.roll.members p ≡ Some rank
 
 -- A claim of p for its request is ready, and holds the instance as the run has it and p's rank in

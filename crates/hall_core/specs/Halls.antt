@@ -13,6 +13,7 @@ use Rattle.run_model.specs.Contributions.{full_at}
 use Rattle.run_state.specs.Views.{PostStateView, PostStateValue, view_of as seen}
 use Rattle.run_state.specs.Stands.{StandsForPosts}
 use Rattle.run_model.specs.Runs.{Entry, Effects, effects, requests}
+use Rattle.run_model.specs.Buffers.{SameButForRoom}
 use Rattle.run_model.specs.Replies.{posts_in, comm_at}
 use Rattle.hall_core.specs.declared.requests.Request.{Request}
 use Rattle.hall_core.specs.declared.settled.Settlement.{Settlement}
@@ -77,6 +78,14 @@ pub record StandsForEffects (hall : HallView) (effects : Effects) : Type 0 where
       hall.settled r.comm r.k ≡ settlement_in hall.policy effects r.comm r.k
   pub book : hall.book ≡ book hall.policy (posts_in effects)
 
+-- A hall stands for a run if what it keeps is what the run has made, but that its buffers may have
+-- other room: the type and the numbers of each are the run's. Room is no part of what was posted,
+-- and no reply tells it.
+pub record StandsForRun (hall : HallView) (run : List Entry) : Type 0 where
+  pub kept : Effects
+  pub same : SameButForRoom kept (effects run)
+  pub stands : StandsForEffects hall kept
+
 -- the hall stands for the run
 unfoldable pub StandsFor : HallValue → List Entry → Type 0
-StandsFor hall run = StandsForEffects (view_of hall) (effects run)
+StandsFor hall run = StandsForRun (view_of hall) run

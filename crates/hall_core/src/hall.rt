@@ -81,9 +81,9 @@ impl Hall {
     /// All of a take that needs the hall, the mark as taken included; `finish` gives its reply.
     ///
     /// It is ready exactly where that reply is `Delivered`. Then it holds the instance as the run
-    /// has it, which never changes again, the caller's rank in it, and room for what that rank
-    /// gets, with no block filled. A claim that found no memory is `Refused(NoMemory)`, and the
-    /// request stays.
+    /// has it (its buffers may have other room), which never changes again, the caller's rank in
+    /// it, and room for what that rank gets, with no block filled. A claim that found no memory is
+    /// `Refused(NoMemory)`, and the request stays.
     pub fn claim(&mut self, process: u32, request: u64) -> Claim
         ensures policy { self.new.policy ≡ self.old.policy }
         ensures runs { (run : List Entry) → Legal self.old.policy run → StandsFor self.old run →
