@@ -1,40 +1,14 @@
 //! What each process holds, and the star rule.
-ghost use Rattle.std.specs.Prelude.{◌≡◌, ◌<◌};
-
+use crate::parties::{BANKS_AND_OIL, dataset, process};
 use std::alloc::Global;
 use std::test::Fail;
-use wall_labels::{DATASET_LIMIT, DatasetId, Label, LabelSet, PROCESS_LIMIT, ProcessId};
+use wall_labels::{DatasetId, Label, LabelSet, ProcessId};
 use wall_policy::read_policy;
 use wall_rules::Histories;
 
-// Datasets: 0 alpha and 1 beta of banks, 2 crude and 3 delta of oil. Processes: 0 a0, 1 b0, 2 c0, 3
-// n0.
-const POLICY: &str =
-    "version = 1\n[[class]]\nname = \"banks\"\ndatasets = [\"alpha\", \"beta\"]\n[[class]]\nname = \"oil\"\ndatasets = [\"crude\", \"delta\"]\n[[process]]\nname = \"a0\"\nhome = \"alpha\"\n[[process]]\nname = \"b0\"\nhome = \"beta\"\n[[process]]\nname = \"c0\"\nhome = \"crude\"\n[[process]]\nname = \"n0\"\n[[sanitise]]\nop = \"sum\"\nleast = 3\n";
-
 fn opened(alloc: Global) -> Result<Histories, Fail> {
-    let policy = read_policy(alloc, POLICY.as_bytes())?;
+    let policy = read_policy(alloc, BANKS_AND_OIL.as_bytes())?;
     Ok(Histories::opening(alloc, &policy)?)
-}
-
-fn dataset(number: u32) -> DatasetId
-    requires { number < DATASET_LIMIT }
-    ensures { result ≡ number }
-{
-    match DatasetId::new(number) {
-        Some(id) => id,
-        None => unreachable!(),
-    }
-}
-
-fn process(number: u32) -> ProcessId
-    requires { number < PROCESS_LIMIT }
-    ensures { result ≡ number }
-{
-    match ProcessId::new(number) {
-        Some(id) => id,
-        None => unreachable!(),
-    }
 }
 
 // Enters the dataset where the simple security rule permits it.

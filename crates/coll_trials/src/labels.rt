@@ -1,21 +1,8 @@
 //! Ids, labels, sets of datasets and devices in memory.
-ghost use Rattle.std.specs.Prelude.{◌≡◌, ◌<◌};
-
+use crate::parties::dataset;
 use std::test::*;
 use wall_labels::memory::{ExpectingSink, Fuse, MemorySource};
-use wall_labels::{
-    ClassId, DATASET_LIMIT, DatasetId, Failed, Label, LabelSet, Op, ProcessId, Source, write_all,
-};
-
-fn dataset(number: u32) -> DatasetId
-    requires { number < DATASET_LIMIT }
-    ensures { result ≡ number }
-{
-    match DatasetId::new(number) {
-        Some(id) => id,
-        None => unreachable!(),
-    }
-}
+use wall_labels::{ClassId, DatasetId, Failed, Label, LabelSet, Op, ProcessId, Source, write_all};
 
 #[test]
 fn ids_are_the_numbers_below_their_limits(rt: HostRuntime) {

@@ -1,15 +1,35 @@
+//! The policy file: what is read, and each fault.
+use crate::parties::BANKS_AND_OIL;
 use std::alloc::{AllocError, Global};
 use std::process::Abort;
 use std::test::Fail;
 use wall_labels::{DatasetId, Op};
 use wall_policy::{Policy, PolicyFault, read_policy};
 
-const W: &str =
-    "version = 1\n[[class]]\nname = \"banks\"\ndatasets = [\"alpha\", \"beta\"]\n[[class]]\nname = \"oil\"\ndatasets = [\"crude\", \"delta\"]\n[[process]]\nname = \"a0\"\nhome = \"alpha\"\n[[process]]\nname = \"b0\"\nhome = \"beta\"\n[[process]]\nname = \"c0\"\nhome = \"crude\"\n[[process]]\nname = \"n0\"\n[[sanitise]]\nop = \"sum\"\nleast = 3\n";
-
-// W in version 2, where a sanitised sum takes three different datasets.
-const Z: &str =
-    "version = 2\n[[class]]\nname = \"banks\"\ndatasets = [\"alpha\", \"beta\"]\n[[class]]\nname = \"oil\"\ndatasets = [\"crude\", \"delta\"]\n[[process]]\nname = \"a0\"\nhome = \"alpha\"\n[[process]]\nname = \"b0\"\nhome = \"beta\"\n[[process]]\nname = \"c0\"\nhome = \"crude\"\n[[process]]\nname = \"n0\"\n[[sanitise]]\nop = \"sum\"\nleast = 3\ndistinct = 3\n";
+// The same in version 2, where a sanitised sum takes data of three firms.
+const THREE_FIRMS: &str = r#"version = 2
+[[class]]
+name = "banks"
+datasets = ["alpha", "beta"]
+[[class]]
+name = "oil"
+datasets = ["crude", "delta"]
+[[process]]
+name = "a0"
+home = "alpha"
+[[process]]
+name = "b0"
+home = "beta"
+[[process]]
+name = "c0"
+home = "crude"
+[[process]]
+name = "n0"
+[[sanitise]]
+op = "sum"
+least = 3
+distinct = 3
+"#;
 
 // What reading answers: nothing for a policy.
 fn fault_of(alloc: Global, bytes: &[u8]) -> Option<PolicyFault> {
@@ -38,7 +58,7 @@ fn short_texts(rt: HostRuntime) {
 #[test]
 fn changed_policies(rt: HostRuntime) -> Result<(), Fail> {
     let alloc = rt.alloc();
-    assert!(rt; fault_of(alloc, W.as_bytes()).is_none());
+    assert!(rt; fault_of(alloc, BANKS_AND_OIL.as_bytes()).is_none());
     let cases = [
         (
             "version = 1\n",
@@ -82,7 +102,7 @@ fn changed_policies(rt: HostRuntime) -> Result<(), Fail> {
         ("version = 1", "version = true", PolicyFault::BadVersion),
     ];
     for (old, new, fault) in cases {
-        let text = W.replace(alloc, old, new)?;
+        let text = BANKS_AND_OIL.replace(alloc, old, new)?;
         assert!(rt; fault_of(alloc, text.as_bytes()) == Some(fault), "{new}");
     }
     Ok(())
@@ -91,7 +111,7 @@ fn changed_policies(rt: HostRuntime) -> Result<(), Fail> {
 #[test]
 fn changed_policies_of_version_2(rt: HostRuntime) -> Result<(), Fail> {
     let alloc = rt.alloc();
-    assert!(rt; fault_of(alloc, Z.as_bytes()).is_none());
+    assert!(rt; fault_of(alloc, THREE_FIRMS.as_bytes()).is_none());
     let cases = [
         ("distinct = 3", "distinct = 4", PolicyFault::BadLeast),
         ("distinct = 3", "distinct = 0", PolicyFault::BadLeast),
@@ -107,7 +127,7 @@ fn changed_policies_of_version_2(rt: HostRuntime) -> Result<(), Fail> {
         ("version = 2", "version = 3", PolicyFault::BadVersion),
     ];
     for (old, new, fault) in cases {
-        let text = Z.replace(alloc, old, new)?;
+        let text = THREE_FIRMS.replace(alloc, old, new)?;
         assert!(rt; fault_of(alloc, text.as_bytes()) == Some(fault), "{new}");
     }
     Ok(())
@@ -120,9 +140,32 @@ fn read(rt: HostRuntime) {
         "version = 1\nclass = []\nsanitise = []\n[[process]]\nname = \"p0\"\n",
         "version = 1\n[[process]]\nname = \"public\"\n",
         "version = 1\n[[process]]\nname = \"p234567890123456789012345678901-\"\n",
-        "version = 1\n[[process]]\nname = \"p\"\n[[sanitise]]\nop = \"max\"\nleast = 65\n[[sanitise]]\nop = \"min\"\nleast = 256\n",
-        "version = 2\n[[process]]\nname = \"p\"\n[[sanitise]]\nop = \"max\"\nleast = 256\ndistinct = 256\n",
-        "version = 1\n[[class]]\nname = \"a\"\ndatasets = [\"a\"]\n[[process]]\nname = \"a\"\nhome = \"a\"\n",
+        r#"version = 1
+[[process]]
+name = "p"
+[[sanitise]]
+op = "max"
+least = 65
+[[sanitise]]
+op = "min"
+least = 256
+"#,
+        r#"version = 2
+[[process]]
+name = "p"
+[[sanitise]]
+op = "max"
+least = 256
+distinct = 256
+"#,
+        r#"version = 1
+[[class]]
+name = "a"
+datasets = ["a"]
+[[process]]
+name = "a"
+home = "a"
+"#,
     ];
     for text in texts {
         assert!(rt; fault_of(rt.alloc(), text.as_bytes()).is_none(), "{text}");
@@ -175,9 +218,9 @@ fn limits(rt: HostRuntime) -> Result<(), Fail> {
     Ok(())
 }
 
-// The policy W as it is read, and a copy of it.
+// The policy as it is read, and a copy of it.
 fn read_and_copied(alloc: Global) -> Result<[Policy; 2], PolicyFault> {
-    both(alloc, W)
+    both(alloc, BANKS_AND_OIL)
 }
 
 // A policy as it is read, and a copy of it.
@@ -225,8 +268,8 @@ fn check_versions(
 
 #[test]
 fn versions(rt: HostRuntime) -> Result<(), PolicyFault> {
-    check_versions(&rt, rt.alloc(), W, 1, 1)?;
-    check_versions(&rt, rt.alloc(), Z, 2, 3)
+    check_versions(&rt, rt.alloc(), BANKS_AND_OIL, 1, 1)?;
+    check_versions(&rt, rt.alloc(), THREE_FIRMS, 2, 3)
 }
 
 fn are_rivals(policy: &Policy, left: &str, right: &[u8]) -> Option<bool> {

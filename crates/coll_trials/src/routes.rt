@@ -402,8 +402,11 @@ fn blocks_of_four_ranks(rt: HostRuntime) {
         elem_type,
         counts,
     };
-    let expected =
-        "[(0:0+1)(1:0+1)(2:0+1)(3:0+1)]\n[]\n[(0:1+2)(1:1+2)(2:1+2)(3:1+2)]\n[(0:3+1)(1:3+1)(2:3+1)(3:3+1)]\n";
+    let expected = r#"[(0:0+1)(1:0+1)(2:0+1)(3:0+1)]
+[]
+[(0:1+2)(1:1+2)(2:1+2)(3:1+2)]
+[(0:3+1)(1:3+1)(2:3+1)(3:3+1)]
+"#;
     expect_pieces(&rt, alloc, plain(4), reduce_scatter, &[4; 4], &[], expected);
 }
 
@@ -416,8 +419,11 @@ fn pieces_between_neighbours(rt: HostRuntime) {
         elem_type,
         count: 1,
     };
-    let expected =
-        "[(2:0+1)][(2:0+1)][][(1:0+1)]\n[(3:0+1)][(3:0+1)][(0:0+1)][]\n[(0:0+1)][(0:0+1)][][(3:0+1)]\n[(1:0+1)][(1:0+1)][(2:0+1)][]\n";
+    let expected = r#"[(2:0+1)][(2:0+1)][][(1:0+1)]
+[(3:0+1)][(3:0+1)][(0:0+1)][]
+[(0:0+1)][(0:0+1)][][(3:0+1)]
+[(1:0+1)][(1:0+1)][(2:0+1)][]
+"#;
     let tube = grid(&rt, alloc, 4, &[2, 2], &[true, false]);
     expect_pieces(&rt, alloc, tube, gathered, &[1; 4], &[], expected);
     // Periodic dimensions of size 1 and 2: what is given for the positive slot arrives in the

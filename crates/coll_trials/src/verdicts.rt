@@ -2,6 +2,7 @@
 ghost use Rattle.std.specs.Prelude.{◌≡◌, ◌<◌, IfOk};
 ghost use Rattle.coll_routes.specs.Fit.{IsFit};
 
+use crate::parties::{BANKS_AND_OIL, dataset, process};
 use coll_routes::{Own, Roll, Shape, Signature, Stated, Statements};
 use mpi_cart::Grid;
 use mpi_elems::ElemType;
@@ -13,11 +14,6 @@ use wall_labels::{DATASET_LIMIT, DatasetId, Label, Op, PROCESS_LIMIT, ProcessId}
 use wall_policy::{Policy, read_policy};
 use wall_rules::Histories;
 use wall_verdict::{Rule, Verdict, charged, decide, enter_label, passes_star, sanitised, settle};
-
-// Datasets: 0 alpha and 1 beta of banks, 2 crude and 3 delta of oil. Processes: 0 a0, 1 b0, 2 c0, 3
-// n0. A sum of three is sanitised.
-const POLICY: &str =
-    "version = 1\n[[class]]\nname = \"banks\"\ndatasets = [\"alpha\", \"beta\"]\n[[class]]\nname = \"oil\"\ndatasets = [\"crude\", \"delta\"]\n[[process]]\nname = \"a0\"\nhome = \"alpha\"\n[[process]]\nname = \"b0\"\nhome = \"beta\"\n[[process]]\nname = \"c0\"\nhome = \"crude\"\n[[process]]\nname = \"n0\"\n[[sanitise]]\nop = \"sum\"\nleast = 3\n";
 
 const WORLD: [u32; 4] = [0, 1, 2, 3];
 
@@ -34,33 +30,13 @@ enum Gift {
 
 use Gift::{Barred, Nothing, Of, Public};
 
-fn dataset(number: u32) -> DatasetId
-    requires { number < DATASET_LIMIT }
-    ensures { result ≡ number }
-{
-    match DatasetId::new(number) {
-        Some(id) => id,
-        None => unreachable!(),
-    }
-}
-
-fn process(number: u32) -> ProcessId
-    requires { number < PROCESS_LIMIT }
-    ensures { result ≡ number }
-{
-    match ProcessId::new(number) {
-        Some(id) => id,
-        None => unreachable!(),
-    }
-}
-
 fn policy(alloc: Global) -> Result<Policy, Fail> {
-    Ok(read_policy(alloc, POLICY.as_bytes())?)
+    Ok(read_policy(alloc, BANKS_AND_OIL.as_bytes())?)
 }
 
 // The same in version 2, where a sum of three takes two datasets.
 fn policy_of_version_2(alloc: Global) -> Result<Policy, Fail> {
-    let second = POLICY.replace(alloc, "version = 1", "version = 2")?;
+    let second = BANKS_AND_OIL.replace(alloc, "version = 1", "version = 2")?;
     let text = second.replace(alloc, "least = 3", "least = 3\ndistinct = 2")?;
     Ok(read_policy(alloc, text.as_bytes())?)
 }
