@@ -240,19 +240,45 @@ fn run_all<R: Threads + Wait + Sync, G: Gate + Sync>(
     ensures fault { IfErr result (λ fault. fault ≢ BadScripts) }
     ensures exhausted { IfErr result (λ fault. fault ≡ Exhausted → MayRunOut PATIENCE scripts) }
 {
-    let (door, passes) = Door::open(alloc, policy)?;
-    let jobs = share_out(alloc, passes, scripts.into_vec())?;
-    let ended = run_jobs(rt, alloc, &door, jobs, gate)?;
-    let Ok(hall) = door.close(ended.passes) else {
-        unreachable!()
+    // What is wide is handed to `drop` on each way out, which takes it apart in one call.
+    let Ok((door, passes)) = Door::open(alloc, policy) else {
+        return Err(RunFault::NoMemory);
     };
-    match ended.ending {
+    let Ok(jobs) = share_out(alloc, passes, scripts.into_vec()) else {
+        drop(door);
+        return Err(RunFault::NoMemory);
+    };
+    let ended = match run_jobs(rt, alloc, &door, jobs, gate) {
+        Ok(ended) => ended,
+        Err(fault) => {
+            drop(door);
+            return Err(fault);
+        }
+    };
+    let Ended {
+        passes,
+        replies,
+        ending,
+    } = ended;
+    let hall = match door.close(passes) {
+        Ok(hall) => hall,
+        Err(_unclosed) => unreachable!(),
+    };
+    match ending {
         Ending::Whole => Ok(Run {
-            replies: RunReplies::from(ended.replies),
+            replies: RunReplies::from(replies),
             hall,
         }),
-        Ending::Cut => Err(RunFault::Exhausted),
-        Ending::NotBegun => Err(RunFault::NoThread),
+        Ending::Cut => {
+            drop(hall);
+            drop(replies);
+            Err(RunFault::Exhausted)
+        }
+        Ending::NotBegun => {
+            drop(hall);
+            drop(replies);
+            Err(RunFault::NoThread)
+        }
     }
 }
 
@@ -279,7 +305,8 @@ pub fn run_ranks<R: Threads + Wait + Sync, G: Gate + Sync>(
     ensures ran { IfOk result (λ run. Ran script_patience policy scripts run.replies run.hall) }
     ensures bad_scripts { IfErr result (λ fault.
         (fault ≡ BadScripts) ↔ (length scripts ≢ processes policy)) }
-    ensures exhausted { IfErr result (λ fault. fault ≡ Exhausted → MayRunOut script_patience scripts) }
+    ensures exhausted { IfErr result
+        (λ fault. fault ≡ Exhausted → MayRunOut script_patience scripts) }
 {
     if scripts.len() != policy.processes() as usize {
         return Err(RunFault::BadScripts);
