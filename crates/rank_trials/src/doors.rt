@@ -5,54 +5,20 @@
 ghost use Rattle.std.specs.Prelude.{◌≡◌};
 ghost use Rattle.std.specs.List.{All};
 ghost use Rattle.run_model.specs.Known.{IsKnownLabel};
+ghost use Rattle.hall_turn.specs.Answers.{MayFinish};
 
+use crate::parties::{ALONE, FRIENDS, RIVALS, front, label, open, wall};
 use coll_routes::{Own, Signature};
 use coll_values::{Block, Integers};
 use hall_core::{Act, Call, Hall, Posting, Refusal, Reply};
-use hall_turn::{Answer, CloseFault, Door, Pass, Passes, Unclosed};
+use hall_turn::{Answer, Claim, Claimed, CloseFault, Door, Pass, Passes, Unclosed, finish};
 use mpi_elems::{Buffer, ElemType};
 use std::alloc::Global;
 use std::process::Abort;
 use std::sync::Wait;
 use std::thread::{Threads, join};
 use wall_labels::{Label, Op};
-use wall_policy::{Policy, read_policy};
-
-/// One process, at home with alpha.
-const ALONE: &str =
-    "version = 1\n[[class]]\nname = \"banks\"\ndatasets = [\"alpha\", \"beta\"]\n[[process]]\nname = \"p0\"\nhome = \"alpha\"\n";
-
-/// Two processes, both at home with alpha.
-const FRIENDS: &str =
-    "version = 1\n[[class]]\nname = \"banks\"\ndatasets = [\"alpha\", \"beta\"]\n[[process]]\nname = \"p0\"\nhome = \"alpha\"\n[[process]]\nname = \"p1\"\nhome = \"alpha\"\n";
-
-/// Four processes: a0 at home with alpha, b0 with beta, c0 with crude, n0 nowhere. Sums of three
-/// contributors are sanitised.
-const RIVALS: &str =
-    "version = 1\n[[class]]\nname = \"banks\"\ndatasets = [\"alpha\", \"beta\"]\n[[class]]\nname = \"oil\"\ndatasets = [\"crude\", \"delta\"]\n[[process]]\nname = \"a0\"\nhome = \"alpha\"\n[[process]]\nname = \"b0\"\nhome = \"beta\"\n[[process]]\nname = \"c0\"\nhome = \"crude\"\n[[process]]\nname = \"n0\"\n[[sanitise]]\nop = \"sum\"\nleast = 3\n";
-
-/// A label of the policy, public if it has none of that name.
-fn label(policy: &Policy, name: &str) -> Label
-    ensures { IsKnownLabel policy.now result }
-{
-    match policy.dataset_named(name) {
-        Some(dataset) => Label::Of(dataset),
-        None => Label::Public,
-    }
-}
-
-/// The policy of this text.
-fn wall<R: Abort>(rt: &R, alloc: Global, text: &str) -> Policy {
-    read_policy(alloc, text.as_bytes()).expect(rt, "the policy is not read")
-}
-
-/// A door, and its passes.
-fn open<R: Abort>(rt: &R, alloc: Global, policy: Policy) -> (Door, Passes)
-    ensures policy { result.0.policy ≡ policy }
-    ensures passes { All (λ pass. pass.door ≡ result.0) result.1.items }
-{
-    Door::open(alloc, policy).expect(rt, "the door is not opened")
-}
+use wall_policy::Policy;
 
 /// A post on the communicator of all processes.
 fn posting<R: Abort>(
@@ -179,13 +145,34 @@ fn take<R: Wait + Abort>(rt: &R, door: &Door, pass: &mut Pass, request: u64, num
     drop(answer);
 }
 
-/// So many turns have ended.
-fn front<R: Abort>(rt: &R, door: &Door, pass: &mut Pass, turns: u64)
+/// Whether the claim is ready, with this rank.
+fn is_ready(claimed: &Claimed, own: u32) -> bool {
+    match claimed {
+        Claimed::Claim(Claim::Ready { rank, .. }) => *rank == own,
+        _ => false,
+    }
+}
+
+/// What the claim comes to.
+fn finished(claimed: Claimed) -> Answer
+    requires { MayFinish claimed }
+{
+    match claimed {
+        Claimed::Claim(claim) => Answer::Reply(finish(claim)),
+        Claimed::Exhausted => Answer::Exhausted,
+    }
+}
+
+/// The claim of the first request is ready with this rank, and brings these numbers.
+fn claim<R: Wait + Abort>(rt: &R, door: &Door, pass: &mut Pass, own: u32, numbers: &[i128])
     requires { pass.old.door ≡ door.now }
     ensures { pass.new.door ≡ door.now }
 {
-    let ended = door.front(pass);
-    assert!(rt; ended == turns);
+    let claimed = door.claim(rt, pass, 0);
+    assert!(rt; is_ready(&claimed, own));
+    let answer = finished(claimed);
+    assert!(rt; is_delivered(&answer, numbers));
+    drop(answer);
 }
 
 /// A take is refused: the request is not known.
@@ -395,6 +382,8 @@ fn meet<R: Wait + Abort>(rt: &R, door: &Door, passes: &mut Passes, posts: Posts)
     take(rt, door, &mut a0, 0, &[19]);
     take(rt, door, &mut n0, 0, &[19]);
     front(rt, door, &mut c0, 6);
+    claim(rt, door, &mut c0, 2, &[19]);
+    front(rt, door, &mut n0, 7);
     drop(a0);
     drop(b0);
     drop(c0);

@@ -5,7 +5,8 @@ ghost use Rattle.std.specs.List.{All};
 ghost use Rattle.wall_labels.specs.declared.label.Label.TheVariants.{Public};
 ghost use Rattle.run_model.specs.Known.{HasKnownLabel, IsKnownLabel, ScriptsHaveKnownLabels};
 
-use crate::ranks::{add, is_posted, label, put, stands, wall};
+use crate::parties::{label, wall};
+use crate::ranks::{add, is_posted, put, stands};
 use coll_routes::{Own, Signature};
 use coll_values::Block;
 use hall_core::{Act, Posting, Reply};
@@ -21,8 +22,23 @@ use wall_labels::Label;
 use wall_policy::Policy;
 
 /// The policy of the four.
-const FOUR: &str =
-    "version = 1\n[[class]]\nname = \"banks\"\ndatasets = [\"alpha\"]\n[[process]]\nname = \"p0\"\nhome = \"alpha\"\n[[process]]\nname = \"p1\"\nhome = \"alpha\"\n[[process]]\nname = \"p2\"\nhome = \"alpha\"\n[[process]]\nname = \"p3\"\nhome = \"alpha\"\n";
+pub(crate) const FOUR: &str = r#"version = 1
+[[class]]
+name = "banks"
+datasets = ["alpha"]
+[[process]]
+name = "p0"
+home = "alpha"
+[[process]]
+name = "p1"
+home = "alpha"
+[[process]]
+name = "p2"
+home = "alpha"
+[[process]]
+name = "p3"
+home = "alpha"
+"#;
 
 /// How often a gate is looked through before it gives up.
 const LOOKS: u64 = 10_000_000;

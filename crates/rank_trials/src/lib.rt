@@ -9,6 +9,10 @@ mod doors;
 #[cfg(test)]
 mod gates;
 #[cfg(test)]
+mod outcomes;
+#[cfg(test)]
+mod parties;
+#[cfg(test)]
 mod ranks;
 #[cfg(test)]
 mod stages;

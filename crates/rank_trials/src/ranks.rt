@@ -8,6 +8,7 @@ ghost use Rattle.std.specs.Prelude.{◌≡◌};
 ghost use Rattle.std.specs.List.{All};
 ghost use Rattle.run_model.specs.Known.{IsKnownLabel, HasKnownLabel, ScriptsHaveKnownLabels};
 
+use crate::parties::{RIVALS, front, label, open, wall};
 use coll_routes::{Own, Signature};
 use coll_values::Block;
 use hall_core::{Act, Hall, Posting, Reply};
@@ -21,10 +22,7 @@ use std::sync::atomic::{AtomicU64, Ordering};
 use std::thread;
 use std::thread::Threads;
 use wall_labels::{Label, Op};
-use wall_policy::{Policy, read_policy};
-
-pub(crate) const RIVALS: &str =
-    "version = 1\n[[class]]\nname = \"banks\"\ndatasets = [\"alpha\", \"beta\"]\n[[class]]\nname = \"oil\"\ndatasets = [\"crude\", \"delta\"]\n[[process]]\nname = \"a0\"\nhome = \"alpha\"\n[[process]]\nname = \"b0\"\nhome = \"beta\"\n[[process]]\nname = \"c0\"\nhome = \"crude\"\n[[process]]\nname = \"n0\"\n[[sanitise]]\nop = \"sum\"\nleast = 3\n";
+use wall_policy::Policy;
 
 /// How often a gate is looked through before it gives up.
 const LOOKS: u64 = 10_000_000;
@@ -97,21 +95,6 @@ impl Gate for Meeting {
             self.met.fetch_add(1, Ordering::SeqCst);
         }
     }
-}
-
-/// A label of the policy, public if it has none of that name.
-pub(crate) fn label(policy: &Policy, name: &str) -> Label
-    ensures { IsKnownLabel policy.now result }
-{
-    match policy.dataset_named(name) {
-        Some(dataset) => Label::Of(dataset),
-        None => Label::Public,
-    }
-}
-
-/// The policy of this text.
-pub(crate) fn wall<R: Abort>(rt: &R, alloc: Global, text: &str) -> Policy {
-    read_policy(alloc, text.as_bytes()).expect(rt, "the policy is not read")
 }
 
 /// A post of one number for the sum of all processes' numbers.
@@ -317,14 +300,6 @@ fn wait_alone<R: Wait + Abort>(rt: &R, door: &Door, pass: &mut Pass, patience: u
     stands(rt, &gate.answered, 0);
 }
 
-/// A door, and its passes.
-fn open<R: Abort>(rt: &R, alloc: Global, policy: Policy) -> (Door, Passes)
-    ensures policy { result.0.policy ≡ policy }
-    ensures passes { All (λ pass. pass.door ≡ result.0) result.1.items }
-{
-    Door::open(alloc, policy).expect(rt, "the door is not opened")
-}
-
 /// The last of the passes.
 fn last<R: Abort>(rt: &R, door: &Door, passes: &mut Passes) -> Pass
     requires { All (λ pass. pass.door ≡ door.now) passes.old.items }
@@ -332,15 +307,6 @@ fn last<R: Abort>(rt: &R, door: &Door, passes: &mut Passes) -> Pass
 {
     let _ = door;
     passes.pop().expect(rt, "no pass is left")
-}
-
-/// So many turns have ended.
-fn front<R: Abort>(rt: &R, door: &Door, pass: &mut Pass, turns: u64)
-    requires { pass.old.door ≡ door.now }
-    ensures { pass.new.door ≡ door.now }
-{
-    let ended = door.front(pass);
-    assert!(rt; ended == turns);
 }
 
 /// The post is counted, with the first request.

@@ -2,36 +2,13 @@
 ghost use Rattle.std.specs.List.{All};
 ghost use Rattle.run_model.specs.Known.{IsKnownEntry};
 
+use crate::walls::{WALL, WALL_IN_VERSION_2};
 use audit_book::*;
 use std::alloc::Global;
 use std::process::Abort;
 use std::test::Fail;
 use wall_labels::memory::{ExpectingSink, Fuse};
 use wall_policy::{Policy, read_policy};
-
-// Two banks and two oil firms; the fourth process has no home.
-const WALL: &str = "version = 1
-[[class]]
-name = \"banks\"
-datasets = [\"alpha\", \"beta\"]
-[[class]]
-name = \"oil\"
-datasets = [\"crude\", \"delta\"]
-[[process]]
-name = \"a0\"
-home = \"alpha\"
-[[process]]
-name = \"b0\"
-home = \"beta\"
-[[process]]
-name = \"c0\"
-home = \"crude\"
-[[process]]
-name = \"n0\"
-[[sanitise]]
-op = \"sum\"
-least = 3
-";
 
 // The book of a broadcast of a bank's data to all, denied since the second process is at home at
 // its rival.
@@ -42,31 +19,6 @@ post 2 0 bcast 0 int32 2 gives 0 as none passed
 post 3 0 bcast 0 int32 2 gives 0 as none passed
 verdict 0 0 denied simple b0 alpha
 end 5
-";
-
-// The same in version 2.
-const WALL_IN_VERSION_2: &str = "version = 2
-[[class]]
-name = \"banks\"
-datasets = [\"alpha\", \"beta\"]
-[[class]]
-name = \"oil\"
-datasets = [\"crude\", \"delta\"]
-[[process]]
-name = \"a0\"
-home = \"alpha\"
-[[process]]
-name = \"b0\"
-home = \"beta\"
-[[process]]
-name = \"c0\"
-home = \"crude\"
-[[process]]
-name = \"n0\"
-[[sanitise]]
-op = \"sum\"
-least = 3
-distinct = 3
 ";
 
 // Reads a policy and lends it to the steps of a test. What is let go of without `drop` is taken

@@ -16,8 +16,21 @@ use wall_verdict::Rule;
 
 // The datasets 0 alpha and 1 beta are rivals. Process 0 is at home at alpha, process 1 at beta, and
 // the others nowhere.
-const POLICY: &str =
-    "version = 1\n[[class]]\nname = \"banks\"\ndatasets = [\"alpha\", \"beta\"]\n[[process]]\nname = \"a0\"\nhome = \"alpha\"\n[[process]]\nname = \"b0\"\nhome = \"beta\"\n[[process]]\nname = \"n0\"\n[[process]]\nname = \"n1\"\n";
+const POLICY: &str = r#"version = 1
+[[class]]
+name = "banks"
+datasets = ["alpha", "beta"]
+[[process]]
+name = "a0"
+home = "alpha"
+[[process]]
+name = "b0"
+home = "beta"
+[[process]]
+name = "n0"
+[[process]]
+name = "n1"
+"#;
 
 // What is posted to the world.
 #[derive(Clone, Copy)]

@@ -14,3 +14,5 @@ mod replays;
 mod scripts;
 #[cfg(test)]
 mod statements;
+#[cfg(test)]
+mod walls;

@@ -8,6 +8,7 @@ ghost use Rattle.wall_policy.specs.Policy.{ChineseWall};
 ghost use Rattle.run_model.specs.Known.{HasKnownLabel, IsKnownReply, ScriptsHaveKnownLabels};
 ghost use Rattle.run_model.specs.Known.{IsKnownLabel};
 
+use crate::walls::WALL;
 use coll_text::{label_text, put, put_decimal, put_spaced, write_statement};
 use hall_script::*;
 use mpi_elems::{Buffer, ElemType};
@@ -18,30 +19,6 @@ use std::test::Fail;
 use wall_labels::memory::{Fuse, MemorySource};
 use wall_labels::{DatasetId, Label, NoMemory, ProcessId};
 use wall_policy::{Policy, read_policy};
-
-// Two banks and two oil firms; the fourth process has no home.
-const WALL: &str = "version = 1
-[[class]]
-name = \"banks\"
-datasets = [\"alpha\", \"beta\"]
-[[class]]
-name = \"oil\"
-datasets = [\"crude\", \"delta\"]
-[[process]]
-name = \"a0\"
-home = \"alpha\"
-[[process]]
-name = \"b0\"
-home = \"beta\"
-[[process]]
-name = \"c0\"
-home = \"crude\"
-[[process]]
-name = \"n0\"
-[[sanitise]]
-op = \"sum\"
-least = 3
-";
 
 pub(crate) fn wall(rt: &(impl AllocGlobal + Abort)) -> Policy {
     match read_policy(rt.alloc(), WALL.as_bytes()) {

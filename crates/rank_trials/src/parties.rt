@@ -1,0 +1,90 @@
+//! The policies of these tests, and doors under them. Alpha and beta are rivals.
+ghost use Rattle.std.specs.Prelude.{◌≡◌};
+ghost use Rattle.std.specs.List.{All};
+ghost use Rattle.run_model.specs.Known.{IsKnownLabel};
+
+use hall_turn::{Door, Pass, Passes};
+use std::alloc::Global;
+use std::process::Abort;
+use wall_labels::Label;
+use wall_policy::{Policy, read_policy};
+
+/// One process, at home with alpha.
+pub(crate) const ALONE: &str = r#"version = 1
+[[class]]
+name = "banks"
+datasets = ["alpha", "beta"]
+[[process]]
+name = "p0"
+home = "alpha"
+"#;
+
+/// Two processes, both at home with alpha.
+pub(crate) const FRIENDS: &str = r#"version = 1
+[[class]]
+name = "banks"
+datasets = ["alpha", "beta"]
+[[process]]
+name = "p0"
+home = "alpha"
+[[process]]
+name = "p1"
+home = "alpha"
+"#;
+
+/// Four processes: a0 at home with alpha, b0 with beta, c0 with crude, n0 nowhere. Sums of three
+/// contributors are sanitised.
+pub(crate) const RIVALS: &str = r#"version = 1
+[[class]]
+name = "banks"
+datasets = ["alpha", "beta"]
+[[class]]
+name = "oil"
+datasets = ["crude", "delta"]
+[[process]]
+name = "a0"
+home = "alpha"
+[[process]]
+name = "b0"
+home = "beta"
+[[process]]
+name = "c0"
+home = "crude"
+[[process]]
+name = "n0"
+[[sanitise]]
+op = "sum"
+least = 3
+"#;
+
+/// The policy of this text.
+pub(crate) fn wall<R: Abort>(rt: &R, alloc: Global, text: &str) -> Policy {
+    read_policy(alloc, text.as_bytes()).expect(rt, "the policy is not read")
+}
+
+/// A label of the policy, public if it has none of that name.
+pub(crate) fn label(policy: &Policy, name: &str) -> Label
+    ensures { IsKnownLabel policy.now result }
+{
+    match policy.dataset_named(name) {
+        Some(dataset) => Label::Of(dataset),
+        None => Label::Public,
+    }
+}
+
+/// A door, and its passes.
+pub(crate) fn open<R: Abort>(rt: &R, alloc: Global, policy: Policy) -> (Door, Passes)
+    ensures policy { result.0.policy ≡ policy }
+    ensures passes { All (λ pass. pass.door ≡ result.0) result.1.items }
+{
+    Door::open(alloc, policy).expect(rt, "the door is not opened")
+}
+
+/// So many turns have ended.
+pub(crate) fn front<R: Abort>(rt: &R, door: &Door, pass: &mut Pass, turns: u64)
+    requires { pass.old.door ≡ door.now }
+    ensures { pass.new.door ≡ door.now }
+{
+    let ended = door.front(pass);
+    assert!(rt; ended == turns);
+}

@@ -1,0 +1,50 @@
+//! The policies of these tests.
+
+/// Two banks and two oil firms; the fourth process has no home.
+pub(crate) const WALL: &str = r#"version = 1
+[[class]]
+name = "banks"
+datasets = ["alpha", "beta"]
+[[class]]
+name = "oil"
+datasets = ["crude", "delta"]
+[[process]]
+name = "a0"
+home = "alpha"
+[[process]]
+name = "b0"
+home = "beta"
+[[process]]
+name = "c0"
+home = "crude"
+[[process]]
+name = "n0"
+[[sanitise]]
+op = "sum"
+least = 3
+"#;
+
+/// The same in version 2.
+pub(crate) const WALL_IN_VERSION_2: &str = r#"version = 2
+[[class]]
+name = "banks"
+datasets = ["alpha", "beta"]
+[[class]]
+name = "oil"
+datasets = ["crude", "delta"]
+[[process]]
+name = "a0"
+home = "alpha"
+[[process]]
+name = "b0"
+home = "beta"
+[[process]]
+name = "c0"
+home = "crude"
+[[process]]
+name = "n0"
+[[sanitise]]
+op = "sum"
+least = 3
+distinct = 3
+"#;
