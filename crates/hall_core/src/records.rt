@@ -2,7 +2,7 @@
 ghost use Rattle.std.specs.Prelude.{◌≡◌, ◌<◌, ◌+◌, ◌^◌, ◌++◌, ◌==◌, ◌&&◌, if◌then◌else◌, [], ◌∷◌};
 ghost use Rattle.std.specs.Prelude.{ℕ, length, not, IfOk, OnOk, IfNone, IsTrue, IsFalse, Some};
 ghost use Rattle.std.specs.Prelude.{None};
-ghost use Rattle.std.specs.Option.{option_map};
+ghost use Rattle.std.specs.Option.{is_some, option_map};
 ghost use Rattle.wall_policy.specs.Policy.{IsPolicy};
 ghost use Rattle.wall_rules.specs.Histories.{has};
 ghost use Rattle.mpi_cart.specs.Grids.{Topology};
@@ -151,20 +151,24 @@ impl Records {
         let Some(asked) = requests::opened_by(&self.requests, process, number) else {
             return Claim::Done(Reply::Refused(Refusal::NoSuchRequest));
         };
-        self.freeze(asked.comm, asked.k);
+        if !self.freeze(asked.comm, asked.k) {
+            return Claim::Done(Reply::Pending);
+        }
         self.claim_of(process, request, asked)
     }
 
-    // Shares an instance, where it was granted and there is memory. Callers can tell no difference.
+    // Shares an instance, where it was granted and there is memory, and says whether it was filled
+    // and not let go. Callers can tell no difference.
     #[tactic(auto, using(crate::proofs::CountLemmas::counted_ready, crate::proofs::CountLemmas::settled_same))]
-    fn freeze(&mut self, comm: u32, k: u64)
+    fn freeze(&mut self, comm: u32, k: u64) -> bool
         requires counted { AreCounted self.old }
         ensures policy { self.new.policy ≡ self.old.policy }
         ensures requests { self.new.requests ≡ self.old.requests }
         ensures counted { AreCounted self.new }
         ensures same { view_in self.new ≡ view_in self.old }
+        ensures settled { result ≡ is_some (settlement_at self.old.settled comm k) }
     {
-        self.settled.freeze(comm, k);
+        self.settled.freeze(comm, k)
     }
 
     // A claim for an open request of this instance.

@@ -1,7 +1,7 @@
 //! The places of instances, each with what came of it.
 ghost use Rattle.std.specs.Prelude.{◌≡◌, ◌<◌, ◌≤◌, ◌==◌, ◌+◌, ◌^◌, [], ◌∷◌, ◌++◌, ℕ, None, Some};
 ghost use Rattle.std.specs.Prelude.{length, replicate, drop, OnOk, IsTrue, if◌then◌else◌};
-ghost use Rattle.std.specs.Option.{option_copied};
+ghost use Rattle.std.specs.Option.{is_some, option_copied};
 ghost use Rattle.std.specs.VecDeque.{deque_len};
 ghost use Rattle.hall_core.specs.Settling.{nothing, no_places, place_in, place_at, places_of};
 ghost use Rattle.hall_core.specs.Settling.{open_at, settlement_at, HasPlace, one_more, one_fewer};
@@ -75,17 +75,26 @@ impl Place {
     }
 }
 
-// Shares the instance at the place, if it was granted and there is memory.
-fn freeze_place(alloc: Global, place: &mut Place)
-    ensures { place.new ≡ place.old }
+// Shares the instance at the place, if it was granted and there is memory, and says whether there
+// is an instance.
+fn freeze_place(alloc: Global, place: &mut Place) -> bool
+    ensures same { place.new ≡ place.old }
+    ensures settled { result ≡ is_some place.old.settlement }
 {
     let waits = match &place.settlement {
         Some(settlement) => settlement.is_unshared_grant(),
-        None => false,
+        None => return false,
     };
-    if !waits {
-        return;
+    if waits {
+        share_in(alloc, place);
     }
+    true
+}
+
+// Shares the instance at the place, if there is one and memory for it.
+fn share_in(alloc: Global, place: &mut Place)
+    ensures { place.new ≡ place.old }
+{
     match place.settlement.take() {
         Some(settlement) => place.settlement = Some(settlement.frozen(alloc)),
         None => {}
@@ -228,17 +237,21 @@ impl Row {
         self.places[at].settlement = Some(settlement);
     }
 
-    // Shares the instance of that number, where it was granted and there is memory.
-    #[tactic(auto, using(crate::proofs::SettlingLemmas::row_unchanged))]
-    fn freeze(&mut self, alloc: Global, k: usize)
-        ensures { self.new ≡ self.old }
+    // Shares the instance of that number, where it was granted and there is memory, and says
+    // whether it was filled and not let go.
+    #[tactic(auto, using(crate::proofs::SettlingLemmas::row_unchanged, crate::proofs::SettlingLemmas::place_behind, crate::proofs::SettlingLemmas::place_ahead))]
+    fn freeze(&mut self, alloc: Global, k: usize) -> bool
+        ensures same { self.new ≡ self.old }
+        ensures settled { result ≡ is_some (place_in self.old.list k).settlement }
     {
         if k < self.first {
-            return;
+            return false;
         }
         let at = k - self.first;
         if at < self.places.len() {
-            freeze_place(alloc, &mut self.places[at]);
+            freeze_place(alloc, &mut self.places[at])
+        } else {
+            false
         }
     }
 
@@ -319,12 +332,13 @@ impl Settlements {
         put_at(&mut self.rows, comm as usize, k as usize, settlement);
     }
 
-    /// Shares instance k of a communicator, where it was granted and there is memory. Callers can
-    /// tell no difference.
-    pub fn freeze(&mut self, comm: u32, k: u64)
-        ensures { AreSame self.old self.new }
+    /// Shares instance k of a communicator, where it was granted and there is memory, and says
+    /// whether it was filled and not let go. Callers can tell no difference.
+    pub fn freeze(&mut self, comm: u32, k: u64) -> bool
+        ensures same { AreSame self.old self.new }
+        ensures settled { result ≡ is_some (settlement_at self.old comm k) }
     {
-        freeze_at(self.alloc, &mut self.rows, comm as usize, k as usize);
+        freeze_at(self.alloc, &mut self.rows, comm as usize, k as usize)
     }
 
     /// An open request for instance k of a communicator was taken. With the last of them the
@@ -398,12 +412,15 @@ fn put_at(rows: &mut Vec<Row>, comm: usize, k: usize, settlement: Settlement)
     rows[comm].put(k, settlement);
 }
 
-#[tactic(auto, using(crate::proofs::SettlingLemmas::rows_same))]
-fn freeze_at(alloc: Global, rows: &mut Vec<Row>, comm: usize, k: usize)
-    ensures { AreSame rows.old.items rows.new.items }
+#[tactic(auto, using(crate::proofs::SettlingLemmas::rows_same, crate::proofs::SettlingLemmas::rows_read, crate::proofs::SettlingLemmas::rows_past))]
+fn freeze_at(alloc: Global, rows: &mut Vec<Row>, comm: usize, k: usize) -> bool
+    ensures same { AreSame rows.old.items rows.new.items }
+    ensures settled { result ≡ is_some (settlement_at rows.old.items comm k) }
 {
     if comm < rows.len() {
-        rows[comm].freeze(alloc, k);
+        rows[comm].freeze(alloc, k)
+    } else {
+        false
     }
 }
 
