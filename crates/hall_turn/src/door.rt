@@ -15,7 +15,6 @@ use crate::answer::{Answer, Claimed};
 use crate::deed::{Claiming, Deed};
 use crate::pass::{Pass, Passes};
 use crate::rule::View;
-use crate::steps::Ended;
 use crate::turns::Turns;
 use atomic_table::{Seat, Table};
 use hall_core::{Act, Call, Hall, NoMemory, Posting, finish};
@@ -212,8 +211,7 @@ impl Door {
         if self.turns.look(&mut pass.seat) >= LAST {
             return None;
         }
-        let Ended { told, settled } = self.turns.turn(rt, &mut pass.seat, deed);
-        pass.settled = settled;
+        let told = self.turns.turn(rt, &mut pass.seat, deed, &mut pass.settled);
         Some(told)
     }
 }

@@ -28,12 +28,6 @@ const TICKET: usize = 1;
 
 const SLOT: usize = 0;
 
-/// What a turn told, and whether it settled an instance. That is a hint: nothing is proved of it.
-pub(crate) struct Ended<T> {
-    pub(crate) told: T,
-    pub(crate) settled: bool,
-}
-
 /// How often a seat looks for its turn before it yields between looks.
 const LOOKS: u32 = 2000;
 
@@ -47,20 +41,21 @@ fn pause(looks: u32) -> u32 {
     looks
 }
 
-// The machine in the slot carries out the deed, where it lies.
-fn carry_out_in<M: Machine, D: Deed>(slot: &mut Option<M>, deed: D) -> Ended<D::Told>
+// The machine in the slot carries out the deed, where it lies. Whether that settled an instance is
+// a hint: nothing is proved of it.
+fn carry_out_in<M: Machine, D: Deed>(slot: &mut Option<M>, deed: D, settled: &mut bool) -> D::Told
     requires { (machine : M) × (slot.old ≡ Some machine)
         × MayCarryOut M.stands machine (λ wall. D.may wall deed) }
     ensures carries { (old : M) × (new : M) × (slot.old ≡ Some old) × (slot.new ≡ Some new)
-        × Carries M.stands old new (D.call deed) (D.reply result.told) }
+        × Carries M.stands old new (D.call deed) (D.reply result) }
     ensures tells { (old : M) (wall : ChineseWall) (run : List Entry) → slot.old ≡ Some old
-        → Legal wall run → M.stands wall old run → D.tells wall run deed result.told }
+        → Legal wall run → M.stands wall old run → D.tells wall run deed result }
 {
     let Some(machine) = slot else { unreachable!() };
     let before = machine.entries();
     let told = deed.carry_out(machine);
-    let settled = machine.entries().wrapping_sub(before) == 2;
-    Ended { told, settled }
+    *settled = machine.entries().wrapping_sub(before) == 2;
+    told
 }
 
 impl<M: Machine> Turns<M> {
@@ -180,26 +175,27 @@ impl<M: Machine> Turns<M> {
         rt: &R,
         seat: &mut Seat<Option<M>, View>,
         deed: D,
-    ) -> Ended<D::Told>
+        settled: &mut bool,
+    ) -> D::Told
         requires at { seat.old.table_id ≡ self.now.table.shared.table_id }
         requires idle { IsIdle (D.call deed).process seat.old.me }
         requires few { length seat.old.me.0.seen < 2 ^ 62 }
         requires may { D.may seat.old.me.0.policy deed }
         ensures at { IsAt seat.old seat.new }
         ensures idle { IsIdle (D.call deed).process seat.new.me }
-        ensures turned { Turned seat.old.me.0 (entry (D.call deed) (D.reply result.told))
+        ensures turned { Turned seat.old.me.0 (entry (D.call deed) (D.reply result))
             seat.new.me.0 }
-        ensures named { IsKnownReply seat.old.me.0.policy (D.reply result.told) }
+        ensures named { IsKnownReply seat.old.me.0.policy (D.reply result) }
         ensures tells { TellsAfter seat.new.me.0.seen
-            (λ run. D.tells seat.old.me.0.policy run deed result.told) }
+            (λ run. D.tells seat.old.me.0.policy run deed result) }
     {
         let ticket = self.draw(seat);
         self.await_turn(rt, seat, ticket);
         let asked = Snapshot::of(&deed);
         let slot = seat.slot_mut(&self.table.shared, SLOT);
-        let ended = carry_out_in(slot, deed);
-        self.declare::<Brand, D>(seat, &asked, &ended.told);
+        let told = carry_out_in(slot, deed, settled);
+        self.declare::<Brand, D>(seat, &asked, &told);
         self.serve(seat);
-        ended
+        told
     }
 }

@@ -2,6 +2,7 @@
 ghost use Rattle.std.specs.Prelude.{◌≡◌};
 ghost use Rattle.run_model.specs.declared.call.Act.TheVariants.{Take as ToTake};
 ghost use Rattle.run_model.specs.Replies.{Legal};
+ghost use Rattle.hall_core.specs.Claims.{claim_reply, CanFinish};
 ghost use Rattle.hall_turn.specs.Answers.{Answered, IsSamePass, NamesKnown};
 ghost use Rattle.rank_run.specs.Waits.{Waited, is_pending};
 
@@ -87,7 +88,23 @@ impl<'g, G: Gate> Gate for Yields<'g, G> {
     }
 }
 
-/// One take: a claim at a turn, and its finish after the turn, the gate's `computing` between.
+// The finish of a claim, the gate's `computing` before it. Others may play meanwhile.
+#[inline(never)]
+fn finish_aside<R: Wait, G: Gate + Pause>(rt: &R, process: u32, claim: Claim, gate: &G) -> Reply
+    requires { CanFinish claim }
+    ensures { result ≡ claim_reply claim }
+{
+    let aside = gate.step_aside(rt, &claim);
+    gate.computing(rt, process, 0);
+    let reply = finish(claim);
+    if aside {
+        gate.step_back(rt);
+    }
+    reply
+}
+
+/// One take: a claim at a turn, and its finish after the turn, the gate's `computing` between. Of a
+/// claim that is done there is nothing to finish.
 fn take_once<R: Wait, G: Gate + Pause>(
     rt: &R,
     door: &Door,
@@ -102,15 +119,11 @@ fn take_once<R: Wait, G: Gate + Pause>(
     ensures named { NamesKnown door.now.policy result }
 {
     match door.claim(rt, pass, request) {
-        Claimed::Claim(claim) => {
-            let aside = gate.step_aside(rt, &claim);
+        Claimed::Claim(Claim::Done(reply)) => {
             gate.computing(rt, pass.process(), 0);
-            let reply = finish(claim);
-            if aside {
-                gate.step_back(rt);
-            }
             Answer::Reply(reply)
         }
+        Claimed::Claim(claim) => Answer::Reply(finish_aside(rt, pass.process(), claim, gate)),
         Claimed::Exhausted => Answer::Exhausted,
     }
 }

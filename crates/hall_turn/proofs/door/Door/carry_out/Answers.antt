@@ -14,7 +14,7 @@ returns-clause-enters g c =
     let s = c.pass.inside.seat in
     let t = c.turn-told.new.seat in
     let p = c.pass.inside.process in
-    let told = c.turn-told.result.told in
+    let told = c.turn-told.result in
     let e : Entry = entry (g.D.Deed.call c.args.deed) (g.D.Deed.reply told) in
     let Tells : ChineseWall → List Entry → Type 0 = λ wall run.
     g.D.Deed.tells wall run c.args.deed told in

@@ -11,8 +11,8 @@ slot_mut-slot-requires g c = (
       c.await_turn.ensures.holds,
 )
 
-pub carry_out_in-ended-requires : goal.carry_out_in-ended-requires
-carry_out_in-ended-requires g c =
+pub carry_out_in-told-requires : goal.carry_out_in-told-requires
+carry_out_in-told-requires g c =
     may_apply g.M.Machine.stands c.args.seat.now.me.0 c.draw-ticket.new.seat.me
     c.await_turn.new.seat.me
     c.slot_mut-slot.result.now (λ wall. g.D.Deed.may wall c.args.deed)
@@ -22,12 +22,12 @@ carry_out_in-ended-requires g c =
 pub serve-requires-clause-ready : goal.serve-requires-clause-ready
 serve-requires-clause-ready g c =
     let v = c.args.seat.now.me.0 in
-    let reply = g.D.Deed.reply c.carry_out_in-ended.result.told in
+    let reply = g.D.Deed.reply c.carry_out_in-told.result in
     let i = c.requires.idle in
-    let k = c.carry_out_in-ended.ensures.carries in
+    let k = c.carry_out_in-told.ensures.carries in
     ready g.M.Machine.stands v c.draw-ticket.result c.draw-ticket.new.seat.me
     c.await_turn.new.seat.me
-    _ c.declare.new.seat.me c.slot_mut-slot.result.now c.carry_out_in-ended.new.slot
+    _ c.declare.new.seat.me c.slot_mut-slot.result.now c.carry_out_in-told.new.slot
     (g.D.Deed.call c.of-asked.result.value) reply
     (c.draw-ticket.ensures.draws
     ∙ ap (λ (x : List (ℕ × Option g.row.M.Denot)). (drawn v c.draw-ticket.result, x)) i.slots)
