@@ -1,11 +1,9 @@
 //! A book of two entries.
-ghost use Rattle.std.specs.Prelude.{◌≡◌};
-ghost use Rattle.run_model.specs.EntryForms.{HasForm};
+ghost use Rattle.std.specs.Prelude.{◌≡◌, ◌<◌, ◌+◌};
 
 use coll_routes::{Own, Signature, Stated};
 use run_state::{Book, Entry, Outcome};
 use std::process::Abort;
-use std::test::Fail;
 use wall_labels::ProcessId;
 
 fn barrier(rt: &impl Abort) -> Entry {
@@ -23,29 +21,33 @@ fn barrier(rt: &impl Abort) -> Entry {
     }
 }
 
-fn expect_form(rt: &impl Abort, entry: &Entry)
-    ensures { HasForm entry.now }
+// An entry that has its form is added.
+fn push(rt: &impl Abort, book: &mut Book, entry: Entry)
+    requires { 0 < book.old.room }
+    ensures { book.new.room + 1 ≡ book.old.room }
 {
     assert!(rt; entry.has_form());
+    book.push(entry);
 }
 
 #[test]
-fn a_book_keeps_its_entries(rt: HostRuntime) -> Result<(), Fail> {
+fn a_book_keeps_its_entries(rt: HostRuntime) {
     let mut book = Book::new(rt.alloc());
     assert!(rt; book.is_empty());
-    book.reserve(2)?;
-    let post = barrier(&rt);
-    expect_form(&rt, &post);
-    book.push(post);
-    book.push(Entry::Settled {
+    let Ok(()) = book.reserve(2) else {
+        panic!(&rt; "no memory")
+    };
+    push(&rt, &mut book, barrier(&rt));
+    let settled = Entry::Settled {
         comm: 0,
         k: 7,
         outcome: Outcome::Granted,
-    });
+    };
+    push(&rt, &mut book, settled);
     assert_eq!(rt; book.len(), 2);
     assert_eq!(rt; book.as_slice().len(), 2);
     assert!(rt; !book.is_empty());
     assert!(rt; matches!(book.get(0), Entry::Posted { .. }));
     assert!(rt; matches!(book.get(1), Entry::Settled { .. }));
-    Ok(())
+    drop(book);
 }

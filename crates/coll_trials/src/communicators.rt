@@ -1,30 +1,47 @@
 //! Four processes, with a communicator of each constructor.
+//!
+//! No memory ends a test at once: each way out of a function that owns a table costs its proof.
+//! Where one has served it is handed to `drop`.
 ghost use Rattle.std.specs.Prelude.{◌≡◌, length};
 ghost use Rattle.mpi_comm.specs.Comms.{group_at};
 
 use mpi_comm::{Ask, CommCompare, CommFault, CommInfo, CommTable, Made};
 use mpi_group::Group;
-use std::alloc::Global;
+use std::alloc::{AllocError, Global};
 use std::process::Abort;
-use std::test::Fail;
 use wall_labels::ProcessId;
 
-fn made(first: u32, number: u32) -> Result<Made, CommFault> {
-    Ok(Made { first, number })
+// So many communicators were made, of which this is the first.
+fn expect_made(rt: &impl Abort, found: Result<Made, CommFault>, first: u32, number: u32) {
+    assert_eq!(rt; found, Ok(Made { first, number }));
+}
+
+fn expect_fault(rt: &impl Abort, found: Result<Made, CommFault>, fault: CommFault) {
+    assert_eq!(rt; found, Err(fault));
 }
 
 fn asks(colour: Option<i32>, keys: [i32; 4]) -> [Ask; 4] {
     keys.map(|key| Ask { colour, key })
 }
 
-// A table whose world has these processes.
-fn opened(rt: &impl Abort, alloc: Global, processes: &[u32]) -> Result<CommTable, Fail> {
+fn group(rt: &impl Abort, alloc: Global, processes: &[u32]) -> Group {
     let mut members = Vec::new(alloc);
     for number in processes {
-        members.push(ProcessId::new(*number).expect(rt, "a process"))?;
+        let member = ProcessId::new(*number).expect(rt, "a process");
+        assert!(rt; members.push(member).is_ok(), "no memory");
     }
-    let world = Group::from_list(alloc, members.as_slice())?;
-    Ok(CommTable::open(alloc, world)?)
+    match Group::from_list(alloc, &members) {
+        Ok(group) => group,
+        Err(_) => panic!(rt; "no group"),
+    }
+}
+
+// A table whose world has these processes.
+fn opened(rt: &impl Abort, alloc: Global, processes: &[u32]) -> CommTable {
+    match CommTable::open(alloc, group(rt, alloc, processes)) {
+        Ok(table) => table,
+        Err(_) => panic!(rt; "no memory"),
+    }
 }
 
 // The world has so many members, so a split on it takes so many asks.
@@ -35,15 +52,20 @@ fn expect_world(rt: &impl Abort, table: &CommTable, size: u32)
     assert!(rt; table.group(0).size() == size);
 }
 
-// The table with a duplicate of the world, a split that turns it round, and a part of it.
-fn example(rt: &impl Abort, alloc: Global) -> Result<CommTable, Fail> {
-    let mut table = opened(rt, alloc, &[0, 1, 2, 3])?;
-    assert_eq!(rt; table.dup(0), made(1, 1));
+// A duplicate of the world is made, a split that turns it round, and a part of it.
+fn make_three(rt: &impl Abort, table: &mut CommTable) {
+    expect_made(rt, table.dup(0), 1, 1);
     let turned = asks(Some(0), [3, 2, 1, 0]);
-    expect_world(rt, &table, 4);
-    assert_eq!(rt; table.split(0, &turned), made(2, 1));
-    assert_eq!(rt; table.create(0, &[0, 2]), made(3, 1));
-    Ok(table)
+    expect_world(rt, table, 4);
+    expect_made(rt, table.split(0, &turned), 2, 1);
+    expect_made(rt, table.create(0, &[0, 2]), 3, 1);
+}
+
+// The table with these.
+fn example(rt: &impl Abort, alloc: Global) -> CommTable {
+    let mut table = opened(rt, alloc, &[0, 1, 2, 3]);
+    make_three(rt, &mut table);
+    table
 }
 
 fn expect_members(rt: &impl Abort, table: &CommTable, c: u32, want: &[u32]) {
@@ -55,30 +77,33 @@ fn expect_members(rt: &impl Abort, table: &CommTable, c: u32, want: &[u32]) {
     }
 }
 
-#[test]
-fn constructors(rt: HostRuntime) -> Result<(), Fail> {
-    let mut table = example(&rt, rt.alloc())?;
-    expect_members(&rt, &table, 1, &[0, 1, 2, 3]);
-    expect_members(&rt, &table, 2, &[3, 2, 1, 0]);
-    expect_members(&rt, &table, 3, &[0, 2]);
-    assert_eq!(rt; table.create(0, &[]), made(4, 0));
-    expect_world(&rt, &table, 4);
-    assert_eq!(rt; table.split(0, &asks(None, [0; 4])), made(4, 0));
-    expect_world(&rt, &table, 4);
-    assert_eq!(rt;
-        table.split(0, &asks(Some(-1), [0; 4])),
-        Err(CommFault::BadColour)
-    );
-    assert_eq!(rt; table.create(0, &[0, 0]), Err(CommFault::NotSubgroup));
-    assert_eq!(rt; table.create(3, &[2]), Err(CommFault::NotSubgroup));
-    assert_eq!(rt; table.dup(4), Err(CommFault::NoSuchComm));
+// What makes no communicator, and what has a fault.
+fn make_none(rt: &impl Abort, table: &mut CommTable) {
+    expect_made(rt, table.create(0, &[]), 4, 0);
+    expect_world(rt, table, 4);
+    expect_made(rt, table.split(0, &asks(None, [0; 4])), 4, 0);
+    expect_world(rt, table, 4);
+    let below_zero = asks(Some(-1), [0; 4]);
+    expect_fault(rt, table.split(0, &below_zero), CommFault::BadColour);
+    expect_fault(rt, table.create(0, &[0, 0]), CommFault::NotSubgroup);
+    expect_fault(rt, table.create(3, &[2]), CommFault::NotSubgroup);
+    expect_fault(rt, table.dup(4), CommFault::NoSuchComm);
     assert_eq!(rt; table.len(), 4);
-    Ok(())
 }
 
 #[test]
-fn two_colours(rt: HostRuntime) -> Result<(), Fail> {
-    let mut table = opened(&rt, rt.alloc(), &[0, 1, 2, 3])?;
+fn constructors(rt: HostRuntime) {
+    let mut table = example(&rt, rt.alloc());
+    expect_members(&rt, &table, 1, &[0, 1, 2, 3]);
+    expect_members(&rt, &table, 2, &[3, 2, 1, 0]);
+    expect_members(&rt, &table, 3, &[0, 2]);
+    make_none(&rt, &mut table);
+    drop(table);
+}
+
+#[test]
+fn two_colours(rt: HostRuntime) {
+    let mut table = opened(&rt, rt.alloc(), &[0, 1, 2, 3]);
     let ask = |colour, key| Ask { colour, key };
     let stated = [
         ask(Some(2), 0),
@@ -87,58 +112,71 @@ fn two_colours(rt: HostRuntime) -> Result<(), Fail> {
         ask(Some(2), 0),
     ];
     expect_world(&rt, &table, 4);
-    assert_eq!(rt; table.split(0, &stated), made(1, 2));
+    expect_made(&rt, table.split(0, &stated), 1, 2);
     expect_members(&rt, &table, 1, &[2]);
     expect_members(&rt, &table, 2, &[0, 3]);
-    Ok(())
+    drop(table);
+}
+
+fn halves(alloc: Global) -> Result<[Vec<u32>; 2], AllocError> {
+    Ok([vec![in alloc; 0u32, 1]?, vec![in alloc; 2, 3]?])
 }
 
 #[test]
-fn parts(rt: HostRuntime) -> Result<(), Fail> {
-    let alloc = rt.alloc();
-    let mut table = opened(&rt, alloc, &[0, 1, 2, 3])?;
-    let lists = [vec![in alloc; 0u32, 1]?, vec![in alloc; 2, 3]?];
-    assert_eq!(rt; table.subsets(0, &lists), made(1, 2));
+fn parts(rt: HostRuntime) {
+    let mut table = opened(&rt, rt.alloc(), &[0, 1, 2, 3]);
+    let Ok(lists) = halves(rt.alloc()) else {
+        panic!(&rt; "no memory")
+    };
+    expect_made(&rt, table.subsets(0, &lists), 1, 2);
     expect_members(&rt, &table, 1, &[0, 1]);
     expect_members(&rt, &table, 2, &[2, 3]);
-    assert_eq!(rt; table.subsets(1, &lists), Err(CommFault::NotSubgroup));
-    Ok(())
+    expect_fault(&rt, table.subsets(1, &lists), CommFault::NotSubgroup);
+    drop(lists);
+    drop(table);
 }
 
+const COMPARED: &[(u32, Result<CommCompare, CommFault>)] = &[
+    (0, Ok(CommCompare::Identical)),
+    (1, Ok(CommCompare::Congruent)),
+    (2, Ok(CommCompare::Similar)),
+    (3, Ok(CommCompare::Unequal)),
+    (4, Err(CommFault::NoSuchComm)),
+];
+
 #[test]
-fn looks(rt: HostRuntime) -> Result<(), Fail> {
-    let table = example(&rt, rt.alloc())?;
-    for (other, want) in [
-        (0, Ok(CommCompare::Identical)),
-        (1, Ok(CommCompare::Congruent)),
-        (2, Ok(CommCompare::Similar)),
-        (3, Ok(CommCompare::Unequal)),
-        (4, Err(CommFault::NoSuchComm)),
-    ] {
-        assert_eq!(rt; table.compare(0, other), want);
+fn looks(rt: HostRuntime) {
+    let table = example(&rt, rt.alloc());
+    for (other, want) in COMPARED {
+        assert_eq!(rt; table.compare(0, *other), *want);
     }
     let one = ProcessId::new(1).expect(&rt, "a process");
     let two = ProcessId::new(2).expect(&rt, "a process");
     assert_eq!(rt; table.info(one, 3), Err(CommFault::NotMember));
     assert_eq!(rt; table.info(two, 3), Ok(CommInfo { size: 2, rank: 1 }));
     assert_eq!(rt; table.info(two, 4), Err(CommFault::NoSuchComm));
-    Ok(())
+    drop(table);
+}
+
+// A table of one process gets as many communicators as there may be.
+fn fill_up(rt: &impl Abort, table: &mut CommTable) {
+    for number in 1..1024 {
+        expect_made(rt, table.dup(0), number, 1);
+    }
+    expect_fault(rt, table.dup(0), CommFault::NoRoom);
 }
 
 #[test]
-fn full_table(rt: HostRuntime) -> Result<(), Fail> {
-    let mut table = opened(&rt, rt.alloc(), &[0])?;
-    for number in 1..1024 {
-        assert_eq!(rt; table.dup(0), made(number, 1));
-    }
-    assert_eq!(rt; table.dup(0), Err(CommFault::NoRoom));
+fn full_table(rt: HostRuntime) {
+    let mut table = opened(&rt, rt.alloc(), &[0]);
+    fill_up(&rt, &mut table);
     let undefined = Ask {
         colour: None,
         key: 0,
     };
     expect_world(&rt, &table, 1);
-    assert_eq!(rt; table.split(0, &[undefined]), made(1024, 0));
-    assert_eq!(rt; table.create(0, &[]), made(1024, 0));
-    assert_eq!(rt; table.create(0, &[0]), Err(CommFault::NoRoom));
-    Ok(())
+    expect_made(&rt, table.split(0, &[undefined]), 1024, 0);
+    expect_made(&rt, table.create(0, &[]), 1024, 0);
+    expect_fault(&rt, table.create(0, &[0]), CommFault::NoRoom);
+    drop(table);
 }

@@ -1,9 +1,11 @@
 //! Buffers and operations.
+//!
+//! No memory ends a test at once: each way out of a function that owns a buffer costs its proof.
+//! Where one has served it is handed to `drop`.
 ghost use Rattle.std.specs.Prelude.{◌≡◌, [], length};
 
 use mpi_elems::{Buffer, BufferBuilder, BufferFault, ElemType, allowed, combine_into};
 use std::process::Abort;
-use std::test::Fail;
 use wall_labels::Op;
 
 fn buffer(rt: &(impl AllocGlobal + Abort), ty: ElemType, numbers: &[i128]) -> Buffer
@@ -16,12 +18,56 @@ fn buffer(rt: &(impl AllocGlobal + Abort), ty: ElemType, numbers: &[i128]) -> Bu
     }
 }
 
-fn fault(rt: &impl AllocGlobal, ty: ElemType, numbers: &[i128]) -> Option<BufferFault> {
-    Buffer::from_numbers(rt.alloc(), ty, numbers).err()
+// The fault of what was made of numbers, none where it is a buffer.
+fn fault(made: Result<Buffer, BufferFault>) -> Option<BufferFault> {
+    match made {
+        Ok(buffer) => {
+            drop(buffer);
+            None
+        }
+        Err(fault) => Some(fault),
+    }
+}
+
+// Numbers that are no buffer of the type.
+fn expect_fault(
+    rt: &(impl AllocGlobal + Abort),
+    ty: ElemType,
+    numbers: &[i128],
+    expected: BufferFault,
+) {
+    let found = fault(Buffer::from_numbers(rt.alloc(), ty, numbers));
+    assert_eq!(rt; found, Some(expected), "{ty:?}");
+}
+
+// The same of a builder that is told them.
+fn expect_built_fault(
+    rt: &(impl AllocGlobal + Abort),
+    ty: ElemType,
+    numbers: &[i128],
+    expected: BufferFault,
+) {
+    let found = fault(built(rt, ty, numbers));
+    assert_eq!(rt; found, Some(expected), "{ty:?}");
 }
 
 fn holds(rt: &(impl AllocGlobal + Abort), found: &Buffer, numbers: &[i128]) -> bool {
-    found.is_same(&buffer(rt, found.elem_type(), numbers))
+    let wanted = buffer(rt, found.elem_type(), numbers);
+    let is_same = found.is_same(&wanted);
+    drop(wanted);
+    is_same
+}
+
+// Whether a builder that is told these numbers gives the same buffer.
+fn is_built(rt: &impl AllocGlobal, buffer: &Buffer, numbers: &[i128]) -> bool {
+    match built(rt, buffer.elem_type(), numbers) {
+        Ok(made) => {
+            let is_same = made.is_same(buffer);
+            drop(made);
+            is_same
+        }
+        Err(_) => false,
+    }
 }
 
 fn combined(
@@ -35,6 +81,7 @@ fn combined(
     let second = buffer(rt, ty, b);
     assert!(rt; first.count() == second.count() && allowed(op, ty));
     combine_into(op, &mut first, &second);
+    drop(second);
     first
 }
 
@@ -52,134 +99,131 @@ fn append(rt: &impl Abort, into: &mut Buffer, from: &Buffer, start: usize, len: 
     into.append_range(from, start, len);
 }
 
-#[test]
-fn reads_numbers_of_each_type(rt: HostRuntime) -> Result<(), Fail> {
-    for (ty, below, low, high, above) in [
-        (ElemType::Int8, -129, -128, 127, 128),
-        (ElemType::Int16, -32769, -32768, 32767, 32768),
-        (
-            ElemType::Int32,
-            -2147483649,
-            -2147483648,
-            2147483647,
-            2147483648,
-        ),
-        (
-            ElemType::Int64,
-            -9223372036854775809,
-            -9223372036854775808,
-            9223372036854775807,
-            9223372036854775808,
-        ),
-        (ElemType::Uint8, -1, 0, 255, 256),
-        (ElemType::Uint16, -1, 0, 65535, 65536),
-        (ElemType::Uint32, -1, 0, 4294967295, 4294967296),
-        (
-            ElemType::Uint64,
-            -1,
-            0,
-            18446744073709551615,
-            18446744073709551616i128,
-        ),
-    ] {
-        let both = buffer(&rt, ty, &[low, high]);
-        assert!(rt;
-            both.count() == 2 && both.number_at(0) == low && both.number_at(1) == high,
-            "{ty:?}"
-        );
-        assert_eq!(rt;
-            fault(&rt, ty, &[low, above]),
-            Some(BufferFault::BadNumber),
-            "{ty:?}"
-        );
-        assert_eq!(rt;
-            fault(&rt, ty, &[below]),
-            Some(BufferFault::BadNumber),
-            "{ty:?}"
-        );
-        assert!(rt;
-            built(&rt, ty, &[low, high]).is_ok_and(|made| made.is_same(&both)),
-            "{ty:?}"
-        );
-        assert_eq!(rt;
-            built(&rt, ty, &[low, above]).err(),
-            Some(BufferFault::BadNumber),
-            "{ty:?}"
-        );
-    }
-    Ok(())
+// A type, the number below its least one, its least and its greatest one, and the number above.
+const RANGES: &[(ElemType, i128, i128, i128, i128)] = &[
+    (ElemType::Int8, -129, -128, 127, 128),
+    (ElemType::Int16, -32769, -32768, 32767, 32768),
+    (
+        ElemType::Int32,
+        -2147483649,
+        -2147483648,
+        2147483647,
+        2147483648,
+    ),
+    (
+        ElemType::Int64,
+        -9223372036854775809,
+        -9223372036854775808,
+        9223372036854775807,
+        9223372036854775808,
+    ),
+    (ElemType::Uint8, -1, 0, 255, 256),
+    (ElemType::Uint16, -1, 0, 65535, 65536),
+    (ElemType::Uint32, -1, 0, 4294967295, 4294967296),
+    (
+        ElemType::Uint64,
+        -1,
+        0,
+        18446744073709551615,
+        18446744073709551616,
+    ),
+];
+
+fn expect_two(rt: &(impl AllocGlobal + Abort), ty: ElemType, low: i128, high: i128) {
+    let both = buffer(rt, ty, &[low, high]);
+    assert!(rt;
+        both.count() == 2 && both.number_at(0) == low && both.number_at(1) == high,
+        "{ty:?}"
+    );
+    assert!(rt; is_built(rt, &both, &[low, high]), "{ty:?}");
+    drop(both);
 }
 
 #[test]
-fn reads_pairs(rt: HostRuntime) -> Result<(), Fail> {
+fn reads_numbers_of_each_type(rt: HostRuntime) {
+    let bad = BufferFault::BadNumber;
+    for (ty, below, low, high, above) in RANGES {
+        expect_two(&rt, *ty, *low, *high);
+        expect_fault(&rt, *ty, &[*low, *above], bad);
+        expect_fault(&rt, *ty, &[*below], bad);
+        expect_built_fault(&rt, *ty, &[*low, *above], bad);
+    }
+}
+
+#[test]
+fn reads_pairs(rt: HostRuntime) {
     let two = ElemType::TwoInt;
-    assert_eq!(rt; fault(&rt, two, &[1]), Some(BufferFault::OddPair));
-    assert_eq!(rt;
-        fault(&rt, two, &[2147483648]),
-        Some(BufferFault::BadNumber)
-    );
-    assert_eq!(rt;
-        built(&rt, two, &[1, 2, 3]).err(),
-        Some(BufferFault::OddPair)
-    );
+    expect_fault(&rt, two, &[1], BufferFault::OddPair);
+    expect_fault(&rt, two, &[2147483648], BufferFault::BadNumber);
+    expect_built_fault(&rt, two, &[1, 2, 3], BufferFault::OddPair);
     let pair = buffer(&rt, two, &[1, -2]);
     assert!(rt; pair.count() == 1 && pair.len() == 2 && pair.number_at(1) == -2);
-    assert!(rt; built(&rt, two, &[1, -2]).is_ok_and(|made| made.is_same(&pair)));
-    Ok(())
+    assert!(rt; is_built(&rt, &pair, &[1, -2]));
+    drop(pair);
+}
+
+// An operation on a number of this type and another, and what it gives.
+const COMBINED: &[(Op, ElemType, i128, i128, i128)] = &[
+    (Op::Bxor, ElemType::Uint8, 255, 1, 254),
+    (Op::Bxor, ElemType::Int8, -1, 1, -2),
+    (Op::Band, ElemType::Int16, -1, 255, 255),
+    (Op::Bor, ElemType::Int32, -256, 1, -255),
+    (Op::Lxor, ElemType::Int32, 5, 7, 0),
+    (Op::Lor, ElemType::Uint32, 0, 9, 1),
+    (Op::Land, ElemType::Uint64, 2, 4, 1),
+    (Op::Prod, ElemType::Int8, 64, 2, -128),
+    (Op::Prod, ElemType::Uint16, 256, 256, 0),
+    (
+        Op::Sum,
+        ElemType::Int64,
+        9223372036854775807,
+        1,
+        -9223372036854775808,
+    ),
+    (Op::Sum, ElemType::Uint8, 255, 1, 0),
+    (
+        Op::Max,
+        ElemType::Uint64,
+        18446744073709551615,
+        1,
+        18446744073709551615,
+    ),
+    (Op::Min, ElemType::Int16, -1, 1, -1),
+];
+
+// Whether the operation gives these numbers.
+fn gives(
+    rt: &(impl AllocGlobal + Abort),
+    op: Op,
+    ty: ElemType,
+    a: &[i128],
+    b: &[i128],
+    want: &[i128],
+) -> bool {
+    let found = combined(rt, op, ty, a, b);
+    let is_wanted = holds(rt, &found, want);
+    drop(found);
+    is_wanted
 }
 
 #[test]
-fn combines_numbers(rt: HostRuntime) -> Result<(), Fail> {
-    for (op, ty, a, b, want) in [
-        (Op::Bxor, ElemType::Uint8, 255, 1, 254),
-        (Op::Bxor, ElemType::Int8, -1, 1, -2),
-        (Op::Band, ElemType::Int16, -1, 255, 255),
-        (Op::Bor, ElemType::Int32, -256, 1, -255),
-        (Op::Lxor, ElemType::Int32, 5, 7, 0),
-        (Op::Lor, ElemType::Uint32, 0, 9, 1),
-        (Op::Land, ElemType::Uint64, 2, 4, 1),
-        (Op::Prod, ElemType::Int8, 64, 2, -128),
-        (Op::Prod, ElemType::Uint16, 256, 256, 0),
-        (
-            Op::Sum,
-            ElemType::Int64,
-            9223372036854775807,
-            1,
-            -9223372036854775808,
-        ),
-        (Op::Sum, ElemType::Uint8, 255, 1, 0),
-        (
-            Op::Max,
-            ElemType::Uint64,
-            18446744073709551615,
-            1,
-            18446744073709551615i128,
-        ),
-        (Op::Min, ElemType::Int16, -1, 1, -1),
-    ] {
-        let found = combined(&rt, op, ty, &[a], &[b]);
-        assert!(rt; holds(&rt, &found, &[want]), "{op:?} {a} {b}");
+fn combines_numbers(rt: HostRuntime) {
+    for (op, ty, a, b, want) in COMBINED {
+        let is_wanted = gives(&rt, *op, *ty, &[*a], &[*b], &[*want]);
+        assert!(rt; is_wanted, "{op:?} {a} {b}");
     }
-    Ok(())
 }
 
 #[test]
-fn combines_pairs(rt: HostRuntime) -> Result<(), Fail> {
-    let least = combined(&rt, Op::Minloc, ElemType::TwoInt, &[3, 4], &[3, 2]);
-    assert!(rt; holds(&rt, &least, &[3, 2]));
-    let most = combined(
-        &rt,
-        Op::Maxloc,
-        ElemType::TwoInt,
-        &[3, 1, 1, 0],
-        &[3, 2, 5, 9],
-    );
-    assert!(rt; holds(&rt, &most, &[3, 1, 5, 9]));
-    Ok(())
+fn combines_pairs(rt: HostRuntime) {
+    let (least, most, two) = (Op::Minloc, Op::Maxloc, ElemType::TwoInt);
+    assert!(rt; gives(&rt, least, two, &[3, 4], &[3, 2], &[3, 2]));
+    let (a, b, greater) = ([3, 1, 1, 0], [3, 2, 5, 9], [3, 1, 5, 9]);
+    assert!(rt; gives(&rt, most, two, &a, &b, &greater));
 }
 
 #[test]
-fn merges_and_appends_parts(rt: HostRuntime) -> Result<(), Fail> {
+fn merges_and_appends_parts(rt: HostRuntime) {
     let row = buffer(&rt, ElemType::Int8, &[1, 2, 3]);
     let Ok(mut made) = Buffer::with_room(rt.alloc(), ElemType::Int8, 4) else {
         panic!(&rt; "no room")
@@ -190,31 +234,35 @@ fn merges_and_appends_parts(rt: HostRuntime) -> Result<(), Fail> {
     merge(&rt, Op::Min, &mut made, &row, 1, 1);
     append(&rt, &mut made, &row, 2, 1);
     assert!(rt; holds(&rt, &made, &[2, 2, 3, 3]));
-    Ok(())
+    drop(made);
+    drop(row);
 }
 
 #[test]
-fn names_and_allows(rt: HostRuntime) -> Result<(), Fail> {
+fn names_and_allows(rt: HostRuntime) {
     assert_eq!(rt; ElemType::TwoInt.name(), "2int");
     assert_eq!(rt; ElemType::named(b"uint64"), Some(ElemType::Uint64));
     assert_eq!(rt; ElemType::named(b"int33"), None);
     assert_eq!(rt; ElemType::TwoInt.numbers_per_element(), 2);
     assert!(rt; !allowed(Op::Sum, ElemType::TwoInt) && allowed(Op::Minloc, ElemType::TwoInt));
     let empty = Buffer::empty(rt.alloc(), ElemType::Uint64);
-    assert!(rt;
-        empty.count() == 0
-            && empty.is_empty()
-            && !empty.is_same(&Buffer::empty(rt.alloc(), ElemType::Int64))
-    );
-    Ok(())
+    let other = Buffer::empty(rt.alloc(), ElemType::Int64);
+    assert!(rt; empty.count() == 0 && empty.is_empty() && !empty.is_same(&other));
+    drop(empty);
+    drop(other);
 }
 
 fn built(rt: &impl AllocGlobal, ty: ElemType, numbers: &[i128]) -> Result<Buffer, BufferFault> {
     let Ok(mut builder) = BufferBuilder::with_room(rt.alloc(), ty, numbers.len()) else {
         return Err(BufferFault::NoMemory);
     };
-    push_all(&mut builder, numbers)?;
-    builder.finish()
+    match push_all(&mut builder, numbers) {
+        Ok(()) => builder.finish(),
+        Err(fault) => {
+            drop(builder);
+            Err(fault)
+        }
+    }
 }
 
 fn push_all(builder: &mut BufferBuilder, numbers: &[i128]) -> Result<(), BufferFault>

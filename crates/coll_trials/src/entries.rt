@@ -3,7 +3,6 @@
 use coll_routes::{Numbers, Own, Signature, Stated};
 use run_model::Entry;
 use std::process::Abort;
-use std::test::Fail;
 use wall_labels::{Label, ProcessId};
 
 fn posted(rt: &impl Abort, sig: Signature, own: Own, given: u32, label: Option<Label>) -> Entry {
@@ -21,18 +20,48 @@ fn posted(rt: &impl Abort, sig: Signature, own: Own, given: u32, label: Option<L
     }
 }
 
-#[test]
-fn forms_of_entries(rt: HostRuntime) -> Result<(), Fail> {
-    let counts = || -> Result<Own, Fail> { Ok(Own::Counts(Numbers::from(Vec::new(rt.alloc())))) };
-    let split = Own::Split {
+// Whether such a post has its form.
+fn expect(
+    rt: &impl Abort,
+    sig: Signature,
+    own: Own,
+    given: u32,
+    label: Option<Label>,
+    has_form: bool,
+) {
+    let entry = posted(rt, sig, own, given, label);
+    assert!(rt; entry.has_form() == has_form);
+    drop(entry);
+}
+
+fn split() -> Own {
+    Own::Split {
         colour: None,
         key: 0,
-    };
-    assert!(rt; posted(&rt, Signature::Split, split, 0, None).has_form());
-    assert!(rt; !posted(&rt, Signature::Split, Own::Plain, 0, None).has_form());
-    assert!(rt; !posted(&rt, Signature::Barrier, counts()?, 0, None).has_form());
-    assert!(rt; posted(&rt, Signature::Barrier, Own::Plain, 1, Some(Label::Public)).has_form());
-    assert!(rt; !posted(&rt, Signature::Barrier, Own::Plain, 0, Some(Label::Public)).has_form());
-    assert!(rt; !posted(&rt, Signature::Barrier, Own::Plain, 1, None).has_form());
-    Ok(())
+    }
+}
+
+#[test]
+fn forms_of_entries(rt: HostRuntime) {
+    let counts = Own::Counts(Numbers::from(Vec::new(rt.alloc())));
+    expect(&rt, Signature::Split, split(), 0, None, true);
+    expect(&rt, Signature::Split, Own::Plain, 0, None, false);
+    expect(&rt, Signature::Barrier, counts, 0, None, false);
+    expect(
+        &rt,
+        Signature::Barrier,
+        Own::Plain,
+        1,
+        Some(Label::Public),
+        true,
+    );
+    expect(
+        &rt,
+        Signature::Barrier,
+        Own::Plain,
+        0,
+        Some(Label::Public),
+        false,
+    );
+    expect(&rt, Signature::Barrier, Own::Plain, 1, None, false);
 }

@@ -1,168 +1,156 @@
 //! Worked rows. Expected values are worked by hand from the standard's rules.
+//!
+//! No memory ends a test at once: each way out of a function that owns a grid costs its proof.
+//! Where one has served it is handed to `drop`.
 
 use mpi_cart::{BadCoord, BadDirection, Grid, GridFault, Shift, fault_of};
-use std::test::Fail;
+use std::process::Abort;
+
+// What making a grid answers where it has to be made.
+fn made(rt: &impl Abort, answer: Result<Grid, GridFault>) -> Grid {
+    match answer {
+        Ok(grid) => grid,
+        Err(_) => panic!(rt; "no grid"),
+    }
+}
+
+fn expect_refused(rt: &impl Abort, answer: Result<Grid, GridFault>, expected: GridFault) {
+    match answer {
+        Ok(_) => panic!(rt; "{expected} is not found"),
+        Err(fault) => assert_eq!(rt; fault, expected),
+    }
+}
 
 // Two dimensions of sizes 2 and 3, of which the second is periodic, over seven processes.
-fn two_by_three(rt: &HostRuntime) -> Result<Grid, GridFault> {
-    Grid::new(rt.alloc(), &[2, 3], &[false, true], 7)
+fn two_by_three(rt: &(impl AllocGlobal + Abort)) -> Grid {
+    made(rt, Grid::new(rt.alloc(), &[2, 3], &[false, true], 7))
 }
 
 #[test]
-fn makes_grids(rt: HostRuntime) -> Result<(), Fail> {
-    let grid = two_by_three(&rt)?;
+fn makes_grids(rt: HostRuntime) {
+    let grid = two_by_three(&rt);
     assert_eq!(rt; grid.size(), 6);
     assert_eq!(rt; grid.ndims(), 2);
-    let point = Grid::new(rt.alloc(), &[], &[], 1)?;
+    drop(grid);
+    let point = made(&rt, Grid::new(rt.alloc(), &[], &[], 1));
     assert_eq!(rt; point.size(), 1);
     assert_eq!(rt; point.rank_of(&[]), Ok(0));
-    let faults = [
-        (fault_of(&[2, 3], &[false, true], 7), None),
-        (
-            fault_of(&[2, 3], &[false, true], 5),
-            Some(GridFault::TooLarge),
-        ),
-        (fault_of(&[0], &[false], 7), Some(GridFault::BadDims)),
-        (fault_of(&[2, 3], &[false], 5), Some(GridFault::BadDims)),
-        (fault_of(&[1; 9], &[true; 9], 7), Some(GridFault::BadDims)),
-        (fault_of(&[1; 8], &[true; 8], 7), None),
-        // The product is 2 to the power 32, which 32 bits don't hold.
-        (
-            fault_of(&[65536, 65536], &[true, true], 7),
-            Some(GridFault::TooLarge),
-        ),
-        (fault_of(&[], &[], 0), Some(GridFault::TooLarge)),
-    ];
-    for (row, (fault, expected)) in faults.iter().enumerate() {
-        assert_eq!(rt; *fault, *expected, "row {row}");
+    drop(point);
+}
+
+// The sizes of the dimensions, whether they are periodic, the number of processes, and the fault.
+const FAULTS: &[(&[u32], &[bool], u32, Option<GridFault>)] = &[
+    (&[2, 3], &[false, true], 7, None),
+    (&[2, 3], &[false, true], 5, Some(GridFault::TooLarge)),
+    (&[0], &[false], 7, Some(GridFault::BadDims)),
+    (&[2, 3], &[false], 5, Some(GridFault::BadDims)),
+    (&[1; 9], &[true; 9], 7, Some(GridFault::BadDims)),
+    (&[1; 8], &[true; 8], 7, None),
+    // The product is 2 to the power 32, which 32 bits don't hold.
+    (&[65536, 65536], &[true, true], 7, Some(GridFault::TooLarge)),
+    (&[], &[], 0, Some(GridFault::TooLarge)),
+];
+
+#[test]
+fn finds_faults(rt: HostRuntime) {
+    for (dims, periods, size, expected) in FAULTS {
+        assert_eq!(rt;
+            fault_of(dims, periods, *size),
+            *expected,
+            "{dims:?}, {size}"
+        );
     }
-    let refused = [
-        (
-            Grid::new(rt.alloc(), &[2, 3], &[false, true], 5),
-            GridFault::TooLarge,
-        ),
-        (Grid::new(rt.alloc(), &[0], &[false], 7), GridFault::BadDims),
-    ];
-    for (row, (made, expected)) in refused.iter().enumerate() {
-        match made {
-            Ok(_) => panic!(rt; "row {row} is made"),
-            Err(fault) => assert_eq!(rt; *fault, *expected, "row {row}"),
-        }
-    }
-    Ok(())
+    let large = Grid::new(rt.alloc(), &[2, 3], &[false, true], 5);
+    expect_refused(&rt, large, GridFault::TooLarge);
+    let empty = Grid::new(rt.alloc(), &[0], &[false], 7);
+    expect_refused(&rt, empty, GridFault::BadDims);
+}
+
+const RANKS: &[([i64; 2], Result<u32, BadCoord>)] = &[
+    ([0, -1], Ok(2)),
+    ([1, 4], Ok(4)),
+    ([2, 0], Err(BadCoord)),
+    ([-1, 0], Err(BadCoord)),
+    ([1, i64::MIN], Ok(4)),
+];
+
+fn expect_rank(rt: &impl Abort, grid: &Grid, at: &[i64], expected: Result<u32, BadCoord>) {
+    assert_eq!(rt; grid.rank_of(at), expected, "{at:?}");
 }
 
 #[test]
-fn finds_ranks(rt: HostRuntime) -> Result<(), Fail> {
-    let grid = two_by_three(&rt)?;
+fn finds_ranks(rt: HostRuntime) {
+    let grid = two_by_three(&rt);
     assert!(rt; grid.size() == 6 && grid.ndims() == 2);
     assert_eq!(rt; grid.coord(4, 0), 1);
     assert_eq!(rt; grid.coord(4, 1), 1);
-    let rows = [
-        ([0, -1], Ok(2)),
-        ([1, 4], Ok(4)),
-        ([2, 0], Err(BadCoord)),
-        ([-1, 0], Err(BadCoord)),
-        ([1, i64::MIN], Ok(4)),
-    ];
-    for (row, (at, expected)) in rows.iter().enumerate() {
-        assert_eq!(rt; grid.rank_of(at), *expected, "row {row}");
+    for (at, expected) in RANKS {
+        expect_rank(&rt, &grid, at, *expected);
     }
-    assert_eq!(rt; grid.rank_of(&[0]), Err(BadCoord));
-    Ok(())
+    expect_rank(&rt, &grid, &[0], Err(BadCoord));
+    drop(grid);
+}
+
+fn expect_shift(
+    rt: &impl Abort,
+    grid: &Grid,
+    rank: u32,
+    direction: u32,
+    displacement: i32,
+    expected: Result<Shift, BadDirection>,
+) {
+    assert!(rt; grid.size() == 6 && rank < 6);
+    let found = grid.shift(rank, direction, displacement);
+    assert_eq!(rt; found, expected, "{rank} {direction} {displacement}");
+}
+
+// The ranks that a shift receives from and sends to.
+fn between(source: Option<u32>, dest: Option<u32>) -> Result<Shift, BadDirection> {
+    Ok(Shift { source, dest })
 }
 
 #[test]
-fn shifts(rt: HostRuntime) -> Result<(), Fail> {
-    let grid = two_by_three(&rt)?;
+fn shifts(rt: HostRuntime) {
+    let grid = two_by_three(&rt);
+    expect_shift(&rt, &grid, 0, 0, 1, between(None, Some(3)));
+    expect_shift(&rt, &grid, 0, 1, 1, between(Some(2), Some(1)));
+    expect_shift(&rt, &grid, 0, 1, -1, between(Some(1), Some(2)));
+    expect_shift(&rt, &grid, 4, 1, 0, between(Some(4), Some(4)));
+    expect_shift(&rt, &grid, 4, 0, 5, between(None, None));
+    expect_shift(&rt, &grid, 0, 1, i32::MIN, between(Some(2), Some(1)));
+    expect_shift(&rt, &grid, 0, 2, 1, Err(BadDirection));
+    drop(grid);
+}
+
+// Of rank 0, in the order of the slots.
+const NEIGHBOURS: &[Option<u32>] = &[None, Some(3), Some(2), Some(1), None];
+
+#[test]
+fn neighbours(rt: HostRuntime) {
+    let grid = two_by_three(&rt);
     assert!(rt; grid.size() == 6);
-    let rows = [
-        (
-            0,
-            0,
-            1,
-            Ok(Shift {
-                source: None,
-                dest: Some(3),
-            }),
-        ),
-        (
-            0,
-            1,
-            1,
-            Ok(Shift {
-                source: Some(2),
-                dest: Some(1),
-            }),
-        ),
-        (
-            0,
-            1,
-            -1,
-            Ok(Shift {
-                source: Some(1),
-                dest: Some(2),
-            }),
-        ),
-        (
-            4,
-            1,
-            0,
-            Ok(Shift {
-                source: Some(4),
-                dest: Some(4),
-            }),
-        ),
-        (
-            4,
-            0,
-            5,
-            Ok(Shift {
-                source: None,
-                dest: None,
-            }),
-        ),
-        (
-            0,
-            1,
-            i32::MIN,
-            Ok(Shift {
-                source: Some(2),
-                dest: Some(1),
-            }),
-        ),
-        (0, 2, 1, Err(BadDirection)),
-    ];
-    for (row, (rank, direction, displacement, expected)) in rows.iter().enumerate() {
-        assert!(rt; *rank < 6);
-        assert_eq!(rt;
-            grid.shift(*rank, *direction, *displacement),
-            *expected,
-            "row {row}"
-        );
-    }
-    let neighbours = [None, Some(3), Some(2), Some(1), None];
-    for (slot, expected) in neighbours.iter().enumerate() {
+    for (slot, expected) in NEIGHBOURS.iter().enumerate() {
         assert_eq!(rt; grid.neighbour(0, slot as u32), *expected, "slot {slot}");
     }
-    Ok(())
+    drop(grid);
 }
 
 #[test]
-fn keeps_dimensions(rt: HostRuntime) -> Result<(), Fail> {
-    let grid = two_by_three(&rt)?;
-    let row = grid.sub(rt.alloc(), &[false, true])?;
+fn keeps_dimensions(rt: HostRuntime) {
+    let grid = two_by_three(&rt);
+    let row = made(&rt, grid.sub(rt.alloc(), &[false, true]));
     assert_eq!(rt; row.dims(), [3].as_slice());
     assert_eq!(rt; row.periods(), [true].as_slice());
-    let point = grid.sub(rt.alloc(), &[false, false])?;
+    let point = made(&rt, grid.sub(rt.alloc(), &[false, false]));
     assert_eq!(rt; point.ndims(), 0);
     assert_eq!(rt; point.size(), 1);
-    match grid.sub(rt.alloc(), &[true]) {
-        Ok(_) => panic!(rt; "one answer for two dimensions"),
-        Err(fault) => assert_eq!(rt; fault, GridFault::BadDims),
-    }
-    let copy = grid.copy(rt.alloc())?;
+    drop(point);
+    // One answer for two dimensions.
+    expect_refused(&rt, grid.sub(rt.alloc(), &[true]), GridFault::BadDims);
+    let copy = made(&rt, grid.copy(rt.alloc()));
     assert!(rt; copy.is_same(&grid));
     assert!(rt; !copy.is_same(&row));
-    Ok(())
+    drop(copy);
+    drop(row);
+    drop(grid);
 }

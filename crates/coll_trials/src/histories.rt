@@ -1,14 +1,20 @@
 //! What each process holds, and the star rule.
-use crate::parties::{BANKS_AND_OIL, dataset, process};
-use std::alloc::Global;
-use std::test::Fail;
+use crate::parties::{BANKS_AND_OIL, dataset, opening, process, wall};
+use std::alloc::{AllocError, Global};
+use std::process::Abort;
 use wall_labels::{DatasetId, Label, LabelSet, ProcessId};
-use wall_policy::read_policy;
 use wall_rules::Histories;
 
-fn opened(alloc: Global) -> Result<Histories, Fail> {
-    let policy = read_policy(alloc, BANKS_AND_OIL.as_bytes())?;
-    Ok(Histories::opening(alloc, &policy)?)
+// The histories before any call under the policy of this text.
+fn under(rt: &impl Abort, alloc: Global, text: &str) -> Histories {
+    let policy = wall(rt, alloc, text);
+    let histories = opening(rt, alloc, &policy);
+    drop(policy);
+    histories
+}
+
+fn opened(rt: &impl Abort, alloc: Global) -> Histories {
+    under(rt, alloc, BANKS_AND_OIL)
 }
 
 // Enters the dataset where the simple security rule permits it.
@@ -24,131 +30,197 @@ fn try_enter(histories: &mut Histories, process: ProcessId, dataset: DatasetId) 
     }
 }
 
-#[test]
-fn each_process_begins_with_its_home_alone(rt: HostRuntime) -> Result<(), Fail> {
-    let histories = opened(rt.alloc())?;
-    assert_eq!(rt; histories.processes(), 4);
-    let rows = [
-        (process(0), [true, false, false, false]),
-        (process(1), [false, true, false, false]),
-        (process(2), [false, false, true, false]),
-        (process(3), [false, false, false, false]),
-        (process(63), [false, false, false, false]),
-        (process(255), [false, false, false, false]),
-    ];
-    for (holder, held) in rows {
-        for number in 0..4 {
-            assert_eq!(rt;
-                histories.has(holder, dataset(number)),
-                held[number as usize]
-            );
-        }
+fn holder(rt: &impl Abort, number: u32) -> ProcessId {
+    ProcessId::new(number).expect(rt, "a process")
+}
+
+fn dataset_of(rt: &impl Abort, number: u32) -> DatasetId {
+    DatasetId::new(number).expect(rt, "a dataset")
+}
+
+// A process, and which of the four datasets it holds.
+const HELD: &[(u32, [bool; 4])] = &[
+    (0, [true, false, false, false]),
+    (1, [false, true, false, false]),
+    (2, [false, false, true, false]),
+    (3, [false, false, false, false]),
+    (63, [false, false, false, false]),
+    (255, [false, false, false, false]),
+];
+
+fn expect_held(rt: &impl Abort, histories: &Histories, holder: ProcessId, held: &[bool; 4]) {
+    for number in 0..4 {
+        let has = histories.has(holder, dataset(number));
+        assert_eq!(rt; has, held[number as usize]);
     }
-    Ok(())
 }
 
 #[test]
-fn the_star_rule_names_the_lowest_other_dataset(rt: HostRuntime) -> Result<(), Fail> {
-    let histories = opened(rt.alloc())?;
+fn each_process_begins_with_its_home_alone(rt: HostRuntime) {
+    let histories = opened(&rt, rt.alloc());
+    assert_eq!(rt; histories.processes(), 4);
+    for (number, held) in HELD {
+        expect_held(&rt, &histories, holder(&rt, *number), held);
+    }
+    drop(histories);
+}
+
+fn expect_star(
+    rt: &impl Abort,
+    histories: &Histories,
+    process: ProcessId,
+    label: Label,
+    expected: Result<(), DatasetId>,
+) {
+    assert_eq!(rt; histories.star(process, label), expected);
+}
+
+#[test]
+fn the_star_rule_names_the_lowest_other_dataset(rt: HostRuntime) {
+    let histories = opened(&rt, rt.alloc());
     let (alpha, crude) = (dataset(0), dataset(2));
-    assert_eq!(rt; histories.star(process(0), Label::Of(alpha)), Ok(()));
-    assert_eq!(rt; histories.star(process(0), Label::Public), Err(alpha));
-    assert_eq!(rt; histories.star(process(3), Label::Public), Ok(()));
-    assert_eq!(rt; histories.star(process(2), Label::Of(alpha)), Err(crude));
-    Ok(())
+    expect_star(&rt, &histories, process(0), Label::Of(alpha), Ok(()));
+    expect_star(&rt, &histories, process(0), Label::Public, Err(alpha));
+    expect_star(&rt, &histories, process(3), Label::Public, Ok(()));
+    expect_star(&rt, &histories, process(2), Label::Of(alpha), Err(crude));
+    drop(histories);
+}
+
+fn expect_rival(
+    rt: &impl Abort,
+    histories: &Histories,
+    process: ProcessId,
+    entered: &LabelSet,
+    asked: DatasetId,
+    rival: Option<DatasetId>,
+) {
+    assert_eq!(rt; histories.clash(process, entered, asked), rival);
 }
 
 #[test]
-fn a_clash_names_the_lowest_rival(rt: HostRuntime) -> Result<(), Fail> {
-    let histories = opened(rt.alloc())?;
+fn a_clash_names_the_lowest_rival(rt: HostRuntime) {
+    let histories = opened(&rt, rt.alloc());
     let (alpha, beta, crude) = (dataset(0), dataset(1), dataset(2));
     let nothing = LabelSet::empty();
     let mut of_alpha = LabelSet::empty();
     of_alpha.insert(alpha);
-    assert_eq!(rt; histories.clash(process(1), &nothing, alpha), Some(beta));
-    assert_eq!(rt; histories.clash(process(3), &of_alpha, beta), Some(alpha));
-    assert_eq!(rt; histories.clash(process(0), &nothing, crude), None);
-    assert_eq!(rt; histories.clash(process(0), &of_alpha, alpha), None);
-    assert_eq!(rt; histories.clash(process(2), &nothing, dataset(1023)), None);
-    Ok(())
+    expect_rival(&rt, &histories, process(1), &nothing, alpha, Some(beta));
+    expect_rival(&rt, &histories, process(3), &of_alpha, beta, Some(alpha));
+    expect_rival(&rt, &histories, process(0), &nothing, crude, None);
+    expect_rival(&rt, &histories, process(0), &of_alpha, alpha, None);
+    expect_rival(&rt, &histories, process(2), &nothing, dataset(1023), None);
+    drop(histories);
 }
 
-// So many classes of two datasets each, 2i and 2i + 1, and two processes whose homes are these.
-fn with_pairs(alloc: Global, classes: u32, homes: [u32; 2]) -> Result<Histories, Fail> {
-    let mut text = String::from_str(alloc, "version = 1\n")?;
+// A class of two datasets, 2i and 2i + 1.
+fn push_class(alloc: Global, text: &mut String, class: u32) -> Result<(), AllocError> {
+    let low = 2 * u64::from(class);
+    let high = low + 1;
+    let lines = format!(in alloc;
+        "[[class]]\nname = \"k{class}\"\ndatasets = [\"d{low}\", \"d{high}\"]\n"
+    )?;
+    text.push_str(lines.as_str())
+}
+
+// A process with this home.
+fn push_process(alloc: Global, text: &mut String, home: u32) -> Result<(), AllocError> {
+    let lines = format!(in alloc; "[[process]]\nname = \"of{home}\"\nhome = \"d{home}\"\n")?;
+    text.push_str(lines.as_str())
+}
+
+// A policy of so many such classes, and two processes whose homes are these.
+fn text_of_pairs(rt: &impl Abort, alloc: Global, classes: u32, homes: [u32; 2]) -> String {
+    let Ok(mut text) = String::from_str(alloc, "version = 1\n") else {
+        panic!(rt; "no memory")
+    };
     for class in 0..classes {
-        let low = 2 * u64::from(class);
-        let high = low + 1;
-        let lines = format!(in alloc;
-            "[[class]]\nname = \"k{class}\"\ndatasets = [\"d{low}\", \"d{high}\"]\n"
-        )?;
-        text.push_str(lines.as_str())?;
+        assert!(rt; push_class(alloc, &mut text, class).is_ok(), "no memory");
     }
-    for home in homes {
-        let lines = format!(in alloc; "[[process]]\nname = \"of{home}\"\nhome = \"d{home}\"\n")?;
-        text.push_str(lines.as_str())?;
-    }
-    let policy = read_policy(alloc, text.as_bytes())?;
-    Ok(Histories::opening(alloc, &policy)?)
+    let [first, second] = homes;
+    assert!(rt; push_process(alloc, &mut text, first).is_ok(), "no memory");
+    assert!(rt; push_process(alloc, &mut text, second).is_ok(), "no memory");
+    text
+}
+
+fn with_pairs(rt: &impl Abort, alloc: Global, classes: u32, homes: [u32; 2]) -> Histories {
+    let text = text_of_pairs(rt, alloc, classes, homes);
+    under(rt, alloc, text.as_str())
+}
+
+// In a process that has entered nothing more.
+fn expect_clash(
+    rt: &impl Abort,
+    histories: &Histories,
+    process: ProcessId,
+    asked: DatasetId,
+    rival: Option<DatasetId>,
+) {
+    expect_rival(rt, histories, process, &LabelSet::empty(), asked, rival);
+}
+
+// So many classes of two, where process 0 holds the lower dataset of the last class and process 1
+// the higher one.
+fn expect_clashes(rt: &impl Abort, alloc: Global, classes: u32, homes: [u32; 2]) {
+    let histories = with_pairs(rt, alloc, classes, homes);
+    let [low, high] = homes;
+    let (low, high) = (dataset_of(rt, low), dataset_of(rt, high));
+    expect_clash(rt, &histories, process(0), high, Some(low));
+    expect_clash(rt, &histories, process(1), low, Some(high));
+    expect_clash(rt, &histories, process(0), low, None);
+    expect_clash(rt, &histories, process(0), dataset(62), None);
+    expect_clash(rt, &histories, process(2), high, None);
+    drop(histories);
 }
 
 // As many datasets as fill two words of a set, and as many as there can be.
 #[test]
-fn a_clash_is_found_up_to_the_last_dataset(rt: HostRuntime) -> Result<(), Fail> {
-    for (classes, low, high) in [(64, 126, 127), (512, 1022, 1023)] {
-        let histories = with_pairs(rt.alloc(), classes, [low, high])?;
-        let nothing = LabelSet::empty();
-        // A process, the dataset that is asked for, its rival in the process's history.
-        let rows = [
-            (process(0), dataset(high), Some(dataset(low))),
-            (process(1), dataset(low), Some(dataset(high))),
-            (process(0), dataset(low), None),
-            (process(0), dataset(62), None),
-            (process(2), dataset(high), None),
-        ];
-        for (holder, asked, rival) in rows {
-            assert_eq!(rt; histories.clash(holder, &nothing, asked), rival);
-        }
-    }
-    Ok(())
+fn a_clash_is_found_up_to_the_last_dataset(rt: HostRuntime) {
+    expect_clashes(&rt, rt.alloc(), 64, [126, 127]);
+    expect_clashes(&rt, rt.alloc(), 512, [1022, 1023]);
+}
+
+// A dataset, and its rival, which is the only one.
+const RIVALS: &[(u32, u32)] = &[
+    (62, 63),
+    (63, 62),
+    (64, 65),
+    (126, 127),
+    (127, 126),
+    (128, 129),
+    (1022, 1023),
+    (1023, 1022),
+];
+
+fn expect_sole_rival(rt: &impl Abort, histories: &Histories, of: DatasetId, rival: DatasetId) {
+    let mut rivals = LabelSet::empty();
+    histories.add_rivals(of, &mut rivals);
+    assert_eq!(rt; rivals.first_other_than(None), Some(rival));
+    assert_eq!(rt; rivals.first_other_than(Some(rival)), None);
+    assert_eq!(rt;
+        histories.has_some(process(0), &rivals),
+        rival.number() == 1022
+    );
+    expect_rival(rt, histories, process(2), &rivals, of, Some(rival));
 }
 
 #[test]
-fn the_rivals_of_a_dataset_are_added(rt: HostRuntime) -> Result<(), Fail> {
-    let histories = with_pairs(rt.alloc(), 512, [1022, 1023])?;
-    // A dataset, and its rival, which is the only one.
-    let rows = [
-        (62, 63),
-        (63, 62),
-        (64, 65),
-        (126, 127),
-        (127, 126),
-        (128, 129),
-        (1022, 1023),
-        (1023, 1022),
-    ];
-    for (number, rival) in rows {
-        let mut rivals = LabelSet::empty();
-        histories.add_rivals(dataset(number), &mut rivals);
-        assert_eq!(rt; rivals.first_other_than(None), Some(dataset(rival)));
-        assert_eq!(rt; rivals.first_other_than(Some(dataset(rival))), None);
-        assert_eq!(rt; histories.has_some(process(0), &rivals), rival == 1022);
-        assert_eq!(rt;
-            histories.clash(process(2), &rivals, dataset(number)),
-            Some(dataset(rival))
-        );
+fn the_rivals_of_a_dataset_are_added(rt: HostRuntime) {
+    let histories = with_pairs(&rt, rt.alloc(), 512, [1022, 1023]);
+    for (number, rival) in RIVALS {
+        let (of, rival) = (dataset_of(&rt, *number), dataset_of(&rt, *rival));
+        expect_sole_rival(&rt, &histories, of, rival);
     }
-    Ok(())
+    drop(histories);
 }
 
 #[test]
-fn what_was_entered_is_held(rt: HostRuntime) -> Result<(), Fail> {
-    let mut histories = opened(rt.alloc())?;
+fn what_was_entered_is_held(rt: HostRuntime) {
+    let mut histories = opened(&rt, rt.alloc());
     let (alpha, beta, delta) = (dataset(0), dataset(1), dataset(3));
     assert!(rt; try_enter(&mut histories, process(3), delta));
     assert!(rt; try_enter(&mut histories, process(3), alpha));
     assert!(rt; !try_enter(&mut histories, process(3), beta));
     assert!(rt; histories.has(process(3), alpha) && !histories.has(process(2), alpha));
-    assert_eq!(rt; histories.star(process(3), Label::Of(alpha)), Err(delta));
-    Ok(())
+    expect_star(&rt, &histories, process(3), Label::Of(alpha), Err(delta));
+    drop(histories);
 }

@@ -1,23 +1,29 @@
 //! Deliveries of small communicators, worked by hand from the standard's rules.
+//!
+//! No memory ends a test at once: each way out of a function that owns a wide value, as an instance
+//! or a delivery, costs its proof. Where one has served it is handed to `drop`.
 
 use coll_routes::{Numbers, Own, Roll, Shape, Signature, Stated, Statements};
 use coll_values::{Block, Delivery, Full, Integers, Parts, deliver, fill, room};
 use mpi_cart::Grid;
 use mpi_elems::{Buffer, ElemType};
 use mpi_group::Group;
-use std::alloc::Global;
+use std::alloc::{AllocError, Global};
 use std::process::Abort;
-use std::test::Fail;
 use wall_labels::{Op, ProcessId};
 
 const INT: ElemType = ElemType::Int32;
 
-fn group(rt: &impl Abort, alloc: Global, size: u32) -> Result<Group, Fail> {
+fn group(rt: &impl Abort, alloc: Global, size: u32) -> Group {
     let mut members = Vec::new(alloc);
     for number in 0..size {
-        members.push(ProcessId::new(number).expect(rt, "a process"))?;
+        let member = ProcessId::new(number).expect(rt, "a process");
+        assert!(rt; members.push(member).is_ok(), "no memory");
     }
-    Ok(Group::from_list(alloc, &members)?)
+    match Group::from_list(alloc, &members) {
+        Ok(group) => group,
+        Err(_) => panic!(rt; "no group"),
+    }
 }
 
 // So many members without a grid.
@@ -26,29 +32,81 @@ fn plain(size: u32) -> Shape {
 }
 
 // Members in a grid.
-fn grid(alloc: Global, size: u32, dims: &[u32], periods: &[bool]) -> Result<Shape, Fail> {
-    let grid = Some(Grid::new(alloc, dims, periods, size)?);
-    Ok(Shape { size, grid })
+fn grid(rt: &impl Abort, alloc: Global, size: u32, dims: &[u32], periods: &[bool]) -> Shape {
+    match Grid::new(alloc, dims, periods, size) {
+        Ok(grid) => Shape {
+            size,
+            grid: Some(grid),
+        },
+        Err(_) => panic!(rt; "no grid"),
+    }
+}
+
+fn numbers(rt: &impl Abort, alloc: Global, items: &[u32]) -> Numbers {
+    match Vec::from_slice(alloc, items) {
+        Ok(items) => Numbers::from(items),
+        Err(_) => panic!(rt; "no memory"),
+    }
 }
 
 // What a rank states, which gives so many elements.
 fn statement(
+    rt: &impl Abort,
     alloc: Global,
     sig: &Signature,
-    counts: Option<&&[u32]>,
+    counts: Option<&[u32]>,
     given: u32,
-) -> Result<Stated, Fail> {
+) -> Stated {
     let own = match counts {
-        Some(counts) => Own::Counts(Numbers::from(Vec::from_slice(alloc, *counts)?)),
+        Some(counts) => Own::Counts(numbers(rt, alloc, counts)),
         None => Own::Plain,
     };
-    Ok(Stated {
-        sig: sig.copy(alloc)?,
-        own,
-        given,
-        label: None,
-        barred: false,
-    })
+    match sig.copy(alloc) {
+        Ok(sig) => Stated {
+            sig,
+            own,
+            given,
+            label: None,
+            barred: false,
+        },
+        Err(_) => panic!(rt; "no memory"),
+    }
+}
+
+// What each rank gives, as a buffer.
+fn buffers(
+    rt: &impl Abort,
+    alloc: Global,
+    size: u32,
+    elem_type: ElemType,
+    given: &[&[i128]],
+) -> Vec<Buffer> {
+    let mut parts = Vec::new(alloc);
+    for rank in 0..size as usize {
+        let numbers = given.get(rank).copied().unwrap_or(&[]);
+        match Buffer::from_numbers(alloc, elem_type, numbers) {
+            Ok(part) => assert!(rt; parts.push(part).is_ok(), "no memory"),
+            Err(_) => panic!(rt; "no buffer"),
+        }
+    }
+    parts
+}
+
+// What the ranks that give these parts state, with these counts if there are any.
+fn statements(
+    rt: &impl Abort,
+    alloc: Global,
+    sig: &Signature,
+    parts: &[Buffer],
+    counts: &[&[u32]],
+) -> Statements {
+    let mut stated = Vec::new(alloc);
+    for (rank, part) in parts.iter().enumerate() {
+        let given = u32::try_from(part.count()).ok().expect(rt, "few elements");
+        let statement = statement(rt, alloc, sig, counts.get(rank).copied(), given);
+        assert!(rt; stated.push(Some(statement)).is_ok(), "no memory");
+    }
+    Statements::from(stated)
 }
 
 // An instance in which each rank gives these numbers, and states these counts if there are any.
@@ -59,138 +117,168 @@ fn full(
     sig: Signature,
     given: &[&[i128]],
     counts: &[&[u32]],
-) -> Result<Full<Buffer>, Fail> {
+) -> Full<Buffer> {
     let elem_type = sig.elem_type().unwrap_or(ElemType::Int8);
-    let mut stated = Vec::new(alloc);
-    let mut parts = Vec::new(alloc);
-    for rank in 0..shape.size as usize {
-        let part = Buffer::from_numbers(alloc, elem_type, given.get(rank).copied().unwrap_or(&[]))?;
-        let number = u32::try_from(part.count()).ok().expect(rt, "few elements");
-        stated.push(Some(statement(alloc, &sig, counts.get(rank), number)?))?;
-        parts.push(part)?;
-    }
-    let members = group(rt, alloc, shape.size)?;
-    Ok(Full {
+    let parts = buffers(rt, alloc, shape.size, elem_type, given);
+    let stated = statements(rt, alloc, &sig, &parts, counts);
+    Full {
         roll: Roll {
-            members,
+            members: group(rt, alloc, shape.size),
             shape,
             sig,
-            stated: Statements::from(stated),
+            stated,
         },
         parts: Parts::from(parts),
-    })
+    }
 }
 
-fn push_numbers(alloc: Global, text: &mut String, numbers: &Integers) -> Result<(), Fail> {
+fn push_numbers(alloc: Global, text: &mut String, numbers: &Integers) -> Result<(), AllocError> {
     text.push_str("[")?;
     for i in 0..numbers.len() {
         let number = numbers.get(i);
         let space = if i == 0 { "" } else { " " };
         text.push_str(&format!(in alloc; "{space}{number}")?)?;
     }
-    text.push_str("]")?;
-    Ok(())
+    text.push_str("]")
+}
+
+fn push_block(alloc: Global, text: &mut String, block: &Block) -> Result<(), AllocError> {
+    match block {
+        Block::Missing => text.push_str("-"),
+        Block::Numbers(numbers) => push_numbers(alloc, text, numbers),
+    }
 }
 
 // The blocks one after the other: `-` where one is missing.
-fn shown(alloc: Global, delivery: &Delivery) -> Result<String, Fail> {
+fn shown(rt: &impl Abort, alloc: Global, delivery: &Delivery) -> String {
     let mut text = String::new(alloc);
     for block in delivery.as_slice() {
-        match block {
-            Block::Missing => text.push_str("-")?,
-            Block::Numbers(numbers) => push_numbers(alloc, &mut text, numbers)?,
-        }
+        assert!(rt; push_block(alloc, &mut text, block).is_ok(), "no memory");
     }
-    Ok(text)
+    text
 }
 
-// What each rank is delivered, by `deliver` and by `room` and `fill`.
-fn expect_deliveries(
+fn expect_shown(
     rt: &impl Abort,
     alloc: Global,
-    full: &Full<Buffer>,
-    expected: &[&str],
-) -> Result<(), Fail> {
+    delivery: &Delivery,
+    wanted: &str,
+    name: &str,
+    rank: u32,
+) {
+    let text = shown(rt, alloc, delivery);
+    assert_eq!(rt; text.as_str(), wanted, "{name} to {rank}");
+}
+
+// What a rank is delivered, by `deliver` and by `room` and `fill`.
+fn expect_delivery(rt: &impl Abort, alloc: Global, full: &Full<Buffer>, rank: u32, wanted: &str) {
+    assert!(rt; full.is_whole() && rank < full.roll.shape.size);
+    let name = full.roll.sig.kind().name();
+    let Ok(delivery) = deliver(alloc, full, rank) else {
+        panic!(rt; "no memory")
+    };
+    expect_shown(rt, alloc, &delivery, wanted, name, rank);
+    drop(delivery);
+    let Ok(space) = room(alloc, full, rank) else {
+        panic!(rt; "no memory")
+    };
+    let filled = fill(full, rank, space);
+    expect_shown(rt, alloc, &filled, wanted, name, rank);
+    drop(filled);
+}
+
+fn expect_all(rt: &impl Abort, alloc: Global, full: &Full<Buffer>, expected: &[&str]) {
     assert!(rt; full.is_whole());
     assert_eq!(rt; full.roll.shape.size as usize, expected.len());
     for rank in 0..full.roll.shape.size {
-        let name = full.roll.sig.kind().name();
-        let wanted = expected[rank as usize];
-        let delivery = deliver(alloc, full, rank)?;
-        let text = shown(alloc, &delivery)?;
-        assert_eq!(rt; text.as_str(), wanted, "{name} to {rank}");
-        let space = room(alloc, full, rank)?;
-        let filled = fill(full, rank, space);
-        let text = shown(alloc, &filled)?;
-        assert_eq!(rt; text.as_str(), wanted, "{name} to {rank}");
+        expect_delivery(rt, alloc, full, rank, expected[rank as usize]);
     }
-    Ok(())
+}
+
+// What each rank of a shape is delivered, where the ranks give these numbers and state these
+// counts.
+fn expect_deliveries(
+    rt: &impl Abort,
+    alloc: Global,
+    shape: Shape,
+    sig: Signature,
+    given: &[&[i128]],
+    counts: &[&[u32]],
+    expected: &[&str],
+) {
+    let full = full(rt, alloc, shape, sig, given, counts);
+    expect_all(rt, alloc, &full, expected);
+    drop(full);
+}
+
+// The same of two ranks without a grid, which state no counts.
+fn expect_of_two(
+    rt: &(impl AllocGlobal + Abort),
+    sig: Signature,
+    given: [&[i128]; 2],
+    expected: [&str; 2],
+) {
+    expect_deliveries(rt, rt.alloc(), plain(2), sig, &given, &[], &expected);
+}
+
+// The same of four.
+fn expect_of_four(
+    rt: &(impl AllocGlobal + Abort),
+    sig: Signature,
+    given: [&[i128]; 4],
+    expected: [&str; 4],
+) {
+    expect_deliveries(rt, rt.alloc(), plain(4), sig, &given, &[], &expected);
 }
 
 #[test]
-fn copies(rt: HostRuntime) -> Result<(), Fail> {
-    let alloc = rt.alloc();
+fn copies(rt: HostRuntime) {
     let (elem_type, count) = (INT, 1);
-    let gather = Signature::Gather {
-        root: 0,
-        elem_type,
-        count,
-    };
+    expect_of_two(&rt, Signature::Barrier, [&[], &[]], ["", ""]);
     let bcast = Signature::Bcast {
         root: 1,
         elem_type,
         count: 2,
     };
+    expect_of_two(&rt, bcast, [&[], &[7, -1]], ["[7 -1]", ""]);
+    let gather = Signature::Gather {
+        root: 0,
+        elem_type,
+        count,
+    };
+    expect_of_two(&rt, gather, [&[8], &[7]], ["[8][7]", ""]);
+    let gatherv = Signature::Gatherv { root: 1, elem_type };
+    expect_of_two(&rt, gatherv, [&[1, 2], &[]], ["", "[1 2][]"]);
     let scatter = Signature::Scatter {
         root: 0,
         elem_type,
         count,
     };
-    let gatherv = Signature::Gatherv { root: 1, elem_type };
-    let none: &[i128] = &[];
-    // The signature, what each of the two ranks gives, and what each gets.
-    let rows: [(Signature, [&[i128]; 2], [&str; 2]); 8] = [
-        (Signature::Barrier, [none, none], ["", ""]),
-        (bcast, [none, &[7, -1]], ["[7 -1]", ""]),
-        (gather, [&[8], &[7]], ["[8][7]", ""]),
-        (gatherv, [&[1, 2], none], ["", "[1 2][]"]),
-        (scatter, [&[3, 4], none], ["[3]", "[4]"]),
-        (
-            Signature::Allgather {
-                elem_type,
-                count: 0,
-            },
-            [none, none],
-            ["[][]", "[][]"],
-        ),
-        (
-            Signature::Alltoall { elem_type, count },
-            [&[1, 2], &[3, 4]],
-            ["[1][3]", "[2][4]"],
-        ),
-        (Signature::Dup, [none, none], ["", ""]),
-    ];
-    for (sig, given, expected) in rows {
-        let full = full(&rt, alloc, plain(2), sig, &given, &[])?;
-        expect_deliveries(&rt, alloc, &full, &expected)?;
-    }
-    Ok(())
+    expect_of_two(&rt, scatter, [&[3, 4], &[]], ["[3]", "[4]"]);
+    let allgather = Signature::Allgather {
+        elem_type,
+        count: 0,
+    };
+    expect_of_two(&rt, allgather, [&[], &[]], ["[][]", "[][]"]);
+    let alltoall = Signature::Alltoall { elem_type, count };
+    expect_of_two(&rt, alltoall, [&[1, 2], &[3, 4]], ["[1][3]", "[2][4]"]);
+    expect_of_two(&rt, Signature::Dup, [&[], &[]], ["", ""]);
 }
 
 #[test]
-fn blocks_of_counts(rt: HostRuntime) -> Result<(), Fail> {
+fn blocks_of_counts(rt: HostRuntime) {
     let alloc = rt.alloc();
     let elem_type = INT;
     let scatterv = Signature::Scatterv { root: 1, elem_type };
     let given: [&[i128]; 3] = [&[], &[10, 11, 12], &[]];
     let counts: [&[u32]; 3] = [&[], &[2, 0, 1], &[]];
-    let full_one = full(&rt, alloc, plain(3), scatterv, &given, &counts)?;
-    expect_deliveries(&rt, alloc, &full_one, &["[10 11]", "[]", "[12]"])?;
+    let expected = ["[10 11]", "[]", "[12]"];
+    expect_deliveries(&rt, alloc, plain(3), scatterv, &given, &counts, &expected);
     let alltoallv = Signature::Alltoallv { elem_type };
     let given: [&[i128]; 3] = [&[1, 2, 3], &[], &[4, 5]];
     let counts: [&[u32]; 3] = [&[1, 0, 2], &[0, 0, 0], &[0, 1, 1]];
-    let full_one = full(&rt, alloc, plain(3), alltoallv, &given, &counts)?;
-    expect_deliveries(&rt, alloc, &full_one, &["[1][][]", "[][][4]", "[2 3][][5]"])
+    let expected = ["[1][][]", "[][][4]", "[2 3][][5]"];
+    expect_deliveries(&rt, alloc, plain(3), alltoallv, &given, &counts, &expected);
 }
 
 // The signature of a reduction of one element to each rank.
@@ -203,124 +291,124 @@ fn allreduce(op: Op, elem_type: ElemType) -> Signature {
 }
 
 #[test]
-fn reductions(rt: HostRuntime) -> Result<(), Fail> {
-    let alloc = rt.alloc();
-    let (elem_type, count) = (INT, 1);
-    let exscan = Signature::Exscan {
-        op: Op::Sum,
+fn reductions(rt: HostRuntime) {
+    let (op, elem_type, count) = (Op::Sum, INT, 1);
+    let given: [&[i128]; 4] = [&[127], &[1], &[0], &[0]];
+    expect_of_four(&rt, allreduce(op, ElemType::Int8), given, ["[-128]"; 4]);
+    let pairs = ElemType::TwoInt;
+    let given: [&[i128]; 4] = [&[5, 2], &[5, 1], &[4, 0], &[5, 3]];
+    expect_of_four(&rt, allreduce(Op::Maxloc, pairs), given, ["[5 1]"; 4]);
+    let given: [&[i128]; 4] = [&[5, 2], &[4, 7], &[4, 6], &[5, 0]];
+    expect_of_four(&rt, allreduce(Op::Minloc, pairs), given, ["[4 6]"; 4]);
+    let reduce = Signature::Reduce {
+        root: 2,
+        op,
         elem_type,
         count,
     };
+    let given: [&[i128]; 4] = [&[5], &[6], &[7], &[1]];
+    expect_of_four(&rt, reduce, given, ["", "", "[19]", ""]);
+    let nothing = Signature::Allreduce {
+        op,
+        elem_type,
+        count: 0,
+    };
+    expect_of_four(&rt, nothing, [&[]; 4], ["[]"; 4]);
+}
+
+#[test]
+fn scattered_reductions(rt: HostRuntime) {
+    let block = Signature::ReduceScatterBlock {
+        op: Op::Prod,
+        elem_type: ElemType::Uint8,
+        count: 1,
+    };
+    let given: [&[i128]; 4] = [
+        &[16, 2, 255, 1],
+        &[16, 3, 255, 0],
+        &[1, 5, 1, 7],
+        &[1, 7, 1, 9],
+    ];
+    expect_of_four(&rt, block, given, ["[0]", "[210]", "[1]", "[0]"]);
+    let scattered = Signature::ReduceScatter {
+        op: Op::Max,
+        elem_type: INT,
+        counts: numbers(&rt, rt.alloc(), &[1, 0, 2, 0]),
+    };
+    let given: [&[i128]; 4] = [&[1, 9, 4], &[2, 8, 4], &[0, 9, 7], &[1, 1, 1]];
+    expect_of_four(&rt, scattered, given, ["[2]", "[]", "[9 7]", "[]"]);
+}
+
+#[test]
+fn scans(rt: HostRuntime) {
+    let (elem_type, count) = (INT, 1);
     let scan = Signature::Scan {
         op: Op::Land,
         elem_type,
         count,
     };
-    let reduce = Signature::Reduce {
-        root: 2,
+    let given: [&[i128]; 4] = [&[5], &[3], &[0], &[2]];
+    expect_of_four(&rt, scan, given, ["[5]", "[1]", "[0]", "[0]"]);
+    let exscan = Signature::Exscan {
         op: Op::Sum,
         elem_type,
         count,
     };
-    let block = Signature::ReduceScatterBlock {
-        op: Op::Prod,
-        elem_type: ElemType::Uint8,
-        count,
-    };
-    let counts = Numbers::from(Vec::from_slice(alloc, &[1, 0, 2, 0])?);
-    let scattered = Signature::ReduceScatter {
-        op: Op::Max,
-        elem_type,
-        counts,
-    };
-    let pairs = ElemType::TwoInt;
-    let bytes = ElemType::Int8;
-    // The signature, what each of the four ranks gives, and what each gets.
-    let rows: [(Signature, [&[i128]; 4], [&str; 4]); 9] = [
-        (
-            allreduce(Op::Sum, bytes),
-            [&[127], &[1], &[0], &[0]],
-            ["[-128]"; 4],
-        ),
-        (
-            allreduce(Op::Maxloc, pairs),
-            [&[5, 2], &[5, 1], &[4, 0], &[5, 3]],
-            ["[5 1]"; 4],
-        ),
-        (
-            allreduce(Op::Minloc, pairs),
-            [&[5, 2], &[4, 7], &[4, 6], &[5, 0]],
-            ["[4 6]"; 4],
-        ),
-        (
-            block,
-            [
-                &[16, 2, 255, 1],
-                &[16, 3, 255, 0],
-                &[1, 5, 1, 7],
-                &[1, 7, 1, 9],
-            ],
-            ["[0]", "[210]", "[1]", "[0]"],
-        ),
-        (
-            scattered,
-            [&[1, 9, 4], &[2, 8, 4], &[0, 9, 7], &[1, 1, 1]],
-            ["[2]", "[]", "[9 7]", "[]"],
-        ),
-        (scan, [&[5], &[3], &[0], &[2]], ["[5]", "[1]", "[0]", "[0]"]),
-        (exscan, [&[1], &[2], &[3], &[4]], ["", "[1]", "[3]", "[6]"]),
-        (reduce, [&[5], &[6], &[7], &[1]], ["", "", "[19]", ""]),
-        (
-            Signature::Allreduce {
-                op: Op::Sum,
-                elem_type,
-                count: 0,
-            },
-            [&[]; 4],
-            ["[]"; 4],
-        ),
-    ];
-    for (sig, given, expected) in rows {
-        let full = full(&rt, alloc, plain(4), sig, &given, &[])?;
-        expect_deliveries(&rt, alloc, &full, &expected)?;
-    }
-    Ok(())
+    let given: [&[i128]; 4] = [&[1], &[2], &[3], &[4]];
+    expect_of_four(&rt, exscan, given, ["", "[1]", "[3]", "[6]"]);
+}
+
+// The deliveries on a grid, where no counts are stated.
+fn expect_on_grid(
+    rt: &impl Abort,
+    alloc: Global,
+    shape: Shape,
+    sig: Signature,
+    given: &[&[i128]],
+    expected: &[&str],
+) {
+    expect_deliveries(rt, alloc, shape, sig, given, &[], expected);
 }
 
 #[test]
-fn deliveries_between_neighbours(rt: HostRuntime) -> Result<(), Fail> {
+fn deliveries_between_neighbours(rt: HostRuntime) {
     let alloc = rt.alloc();
     let (elem_type, count) = (INT, 1);
     // Two by two, of which the first dimension is periodic: the second has edges.
-    let tube = grid(alloc, 4, &[2, 2], &[true, false])?;
+    let tube = grid(&rt, alloc, 4, &[2, 2], &[true, false]);
     let gather = Signature::NeighborAllgather { elem_type, count };
     let given: [&[i128]; 4] = [&[10], &[11], &[12], &[13]];
-    let full_one = full(&rt, alloc, tube, gather, &given, &[])?;
     let expected = [
         "[12][12]-[11]",
         "[13][13][10]-",
         "[10][10]-[13]",
         "[11][11][12]-",
     ];
-    expect_deliveries(&rt, alloc, &full_one, &expected)?;
+    expect_on_grid(&rt, alloc, tube, gather, &given, &expected);
     // Periodic dimensions of size 1 and 2: what goes to the positive neighbour arrives in its
     // negative slot.
-    let alone = grid(alloc, 1, &[1], &[true])?;
+    let alone = grid(&rt, alloc, 1, &[1], &[true]);
     let exchange = Signature::NeighborAlltoall { elem_type, count };
-    let full_one = full(&rt, alloc, alone, exchange, &[&[1, 2]], &[])?;
-    expect_deliveries(&rt, alloc, &full_one, &["[2][1]"])?;
-    let ring = grid(alloc, 2, &[2], &[true])?;
+    expect_on_grid(&rt, alloc, alone, exchange, &[&[1, 2]], &["[2][1]"]);
+    let ring = grid(&rt, alloc, 2, &[2], &[true]);
     let exchange = Signature::NeighborAlltoall { elem_type, count };
-    let full_one = full(&rt, alloc, ring, exchange, &[&[1, 2], &[3, 4]], &[])?;
-    expect_deliveries(&rt, alloc, &full_one, &["[4][3]", "[2][1]"])?;
-    // A line: what is given for a slot without a neighbour goes nowhere.
-    let line = grid(alloc, 2, &[2], &[false])?;
+    let given: [&[i128]; 2] = [&[1, 2], &[3, 4]];
+    expect_on_grid(&rt, alloc, ring, exchange, &given, &["[4][3]", "[2][1]"]);
+}
+
+// What is given for a slot without a neighbour goes nowhere.
+#[test]
+fn deliveries_on_a_line(rt: HostRuntime) {
+    let alloc = rt.alloc();
+    let elem_type = INT;
+    let line = grid(&rt, alloc, 2, &[2], &[false]);
     let exchange = Signature::NeighborAlltoallv { elem_type };
+    let given: [&[i128]; 2] = [&[1, 2, 3], &[4]];
     let counts: [&[u32]; 2] = [&[1, 2], &[1, 0]];
-    let full_one = full(&rt, alloc, line, exchange, &[&[1, 2, 3], &[4]], &counts)?;
-    expect_deliveries(&rt, alloc, &full_one, &["-[4]", "[2 3]-"])?;
-    let line = grid(alloc, 2, &[2], &[false])?;
+    let expected = ["-[4]", "[2 3]-"];
+    expect_deliveries(&rt, alloc, line, exchange, &given, &counts, &expected);
+    let line = grid(&rt, alloc, 2, &[2], &[false]);
     let gather = Signature::NeighborAllgatherv { elem_type };
-    let full_one = full(&rt, alloc, line, gather, &[&[1, 2], &[]], &[])?;
-    expect_deliveries(&rt, alloc, &full_one, &["-[]", "[1 2]-"])
+    let given: [&[i128]; 2] = [&[1, 2], &[]];
+    expect_on_grid(&rt, alloc, line, gather, &given, &["-[]", "[1 2]-"]);
 }

@@ -1,5 +1,5 @@
 //! The policy file: what is read, and each fault.
-use crate::parties::BANKS_AND_OIL;
+use crate::parties::{BANKS_AND_OIL, wall};
 use std::alloc::{AllocError, Global};
 use std::process::Abort;
 use std::test::Fail;
@@ -34,113 +34,122 @@ distinct = 3
 // What reading answers: nothing for a policy.
 fn fault_of(alloc: Global, bytes: &[u8]) -> Option<PolicyFault> {
     match read_policy(alloc, bytes) {
-        Ok(_) => None,
+        Ok(policy) => {
+            drop(policy);
+            None
+        }
         Err(fault) => Some(fault),
     }
 }
 
+// What stands in a policy, what is put in its place, and the fault.
+type Change = (&'static str, &'static str, PolicyFault);
+
+// The text has a policy, and each change of it has its fault.
+fn expect_faults(rt: &impl Abort, alloc: Global, text: &str, changes: &[Change]) {
+    assert!(rt; fault_of(alloc, text.as_bytes()).is_none());
+    for (old, new, fault) in changes {
+        let Ok(changed) = text.replace(alloc, old, new) else {
+            panic!(rt; "no memory")
+        };
+        assert!(rt;
+            fault_of(alloc, changed.as_bytes()) == Some(*fault),
+            "{new}"
+        );
+    }
+}
+
+const SHORT: &[(&[u8], PolicyFault)] = &[
+    (b"\xff", PolicyFault::NotToml),
+    (b"version = ", PolicyFault::NotToml),
+    (b"", PolicyFault::BadVersion),
+    (b"version = 0", PolicyFault::BadVersion),
+    (b"version = 3", PolicyFault::BadVersion),
+    (b"version = 2", PolicyFault::MissingKey),
+    (b"version = 1", PolicyFault::MissingKey),
+];
+
 #[test]
 fn short_texts(rt: HostRuntime) {
-    let cases: [(&[u8], PolicyFault); 7] = [
-        (b"\xff", PolicyFault::NotToml),
-        (b"version = ", PolicyFault::NotToml),
-        (b"", PolicyFault::BadVersion),
-        (b"version = 0", PolicyFault::BadVersion),
-        (b"version = 3", PolicyFault::BadVersion),
-        (b"version = 2", PolicyFault::MissingKey),
-        (b"version = 1", PolicyFault::MissingKey),
-    ];
-    for (bytes, fault) in cases {
-        assert!(rt; fault_of(rt.alloc(), bytes) == Some(fault), "{fault}");
+    for (bytes, fault) in SHORT {
+        assert!(rt; fault_of(rt.alloc(), bytes) == Some(*fault), "{fault}");
     }
 }
 
-#[test]
-fn changed_policies(rt: HostRuntime) -> Result<(), Fail> {
-    let alloc = rt.alloc();
-    assert!(rt; fault_of(alloc, BANKS_AND_OIL.as_bytes()).is_none());
-    let cases = [
-        (
-            "version = 1\n",
-            "version = 1\nx = 1\n",
-            PolicyFault::UnknownKey,
-        ),
-        ("delta", "public", PolicyFault::BadName),
-        ("delta", "none", PolicyFault::BadName),
-        ("\"b0\"", "\"a0\"", PolicyFault::DuplicateName),
-        (
-            "home = \"beta\"",
-            "home = \"gamma\"",
-            PolicyFault::UnknownDataset,
-        ),
-        ("sum", "avg", PolicyFault::BadOp),
-        (
-            "[[sanitise]]\nop = \"sum\"\nleast = 3\n",
-            "[[sanitise]]\nop = \"avg\"\nleast = 3\n[[sanitise]]\nop = \"avg\"\nleast = 3\n",
-            PolicyFault::DuplicateName,
-        ),
-        (
-            "delta",
-            "d234567890123456789012345678901_3",
-            PolicyFault::BadName,
-        ),
-        ("least = 3", "least = 1", PolicyFault::BadLeast),
-        ("least = 3", "least = 257", PolicyFault::BadLeast),
-        ("least = 3", "least = 3.0", PolicyFault::MissingKey),
-        (
-            "least = 3",
-            "least = 3\ndistinct = 1",
-            PolicyFault::UnknownKey,
-        ),
-        (
-            "least = 3",
-            "least = 3\ndistinct = \"x\"",
-            PolicyFault::UnknownKey,
-        ),
-        ("version = 1", "version = 2", PolicyFault::MissingKey),
-        ("version = 1", "version = 1.0", PolicyFault::BadVersion),
-        ("version = 1", "version = true", PolicyFault::BadVersion),
-    ];
-    for (old, new, fault) in cases {
-        let text = BANKS_AND_OIL.replace(alloc, old, new)?;
-        assert!(rt; fault_of(alloc, text.as_bytes()) == Some(fault), "{new}");
-    }
-    Ok(())
-}
+const CHANGED: &[Change] = &[
+    (
+        "version = 1\n",
+        "version = 1\nx = 1\n",
+        PolicyFault::UnknownKey,
+    ),
+    ("delta", "public", PolicyFault::BadName),
+    ("delta", "none", PolicyFault::BadName),
+    ("\"b0\"", "\"a0\"", PolicyFault::DuplicateName),
+    (
+        "home = \"beta\"",
+        "home = \"gamma\"",
+        PolicyFault::UnknownDataset,
+    ),
+    ("sum", "avg", PolicyFault::BadOp),
+    (
+        "[[sanitise]]\nop = \"sum\"\nleast = 3\n",
+        "[[sanitise]]\nop = \"avg\"\nleast = 3\n[[sanitise]]\nop = \"avg\"\nleast = 3\n",
+        PolicyFault::DuplicateName,
+    ),
+    (
+        "delta",
+        "d234567890123456789012345678901_3",
+        PolicyFault::BadName,
+    ),
+    ("least = 3", "least = 1", PolicyFault::BadLeast),
+    ("least = 3", "least = 257", PolicyFault::BadLeast),
+    ("least = 3", "least = 3.0", PolicyFault::MissingKey),
+    (
+        "least = 3",
+        "least = 3\ndistinct = 1",
+        PolicyFault::UnknownKey,
+    ),
+    (
+        "least = 3",
+        "least = 3\ndistinct = \"x\"",
+        PolicyFault::UnknownKey,
+    ),
+    ("version = 1", "version = 2", PolicyFault::MissingKey),
+    ("version = 1", "version = 1.0", PolicyFault::BadVersion),
+    ("version = 1", "version = true", PolicyFault::BadVersion),
+];
 
 #[test]
-fn changed_policies_of_version_2(rt: HostRuntime) -> Result<(), Fail> {
-    let alloc = rt.alloc();
-    assert!(rt; fault_of(alloc, THREE_FIRMS.as_bytes()).is_none());
-    let cases = [
-        ("distinct = 3", "distinct = 4", PolicyFault::BadLeast),
-        ("distinct = 3", "distinct = 0", PolicyFault::BadLeast),
-        ("distinct = 3", "distinct = -1", PolicyFault::BadLeast),
-        ("distinct = 3\n", "", PolicyFault::MissingKey),
-        ("distinct = 3", "distinct = \"x\"", PolicyFault::MissingKey),
-        (
-            "distinct = 3",
-            "distinct = 3\nx = 1",
-            PolicyFault::UnknownKey,
-        ),
-        ("version = 2", "version = 1", PolicyFault::UnknownKey),
-        ("version = 2", "version = 3", PolicyFault::BadVersion),
-    ];
-    for (old, new, fault) in cases {
-        let text = THREE_FIRMS.replace(alloc, old, new)?;
-        assert!(rt; fault_of(alloc, text.as_bytes()) == Some(fault), "{new}");
-    }
-    Ok(())
+fn changed_policies(rt: HostRuntime) {
+    expect_faults(&rt, rt.alloc(), BANKS_AND_OIL, CHANGED);
+}
+
+const CHANGED_OF_VERSION_2: &[Change] = &[
+    ("distinct = 3", "distinct = 4", PolicyFault::BadLeast),
+    ("distinct = 3", "distinct = 0", PolicyFault::BadLeast),
+    ("distinct = 3", "distinct = -1", PolicyFault::BadLeast),
+    ("distinct = 3\n", "", PolicyFault::MissingKey),
+    ("distinct = 3", "distinct = \"x\"", PolicyFault::MissingKey),
+    (
+        "distinct = 3",
+        "distinct = 3\nx = 1",
+        PolicyFault::UnknownKey,
+    ),
+    ("version = 2", "version = 1", PolicyFault::UnknownKey),
+    ("version = 2", "version = 3", PolicyFault::BadVersion),
+];
+
+#[test]
+fn changed_policies_of_version_2(rt: HostRuntime) {
+    expect_faults(&rt, rt.alloc(), THREE_FIRMS, CHANGED_OF_VERSION_2);
 }
 
 // Absent tables, empty arrays, and names that other things have too.
-#[test]
-fn read(rt: HostRuntime) {
-    let texts = [
-        "version = 1\nclass = []\nsanitise = []\n[[process]]\nname = \"p0\"\n",
-        "version = 1\n[[process]]\nname = \"public\"\n",
-        "version = 1\n[[process]]\nname = \"p234567890123456789012345678901-\"\n",
-        r#"version = 1
+const READ: &[&str] = &[
+    "version = 1\nclass = []\nsanitise = []\n[[process]]\nname = \"p0\"\n",
+    "version = 1\n[[process]]\nname = \"public\"\n",
+    "version = 1\n[[process]]\nname = \"p234567890123456789012345678901-\"\n",
+    r#"version = 1
 [[process]]
 name = "p"
 [[sanitise]]
@@ -150,7 +159,7 @@ least = 65
 op = "min"
 least = 256
 "#,
-        r#"version = 2
+    r#"version = 2
 [[process]]
 name = "p"
 [[sanitise]]
@@ -158,7 +167,7 @@ op = "max"
 least = 256
 distinct = 256
 "#,
-        r#"version = 1
+    r#"version = 1
 [[class]]
 name = "a"
 datasets = ["a"]
@@ -166,8 +175,11 @@ datasets = ["a"]
 name = "a"
 home = "a"
 "#,
-    ];
-    for text in texts {
+];
+
+#[test]
+fn read(rt: HostRuntime) {
+    for text in READ {
         assert!(rt; fault_of(rt.alloc(), text.as_bytes()).is_none(), "{text}");
     }
 }
@@ -178,59 +190,84 @@ fn no_process(rt: HostRuntime) {
     assert!(rt; fault == Some(PolicyFault::MissingKey));
 }
 
-// A policy of so many processes, and so many classes of so many datasets each.
-fn many(alloc: Global, processes: u32, classes: u32, datasets: u32) -> Result<String, AllocError> {
-    let mut text = String::from_str(alloc, "version = 1\n")?;
-    for process in 0..processes {
-        write!(text, "[[process]]\nname = \"p{process}\"\n").map_err(|_| AllocError)?;
-    }
-    for class in 0..classes {
-        write!(text, "[[class]]\nname = \"k{class}\"\ndatasets = [").map_err(|_| AllocError)?;
-        for dataset in 0..datasets {
-            write!(text, "\"d{class}_{dataset}\", ").map_err(|_| AllocError)?;
-        }
-        text.push_str("]\n")?;
-    }
-    Ok(text)
+fn push_process(alloc: Global, text: &mut String, process: u32) -> Result<(), AllocError> {
+    text.push_str(&format!(in alloc; "[[process]]\nname = \"p{process}\"\n")?)
 }
 
-// The most processes, datasets and classes, and one more of each.
-#[test]
-fn limits(rt: HostRuntime) -> Result<(), Fail> {
-    let alloc = rt.alloc();
-    let rows = [
-        (256, 0, 0, None),
-        (257, 0, 0, Some(PolicyFault::TooMany)),
-        (1, 1, 1024, None),
-        (1, 1, 1025, Some(PolicyFault::TooMany)),
-        (1, 512, 2, None),
-        (1, 205, 5, Some(PolicyFault::TooMany)),
-        (1, 1024, 0, None),
-        (1, 1025, 0, Some(PolicyFault::TooMany)),
-    ];
-    for (processes, classes, datasets, fault) in rows {
-        let text = many(alloc, processes, classes, datasets)?;
+// A class of so many datasets.
+fn push_class(
+    alloc: Global,
+    text: &mut String,
+    class: u32,
+    datasets: u32,
+) -> Result<(), AllocError> {
+    text.push_str(&format!(in alloc; "[[class]]\nname = \"k{class}\"\ndatasets = [")?)?;
+    for dataset in 0..datasets {
+        text.push_str(&format!(in alloc; "\"d{class}_{dataset}\", ")?)?;
+    }
+    text.push_str("]\n")
+}
+
+// A policy of so many processes, and so many classes of so many datasets each.
+fn many(rt: &impl Abort, alloc: Global, processes: u32, classes: u32, datasets: u32) -> String {
+    let Ok(mut text) = String::from_str(alloc, "version = 1\n") else {
+        panic!(rt; "no memory")
+    };
+    for process in 0..processes {
         assert!(rt;
-            fault_of(alloc, text.as_bytes()) == fault,
-            "{processes} {classes} {datasets}"
+            push_process(alloc, &mut text, process).is_ok(),
+            "no memory"
         );
     }
-    Ok(())
+    for class in 0..classes {
+        let is_put = push_class(alloc, &mut text, class, datasets).is_ok();
+        assert!(rt; is_put, "no memory");
+    }
+    text
 }
 
-// The policy as it is read, and a copy of it.
-fn read_and_copied(alloc: Global) -> Result<[Policy; 2], PolicyFault> {
-    both(alloc, BANKS_AND_OIL)
+// How many processes, classes and datasets of each, and the fault: the most, and one more of each.
+const LIMITS: &[(u32, u32, u32, Option<PolicyFault>)] = &[
+    (256, 0, 0, None),
+    (257, 0, 0, Some(PolicyFault::TooMany)),
+    (1, 1, 1024, None),
+    (1, 1, 1025, Some(PolicyFault::TooMany)),
+    (1, 512, 2, None),
+    (1, 205, 5, Some(PolicyFault::TooMany)),
+    (1, 1024, 0, None),
+    (1, 1025, 0, Some(PolicyFault::TooMany)),
+];
+
+#[test]
+fn limits(rt: HostRuntime) {
+    for (processes, classes, datasets, fault) in LIMITS {
+        let text = many(&rt, rt.alloc(), *processes, *classes, *datasets);
+        let found = fault_of(rt.alloc(), text.as_bytes());
+        assert!(rt; found == *fault, "{processes} {classes} {datasets}");
+    }
 }
 
-// A policy as it is read, and a copy of it.
-fn both(alloc: Global, text: &str) -> Result<[Policy; 2], PolicyFault> {
-    let policy = read_policy(alloc, text.as_bytes())?;
-    let copy = policy.copy(alloc).map_err(|_| PolicyFault::NoMemory)?;
-    Ok([policy, copy])
+// Lends the policy of a text to a look at it, and then a copy of it. One that goes out of scope is
+// taken apart in the function that owns it, which costs the prover half a minute; `drop` is one
+// call.
+fn at_both<R, F>(rt: &R, text: &str, look: F)
+where
+    R: AllocGlobal + Abort,
+    F: Fn(&Policy),
+    requires { F.IsAlwaysCallable look }
+{
+    let policy = wall(rt, rt.alloc(), text);
+    look(&policy);
+    match policy.copy(rt.alloc()) {
+        Ok(copy) => {
+            look(&copy);
+            drop(copy);
+        }
+        Err(_) => panic!(rt; "no memory"),
+    }
+    drop(policy);
 }
 
-// The asserts on a policy stand in functions that only borrow it: no way out of them drops one.
 fn check_numbers(rt: &impl Abort, policy: &Policy) {
     assert_eq!(rt; policy.processes(), 4);
     assert_eq!(rt; policy.datasets(), 4);
@@ -239,11 +276,8 @@ fn check_numbers(rt: &impl Abort, policy: &Policy) {
 }
 
 #[test]
-fn numbers(rt: HostRuntime) -> Result<(), PolicyFault> {
-    for policy in read_and_copied(rt.alloc())? {
-        check_numbers(&rt, &policy);
-    }
-    Ok(())
+fn numbers(rt: HostRuntime) {
+    at_both(&rt, BANKS_AND_OIL, |policy| check_numbers(&rt, policy));
 }
 
 fn check_version(rt: &impl Abort, policy: &Policy, version: u32, distinct: u32) {
@@ -253,23 +287,14 @@ fn check_version(rt: &impl Abort, policy: &Policy, version: u32, distinct: u32) 
     assert!(rt; policy.distinct(Op::Max).is_none());
 }
 
-fn check_versions(
-    rt: &impl Abort,
-    alloc: Global,
-    text: &str,
-    version: u32,
-    distinct: u32,
-) -> Result<(), PolicyFault> {
-    for policy in both(alloc, text)? {
-        check_version(rt, &policy, version, distinct);
-    }
-    Ok(())
-}
-
 #[test]
-fn versions(rt: HostRuntime) -> Result<(), PolicyFault> {
-    check_versions(&rt, rt.alloc(), BANKS_AND_OIL, 1, 1)?;
-    check_versions(&rt, rt.alloc(), THREE_FIRMS, 2, 3)
+fn versions(rt: HostRuntime) {
+    at_both(
+        &rt,
+        BANKS_AND_OIL,
+        |policy| check_version(&rt, policy, 1, 1),
+    );
+    at_both(&rt, THREE_FIRMS, |policy| check_version(&rt, policy, 2, 3));
 }
 
 fn are_rivals(policy: &Policy, left: &str, right: &[u8]) -> Option<bool> {
@@ -287,11 +312,8 @@ fn check_rivals(rt: &impl Abort, policy: &Policy) {
 }
 
 #[test]
-fn rivals(rt: HostRuntime) -> Result<(), PolicyFault> {
-    for policy in read_and_copied(rt.alloc())? {
-        check_rivals(&rt, &policy);
-    }
-    Ok(())
+fn rivals(rt: HostRuntime) {
+    at_both(&rt, BANKS_AND_OIL, |policy| check_rivals(&rt, policy));
 }
 
 // The class of a dataset, and whether its number gives its name.
@@ -316,33 +338,29 @@ fn check_names(rt: &impl Abort, policy: &Policy) {
 }
 
 #[test]
-fn names(rt: HostRuntime) -> Result<(), PolicyFault> {
-    for policy in read_and_copied(rt.alloc())? {
-        check_names(&rt, &policy);
-    }
-    Ok(())
+fn names(rt: HostRuntime) {
+    at_both(&rt, BANKS_AND_OIL, |policy| check_names(&rt, policy));
 }
+
+const FAULT_NAMES: &[(PolicyFault, &str)] = &[
+    (PolicyFault::NotToml, "NotToml"),
+    (PolicyFault::BadVersion, "BadVersion"),
+    (PolicyFault::MissingKey, "MissingKey"),
+    (PolicyFault::UnknownKey, "UnknownKey"),
+    (PolicyFault::BadName, "BadName"),
+    (PolicyFault::DuplicateName, "DuplicateName"),
+    (PolicyFault::UnknownDataset, "UnknownDataset"),
+    (PolicyFault::BadOp, "BadOp"),
+    (PolicyFault::BadLeast, "BadLeast"),
+    (PolicyFault::TooMany, "TooMany"),
+    (PolicyFault::NoMemory, "NoMemory"),
+];
 
 #[test]
 fn fault_names(rt: HostRuntime) -> Result<(), Fail> {
-    let cases = [
-        (PolicyFault::NotToml, "NotToml"),
-        (PolicyFault::BadVersion, "BadVersion"),
-        (PolicyFault::MissingKey, "MissingKey"),
-        (PolicyFault::UnknownKey, "UnknownKey"),
-        (PolicyFault::BadName, "BadName"),
-        (PolicyFault::DuplicateName, "DuplicateName"),
-        (PolicyFault::UnknownDataset, "UnknownDataset"),
-        (PolicyFault::BadOp, "BadOp"),
-        (PolicyFault::BadLeast, "BadLeast"),
-        (PolicyFault::TooMany, "TooMany"),
-        (PolicyFault::NoMemory, "NoMemory"),
-    ];
-    for (fault, name) in cases {
-        assert!(rt;
-            format!(in rt.alloc(); "{fault}")?.as_str() == name,
-            "{name}"
-        );
+    for (fault, name) in FAULT_NAMES {
+        let shown = format!(in rt.alloc(); "{fault}")?;
+        assert!(rt; shown.as_str() == *name, "{name}");
     }
     Ok(())
 }

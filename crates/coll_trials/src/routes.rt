@@ -1,4 +1,6 @@
 //! The examples of small communicators, with pieces worked by hand from the standard's rules.
+ghost use Rattle.std.specs.Prelude.{◌<◌};
+ghost use Rattle.coll_routes.specs.Fit.{IsFit};
 
 use coll_routes::{
     Flags, Gathering, Kind, Numbers, Own, Piece, Roll, Shape, ShapeFault, Signature, Spread,
@@ -10,7 +12,6 @@ use mpi_elems::ElemType;
 use mpi_group::Group;
 use std::alloc::{AllocError, Global};
 use std::process::Abort;
-use std::test::Fail;
 use wall_labels::{DatasetId, Label, Op, ProcessId};
 
 const INT: ElemType = ElemType::Int32;
@@ -150,58 +151,81 @@ fn roll(
     }
 }
 
-// A line for each receiver, brackets for each place, and each piece there as `(FROM:START+LEN)`.
-fn shown(rt: &impl Abort, alloc: Global, roll: &Roll) -> Result<String, AllocError> {
+// Each piece at a place of a receiver, as `(FROM:START+LEN)`.
+fn push_pieces(
+    alloc: Global,
+    text: &mut String,
+    roll: &Roll,
+    to: u32,
+    place: u32,
+) -> Result<(), AllocError>
+    requires fit { IsFit roll.now }
+    requires to { to < roll.now.shape.size }
+{
+    for from in 0..roll.shape.size {
+        if let Some(Piece { start, len }) = piece(roll, from, to, place) {
+            text.push_str(&format!(in alloc; "({from}:{start}+{len})")?)?;
+        }
+    }
+    Ok(())
+}
+
+// The line of a receiver, with brackets for each place.
+fn push_line(alloc: Global, text: &mut String, roll: &Roll, to: u32) -> Result<(), AllocError>
+    requires fit { IsFit roll.now }
+    requires to { to < roll.now.shape.size }
+{
+    for place in 0..places(roll, to) {
+        text.push_str("[")?;
+        push_pieces(alloc, text, roll, to, place)?;
+        text.push_str("]")?;
+    }
+    text.push_str("\n")
+}
+
+// A line for each receiver.
+fn shown(rt: &impl Abort, alloc: Global, roll: &Roll) -> String {
     let mut text = String::new(alloc);
     assert!(rt; roll.is_fit());
     for to in 0..roll.shape.size {
-        for place in 0..places(roll, to) {
-            text.push_str("[")?;
-            for from in 0..roll.shape.size {
-                if let Some(part) = piece(roll, from, to, place) {
-                    let (start, len) = (part.start, part.len);
-                    text.push_str(&format!(in alloc; "({from}:{start}+{len})")?)?;
-                }
-            }
-            text.push_str("]")?;
-        }
-        text.push_str("\n")?;
+        assert!(rt; push_line(alloc, &mut text, roll, to).is_ok(), "no memory");
     }
-    Ok(text)
+    text
 }
+
+const KINDS: &[(Kind, &str)] = &[
+    (Kind::Barrier, "barrier"),
+    (Kind::Bcast, "bcast"),
+    (Kind::Gather, "gather"),
+    (Kind::Gatherv, "gatherv"),
+    (Kind::Scatter, "scatter"),
+    (Kind::Scatterv, "scatterv"),
+    (Kind::Allgather, "allgather"),
+    (Kind::Allgatherv, "allgatherv"),
+    (Kind::Alltoall, "alltoall"),
+    (Kind::Alltoallv, "alltoallv"),
+    (Kind::Reduce, "reduce"),
+    (Kind::Allreduce, "allreduce"),
+    (Kind::ReduceScatter, "reduce_scatter"),
+    (Kind::ReduceScatterBlock, "reduce_scatter_block"),
+    (Kind::Scan, "scan"),
+    (Kind::Exscan, "exscan"),
+    (Kind::NeighborAllgather, "neighbor_allgather"),
+    (Kind::NeighborAllgatherv, "neighbor_allgatherv"),
+    (Kind::NeighborAlltoall, "neighbor_alltoall"),
+    (Kind::NeighborAlltoallv, "neighbor_alltoallv"),
+    (Kind::Dup, "dup"),
+    (Kind::Split, "split"),
+    (Kind::Create, "create"),
+    (Kind::CartCreate, "cart_create"),
+    (Kind::CartSub, "cart_sub"),
+];
 
 #[test]
 fn kinds_have_their_names(rt: HostRuntime) {
-    let rows = [
-        (Kind::Barrier, "barrier"),
-        (Kind::Bcast, "bcast"),
-        (Kind::Gather, "gather"),
-        (Kind::Gatherv, "gatherv"),
-        (Kind::Scatter, "scatter"),
-        (Kind::Scatterv, "scatterv"),
-        (Kind::Allgather, "allgather"),
-        (Kind::Allgatherv, "allgatherv"),
-        (Kind::Alltoall, "alltoall"),
-        (Kind::Alltoallv, "alltoallv"),
-        (Kind::Reduce, "reduce"),
-        (Kind::Allreduce, "allreduce"),
-        (Kind::ReduceScatter, "reduce_scatter"),
-        (Kind::ReduceScatterBlock, "reduce_scatter_block"),
-        (Kind::Scan, "scan"),
-        (Kind::Exscan, "exscan"),
-        (Kind::NeighborAllgather, "neighbor_allgather"),
-        (Kind::NeighborAllgatherv, "neighbor_allgatherv"),
-        (Kind::NeighborAlltoall, "neighbor_alltoall"),
-        (Kind::NeighborAlltoallv, "neighbor_alltoallv"),
-        (Kind::Dup, "dup"),
-        (Kind::Split, "split"),
-        (Kind::Create, "create"),
-        (Kind::CartCreate, "cart_create"),
-        (Kind::CartSub, "cart_sub"),
-    ];
-    for (kind, name) in rows {
-        assert_eq!(rt; kind.name(), name);
-        assert_eq!(rt; Kind::named(name.as_bytes()), Some(kind));
+    for (kind, name) in KINDS {
+        assert_eq!(rt; kind.name(), *name);
+        assert_eq!(rt; Kind::named(name.as_bytes()), Some(*kind));
     }
     assert_eq!(rt; Kind::named(b"alltoallw"), None);
 }
@@ -222,10 +246,7 @@ fn expect_pieces(
 }
 
 fn expect_shown(rt: &impl Abort, alloc: Global, roll: &Roll, expected: &str) {
-    let text = match shown(rt, alloc, roll) {
-        Ok(text) => text,
-        Err(AllocError) => panic!(rt; "no memory"),
-    };
+    let text = shown(rt, alloc, roll);
     let name = roll.sig.kind().name();
     assert_eq!(rt; text.as_str(), expected, "{name}");
 }
@@ -339,19 +360,21 @@ fn spreads_of_three_ranks(rt: HostRuntime) {
     expect_spread(&rt, exscan, [1, 1, 1], Spread::Below);
 }
 
+// A receiver in a row of three, a slot, and who sends to it there.
+const SENDERS: &[(u32, u32, Option<u32>)] = &[
+    (0, 0, None),
+    (0, 1, Some(1)),
+    (1, 0, Some(0)),
+    (2, 1, None),
+    (2, 2, None),
+];
+
 fn has_senders(rt: &impl Abort, roll: &Roll) {
     assert!(rt; roll.is_fit() && roll.shape.size == 3);
     assert_eq!(rt; spread_of(roll), Spread::ByPlace);
-    let senders = [
-        (0, 0, None),
-        (0, 1, Some(1)),
-        (1, 0, Some(0)),
-        (2, 1, None),
-        (2, 2, None),
-    ];
-    for (to, slot, expected) in senders {
-        assert!(rt; to < 3);
-        assert_eq!(rt; sender(roll, to, slot), expected);
+    for (to, slot, expected) in SENDERS {
+        assert!(rt; *to < 3);
+        assert_eq!(rt; sender(roll, *to, *slot), *expected);
     }
 }
 
@@ -787,17 +810,41 @@ fn copy_of_a_grid(rt: HostRuntime) {
 }
 
 #[test]
-fn lists_are_lists(rt: HostRuntime) -> Result<(), Fail> {
-    let alloc = rt.alloc();
-    let list = numbers(&rt, alloc, &[5, 6]);
-    let copy = list.copy(alloc)?;
-    assert!(rt; copy.is_same(&list) && !copy.is_same(&Numbers::from(Vec::new(alloc))));
-    assert_eq!(rt; list.into_vec().as_slice(), [5, 6].as_slice());
-    let kept = flags(&rt, alloc, &[true, false]);
-    let copy = kept.copy(alloc)?;
-    assert!(rt; copy.is_same(&kept) && !copy.is_same(&Flags::from(Vec::new(alloc))));
-    assert_eq!(rt; kept.into_vec().as_slice(), [true, false].as_slice());
-    Ok(())
+fn lists_of_numbers(rt: HostRuntime) {
+    let list = numbers(&rt, rt.alloc(), &[5, 6]);
+    let empty = Numbers::from(Vec::new(rt.alloc()));
+    let Ok(copy) = list.copy(rt.alloc()) else {
+        panic!(&rt; "no memory")
+    };
+    assert!(&rt; copy.is_same(&list) && !copy.is_same(&empty));
+    let items = list.into_vec();
+    assert_eq!(&rt; items.as_slice(), [5, 6].as_slice());
+    drop(items);
+    drop(copy);
+    drop(empty);
+}
+
+#[test]
+fn lists_of_flags(rt: HostRuntime) {
+    let kept = flags(&rt, rt.alloc(), &[true, false]);
+    let empty = Flags::from(Vec::new(rt.alloc()));
+    let Ok(copy) = kept.copy(rt.alloc()) else {
+        panic!(&rt; "no memory")
+    };
+    assert!(&rt; copy.is_same(&kept) && !copy.is_same(&empty));
+    let values = kept.into_vec();
+    assert_eq!(&rt; values.as_slice(), [true, false].as_slice());
+    drop(values);
+    drop(copy);
+    drop(empty);
+}
+
+// How many elements a rank gives, none where it has stated nothing.
+fn given_at(rows: &Statements, rank: u32) -> Option<u32> {
+    match rows.get(rank) {
+        Some(stated) => Some(stated.given),
+        None => None,
+    }
 }
 
 #[test]
@@ -816,8 +863,8 @@ fn statements_are_set(rt: HostRuntime) {
             barred: false,
         },
     );
-    assert!(&rt; rows.get(0).is_none() && rows.get(2).is_none());
-    assert_eq!(&rt; rows.get(1).map(|stated| stated.given), Some(7));
+    assert!(&rt; given_at(&rows, 0).is_none() && given_at(&rows, 2).is_none());
+    assert_eq!(&rt; given_at(&rows, 1), Some(7));
     let rows = rows.into_vec();
     assert_eq!(&rt; rows.len(), 2);
     drop(rows);
