@@ -75,6 +75,7 @@ impl Inflow {
         requires serves { Serves _histories.now.classes roll.now to self.old }
         ensures ranks { self.new.ranks ≤ end }
         ensures inflow { IsInflowOf _histories.now.classes roll.now to self.new }
+        ensures kept { is_alike roll.now.sig ≡ true → self.old.ranks ≤ end → self.new ≡ self.old }
     {
         if is_alike(&roll.sig) && self.ranks <= end {
             return;

@@ -71,6 +71,8 @@ fn first_meeting(histories: &Histories, roll: &Roll, to: u32) -> Option<u32>
 fn is_clear(histories: &Histories, process: ProcessId, inflow: &Inflow) -> bool
     ensures unheld { IsTrue result → ¬ (HoldsOneOf (has histories.now process) inflow.now.rivals) }
     ensures apart { IsTrue result → ¬ (Meet inflow.now.datasets inflow.now.rivals) }
+    ensures all { ¬ (HoldsOneOf (has histories.now process) inflow.now.rivals) →
+        ¬ (Meet inflow.now.datasets inflow.now.rivals) → IsTrue result }
 {
     !histories.has_some(process, &inflow.rivals) && !inflow.datasets.meets(&inflow.rivals)
 }
