@@ -2,8 +2,8 @@ pub mod AnyLemmas
 pub mod BlockLemmas
 pub mod CutLemmas
 pub mod FitLemmas
+pub mod GatheringLemmas
 pub mod LawLemmas
 pub mod RouteLemmas
 pub mod SignatureLemmas
-pub mod SpreadLemmas
 pub mod CollRoutesLemmas

@@ -6,6 +6,7 @@
 #![tactic(auto)]
 
 mod fault;
+mod gathering;
 mod kind;
 mod lane;
 pub mod laws;
@@ -13,15 +14,14 @@ mod lists;
 mod roll;
 mod route;
 mod signature;
-mod spread;
 mod statement;
 
 pub use fault::{ELEMENT_LIMIT, ShapeFault, shape_fault};
+pub use gathering::{Gathering, gathered};
 pub use kind::Kind;
 pub use lane::Piece;
 pub use lists::{Flags, Numbers};
 pub use roll::{Roll, Shape, Statements};
 pub use route::{is_missing, piece, places, routed};
 pub use signature::Signature;
-pub use spread::{Gathering, Spread, gathered, sender, spread_of};
 pub use statement::{Own, Stated};

@@ -104,7 +104,7 @@ fn place_from(sig: &Signature, from: u32) -> u32
 
 // Whether some element of a rank goes to a place.
 #[tactic(auto, using(crate::proofs::FitLemmas::of_roll))]
-pub(crate) fn sends_to(roll: &Roll, from: u32, to: u32, place: u32) -> bool
+fn sends_to(roll: &Roll, from: u32, to: u32, place: u32) -> bool
     requires fit { IsFit roll.now }
     requires from { from < roll.now.shape.size }
     requires to { to < roll.now.shape.size }

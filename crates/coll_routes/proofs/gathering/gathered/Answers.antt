@@ -1,8 +1,8 @@
 use Rattle.std.proofs.Common.{◌∙◌, ap, []}
 use Rattle.coll_routes.specs.Lanes.{sizes_by}
-use Rattle.coll_routes.specs.Spreads.{share_start, share_end}
-use Rattle.coll_routes.proofs.SpreadLemmas.{sum_within, sent_alike, end_within, until_within}
-use Rattle.coll_routes.proofs.spread.gathered.Goals as goal
+use Rattle.coll_routes.specs.Gatherings.{share_start, share_end}
+use Rattle.coll_routes.proofs.GatheringLemmas.{sum_within, sent_alike, end_within, until_within}
+use Rattle.coll_routes.proofs.gathering.gathered.Goals as goal
 
 pub piece_of-requires : goal.piece_of-requires
 piece_of-requires c =

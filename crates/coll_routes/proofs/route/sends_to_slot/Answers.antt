@@ -1,5 +1,5 @@
 use Rattle.std.proofs.Common.{sym, ◌∙◌}
-use Rattle.coll_routes.proofs.SpreadLemmas.{only_neighbour}
+use Rattle.coll_routes.proofs.LawLemmas.{only_neighbour}
 use Rattle.coll_routes.proofs.route.sends_to_slot.Goals as goal
 
 pub returns-else-has_neighbour : goal.returns-else-has_neighbour
