@@ -33,7 +33,8 @@ seen s = record {
   known = λ c. known_in (queue_at s.queues c);
 }
 
--- the value of `Pending`, which only this crate looks into: callers see it by `shown` and `HasRoom`
+-- the value of `Pending`, which only this crate looks into: callers see it by `view_of_pending` and
+-- `HasRoom`
 pub record State (X : Type 0) : Type 0 where
   pub queues : Queues X
   pub spare : Spare X

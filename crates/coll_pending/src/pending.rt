@@ -18,8 +18,8 @@ use wall_labels::NoMemory;
 ///
 /// The k-th arrivals of the members of a communicator meet in its k-th instance, whatever comes
 /// between them. Communicators, ranks, arrivals and instances count from 0. Contracts see, by
-/// `shown`, the number of arrivals of each member, the instances that wait, and the members and
-/// the shape of each communicator from its first arrival on.
+/// `view_of_pending`, the number of arrivals of each member, the instances that wait, and the
+/// members and the shape of each communicator from its first arrival on.
 ///
 /// No call takes longer for more instances that wait, or for more arrivals before. Memory grows
 /// with the highest number of a communicator that is known and with the instances that wait.

@@ -1,4 +1,4 @@
-//! Why a line, or a script, is refused.
+//! Why a line is refused.
 use std::alloc::{AllocError, AllocFailed};
 use thiserror::Error;
 
