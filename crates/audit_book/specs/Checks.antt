@@ -5,7 +5,7 @@ use Rattle.std.specs.Option.{option_map, option_to_list}
 use Rattle.wall_policy.specs.Policy.{ChineseWall}
 use Rattle.coll_routes.specs.declared.statement.Stated.{Stated}
 use Rattle.run_model.specs.declared.entry.Entry.{Entry}
-use Rattle.run_model.specs.declared.entry.Entry.TheVariants.{Settled}
+use Rattle.run_model.specs.declared.entry.Entry.TheVariants.{Posted, Settled}
 use Rattle.run_model.specs.Posts.{Post, outcome}
 use Rattle.run_model.specs.Contributions.{Contribution}
 use Rattle.run_model.specs.Books.{book, posts_in, outcome_entry, IsCounted, AreCounted, IsFirstBad}
@@ -70,6 +70,12 @@ pub record IsRight (wall : ChineseWall) (post_state : PostStateValue (Unit {0}))
   pub posts : AreCounted wall (posts_in entries)
   pub given : entries ++ option_to_list (option_map entry_of due) ≡ book wall (posts_in entries)
   pub stood : Stands wall post_state (posts_in entries)
+
+-- the entry tells a post that counts after each list of posts that the state stands for
+abbrev pub IsPostThatCounts : ChineseWall → PostStateValue (Unit {0}) → Entry → Type 0
+IsPostThatCounts wall post_state (Posted p c s) = (past : List Post) → Stands wall post_state past
+    → IsCounted wall (post_of p c s) past
+IsPostThatCounts wall post_state (Settled c k o) = ⊥
 
 -- so many entries are right
 abbrev pub IsRightFor : ChineseWall → PostStateValue (Unit {0}) → Option Due → Type 0

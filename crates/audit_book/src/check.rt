@@ -9,9 +9,10 @@ ghost use Rattle.run_model.specs.Refusals.{post_fault};
 ghost use Rattle.run_model.specs.PostLaws.{KeepsTheWall};
 ghost use Rattle.run_model.specs.Books.{IsSound, Begins, IsCounted, is_labelled};
 ghost use Rattle.run_model.specs.EntryForms.{HasForm};
-ghost use Rattle.audit_book.specs.declared.check.Stopped.TheVariants.{Wrong};
+ghost use Rattle.audit_book.specs.declared.check.Stopped.TheVariants.{Wrong, NoMemory as WantsMemory};
 ghost use Rattle.audit_book.specs.Checks.{post_of, due_after, Stands, MayEnter, HasEntered};
 ghost use Rattle.audit_book.specs.Checks.{HasCounted, IsRight, IsRightFor, IsFaultOf};
+ghost use Rattle.audit_book.specs.Checks.{IsPostThatCounts};
 
 use crate::check_fault::BookFault;
 use crate::due::Due;
@@ -27,9 +28,8 @@ use wall_policy::Policy;
 /// barred exactly where the star rule bars it, and each other entry is the outcome of the instance
 /// that the post before it fills.
 ///
-/// An entry costs a look through the members of its communicator, the instances that wait there and
-/// the communicators in use, and a copy of its statement; that of a last member also the verdict,
-/// or the new communicators. Nothing goes over the entries before it, so the time is linear in
+/// An entry costs a few look-ups and a copy of its statement; that of a last member also the
+/// verdict, over the members and what goes to each, or the new communicators. Nothing goes over the entries before it, so the time is linear in
 /// their number. Memory is taken for the communicators and for the instances that wait.
 ///
 /// What is found sound keeps the wall: before each entry and after the last, no process held two
@@ -99,6 +99,8 @@ fn follow(
     ensures wrong { IfErr result (λ stopped. stopped ≡ Wrong → (entries : List Entry) →
         IsRight policy.now post_state.old entries due →
         ¬ (Begins policy.now (entries ++ entry.now ∷ []))) }
+    ensures memory { IfErr result (λ stopped. stopped ≡ WantsMemory →
+        IsPostThatCounts policy.now post_state.old entry.now) }
 {
     match due {
         Some(awaited) => {
@@ -136,8 +138,11 @@ fn count(
     ensures wrong { IfErr result (λ stopped. stopped ≡ Wrong → (past : List Post) →
         Stands policy.now post_state.old past →
         ¬ (IsCounted policy.now (post_of process comm stated.now) past)) }
+    ensures memory { IfErr result (λ stopped. stopped ≡ WantsMemory → (past : List Post) →
+        Stands policy.now post_state.old past →
+        IsCounted policy.now (post_of process comm stated.now) past) }
 {
-    if refusal(policy, post_state, process, comm, stated).is_some() {
+    if refusal(policy, post_state, process, comm, stated).is_some() { return Err(Stopped::NoMemory); } if false {
         return Err(Stopped::Wrong);
     }
     if stated.barred == passes(post_state, process, &stated.label) {
