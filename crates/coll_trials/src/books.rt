@@ -1,4 +1,4 @@
-//! A book of two entries.
+//! A book of two entries, and one of a thousand.
 ghost use Rattle.std.specs.Prelude.{◌≡◌, ◌<◌, ◌+◌};
 
 use coll_routes::{Own, Signature, Stated};
@@ -28,6 +28,40 @@ fn push(rt: &impl Abort, book: &mut Book, entry: Entry)
 {
     assert!(rt; entry.has_form());
     book.push(entry);
+}
+
+// Makes room for two entries, and says whether there was none for them. The room is in proportion to
+// the book.
+fn make_room(rt: &impl Abort, book: &mut Book) -> bool
+    ensures { 2 ≤ book.new.room }
+{
+    let grows = book.room() < 2;
+    let Ok(()) = book.reserve(2) else {
+        panic!(rt; "no memory")
+    };
+    assert!(rt; book.room() <= 2 * book.len() + 16);
+    grows
+}
+
+// One entry more, for which the book grows if there is no room for two.
+fn lengthen(rt: &impl Abort, book: &mut Book, growths: &mut u32) {
+    if make_room(rt, book) {
+        assert!(rt; *growths < 20);
+        *growths += 1;
+    }
+    push(rt, book, barrier(rt));
+}
+
+// A growth copies what is there, so that there are few: a thousand entries take fewer than twenty.
+#[test]
+fn a_book_grows_seldom(rt: HostRuntime) {
+    let mut book = Book::new(rt.alloc());
+    let mut growths = 0;
+    for _ in 0..1000 {
+        lengthen(&rt, &mut book, &mut growths);
+    }
+    assert_eq!(rt; book.len(), 1000);
+    drop(book);
 }
 
 #[test]

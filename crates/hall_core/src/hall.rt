@@ -13,9 +13,16 @@ use wall_rules::Histories;
 
 /// All that the server keeps: the policy, the counted posts with their elements, the requests, the
 /// instances that were filled with what came of them, and the book.
-#[derive(Drop)]
 pub struct Hall {
     records: Records,
+}
+
+// By hand: a derived one is proved anew in each crate that drops one.
+impl Drop for Hall {
+    fn drop(self) {
+        let Hall { records } = self;
+        drop(records);
+    }
 }
 
 impl Model for Hall {
@@ -148,6 +155,14 @@ impl Hall {
     pub(crate) fn kept_requests(&self, process: u32) -> usize {
         match self.records.requests.get(process as usize) {
             Some(asked) => asked.kept(),
+            None => 0,
+        }
+    }
+
+    /// For how many requests of a process there is memory.
+    pub(crate) fn request_room(&self, process: u32) -> usize {
+        match self.records.requests.get(process as usize) {
+            Some(asked) => asked.room(),
             None => 0,
         }
     }

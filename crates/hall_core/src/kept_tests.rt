@@ -1,7 +1,11 @@
 //! What a hall keeps: an instance until its last member has taken its outcome, and the requests of
 //! a process from the first on that it has not taken. So its tables do not grow with the calls.
 
+ghost use Rattle.std.specs.Prelude.{◌≡◌, ℕ};
+ghost use Rattle.hall_core.specs.Settling.{nothing, place_at};
+
 use crate::Hall;
+use crate::settled::Settlements;
 use crate::tests::Doing::{Cast, Sum, Take};
 use crate::tests::{FRIENDS, Line, RIVALS, answers, at_a_hall};
 use std::alloc::Global;
@@ -60,6 +64,13 @@ fn keeps(hall: &Hall, number: usize) -> bool {
     hall.kept_places(0) == number
 }
 
+/// Whether one more post leaves one place, and one request of its process alone.
+fn keeps_one_more(alloc: Global, hall: &mut Hall) -> Result<bool, NoMemory> {
+    answers(alloc, hall, &(0, Cast(0, 0, 2, "alpha", &[7, -1]), "any"))?;
+    let requests = hall.kept_requests(0) == 1 && hall.kept_requests(1) == 0;
+    Ok(requests && hall.kept_places(0) == 1)
+}
+
 fn takes_in_order(alloc: Global, hall: &mut Hall) -> Result<bool, NoMemory> {
     for number in 0..ROUNDS {
         asks_all(alloc, hall, &round())?;
@@ -67,7 +78,13 @@ fn takes_in_order(alloc: Global, hall: &mut Hall) -> Result<bool, NoMemory> {
             return Ok(false);
         }
     }
-    Ok(keeps(hall, 0))
+    Ok(keeps(hall, 0) && keeps_one_more(alloc, hall)?)
+}
+
+/// Whether there is room for 200 requests of a process, and for some as many more: so it grew seldom.
+fn has_fit_room(hall: &Hall) -> bool {
+    let room = hall.request_room(0);
+    200 < room && room <= 512
 }
 
 /// All rounds are posted before the first take, and the last request is taken first.
@@ -75,7 +92,7 @@ fn takes_backwards(alloc: Global, hall: &mut Hall) -> Result<bool, NoMemory> {
     for _ in 0..ROUNDS {
         asks_all(alloc, hall, &round())?;
     }
-    let all = keeps(hall, 200);
+    let all = keeps(hall, 200) && has_fit_room(hall);
     for after in 0..2 * ROUNDS {
         if !all_take(alloc, hall, 2 * ROUNDS - 1 - after)? {
             return Ok(false);
@@ -144,5 +161,26 @@ fn waits_for_one(alloc: Global, hall: &mut Hall) -> Result<bool, NoMemory> {
 #[test]
 fn what_one_has_not_taken_is_kept(rt: HostRuntime) -> Result<(), Fail> {
     assert!(rt; at_a_hall(rt.alloc(), FRIENDS, waits_for_one)?);
+    Ok(())
+}
+
+/// Whether places that were dropped come back where they are asked for, as many as are needed.
+fn come_back(settlements: &mut Settlements) -> Result<bool, NoMemory>
+    requires { (c k : ℕ) → place_at settlements.old c k ≡ nothing }
+{
+    settlements.ready(0, 5)?;
+    settlements.join(0, 5);
+    settlements.leave(0, 5);
+    let none = settlements.kept(0) == 0;
+    settlements.ready(0, 3)?;
+    Ok(none && settlements.kept(0) == 3)
+}
+
+#[test]
+fn dropped_places_come_back(rt: HostRuntime) -> Result<(), Fail> {
+    let mut settlements = Settlements::new(rt.alloc());
+    let back = come_back(&mut settlements);
+    drop(settlements);
+    assert!(rt; back?);
     Ok(())
 }

@@ -42,7 +42,6 @@ use wall_policy::Policy;
 
 /// The policy; the counted posts so far, as the state has them; the requests of each process; the
 /// settlements of the instances that were filled; and the book.
-#[derive(Drop)]
 pub struct Records {
     pub alloc: Global,
     pub policy: Policy,
@@ -50,6 +49,25 @@ pub struct Records {
     pub requests: Vec<Requests>,
     pub settled: Settlements,
     pub book: Book,
+}
+
+// By hand: a derived one is proved anew in each crate that drops one.
+impl Drop for Records {
+    fn drop(self) {
+        let Records {
+            alloc: _,
+            policy,
+            post_state,
+            requests,
+            settled,
+            book,
+        } = self;
+        drop(policy);
+        drop(post_state);
+        drop(requests);
+        drop(settled);
+        drop(book);
+    }
 }
 
 impl Records {

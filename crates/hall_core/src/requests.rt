@@ -131,6 +131,11 @@ impl Requests {
     pub fn kept(&self) -> usize {
         self.window.len()
     }
+
+    /// For how many there is memory.
+    pub fn room(&self) -> usize {
+        self.window.capacity()
+    }
 }
 
 // Drops those in front that were taken, and says how many.

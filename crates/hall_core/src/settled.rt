@@ -1,8 +1,10 @@
 //! The places of instances, each with what came of it.
 ghost use Rattle.std.specs.Prelude.{◌≡◌, ◌<◌, ◌≤◌, ◌==◌, ◌+◌, ◌^◌, [], ◌∷◌, ◌++◌, ℕ, None, Some};
-ghost use Rattle.std.specs.Prelude.{length, replicate, drop, OnOk, IsTrue, if◌then◌else◌};
+ghost use Rattle.std.specs.Prelude.{length, replicate, drop, min, max, OnOk, IsTrue};
+ghost use Rattle.std.specs.Prelude.{if◌then◌else◌};
 ghost use Rattle.std.specs.Option.{is_some, option_copied};
 ghost use Rattle.std.specs.VecDeque.{deque_len};
+ghost use Rattle.run_model.specs.declared.outcome.Outcome.TheVariants.{Granted};
 ghost use Rattle.hall_core.specs.Settling.{nothing, no_places, place_in, place_at, places_of};
 ghost use Rattle.hall_core.specs.Settling.{open_at, settlement_at, HasPlace, one_more, one_fewer};
 ghost use Rattle.hall_core.specs.Settling.{settled_as, with_place, AreSame, IsPlaced};
@@ -15,15 +17,24 @@ use std::marker::Model;
 use wall_labels::NoMemory;
 
 /// A full instance, and its outcome.
-#[derive(Drop)]
 pub struct Settlement {
     pub full: Instance,
     pub outcome: Outcome,
 }
 
+// By hand: a derived one is proved anew in each crate that drops one.
+impl Drop for Settlement {
+    fn drop(self) {
+        let Settlement { full, outcome: _ } = self;
+        drop(full);
+    }
+}
+
 impl Settlement {
     // Whether it is a grant whose instance no claim has shared yet. Contracts see no difference.
-    fn is_unshared_grant(&self) -> bool {
+    fn is_unshared_grant(&self) -> bool
+        ensures { IsTrue result → self.now.outcome ≡ Granted }
+    {
         matches!(&self.outcome, Outcome::Granted) && self.full.is_plain()
     }
 
@@ -39,10 +50,20 @@ impl Settlement {
 
 /// The place of an instance: how many of the requests for it wait to be taken, and what came of it,
 /// once it was filled.
-#[derive(Drop)]
 pub struct Place {
     pub waiting: u64,
     pub settlement: Option<Settlement>,
+}
+
+// By hand: a derived one is proved anew in each crate that drops one.
+impl Drop for Place {
+    fn drop(self) {
+        let Place {
+            waiting: _,
+            settlement,
+        } = self;
+        drop(settlement);
+    }
 }
 
 impl Place {
@@ -128,10 +149,17 @@ fn is_nothing_first(places: &VecDeque<Place>) -> bool
 
 /// The places of one communicator's instances, by number. Those of instances that were let go are
 /// dropped in front, and counted.
-#[derive(Drop)]
 struct Row {
     first: usize,
     places: VecDeque<Place>,
+}
+
+// By hand: a derived one is proved anew in each crate that drops one.
+impl Drop for Row {
+    fn drop(self) {
+        let Row { first: _, places } = self;
+        drop(places);
+    }
 }
 
 impl Model for Row {
@@ -176,11 +204,12 @@ impl Row {
         }
     }
 
-    // Makes a place for the instance of that number.
+    // Makes a place for the instance of that number. Of those that were dropped it takes back only
+    // those from that number on.
     fn ready(&mut self, k: usize) -> Result<(), NoMemory>
         requires { k < 2 ^ 62 }
         ensures same { (j : ℕ) → place_in self.new.list j ≡ place_in self.old.list j }
-        ensures low { OnOk result (self.new.first ≤ k) }
+        ensures first { OnOk result (self.new.first ≡ min self.old.first k) }
         ensures within { OnOk result (k < length self.new.list) }
     {
         self.reach_back(k)?;
@@ -191,7 +220,7 @@ impl Row {
     #[tactic(auto, using(crate::proofs::SettlingLemmas::front_pushed))]
     fn reach_back(&mut self, k: usize) -> Result<(), NoMemory>
         ensures same { self.new.list ≡ self.old.list }
-        ensures low { OnOk result (self.new.first ≤ k) }
+        ensures first { OnOk result (self.new.first ≡ min self.old.first k) }
     {
         while k < self.first {
             self.places.push_front(Place::nothing())?;
@@ -271,10 +300,17 @@ impl Row {
 /// For each communicator the places of its instances. An instance is let go when no request for it
 /// is open any more, so there is a place for each instance with an open request, and for those
 /// between the first and the last of a communicator.
-#[derive(Drop)]
 pub struct Settlements {
     alloc: Global,
     rows: Vec<Row>,
+}
+
+// By hand: a derived one is proved anew in each crate that drops one.
+impl Drop for Settlements {
+    fn drop(self) {
+        let Settlements { alloc: _, rows } = self;
+        drop(rows);
+    }
 }
 
 impl Model for Settlements {
@@ -307,6 +343,7 @@ impl Settlements {
     pub fn ready(&mut self, comm: u32, k: u64) -> Result<(), NoMemory>
         requires { k < 2 ^ 62 }
         ensures same { AreSame self.old self.new }
+        ensures rows { OnOk result (length self.new ≡ max (length self.old) (comm + 1)) }
         ensures room { OnOk result (HasPlace self.new comm k) }
     {
         add_rows(self.alloc, &mut self.rows, comm as usize)?;
@@ -377,7 +414,8 @@ fn settlement_of(rows: &[Row], comm: usize, k: usize) -> Option<&Settlement>
 #[tactic(auto, using(crate::proofs::SettlingLemmas::row_pushed))]
 fn add_rows(alloc: Global, rows: &mut Vec<Row>, comm: usize) -> Result<(), NoMemory>
     ensures same { AreSame rows.old.items rows.new.items }
-    ensures there { OnOk result (comm < length rows.new.items) }
+    ensures number { OnOk result
+        (length rows.new.items ≡ max (length rows.old.items) (comm + 1)) }
 {
     while rows.len() <= comm {
         rows.push(Row::new(alloc))?;
@@ -389,6 +427,7 @@ fn ready_at(rows: &mut Vec<Row>, comm: usize, k: usize) -> Result<(), NoMemory>
     requires there { comm < length rows.old.items }
     requires few { k < 2 ^ 62 }
     ensures same { AreSame rows.old.items rows.new.items }
+    ensures number { length rows.new.items ≡ length rows.old.items }
     ensures room { OnOk result (HasPlace rows.new.items comm k) }
 {
     rows[comm].ready(k)

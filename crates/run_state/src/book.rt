@@ -13,9 +13,16 @@ use wall_labels::NoMemory;
 ///
 /// Each entry has its form: see `Entry::has_form`. Contracts see the entries, and for how many more
 /// there is room.
-#[derive(Drop)]
 pub struct Book {
     entries: Vec<Entry>,
+}
+
+// By hand: a derived one is proved anew in each crate that drops one.
+impl Drop for Book {
+    fn drop(self) {
+        let Book { entries } = self;
+        drop(entries);
+    }
 }
 
 impl Model for Book {
@@ -52,6 +59,13 @@ impl Book {
     {
         self.entries.reserve(number)?;
         Ok(())
+    }
+
+    /// For how many more entries there is room.
+    pub fn room(&self) -> usize
+        ensures { result ≡ self.now.room }
+    {
+        self.entries.capacity() - self.entries.len()
     }
 
     /// Adds an entry, for which there is room. Takes no memory.

@@ -30,12 +30,26 @@ use wall_verdict::passes_star;
 ///
 /// It stands for the posts that were entered, which contracts list with the newest first. The
 /// policy is handed in each time: it is the one that the state was opened with.
-#[derive(Drop)]
 pub struct PostState<X> {
     alloc: Global,
     comms: Communicators,
     pending: Pending<X>,
     histories: Histories,
+}
+
+// By hand: a derived one is proved anew in each crate that drops one.
+impl<X: Drop> Drop for PostState<X> {
+    fn drop(self) {
+        let PostState {
+            alloc: _,
+            comms,
+            pending,
+            histories,
+        } = self;
+        drop(comms);
+        drop(pending);
+        drop(histories);
+    }
 }
 
 impl<X> Model for PostState<X> {

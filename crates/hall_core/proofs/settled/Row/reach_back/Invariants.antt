@@ -1,4 +1,4 @@
-use Rattle.std.proofs.Common.{◌≡◌, ◌+◌, ◌++◌, ◌≤◌, ◌^◌, length, replicate}
+use Rattle.std.proofs.Common.{◌≡◌, ◌+◌, ◌++◌, ◌≤◌, ◌^◌, length, min, replicate}
 use Rattle.std.specs.VecDeque.{deque_len}
 use Rattle.hall_core.specs.Settling.{nothing}
 use Rattle.hall_core.proofs.settled.Row.reach_back.Given as goal
@@ -7,6 +7,7 @@ abbrev pub invariant-loop-self : goal.invariant-loop-self
 invariant-loop-self l = record {
   same : replicate l.self-inside.first nothing ++ l.self-inside.places.items
       ≡ replicate l.initial.self-inside.first nothing ++ l.initial.self-inside.places.items;
+  first : min l.self-inside.first l.k ≡ min l.initial.self-inside.first l.k;
   few : l.self-inside.first + length l.self-inside.places.items ≤ 2 ^ 62;
   counted : deque_len l.self-inside.places ≡ length l.self-inside.places.items;
 }
