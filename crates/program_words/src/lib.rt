@@ -1,6 +1,7 @@
 //! The command line: which command its words ask for, and over which files.
 #![tactic(auto)]
 
+mod refusal;
 mod words;
 
 pub use words::{ArgFault, AuditPaths, Command, ReplayPaths, RunPaths, read_words};

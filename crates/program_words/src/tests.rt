@@ -98,5 +98,8 @@ fn other_words_are_bad_arguments(rt: HostRuntime) -> Result<(), Fail> {
         let text = told(rt.alloc(), words)?;
         assert!(&rt; text.as_str() == "bad arguments", "{text}");
     }
+    let fault = ArgFault::NoMemory;
+    let text = format!(in rt.alloc(); "{fault}")?;
+    assert!(&rt; text.as_str() == "out of memory", "{text}");
     Ok(())
 }
