@@ -292,22 +292,45 @@ fn long_text(alloc: Global) -> Result<String, Fail> {
     Ok(text)
 }
 
+const READ_FAULTS: &[(ReadFault, &str)] = &[
+    (ReadFault::BadLine(7), "line 7"),
+    (ReadFault::Cut, "cut"),
+    (ReadFault::NoMemory, "out of memory"),
+];
+
+const WRITE_FAULTS: &[(WriteFault, &str)] = &[
+    (WriteFault::Write, "write fault"),
+    (WriteFault::NoMemory, "out of memory"),
+];
+
+const BOOK_FAULTS: &[(BookFault, &str)] = &[
+    (BookFault::BadEntry(7), "entry 7 is not what the posts give"),
+    (BookFault::NoMemory, "out of memory"),
+];
+
 #[test]
-fn faults_have_their_texts(rt: HostRuntime) -> Result<(), Fail> {
-    for (fault, text) in [
-        (ReadFault::BadLine(7), "line 7"),
-        (ReadFault::Cut, "cut"),
-        (ReadFault::NoMemory, "out of memory"),
-    ] {
+fn read_faults_have_their_texts(rt: HostRuntime) -> Result<(), Fail> {
+    for (fault, text) in READ_FAULTS {
         let said = format!(in rt.alloc(); "{fault}")?;
-        assert!(&rt; said.as_str() == text, "{text}");
+        assert!(&rt; said.as_str() == *text, "{text}");
     }
-    for (fault, text) in [
-        (WriteFault::Write, "write fault"),
-        (WriteFault::NoMemory, "out of memory"),
-    ] {
+    Ok(())
+}
+
+#[test]
+fn write_faults_have_their_texts(rt: HostRuntime) -> Result<(), Fail> {
+    for (fault, text) in WRITE_FAULTS {
         let said = format!(in rt.alloc(); "{fault}")?;
-        assert!(&rt; said.as_str() == text, "{text}");
+        assert!(&rt; said.as_str() == *text, "{text}");
+    }
+    Ok(())
+}
+
+#[test]
+fn book_faults_have_their_texts(rt: HostRuntime) -> Result<(), Fail> {
+    for (fault, text) in BOOK_FAULTS {
+        let said = format!(in rt.alloc(); "{fault}")?;
+        assert!(&rt; said.as_str() == *text, "{text}");
     }
     Ok(())
 }

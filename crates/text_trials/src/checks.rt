@@ -2,7 +2,8 @@
 ghost use Rattle.std.specs.Prelude.{◌<◌};
 
 use crate::books::under;
-use audit_book::{BookFault, check_book};
+use crate::walls::WALL;
+use audit_book::{BookFault, check_book, read_book};
 use coll_routes::{Own, Signature, Stated};
 use mpi_elems::ElemType;
 use run_model::{Entry, Outcome};
@@ -201,4 +202,70 @@ fn a_split_makes_one_for_each_colour(rt: HostRuntime) -> Result<(), Fail> {
         (Posts::Split, Some(one), Err(BookFault::BadEntry(5))),
     ];
     under(&rt, POLICY, |policy| expect_all(&rt, policy, &rows))
+}
+
+// Books under the policy of two banks and two oil firms, and what their check says.
+const BOOKS: &[(&str, Result<(), BookFault>)] = &[
+    ("book 1\nend 0\n", Ok(())),
+    (
+        "book 1\npost 0 7 barrier gives 0 as none passed\nend 1\n",
+        Err(BookFault::BadEntry(1)),
+    ),
+    (
+        "book 1\npost 0 0 bcast 4 int32 1 gives 0 as none passed\nend 1\n",
+        Err(BookFault::BadEntry(1)),
+    ),
+    (
+        r#"book 1
+post 0 0 barrier gives 0 as none passed
+post 1 0 dup gives 0 as none passed
+end 2
+"#,
+        Err(BookFault::BadEntry(2)),
+    ),
+    (
+        "book 1\nverdict 0 0 granted\nend 1\n",
+        Err(BookFault::BadEntry(1)),
+    ),
+    (
+        r#"book 1
+post 0 0 bcast 0 int32 2 gives 2 as alpha passed
+post 1 0 bcast 0 int32 2 gives 0 as none passed
+post 2 0 bcast 0 int32 2 gives 0 as none passed
+post 3 0 bcast 0 int32 2 gives 0 as none passed
+verdict 0 0 denied simple b0 alpha
+verdict 0 0 denied simple b0 alpha
+end 6
+"#,
+        Err(BookFault::BadEntry(6)),
+    ),
+];
+
+// What the check says of the book of a text, none where the text is not read.
+fn judged_text(
+    rt: &impl AllocGlobal,
+    policy: &Policy,
+    text: &str,
+) -> Option<Result<(), BookFault>> {
+    match read_book(rt.alloc(), policy, text.as_bytes()) {
+        Ok(book) => {
+            let answer = check_book(rt.alloc(), policy, &book);
+            drop(book);
+            Some(answer)
+        }
+        Err(_) => None,
+    }
+}
+
+fn expect_of_texts(rt: &(impl AllocGlobal + Abort), policy: &Policy) -> Result<(), Fail> {
+    for (text, answer) in BOOKS {
+        assert!(rt; judged_text(rt, policy, text) == Some(*answer), "{text}");
+    }
+    Ok(())
+}
+
+// A post that would be refused and a verdict that is not due are the first bad entry of their book.
+#[test]
+fn what_no_post_gives_is_the_first_bad_entry(rt: HostRuntime) -> Result<(), Fail> {
+    under(&rt, WALL, |policy| expect_of_texts(&rt, policy))
 }

@@ -175,40 +175,41 @@ fn is_put_as(alloc: Global, policy: &Policy, call: &Call, line: &str) -> bool
     is_put && text.as_slice() == line.as_bytes()
 }
 
+const CALLS: &[&str] = &[
+    "post 4294967295 4294967295 barrier",
+    "post 0 3 bcast 2 int8 1 as alpha -128",
+    "post 0 0 gather 0 int16 0",
+    "post 0 0 gatherv 3 int32 as public 2147483647 0",
+    "post 0 0 scatter 1 int64 1 as delta -9223372036854775808 1",
+    "post 0 0 scatterv 1 uint8 0,2,1 as crude 255 0 1",
+    "post 0 0 scatterv 1 uint8 -",
+    "post 0 0 allgather 2int 2 as beta 5 0 -5 1",
+    "post 0 0 allgatherv uint32 as alpha 4294967295",
+    "post 0 0 alltoall uint64 1 as alpha 18446744073709551615",
+    "post 0 0 alltoallv uint16 1,1 as alpha 65535 1",
+    "post 0 0 reduce 0 max int32 1",
+    "post 0 0 allreduce sum int32 1 as alpha 5",
+    "post 0 0 reduce_scatter prod int8 2,0 as alpha 1 1",
+    "post 0 0 reduce_scatter_block land int32 1",
+    "post 0 0 scan lor int32 1",
+    "post 0 0 exscan minloc 2int 1 as public 3 4",
+    "post 0 1 neighbor_allgather int32 1 as alpha 7",
+    "post 0 1 neighbor_allgatherv int32",
+    "post 0 1 neighbor_alltoall int32 1",
+    "post 0 1 neighbor_alltoallv int32 1,2",
+    "post 0 0 dup",
+    "post 0 0 split undefined -1",
+    "post 0 0 split 7 0",
+    "post 0 0 create 0,2,3",
+    "post 0 0 cart_create 2,2 1,0",
+    "post 0 1 cart_sub 0,1",
+    "take 4294967295 18446744073709551615",
+    "info 0 4294967295",
+];
+
 #[test]
 fn lines_say_their_calls(rt: HostRuntime) {
-    let rows = [
-        "post 4294967295 4294967295 barrier",
-        "post 0 3 bcast 2 int8 1 as alpha -128",
-        "post 0 0 gather 0 int16 0",
-        "post 0 0 gatherv 3 int32 as public 2147483647 0",
-        "post 0 0 scatter 1 int64 1 as delta -9223372036854775808 1",
-        "post 0 0 scatterv 1 uint8 0,2,1 as crude 255 0 1",
-        "post 0 0 scatterv 1 uint8 -",
-        "post 0 0 allgather 2int 2 as beta 5 0 -5 1",
-        "post 0 0 allgatherv uint32 as alpha 4294967295",
-        "post 0 0 alltoall uint64 1 as alpha 18446744073709551615",
-        "post 0 0 alltoallv uint16 1,1 as alpha 65535 1",
-        "post 0 0 reduce 0 max int32 1",
-        "post 0 0 allreduce sum int32 1 as alpha 5",
-        "post 0 0 reduce_scatter prod int8 2,0 as alpha 1 1",
-        "post 0 0 reduce_scatter_block land int32 1",
-        "post 0 0 scan lor int32 1",
-        "post 0 0 exscan minloc 2int 1 as public 3 4",
-        "post 0 1 neighbor_allgather int32 1 as alpha 7",
-        "post 0 1 neighbor_allgatherv int32",
-        "post 0 1 neighbor_alltoall int32 1",
-        "post 0 1 neighbor_alltoallv int32 1,2",
-        "post 0 0 dup",
-        "post 0 0 split undefined -1",
-        "post 0 0 split 7 0",
-        "post 0 0 create 0,2,3",
-        "post 0 0 cart_create 2,2 1,0",
-        "post 0 1 cart_sub 0,1",
-        "take 4294967295 18446744073709551615",
-        "info 0 4294967295",
-    ];
-    for line in &rows {
+    for line in CALLS {
         assert!(&rt; is_spelled(&rt, line), "{line}");
     }
     assert!(&rt; fault_of(&rt, "post 0 0 bcast 0 int32 0 as alpha").is_none());
@@ -349,43 +350,54 @@ fn denials_name_process_and_label(rt: HostRuntime) {
     assert!(&rt; has_line(&rt, barred, ">denied star b0 public\n"));
 }
 
+const REFUSALS: &[(Refusal, &str)] = &[
+    (Refusal::NoSuchProcess, ">refused NoSuchProcess\n"),
+    (Refusal::NoSuchComm, ">refused NoSuchComm\n"),
+    (Refusal::NotMember, ">refused NotMember\n"),
+    (Refusal::NoTopology, ">refused NoTopology\n"),
+    (Refusal::BadRoot, ">refused BadRoot\n"),
+    (Refusal::BadOp, ">refused BadOp\n"),
+    (Refusal::BadCount, ">refused BadCount\n"),
+    (Refusal::BadColour, ">refused BadColour\n"),
+    (Refusal::NotSubgroup, ">refused NotSubgroup\n"),
+    (Refusal::BadDims, ">refused BadDims\n"),
+    (Refusal::Mismatch, ">refused Mismatch\n"),
+    (Refusal::TooManyRequests, ">refused TooManyRequests\n"),
+    (Refusal::NoMemory, ">refused NoMemory\n"),
+    (Refusal::NoSuchRequest, ">refused NoSuchRequest\n"),
+];
+
 #[test]
 fn refusals_have_their_names(rt: HostRuntime) {
-    let rows = [
-        (Refusal::NoSuchProcess, ">refused NoSuchProcess\n"),
-        (Refusal::NoSuchComm, ">refused NoSuchComm\n"),
-        (Refusal::NotMember, ">refused NotMember\n"),
-        (Refusal::NoTopology, ">refused NoTopology\n"),
-        (Refusal::BadRoot, ">refused BadRoot\n"),
-        (Refusal::BadOp, ">refused BadOp\n"),
-        (Refusal::BadCount, ">refused BadCount\n"),
-        (Refusal::BadColour, ">refused BadColour\n"),
-        (Refusal::NotSubgroup, ">refused NotSubgroup\n"),
-        (Refusal::BadDims, ">refused BadDims\n"),
-        (Refusal::Mismatch, ">refused Mismatch\n"),
-        (Refusal::TooManyRequests, ">refused TooManyRequests\n"),
-        (Refusal::NoMemory, ">refused NoMemory\n"),
-        (Refusal::NoSuchRequest, ">refused NoSuchRequest\n"),
-    ];
-    for (refusal, line) in rows {
-        assert!(&rt; has_line(&rt, Reply::Refused(refusal), line), "{line}");
+    for (refusal, line) in REFUSALS {
+        assert!(&rt; has_line(&rt, Reply::Refused(*refusal), line), "{line}");
     }
 }
 
+// So many bytes as a read asks for at once.
+const LONG: [u8; 1024] = [b'x'; 1024];
+
+// What a device holds, the limit, when it fails, and what is told of it.
+const DEVICES: &[(&[u8], usize, Fuse, Option<DeviceFault>)] = &[
+    (b"abcde", 4, Fuse::Whole, Some(DeviceFault::Read)),
+    (b"abcde", 5, Fuse::Whole, None),
+    (b"abcde", 5, Fuse::After(0), Some(DeviceFault::Read)),
+    (b"abcde", 5, Fuse::After(1), Some(DeviceFault::Read)),
+    (b"abcde", 5, Fuse::After(2), None),
+    (&LONG, 1023, Fuse::Whole, Some(DeviceFault::Read)),
+    (&LONG, 1024, Fuse::After(1), Some(DeviceFault::Read)),
+    (&LONG, 1024, Fuse::After(2), None),
+];
+
 #[test]
 fn devices_are_read_to_their_limit(rt: HostRuntime) {
-    for (limit, fuse, fault) in [
-        (4, Fuse::Whole, Some(DeviceFault::Read)),
-        (5, Fuse::Whole, None),
-        (5, Fuse::After(0), Some(DeviceFault::Read)),
-        (5, Fuse::After(1), Some(DeviceFault::Read)),
-        (5, Fuse::After(2), None),
-    ] {
+    for (bytes, limit, fuse, fault) in DEVICES {
         let mut source = MemorySource {
-            rest: b"abcde",
-            fuse,
+            rest: *bytes,
+            fuse: *fuse,
         };
-        assert_eq!(&rt; read_device(rt.alloc(), &mut source, limit).err(), fault);
+        let found = read_device(rt.alloc(), &mut source, *limit).err();
+        assert_eq!(&rt; found, *fault, "{limit}");
     }
 }
 

@@ -28,78 +28,80 @@ fn fault_of(rt: &(impl AllocGlobal + Abort), line: &str) -> Option<LineFault> {
     next_statement(rt.alloc(), &mut words).err()
 }
 
+const STATEMENTS: &[&str] = &[
+    "barrier",
+    "bcast 0 int8 2",
+    "gather 4294967295 int16 0",
+    "gatherv 3 int32",
+    "scatter 1 int64 65536",
+    "scatterv 1 uint8 0,2,1",
+    "scatterv 1 uint8 -",
+    "allgather uint16 1",
+    "allgatherv uint32",
+    "alltoall uint64 3",
+    "alltoallv 2int 1,1",
+    "reduce 0 max int32 1",
+    "allreduce min int32 4294967295",
+    "reduce_scatter prod int8 2,0",
+    "reduce_scatter_block land int32 1",
+    "scan lor int32 1",
+    "exscan lxor int32 1",
+    "neighbor_allgather int32 1",
+    "neighbor_allgatherv int32",
+    "neighbor_alltoall int32 1",
+    "neighbor_alltoallv int32 1,2",
+    "allreduce band int32 1",
+    "allreduce bor int32 1",
+    "allreduce bxor int32 1",
+    "allreduce maxloc 2int 1",
+    "allreduce minloc 2int 1",
+    "allreduce sum int32 1",
+    "dup",
+    "split undefined 0",
+    "split -2147483648 2147483647",
+    "create 0,2,3",
+    "create -",
+    "cart_create 2,2 1,0",
+    "cart_create - -",
+    "cart_sub 0,1",
+];
+
 #[test]
 fn statements_are_read_and_written(rt: HostRuntime) {
-    let rows = [
-        "barrier",
-        "bcast 0 int8 2",
-        "gather 4294967295 int16 0",
-        "gatherv 3 int32",
-        "scatter 1 int64 65536",
-        "scatterv 1 uint8 0,2,1",
-        "scatterv 1 uint8 -",
-        "allgather uint16 1",
-        "allgatherv uint32",
-        "alltoall uint64 3",
-        "alltoallv 2int 1,1",
-        "reduce 0 max int32 1",
-        "allreduce min int32 4294967295",
-        "reduce_scatter prod int8 2,0",
-        "reduce_scatter_block land int32 1",
-        "scan lor int32 1",
-        "exscan lxor int32 1",
-        "neighbor_allgather int32 1",
-        "neighbor_allgatherv int32",
-        "neighbor_alltoall int32 1",
-        "neighbor_alltoallv int32 1,2",
-        "allreduce band int32 1",
-        "allreduce bor int32 1",
-        "allreduce bxor int32 1",
-        "allreduce maxloc 2int 1",
-        "allreduce minloc 2int 1",
-        "allreduce sum int32 1",
-        "dup",
-        "split undefined 0",
-        "split -2147483648 2147483647",
-        "create 0,2,3",
-        "create -",
-        "cart_create 2,2 1,0",
-        "cart_create - -",
-        "cart_sub 0,1",
-    ];
-    for line in &rows {
+    for line in STATEMENTS {
         assert!(rt; is_spelled(&rt, line), "{line}");
     }
 }
 
+const FAULTS: &[(&str, LineFault)] = &[
+    ("", LineFault::BadShape),
+    ("bcst", LineFault::BadKind),
+    (" bcast 0 int8 1", LineFault::BadShape),
+    ("Barrier", LineFault::BadKind),
+    ("bcast 0 int8", LineFault::BadShape),
+    ("bcast 0  1", LineFault::BadShape),
+    ("bcast 00 int33 1", LineFault::BadField),
+    ("bcast 0 int33 x", LineFault::BadType),
+    ("allreduce avg int33 1", LineFault::UnknownOp),
+    ("bcast 4294967296 int8 1", LineFault::BadField),
+    ("bcast 18446744073709551617 int8 1", LineFault::BadField),
+    ("bcast 0 int8 -1", LineFault::BadField),
+    ("bcast 0 int8 +1", LineFault::BadField),
+    ("bcast 0 int8 01", LineFault::BadField),
+    ("create 0,,1", LineFault::BadField),
+    ("create 0,1,", LineFault::BadField),
+    ("create -,-", LineFault::BadField),
+    ("cart_sub 2", LineFault::BadField),
+    ("cart_create 1", LineFault::BadShape),
+    ("split -0 0", LineFault::BadField),
+    ("split 2147483648 0", LineFault::BadField),
+    ("split undefined undefined", LineFault::BadField),
+    ("split 0 -2147483649", LineFault::BadField),
+];
+
 #[test]
 fn words_have_their_first_fault(rt: HostRuntime) {
-    let rows = [
-        ("", LineFault::BadShape),
-        ("bcst", LineFault::BadKind),
-        (" bcast 0 int8 1", LineFault::BadShape),
-        ("Barrier", LineFault::BadKind),
-        ("bcast 0 int8", LineFault::BadShape),
-        ("bcast 0  1", LineFault::BadShape),
-        ("bcast 00 int33 1", LineFault::BadField),
-        ("bcast 0 int33 x", LineFault::BadType),
-        ("allreduce avg int33 1", LineFault::UnknownOp),
-        ("bcast 4294967296 int8 1", LineFault::BadField),
-        ("bcast 18446744073709551617 int8 1", LineFault::BadField),
-        ("bcast 0 int8 -1", LineFault::BadField),
-        ("bcast 0 int8 +1", LineFault::BadField),
-        ("bcast 0 int8 01", LineFault::BadField),
-        ("create 0,,1", LineFault::BadField),
-        ("create 0,1,", LineFault::BadField),
-        ("create -,-", LineFault::BadField),
-        ("cart_sub 2", LineFault::BadField),
-        ("cart_create 1", LineFault::BadShape),
-        ("split -0 0", LineFault::BadField),
-        ("split 2147483648 0", LineFault::BadField),
-        ("split undefined undefined", LineFault::BadField),
-        ("split 0 -2147483649", LineFault::BadField),
-    ];
-    for (line, fault) in &rows {
+    for (line, fault) in FAULTS {
         assert!(rt; fault_of(&rt, line) == Some(*fault), "{line}");
     }
 }
@@ -118,67 +120,69 @@ fn what_is_behind_a_statement_is_left(rt: HostRuntime) -> Result<(), Fail> {
     Ok(())
 }
 
+const NAMES: &[(LineFault, &str)] = &[
+    (LineFault::BadVerb, "BadVerb"),
+    (LineFault::BadShape, "BadShape"),
+    (LineFault::BadField, "BadField"),
+    (LineFault::BadKind, "BadKind"),
+    (LineFault::BadType, "BadType"),
+    (LineFault::UnknownOp, "UnknownOp"),
+    (LineFault::BadLabel, "BadLabel"),
+    (LineFault::BadNumber, "BadNumber"),
+    (LineFault::OddPair, "OddPair"),
+    (LineFault::NoMemory, "NoMemory"),
+];
+
 #[test]
 fn faults_have_their_names(rt: HostRuntime) -> Result<(), Fail> {
-    for (fault, name) in [
-        (LineFault::BadVerb, "BadVerb"),
-        (LineFault::BadShape, "BadShape"),
-        (LineFault::BadField, "BadField"),
-        (LineFault::BadKind, "BadKind"),
-        (LineFault::BadType, "BadType"),
-        (LineFault::UnknownOp, "UnknownOp"),
-        (LineFault::BadLabel, "BadLabel"),
-        (LineFault::BadNumber, "BadNumber"),
-        (LineFault::OddPair, "OddPair"),
-        (LineFault::NoMemory, "NoMemory"),
-    ] {
+    for (fault, name) in NAMES {
         let said = format!(in rt.alloc(); "{fault}")?;
-        assert!(&rt; said.as_str() == name, "{name}");
+        assert!(&rt; said.as_str() == *name, "{name}");
     }
     Ok(())
 }
 
 // Numbers of one digit and of all their digits, below 0 and above.
+const SIGNED: &[(&str, i128)] = &[
+    ("0", 0),
+    ("-1", -1),
+    ("9", 9),
+    ("10", 10),
+    ("99999999", 99999999),
+    ("100000000", 100000000),
+    ("-2147483648", -2147483648),
+    ("1234567890123456789", 1234567890123456789),
+    ("9223372036854775807", 9223372036854775807),
+    ("-9223372036854775808", -9223372036854775808),
+    ("18446744073709551615", 18446744073709551615),
+];
+
+// Words that are no numbers.
+const NO_NUMBERS: &[&str] = &[
+    "",
+    "-",
+    "-0",
+    "00",
+    "01",
+    "+1",
+    "1x",
+    "18446744073709551616",
+];
+
+// Whether the text is one word with this number, or with none.
+fn is_number(text: &str, number: Option<i128>) -> bool {
+    let mut parts = Parts::new(text.as_bytes(), b' ');
+    parts.next_signed() == Some((text.as_bytes(), number)) && parts.next_signed().is_none()
+}
+
 #[test]
-fn numbers_are_written_and_read_again(rt: HostRuntime) -> Result<(), Fail> {
-    let rows = [
-        ("0", 0),
-        ("-1", -1),
-        ("9", 9),
-        ("10", 10),
-        ("99999999", 99999999),
-        ("100000000", 100000000),
-        ("-2147483648", -2147483648),
-        ("1234567890123456789", 1234567890123456789),
-        ("9223372036854775807", 9223372036854775807),
-        ("-9223372036854775808", -9223372036854775808),
-        ("18446744073709551615", 18446744073709551615),
-    ];
-    for (text, number) in &rows {
-        let mut parts = Parts::new(text.as_bytes(), b' ');
-        assert!(&rt;
-            parts.next_signed() == Some((text.as_bytes(), Some(*number))),
-            "{text}"
-        );
-        assert!(&rt; parts.next_signed().is_none());
+fn numbers_are_read(rt: HostRuntime) {
+    for (text, number) in SIGNED {
+        assert!(&rt; is_number(text, Some(*number)), "{text}");
     }
-    for text in [
-        "",
-        "-",
-        "-0",
-        "00",
-        "01",
-        "+1",
-        "1x",
-        "18446744073709551616",
-    ] {
-        let mut parts = Parts::new(text.as_bytes(), b' ');
-        assert!(&rt;
-            parts.next_signed() == Some((text.as_bytes(), None)),
-            "{text}"
-        );
+    for text in NO_NUMBERS {
+        assert!(&rt; is_number(text, None), "{text}");
     }
-    Ok(())
 }
 
 // Whether so many numbers from -33 on are written as they are read.
