@@ -5,8 +5,8 @@
 ghost use Rattle.std.specs.Prelude.{◌≡◌, length};
 ghost use Rattle.mpi_comm.specs.Comms.{group_at};
 
+use crate::parties::group;
 use mpi_comm::{Ask, CommCompare, CommFault, CommInfo, CommTable, Made};
-use mpi_group::Group;
 use std::alloc::{AllocError, Global};
 use std::process::Abort;
 use wall_labels::ProcessId;
@@ -22,18 +22,6 @@ fn expect_fault(rt: &impl Abort, found: Result<Made, CommFault>, fault: CommFaul
 
 fn asks(colour: Option<i32>, keys: [i32; 4]) -> [Ask; 4] {
     keys.map(|key| Ask { colour, key })
-}
-
-fn group(rt: &impl Abort, alloc: Global, processes: &[u32]) -> Group {
-    let mut members = Vec::new(alloc);
-    for number in processes {
-        let member = ProcessId::new(*number).expect(rt, "a process");
-        assert!(rt; members.push(member).is_ok(), "no memory");
-    }
-    match Group::from_list(alloc, &members) {
-        Ok(group) => group,
-        Err(_) => panic!(rt; "no group"),
-    }
 }
 
 // A table whose world has these processes.
@@ -132,6 +120,7 @@ fn parts(rt: HostRuntime) {
     expect_members(&rt, &table, 1, &[0, 1]);
     expect_members(&rt, &table, 2, &[2, 3]);
     expect_fault(&rt, table.subsets(1, &lists), CommFault::NotSubgroup);
+    expect_made(&rt, table.subsets(0, &[]), 3, 0);
     drop(lists);
     drop(table);
 }
@@ -177,6 +166,7 @@ fn full_table(rt: HostRuntime) {
     expect_world(&rt, &table, 1);
     expect_made(&rt, table.split(0, &[undefined]), 1024, 0);
     expect_made(&rt, table.create(0, &[]), 1024, 0);
+    expect_made(&rt, table.subsets(0, &[]), 1024, 0);
     expect_fault(&rt, table.create(0, &[0]), CommFault::NoRoom);
     drop(table);
 }

@@ -234,6 +234,7 @@ fn merges_and_appends_parts(rt: HostRuntime) {
     merge(&rt, Op::Min, &mut made, &row, 1, 1);
     append(&rt, &mut made, &row, 2, 1);
     assert!(rt; holds(&rt, &made, &[2, 2, 3, 3]));
+    assert_eq!(rt; made.room(), 4);
     drop(made);
     drop(row);
 }
@@ -250,6 +251,50 @@ fn names_and_allows(rt: HostRuntime) {
     assert!(rt; empty.count() == 0 && empty.is_empty() && !empty.is_same(&other));
     drop(empty);
     drop(other);
+}
+
+const TYPES: &[ElemType] = &[
+    ElemType::Int8,
+    ElemType::Int16,
+    ElemType::Int32,
+    ElemType::Int64,
+    ElemType::Uint8,
+    ElemType::Uint16,
+    ElemType::Uint32,
+    ElemType::Uint64,
+    ElemType::TwoInt,
+];
+
+// As many elements as a post may give, all of zeros, which are read at once and told one by one.
+fn expect_most(rt: &(impl AllocGlobal + Abort), ty: ElemType, zeros: &[i128]) {
+    let most = buffer(rt, ty, zeros);
+    assert_eq!(rt; most.count(), 65_536, "{ty:?}");
+    assert!(rt; is_built(rt, &most, zeros), "{ty:?}");
+    drop(most);
+}
+
+fn expect_room(rt: &(impl AllocGlobal + Abort), ty: ElemType, wanted: usize) {
+    match Buffer::with_room(rt.alloc(), ty, wanted) {
+        Ok(empty) => {
+            assert_eq!(rt; empty.room(), wanted, "{ty:?}");
+            drop(empty);
+        }
+        Err(_) => panic!(rt; "no room"),
+    }
+}
+
+#[test]
+fn holds_as_many_as_a_post_may_give(rt: HostRuntime) {
+    let Ok(zeros) = vec![in rt.alloc(); 0i128; 131_072] else {
+        panic!(&rt; "no memory")
+    };
+    for ty in TYPES {
+        let numbers = 65_536 * ty.numbers_per_element() as usize;
+        let (front, _) = zeros.split_at(numbers);
+        expect_most(&rt, *ty, front);
+        expect_room(&rt, *ty, 65_536);
+    }
+    drop(zeros);
 }
 
 fn built(rt: &impl AllocGlobal, ty: ElemType, numbers: &[i128]) -> Result<Buffer, BufferFault> {

@@ -128,10 +128,7 @@ const NEIGHBOURS: &[Option<u32>] = &[None, Some(3), Some(2), Some(1), None];
 #[test]
 fn neighbours(rt: HostRuntime) {
     let grid = two_by_three(&rt);
-    assert!(rt; grid.size() == 6);
-    for (slot, expected) in NEIGHBOURS.iter().enumerate() {
-        assert_eq!(rt; grid.neighbour(0, slot as u32), *expected, "slot {slot}");
-    }
+    expect_neighbours(&rt, &grid, 0, NEIGHBOURS);
     drop(grid);
 }
 
@@ -152,5 +149,72 @@ fn keeps_dimensions(rt: HostRuntime) {
     assert!(rt; !copy.is_same(&row));
     drop(copy);
     drop(row);
+    drop(grid);
+}
+
+// As many dimensions as there may be, and as many ranks as there may be processes.
+#[test]
+fn most_dimensions(rt: HostRuntime) {
+    let grid = made(&rt, Grid::new(rt.alloc(), &[2; 8], &[true; 8], 256));
+    assert_eq!(rt; grid.size(), 256);
+    let copy = made(&rt, grid.copy(rt.alloc()));
+    assert!(rt; copy.is_same(&grid));
+    assert_eq!(rt; copy.neighbour(255, 0), Some(127));
+    drop(copy);
+    let first = [true, false, false, false, false, false, false, false];
+    let line = made(&rt, grid.sub(rt.alloc(), &first));
+    assert_eq!(rt; line.dims(), [2].as_slice());
+    drop(line);
+    assert_eq!(rt; grid.neighbour(255, 0), Some(127));
+    assert_eq!(rt; grid.neighbour(255, 1), Some(127));
+    drop(grid);
+}
+
+// Ranks of a grid of 65,536 rows and 65,535 columns, with the neighbour in each slot: the first,
+// those at the end of what the grid keeps in its table, and the last.
+const FAR: &[(u32, [Option<u32>; 4])] = &[
+    (0, [Some(4_294_836_225), Some(65_535), None, Some(1)]),
+    (
+        16_383,
+        [
+            Some(4_294_852_608),
+            Some(81_918),
+            Some(16_382),
+            Some(16_384),
+        ],
+    ),
+    (
+        16_384,
+        [
+            Some(4_294_852_609),
+            Some(81_919),
+            Some(16_383),
+            Some(16_385),
+        ],
+    ),
+    (
+        4_294_901_759,
+        [Some(4_294_836_224), Some(65_534), Some(4_294_901_758), None],
+    ),
+];
+
+fn expect_neighbours(rt: &impl Abort, grid: &Grid, rank: u32, expected: &[Option<u32>]) {
+    assert!(rt; rank < grid.size());
+    for (slot, expected) in expected.iter().enumerate() {
+        let found = grid.neighbour(rank, slot as u32);
+        assert_eq!(rt; found, *expected, "{rank}, slot {slot}");
+    }
+}
+
+#[test]
+fn neighbours_in_a_large_grid(rt: HostRuntime) {
+    let grid = made(
+        &rt,
+        Grid::new(rt.alloc(), &[65_536, 65_535], &[true, false], u32::MAX),
+    );
+    assert_eq!(rt; grid.size(), 4_294_901_760);
+    for (rank, expected) in FAR {
+        expect_neighbours(&rt, &grid, *rank, expected);
+    }
     drop(grid);
 }

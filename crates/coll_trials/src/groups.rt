@@ -2,24 +2,24 @@
 //!
 //! No memory ends a test at once: each way out of a function that owns a group costs its proof.
 //! Where one has served it is handed to `drop`.
+use crate::parties::{group, processes, upward};
 use mpi_group::{Group, GroupCompare, GroupFault};
 use std::alloc::Global;
 use std::process::Abort;
 use wall_labels::ProcessId;
 
-fn processes(rt: &impl Abort, alloc: Global, numbers: &[u32]) -> Vec<ProcessId> {
-    let mut list = Vec::new(alloc);
-    for number in numbers {
-        let process = ProcessId::new(*number).expect(rt, "a process");
-        assert!(rt; list.push(process).is_ok(), "no memory");
-    }
-    list
-}
-
-fn group(rt: &impl Abort, alloc: Global, numbers: &[u32]) -> Group {
-    match Group::from_list(alloc, &processes(rt, alloc, numbers)) {
+// What making a group answers where it has to be made.
+fn made(rt: &impl Abort, answer: Result<Group, GroupFault>) -> Group {
+    match answer {
         Ok(group) => group,
         Err(_) => panic!(rt; "no group"),
+    }
+}
+
+fn copied(rt: &impl Abort, alloc: Global, group: &Group) -> Group {
+    match group.copy(alloc) {
+        Ok(copy) => copy,
+        Err(_) => panic!(rt; "no memory"),
     }
 }
 
@@ -86,9 +86,7 @@ fn comparisons(rt: HostRuntime) {
     let a = group(&rt, alloc, &[3, 1, 0]);
     let b = group(&rt, alloc, &[1, 2]);
     let turned = group(&rt, alloc, &[0, 1, 3]);
-    let Ok(copy) = a.copy(alloc) else {
-        panic!(&rt; "no memory")
-    };
+    let copy = copied(&rt, alloc, &a);
     expect_comparison(&rt, &a, &turned, GroupCompare::Similar);
     expect_comparison(&rt, &a, &copy, GroupCompare::Identical);
     expect_comparison(&rt, &a, &b, GroupCompare::Unequal);
@@ -116,4 +114,42 @@ fn ranks_found(rt: HostRuntime) {
     assert_eq!(rt; a.at(0).number(), 3);
     drop(a);
     drop(b);
+}
+
+fn downward(rt: &impl Abort, alloc: Global, first: u32, last: u32) -> Vec<u32> {
+    let mut list = upward(rt, alloc, first, last);
+    list.reverse();
+    list
+}
+
+// All processes upward, and the upper half of them downward.
+#[test]
+fn set_operations_on_all_processes(rt: HostRuntime) {
+    let alloc = rt.alloc();
+    let (all, upper) = (upward(&rt, alloc, 0, 256), upward(&rt, alloc, 128, 256));
+    let a = group(&rt, alloc, &all);
+    let b = group(&rt, alloc, &downward(&rt, alloc, 128, 256));
+    expect_made(&rt, a.union(alloc, &b), &all);
+    expect_made(&rt, a.intersection(alloc, &b), &upper);
+    let lower = upward(&rt, alloc, 0, 128);
+    expect_made(&rt, a.difference(alloc, &b), &lower);
+    drop(a);
+    drop(b);
+}
+
+#[test]
+fn all_ranks_named(rt: HostRuntime) {
+    let alloc = rt.alloc();
+    let (all, turned) = (upward(&rt, alloc, 0, 256), downward(&rt, alloc, 0, 256));
+    let a = group(&rt, alloc, &all);
+    let reversed = made(&rt, a.incl(alloc, &turned));
+    expect_members(&rt, alloc, &reversed, &turned);
+    expect_comparison(&rt, &a, &reversed, GroupCompare::Similar);
+    drop(reversed);
+    let copy = copied(&rt, alloc, &a);
+    expect_comparison(&rt, &a, &copy, GroupCompare::Identical);
+    drop(copy);
+    let but_last = upward(&rt, alloc, 0, 255);
+    expect_made(&rt, a.excl(alloc, &but_last), &[255]);
+    drop(a);
 }

@@ -3,75 +3,15 @@
 //! No memory ends a test at once: each way out of a function that owns a wide value, as an instance
 //! or a delivery, costs its proof. Where one has served it is handed to `drop`.
 
-use coll_routes::{Numbers, Own, Roll, Shape, Signature, Stated, Statements};
+use crate::parties::{grid, lowest, numbers, plain, stated};
+use coll_routes::{Roll, Shape, Signature, Statements};
 use coll_values::{Block, Delivery, Full, Integers, Parts, deliver, fill, room};
-use mpi_cart::Grid;
 use mpi_elems::{Buffer, ElemType};
-use mpi_group::Group;
 use std::alloc::{AllocError, Global};
 use std::process::Abort;
-use wall_labels::{Op, ProcessId};
+use wall_labels::Op;
 
 const INT: ElemType = ElemType::Int32;
-
-fn group(rt: &impl Abort, alloc: Global, size: u32) -> Group {
-    let mut members = Vec::new(alloc);
-    for number in 0..size {
-        let member = ProcessId::new(number).expect(rt, "a process");
-        assert!(rt; members.push(member).is_ok(), "no memory");
-    }
-    match Group::from_list(alloc, &members) {
-        Ok(group) => group,
-        Err(_) => panic!(rt; "no group"),
-    }
-}
-
-// So many members without a grid.
-fn plain(size: u32) -> Shape {
-    Shape { size, grid: None }
-}
-
-// Members in a grid.
-fn grid(rt: &impl Abort, alloc: Global, size: u32, dims: &[u32], periods: &[bool]) -> Shape {
-    match Grid::new(alloc, dims, periods, size) {
-        Ok(grid) => Shape {
-            size,
-            grid: Some(grid),
-        },
-        Err(_) => panic!(rt; "no grid"),
-    }
-}
-
-fn numbers(rt: &impl Abort, alloc: Global, items: &[u32]) -> Numbers {
-    match Vec::from_slice(alloc, items) {
-        Ok(items) => Numbers::from(items),
-        Err(_) => panic!(rt; "no memory"),
-    }
-}
-
-// What a rank states, which gives so many elements.
-fn statement(
-    rt: &impl Abort,
-    alloc: Global,
-    sig: &Signature,
-    counts: Option<&[u32]>,
-    given: u32,
-) -> Stated {
-    let own = match counts {
-        Some(counts) => Own::Counts(numbers(rt, alloc, counts)),
-        None => Own::Plain,
-    };
-    match sig.copy(alloc) {
-        Ok(sig) => Stated {
-            sig,
-            own,
-            given,
-            label: None,
-            barred: false,
-        },
-        Err(_) => panic!(rt; "no memory"),
-    }
-}
 
 // What each rank gives, as a buffer.
 fn buffers(
@@ -100,13 +40,13 @@ fn statements(
     parts: &[Buffer],
     counts: &[&[u32]],
 ) -> Statements {
-    let mut stated = Vec::new(alloc);
+    let mut all = Vec::new(alloc);
     for (rank, part) in parts.iter().enumerate() {
         let given = u32::try_from(part.count()).ok().expect(rt, "few elements");
-        let statement = statement(rt, alloc, sig, counts.get(rank).copied(), given);
-        assert!(rt; stated.push(Some(statement)).is_ok(), "no memory");
+        let statement = stated(rt, alloc, sig, given, counts.get(rank).copied());
+        assert!(rt; all.push(Some(statement)).is_ok(), "no memory");
     }
-    Statements::from(stated)
+    Statements::from(all)
 }
 
 // An instance in which each rank gives these numbers, and states these counts if there are any.
@@ -123,7 +63,7 @@ fn full(
     let stated = statements(rt, alloc, &sig, &parts, counts);
     Full {
         roll: Roll {
-            members: group(rt, alloc, shape.size),
+            members: lowest(rt, alloc, shape.size),
             shape,
             sig,
             stated,
@@ -158,6 +98,27 @@ fn shown(rt: &impl Abort, alloc: Global, delivery: &Delivery) -> String {
     text
 }
 
+// Whether the block has room for its elements and no more.
+fn has_no_spare_room(block: &Block) -> bool {
+    match block {
+        Block::Missing => true,
+        Block::Numbers(numbers) => {
+            let buffer = numbers.as_buffer();
+            buffer.room() == buffer.count()
+        }
+    }
+}
+
+// There is room for the blocks and their elements, and no more.
+fn expect_no_spare_room(rt: &impl Abort, delivery: Delivery, name: &str, rank: u32) {
+    let blocks = delivery.into_vec();
+    assert!(rt; blocks.capacity() == blocks.len(), "{name} to {rank}");
+    for block in blocks.as_slice() {
+        assert!(rt; has_no_spare_room(block), "{name} to {rank}");
+    }
+    drop(blocks);
+}
+
 fn expect_shown(
     rt: &impl Abort,
     alloc: Global,
@@ -170,7 +131,8 @@ fn expect_shown(
     assert_eq!(rt; text.as_str(), wanted, "{name} to {rank}");
 }
 
-// What a rank is delivered, by `deliver` and by `room` and `fill`.
+// What a rank is delivered, by `deliver` and by `room` and `fill`. Either takes the memory that is
+// needed alone.
 fn expect_delivery(rt: &impl Abort, alloc: Global, full: &Full<Buffer>, rank: u32, wanted: &str) {
     assert!(rt; full.is_whole() && rank < full.roll.shape.size);
     let name = full.roll.sig.kind().name();
@@ -178,13 +140,13 @@ fn expect_delivery(rt: &impl Abort, alloc: Global, full: &Full<Buffer>, rank: u3
         panic!(rt; "no memory")
     };
     expect_shown(rt, alloc, &delivery, wanted, name, rank);
-    drop(delivery);
+    expect_no_spare_room(rt, delivery, name, rank);
     let Ok(space) = room(alloc, full, rank) else {
         panic!(rt; "no memory")
     };
     let filled = fill(full, rank, space);
     expect_shown(rt, alloc, &filled, wanted, name, rank);
-    drop(filled);
+    expect_no_spare_room(rt, filled, name, rank);
 }
 
 fn expect_all(rt: &impl Abort, alloc: Global, full: &Full<Buffer>, expected: &[&str]) {

@@ -32,4 +32,6 @@ mod policies;
 #[cfg(test)]
 mod routes;
 #[cfg(test)]
+mod texts;
+#[cfg(test)]
 mod verdicts;

@@ -1,5 +1,6 @@
 //! Arrivals on small communicators, worked by hand: the k-th arrivals of the members meet.
 
+use crate::parties::{lowest, plain};
 use coll_pending::{ArrivalFault, Arrived, Next, NoMemory, Pending, Unarrived};
 use coll_routes::{Numbers, Own, Shape, Signature, Stated};
 use mpi_elems::ElemType;
@@ -8,7 +9,7 @@ use std::alloc::Global;
 use std::marker::Model;
 use std::process::Abort;
 use std::test::Fail;
-use wall_labels::{Label, Op, ProcessId};
+use wall_labels::{Label, Op};
 
 // Instances that wait on communicators of the same members.
 struct Table {
@@ -45,17 +46,12 @@ impl Model for Table {
 }
 
 impl Table {
-    fn new(rt: &impl Abort, alloc: Global, size: u32) -> Result<Table, Fail> {
-        let mut members = Vec::new(alloc);
-        for number in 0..size {
-            members.push(ProcessId::new(number).expect(rt, "a process"))?;
-        }
-        let group = Group::from_list(alloc, &members)?;
-        Ok(Table {
-            group,
-            shape: Shape { size, grid: None },
+    fn new(rt: &impl Abort, alloc: Global, size: u32) -> Table {
+        Table {
+            group: lowest(rt, alloc, size),
+            shape: plain(size),
             pending: Pending::new(alloc),
-        })
+        }
     }
 
     // Whether the k-th instance on a communicator waits.
@@ -125,14 +121,10 @@ where
     F: FnOnce(&mut Table) -> Result<(), Fail>,
     requires { F.IsAlwaysCallable steps }
 {
-    match Table::new(rt, rt.alloc(), size) {
-        Ok(mut table) => {
-            let ended = steps(&mut table);
-            drop(table);
-            ended
-        }
-        Err(fail) => Err(fail),
-    }
+    let mut table = Table::new(rt, rt.alloc(), size);
+    let ended = steps(&mut table);
+    drop(table);
+    ended
 }
 
 // The rank, the operation, the part, what the arrival does, and the parts if it is the last one.
@@ -172,7 +164,7 @@ fn bar_often(
     Ok(())
 }
 
-// A rank starts a reduce_scatter of one number on communicator 5.
+// A rank starts a reduce_scatter on communicator 5.
 fn scatter(
     rt: &(impl AllocGlobal + Abort),
     table: &mut Table,
@@ -210,7 +202,7 @@ fn allreduce(op: Op) -> Signature {
     }
 }
 
-// The counts of a reduce_scatter of one number.
+// A reduce_scatter of so many numbers to each rank.
 fn listed(alloc: Global, counts: &[u32]) -> Result<Signature, Fail> {
     Ok(Signature::ReduceScatter {
         op: Op::Sum,
@@ -219,39 +211,41 @@ fn listed(alloc: Global, counts: &[u32]) -> Result<Signature, Fail> {
     })
 }
 
+const MET: &[Reduction] = &[
+    (0, Op::Sum, 7, Next::Opens, &[]),
+    (1, Op::Max, 8, Next::Mismatch, &[]),
+    (1, Op::Sum, 8, Next::Fills, &[7, 8]),
+    (0, Op::Max, 9, Next::Opens, &[]),
+];
+
 #[test]
 fn two_members_meet(rt: HostRuntime) -> Result<(), Fail> {
-    let rows: [Reduction; 4] = [
-        (0, Op::Sum, 7, Next::Opens, &[]),
-        (1, Op::Max, 8, Next::Mismatch, &[]),
-        (1, Op::Sum, 8, Next::Fills, &[7, 8]),
-        (0, Op::Max, 9, Next::Opens, &[]),
-    ];
     at_a_table(&rt, 2, |table| {
         table.ready(&rt, 0, 0)?;
         assert!(&rt; table.pending.arrivals(0, 0) == 0 && !table.waits(0, 0));
-        reduce_all(&rt, table, &rows)?;
+        reduce_all(&rt, table, MET)?;
         assert!(&rt; table.pending.arrivals(0, 0) == 2 && table.pending.arrivals(0, 1) == 1);
         assert!(&rt; !table.waits(0, 0) && table.waits(0, 1));
         Ok(())
     })
 }
 
+const CROSSED: &[Reduction] = &[
+    (0, Op::Sum, 1, Next::Opens, &[]),
+    (0, Op::Max, 1, Next::Opens, &[]),
+    (1, Op::Max, 2, Next::Mismatch, &[]),
+    (1, Op::Sum, 2, Next::Joins, &[]),
+    (1, Op::Max, 2, Next::Joins, &[]),
+    (2, Op::Sum, 3, Next::Joins, &[]),
+    (2, Op::Max, 3, Next::Joins, &[]),
+    (3, Op::Sum, 4, Next::Fills, &[1, 2, 3, 4]),
+    (3, Op::Max, 4, Next::Fills, &[1, 2, 3, 4]),
+];
+
 #[test]
 fn two_reductions_cross(rt: HostRuntime) -> Result<(), Fail> {
-    let rows: [Reduction; 9] = [
-        (0, Op::Sum, 1, Next::Opens, &[]),
-        (0, Op::Max, 1, Next::Opens, &[]),
-        (1, Op::Max, 2, Next::Mismatch, &[]),
-        (1, Op::Sum, 2, Next::Joins, &[]),
-        (1, Op::Max, 2, Next::Joins, &[]),
-        (2, Op::Sum, 3, Next::Joins, &[]),
-        (2, Op::Max, 3, Next::Joins, &[]),
-        (3, Op::Sum, 4, Next::Fills, &[1, 2, 3, 4]),
-        (3, Op::Max, 4, Next::Fills, &[1, 2, 3, 4]),
-    ];
     at_a_table(&rt, 4, |table| {
-        reduce_all(&rt, table, &rows)?;
+        reduce_all(&rt, table, CROSSED)?;
         Ok(())
     })
 }
@@ -268,6 +262,16 @@ fn parts_stand_by_rank(rt: HostRuntime) -> Result<(), Fail> {
     })
 }
 
+// More counts than room is made for before.
+#[test]
+fn long_lists_meet(rt: HostRuntime) -> Result<(), Fail> {
+    at_a_table(&rt, 3, |table| {
+        scatter(&rt, table, (0, 10, Next::Opens), &[0; 40], &[])?;
+        scatter(&rt, table, (1, 20, Next::Joins), &[0; 40], &[])?;
+        Ok(())
+    })
+}
+
 #[test]
 fn sole_member_opens_and_fills(rt: HostRuntime) -> Result<(), Fail> {
     at_a_table(&rt, 1, |table| {
@@ -279,23 +283,24 @@ fn sole_member_opens_and_fills(rt: HostRuntime) -> Result<(), Fail> {
 
 // Two members of each communicator. Instances of several communicators are full in another order
 // than that of opening, those of one communicator in order.
+const BARS: &[Bar] = &[
+    (2, 0, 20, Next::Opens, &[]),
+    (0, 1, 1, Next::Opens, &[]),
+    (2, 0, 30, Next::Opens, &[]),
+    (1, 1, 11, Next::Opens, &[]),
+    (1, 0, 10, Next::Fills, &[10, 11]),
+    (2, 1, 21, Next::Fills, &[20, 21]),
+    (1, 0, 12, Next::Opens, &[]),
+    (2, 1, 31, Next::Fills, &[30, 31]),
+    (0, 0, 0, Next::Fills, &[0, 1]),
+    (2, 1, 40, Next::Opens, &[]),
+    (1, 1, 13, Next::Fills, &[12, 13]),
+];
+
 #[test]
 fn instances_fill_out_of_order(rt: HostRuntime) -> Result<(), Fail> {
-    let rows: [Bar; 11] = [
-        (2, 0, 20, Next::Opens, &[]),
-        (0, 1, 1, Next::Opens, &[]),
-        (2, 0, 30, Next::Opens, &[]),
-        (1, 1, 11, Next::Opens, &[]),
-        (1, 0, 10, Next::Fills, &[10, 11]),
-        (2, 1, 21, Next::Fills, &[20, 21]),
-        (1, 0, 12, Next::Opens, &[]),
-        (2, 1, 31, Next::Fills, &[30, 31]),
-        (0, 0, 0, Next::Fills, &[0, 1]),
-        (2, 1, 40, Next::Opens, &[]),
-        (1, 1, 13, Next::Fills, &[12, 13]),
-    ];
     at_a_table(&rt, 2, |table| {
-        bar_all(&rt, table, &rows)?;
+        bar_all(&rt, table, BARS)?;
         assert!(&rt; !table.waits(2, 1) && table.waits(2, 2));
         assert!(&rt; !table.waits(0, 0) && !table.waits(1, 0));
         assert!(&rt; table.pending.arrivals(2, 0) == 2 && table.pending.arrivals(2, 1) == 3);

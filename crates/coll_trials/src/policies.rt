@@ -85,6 +85,9 @@ const CHANGED: &[Change] = &[
     ("delta", "public", PolicyFault::BadName),
     ("delta", "none", PolicyFault::BadName),
     ("\"b0\"", "\"a0\"", PolicyFault::DuplicateName),
+    ("\"oil\"", "\"banks\"", PolicyFault::DuplicateName),
+    ("\"delta\"", "\"crude\"", PolicyFault::DuplicateName),
+    ("\"delta\"", "\"alpha\"", PolicyFault::DuplicateName),
     (
         "home = \"beta\"",
         "home = \"gamma\"",

@@ -1,18 +1,20 @@
 //! The examples of small communicators, with pieces worked by hand from the standard's rules.
+//!
+//! No memory ends a test at once: each way out of a function that owns a wide value costs its
+//! proof.
 ghost use Rattle.std.specs.Prelude.{◌<◌};
 ghost use Rattle.coll_routes.specs.Fit.{IsFit};
 
+use crate::parties::{flags, grid, lowest, numbers, plain, stated};
 use coll_routes::{
     Flags, Gathering, Kind, Numbers, Own, Piece, Roll, Shape, ShapeFault, Signature, Spread,
     Stated, Statements, gathered, is_missing, piece, places, routed, sender, shape_fault,
     spread_of,
 };
-use mpi_cart::Grid;
 use mpi_elems::ElemType;
-use mpi_group::Group;
 use std::alloc::{AllocError, Global};
 use std::process::Abort;
-use wall_labels::{DatasetId, Label, Op, ProcessId};
+use wall_labels::{DatasetId, Label, Op};
 
 const INT: ElemType = ElemType::Int32;
 
@@ -41,73 +43,6 @@ fn gatherv(root: u32) -> Signature {
 
 fn split(colour: Option<i32>) -> Own {
     Own::Split { colour, key: 0 }
-}
-
-// No memory ends a test at once: each way out of a function that owns a wide value costs its proof.
-fn numbers(rt: &impl Abort, alloc: Global, items: &[u32]) -> Numbers {
-    match Vec::from_slice(alloc, items) {
-        Ok(items) => Numbers::from(items),
-        Err(_) => panic!(rt; "no memory"),
-    }
-}
-
-fn flags(rt: &impl Abort, alloc: Global, items: &[bool]) -> Flags {
-    match Vec::from_slice(alloc, items) {
-        Ok(items) => Flags::from(items),
-        Err(_) => panic!(rt; "no memory"),
-    }
-}
-
-fn group(rt: &impl Abort, alloc: Global, size: u32) -> Group {
-    let mut members = Vec::new(alloc);
-    for number in 0..size {
-        let member = ProcessId::new(number).expect(rt, "a process");
-        assert!(rt; members.push(member).is_ok(), "no memory");
-    }
-    match Group::from_list(alloc, &members) {
-        Ok(group) => group,
-        Err(_) => panic!(rt; "no group"),
-    }
-}
-
-// The shape of so many members without a grid.
-fn plain(size: u32) -> Shape {
-    Shape { size, grid: None }
-}
-
-// The shape of a grid.
-fn grid(rt: &impl Abort, alloc: Global, size: u32, dims: &[u32], periods: &[bool]) -> Shape {
-    match Grid::new(alloc, dims, periods, size) {
-        Ok(grid) => Shape {
-            size,
-            grid: Some(grid),
-        },
-        Err(_) => panic!(rt; "no grid"),
-    }
-}
-
-// What a rank states that gives so many elements, as many as its counts say if it has some.
-fn stated(
-    rt: &impl Abort,
-    alloc: Global,
-    sig: &Signature,
-    given: u32,
-    counts: Option<&[u32]>,
-) -> Stated {
-    let own = match counts {
-        Some(counts) => Own::Counts(numbers(rt, alloc, counts)),
-        None => Own::Plain,
-    };
-    match sig.copy(alloc) {
-        Ok(sig) => Stated {
-            sig,
-            own,
-            given,
-            label: None,
-            barred: false,
-        },
-        Err(_) => panic!(rt; "no memory"),
-    }
 }
 
 fn state_all(
@@ -144,7 +79,7 @@ fn roll(
     };
     state_all(rt, alloc, &mut statements, &sig, given, counts);
     Roll {
-        members: group(rt, alloc, shape.size),
+        members: lowest(rt, alloc, shape.size),
         shape,
         sig,
         stated: statements,
@@ -648,99 +583,90 @@ fn faults_of_a_post(rt: HostRuntime) {
     drop(other);
 }
 
+// The root, the counts of rank 0, how many elements it gives, and the fault.
+const COUNTS: &[(u32, &[u32], usize, Option<ShapeFault>)] = &[
+    (0, &[1, 0, 2, 0], 3, None),
+    (0, &[1, 0, 2], 3, Some(ShapeFault::BadCount)),
+    (0, &[1, 0, 2, 0], 4, Some(ShapeFault::BadCount)),
+    (1, &[], 0, None),
+    (1, &[0, 0, 0, 0], 0, Some(ShapeFault::BadCount)),
+];
+
 #[test]
 fn faults_of_counts(rt: HostRuntime) {
-    let alloc = rt.alloc();
     let elem_type = ElemType::Int32;
-    let rows: [(u32, &[u32], usize, Option<ShapeFault>); 5] = [
-        (0, &[1, 0, 2, 0], 3, None),
-        (0, &[1, 0, 2], 3, Some(ShapeFault::BadCount)),
-        (0, &[1, 0, 2, 0], 4, Some(ShapeFault::BadCount)),
-        (1, &[], 0, None),
-        (1, &[0, 0, 0, 0], 0, Some(ShapeFault::BadCount)),
-    ];
-    for (root, counts, given, expected) in rows {
-        let own = Own::Counts(numbers(&rt, alloc, counts));
+    for (root, counts, given, expected) in COUNTS {
+        let root = *root;
+        let own = Own::Counts(numbers(&rt, rt.alloc(), counts));
         expect_of_four(
             &rt,
             0,
             Signature::Scatterv { root, elem_type },
             own,
-            given,
-            expected,
+            *given,
+            *expected,
         );
     }
-    let counts = numbers(&rt, alloc, &[1, 1]);
     let short = Signature::ReduceScatter {
         op: Op::Sum,
         elem_type,
-        counts,
+        counts: numbers(&rt, rt.alloc(), &[1, 1]),
     };
     expect_of_four(&rt, 0, short, Own::Plain, 2, Some(ShapeFault::BadCount));
 }
 
+// The fault of a rank of four that gives nothing to a constructor.
+fn expect_constructor(rt: &impl Abort, sig: Signature, expected: Option<ShapeFault>) {
+    expect_of_four(rt, 0, sig, Own::Plain, 0, expected);
+}
+
+// Ranks, and the fault where they are to be a communicator of four's.
+const CREATED: &[(&[u32], Option<ShapeFault>)] = &[
+    (&[0, 0], Some(ShapeFault::NotSubgroup)),
+    (&[4], Some(ShapeFault::NotSubgroup)),
+    (&[3, 1], None),
+    (&[], None),
+];
+
+// Dimensions, whether they are periodic, and the fault where they are to be a grid of four.
+const LAID: &[(&[u32], &[bool], Option<ShapeFault>)] = &[
+    (&[2, 2], &[true, false], None),
+    (&[5], &[false], Some(ShapeFault::BadDims)),
+    (&[2], &[], Some(ShapeFault::BadDims)),
+    (&[0], &[true], Some(ShapeFault::BadDims)),
+    (&[], &[], None),
+];
+
 #[test]
 fn faults_of_constructors(rt: HostRuntime) {
-    let alloc = rt.alloc();
-    let rows: [(&[u32], Option<ShapeFault>); 4] = [
-        (&[0, 0], Some(ShapeFault::NotSubgroup)),
-        (&[4], Some(ShapeFault::NotSubgroup)),
-        (&[3, 1], None),
-        (&[], None),
-    ];
-    for (ranks, expected) in rows {
-        let ranks = numbers(&rt, alloc, ranks);
-        expect_of_four(&rt, 0, Signature::Create { ranks }, Own::Plain, 0, expected);
+    for (ranks, expected) in CREATED {
+        let ranks = numbers(&rt, rt.alloc(), ranks);
+        expect_constructor(&rt, Signature::Create { ranks }, *expected);
     }
-    let rows: [(&[u32], &[bool], Option<ShapeFault>); 5] = [
-        (&[2, 2], &[true, false], None),
-        (&[5], &[false], Some(ShapeFault::BadDims)),
-        (&[2], &[], Some(ShapeFault::BadDims)),
-        (&[0], &[true], Some(ShapeFault::BadDims)),
-        (&[], &[], None),
-    ];
-    for (dims, periods, expected) in rows {
-        let dims = numbers(&rt, alloc, dims);
-        let periods = flags(&rt, alloc, periods);
-        expect_of_four(
-            &rt,
-            0,
-            Signature::CartCreate { dims, periods },
-            Own::Plain,
-            0,
-            expected,
-        );
+    for (dims, periods, expected) in LAID {
+        let dims = numbers(&rt, rt.alloc(), dims);
+        let periods = flags(&rt, rt.alloc(), periods);
+        expect_constructor(&rt, Signature::CartCreate { dims, periods }, *expected);
     }
-    let keep = flags(&rt, alloc, &[true]);
-    expect_of_four(
-        &rt,
-        0,
-        Signature::CartSub { keep },
-        Own::Plain,
-        0,
-        Some(ShapeFault::NoTopology),
-    );
-    let grid = grid(&rt, alloc, 4, &[2, 2], &[true, false]);
-    let keep = flags(&rt, alloc, &[true]);
-    expect_fault(
-        &rt,
-        &grid,
-        0,
-        Signature::CartSub { keep },
-        Own::Plain,
-        0,
-        Some(ShapeFault::BadDims),
-    );
-    let keep = flags(&rt, alloc, &[false, false]);
-    expect_fault(
-        &rt,
-        &grid,
-        0,
-        Signature::CartSub { keep },
-        Own::Plain,
-        0,
-        None,
-    );
+    let keep = flags(&rt, rt.alloc(), &[true]);
+    let no_grid = Some(ShapeFault::NoTopology);
+    expect_constructor(&rt, Signature::CartSub { keep }, no_grid);
+}
+
+// The dimensions that are kept of a grid of two, and the fault.
+const KEPT: &[(&[bool], Option<ShapeFault>)] = &[
+    (&[true], Some(ShapeFault::BadDims)),
+    (&[false, false], None),
+];
+
+#[test]
+fn faults_of_parts_of_a_grid(rt: HostRuntime) {
+    let grid = grid(&rt, rt.alloc(), 4, &[2, 2], &[true, false]);
+    for (keep, expected) in KEPT {
+        let keep = flags(&rt, rt.alloc(), keep);
+        let sig = Signature::CartSub { keep };
+        expect_fault(&rt, &grid, 0, sig, Own::Plain, 0, *expected);
+    }
     drop(grid);
 }
 
@@ -825,6 +751,24 @@ fn lists_of_numbers(rt: HostRuntime) {
 }
 
 #[test]
+fn long_lists_are_copied(rt: HostRuntime) {
+    let list = numbers(&rt, rt.alloc(), &[7; 256]);
+    let Ok(copy) = list.copy(rt.alloc()) else {
+        panic!(&rt; "no memory")
+    };
+    assert!(&rt; copy.is_same(&list));
+    drop(copy);
+    drop(list);
+    let kept = flags(&rt, rt.alloc(), &[true; 256]);
+    let Ok(copy) = kept.copy(rt.alloc()) else {
+        panic!(&rt; "no memory")
+    };
+    assert!(&rt; copy.is_same(&kept));
+    drop(copy);
+    drop(kept);
+}
+
+#[test]
 fn lists_of_flags(rt: HostRuntime) {
     let kept = flags(&rt, rt.alloc(), &[true, false]);
     let empty = Flags::from(Vec::new(rt.alloc()));
@@ -866,6 +810,6 @@ fn statements_are_set(rt: HostRuntime) {
     assert!(&rt; given_at(&rows, 0).is_none() && given_at(&rows, 2).is_none());
     assert_eq!(&rt; given_at(&rows, 1), Some(7));
     let rows = rows.into_vec();
-    assert_eq!(&rt; rows.len(), 2);
+    assert!(&rt; rows.len() == 2 && rows.capacity() == 2);
     drop(rows);
 }

@@ -1,14 +1,13 @@
 //! Verdicts worked by hand from the rules, under one policy.
 ghost use Rattle.std.specs.Prelude.{◌≡◌, ◌<◌};
 
-use crate::parties::{BANKS_AND_OIL, dataset, opening, process, wall};
+use crate::parties::{BANKS_AND_OIL, dataset, group, opening, process, wall};
 use coll_routes::{Own, Roll, Shape, Signature, Stated, Statements};
 use mpi_cart::Grid;
 use mpi_elems::ElemType;
-use mpi_group::Group;
 use std::alloc::{AllocError, Global};
 use std::process::Abort;
-use wall_labels::{DATASET_LIMIT, DatasetId, Label, Op, PROCESS_LIMIT, ProcessId};
+use wall_labels::{DATASET_LIMIT, DatasetId, Label, Op, PROCESS_LIMIT};
 use wall_policy::Policy;
 use wall_rules::Histories;
 use wall_verdict::{Rule, Verdict, charged, decide, enter_label, passes_star, sanitised, settle};
@@ -73,18 +72,6 @@ fn statement(rt: &impl Abort, alloc: Global, sig: &Signature, gift: Gift) -> Sta
             barred,
         },
         Err(_) => panic!(rt; "no memory"),
-    }
-}
-
-fn group(rt: &impl Abort, alloc: Global, members: &[u32]) -> Group {
-    let mut group = Vec::new(alloc);
-    for number in members {
-        let member = ProcessId::new(*number).expect(rt, "a process");
-        assert!(rt; group.push(member).is_ok(), "no memory");
-    }
-    match Group::from_list(alloc, &group) {
-        Ok(group) => group,
-        Err(_) => panic!(rt; "no group"),
     }
 }
 
