@@ -7,9 +7,8 @@ ghost use Rattle.coll_routes.specs.Fit.{IsFit};
 
 use crate::parties::{flags, grid, lowest, numbers, plain, stated};
 use coll_routes::{
-    Flags, Gathering, Kind, Numbers, Own, Piece, Roll, Shape, ShapeFault, Signature, Spread,
-    Stated, Statements, gathered, is_missing, piece, places, routed, sender, shape_fault,
-    spread_of,
+    Flags, Gathering, Kind, Numbers, Own, Piece, Roll, Shape, ShapeFault, Signature, Stated,
+    Statements, gathered, is_missing, piece, places, routed, shape_fault,
 };
 use mpi_elems::ElemType;
 use std::alloc::{AllocError, Global};
@@ -251,78 +250,42 @@ fn pieces_of_two_ranks(rt: HostRuntime) {
     expect_of_two(&rt, Signature::Dup, [0, 0], "\n\n");
 }
 
-// How the elements of three ranks spread, and what rank 1 is given where they are reduced.
-fn expect_spread(
-    rt: &(impl AllocGlobal + Abort),
-    sig: Signature,
-    given: [u32; 3],
-    expected: Spread,
-) {
-    let roll = roll(rt, rt.alloc(), plain(3), sig, &given, &[]);
-    has_spread(rt, &roll, expected);
+// Which piece rank 1 of three is sent where they are reduced, by how many ranks from 0 on.
+fn expect_gathered(rt: &(impl AllocGlobal + Abort), sig: Signature, until: u32) {
+    let roll = roll(rt, rt.alloc(), plain(3), sig, &[1, 1, 1], &[]);
+    is_gathered(rt, &roll, until);
     drop(roll);
 }
 
-fn has_spread(rt: &impl Abort, roll: &Roll, expected: Spread) {
-    assert!(rt; roll.is_fit());
-    assert_eq!(rt; spread_of(roll), expected);
-    if roll.sig.op().is_some() && roll.shape.size > 1 {
-        let until = if expected == Spread::Below { 1 } else { 2 };
+fn is_gathered(rt: &impl Abort, roll: &Roll, until: u32) {
+    assert!(rt; roll.is_fit() && roll.shape.size == 3);
+    if roll.sig.op().is_some() {
         let piece = Piece { start: 0, len: 1 };
         assert_eq!(rt; gathered(roll, 1), Gathering { until, piece });
     }
 }
 
 #[test]
-fn spreads_of_three_ranks(rt: HostRuntime) {
+fn ranks_send_alike_where_they_are_reduced(rt: HostRuntime) {
     let (elem_type, op, count) = (INT, Op::Sum, 1);
-    expect_spread(&rt, bcast(1, 2), [0, 2, 0], Spread::ToOthers(1));
-    expect_spread(&rt, gatherv(2), [1, 0, 3], Spread::ToOne(2));
-    expect_spread(&rt, scatter(1, 1), [0, 3, 0], Spread::ToAll);
-    let alltoall = Signature::Alltoall { elem_type, count };
-    expect_spread(&rt, alltoall, [3, 3, 3], Spread::ToAll);
     let scan = Signature::Scan {
         op,
         elem_type,
         count,
     };
-    expect_spread(&rt, scan, [1, 1, 1], Spread::UpTo);
+    expect_gathered(&rt, scan, 2);
     let exscan = Signature::Exscan {
         op,
         elem_type,
         count,
     };
-    expect_spread(&rt, exscan, [1, 1, 1], Spread::Below);
-}
-
-// A receiver in a row of three, a slot, and who sends to it there.
-const SENDERS: &[(u32, u32, Option<u32>)] = &[
-    (0, 0, None),
-    (0, 1, Some(1)),
-    (1, 0, Some(0)),
-    (2, 1, None),
-    (2, 2, None),
-];
-
-fn has_senders(rt: &impl Abort, roll: &Roll) {
-    assert!(rt; roll.is_fit() && roll.shape.size == 3);
-    assert_eq!(rt; spread_of(roll), Spread::ByPlace);
-    for (to, slot, expected) in SENDERS {
-        assert!(rt; *to < 3);
-        assert_eq!(rt; sender(roll, *to, *slot), *expected);
-    }
-}
-
-#[test]
-fn spread_of_a_row_of_three(rt: HostRuntime) {
-    let row = grid(&rt, rt.alloc(), 3, &[3], &[false]);
-    let sig = Signature::NeighborAllgather {
-        elem_type: INT,
-        count: 1,
+    expect_gathered(&rt, exscan, 1);
+    let allreduce = Signature::Allreduce {
+        op,
+        elem_type,
+        count,
     };
-    let roll = roll(&rt, rt.alloc(), row, sig, &[1, 1, 1], &[]);
-    has_senders(&rt, &roll);
-    drop(roll);
+    expect_gathered(&rt, allreduce, 3);
 }
 
 #[test]
