@@ -17,18 +17,16 @@ const ROUNDS: u64 = 100;
 
 /// What all four post in a round: a broadcast of a bank's numbers, which its rival may not get, and
 /// a sum of all. The takes show that each was posted.
-fn round() -> [Line; 8] {
-    [
-        (0, Cast(0, 0, 2, "alpha", &[7, -1]), "any"),
-        (1, Cast(0, 0, 2, "public", &[]), "any"),
-        (2, Cast(0, 0, 2, "public", &[]), "any"),
-        (3, Cast(0, 0, 2, "public", &[]), "any"),
-        (0, Sum("alpha", &[5]), "any"),
-        (1, Sum("beta", &[6]), "any"),
-        (2, Sum("crude", &[7]), "any"),
-        (3, Sum("public", &[1]), "any"),
-    ]
-}
+const ROUND: &[Line] = &[
+    (0, Cast(0, 0, 2, "alpha", &[7, -1]), "any"),
+    (1, Cast(0, 0, 2, "public", &[]), "any"),
+    (2, Cast(0, 0, 2, "public", &[]), "any"),
+    (3, Cast(0, 0, 2, "public", &[]), "any"),
+    (0, Sum("alpha", &[5]), "any"),
+    (1, Sum("beta", &[6]), "any"),
+    (2, Sum("crude", &[7]), "any"),
+    (3, Sum("public", &[1]), "any"),
+];
 
 /// Makes the calls of the lines, whatever they are told.
 fn asks_all(alloc: Global, hall: &mut Hall, lines: &[Line]) -> Result<(), NoMemory> {
@@ -73,7 +71,7 @@ fn keeps_one_more(alloc: Global, hall: &mut Hall) -> Result<bool, NoMemory> {
 
 fn takes_in_order(alloc: Global, hall: &mut Hall) -> Result<bool, NoMemory> {
     for number in 0..ROUNDS {
-        asks_all(alloc, hall, &round())?;
+        asks_all(alloc, hall, ROUND)?;
         if !all_take(alloc, hall, 2 * number)? || !all_take(alloc, hall, 2 * number + 1)? {
             return Ok(false);
         }
@@ -90,7 +88,7 @@ fn has_fit_room(hall: &Hall) -> bool {
 /// All rounds are posted before the first take, and the last request is taken first.
 fn takes_backwards(alloc: Global, hall: &mut Hall) -> Result<bool, NoMemory> {
     for _ in 0..ROUNDS {
-        asks_all(alloc, hall, &round())?;
+        asks_all(alloc, hall, ROUND)?;
     }
     let all = keeps(hall, 200) && has_fit_room(hall);
     for after in 0..2 * ROUNDS {
@@ -109,18 +107,16 @@ fn nothing_is_kept_of_what_all_took(rt: HostRuntime) -> Result<(), Fail> {
 }
 
 /// A broadcast that all four may get.
-fn broadcast() -> [Line; 4] {
-    [
-        (0, Cast(0, 0, 1, "alpha", &[5]), "any"),
-        (1, Cast(0, 0, 1, "public", &[]), "any"),
-        (2, Cast(0, 0, 1, "public", &[]), "any"),
-        (3, Cast(0, 0, 1, "public", &[]), "any"),
-    ]
-}
+const BROADCAST: &[Line] = &[
+    (0, Cast(0, 0, 1, "alpha", &[5]), "any"),
+    (1, Cast(0, 0, 1, "public", &[]), "any"),
+    (2, Cast(0, 0, 1, "public", &[]), "any"),
+    (3, Cast(0, 0, 1, "public", &[]), "any"),
+];
 
 /// Whether it is granted to process 1, 2 and 3, as their request of that number.
 fn all_but_one_take(alloc: Global, hall: &mut Hall, request: u64) -> Result<bool, NoMemory> {
-    asks_all(alloc, hall, &broadcast())?;
+    asks_all(alloc, hall, BROADCAST)?;
     for process in 1..4 {
         if !answers(alloc, hall, &(process, Take(request), "delivered [5]"))? {
             return Ok(false);

@@ -248,7 +248,10 @@ impl Records {
         ensures unchanged { MakesNothing result → view_in self.new ≡ view_in self.old }
     {
         match self.refusal(process, &posting) {
-            Some(refusal) => Reply::Refused(refusal),
+            Some(refusal) => {
+                drop(posting);
+                Reply::Refused(refusal)
+            }
             None => self.accept(process, posting),
         }
     }
@@ -344,18 +347,28 @@ impl Records {
             Counts (view_in self.old) (view_in self.new) (contribution member comm stated part) }
         ensures unchanged { IsFalse result → view_in self.new ≡ view_in self.old }
     {
+        // What is owned is let go by a call on each way out: the proof would take it apart.
         let Ok(copy) = stated.copy(self.alloc) else {
+            drop(stated);
+            drop(part);
             return false;
         };
         let k = self.post_state.place(member, comm);
         let Ok(()) = self.make_room(member.number(), comm, k) else {
+            drop(copy);
+            drop(stated);
+            drop(part);
             return false;
         };
         match self
             .post_state
             .enter(&self.policy, member, comm, stated, part)
         {
-            Err(_) => false,
+            Err(unentered) => {
+                drop(copy);
+                drop(unentered);
+                false
+            }
             Ok(entered) => {
                 self.record(member, comm, copy, entered);
                 true

@@ -60,93 +60,81 @@ use Doing::{Cast, Gather, Group, Info, Part, Share, Sum, Take};
 pub(crate) type Line = (u32, Doing, &'static str);
 
 /// A bank's numbers reach nobody, since its rival would get them too.
-fn denied_to_all() -> [Line; 9] {
-    [
-        (0, Cast(0, 0, 2, "alpha", &[7, -1]), "posted 0"),
-        (1, Cast(0, 0, 2, "public", &[]), "posted 0"),
-        (2, Cast(0, 0, 2, "public", &[]), "posted 0"),
-        (0, Take(0), "pending"),
-        (3, Cast(0, 0, 2, "public", &[]), "posted 0"),
-        (0, Take(0), "denied Simple 1 0"),
-        (1, Take(0), "denied Simple 1 0"),
-        (2, Take(0), "denied Simple 1 0"),
-        (3, Take(0), "denied Simple 1 0"),
-    ]
-}
+const DENIED_TO_ALL: &[Line] = &[
+    (0, Cast(0, 0, 2, "alpha", &[7, -1]), "posted 0"),
+    (1, Cast(0, 0, 2, "public", &[]), "posted 0"),
+    (2, Cast(0, 0, 2, "public", &[]), "posted 0"),
+    (0, Take(0), "pending"),
+    (3, Cast(0, 0, 2, "public", &[]), "posted 0"),
+    (0, Take(0), "denied Simple 1 0"),
+    (1, Take(0), "denied Simple 1 0"),
+    (2, Take(0), "denied Simple 1 0"),
+    (3, Take(0), "denied Simple 1 0"),
+];
 
 /// A process of the oil firm may not write for a bank: its post counts, and its instance is denied.
-fn barred() -> [Line; 5] {
-    [
-        (2, Cast(0, 2, 1, "alpha", &[4]), "barred 0 0"),
-        (0, Cast(0, 2, 1, "public", &[]), "posted 0"),
-        (1, Cast(0, 2, 1, "public", &[]), "posted 0"),
-        (3, Cast(0, 2, 1, "public", &[]), "posted 0"),
-        (0, Take(0), "denied Star 2 0"),
-    ]
-}
+const BARRED: &[Line] = &[
+    (2, Cast(0, 2, 1, "alpha", &[4]), "barred 0 0"),
+    (0, Cast(0, 2, 1, "public", &[]), "posted 0"),
+    (1, Cast(0, 2, 1, "public", &[]), "posted 0"),
+    (3, Cast(0, 2, 1, "public", &[]), "posted 0"),
+    (0, Take(0), "denied Star 2 0"),
+];
 
 /// A sum of four is sanitised: all get it, and n0, which has had access to nothing, may then write
 /// as public.
-fn sum_of_four() -> [Line; 10] {
-    [
-        (0, Sum("alpha", &[5]), "posted 0"),
-        (1, Sum("beta", &[6]), "posted 0"),
-        (2, Sum("crude", &[7]), "posted 0"),
-        (3, Sum("public", &[1]), "posted 0"),
-        (0, Take(0), "delivered [19]"),
-        (1, Take(0), "delivered [19]"),
-        (2, Take(0), "delivered [19]"),
-        (3, Take(0), "delivered [19]"),
-        (3, Take(0), "refused NoSuchRequest"),
-        (3, Cast(0, 3, 1, "public", &[2]), "posted 1"),
-    ]
-}
+const SUM_OF_FOUR: &[Line] = &[
+    (0, Sum("alpha", &[5]), "posted 0"),
+    (1, Sum("beta", &[6]), "posted 0"),
+    (2, Sum("crude", &[7]), "posted 0"),
+    (3, Sum("public", &[1]), "posted 0"),
+    (0, Take(0), "delivered [19]"),
+    (1, Take(0), "delivered [19]"),
+    (2, Take(0), "delivered [19]"),
+    (3, Take(0), "delivered [19]"),
+    (3, Take(0), "refused NoSuchRequest"),
+    (3, Cast(0, 3, 1, "public", &[2]), "posted 1"),
+];
 
 /// A split into two, and a broadcast in the greater part.
-fn split() -> [Line; 16] {
-    [
-        (0, Part(Some(2), 0), "posted 0"),
-        (1, Part(None, 0), "posted 0"),
-        (2, Part(Some(0), 5), "posted 0"),
-        (3, Info(1), "refused NoSuchComm"),
-        (3, Part(Some(2), 0), "posted 0"),
-        (0, Take(0), "comm 2 rank 0 size 2"),
-        (1, Take(0), "null"),
-        (2, Take(0), "comm 1 rank 0 size 1"),
-        (3, Take(0), "comm 2 rank 1 size 2"),
-        (3, Info(2), "info 2 1"),
-        (1, Info(2), "refused NotMember"),
-        (0, Cast(2, 1, 2, "public", &[]), "posted 1"),
-        (3, Cast(2, 1, 2, "alpha", &[7, -1]), "posted 1"),
-        (0, Take(1), "delivered [7 -1]"),
-        (3, Take(1), "delivered none"),
-        (1, Cast(2, 1, 2, "public", &[]), "refused NotMember"),
-    ]
-}
+const SPLIT: &[Line] = &[
+    (0, Part(Some(2), 0), "posted 0"),
+    (1, Part(None, 0), "posted 0"),
+    (2, Part(Some(0), 5), "posted 0"),
+    (3, Info(1), "refused NoSuchComm"),
+    (3, Part(Some(2), 0), "posted 0"),
+    (0, Take(0), "comm 2 rank 0 size 2"),
+    (1, Take(0), "null"),
+    (2, Take(0), "comm 1 rank 0 size 1"),
+    (3, Take(0), "comm 2 rank 1 size 2"),
+    (3, Info(2), "info 2 1"),
+    (1, Info(2), "refused NotMember"),
+    (0, Cast(2, 1, 2, "public", &[]), "posted 1"),
+    (3, Cast(2, 1, 2, "alpha", &[7, -1]), "posted 1"),
+    (0, Take(1), "delivered [7 -1]"),
+    (3, Take(1), "delivered none"),
+    (1, Cast(2, 1, 2, "public", &[]), "refused NotMember"),
+];
 
 /// The refusals that a broadcast can meet.
-fn refused() -> [Line; 8] {
-    [
-        (0, Cast(0, 0, 1, "alpha", &[5]), "posted 0"),
-        (1, Cast(0, 0, 2, "public", &[]), "refused Mismatch"),
-        (1, Cast(0, 4, 1, "public", &[]), "refused BadRoot"),
-        (1, Cast(0, 0, 1, "alpha", &[5]), "refused BadCount"),
-        (1, Cast(0, 0, 65537, "public", &[]), "refused BadCount"),
-        (1, Cast(1, 0, 1, "public", &[]), "refused NoSuchComm"),
-        (9, Cast(0, 0, 1, "public", &[]), "refused NoSuchProcess"),
-        (0, Take(1), "refused NoSuchRequest"),
-    ]
-}
+const REFUSED: &[Line] = &[
+    (0, Cast(0, 0, 1, "alpha", &[5]), "posted 0"),
+    (1, Cast(0, 0, 2, "public", &[]), "refused Mismatch"),
+    (1, Cast(0, 4, 1, "public", &[]), "refused BadRoot"),
+    (1, Cast(0, 0, 1, "alpha", &[5]), "refused BadCount"),
+    (1, Cast(0, 0, 65537, "public", &[]), "refused BadCount"),
+    (1, Cast(1, 0, 1, "public", &[]), "refused NoSuchComm"),
+    (9, Cast(0, 0, 1, "public", &[]), "refused NoSuchProcess"),
+    (0, Take(1), "refused NoSuchRequest"),
+];
 
 /// A process may have 256 requests that it has not taken: this one has 255. A bad root is told
 /// first.
-fn one_too_many() -> [Line; 3] {
-    [
-        (0, Cast(0, 0, 0, "public", &[]), "posted 255"),
-        (0, Cast(0, 0, 0, "public", &[]), "refused TooManyRequests"),
-        (0, Cast(0, 4, 0, "public", &[]), "refused BadRoot"),
-    ]
-}
+const ONE_TOO_MANY: &[Line] = &[
+    (0, Cast(0, 0, 0, "public", &[]), "posted 255"),
+    (0, Cast(0, 0, 0, "public", &[]), "refused TooManyRequests"),
+    (0, Cast(0, 4, 0, "public", &[]), "refused BadRoot"),
+];
 
 /// A label of the policy, public if it has none of that name.
 fn label(policy: &Policy, name: &str) -> Label
@@ -432,21 +420,21 @@ fn runs(alloc: Global, policy: &str, lines: &[Line]) -> Result<bool, NoMemory> {
 
 #[test]
 fn rivals_get_no_numbers(rt: HostRuntime) -> Result<(), Fail> {
-    assert!(rt; runs(rt.alloc(), RIVALS, &denied_to_all())?);
-    assert!(rt; runs(rt.alloc(), RIVALS, &barred())?);
+    assert!(rt; runs(rt.alloc(), RIVALS, DENIED_TO_ALL)?);
+    assert!(rt; runs(rt.alloc(), RIVALS, BARRED)?);
     Ok(())
 }
 
 #[test]
 fn all_get_a_sanitised_sum(rt: HostRuntime) -> Result<(), Fail> {
-    assert!(rt; runs(rt.alloc(), RIVALS, &sum_of_four())?);
+    assert!(rt; runs(rt.alloc(), RIVALS, SUM_OF_FOUR)?);
     Ok(())
 }
 
 #[test]
 fn friends_split_and_get_numbers(rt: HostRuntime) -> Result<(), Fail> {
-    assert!(rt; runs(rt.alloc(), FRIENDS, &refused())?);
-    assert!(rt; runs(rt.alloc(), FRIENDS, &split())?);
+    assert!(rt; runs(rt.alloc(), FRIENDS, REFUSED)?);
+    assert!(rt; runs(rt.alloc(), FRIENDS, SPLIT)?);
     Ok(())
 }
 
@@ -506,7 +494,7 @@ fn holds(hall: &Hall, process: u32, dataset: u32) -> bool {
 
 /// The histories and the book after a denial: n0 has had access to nothing.
 fn keeps_a_denial(alloc: Global, hall: &mut Hall) -> Result<bool, NoMemory> {
-    let told = answers_all(alloc, hall, &denied_to_all())?;
+    let told = answers_all(alloc, hall, DENIED_TO_ALL)?;
     let held = holds(hall, 0, 0) && !holds(hall, 3, 0) && !holds(hall, 1, 0);
     Ok(told && held && hall.book().len() == 5)
 }
@@ -521,7 +509,7 @@ fn takes_256_requests(alloc: Global, hall: &mut Hall) -> Result<bool, NoMemory> 
     for _ in 0..255 {
         answers(alloc, hall, &(0, Cast(0, 0, 0, "public", &[]), "any"))?;
     }
-    answers_all(alloc, hall, &one_too_many())
+    answers_all(alloc, hall, ONE_TOO_MANY)
 }
 
 #[test]
@@ -531,14 +519,12 @@ fn no_more_than_256_requests_wait(rt: HostRuntime) -> Result<(), Fail> {
 }
 
 /// A gather of all at a0.
-fn gathered() -> [Line; 4] {
-    [
-        (3, Gather(0, 0, "alpha", &[7]), "posted 0"),
-        (1, Gather(0, 0, "alpha", &[6]), "posted 0"),
-        (2, Gather(0, 0, "alpha", &[9]), "posted 0"),
-        (0, Gather(0, 0, "alpha", &[8]), "posted 0"),
-    ]
-}
+const GATHERED: &[Line] = &[
+    (3, Gather(0, 0, "alpha", &[7]), "posted 0"),
+    (1, Gather(0, 0, "alpha", &[6]), "posted 0"),
+    (2, Gather(0, 0, "alpha", &[9]), "posted 0"),
+    (0, Gather(0, 0, "alpha", &[8]), "posted 0"),
+];
 
 /// The rank of a claim that is ready.
 fn ready_rank(claim: &Claim) -> Option<u32> {
@@ -571,20 +557,18 @@ fn claims_all(alloc: Global, hall: &mut Hall, lines: &[Claimed]) -> Result<bool,
 }
 
 /// Claims of what was gathered.
-fn claimed() -> [Claimed; 4] {
-    [
-        (0, 0, Some(0), "delivered [8] [6] [9] [7]"),
-        (0, 0, None, "refused NoSuchRequest"),
-        (3, 0, Some(3), "delivered none"),
-        (1, 1, None, "refused NoSuchRequest"),
-    ]
-}
+const CLAIMED: &[Claimed] = &[
+    (0, 0, Some(0), "delivered [8] [6] [9] [7]"),
+    (0, 0, None, "refused NoSuchRequest"),
+    (3, 0, Some(3), "delivered none"),
+    (1, 1, None, "refused NoSuchRequest"),
+];
 
 fn claims_gathered(alloc: Global, hall: &mut Hall) -> Result<bool, NoMemory> {
-    if !answers_all(alloc, hall, &gathered())? {
+    if !answers_all(alloc, hall, GATHERED)? {
         return Ok(false);
     }
-    claims_all(alloc, hall, &claimed())
+    claims_all(alloc, hall, CLAIMED)
 }
 
 /// A claim that is ready holds the caller's rank. The request is taken by the claim.
@@ -596,7 +580,7 @@ fn a_claim_is_a_take(rt: HostRuntime) -> Result<(), Fail> {
 
 /// The members of communicators 1 to 5, by their ranks in the world, and what their creators are
 /// told.
-pub(crate) const GROUPS: [(&[u32], &str); 5] = [
+pub(crate) const GROUPS: &[(&[u32], &str)] = &[
     (&[0, 2, 3], "posted 0"),
     (&[0, 1, 3], "posted 1"),
     (&[0, 3], "posted 2"),
@@ -608,7 +592,7 @@ pub(crate) const GROUPS: [(&[u32], &str); 5] = [
 fn creates_all(alloc: Global, hall: &mut Hall) -> Result<bool, NoMemory> {
     for (ranks, reply) in GROUPS {
         for process in 0..4 {
-            if !answers(alloc, hall, &(process, Group(ranks), reply))? {
+            if !answers(alloc, hall, &(process, Group(*ranks), *reply))? {
                 return Ok(false);
             }
         }
@@ -617,28 +601,24 @@ fn creates_all(alloc: Global, hall: &mut Hall) -> Result<bool, NoMemory> {
 }
 
 /// A gather of a bank's numbers at a0. Before its last post n0 asks for an oil firm's.
-fn gathered_by_two() -> [Line; 4] {
-    [
-        (3, Gather(3, 0, "alpha", &[7]), "posted 5"),
-        (2, Cast(5, 0, 1, "crude", &[9]), "posted 5"),
-        (3, Cast(5, 0, 1, "public", &[]), "posted 6"),
-        (0, Gather(3, 0, "alpha", &[8]), "posted 5"),
-    ]
-}
+const GATHERED_BY_TWO: &[Line] = &[
+    (3, Gather(3, 0, "alpha", &[7]), "posted 5"),
+    (2, Cast(5, 0, 1, "crude", &[9]), "posted 5"),
+    (3, Cast(5, 0, 1, "public", &[]), "posted 6"),
+    (0, Gather(3, 0, "alpha", &[8]), "posted 5"),
+];
 
 /// Claims of it by a0.
-fn claimed_by_the_root() -> [Claimed; 2] {
-    [
-        (0, 5, Some(0), "delivered [8] [7]"),
-        (0, 5, None, "refused NoSuchRequest"),
-    ]
-}
+const CLAIMED_BY_THE_ROOT: &[Claimed] = &[
+    (0, 5, Some(0), "delivered [8] [7]"),
+    (0, 5, None, "refused NoSuchRequest"),
+];
 
 fn claims_in_groups(alloc: Global, hall: &mut Hall) -> Result<bool, NoMemory> {
-    if !creates_all(alloc, hall)? || !answers_all(alloc, hall, &gathered_by_two())? {
+    if !creates_all(alloc, hall)? || !answers_all(alloc, hall, GATHERED_BY_TWO)? {
         return Ok(false);
     }
-    claims_all(alloc, hall, &claimed_by_the_root())
+    claims_all(alloc, hall, CLAIMED_BY_THE_ROOT)
 }
 
 #[test]

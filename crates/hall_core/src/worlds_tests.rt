@@ -15,7 +15,7 @@ fn after_groups(alloc: Global, lines: &[Line]) -> Result<Vec<Line>, NoMemory> {
     let mut all = Vec::new(alloc);
     for (ranks, reply) in GROUPS {
         for process in 0..4 {
-            all.push((process, Group(ranks), reply))?;
+            all.push((process, Group(*ranks), *reply))?;
         }
     }
     all.extend_from_slice(lines)?;
@@ -23,66 +23,74 @@ fn after_groups(alloc: Global, lines: &[Line]) -> Result<Vec<Line>, NoMemory> {
 }
 
 /// Two banks offer a number each to n0, which gets a0's, and may then not have b0's.
-fn two_offers(numbers: &'static [i128], delivered: &'static str) -> [Line; 8] {
-    [
-        (0, Cast(3, 0, 1, "alpha", numbers), "posted 5"),
-        (1, Cast(4, 0, 1, "beta", &[20]), "posted 5"),
-        (3, Cast(3, 0, 1, "public", &[]), "posted 5"),
-        (3, Cast(4, 0, 1, "public", &[]), "posted 6"),
-        (3, Take(5), delivered),
-        (3, Take(6), "denied Simple 3 1"),
-        (1, Take(5), "denied Simple 3 1"),
-        (0, Take(5), "delivered none"),
-    ]
+macro_rules! two_offers {
+    ($numbers:expr, $delivered:expr) => {
+        &[
+            (0, Cast(3, 0, 1, "alpha", $numbers), "posted 5"),
+            (1, Cast(4, 0, 1, "beta", &[20]), "posted 5"),
+            (3, Cast(3, 0, 1, "public", &[]), "posted 5"),
+            (3, Cast(4, 0, 1, "public", &[]), "posted 6"),
+            (3, Take(5), $delivered),
+            (3, Take(6), "denied Simple 3 1"),
+            (1, Take(5), "denied Simple 3 1"),
+            (0, Take(5), "delivered none"),
+        ]
+    };
 }
 
 /// A bank's number goes from a0 to n0, from there to c0, and not to b0, the bank's rival.
-fn relay(numbers: &'static [i128], delivered: &'static str) -> [Line; 9] {
-    [
-        (0, Cast(3, 0, 1, "alpha", numbers), "posted 5"),
-        (3, Cast(3, 0, 1, "public", &[]), "posted 5"),
-        (3, Take(5), delivered),
-        (3, Cast(5, 1, 1, "alpha", numbers), "posted 6"),
-        (2, Cast(5, 1, 1, "public", &[]), "posted 5"),
-        (2, Take(5), delivered),
-        (3, Cast(4, 1, 1, "alpha", numbers), "posted 7"),
-        (1, Cast(4, 1, 1, "public", &[]), "posted 5"),
-        (1, Take(5), "denied Simple 1 0"),
-    ]
+macro_rules! relay {
+    ($numbers:expr, $delivered:expr) => {
+        &[
+            (0, Cast(3, 0, 1, "alpha", $numbers), "posted 5"),
+            (3, Cast(3, 0, 1, "public", &[]), "posted 5"),
+            (3, Take(5), $delivered),
+            (3, Cast(5, 1, 1, "alpha", $numbers), "posted 6"),
+            (2, Cast(5, 1, 1, "public", &[]), "posted 5"),
+            (2, Take(5), $delivered),
+            (3, Cast(4, 1, 1, "alpha", $numbers), "posted 7"),
+            (1, Cast(4, 1, 1, "public", &[]), "posted 5"),
+            (1, Take(5), "denied Simple 1 0"),
+        ]
+    };
 }
 
 /// A sanitised sum of four, with this number of a0's: all get it, and n0 may then write as public.
-fn summed(numbers: &'static [i128], delivered: &'static str) -> [Line; 9] {
-    [
-        (0, Sum("alpha", numbers), "posted 0"),
-        (1, Sum("beta", &[6]), "posted 0"),
-        (2, Sum("crude", &[7]), "posted 0"),
-        (3, Sum("public", &[1]), "posted 0"),
-        (0, Take(0), delivered),
-        (1, Take(0), delivered),
-        (2, Take(0), delivered),
-        (3, Take(0), delivered),
-        (3, Cast(0, 3, 1, "public", &[2]), "posted 1"),
-    ]
+macro_rules! summed {
+    ($numbers:expr, $delivered:expr) => {
+        &[
+            (0, Sum("alpha", $numbers), "posted 0"),
+            (1, Sum("beta", &[6]), "posted 0"),
+            (2, Sum("crude", &[7]), "posted 0"),
+            (3, Sum("public", &[1]), "posted 0"),
+            (0, Take(0), $delivered),
+            (1, Take(0), $delivered),
+            (2, Take(0), $delivered),
+            (3, Take(0), $delivered),
+            (3, Cast(0, 3, 1, "public", &[2]), "posted 1"),
+        ]
+    };
 }
 
 /// c0 gets a0's numbers, and may then not write of its own firm: its post of this number is barred,
 /// and reaches nobody.
-fn barred(numbers: &'static [i128]) -> [Line; 12] {
-    [
-        (0, Cast(1, 0, 2, "alpha", &[7, -1]), "posted 5"),
-        (2, Cast(1, 0, 2, "public", &[]), "posted 5"),
-        (3, Cast(1, 0, 2, "public", &[]), "posted 5"),
-        (0, Take(5), "delivered none"),
-        (2, Take(5), "delivered [7 -1]"),
-        (3, Take(5), "delivered [7 -1]"),
-        (2, Share(1, "crude", numbers), "barred 6 2"),
-        (0, Share(1, "alpha", &[5]), "posted 6"),
-        (3, Share(1, "alpha", &[6]), "posted 6"),
-        (0, Take(6), "denied Star 2 2"),
-        (2, Take(6), "denied Star 2 2"),
-        (3, Take(6), "denied Star 2 2"),
-    ]
+macro_rules! barred {
+    ($numbers:expr) => {
+        &[
+            (0, Cast(1, 0, 2, "alpha", &[7, -1]), "posted 5"),
+            (2, Cast(1, 0, 2, "public", &[]), "posted 5"),
+            (3, Cast(1, 0, 2, "public", &[]), "posted 5"),
+            (0, Take(5), "delivered none"),
+            (2, Take(5), "delivered [7 -1]"),
+            (3, Take(5), "delivered [7 -1]"),
+            (2, Share(1, "crude", $numbers), "barred 6 2"),
+            (0, Share(1, "alpha", &[5]), "posted 6"),
+            (3, Share(1, "alpha", &[6]), "posted 6"),
+            (0, Take(6), "denied Star 2 2"),
+            (2, Take(6), "denied Star 2 2"),
+            (3, Take(6), "denied Star 2 2"),
+        ]
+    };
 }
 
 /// Two lists of lines.
@@ -173,29 +181,42 @@ fn both_in_groups(alloc: Global, first: &[Line], second: &[Line]) -> Result<bool
     both(alloc, (&first, &second), Looked::Replies)
 }
 
+/// Lists whose lines come after the groups were created.
+const IN_GROUPS: &[Pair] = &[
+    (
+        two_offers!(&[10], "delivered [10]"),
+        two_offers!(&[99], "delivered [99]"),
+    ),
+    (
+        relay!(&[10], "delivered [10]"),
+        relay!(&[99], "delivered [99]"),
+    ),
+    (barred!(&[4]), barred!(&[8])),
+];
+
+/// Lists of one line after the other from the first on.
+const AT_ONCE: Pair = (
+    summed!(&[5], "delivered [19]"),
+    summed!(&[6], "delivered [20]"),
+);
+
 /// In both lists the lines of b0, or of all who hold nothing of c0's firm, have the same replies.
 #[test]
 fn two_worlds_differ_in_deliveries_alone(rt: HostRuntime) -> Result<(), Fail> {
-    let alloc = rt.alloc();
-    let first = two_offers(&[10], "delivered [10]");
-    let second = two_offers(&[99], "delivered [99]");
-    assert!(rt; both_in_groups(alloc, &first, &second)?);
-    let first = relay(&[10], "delivered [10]");
-    let second = relay(&[99], "delivered [99]");
-    assert!(rt; both_in_groups(alloc, &first, &second)?);
-    let first = summed(&[5], "delivered [19]");
-    let second = summed(&[6], "delivered [20]");
-    assert!(rt; both(alloc, (&first, &second), Looked::Replies)?);
-    assert!(rt; both_in_groups(alloc, &barred(&[4]), &barred(&[8]))?);
+    for (first, second) in IN_GROUPS {
+        assert!(&rt; both_in_groups(rt.alloc(), first, second)?);
+    }
+    assert!(rt; both(rt.alloc(), AT_ONCE, Looked::Replies)?);
     Ok(())
 }
+
+/// Without the groups each line is answered too, in one way or another.
+const OF_NO_GROUPS: Pair = (relay!(&[10], "any"), relay!(&[99], "any"));
 
 /// With an allocation of `run_two` refused (`rt try --test --fail-alloc N`) there is no answer, or
 /// one reply for each call of both lists.
 #[test]
 fn a_refused_growth_loses_no_reply(rt: HostRuntime) -> Result<(), Fail> {
-    let first = relay(&[10], "any");
-    let second = relay(&[99], "any");
-    assert!(rt; both(rt.alloc(), (&first, &second), Looked::Number)?);
+    assert!(rt; both(rt.alloc(), OF_NO_GROUPS, Looked::Number)?);
     Ok(())
 }
