@@ -5,6 +5,7 @@ ghost use Rattle.run_model.specs.Known.{IsKnownEntry};
 use crate::walls::{WALL, WALL_IN_VERSION_2};
 use audit_book::*;
 use std::alloc::Global;
+use std::fmt::Display;
 use std::process::Abort;
 use std::test::Fail;
 use wall_labels::memory::{ExpectingSink, Fuse};
@@ -308,29 +309,19 @@ const BOOK_FAULTS: &[(BookFault, &str)] = &[
     (BookFault::NoMemory, "out of memory"),
 ];
 
-#[test]
-fn read_faults_have_their_texts(rt: HostRuntime) -> Result<(), Fail> {
-    for (fault, text) in READ_FAULTS {
-        let said = format!(in rt.alloc(); "{fault}")?;
-        assert!(&rt; said.as_str() == *text, "{text}");
+// Each fault has its text.
+pub(crate) fn expect_texts<T: Display>(rt: &(impl AllocGlobal + Abort), table: &[(T, &str)]) {
+    for (fault, text) in table {
+        let Ok(said) = format!(in rt.alloc(); "{fault}") else {
+            panic!(rt; "no memory")
+        };
+        assert!(rt; said.as_str() == *text, "{text}");
     }
-    Ok(())
 }
 
 #[test]
-fn write_faults_have_their_texts(rt: HostRuntime) -> Result<(), Fail> {
-    for (fault, text) in WRITE_FAULTS {
-        let said = format!(in rt.alloc(); "{fault}")?;
-        assert!(&rt; said.as_str() == *text, "{text}");
-    }
-    Ok(())
-}
-
-#[test]
-fn book_faults_have_their_texts(rt: HostRuntime) -> Result<(), Fail> {
-    for (fault, text) in BOOK_FAULTS {
-        let said = format!(in rt.alloc(); "{fault}")?;
-        assert!(&rt; said.as_str() == *text, "{text}");
-    }
-    Ok(())
+fn faults_have_their_texts(rt: HostRuntime) {
+    expect_texts(&rt, READ_FAULTS);
+    expect_texts(&rt, WRITE_FAULTS);
+    expect_texts(&rt, BOOK_FAULTS);
 }

@@ -92,16 +92,22 @@ fn broadcast(rt: &impl Abort, book: &mut Book, dataset: u32) -> Result<(), Fail>
     Ok(())
 }
 
+// Each process with the colour and the key that it asks for.
+const SPLIT: &[(u32, Option<i32>, i32)] = &[
+    (0, Some(2), 0),
+    (1, None, 0),
+    (2, Some(0), 5),
+    (3, Some(2), 0),
+];
+
 fn split(rt: &impl Abort, book: &mut Book) -> Result<(), Fail> {
-    for (number, colour, key) in [
-        (0, Some(2), 0),
-        (1, None, 0),
-        (2, Some(0), 5),
-        (3, Some(2), 0),
-    ] {
+    for (number, colour, key) in SPLIT {
         book.reserve(1)?;
-        let own = Own::Split { colour, key };
-        push(rt, book, post(rt, number, Signature::Split, own, None));
+        let own = Own::Split {
+            colour: *colour,
+            key: *key,
+        };
+        push(rt, book, post(rt, *number, Signature::Split, own, None));
     }
     Ok(())
 }

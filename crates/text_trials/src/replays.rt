@@ -1,9 +1,9 @@
 //! Scripts that are replayed over devices in memory.
 
+use crate::books::expect_texts;
 use crate::scripts::wall;
 use hall_script::*;
 use std::process::Abort;
-use std::test::Fail;
 use wall_labels::memory::{ExpectingSink, Fuse, MemorySource};
 
 // The first of the worked examples, with comments, empty lines, ends of two kinds, and a last line
@@ -91,50 +91,53 @@ fn is_replayed(rt: &(impl AllocGlobal + Abort), case: &Case) -> bool {
     ended == case.fault && sink.is_same && sink.rest.is_empty()
 }
 
-fn whole<'a>(script: &'a [u8], replies: &'a [u8], fault: Option<ScriptFault>) -> Case<'a> {
-    Case {
-        script,
-        replies,
-        reads: Fuse::Whole,
-        writes: Fuse::Whole,
-        fault,
-    }
-}
+// Scripts over devices that don't fail.
+const CASES: &[(&[u8], &[u8], Option<ScriptFault>)] = &[
+    (SCRIPT, REPLIES, None),
+    (MIXED, MIXED_REPLIES, None),
+    (b"", b"", None),
+    (
+        b"take 0 0\n\n#\npst\ntake 0 0\n",
+        b"refused NoSuchRequest\n",
+        Some(ScriptFault::Line(4, LineFault::BadVerb)),
+    ),
+    (
+        b"take 0 0\n\r\r\n",
+        b"refused NoSuchRequest\n",
+        Some(ScriptFault::Line(2, LineFault::BadShape)),
+    ),
+];
 
 #[test]
 fn scripts_are_replayed(rt: HostRuntime) {
-    for (script, replies, fault) in [
-        (SCRIPT, REPLIES, None),
-        (MIXED, MIXED_REPLIES, None),
-        (b"".as_slice(), b"".as_slice(), None),
-        (
-            b"take 0 0\n\n#\npst\ntake 0 0\n".as_slice(),
-            b"refused NoSuchRequest\n".as_slice(),
-            Some(ScriptFault::Line(4, LineFault::BadVerb)),
-        ),
-        (
-            b"take 0 0\n\r\r\n".as_slice(),
-            b"refused NoSuchRequest\n".as_slice(),
-            Some(ScriptFault::Line(2, LineFault::BadShape)),
-        ),
-    ] {
-        assert!(&rt; is_replayed(&rt, &whole(script, replies, fault)));
+    for (script, replies, fault) in CASES {
+        let case = Case {
+            script,
+            replies,
+            reads: Fuse::Whole,
+            writes: Fuse::Whole,
+            fault: *fault,
+        };
+        assert!(&rt; is_replayed(&rt, &case));
     }
 }
 
+// When the reader fails, when the writer, and what is told.
+const FAILING: &[(Fuse, Fuse, ScriptFault)] = &[
+    (Fuse::After(0), Fuse::Whole, ScriptFault::Read),
+    (Fuse::After(1), Fuse::Whole, ScriptFault::Read),
+    (Fuse::Whole, Fuse::After(0), ScriptFault::Write),
+];
+
 #[test]
 fn failing_devices_are_told(rt: HostRuntime) {
-    for (reads, writes, fault) in [
-        (Fuse::After(0), Fuse::Whole, ScriptFault::Read),
-        (Fuse::After(1), Fuse::Whole, ScriptFault::Read),
-        (Fuse::Whole, Fuse::After(0), ScriptFault::Write),
-    ] {
+    for (reads, writes, fault) in FAILING {
         let case = Case {
             script: SCRIPT,
             replies: b"",
-            reads,
-            writes,
-            fault: Some(fault),
+            reads: *reads,
+            writes: *writes,
+            fault: Some(*fault),
         };
         assert!(&rt; is_replayed(&rt, &case));
     }
@@ -170,26 +173,23 @@ fn writers_fail_in_mid_stream(rt: HostRuntime) {
     assert!(&rt; 0 < sink.rest.len() && sink.rest.len() < replies.len());
 }
 
+const SCRIPT_FAULTS: &[(ScriptFault, &str)] = &[
+    (ScriptFault::Read, "read fault"),
+    (
+        ScriptFault::Line(3, LineFault::BadVerb),
+        "script: line 3: BadVerb",
+    ),
+    (ScriptFault::Write, "write fault"),
+    (ScriptFault::NoMemory, "out of memory"),
+];
+
+const DEVICE_FAULTS: &[(DeviceFault, &str)] = &[
+    (DeviceFault::Read, "read fault"),
+    (DeviceFault::NoMemory, "out of memory"),
+];
+
 #[test]
-fn faults_have_their_texts(rt: HostRuntime) -> Result<(), Fail> {
-    for (fault, text) in [
-        (ScriptFault::Read, "read fault"),
-        (
-            ScriptFault::Line(3, LineFault::BadVerb),
-            "script: line 3: BadVerb",
-        ),
-        (ScriptFault::Write, "write fault"),
-        (ScriptFault::NoMemory, "out of memory"),
-    ] {
-        let said = format!(in rt.alloc(); "{fault}")?;
-        assert!(&rt; said.as_str() == text, "{text}");
-    }
-    for (fault, text) in [
-        (DeviceFault::Read, "read fault"),
-        (DeviceFault::NoMemory, "out of memory"),
-    ] {
-        let said = format!(in rt.alloc(); "{fault}")?;
-        assert!(&rt; said.as_str() == text, "{text}");
-    }
-    Ok(())
+fn faults_have_their_texts(rt: HostRuntime) {
+    expect_texts(&rt, SCRIPT_FAULTS);
+    expect_texts(&rt, DEVICE_FAULTS);
 }

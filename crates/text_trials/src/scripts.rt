@@ -15,7 +15,6 @@ use mpi_elems::{Buffer, ElemType};
 use run_model::{Act, Block, Call, Delivery, Integers, Posting, Refusal, Reply, Rule};
 use std::alloc::{AllocError, Global};
 use std::process::Abort;
-use std::test::Fail;
 use wall_labels::memory::{Fuse, MemorySource};
 use wall_labels::{DatasetId, Label, NoMemory, ProcessId};
 use wall_policy::{Policy, read_policy};
@@ -236,79 +235,90 @@ fn is_written_as(alloc: Global, policy: &Policy, reply: &Reply, line: &str) -> b
     is_written && bytes.as_slice() == line.as_bytes()
 }
 
-fn numbers(rt: &impl AllocGlobal, ty: ElemType, numbers: &[i128]) -> Result<Block, NoMemory> {
+// Blocks of a type's numbers, and none for one that is missing.
+const BLOCKS: &[Option<(ElemType, &[i128])>] = &[
+    Some((ElemType::Int8, &[7, -1])),
+    None,
+    Some((ElemType::TwoInt, &[])),
+    Some((ElemType::Int64, &[-9223372036854775808])),
+    Some((ElemType::Uint64, &[18446744073709551615])),
+];
+
+fn block(rt: &(impl AllocGlobal + Abort), ty: ElemType, numbers: &[i128]) -> Block {
     match Buffer::from_numbers(rt.alloc(), ty, numbers) {
-        Ok(buffer) => Ok(Block::Numbers(Integers::from(buffer))),
-        Err(_) => Err(NoMemory),
+        Ok(buffer) => Block::Numbers(Integers::from(buffer)),
+        Err(_) => panic!(rt; "no buffer"),
     }
 }
 
-fn blocks(rt: &impl AllocGlobal) -> Result<Delivery, NoMemory> {
+fn blocks(rt: &(impl AllocGlobal + Abort)) -> Delivery {
     let mut blocks = Vec::new(rt.alloc());
-    blocks.push(numbers(rt, ElemType::Int8, &[7, -1])?)?;
-    blocks.push(Block::Missing)?;
-    blocks.push(numbers(rt, ElemType::TwoInt, &[])?)?;
-    blocks.push(numbers(rt, ElemType::Int64, &[-9223372036854775808])?)?;
-    blocks.push(numbers(rt, ElemType::Uint64, &[18446744073709551615])?)?;
-    Ok(Delivery::from(blocks))
+    for row in BLOCKS {
+        let block = match row {
+            Some((ty, numbers)) => block(rt, *ty, numbers),
+            None => Block::Missing,
+        };
+        assert!(rt; blocks.push(block).is_ok(), "no memory");
+    }
+    Delivery::from(blocks)
+}
+
+// The reply has this line.
+fn expect_line(rt: &(impl AllocGlobal + Abort), reply: Reply, line: &str)
+    requires { (wall : ChineseWall) → 1 < length wall.process_names →
+        0 < length wall.dataset_names → IsKnownReply wall reply }
+{
+    assert!(rt; has_line(rt, reply, line), "{line}");
 }
 
 #[test]
-fn replies_have_their_lines(rt: HostRuntime) -> Result<(), Fail> {
-    let some = blocks(&rt)?;
+fn deliveries_have_their_lines(rt: HostRuntime) {
     let none = Delivery::from(Vec::new(rt.alloc()));
-    assert!(&rt;
-        has_line(
-            &rt,
-            Reply::Posted(18446744073709551615),
-            ">posted 18446744073709551615\n"
-        )
+    expect_line(&rt, Reply::Delivered(none), ">delivered none\n");
+    expect_line(
+        &rt,
+        Reply::Delivered(blocks(&rt)),
+        ">delivered [7 -1] - [] [-9223372036854775808] [18446744073709551615]\n",
     );
-    assert!(&rt; has_line(&rt, Reply::Pending, ">pending\n"));
-    assert!(&rt; has_line(&rt, Reply::Delivered(none), ">delivered none\n"));
-    assert!(&rt;
-        has_line(
-            &rt,
-            Reply::Delivered(some),
-            ">delivered [7 -1] - [] [-9223372036854775808] [18446744073709551615]\n"
-        )
+}
+
+#[test]
+fn replies_have_their_lines(rt: HostRuntime) {
+    expect_line(
+        &rt,
+        Reply::Posted(18446744073709551615),
+        ">posted 18446744073709551615\n",
     );
-    assert!(&rt;
-        has_line(
-            &rt,
-            Reply::NewComm {
-                comm: 2,
-                rank: 1,
-                size: 3
-            },
-            ">comm 2 rank 1 size 3\n"
-        )
+    expect_line(&rt, Reply::Pending, ">pending\n");
+    expect_line(
+        &rt,
+        Reply::NewComm {
+            comm: 2,
+            rank: 1,
+            size: 3,
+        },
+        ">comm 2 rank 1 size 3\n",
     );
-    assert!(&rt; has_line(&rt, Reply::NullComm, ">null\n"));
-    assert!(&rt; has_line(&rt, Reply::NoRoom, ">noroom\n"));
-    assert!(&rt;
-        has_line(
-            &rt,
-            Reply::Info {
-                size: 4,
-                rank: 0,
-                dims: None
-            },
-            ">info size 4 rank 0\n"
-        )
+    expect_line(&rt, Reply::NullComm, ">null\n");
+    expect_line(&rt, Reply::NoRoom, ">noroom\n");
+    expect_line(
+        &rt,
+        Reply::Info {
+            size: 4,
+            rank: 0,
+            dims: None,
+        },
+        ">info size 4 rank 0\n",
     );
-    assert!(&rt;
-        has_line(
-            &rt,
-            Reply::Info {
-                size: 4,
-                rank: 3,
-                dims: Some(2)
-            },
-            ">info size 4 rank 3 dims 2\n"
-        )
+    expect_line(
+        &rt,
+        Reply::Info {
+            size: 4,
+            rank: 3,
+            dims: Some(2),
+        },
+        ">info size 4 rank 3 dims 2\n",
     );
-    Ok(())
 }
 
 #[test]

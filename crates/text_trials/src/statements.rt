@@ -1,31 +1,47 @@
 //! Statements as scripts and books spell them, and words that are refused.
 
+use crate::books::expect_texts;
+use coll_routes::{Own, Signature};
 use coll_text::*;
 use mpi_elems::{Buffer, ElemType};
-use std::alloc::Global;
 use std::process::Abort;
-use std::test::Fail;
-use wall_labels::NoMemory;
 
 // Whether the line is read whole, and written again as it was.
 fn is_spelled(rt: &(impl AllocGlobal + Abort), line: &str) -> bool {
     let mut words = Parts::new(line.as_bytes(), b' ');
-    let Ok((sig, own)) = next_statement(rt.alloc(), &mut words) else {
-        return false;
-    };
-    if end_of(&mut words).is_err() {
-        return false;
+    match next_statement(rt.alloc(), &mut words) {
+        Ok((sig, own)) => {
+            let is_so = end_of(&mut words).is_ok() && is_put_as(rt, &sig, &own, line);
+            drop(sig);
+            drop(own);
+            is_so
+        }
+        Err(_) => false,
     }
-    let mut text = Vec::new(rt.alloc());
-    if write_statement(&sig, &own, &mut text).is_err() {
-        return false;
-    }
-    text.as_slice() == line.as_bytes()
 }
 
-fn fault_of(rt: &(impl AllocGlobal + Abort), line: &str) -> Option<LineFault> {
+// Whether the statement is written as the line.
+fn is_put_as(rt: &impl AllocGlobal, sig: &Signature, own: &Own, line: &str) -> bool {
+    let mut text = Vec::new(rt.alloc());
+    let is_put = write_statement(sig, own, &mut text).is_ok();
+    is_put && text.as_slice() == line.as_bytes()
+}
+
+// The fault of the next words, none where they are a statement.
+fn next_fault(rt: &impl AllocGlobal, words: &mut Parts) -> Option<LineFault> {
+    match next_statement(rt.alloc(), words) {
+        Ok((sig, own)) => {
+            drop(sig);
+            drop(own);
+            None
+        }
+        Err(fault) => Some(fault),
+    }
+}
+
+fn fault_of(rt: &impl AllocGlobal, line: &str) -> Option<LineFault> {
     let mut words = Parts::new(line.as_bytes(), b' ');
-    next_statement(rt.alloc(), &mut words).err()
+    next_fault(rt, &mut words)
 }
 
 const STATEMENTS: &[&str] = &[
@@ -107,17 +123,15 @@ fn words_have_their_first_fault(rt: HostRuntime) {
 }
 
 #[test]
-fn what_is_behind_a_statement_is_left(rt: HostRuntime) -> Result<(), Fail> {
+fn what_is_behind_a_statement_is_left(rt: HostRuntime) {
     let mut words = Parts::new(b"gatherv 3 int32 gives 1 18446744073709551615", b' ');
-    let read = next_statement(rt.alloc(), &mut words).is_ok();
-    assert!(rt; read);
+    assert!(rt; next_fault(&rt, &mut words).is_none());
     assert!(rt; next_word(&mut words) == Ok(b"gives".as_slice()));
     assert!(rt; next_number32(&mut words) == Ok(1));
     assert!(rt; next_number(&mut words, u64::MAX) == Ok(u64::MAX));
     assert!(rt; end_of(&mut words).is_ok());
     assert!(rt; signed(b"-128", 127, 128) == Some(-128));
     assert!(rt; are_printable(b" ~") && !are_printable(b"\t"));
-    Ok(())
 }
 
 const NAMES: &[(LineFault, &str)] = &[
@@ -134,12 +148,8 @@ const NAMES: &[(LineFault, &str)] = &[
 ];
 
 #[test]
-fn faults_have_their_names(rt: HostRuntime) -> Result<(), Fail> {
-    for (fault, name) in NAMES {
-        let said = format!(in rt.alloc(); "{fault}")?;
-        assert!(&rt; said.as_str() == *name, "{name}");
-    }
-    Ok(())
+fn faults_have_their_names(rt: HostRuntime) {
+    expect_texts(&rt, NAMES);
 }
 
 // Numbers of one digit and of all their digits, below 0 and above.
@@ -185,37 +195,51 @@ fn numbers_are_read(rt: HostRuntime) {
     }
 }
 
-// Whether so many numbers from -33 on are written as they are read.
-fn batch_is_read_again(alloc: Global, count: u8) -> Result<bool, Fail> {
-    let mut numbers = Vec::new(alloc);
-    for n in 0..count {
-        numbers.push(i128::from(n) - 33)?;
-    }
-    let Ok(buffer) = Buffer::from_numbers(alloc, ElemType::Int8, &numbers) else {
-        return Ok(false);
-    };
-    let mut text = Vec::new(alloc);
-    put_spaced(&mut text, &buffer, 0)?;
-    let mut parts = Parts::new(&text, b' ');
+// Whether these numbers stand in the text, each behind a space.
+fn are_spaced(numbers: &[i128], text: &[u8]) -> bool {
+    let mut parts = Parts::new(text, b' ');
     if parts.next() != Some(b"".as_slice()) {
-        return Ok(false);
+        return false;
     }
-    for n in &numbers {
+    for n in numbers {
         let Some((_, Some(read))) = parts.next_signed() else {
-            return Ok(false);
+            return false;
         };
         if read != *n {
-            return Ok(false);
+            return false;
         }
     }
-    Ok(parts.next().is_none())
+    parts.next().is_none()
 }
+
+// So many numbers from -33 on.
+fn batch(rt: &(impl AllocGlobal + Abort), count: u8) -> Vec<i128> {
+    let mut numbers = Vec::new(rt.alloc());
+    for n in 0..count {
+        let number = i128::from(n) - 33;
+        assert!(rt; numbers.push(number).is_ok(), "no memory");
+    }
+    numbers
+}
+
+// Whether the numbers are written as they are read.
+fn are_read_again(rt: &(impl AllocGlobal + Abort), numbers: &[i128]) -> bool {
+    let Ok(buffer) = Buffer::from_numbers(rt.alloc(), ElemType::Int8, numbers) else {
+        return false;
+    };
+    let mut text = Vec::new(rt.alloc());
+    let is_put = put_spaced(&mut text, &buffer, 0).is_ok();
+    drop(buffer);
+    is_put && are_spaced(numbers, &text)
+}
+
+const COUNTS: &[u8] = &[0, 1, 2, 31, 32, 33, 63, 64, 65, 66];
 
 // Batches of all sizes round one's end.
 #[test]
-fn batches_are_read_again(rt: HostRuntime) -> Result<(), Fail> {
-    for count in [0, 1, 2, 31, 32, 33, 63, 64, 65, 66] {
-        assert!(&rt; batch_is_read_again(rt.alloc(), count)?, "{count}");
+fn batches_are_read_again(rt: HostRuntime) {
+    for count in COUNTS {
+        let numbers = batch(&rt, *count);
+        assert!(&rt; are_read_again(&rt, &numbers), "{count}");
     }
-    Ok(())
 }
