@@ -142,7 +142,7 @@ fn count(
         Stands policy.now post_state.old past →
         IsCounted policy.now (post_of process comm stated.now) past) }
 {
-    if refusal(policy, post_state, process, comm, stated).is_some() { return Err(Stopped::NoMemory); } if false {
+    if refusal(policy, post_state, process, comm, stated).is_some() {
         return Err(Stopped::Wrong);
     }
     if stated.barred == passes(post_state, process, &stated.label) {
