@@ -1,14 +1,12 @@
 -- The lines of entries are read again.
-use Rattle.std.proofs.Common.{◌≡◌, ℕ, nat_eq, ◌^◌, ◌<◌, ◌≤◌, Bool, true, false, not, cond, ◌&&◌}
+use Rattle.std.proofs.Common.{◌≡◌, ℕ, nat_eq, ◌<◌, ◌≤◌, Bool, true, false, cond, ◌&&◌}
 use Rattle.std.proofs.Common.{◌||◌, eqb, leb, ltb, length, List, [], ◌∷◌, ◌++◌, All, Option, Some}
 use Rattle.std.proofs.Common.{None, slice_get, Ok, codes, refl, sym, ap, ◌∙◌, arith}
 use Rattle.std.specs.Option.{is_none, is_some}
 use Rattle.std.specs.List.{list_all, join_with_byte}
-use Rattle.std.specs.Str.{bytes_eq}
 use Rattle.std.specs.Fmt.{decimal}
 use Rattle.std.proofs.lemmas.Bool.{and_parts, and_from, leb-true, ltb-true, lt-ltb, ne_eqb}
 use Rattle.std.proofs.lemmas.Bool.{eqb-true}
-use Rattle.std.proofs.lemmas.Fmt.{decimal_nonempty}
 use Rattle.std.proofs.lemmas.List.{append-nil}
 use Rattle.std.proofs.lemmas.List.Elements.{All-nil, All-cons}
 use Rattle.std.proofs.lemmas.List.Splits.{slice_split_none, slice_split_at}
@@ -16,7 +14,7 @@ use Rattle.std.proofs.lemmas.Option.{slice_get-get_or, unwrap_or-slice_get}
 use Rattle.wall_labels.specs.declared.label.Label.{Label}
 use Rattle.wall_labels.specs.declared.label.Label.TheVariants.{Public, Of}
 use Rattle.wall_policy.specs.Names.{Name, is_letter, is_digit as is_name_digit, is_name_byte}
-use Rattle.wall_policy.specs.Names.{is_name, is_dataset_name, place_of}
+use Rattle.wall_policy.specs.Names.{is_name, place_of}
 use Rattle.wall_policy.specs.Policy.{ChineseWall, IsPolicy}
 use Rattle.wall_policy.proofs.WallPolicyLemmas.{place_of-name, list_all-place}
 use Rattle.wall_verdict.specs.declared.verdict.Rule.{Rule}
@@ -29,7 +27,7 @@ use Rattle.run_model.specs.declared.entry.Entry.TheVariants.{Posted, Settled}
 use Rattle.coll_text.specs.Numbers.{Word}
 use Rattle.coll_text.specs.Reading.{parts}
 use Rattle.coll_text.specs.Spellings.{statement_words, is_solid}
-use Rattle.coll_text.proofs.CollTextLemmas.{decimal_is_number, positive, statement_again}
+use Rattle.coll_text.proofs.CollTextLemmas.{decimal_is_number, statement_again}
 use Rattle.coll_text.proofs.CollTextLemmas.{decimal_solid, statement_solid, all_joint, name_at_of}
 use Rattle.coll_text.proofs.CollTextLemmas.{decimal_some, name_some, label_some, label_again}
 use Rattle.audit_book.specs.declared.line.Line.TheVariants.{Said, End}

@@ -1,11 +1,9 @@
 -- What is read has the form of a book's entries.
-use Rattle.std.proofs.Common.{◌≡◌, ℕ, Bool, true, Option, refl}
+use Rattle.std.proofs.Common.{◌≡◌, ℕ, Bool, true, Option}
 use Rattle.std.proofs.lemmas.Bool.{and_from}
 use Rattle.wall_labels.specs.declared.label.Label.{Label}
 use Rattle.coll_routes.specs.declared.signature.Signature.{Signature}
-use Rattle.coll_routes.specs.declared.signature.Signature.TheVariants as signatures
 use Rattle.coll_routes.specs.declared.statement.Own.{Own}
-use Rattle.coll_routes.specs.declared.statement.Own.TheVariants as owns
 use Rattle.coll_routes.specs.Signatures.{kind}
 use Rattle.run_model.specs.declared.entry.Entry.TheVariants.{Posted}
 use Rattle.run_model.specs.EntryForms.{is_formed, HasForm}

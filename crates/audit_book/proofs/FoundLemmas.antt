@@ -1,14 +1,12 @@
 -- Lines that are read are spelled so.
-use Rattle.std.proofs.Common.{◌≡◌, ℕ, suc, ◌+◌, ◌^◌, ◌<◌, Bool, true, false, cond, eqb, ltb, length}
-use Rattle.std.proofs.Common.{List, [], ◌∷◌, ◌++◌, Option, Some, None, option_map, slice_get}
-use Rattle.std.proofs.Common.{unwrap_or, Result, Ok, Err, codes, refl, sym, ap, ◌∙◌, arith}
-use Rattle.std.specs.List.{position_from}
+use Rattle.std.proofs.Common.{◌≡◌, ℕ, ◌^◌, ◌<◌, Bool, true, false, cond, eqb, ltb, length}
+use Rattle.std.proofs.Common.{List, [], ◌∷◌, ◌++◌, Option, Some, None}
+use Rattle.std.proofs.Common.{Result, Ok, Err, codes, refl, sym, ap, ◌∙◌, arith}
 use Rattle.std.specs.Str.{bytes_eq}
 use Rattle.std.specs.Fmt.{decimal}
 use Rattle.std.proofs.lemmas.List.{append-nil}
 use Rattle.std.proofs.lemmas.Slice.Eq.{bytes_eq-Decides}
 use Rattle.wall_labels.specs.declared.label.Label.{Label}
-use Rattle.wall_labels.specs.declared.label.Label.TheVariants.{Public, Of}
 use Rattle.wall_policy.specs.Names.{place_of}
 use Rattle.wall_policy.specs.Policy.{ChineseWall}
 use Rattle.wall_verdict.specs.declared.verdict.Rule.{Rule}
@@ -18,7 +16,6 @@ use Rattle.run_model.specs.declared.entry.Entry.{Entry}
 use Rattle.run_model.specs.declared.entry.Entry.TheVariants.{Posted, Settled}
 use Rattle.coll_text.specs.declared.fault.LineFault.{LineFault}
 use Rattle.coll_text.specs.declared.fault.LineFault.TheVariants.{BadVerb, BadShape, BadField}
-use Rattle.coll_text.specs.declared.fault.LineFault.TheVariants.{BadLabel}
 use Rattle.coll_text.specs.Numbers.{Word, number_within}
 use Rattle.coll_text.specs.Reading.{◌>>=◌, some_or, word_at, number_up_to, number_at, ended}
 use Rattle.coll_text.specs.Fields.{statement_at}

@@ -10,7 +10,7 @@ use Rattle.wall_policy.specs.Policy.{ChineseWall}
 use Rattle.coll_routes.specs.declared.statement.Stated.{Stated}
 use Rattle.run_model.specs.declared.entry.Entry.{Entry}
 use Rattle.run_model.specs.declared.entry.Entry.TheVariants.{Posted, Settled}
-use Rattle.run_model.specs.Posts.{Post, outcome}
+use Rattle.run_model.specs.Posts.{outcome}
 use Rattle.run_model.specs.Books.{outcome_entry, entries_for, book, posts_in, IsCounted, AreCounted}
 use Rattle.run_model.specs.Books.{IsSound, Begins, IsFirstBad}
 use Rattle.run_state.specs.Views.{PostStateValue}

@@ -1,6 +1,6 @@
 -- The text of a book is read again, and each proper front of it is cut.
 use Rattle.std.proofs.Common.{◌≡◌, ℕ, zero, suc, ◌+◌, ◌<◌, ◌≤◌, eqb, ltb, true, List, [], ◌∷◌, ◌++◌}
-use Rattle.std.proofs.Common.{length, take, codes, Result, Ok, Err, inl, inr, ◌⊎◌, refl, sym, ap}
+use Rattle.std.proofs.Common.{length, take, Result, Ok, Err, inl, inr, ◌⊎◌, refl, sym, ap}
 use Rattle.std.proofs.Common.{◌∙◌, append_assoc, arith, eq-eqb}
 use Rattle.std.specs.List.{AllByRecursion, join_with_byte}
 use Rattle.std.specs.Str.{bytes_eq}

@@ -1,10 +1,8 @@
 -- The lines of posts, piece by piece.
-use Rattle.std.proofs.Common.{◌≡◌, ℕ, Bool, List, [], ◌∷◌, ◌++◌, Option, codes, sym, ap, ◌∙◌}
+use Rattle.std.proofs.Common.{◌≡◌, ℕ, List, [], ◌∷◌, ◌++◌, codes, sym, ap, ◌∙◌}
 use Rattle.std.proofs.Common.{append_assoc}
 use Rattle.std.specs.Fmt.{decimal}
 use Rattle.std.proofs.lemmas.Grind.{flat_map-append}
-use Rattle.std.proofs.lemmas.List.{append-nil}
-use Rattle.wall_labels.specs.declared.label.Label.{Label}
 use Rattle.wall_policy.specs.Policy.{ChineseWall}
 use Rattle.coll_routes.specs.Kinds.{kind_name}
 use Rattle.coll_routes.specs.Signatures.{kind}
@@ -16,7 +14,7 @@ use Rattle.coll_text.specs.Spaced.{behind_each}
 use Rattle.coll_text.specs.Spellings.{words_of, statement_words, statement_text}
 use Rattle.coll_text.specs.Table.{forms_of, fields_of}
 use Rattle.coll_text.proofs.CollTextLemmas.{join_cons}
-use Rattle.audit_book.specs.Text.{given_word, passage_word, given_words, given_end, post_words}
+use Rattle.audit_book.specs.Text.{given_words, given_end, post_words}
 use Rattle.audit_book.specs.Text.{line_of}
 
 -- a line is its first word, and the others behind spaces

@@ -1,11 +1,5 @@
 -- Why a book was not written.
-use Rattle.std.specs.Prelude.{◌≡◌, ℕ, ◌+◌, ◌<◌, length, Option, Some, None}
-use Rattle.wall_labels.specs.declared.label.Label.{Label}
-use Rattle.wall_policy.specs.Policy.{ChineseWall}
-use Rattle.run_model.specs.declared.outcome.Outcome.{Outcome}
-use Rattle.run_model.specs.declared.outcome.Outcome.TheVariants.{Denied}
-use Rattle.run_model.specs.declared.entry.Entry.{Entry}
-use Rattle.run_model.specs.declared.entry.Entry.TheVariants.{Posted, Settled}
+use Rattle.std.specs.Prelude.{◌≡◌, ℕ, ◌+◌}
 use Rattle.audit_book.specs.declared.fault.WriteFault.{WriteFault}
 use Rattle.audit_book.specs.declared.fault.WriteFault.TheVariants.{Write, NoMemory}
 

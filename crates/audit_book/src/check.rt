@@ -29,8 +29,9 @@ use wall_policy::Policy;
 /// that the post before it fills.
 ///
 /// An entry costs a few look-ups and a copy of its statement; that of a last member also the
-/// verdict, over the members and what goes to each, or the new communicators. Nothing goes over the entries before it, so the time is linear in
-/// their number. Memory is taken for the communicators and for the instances that wait.
+/// verdict, over the members and what goes to each, or the new communicators. Nothing goes over the
+/// entries before it, so the time is linear in their number. Memory is taken for the communicators
+/// and for the instances that wait.
 ///
 /// What is found sound keeps the wall: before each entry and after the last, no process held two
 /// rivals, directly or through others.

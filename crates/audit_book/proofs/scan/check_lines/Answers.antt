@@ -1,4 +1,4 @@
-use Rattle.std.proofs.Common.{Err, ◌∷◌, ◌+◌, ◌≡◌, length, ap, sym, ◌∙◌, arith}
+use Rattle.std.proofs.Common.{Err, ◌∷◌, length, ap, arith}
 use Rattle.audit_book.specs.Reading.{entries_in}
 use Rattle.audit_book.specs.LineChecks.{text_told}
 use Rattle.audit_book.proofs.ScanLemmas.{scan_goes_on, scan_ends, scan_other_end, scan_stops}
