@@ -1,6 +1,6 @@
 -- Requests, counted by communicators.
-use Rattle.std.proofs.Common.{◌≡◌, ◌≢◌, ℕ, suc, ◌+◌, ◌<◌, ◌≤◌, List, [], ◌∷◌, ◌++◌, length, take}
-use Rattle.std.proofs.Common.{set, get_or, refl, sym, ap, subst, ◌∙◌, arith, eq-eqb, ne_eqb}
+use Rattle.std.proofs.Common.{◌≡◌, ◌≢◌, ℕ, ◌+◌, ◌<◌, ◌≤◌, List, [], ◌∷◌, ◌++◌, length, take}
+use Rattle.std.proofs.Common.{min, set, get_or, refl, sym, ap, subst, ◌∙◌, arith, eq-eqb, ne_eqb}
 use Rattle.std.proofs.Common.{length-append}
 use native.Mathlib.Decide.{ℕ_discrete}
 use Rattle.std.specs.List.{count_by}
@@ -8,10 +8,24 @@ use Rattle.std.proofs.lemmas.List.{take-append-le, get_or-set_same, get_or-set_o
 use Rattle.std.proofs.lemmas.List.Sums.{sum_by-append}
 use Rattle.std.proofs.Math.Seq.{take-append_seam, get_or-append_seam}
 use Rattle.std.proofs.Math.ListN.{get_or-append}
-use Rattle.std.proofs.lemmas.Bool.{cases_lt}
-use Rattle.std.specs.Prelude.{slice_index_or, nat_eq, cond}
+use Rattle.std.specs.Prelude.{nat_eq, cond}
 use Rattle.rank_stage.specs.declared.board.Instance.{Instance}
-use Rattle.rank_run.specs.Asked.{AreCounted, CountsAll, on_comm, no_instance}
+use Rattle.mpi_comm.specs.declared.table.TheConstants.{COMMUNICATOR_LIMIT}
+use Rattle.run_model.specs.declared.call.Act.{Act}
+use Rattle.run_model.specs.declared.call.Act.TheVariants.{Post, Take, Info}
+use Rattle.rank_run.specs.Asked.{AreCounted, CountsAll, on_comm, no_instance, PostsBelow, HasPlace}
+
+-- what is posted on below a number is so below a larger one
+pub below_more : (old new : ℕ) → old ≤ new → (act : Act) → PostsBelow old act → PostsBelow new act
+below_more old new le (Post posting) h = omega arith
+below_more old new le (Take request) h = tt
+below_more old new le (Info comm) h = tt
+
+pub has_place : (number places : ℕ) → min number COMMUNICATOR_LIMIT ≤ places
+    → (act : Act) → PostsBelow number act → HasPlace places act
+has_place number places le (Post posting) h = λ low. omega arith
+has_place number places le (Take request) h = tt
+has_place number places le (Info comm) h = tt
 
 -- one request more
 more_by : (comm : ℕ) (all : List Instance) (it : Instance)

@@ -5,7 +5,6 @@ use Rattle.std.proofs.Common.{List, [], ◌∷◌, ◌++◌, length, map, take, 
 use Rattle.std.proofs.Common.{vec_items, vec_capacity, Global, refl, sym, ap, subst, subst₂}
 use Rattle.std.proofs.Common.{◌∙◌, arith}
 use Rattle.std.specs.List.{All, sum_by}
-use Rattle.std.specs.Global.{Vec}
 use Rattle.std.proofs.Math.Nat.{mul-le-mul_left, mul-add}
 use Rattle.std.proofs.lemmas.List.{get_or-map, length-map, length-reverse, map-append}
 use Rattle.std.proofs.lemmas.List.Elements.{All-push}

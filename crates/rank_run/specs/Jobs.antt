@@ -1,6 +1,7 @@
 -- What the thread of a process is given, and what it comes to. (Own rules.)
-use Rattle.std.specs.Prelude.{◌≡◌, ℕ, ◌+◌, ◌*◌, ◌^◌, ◌<◌, ◌≤◌, Bool, true, false, if◌then◌else◌}
-use Rattle.std.specs.Prelude.{List, [], ◌++◌, length, map, reverse, vec_capacity}
+use Rattle.std.specs.Prelude.{◌≡◌, ℕ, ◌*◌, ◌^◌, ◌<◌, ◌≤◌, Bool, true, false, if◌then◌else◌}
+use Rattle.std.specs.Prelude.{Option, Some, None, List, [], ◌++◌, length, map, reverse}
+use Rattle.std.specs.Prelude.{vec_capacity}
 use Rattle.std.specs.List.{All, AllZip, list_all, list_any}
 use Rattle.std.specs.Global.{Vec}
 use Rattle.std.specs.declared.thread.PromisedHandle.{PromisedHandle}
@@ -12,7 +13,11 @@ use Rattle.hall_turn.specs.declared.answer.Answer.{Answer}
 use Rattle.hall_turn.specs.declared.answer.Answer.TheVariants.{Reply as Replied, Exhausted}
 use Rattle.hall_turn.specs.Runs.{calls_of}
 use Rattle.hall_turn.specs.Known.{Doorway, Known}
-use Rattle.hall_turn.specs.Answers.{IsSamePass}
+use Rattle.wall_policy.specs.Policy.{ChineseWall}
+use Rattle.run_model.specs.Comms.{processes}
+use Rattle.hall_turn.specs.Answers.{IsSamePass, new_passes}
+use Rattle.rank_run.specs.declared.fault.RunFault.{RunFault}
+use Rattle.rank_run.specs.declared.fault.RunFault.TheVariants.{Exhausted as OutOfTurns, NoThread}
 use Rattle.rank_run.specs.declared.rank.Job.{Job}
 use Rattle.rank_run.specs.declared.rank.Ending.{Ending}
 use Rattle.rank_run.specs.declared.rank.Ending.TheVariants.{Whole, Cut, NotBegun}
@@ -77,6 +82,14 @@ HasRoom job = (job.replies.items ≡ []) × (length job.script.items ≤ vec_cap
 abbrev pub HaveRoom : List Job → Type 0
 HaveRoom jobs = All HasRoom jobs
 
+-- A door with the policy, and a job for each of its passes, with the scripts, in order.
+pub record ArePrepared (wall : ChineseWall) (scripts : List (List Act)) (door : Doorway)
+    (jobs : List Job) : Type 0 where
+  pub policy : door.policy ≡ wall
+  pub passes : passes_of jobs ≡ new_passes door (processes wall)
+  pub scripts_are : scripts_of jobs ≡ scripts
+  pub room : HaveRoom jobs
+
 -- what the threads were given
 abbrev pub handed : List (PromisedHandle Played Playing) → List Job
 handed handles = map (λ handle. handle.promise.0.value) handles
@@ -96,6 +109,12 @@ abbrev pub is_cut : Ending → Bool
 is_cut Whole = false
 is_cut Cut = true
 is_cut NotBegun = false
+
+-- what a run answers that ended so; none where all acts were played
+abbrev pub fault_of : Ending → Option RunFault
+fault_of Whole = None
+fault_of Cut = Some OutOfTurns
+fault_of NotBegun = Some NoThread
 
 -- whether each job was played to its end
 abbrev pub are_whole : List Played → Bool

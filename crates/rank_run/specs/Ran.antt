@@ -8,7 +8,7 @@ use Rattle.run_model.specs.declared.reply.Reply.{Reply}
 use Rattle.run_model.specs.Runs.{Entry}
 use Rattle.run_model.specs.Replies.{Legal}
 use Rattle.hall_core.specs.Halls.{HallValue, StandsFor}
-use Rattle.run_model.specs.Known.{HasKnownLabel, IsKnownReply}
+use Rattle.run_model.specs.Known.{IsKnownReply}
 use Rattle.hall_turn.specs.Runs.{calls_of}
 use Rattle.rank_run.specs.Waits.{tries}
 use Rattle.rank_run.specs.Plays.{Plays}

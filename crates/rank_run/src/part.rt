@@ -4,7 +4,7 @@ use crate::gate::Gate;
 use crate::requests::Requests;
 use crate::waiting::Pause;
 use hall_core::{Claim, Reply};
-use rank_stage::Stage;
+use rank_stage::{Aside, Role, Stage};
 use std::sync::Wait;
 
 /// What the ranks of a run share, beside the door.
@@ -14,15 +14,16 @@ pub(crate) struct Setting<'r, G> {
     pub(crate) stage: &'r Stage,
 }
 
-/// A rank: the gate under the number of its call, and its place on the stage.
-#[derive(Drop)]
+/// A rank that has begun: the gate under the number of its call, and its place on the stage. It
+/// has no `Drop`: it ends by [`Part::end`].
 pub(crate) struct Part<'r, G> {
-    pub(crate) gate: &'r G,
-    pub(crate) stage: &'r Stage,
-    pub(crate) process: u32,
+    gate: &'r G,
+    stage: &'r Stage,
+    role: Role,
+    process: u32,
     /// The number of its call, in its script.
     pub(crate) number: u64,
-    pub(crate) requests: Requests,
+    requests: Requests,
 }
 
 // A delivery is large if so many elements were given to its instance.
@@ -41,29 +42,39 @@ fn is_large(claim: &Claim) -> bool {
 }
 
 impl<'r, G: Gate> Part<'r, G> {
-    pub(crate) fn new(
+    /// It begins, as soon as it may. None if the run was given up: then it makes no call.
+    pub(crate) fn begin<R: Wait>(
+        rt: &R,
         gate: &'r G,
         stage: &'r Stage,
         process: u32,
         requests: Requests,
-    ) -> Part<'r, G> {
-        Part {
+    ) -> Option<Part<'r, G>> {
+        let Some(role) = stage.begin(rt, process as usize) else {
+            return None;
+        };
+        Some(Part {
             gate,
             stage,
+            role,
             process,
             number: 0,
             requests,
-        }
-    }
-
-    /// It begins, as soon as it may. False if the run was given up: then it makes no call.
-    pub(crate) fn begin<R: Wait>(&self, rt: &R) -> bool {
-        self.stage.begin(rt, self.process as usize)
+        })
     }
 
     /// It has ended.
-    pub(crate) fn end<R: Wait>(&self, rt: &R) {
-        self.stage.end(rt, self.process as usize);
+    pub(crate) fn end<R: Wait>(self, rt: &R) {
+        let Part {
+            gate: _,
+            stage,
+            role,
+            process: _,
+            number: _,
+            requests,
+        } = self;
+        drop(requests);
+        stage.end(rt, role);
     }
 
     /// Before its call.
@@ -90,41 +101,31 @@ impl<'r, G: Gate> Part<'r, G> {
     }
 }
 
-impl<'r, G: Gate> Gate for Part<'r, G> {
-    fn before_call<R: Wait>(&self, rt: &R, process: u32, _number: u64) {
-        self.gate.before_call(rt, process, self.number);
-    }
-
-    fn computing<R: Wait>(&self, rt: &R, process: u32, _number: u64) {
-        self.gate.computing(rt, process, self.number);
-    }
-
-    fn answered<R: Wait>(&self, rt: &R, process: u32, _number: u64, reply: &Reply) {
-        self.gate.answered(rt, process, self.number, reply);
-    }
-
-    fn holds(&self) -> bool {
-        self.gate.holds()
-    }
-}
-
 impl<'r, G: Gate> Pause for Part<'r, G> {
+    type Left = Option<Aside>;
+
     fn rest<R: Wait>(&self, rt: &R, request: u64, _tried: u64) -> bool {
         match self.requests.instance_of(request) {
-            Some(instance) => self.stage.sleep(rt, self.process as usize, instance),
+            Some(instance) => self.stage.sleep(rt, &self.role, instance),
             None => true,
         }
     }
 
-    fn step_aside<R: Wait>(&self, rt: &R, claim: &Claim) -> bool {
+    fn step_aside<R: Wait>(&self, rt: &R, claim: &Claim) -> Option<Aside> {
         if !is_large(claim) {
-            return false;
+            return None;
         }
-        self.stage.step_aside(rt, self.process as usize);
-        true
+        Some(self.stage.step_aside(rt, &self.role))
     }
 
-    fn step_back<R: Wait>(&self, rt: &R) {
-        self.stage.step_back(rt, self.process as usize);
+    fn computing<R: Wait>(&self, rt: &R) {
+        self.gate.computing(rt, self.process, self.number);
+    }
+
+    fn step_back<R: Wait>(&self, rt: &R, left: Option<Aside>) {
+        match left {
+            Some(aside) => self.stage.step_back(rt, aside),
+            None => {}
+        }
     }
 }

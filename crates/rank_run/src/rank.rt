@@ -3,8 +3,9 @@ ghost use Rattle.std.specs.Prelude.{◌≡◌};
 ghost use Rattle.run_model.specs.Known.{HasKnownLabel};
 ghost use Rattle.hall_turn.specs.Answers.{IsSamePass, NamesKnown};
 ghost use Rattle.rank_run.specs.declared.waiting.TheConstants.{PATIENCE};
-ghost use Rattle.rank_run.specs.Jobs.{Performed, IsFresh, HasPlayed, is_whole, is_cut};
+ghost use Rattle.rank_run.specs.Jobs.{Performed, IsFresh, HasPlayed, is_whole, is_cut, fault_of};
 
+use crate::fault::RunFault;
 use crate::gate::Gate;
 use crate::part::Part;
 use crate::requests::{Requests, comm_of};
@@ -51,6 +52,17 @@ impl Ending {
         match self {
             Ending::Cut => true,
             Ending::Whole | Ending::NotBegun => false,
+        }
+    }
+
+    /// What a run answers that ended so; none where all acts were played.
+    pub(crate) fn fault(&self) -> Option<RunFault>
+        ensures { result ≡ fault_of self.now }
+    {
+        match self {
+            Ending::Whole => None,
+            Ending::Cut => Some(RunFault::Exhausted),
+            Ending::NotBegun => Some(RunFault::NoThread),
         }
     }
 }
@@ -126,15 +138,14 @@ pub(crate) fn play<R: Wait, G: Gate>(
         mut replies,
         requests,
     } = job;
-    let mut part = Part::new(gate, stage, pass.process(), requests);
-    if !part.begin(rt) {
+    let Some(mut part) = Part::begin(rt, gate, stage, pass.process(), requests) else {
         let ending = Ending::NotBegun;
         return Played {
             pass,
             replies,
             ending,
         };
-    }
+    };
     for act in script {
         part.number = replies.len() as u64;
         let Answer::Reply(reply) = play_act(rt, door, &mut pass, act, &mut part) else {

@@ -1,13 +1,16 @@
 //! All scripts at the same time.
 ghost use Rattle.std.specs.Prelude.{◌≡◌, ◌≢◌, ◌↔◌, [], ◌≤◌, IfOk, IfErr, length, vec_len};
-ghost use Rattle.std.specs.Prelude.{vec_capacity};
+ghost use Rattle.std.specs.Prelude.{vec_capacity, vec_items, map, true, Some};
 ghost use Rattle.std.specs.List.{All};
 ghost use Rattle.run_model.specs.Comms.{processes};
 ghost use Rattle.rank_run.specs.declared.fault.RunFault.TheVariants.{BadScripts, Exhausted};
 ghost use Rattle.rank_run.specs.declared.waiting.TheConstants.{PATIENCE};
 ghost use Rattle.rank_run.specs.Jobs.{IsFresh, HasPlayed, HaveRoom, AllPlayed, HaveEnded, handed};
 ghost use Rattle.rank_run.specs.Jobs.{passes_of, scripts_of, passes_in, replies_in};
-ghost use Rattle.rank_run.specs.Jobs.{are_whole, has_cut, ending_of};
+ghost use Rattle.rank_run.specs.Jobs.{are_whole, has_cut, ending_of, fault_of, ArePrepared};
+ghost use Rattle.hall_core.specs.Halls.{HallValue};
+ghost use Rattle.hall_turn.specs.Ending.{Closed};
+ghost use Rattle.rank_run.specs.declared.rank.Ending.TheVariants.{Whole};
 ghost use Rattle.rank_run.specs.Ran.{Ran, MayRunOut};
 ghost use Rattle.rank_run.specs.Waits.{script_patience};
 ghost use Rattle.run_model.specs.Known.{ScriptsHaveKnownLabels};
@@ -151,8 +154,31 @@ fn sort_out(ended: Vec<Played>, mut passes: Passes, mut replies: Vec<Vec<Reply>>
     }
 }
 
-// A thread for each job, and the start when all have one. Where a thread is refused, the others are
-// told to give up. All have ended, and are joined, when it returns.
+// The ranks begin if all have their threads, or go home. All have ended, and are joined, when it
+// returns.
+fn end_all<R: Threads>(
+    rt: &R,
+    stage: &Stage,
+    all_started: bool,
+    handles: Vec<PromisedHandle<Played, Playing>>,
+    ended: Vec<Played>,
+) -> Result<Vec<Played>, ThreadRefused>
+    requires { (ended.items ≡ []) × (vec_len handles ≤ vec_capacity ended) }
+    ensures played { IfOk result (λ v. AllPlayed PATIENCE (handed handles.items) v.items) }
+    ensures len { IfOk result (λ v. vec_len v ≡ vec_len handles) }
+    ensures refused { IfOk result (λ _. all_started ≡ true) }
+{
+    let begin = stage.release(all_started);
+    let ended = join_all(rt, handles, ended);
+    if begin {
+        Ok(ended)
+    } else {
+        drop(ended);
+        Err(ThreadRefused)
+    }
+}
+
+// A thread for each job, as far as none is refused.
 fn run_each<R: Threads + Wait + Sync, G: Gate + Sync>(
     rt: &R,
     door: &Door,
@@ -187,14 +213,11 @@ fn run_each<R: Threads + Wait + Sync, G: Gate + Sync>(
                         ensures { HasPlayed PATIENCE job result }
                     { play(rt, door, job, gate, stage) },
                 ) else {
-                    stage.give_up();
-                    let _ended = join_all(rt, handles, ended);
-                    return Err(ThreadRefused);
+                    return end_all(rt, stage, false, handles, ended);
                 };
                 handles.push_reserved(handle);
             }
-            stage.start();
-            Ok(join_all(rt, handles, ended))
+            end_all(rt, stage, true, handles, ended)
         },
     )
 }
@@ -226,6 +249,54 @@ fn run_jobs<R: Threads + Wait + Sync, G: Gate + Sync>(
     Ok(sort_out(ended, passes, replies))
 }
 
+// A door, and a job for each process there.
+fn prepare(alloc: Global, policy: Policy, scripts: Scripts) -> Result<(Door, Vec<Job>), NoMemory>
+    requires { length scripts ≡ processes policy }
+    ensures { IfOk result
+        (λ prepared. ArePrepared policy scripts prepared.0 prepared.1.items) }
+{
+    // What is wide is handed to `drop` on each way out, which takes it apart in one call.
+    let Ok((door, passes)) = Door::open(alloc, policy) else {
+        return Err(NoMemory);
+    };
+    let Ok(jobs) = share_out(alloc, passes, scripts.into_vec()) else {
+        drop(door);
+        return Err(NoMemory);
+    };
+    Ok((door, jobs))
+}
+
+// Closes the door. How the scripts ended, taken together, says what comes of them.
+fn close_up(door: Door, ended: Ended) -> Result<Run, RunFault>
+    requires of { All (λ pass. pass.door ≡ door) ended.passes.items }
+    requires all { processes door.policy ≤ length ended.passes.items }
+    ensures whole { IfOk result (λ _. ended.ending ≡ Whole) }
+    ensures replies { IfOk result (λ run. run.replies ≡ map vec_items ended.replies.items) }
+    ensures hall { IfOk result (λ run. Closed door.policy run.hall ended.passes.items) }
+    ensures fault { IfErr result (λ fault. fault_of ended.ending ≡ Some fault) }
+    ensures closed { IfErr result
+        (λ _. (hall : HallValue) × Closed door.policy hall ended.passes.items) }
+{
+    let Ended {
+        passes,
+        replies,
+        ending,
+    } = ended;
+    let hall = match door.close(passes) {
+        Ok(hall) => hall,
+        Err(_unclosed) => unreachable!(),
+    };
+    if let Some(fault) = ending.fault() {
+        drop(hall);
+        drop(replies);
+        return Err(fault);
+    }
+    Ok(Run {
+        replies: RunReplies::from(replies),
+        hall,
+    })
+}
+
 // The scripts are as many as the processes.
 fn run_all<R: Threads + Wait + Sync, G: Gate + Sync>(
     rt: &R,
@@ -240,46 +311,9 @@ fn run_all<R: Threads + Wait + Sync, G: Gate + Sync>(
     ensures fault { IfErr result (λ fault. fault ≢ BadScripts) }
     ensures exhausted { IfErr result (λ fault. fault ≡ Exhausted → MayRunOut PATIENCE scripts) }
 {
-    // What is wide is handed to `drop` on each way out, which takes it apart in one call.
-    let Ok((door, passes)) = Door::open(alloc, policy) else {
-        return Err(RunFault::NoMemory);
-    };
-    let Ok(jobs) = share_out(alloc, passes, scripts.into_vec()) else {
-        drop(door);
-        return Err(RunFault::NoMemory);
-    };
-    let ended = match run_jobs(rt, alloc, &door, jobs, gate) {
-        Ok(ended) => ended,
-        Err(fault) => {
-            drop(door);
-            return Err(fault);
-        }
-    };
-    let Ended {
-        passes,
-        replies,
-        ending,
-    } = ended;
-    let hall = match door.close(passes) {
-        Ok(hall) => hall,
-        Err(_unclosed) => unreachable!(),
-    };
-    match ending {
-        Ending::Whole => Ok(Run {
-            replies: RunReplies::from(replies),
-            hall,
-        }),
-        Ending::Cut => {
-            drop(hall);
-            drop(replies);
-            Err(RunFault::Exhausted)
-        }
-        Ending::NotBegun => {
-            drop(hall);
-            drop(replies);
-            Err(RunFault::NoThread)
-        }
-    }
+    let (door, jobs) = prepare(alloc, policy, scripts)?;
+    let ended = run_jobs(rt, alloc, &door, jobs, gate)?;
+    close_up(door, ended)
 }
 
 /// Runs the scripts of all processes, each in a thread of its own, at one hall. A take in a script

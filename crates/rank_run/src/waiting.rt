@@ -35,27 +35,35 @@ fn is_pending(answer: &Answer) -> bool
     }
 }
 
-/// What a thread does of its own accord round its tries of a take.
+/// What a thread does round its tries of a take.
 pub(crate) trait Pause {
+    /// Whether it has left its place. Where it has no `Drop`, who gets it must step back.
+    type Left;
+
     /// Rests before a try, after so many that were answered `Pending`. False where nothing can
     /// change any more that is worth a rest.
     fn rest<R: Wait>(&self, rt: &R, request: u64, tried: u64) -> bool;
 
-    /// Makes room for others while the reply is worked out, if that takes long enough. Gives
-    /// whether it did.
-    fn step_aside<R: Wait>(&self, rt: &R, claim: &Claim) -> bool;
+    /// Makes room for others while the reply is worked out, if that takes long enough.
+    fn step_aside<R: Wait>(&self, rt: &R, claim: &Claim) -> Self::Left;
 
-    /// Comes back after it made room.
-    fn step_back<R: Wait>(&self, rt: &R);
+    /// Calls the gate's `computing`.
+    fn computing<R: Wait>(&self, rt: &R);
+
+    /// Comes back, if it made room.
+    fn step_back<R: Wait>(&self, rt: &R, left: Self::Left);
 }
 
-/// A gate, and a yield between tries.
+/// A process by itself, which yields between tries.
 #[derive(Clone, Copy)]
 struct Yields<'g, G> {
     gate: &'g G,
+    process: u32,
 }
 
-impl<'g, G> Pause for Yields<'g, G> {
+impl<'g, G: Gate> Pause for Yields<'g, G> {
+    type Left = ();
+
     fn rest<R: Wait>(&self, _rt: &R, _request: u64, tried: u64) -> bool {
         if tried > 0 {
             thread::yield_now();
@@ -63,54 +71,36 @@ impl<'g, G> Pause for Yields<'g, G> {
         true
     }
 
-    fn step_aside<R: Wait>(&self, _rt: &R, _claim: &Claim) -> bool {
-        false
+    fn step_aside<R: Wait>(&self, _rt: &R, _claim: &Claim) {}
+
+    fn computing<R: Wait>(&self, rt: &R) {
+        self.gate.computing(rt, self.process, 0);
     }
 
-    fn step_back<R: Wait>(&self, _rt: &R) {}
-}
-
-impl<'g, G: Gate> Gate for Yields<'g, G> {
-    fn before_call<R: Wait>(&self, rt: &R, process: u32, number: u64) {
-        self.gate.before_call(rt, process, number);
-    }
-
-    fn computing<R: Wait>(&self, rt: &R, process: u32, number: u64) {
-        self.gate.computing(rt, process, number);
-    }
-
-    fn answered<R: Wait>(&self, rt: &R, process: u32, number: u64, reply: &Reply) {
-        self.gate.answered(rt, process, number, reply);
-    }
-
-    fn holds(&self) -> bool {
-        self.gate.holds()
-    }
+    fn step_back<R: Wait>(&self, _rt: &R, _left: ()) {}
 }
 
 // The finish of a claim, the gate's `computing` before it. Others may play meanwhile.
 #[inline(never)]
-fn finish_aside<R: Wait, G: Gate + Pause>(rt: &R, process: u32, claim: Claim, gate: &G) -> Reply
+fn finish_aside<R: Wait, P: Pause>(rt: &R, claim: Claim, pause: &P) -> Reply
     requires { CanFinish claim }
     ensures { result ≡ claim_reply claim }
 {
-    let aside = gate.step_aside(rt, &claim);
-    gate.computing(rt, process, 0);
+    let left = pause.step_aside(rt, &claim);
+    pause.computing(rt);
     let reply = finish(claim);
-    if aside {
-        gate.step_back(rt);
-    }
+    pause.step_back(rt, left);
     reply
 }
 
 /// One take: a claim at a turn, and its finish after the turn, the gate's `computing` between. Of a
 /// claim that is done there is nothing to finish.
-fn take_once<R: Wait, G: Gate + Pause>(
+fn take_once<R: Wait, P: Pause>(
     rt: &R,
     door: &Door,
     pass: &mut Pass,
     request: u64,
-    gate: &G,
+    pause: &P,
 ) -> Answer
     requires { pass.old.door ≡ door.now }
     ensures same { IsSamePass pass.old pass.new }
@@ -120,10 +110,10 @@ fn take_once<R: Wait, G: Gate + Pause>(
 {
     match door.claim(rt, pass, request) {
         Claimed::Claim(Claim::Done(reply)) => {
-            gate.computing(rt, pass.process(), 0);
+            pause.computing(rt);
             Answer::Reply(reply)
         }
-        Claimed::Claim(claim) => Answer::Reply(finish_aside(rt, pass.process(), claim, gate)),
+        Claimed::Claim(claim) => Answer::Reply(finish_aside(rt, claim, pause)),
         Claimed::Exhausted => Answer::Exhausted,
     }
 }
@@ -149,17 +139,18 @@ pub fn wait<R: Wait, G: Gate>(
     ensures waited { Waited patience pass.old request result pass.new }
     ensures named { NamesKnown door.now.policy result }
 {
-    wait_with(rt, door, pass, request, patience, &Yields { gate })
+    let process = pass.process();
+    wait_with(rt, door, pass, request, patience, &Yields { gate, process })
 }
 
-/// The same, with this gate's pauses.
-pub(crate) fn wait_with<R: Wait, G: Gate + Pause>(
+/// The same, with these pauses.
+pub(crate) fn wait_with<R: Wait, P: Pause>(
     rt: &R,
     door: &Door,
     pass: &mut Pass,
     request: u64,
     patience: u64,
-    gate: &G,
+    pause: &P,
 ) -> Answer
     requires door { pass.old.door ≡ door.now }
     ensures same { IsSamePass pass.old pass.new }
@@ -169,14 +160,14 @@ pub(crate) fn wait_with<R: Wait, G: Gate + Pause>(
 {
     let mut rests = true;
     for tried in 1..patience {
-        rests = rests && gate.rest(rt, request, tried - 1);
-        let answer = take_once(rt, door, pass, request, gate);
+        rests = rests && pause.rest(rt, request, tried - 1);
+        let answer = take_once(rt, door, pass, request, pause);
         if !is_pending(&answer) {
             return answer;
         }
     }
     if rests {
-        gate.rest(rt, request, patience.max(1) - 1);
+        pause.rest(rt, request, patience.max(1) - 1);
     }
-    take_once(rt, door, pass, request, gate)
+    take_once(rt, door, pass, request, pause)
 }

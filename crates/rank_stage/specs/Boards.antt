@@ -74,6 +74,19 @@ pub record HasWoken (before after : Board) (rank : ℕ) : Type 0 where
   pub slept : place_of before rank ≡ Sleeps it
   pub stands : place_of after rank ≡ InLine
 
+-- the rank slept, and is awake now: it stands in line, or plays
+pub record HasBeenWoken (before after : Board) (rank : ℕ) : Type 0 where
+  pub it : Instance
+  pub slept : place_of before rank ≡ Sleeps it
+  pub wakes : is_awake (place_of after rank) ≡ true
+
+-- The rank is the first in line, counted from `next` on and then from 0.
+pub record IsNextInLine (board : Board) (rank : ℕ) : Type 0 where
+  pub stands : place_of board rank ≡ InLine
+  pub first : (other : ℕ) → board.next ≤ other → other < rank → place_of board other ≢ InLine
+  pub none : rank < board.next → (other : ℕ) → board.next ≤ other → place_of board other ≢ InLine
+  pub round : rank < board.next → (other : ℕ) → other < rank → place_of board other ≢ InLine
+
 -- nobody but the rank is awake
 abbrev pub IsLastAwake : Board → (rank : ℕ) → Type 0
 IsLastAwake board rank = (other : ℕ) → other ≢ rank → is_awake (place_of board other) ≡ false

@@ -10,6 +10,7 @@ ghost use Rattle.rank_stage.specs.Boards.{IsInLineOrNone, place_of, settled_on, 
 ghost use Rattle.rank_stage.specs.Boards.{PlaysAlone, IsWatched, IsOrderly, Calls, HasComeToLine};
 ghost use Rattle.rank_stage.specs.declared.board.Rest.TheVariants.{Stays as IsUp};
 ghost use Rattle.rank_stage.specs.Boards.{HasWoken, IsLastAwake, OthersStay, Opens, called_by};
+ghost use Rattle.rank_stage.specs.Boards.{IsNextInLine, HasBeenWoken};
 
 use std::alloc::{AllocError, Global};
 
@@ -78,6 +79,7 @@ impl Board {
         ensures places { self.new.places.items ≡ slice_set self.old.places.items rank place }
         ensures settled { self.new.settled ≡ self.old.settled }
         ensures player { self.new.player ≡ self.old.player }
+        ensures next { self.new.next ≡ self.old.next }
     {
         self.places[rank] = place;
     }
@@ -111,8 +113,9 @@ impl Board {
         }
     }
 
+    // Who is next in line.
     fn first_in_line(&self) -> Option<usize>
-        ensures found { IfSome result (λ rank. place_of self.now rank ≡ InLine) }
+        ensures found { IfSome result (λ rank. IsNextInLine self.now rank) }
         ensures none { IfNone result ((rank : ℕ) → place_of self.now rank ≢ InLine) }
     {
         let (len, next) = (self.places.len(), self.next);
@@ -137,6 +140,8 @@ impl Board {
         requires watched { IsWatched self.old }
         ensures orderly { IsOrderly self.new }
         ensures player { result ≡ self.new.player }
+        ensures turn { IfSome result (λ rank. IsNextInLine self.old rank) }
+        ensures next { IfSome result (λ rank. self.new.next ≡ rank + 1) }
         ensures calls { Calls self.old self.new result }
         ensures stays { (rank : ℕ) → place_of self.new rank ≢ Plays →
             place_of self.new rank ≡ place_of self.old rank }
@@ -363,6 +368,27 @@ impl Board {
         }
     }
 
+    // Where nobody but the rank was awake, which has ended, one that sleeps stands in line.
+    fn call_if_last(&mut self, rank: usize)
+        requires heard { IsHeard self.old }
+        requires one { PlaysAlone self.old }
+        requires ended { place_of self.old rank ≡ Ended }
+        ensures heard { IsHeard self.new }
+        ensures one { PlaysAlone self.new }
+        ensures watched { IsWatched self.new }
+        ensures ended { place_of self.new rank ≡ Ended }
+        ensures only { (other : ℕ) → place_of self.new other ≢ place_of self.old other →
+            HasWoken self.old self.new other }
+        ensures last { (other : ℕ) → place_of self.new other ≢ place_of self.old other →
+            IsLastAwake self.old rank }
+        ensures settled { self.new.settled ≡ self.old.settled }
+        ensures player { self.new.player ≡ self.old.player }
+    {
+        if !self.others_are_awake(rank) {
+            self.call_one();
+        }
+    }
+
     /// The rank has ended, wherever it stood. Where that was the last that was awake, one that
     /// sleeps is to play. Gives whom to call.
     pub(crate) fn end(&mut self, rank: usize) -> Option<usize>
@@ -374,12 +400,12 @@ impl Board {
             place_of self.new other ≢ place_of self.old other → HasWoken self.old self.new other }
         ensures from { (other : ℕ) → place_of self.new other ≡ Plays →
             (place_of self.old other ≢ Aside) × (place_of self.old other ≢ Ended) }
+        ensures last { (other : ℕ) → HasBeenWoken self.old self.new other →
+            IsLastAwake self.old rank }
         ensures settled { self.new.settled ≡ self.old.settled }
     {
         self.take_off(rank);
-        if !self.others_are_awake(rank) {
-            self.call_one();
-        }
+        self.call_if_last(rank);
         if self.player.is_some() {
             return None;
         }
@@ -533,6 +559,8 @@ impl Standing {
         ensures others { (other : ℕ) → other ≢ rank → place_of self.new.board other ≢ Plays →
             place_of self.new.board other ≢ place_of self.old.board other →
             HasWoken self.old.board self.new.board other }
+        ensures last { (other : ℕ) → HasBeenWoken self.old.board self.new.board other →
+            IsLastAwake self.old.board rank }
         ensures settled { self.new.board.settled ≡ self.old.board.settled }
     {
         Call(self.board.end(rank))

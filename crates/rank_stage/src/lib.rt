@@ -7,4 +7,4 @@ mod board;
 mod stage;
 
 pub use board::Instance;
-pub use stage::Stage;
+pub use stage::{Aside, Role, Stage};

@@ -11,12 +11,15 @@
 //!
 //! No rank sleeps for ever, if the threads run and the gate holds nobody:
 //!
-//! - All places are changed, and all counts raised, under one lock, and the board is orderly each
-//!   time that it is let go. The hall itself may have settled an instance before its poster raises
-//!   the count; that poster is awake until it has.
-//! - Whoever changes the board gets a `Call`, which cannot be let go: it is made by ringing the
-//!   bell of the rank that has come to play. A bell that is rung before its rank looks for it stays
-//!   rung, and a stray wake does no harm.
+//! - All places, and the board's counts of what has settled, are changed under one lock, and the
+//!   board is orderly each time that it is let go. The hall itself may have settled an instance
+//!   before its poster raises the count; that poster is awake until it has. The counts beside the
+//!   board are raised after the lock: who reads them too early asks the board.
+//! - Whoever changes the board gets a `Call`, which cannot be let go by itself: what opens it gives
+//!   the rank that has come to play, and that rank's bell is rung there. A bell that is rung before
+//!   its rank looks for it stays rung, and a stray wake does no harm.
+//! - A rank that has begun has a `Role`, and one that has stepped aside an `Aside`: neither can be
+//!   let go, so each rank that begins ends, and each that steps aside comes back.
 //! - Where every other rank has ended or sleeps, a rank does not sleep: it makes its tries one
 //!   after another, is answered `Pending`, and goes on. Where the last that is awake ends, one that
 //!   sleeps is called, and does the same.
@@ -25,13 +28,15 @@
 //! No rank begins before all threads have started, so that where one is refused nobody waits for a
 //! rank that has none. No rank waits for the start for ever:
 //!
-//! - It waits for its bell, which nobody rings before the start: nobody plays yet, and the gate is
-//!   not asked yet, so it holds nobody.
+//! - It waits for its bell, which nobody rings before the start: the first has its place on the
+//!   board but is not called yet, and the gate is not asked yet, so it holds nobody.
 //! - The function that starts the threads waits for nobody before it has told the ranks to begin,
 //!   or to give up: it joins them afterwards.
 //! - To begin, the first to play is called, and the others are called by those before them; where
 //!   all play, each bell is rung. To give up, that is noted before each bell is rung, whether its
 //!   rank has a thread or not. A rank that wakes looks at the note, and goes home if it is there.
+
+ghost use Rattle.std.specs.Prelude.{◌≡◌};
 
 use crate::board::{Call, Instance, Rest, Standing};
 use std::alloc::{AllocError, Global};
@@ -45,6 +50,16 @@ use std::thread::Parker;
 struct Bell {
     rung: AtomicBool,
     parker: Parker,
+}
+
+/// A rank that has begun. It has no `Drop`: it ends by [`Stage::end`].
+pub struct Role {
+    rank: usize,
+}
+
+/// A rank that has stepped aside. It has no `Drop`: it comes back by [`Stage::step_back`].
+pub struct Aside {
+    rank: usize,
 }
 
 /// The stage that the ranks of a run share.
@@ -114,7 +129,7 @@ fn no_counts(alloc: Global, communicators: usize) -> Result<Vec<AtomicU64>, Allo
 impl Stage {
     /// A stage for so many ranks, of which one plays at a time, with as many communicators as there
     /// can be: a rank that waits for one of a greater number would not sleep. If the stage is open,
-    /// all play, and nobody sleeps. No rank begins before [`Stage::start`].
+    /// all play, and nobody sleeps. No rank begins before [`Stage::release`].
     pub fn new(
         alloc: Global,
         ranks: usize,
@@ -158,29 +173,35 @@ impl Stage {
         }
     }
 
-    /// All threads have started: the ranks begin.
-    pub fn start(&self) {
-        if self.open {
+    /// If all threads have started, the ranks begin; if one was refused, the run is given up, and
+    /// no rank begins. Gives which of the two. Comes before any thread is joined, which waits for
+    /// this.
+    pub fn release(&self, all_started: bool) -> bool
+        ensures { result ≡ all_started }
+    {
+        if !all_started {
+            self.given_up.store(true, Ordering::SeqCst);
+            self.wake_all();
+        } else if self.open {
             self.wake_all();
         } else {
             self.wake(self.first);
         }
+        all_started
     }
 
-    /// A thread was refused: no rank begins. Comes before any is joined, which waits for this.
-    pub fn give_up(&self) {
-        self.given_up.store(true, Ordering::SeqCst);
-        self.wake_all();
-    }
-
-    /// The rank begins, as soon as it may. False if the run was given up.
-    pub fn begin<R: Wait>(&self, rt: &R, rank: usize) -> bool {
+    /// The rank begins, as soon as it may. None if the run was given up.
+    pub fn begin<R: Wait>(&self, rt: &R, rank: usize) -> Option<Role> {
         self.wait(rt, rank);
-        !self.given_up.load(Ordering::SeqCst)
+        if self.given_up.load(Ordering::SeqCst) {
+            return None;
+        }
+        Some(Role { rank })
     }
 
     /// The rank has ended.
-    pub fn end<R: Wait>(&self, rt: &R, rank: usize) {
+    pub fn end<R: Wait>(&self, rt: &R, role: Role) {
+        let Role { rank } = role;
         let mut standing = self.standing.lock(rt);
         let call = standing.end(rank);
         drop(standing);
@@ -188,18 +209,21 @@ impl Stage {
     }
 
     /// The rank makes no call for a while.
-    pub fn step_aside<R: Wait>(&self, rt: &R, rank: usize) {
+    pub fn step_aside<R: Wait>(&self, rt: &R, role: &Role) -> Aside {
+        let rank = role.rank;
         if self.open {
-            return;
+            return Aside { rank };
         }
         let mut standing = self.standing.lock(rt);
         let call = standing.step_aside(rank);
         drop(standing);
         self.ring(call);
+        Aside { rank }
     }
 
     /// The rank, which had stepped aside, goes on as soon as it may.
-    pub fn step_back<R: Wait>(&self, rt: &R, rank: usize) {
+    pub fn step_back<R: Wait>(&self, rt: &R, aside: Aside) {
+        let Aside { rank } = aside;
         if self.open {
             return;
         }
@@ -234,7 +258,8 @@ impl Stage {
     /// Sleeps until the instance has settled; where all play, it yields instead. False where the
     /// instance has not settled, and every other rank has ended or sleeps: then it will not settle
     /// before this rank goes on.
-    pub fn sleep<R: Wait>(&self, rt: &R, rank: usize, it: Instance) -> bool {
+    pub fn sleep<R: Wait>(&self, rt: &R, role: &Role, it: Instance) -> bool {
+        let rank = role.rank;
         if self.is_settled(it) {
             return true;
         }

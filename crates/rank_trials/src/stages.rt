@@ -2,7 +2,7 @@
 //!
 //! Each rank has a thread. The test looks at their counts, and fails after too many looks: a rank
 //! that is left asleep, and one that never begins, end a test too.
-use rank_stage::{Instance, Stage};
+use rank_stage::{Instance, Role, Stage};
 use std::process::Abort;
 use std::sync::Wait;
 use std::sync::atomic::{AtomicU64, Ordering};
@@ -70,15 +70,19 @@ impl Sight {
         self.expect(self.playing.fetch_sub(1, Ordering::SeqCst) == 1);
     }
 
-    fn begin<R: Wait>(&self, rt: &R, stage: &Stage, rank: usize) {
-        self.expect(stage.begin(rt, rank));
+    /// It begins. One that goes home is seen: it does not end.
+    fn begin<R: Wait>(&self, rt: &R, stage: &Stage, rank: usize) -> Option<Role> {
+        let Some(role) = stage.begin(rt, rank) else {
+            return None;
+        };
         self.enter();
         add_one(&self.begun);
+        Some(role)
     }
 
-    fn end<R: Wait>(&self, rt: &R, stage: &Stage, rank: usize) {
+    fn end<R: Wait>(&self, rt: &R, stage: &Stage, role: Role) {
         self.leave();
-        stage.end(rt, rank);
+        stage.end(rt, role);
         add_one(&self.ended);
     }
 
@@ -101,20 +105,20 @@ impl Sight {
     }
 
     /// It sleeps, and is told whether the instance has settled.
-    fn sleep<R: Wait>(&self, rt: &R, stage: &Stage, rank: usize, it: Instance) -> bool {
+    fn sleep<R: Wait>(&self, rt: &R, stage: &Stage, role: &Role, it: Instance) -> bool {
         self.leave();
-        let settled = stage.sleep(rt, rank, it);
+        let settled = stage.sleep(rt, role, it);
         self.enter();
         self.expect(settled == self.has_settled(it));
         settled
     }
 
     /// It steps aside, and comes back.
-    fn compute<R: Wait>(&self, rt: &R, stage: &Stage, rank: usize) {
+    fn compute<R: Wait>(&self, rt: &R, stage: &Stage, role: &Role) {
         self.leave();
-        stage.step_aside(rt, rank);
+        let aside = stage.step_aside(rt, role);
         thread::yield_now();
-        stage.step_back(rt, rank);
+        stage.step_back(rt, aside);
         self.enter();
     }
 }
@@ -147,34 +151,45 @@ enum Plan {
 }
 
 fn play_rounds<R: Wait>(rt: &R, stage: &Stage, sight: &Sight, rank: usize, rounds: u64) {
-    sight.begin(rt, stage, rank);
+    let Some(role) = sight.begin(rt, stage, rank) else {
+        return;
+    };
     for number in 0..rounds {
         for comm in 0..COMMS {
             sight.post(rt, stage, comm);
-            sight.expect(sight.sleep(rt, stage, rank, Instance { comm, number }));
+            sight.expect(sight.sleep(rt, stage, &role, Instance { comm, number }));
         }
         if (number ^ rank as u64).is_multiple_of(4) {
-            sight.compute(rt, stage, rank);
+            sight.compute(rt, stage, &role);
         }
     }
-    sight.end(rt, stage, rank);
+    sight.end(rt, stage, role);
 }
 
 fn play_in_vain<R: Wait>(rt: &R, stage: &Stage, sight: &Sight, rank: usize) {
-    sight.begin(rt, stage, rank);
+    let Some(role) = sight.begin(rt, stage, rank) else {
+        return;
+    };
     let comm = (rank % COMMS as usize) as u32;
-    if !sight.sleep(rt, stage, rank, Instance { comm, number: 0 }) {
+    if !sight.sleep(rt, stage, &role, Instance { comm, number: 0 }) {
         add_one(&sight.told);
     }
-    sight.end(rt, stage, rank);
+    sight.end(rt, stage, role);
 }
 
 fn play<R: Wait>(rt: &R, stage: &Stage, sight: &Sight, rank: usize, plan: Plan) {
     match plan {
         Plan::Rounds(rounds) => play_rounds(rt, stage, sight, rank, rounds),
         Plan::InVain => play_in_vain(rt, stage, sight, rank),
-        Plan::GoHome => {
-            sight.expect(!stage.begin(rt, rank));
+        Plan::GoHome => go_home(rt, stage, sight, rank),
+    }
+}
+
+/// A rank that begins all the same is seen: it ends, and is not home.
+fn go_home<R: Wait>(rt: &R, stage: &Stage, sight: &Sight, rank: usize) {
+    match stage.begin(rt, rank) {
+        Some(role) => sight.end(rt, stage, role),
+        None => {
             add_one(&sight.home);
         }
     }
@@ -201,11 +216,11 @@ fn play_all<R: Threads + Wait + Sync + Abort>(rt: &R, stage: &Stage, sight: &Sig
         stands(rt, &sight.home, 0);
         match plan {
             Plan::GoHome => {
-                stage.give_up();
+                assert!(rt; !stage.release(false));
                 await_count(rt, &sight.home, sight.ranks);
             }
             Plan::Rounds(_) | Plan::InVain => {
-                stage.start();
+                assert!(rt; stage.release(true));
                 await_count(rt, &sight.ended, sight.ranks);
             }
         }
@@ -252,20 +267,22 @@ fn ranks_go_home_where_a_run_is_given_up(rt: HostRuntime) -> Result<(), Fail> {
 
 /// The ranks of an open stage begin at its start, and each goes on while another has not ended.
 fn play_open<R: Wait>(rt: &R, stage: &Stage, sight: &Sight, rank: usize) {
-    sight.expect(stage.begin(rt, rank));
+    let Some(role) = stage.begin(rt, rank) else {
+        return;
+    };
     add_one(&sight.begun);
     let it = Instance { comm: 0, number: 0 };
     for _ in 0..LOOKS {
         if sight.begun.load(Ordering::SeqCst) >= sight.ranks {
             break;
         }
-        sight.expect(stage.sleep(rt, rank, it));
+        sight.expect(stage.sleep(rt, &role, it));
     }
-    stage.step_aside(rt, rank);
-    stage.step_back(rt, rank);
+    let aside = stage.step_aside(rt, &role);
+    stage.step_back(rt, aside);
     sight.expect(sight.begun.load(Ordering::SeqCst) == sight.ranks);
     stage.settle(rt, 0);
-    stage.end(rt, rank);
+    stage.end(rt, role);
     add_one(&sight.ended);
 }
 
@@ -290,7 +307,7 @@ fn play_all_open<R: Threads + Wait + Sync + Abort>(rt: &R, stage: &Stage, sight:
         }
         linger();
         stands(rt, &sight.begun, 0);
-        stage.start();
+        assert!(rt; stage.release(true));
         await_count(rt, &sight.ended, sight.ranks);
     });
     stands(rt, &sight.wrong, 0);
@@ -298,9 +315,11 @@ fn play_all_open<R: Threads + Wait + Sync + Abort>(rt: &R, stage: &Stage, sight:
 
 /// Rank 0 steps aside until rank 1 has ended, so rank 1 plays meanwhile.
 fn step_aside_for_another<R: Wait>(rt: &R, stage: &Stage, sight: &Sight) {
-    sight.begin(rt, stage, 0);
+    let Some(role) = sight.begin(rt, stage, 0) else {
+        return;
+    };
     sight.leave();
-    stage.step_aside(rt, 0);
+    let aside = stage.step_aside(rt, &role);
     for _ in 0..LOOKS {
         if sight.ended.load(Ordering::SeqCst) == 1 {
             break;
@@ -308,14 +327,15 @@ fn step_aside_for_another<R: Wait>(rt: &R, stage: &Stage, sight: &Sight) {
         thread::yield_now();
     }
     sight.expect(sight.ended.load(Ordering::SeqCst) == 1);
-    stage.step_back(rt, 0);
+    stage.step_back(rt, aside);
     sight.enter();
-    sight.end(rt, stage, 0);
+    sight.end(rt, stage, role);
 }
 
 fn begin_and_end<R: Wait>(rt: &R, stage: &Stage, sight: &Sight) {
-    sight.begin(rt, stage, 1);
-    sight.end(rt, stage, 1);
+    if let Some(role) = sight.begin(rt, stage, 1) {
+        sight.end(rt, stage, role);
+    }
 }
 
 fn aside<R: Threads + Wait + Sync + Abort>(rt: &R, stage: &Stage, sight: &Sight) {
@@ -327,7 +347,7 @@ fn aside<R: Threads + Wait + Sync + Abort>(rt: &R, stage: &Stage, sight: &Sight)
             .spawn(move || begin_and_end(rt, stage, sight))
             .is_err();
         assert!(rt; !first && !second);
-        stage.start();
+        assert!(rt; stage.release(true));
         await_count(rt, &sight.ended, 2);
     });
     stands(rt, &sight.wrong, 0);
