@@ -1,9 +1,10 @@
 -- What a door needs of the machine behind it: the runs that it stands for.
-use Rattle.std.specs.Prelude.{◌≡◌, ℕ, List, ◌∷◌}
+use Rattle.std.specs.Prelude.{◌≡◌, ℕ, ◌+◌, List, ◌∷◌, length}
 use Rattle.wall_policy.specs.Policy.{ChineseWall}
 use Rattle.run_model.specs.declared.call.Call.{Call}
 use Rattle.run_model.specs.declared.reply.Reply.{Reply}
-use Rattle.run_model.specs.Runs.{Entry, effects, entry}
+use Rattle.run_model.specs.Books.{book}
+use Rattle.run_model.specs.Runs.{Entry, effects, entry, posts}
 use Rattle.run_model.specs.Replies.{Legal}
 use Rattle.hall_core.specs.declared.claims.Claim.{Claim}
 use Rattle.hall_core.specs.Claims.{Claims, CanFinish}
@@ -13,6 +14,15 @@ use Rattle.run_model.specs.Known.{IsKnownReply}
 -- the hall has this policy, and stands for the run
 abbrev pub Stands : ChineseWall → HallValue → List Entry → Type 0
 Stands wall hall run = (hall.policy ≡ wall) × StandsFor hall run
+
+-- how many entries the book of a run has
+unfoldable pub entries_of : ChineseWall → List Entry → ℕ
+entries_of wall run = length (book wall (posts run))
+
+-- The entry is that of a post that settles its instance: the book has two entries more with it, that
+-- of the post and that of the instance.
+abbrev pub Settles : ChineseWall → (run : List Entry) → Entry → Type 0
+Settles wall run e = entries_of wall (e ∷ run) ≡ entries_of wall run + 2
 
 -- a call with its reply carries a machine from each legal run that it stands for to that run with
 -- this entry

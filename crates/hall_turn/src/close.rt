@@ -57,7 +57,7 @@ impl Door {
         requires enough { processes self.policy ≤ length passes.items }
         ensures { Closed self.policy result passes.items }
     {
-        let Door { turns, count: _ } = self;
+        let turns = self.into_turns();
         let seat = turns.gather(passes);
         turns.end(seat)
     }

@@ -28,11 +28,29 @@ use wall_policy::Policy;
 const LAST: u64 = 1 << 62;
 
 /// One hall, at which processes take turns. Contracts see which door it is, and its policy.
-#[derive(Drop)]
 pub struct Door {
     pub(crate) turns: Turns<Hall>,
     // How many processes there are.
     pub(crate) count: u32,
+}
+
+// By hand: a derived one is proved anew in each crate that lets a door go.
+impl Drop for Door {
+    fn drop(self) {
+        let Door { turns, count: _ } = self;
+        drop(turns);
+    }
+}
+
+impl Door {
+    // What is behind it.
+    pub(crate) fn into_turns(self) -> Turns<Hall>
+        ensures name { result.table.shared.table_id ≡ self.name }
+        ensures policy { result.table.shared.key.value ≡ self.policy }
+    {
+        let Door { turns, count: _ } = self;
+        turns
+    }
 }
 
 impl Model for Door {

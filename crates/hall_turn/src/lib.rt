@@ -1,5 +1,5 @@
-//! The door: threads take turns at one hall, which stands in a slot that each empties and fills
-//! again.
+//! The door: threads take turns at one hall, which lies in a slot that one of them at a time may
+//! use.
 //!
 //! Each process has a [`Pass`]. A call is one turn: its entry, the call with its reply, joins one
 //! run of all calls. What a pass has seen of that run is a beginning of it.

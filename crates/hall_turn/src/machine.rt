@@ -1,11 +1,11 @@
 //! What a door needs of the machine behind it, and the hall as that machine.
-ghost use Rattle.std.specs.Prelude.{List, ◌∷◌};
+ghost use Rattle.std.specs.Prelude.{◌≡◌, List, ◌∷◌};
 ghost use Rattle.wall_policy.specs.Policy.{ChineseWall};
 ghost use Rattle.run_model.specs.Runs.{Entry};
 ghost use Rattle.run_model.specs.Replies.{Legal};
 ghost use Rattle.hall_core.specs.Claims.{to_take, claim_reply};
 ghost use Rattle.run_model.specs.Known.{HasKnownLabel};
-ghost use Rattle.hall_turn.specs.Machines.{Carries, ClaimsAfter, Stands};
+ghost use Rattle.hall_turn.specs.Machines.{Carries, ClaimsAfter, Stands, entries_of};
 
 use hall_core::{Call, Claim, Hall, Reply};
 
@@ -29,8 +29,9 @@ pub(crate) trait Machine {
             → stands wall self.old run → ClaimsAfter wall run process request result };
 
     /// How many entries its book has: a post that settles its instance adds two, any other one.
-    /// Nothing is proved of it.
-    fn entries(&self) -> usize;
+    fn entries(&self) -> usize
+        ensures { (wall : ChineseWall) (run : List Entry) → stands wall self.now run
+            → result ≡ entries_of wall run };
 }
 
 impl Machine for Hall {

@@ -1,5 +1,6 @@
 //! The steps of a turn.
-ghost use Rattle.std.specs.Prelude.{◌≡◌, ◌^◌, ◌<◌, List, [], ◌∷◌, true, false, Some, None, length};
+ghost use Rattle.std.specs.Prelude.{◌≡◌, ◌+◌, ◌^◌, ◌<◌, ◌↔◌, List, [], ◌∷◌, true, false};
+ghost use Rattle.std.specs.Prelude.{IsTrue, Some, None, length};
 ghost use mathlib.Core.Option.{none};
 ghost use Rattle.atomic_table.specs.Table.{step};
 ghost use Rattle.wall_policy.specs.Policy.{ChineseWall};
@@ -8,7 +9,7 @@ ghost use Rattle.run_model.specs.Replies.{Legal};
 ghost use Rattle.run_model.specs.Known.{IsKnownReply};
 ghost use Rattle.hall_turn.specs.Views.{maker_left, next_pass, noted, informed, declared, served};
 ghost use Rattle.hall_turn.specs.Views.{drawn};
-ghost use Rattle.hall_turn.specs.Machines.{Carries};
+ghost use Rattle.hall_turn.specs.Machines.{Carries, Settles};
 ghost use Rattle.hall_turn.specs.Steps.{Looks, IsAt, IsIdle, IsNote, IsReady, HoldsMachine};
 ghost use Rattle.hall_turn.specs.Steps.{MayCarryOut, Turned, TellsAfter, CanMake};
 
@@ -31,8 +32,10 @@ const SLOT: usize = 0;
 /// How often a seat looks for its turn before it yields between looks.
 const LOOKS: u32 = 2000;
 
-// Between two looks; gives how many there were.
-fn pause(looks: u32) -> u32 {
+// Between two looks; gives how many there were. Where they were enough, it yields.
+fn pause(looks: u32) -> u32
+    ensures { looks < LOOKS → result ≡ looks + 1 }
+{
     if looks < LOOKS {
         hint::spin_loop();
         return looks + 1;
@@ -41,8 +44,8 @@ fn pause(looks: u32) -> u32 {
     looks
 }
 
-// The machine in the slot carries out the deed, where it lies. Whether that settled an instance is
-// a hint: nothing is proved of it.
+// The machine in the slot carries out the deed, where it lies, and it is noted whether that settled
+// an instance.
 fn carry_out_in<M: Machine, D: Deed>(slot: &mut Option<M>, deed: D, settled: &mut bool) -> D::Told
     requires { (machine : M) × (slot.old ≡ Some machine)
         × MayCarryOut M.stands machine (λ wall. D.may wall deed) }
@@ -50,11 +53,14 @@ fn carry_out_in<M: Machine, D: Deed>(slot: &mut Option<M>, deed: D, settled: &mu
         × Carries M.stands old new (D.call deed) (D.reply result) }
     ensures tells { (old : M) (wall : ChineseWall) (run : List Entry) → slot.old ≡ Some old
         → Legal wall run → M.stands wall old run → D.tells wall run deed result }
+    ensures settled { (old : M) (wall : ChineseWall) (run : List Entry) → slot.old ≡ Some old
+        → Legal wall run → M.stands wall old run
+        → IsTrue settled.new ↔ Settles wall run (entry (D.call deed) (D.reply result)) }
 {
     let Some(machine) = slot else { unreachable!() };
     let before = machine.entries();
     let told = deed.carry_out(machine);
-    *settled = machine.entries().wrapping_sub(before) == 2;
+    *settled = machine.entries().checked_sub(before) == Some(2);
     told
 }
 
@@ -188,6 +194,9 @@ impl<M: Machine> Turns<M> {
         ensures named { IsKnownReply seat.old.me.0.policy (D.reply result) }
         ensures tells { TellsAfter seat.new.me.0.seen
             (λ run. D.tells seat.old.me.0.policy run deed result) }
+        ensures settled { TellsAfter seat.new.me.0.seen
+            (λ run. IsTrue settled.new
+            ↔ Settles seat.old.me.0.policy run (entry (D.call deed) (D.reply result))) }
     {
         let ticket = self.draw(seat);
         self.await_turn(rt, seat, ticket);
