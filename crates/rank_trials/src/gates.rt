@@ -11,7 +11,7 @@ use coll_routes::{Own, Signature};
 use coll_values::Block;
 use hall_core::{Act, Posting, Reply};
 use mpi_elems::{Buffer, ElemType};
-use rank_run::{Acts, Gate, RunReplies, Scripts, run_ranks};
+use rank_run::{Acts, Gate, OpenGate, RunReplies, Scripts, run_ranks};
 use std::alloc::Global;
 use std::process::Abort;
 use std::sync::atomic::{AtomicU64, Ordering};
@@ -229,12 +229,12 @@ fn number<R: Abort>(rt: &R, alloc: Global, policy: &Policy, process: u32, comm: 
     }
 }
 
-/// A post on the world that gives nothing.
-fn nothing(alloc: Global, sig: Signature) -> Posting
+/// A post that gives nothing.
+pub(crate) fn nothing(alloc: Global, comm: u32, sig: Signature) -> Posting
     ensures { result.label ≡ Public }
 {
     Posting {
-        comm: 0,
+        comm,
         sig,
         own: Own::Plain,
         label: Label::Public,
@@ -255,7 +255,7 @@ fn script<R: Abort>(rt: &R, alloc: Global, policy: &Policy, process: u32) -> Act
             rt,
             policy,
             &mut script,
-            Act::Post(nothing(alloc, Signature::Barrier)),
+            Act::Post(nothing(alloc, 0, Signature::Barrier)),
         );
     }
     script
@@ -317,15 +317,26 @@ fn run<R: Threads + Wait + Sync + Abort, G: Gate + Sync>(rt: &R, alloc: Global, 
     drop(run);
 }
 
-/// A rank computes what it is delivered outside its turn: others take turns meanwhile.
-#[test]
-fn others_call_while_one_computes(rt: HostRuntime) {
-    let gate = Crossing {
+fn new_crossing() -> Crossing {
+    Crossing {
         posted: AtomicU64::new(0),
         computing: AtomicU64::new(0),
         barrier: AtomicU64::new(0),
         late: AtomicU64::new(0),
-    };
+    }
+}
+
+/// A gate may hold a rank unless it says that it does not; the open gate says so.
+#[test]
+fn a_gate_holds_unless_it_says_otherwise(rt: HostRuntime) {
+    assert!(&rt; new_crossing().holds());
+    assert!(&rt; !OpenGate.holds());
+}
+
+/// A rank computes what it is delivered outside its turn: others take turns meanwhile.
+#[test]
+fn others_call_while_one_computes(rt: HostRuntime) {
+    let gate = new_crossing();
     run(&rt, rt.alloc(), &gate);
     stands(&rt, &gate.late, 0);
 }
@@ -367,7 +378,7 @@ fn twin_script<R: Abort>(rt: &R, alloc: Global, policy: &Policy, process: u32) -
         rt,
         policy,
         &mut script,
-        Act::Post(nothing(alloc, Signature::Dup)),
+        Act::Post(nothing(alloc, 0, Signature::Dup)),
     );
     add(rt, policy, &mut script, Act::Take(0));
     add(rt, policy, &mut script, Act::Post(number));

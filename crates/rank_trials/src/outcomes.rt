@@ -4,7 +4,7 @@ ghost use Rattle.std.specs.Prelude.{◌≡◌};
 ghost use Rattle.std.specs.List.{All};
 ghost use Rattle.run_model.specs.Known.{HasKnownLabel, IsKnownLabel, ScriptsHaveKnownLabels};
 
-use crate::gates::FOUR;
+use crate::gates::{FOUR, nothing};
 use crate::parties::{RIVALS, label, wall};
 use crate::ranks::{add, put, stands};
 use coll_routes::{Own, Signature};
@@ -25,6 +25,9 @@ const LOOKS: u64 = 10_000_000;
 
 /// How many dups a table of communicators has no room for: it has room for 1023 beside the world.
 const DUPS: u64 = 1024;
+
+/// The last communicator that there can be.
+const LAST_COMM: u32 = 1023;
 
 /// Counts the tries of takes, and how the takes came out. It holds process 0 in its first take
 /// until another was delivered, which stands for a long computation.
@@ -120,22 +123,19 @@ fn gathering<R: Abort>(rt: &R, alloc: Global, policy: &Policy, name: &str, given
     script
 }
 
-/// So many copies of the world, each taken before the next post.
+/// So many copies of the world, each taken before the next post, and a barrier on the last copy.
 fn dupping<R: Abort>(rt: &R, alloc: Global, policy: &Policy) -> Acts
     ensures { All (HasKnownLabel policy.now) result }
 {
     let mut script = Acts::from(Vec::new(alloc));
     for request in 0..DUPS {
-        let posting = Posting {
-            comm: 0,
-            sig: Signature::Dup,
-            own: Own::Plain,
-            label: Label::Public,
-            elements: Buffer::empty(alloc, ElemType::Int8),
-        };
-        add(rt, policy, &mut script, Act::Post(posting));
+        let copy = nothing(alloc, 0, Signature::Dup);
+        add(rt, policy, &mut script, Act::Post(copy));
         add(rt, policy, &mut script, Act::Take(request));
     }
+    let barrier = nothing(alloc, LAST_COMM, Signature::Barrier);
+    add(rt, policy, &mut script, Act::Post(barrier));
+    add(rt, policy, &mut script, Act::Take(DUPS));
     script
 }
 
@@ -146,7 +146,7 @@ enum Play {
     Rivals,
     /// Each gives many numbers of one dataset to all.
     Large,
-    /// All copy the world until there is no room.
+    /// All copy the world until there is no room, and meet on the last copy.
     Dups,
 }
 
@@ -214,14 +214,16 @@ fn a_denial_is_waited_for(rt: HostRuntime) {
     }
 }
 
-/// New communicators wake all who wait for them, once; and so does want of room for one more.
+/// New communicators wake all who wait for them, once; so does want of room for one more, and so
+/// does an instance on the last communicator that there can be.
 #[test]
 fn constructors_are_waited_for(rt: HostRuntime) {
     let gate = new_outcomes(false);
     run(&rt, rt.alloc(), &gate, Play::Dups);
     stands(&rt, &gate.made, 4 * (DUPS - 1));
     stands(&rt, &gate.no_room, 4);
-    stands(&rt, &gate.tries, 4 * DUPS);
+    stands(&rt, &gate.delivered, 4);
+    stands(&rt, &gate.tries, 4 * (DUPS + 1));
 }
 
 /// While a rank works out a large delivery another plays.

@@ -12,13 +12,14 @@ use crate::parties::{RIVALS, front, label, open, wall};
 use coll_routes::{Own, Signature};
 use coll_values::Block;
 use hall_core::{Act, Hall, Posting, Reply};
-use hall_turn::{Answer, Door, Pass, Passes};
+use hall_turn::{Answer, CloseFault, Door, Pass, Passes};
 use mpi_elems::{Buffer, ElemType};
 use rank_run::{Acts, Gate, OpenGate, Run, RunFault, RunReplies, Scripts, run_ranks, wait};
 use std::alloc::Global;
 use std::process::Abort;
 use std::sync::Wait;
 use std::sync::atomic::{AtomicU64, Ordering};
+use std::test::Fail;
 use std::thread;
 use std::thread::Threads;
 use wall_labels::{Label, Op};
@@ -33,8 +34,9 @@ struct Counting {
     before: AtomicU64,
     computing: AtomicU64,
     answered: AtomicU64,
-    /// The sum of the numbers of the calls in which something was computed.
+    /// The sum of the numbers of the calls in which something was computed, and of the processes.
     numbers: AtomicU64,
+    processes: AtomicU64,
 }
 
 fn new_count() -> Counting {
@@ -43,6 +45,7 @@ fn new_count() -> Counting {
         computing: AtomicU64::new(0),
         answered: AtomicU64::new(0),
         numbers: AtomicU64::new(0),
+        processes: AtomicU64::new(0),
     }
 }
 
@@ -51,9 +54,10 @@ impl Gate for Counting {
         self.before.fetch_add(1, Ordering::SeqCst);
     }
 
-    fn computing<R: Wait>(&self, _rt: &R, _process: u32, number: u64) {
+    fn computing<R: Wait>(&self, _rt: &R, process: u32, number: u64) {
         self.computing.fetch_add(1, Ordering::SeqCst);
         self.numbers.fetch_add(number, Ordering::SeqCst);
+        self.processes.fetch_add(process.into(), Ordering::SeqCst);
     }
 
     fn answered<R: Wait>(&self, _rt: &R, _process: u32, _number: u64, _reply: &Reply) {
@@ -269,6 +273,27 @@ fn ranks_meet(rt: HostRuntime) {
     drop(run);
 }
 
+const FAULTS: &[(RunFault, &str)] = &[
+    (RunFault::BadScripts, "not one script for each process"),
+    (RunFault::NoThread, "a thread was refused"),
+    (RunFault::Exhausted, "the door is exhausted"),
+    (RunFault::NoMemory, "out of memory"),
+];
+
+/// What is printed of each fault of a run, and of a door that is not closed.
+#[test]
+fn faults_are_told(rt: HostRuntime) -> Result<(), Fail> {
+    let alloc = rt.alloc();
+    for (fault, text) in FAULTS {
+        let told = format!(in alloc; "{fault}")?;
+        assert!(&rt; told.as_str() == *text);
+    }
+    let missing = CloseFault::MissingPass;
+    let told = format!(in alloc; "{missing}")?;
+    assert!(&rt; told.as_str() == "a pass is missing");
+    Ok(())
+}
+
 #[test]
 fn each_process_has_a_script(rt: HostRuntime) {
     let alloc = rt.alloc();
@@ -287,7 +312,7 @@ fn is_pending<R: Abort>(rt: &R, answer: Answer) {
     drop(answer);
 }
 
-/// A take of a post that waits for the others is tried as often as the patience says.
+/// A take of a post of process 3 that waits for the others is tried as often as the patience says.
 fn wait_alone<R: Wait + Abort>(rt: &R, door: &Door, pass: &mut Pass, patience: u64, tries: u64)
     requires { pass.old.door ≡ door.now }
     ensures { pass.new.door ≡ door.now }
@@ -296,6 +321,7 @@ fn wait_alone<R: Wait + Abort>(rt: &R, door: &Door, pass: &mut Pass, patience: u
     is_pending(rt, wait(rt, door, pass, 0, patience, &gate));
     stands(rt, &gate.computing, tries);
     stands(rt, &gate.numbers, 0);
+    stands(rt, &gate.processes, 3 * tries);
     stands(rt, &gate.before, 0);
     stands(rt, &gate.answered, 0);
 }
