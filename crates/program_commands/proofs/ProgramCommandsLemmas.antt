@@ -13,9 +13,9 @@ no_writer W = None
 
 module _ {S O : Type 0} (A B : Type 0) (wall : ChineseWall) (script : Used S) (out : Used O)
     (ending : Ending) where
-  told_bookless : (scripts : List (List Act)) → (IsNoRun ending × IsUntouched out
+  told_bookless : (scripts : List (List Act)) → (IsNoRun scripts ending × IsUntouched out
       × IsUnkept (no_writer A)) ⊎ Tells wall scripts out (no_writer A) ending
-      → (IsNoRun ending × IsUntouched out × IsUnkept (no_writer B))
+      → (IsNoRun scripts ending × IsUntouched out × IsUnkept (no_writer B))
       ⊎ Tells wall scripts out (no_writer B) ending
   told_bookless scripts (inl a) = inl a
   told_bookless scripts (inr t) =

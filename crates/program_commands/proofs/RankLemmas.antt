@@ -130,11 +130,12 @@ module _ {S O : Type 0} (wall : ChineseWall) (script : Used S) (out : Used O) wh
 
   short : {B : Type 0} (book : Option (Used B)) (scripts : List (List Act)) (ending : Ending) →
       IsUnkept book
-      → (IsNoRun ending × IsUntouched out)
+      → (IsNoRun scripts ending × IsUntouched out)
       ⊎ ((replies : List (List Reply)) × (hall : HallValue)
       × Ran script_patience wall scripts replies hall
       × Breaks out (rank_text wall replies) ending)
-      → (IsNoRun ending × IsUntouched out × IsUnkept book) ⊎ Tells wall scripts out book ending
+      → (IsNoRun scripts ending × IsUntouched out × IsUnkept book)
+      ⊎ Tells wall scripts out book ending
   short book scripts ending none (inl a) = inl (a.0, a.1, none)
   short book scripts ending none (inr a) =
       inr (record { replies = a.0; hall = a.1; ran = a.2; told = inr (a.3, none) })

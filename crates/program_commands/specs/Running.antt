@@ -17,10 +17,11 @@ use Rattle.hall_script.specs.Scripts.{script_limit, members_script, AreActs}
 use Rattle.rank_run.specs.Waits.{script_patience}
 use Rattle.rank_run.specs.declared.fault.RunFault.{RunFault}
 use Rattle.rank_run.specs.declared.fault.RunFault.TheVariants as runs
-use Rattle.rank_run.specs.Ran.{Ran}
+use Rattle.rank_run.specs.Ran.{Ran, MayRunOut}
 use Rattle.program_commands.specs.declared.ending.Ending.{Ending}
 use Rattle.program_commands.specs.declared.ending.Ending.TheVariants.{BadLine, ReadFault, WriteFault}
 use Rattle.program_commands.specs.declared.ending.Ending.TheVariants.{NoThread, Exhausted, NoMemory}
+use Rattle.program_commands.specs.declared.ending.Ending.TheVariants.{BadArguments}
 use Rattle.program_commands.specs.Replaying.{IsKept, IsUnkept}
 use Rattle.program_commands.specs.Walls.{IsPolicyOf, IsNoPolicy}
 
@@ -67,20 +68,21 @@ IsNoScript wall script ending = ⊥
 
 -- ---- the run
 
--- how it ends where the scripts were not run to their ends; there is one script for each process
-abbrev pub IsRunEnding : RunFault → Ending → Type 0
-IsRunEnding runs.BadScripts ending = ⊥
-IsRunEnding runs.NoThread ending = ending ≡ NoThread
-IsRunEnding runs.Exhausted ending = ending ≡ Exhausted
-IsRunEnding runs.NoMemory ending = ending ≡ NoMemory
+-- How it ends where the scripts were not run to their ends. There is one script for each process,
+-- so the first never comes.
+abbrev pub run_ending : RunFault → Ending
+run_ending runs.BadScripts = BadArguments
+run_ending runs.NoThread = NoThread
+run_ending runs.Exhausted = Exhausted
+run_ending runs.NoMemory = NoMemory
 
--- the scripts were not run to their ends: a thread was refused, the door had 2^62 turns, or
--- memory ran out
-abbrev pub IsNoRun : Ending → Type 0
-IsNoRun NoThread = Unit {0}
-IsNoRun Exhausted = Unit {0}
-IsNoRun NoMemory = Unit {0}
-IsNoRun ending = ⊥
+-- These scripts were not run to their ends: a thread was refused; or memory ran out; or the door
+-- had 2^62 turns, which comes only where their acts, each tried as often as it may be, are as many.
+abbrev pub IsNoRun : (scripts : List (List Act)) → Ending → Type 0
+IsNoRun scripts NoThread = Unit {0}
+IsNoRun scripts Exhausted = MayRunOut script_patience scripts
+IsNoRun scripts NoMemory = Unit {0}
+IsNoRun scripts ending = ⊥
 
 abbrev pub break_ending : BookWriteFault → Ending
 break_ending writes.Write = WriteFault
@@ -110,7 +112,8 @@ abbrev pub Runs : {S O B : Type 0}
 Runs wall script out book ending =
     (IsNoScript wall script ending × IsUntouched out × IsUnkept book)
     ⊎ ((scripts : List (List Act)) × IsScriptOf wall script scripts
-    × ((IsNoRun ending × IsUntouched out × IsUnkept book) ⊎ Tells wall scripts out book ending))
+    × ((IsNoRun scripts ending × IsUntouched out × IsUnkept book)
+    ⊎ Tells wall scripts out book ending))
 
 -- How `run` ends: there is no policy, and no other device was touched; or its script was run.
 abbrev pub RunEnds : {P S O B : Type 0}
@@ -136,6 +139,6 @@ abbrev pub FellShort : {S O : Type 0} → ChineseWall → Used S → Used O → 
 FellShort wall script out ending =
     (IsNoScript wall script ending × IsUntouched out)
     ⊎ ((scripts : List (List Act)) × IsScriptOf wall script scripts
-    × ((IsNoRun ending × IsUntouched out)
+    × ((IsNoRun scripts ending × IsUntouched out)
     ⊎ ((replies : List (List Reply)) × (hall : HallValue)
     × Ran script_patience wall scripts replies hall × Breaks out (rank_text wall replies) ending)))

@@ -1,17 +1,16 @@
 //! Runs the calls of a script, each process's in a thread of its own, over any devices.
-ghost use Rattle.std.specs.Prelude.{◌≡◌, ◌≢◌, ◌<◌, ◌++◌, Some, IfOk, IfErr, OnOk, OnErr, length};
+ghost use Rattle.std.specs.Prelude.{◌≡◌, ◌<◌, ◌++◌, Some, IfOk, IfErr, OnOk, OnErr, length};
 ghost use Rattle.std.specs.Prelude.{codes, decimal, string_bytes};
 ghost use Rattle.std.specs.List.{All};
 ghost use Rattle.run_model.specs.Comms.{processes};
 ghost use Rattle.run_model.specs.Known.{IsKnownReply, ScriptsHaveKnownLabels};
-ghost use Rattle.rank_run.specs.declared.fault.RunFault.TheVariants.{BadScripts};
 ghost use Rattle.rank_run.specs.Waits.{script_patience};
 ghost use Rattle.rank_run.specs.Ran.{Ran};
 ghost use Rattle.program_commands.specs.Endings.{EndsSo};
 ghost use Rattle.hall_script.specs.Devices.{used, IsWritten};
 ghost use Rattle.program_commands.specs.Replaying.{perhaps, no_book};
 ghost use Rattle.program_commands.specs.Running.{rank_line, reply_lines, rank_text, IsScriptOf};
-ghost use Rattle.program_commands.specs.Running.{IsNoScript, IsRunEnding, IsNoRun, break_ending, Breaks};
+ghost use Rattle.program_commands.specs.Running.{IsNoScript, run_ending, IsNoRun, break_ending, Breaks};
 ghost use Rattle.program_commands.specs.Running.{FellShort, Reached, RunEnds};
 
 use crate::ending::{Ending, end};
@@ -45,15 +44,16 @@ fn read_scripts<S: Source>(alloc: Global, wall: &Policy, source: &mut S) -> Resu
     }
 }
 
-fn run_ending(fault: RunFault) -> Ending
-    requires { fault ≢ BadScripts }
-    ensures { IsRunEnding fault result }
-{
-    match fault {
-        RunFault::BadScripts => unreachable!(),
-        RunFault::NoThread => Ending::NoThread,
-        RunFault::Exhausted => Ending::Exhausted,
-        RunFault::NoMemory => Ending::NoMemory,
+impl From<RunFault> for Ending {
+    ghost from_gives = { λ fault ending. ending ≡ run_ending fault };
+
+    fn from(fault: RunFault) -> Ending {
+        match fault {
+            RunFault::BadScripts => Ending::BadArguments,
+            RunFault::NoThread => Ending::NoThread,
+            RunFault::Exhausted => Ending::Exhausted,
+            RunFault::NoMemory => Ending::NoMemory,
+        }
     }
 }
 
@@ -67,12 +67,10 @@ fn run_scripts<R: Threads + Wait + Sync>(
     requires named { ScriptsHaveKnownLabels wall scripts }
     requires long { length scripts ≡ processes wall }
     ensures ran { IfOk result (λ run. Ran script_patience wall scripts run.replies run.hall) }
-    ensures ending { IfErr result IsNoRun }
+    ensures ending { IfErr result (IsNoRun scripts) }
 {
-    match run_ranks(rt, alloc, wall, scripts, &OpenGate) {
-        Ok(run) => Ok(run),
-        Err(fault) => Err(run_ending(fault)),
-    }
+    let run = run_ranks(rt, alloc, wall, scripts, &OpenGate)?;
+    Ok(run)
 }
 
 // Puts the line of a process.
