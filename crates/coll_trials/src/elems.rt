@@ -253,19 +253,20 @@ fn names_and_allows(rt: HostRuntime) {
     drop(other);
 }
 
-const TYPES: &[ElemType] = &[
-    ElemType::Int8,
-    ElemType::Int16,
-    ElemType::Int32,
-    ElemType::Int64,
-    ElemType::Uint8,
-    ElemType::Uint16,
-    ElemType::Uint32,
-    ElemType::Uint64,
-    ElemType::TwoInt,
+// Each type, and how many numbers 65,536 elements have, which are as many as a post may give.
+const TYPES: &[(ElemType, usize)] = &[
+    (ElemType::Int8, 65_536),
+    (ElemType::Int16, 65_536),
+    (ElemType::Int32, 65_536),
+    (ElemType::Int64, 65_536),
+    (ElemType::Uint8, 65_536),
+    (ElemType::Uint16, 65_536),
+    (ElemType::Uint32, 65_536),
+    (ElemType::Uint64, 65_536),
+    (ElemType::TwoInt, 131_072),
 ];
 
-// As many elements as a post may give, all of zeros, which are read at once and told one by one.
+// So many elements, all of zeros, which are read at once and told one by one.
 fn expect_most(rt: &(impl AllocGlobal + Abort), ty: ElemType, zeros: &[i128]) {
     let most = buffer(rt, ty, zeros);
     assert_eq!(rt; most.count(), 65_536, "{ty:?}");
@@ -288,9 +289,9 @@ fn holds_as_many_as_a_post_may_give(rt: HostRuntime) {
     let Ok(zeros) = vec![in rt.alloc(); 0i128; 131_072] else {
         panic!(&rt; "no memory")
     };
-    for ty in TYPES {
-        let numbers = 65_536 * ty.numbers_per_element() as usize;
-        let (front, _) = zeros.split_at(numbers);
+    for (ty, numbers) in TYPES {
+        assert!(&rt; *numbers <= zeros.len());
+        let (front, _) = zeros.split_at(*numbers);
         expect_most(&rt, *ty, front);
         expect_room(&rt, *ty, 65_536);
     }

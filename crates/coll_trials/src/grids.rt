@@ -122,7 +122,16 @@ fn shifts(rt: HostRuntime) {
     drop(grid);
 }
 
-// Of rank 0, in the order of the slots.
+// The neighbours of a rank, in the order of the slots.
+fn expect_neighbours(rt: &impl Abort, grid: &Grid, rank: u32, expected: &[Option<u32>]) {
+    assert!(rt; rank < grid.size() && expected.len() < 10);
+    for (slot, expected) in expected.iter().enumerate() {
+        let found = grid.neighbour(rank, slot as u32);
+        assert_eq!(rt; found, *expected, "{rank}, slot {slot}");
+    }
+}
+
+// Of rank 0.
 const NEIGHBOURS: &[Option<u32>] = &[None, Some(3), Some(2), Some(1), None];
 
 #[test]
@@ -152,6 +161,9 @@ fn keeps_dimensions(rt: HostRuntime) {
     drop(grid);
 }
 
+// Of the last rank of eight periodic dimensions of size 2.
+const LAST: &[Option<u32>] = &[Some(127), Some(127), Some(191), Some(191)];
+
 // As many dimensions as there may be, and as many ranks as there may be processes.
 #[test]
 fn most_dimensions(rt: HostRuntime) {
@@ -159,14 +171,13 @@ fn most_dimensions(rt: HostRuntime) {
     assert_eq!(rt; grid.size(), 256);
     let copy = made(&rt, grid.copy(rt.alloc()));
     assert!(rt; copy.is_same(&grid));
-    assert_eq!(rt; copy.neighbour(255, 0), Some(127));
+    expect_neighbours(&rt, &copy, 255, LAST);
     drop(copy);
     let first = [true, false, false, false, false, false, false, false];
     let line = made(&rt, grid.sub(rt.alloc(), &first));
     assert_eq!(rt; line.dims(), [2].as_slice());
     drop(line);
-    assert_eq!(rt; grid.neighbour(255, 0), Some(127));
-    assert_eq!(rt; grid.neighbour(255, 1), Some(127));
+    expect_neighbours(&rt, &grid, 255, LAST);
     drop(grid);
 }
 
@@ -197,14 +208,6 @@ const FAR: &[(u32, [Option<u32>; 4])] = &[
         [Some(4_294_836_224), Some(65_534), Some(4_294_901_758), None],
     ),
 ];
-
-fn expect_neighbours(rt: &impl Abort, grid: &Grid, rank: u32, expected: &[Option<u32>]) {
-    assert!(rt; rank < grid.size());
-    for (slot, expected) in expected.iter().enumerate() {
-        let found = grid.neighbour(rank, slot as u32);
-        assert_eq!(rt; found, *expected, "{rank}, slot {slot}");
-    }
-}
 
 #[test]
 fn neighbours_in_a_large_grid(rt: HostRuntime) {
