@@ -1,7 +1,7 @@
 -- Fields that are spelled are read again, and make the same statement.
-use Rattle.std.proofs.Common.{◌≡◌, ℕ, ◌+◌, ◌^◌, ◌<◌, ◌≤◌, Bool, true, false, eqb, length, List, []}
-use Rattle.std.proofs.Common.{◌∷◌, ◌++◌, All, Option, Some, None, Result, Ok, Err, ℤ, pos, negsuc}
-use Rattle.std.proofs.Common.{codes, map, refl, sym, ap, subst, ◌∙◌, arith}
+use Rattle.std.proofs.Common.{◌≡◌, ℕ, ◌^◌, ◌<◌, ◌≤◌, Bool, true, false, eqb, length, List, []}
+use Rattle.std.proofs.Common.{◌∷◌, ◌++◌, Option, Some, None, Ok, Err, ℤ, pos, negsuc}
+use Rattle.std.proofs.Common.{codes, map, refl, sym, ap, ◌∙◌, arith}
 use Rattle.std.specs.List.{AllByRecursion, list_all, join_with_byte}
 use Rattle.std.specs.Str.{bytes_eq}
 use Rattle.std.specs.Prelude.{IfSome}
@@ -25,21 +25,20 @@ use Rattle.coll_routes.specs.declared.statement.Own.{Own}
 use Rattle.coll_routes.specs.declared.statement.Own.TheVariants as owns
 use Rattle.coll_routes.specs.Kinds.{kind_name, kind_of}
 use Rattle.coll_routes.specs.Signatures.{kind, root, reduction, elem_type, count, numbers, flags}
-use Rattle.coll_text.specs.declared.fault.LineFault.{LineFault}
 use Rattle.coll_text.specs.declared.fault.LineFault.TheVariants.{BadField}
 use Rattle.coll_text.specs.declared.table.Form.{Form}
 use Rattle.coll_text.specs.declared.table.Form.TheVariants.{Root, Operation, Typed, Count, Counts}
 use Rattle.coll_text.specs.declared.table.Form.TheVariants.{Listed, Flagged, Colour, Key}
 use Rattle.coll_text.specs.declared.table.Fields.{Fields}
-use Rattle.coll_text.specs.Numbers.{Word, is_digit, number_within, signed_within, IsBetween}
-use Rattle.coll_text.specs.Reading.{◌>>=◌, some_or, each_of, list_of, flag_of, word_at}
+use Rattle.coll_text.specs.Numbers.{Word, is_digit, number_within}
+use Rattle.coll_text.specs.Reading.{some_or, flag_of}
 use Rattle.coll_text.specs.Table.{forms_of, signature_of, own_of, no_fields, fields_of}
 use Rattle.coll_routes.specs.Owns.{is_own_of}
 use Rattle.coll_text.specs.Fields.{number_of, key_of, colour_of, with_field, fields_at}
 use Rattle.coll_text.specs.Fields.{statement_at}
 use Rattle.coll_text.specs.Spellings.{list_word, flag_word, colour_word, word_of, words_of}
 use Rattle.coll_text.specs.Spellings.{statement_words, IsSigned32, Fits, IsSpellable, put, put_all}
-use Rattle.coll_text.proofs.NumberLemmas.{own, form, no_comma, decimal_is_number, signed_is_read}
+use Rattle.coll_text.proofs.NumberLemmas.{own, no_comma, decimal_is_number, signed_is_read}
 use Rattle.coll_text.proofs.NumberLemmas.{Readable, list_again, not_true}
 
 type_again : (t : ElemType) → type_of (type_name t) ≡ Some t

@@ -4,7 +4,6 @@ use Rattle.std.proofs.Common.{length, get_or, drop, Option, Some, None, Result, 
 use Rattle.std.proofs.Common.{ap, ◌∙◌}
 use Rattle.std.specs.Prelude.{IsOk}
 use Rattle.std.proofs.lemmas.List.{drop_more, drop_all}
-use Rattle.wall_labels.specs.declared.op.Op.{Op}
 use Rattle.wall_labels.specs.Ops.{op_of}
 use Rattle.mpi_elems.specs.declared.elem_type.ElemType.{ElemType}
 use Rattle.mpi_elems.specs.Types.{type_of}

@@ -1,5 +1,5 @@
 -- Fields that are read are spelled so.
-use Rattle.std.proofs.Common.{◌≡◌, ℕ, suc, zero, ◌+◌, ◌^◌, ◌<◌, ◌≤◌, Bool, true, false, not, cond}
+use Rattle.std.proofs.Common.{◌≡◌, ℕ, suc, zero, ◌^◌, ◌<◌, Bool, true, false, not, cond}
 use Rattle.std.proofs.Common.{◌&&◌, eqb, length, List, [], ◌∷◌, ◌++◌, Option, Some, None}
 use Rattle.std.proofs.Common.{option_map, option_and_then, find, Result, Ok, Err, ℤ, pos, negsuc}
 use Rattle.std.proofs.Common.{codes, map, refl, sym, ap, subst, ◌∙◌, arith}

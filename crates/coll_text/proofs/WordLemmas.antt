@@ -2,7 +2,7 @@
 use Rattle.wall_policy.specs.Known.{IsKnownLabel}
 use Rattle.std.proofs.Common.{◌≡◌, ℕ, suc, ◌+◌, ◌^◌, ◌<◌, Bool, true, false, not, cond, ◌&&◌, eqb}
 use Rattle.std.proofs.Common.{length, List, [], ◌∷◌, Option, Some, None, option_map, slice_get}
-use Rattle.std.proofs.Common.{get_or, unwrap_or, Ok, codes, refl, sym, ap, ◌∙◌, arith}
+use Rattle.std.proofs.Common.{get_or, unwrap_or, Ok, codes, refl, ap, ◌∙◌, arith}
 use Rattle.std.specs.List.{position_from}
 use Rattle.std.specs.Str.{bytes_eq}
 use Rattle.std.specs.Fmt.{decimal}

@@ -1,6 +1,6 @@
 -- What is told of words that are not kept: for a reader that found no memory for what they say.
 -- (Own rules.)
-use Rattle.std.specs.Prelude.{List, [], ◌∷◌, Option, Some, None, Result, Ok, Err}
+use Rattle.std.specs.Prelude.{List, [], ◌∷◌, Option, Some, None, Result, Ok}
 use Rattle.wall_labels.specs.Ops.{op_of}
 use Rattle.mpi_elems.specs.declared.elem_type.ElemType.{ElemType}
 use Rattle.mpi_elems.specs.Types.{type_of}

@@ -1,7 +1,7 @@
 -- A kind with its fields, read from the left: the grammar that scripts and books share. (Own
 -- format.)
-use Rattle.std.specs.Prelude.{ℕ, ℤ, Bool, List, [], ◌∷◌, codes, Option, Some, None, option_map}
-use Rattle.std.specs.Prelude.{Result, Ok, Err, if◌then◌else◌}
+use Rattle.std.specs.Prelude.{ℕ, ℤ, List, [], ◌∷◌, codes, Option, Some, None, option_map}
+use Rattle.std.specs.Prelude.{Result, Ok, if◌then◌else◌}
 use Rattle.std.specs.Str.{bytes_eq}
 use Rattle.wall_labels.specs.Ops.{op_of}
 use Rattle.mpi_elems.specs.Types.{type_of}

@@ -1,5 +1,5 @@
 -- Words behind separators: words of private contracts.
-use Rattle.std.specs.Prelude.{ℕ, List, [], ◌∷◌, ◌++◌, map}
+use Rattle.std.specs.Prelude.{ℕ, List, ◌∷◌}
 use Rattle.std.specs.List.{flat_map}
 use Rattle.coll_text.specs.Numbers.{Word}
 

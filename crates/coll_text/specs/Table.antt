@@ -1,6 +1,6 @@
 -- The fields of each kind in their order, and what they make. (Own format; the kinds are those of
 -- MPI 4.1, chapters 6 to 8.)
-use Rattle.std.specs.Prelude.{ℕ, ℤ, pos, Bool, true, false, List, [], ◌∷◌, Option, Some, None}
+use Rattle.std.specs.Prelude.{ℤ, pos, List, [], ◌∷◌, Option, None}
 use Rattle.std.specs.Prelude.{unwrap_or}
 use Rattle.wall_labels.specs.declared.op.Op.TheVariants as ops
 use Rattle.mpi_elems.specs.declared.elem_type.ElemType.TheVariants as types

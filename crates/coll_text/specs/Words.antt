@@ -1,11 +1,10 @@
 -- The words that name a policy's datasets and processes, and the rules of the wall. (Own format.)
-use Rattle.std.specs.Prelude.{ℕ, ◌<◌, List, [], length, codes, Option, Some, None, option_map}
+use Rattle.std.specs.Prelude.{ℕ, List, [], codes, option_map}
 use Rattle.std.specs.Prelude.{unwrap_or, slice_get, Result, Ok, if◌then◌else◌}
 use Rattle.std.specs.Str.{bytes_eq}
 use Rattle.wall_labels.specs.declared.label.Label.{Label}
 use Rattle.wall_labels.specs.declared.label.Label.TheVariants.{Public, Of}
 use Rattle.wall_policy.specs.Names.{place_of}
-use Rattle.wall_policy.specs.Policy.{ChineseWall}
 use Rattle.wall_verdict.specs.declared.verdict.Rule.{Rule}
 use Rattle.wall_verdict.specs.declared.verdict.Rule.TheVariants.{Star, Simple}
 use Rattle.coll_text.specs.declared.fault.LineFault.{LineFault}

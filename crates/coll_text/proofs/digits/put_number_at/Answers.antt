@@ -1,4 +1,4 @@
-use Rattle.std.proofs.Common.{FitsSigned, ap, ◌∙◌, rules}
+use Rattle.std.proofs.Common.{FitsSigned, rules}
 use Rattle.std.specs.Int.{w128}
 use Rattle.std.proofs.lemmas.Int.{to_z-of_z}
 use Rattle.coll_text.proofs.BatchLemmas.{number_small}

@@ -1,4 +1,4 @@
-use Rattle.std.proofs.Common.{◌≡◌, ◌+◌, ◌≤◌, length, true, take, drop, arith, sym, ap, ◌∙◌}
+use Rattle.std.proofs.Common.{◌≡◌, ◌+◌, ◌≤◌, length, true, take, drop, arith, sym, ◌∙◌}
 use Rattle.std.specs.List.{list_all}
 use Rattle.coll_text.specs.Numbers.{is_digit, value_after}
 use Rattle.coll_text.proofs.StepLemmas.{digits_eight, value_eight, small_eight, fits_eight}

@@ -1,5 +1,4 @@
-use Rattle.std.proofs.Common.{◌≡◌, ◌≤◌, ◌<◌, ◌-◌, length, true, get_or, arith, sym, ◌∙◌, refl}
-use Rattle.coll_text.specs.Numbers.{is_digit}
+use Rattle.std.proofs.Common.{◌≡◌, ◌≤◌, ◌<◌, ◌-◌, length, get_or, arith, sym, ◌∙◌, refl}
 use Rattle.coll_text.proofs.FrontLemmas.{value_more, digit_range, fits, fits_more}
 use Rattle.coll_text.proofs.StepLemmas.{digit_at, whole_step, small_step}
 use Rattle.coll_text.proofs.front.value_of_step.Goals as goal

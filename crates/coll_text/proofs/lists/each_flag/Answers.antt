@@ -1,4 +1,3 @@
-use Rattle.std.proofs.Common.{◌≡◌}
 use Rattle.std.proofs.lemmas.Result.{err_from_is_err_and}
 use Rattle.coll_text.specs.Reading.{each_of, flag_of, parts}
 use Rattle.coll_text.proofs.EachLemmas.{goes_on, ends, is_done}

@@ -1,4 +1,4 @@
-use Rattle.std.proofs.Common.{◌∷◌, ap, sym, ◌∙◌, ◌≡◌, ◌++◌}
+use Rattle.std.proofs.Common.{ap, ◌∙◌, ◌≡◌, ◌++◌}
 use Rattle.coll_routes.specs.Kinds.{kind_name}
 use Rattle.coll_routes.specs.Signatures.{kind}
 use Rattle.coll_text.specs.Table.{forms_of, fields_of}
