@@ -4,3 +4,4 @@ pub mod Jobs
 pub mod Ran
 pub mod Rows
 pub mod Asked
+pub mod Large

@@ -1,9 +1,13 @@
-//! The part of a rank in a run: what its thread does round its calls. Nothing is proved of it.
+//! The part of a rank in a run: what its thread does round its calls. Nothing is proved of it but
+//! which deliveries are large.
+ghost use Rattle.std.specs.Prelude.{◌↔◌, ◌≤◌, IsTrue};
+ghost use Rattle.rank_run.specs.Large.{IsLarge, all_given};
 
 use crate::gate::Gate;
 use crate::requests::Requests;
 use crate::waiting::Pause;
 use hall_core::{Claim, Reply};
+use mpi_elems::Buffer;
 use rank_stage::{Aside, Role, Stage};
 use std::sync::Wait;
 
@@ -29,16 +33,27 @@ pub(crate) struct Part<'r, G> {
 // A delivery is large if so many elements were given to its instance.
 const LARGE: usize = 4096;
 
-// Whether it takes long to work out the reply.
-fn is_large(claim: &Claim) -> bool {
-    let Claim::Ready { full, .. } = claim else {
-        return false;
-    };
+fn are_many(parts: &[Buffer]) -> bool
+    ensures { IsTrue result ↔ (4096 ≤ all_given parts.now) }
+{
     let mut given: usize = 0;
-    for part in full.parts.as_slice() {
+    for part in parts {
         given = given.saturating_add(part.count());
+        if given >= LARGE {
+            return true;
+        }
     }
-    given >= LARGE
+    false
+}
+
+// Whether it takes long to work out the reply.
+fn is_large(claim: &Claim) -> bool
+    ensures { IsTrue result ↔ IsLarge claim.now }
+{
+    match claim {
+        Claim::Ready { full, .. } => are_many(full.parts.as_slice()),
+        Claim::Done(_) => false,
+    }
 }
 
 impl<'r, G: Gate> Part<'r, G> {
