@@ -19,8 +19,8 @@ Stands wall hall run = (hall.policy ≡ wall) × StandsFor hall run
 unfoldable pub entries_of : ChineseWall → List Entry → ℕ
 entries_of wall run = length (book wall (posts run))
 
--- The entry is that of a post that settles its instance: the book has two entries more with it, that
--- of the post and that of the instance.
+-- The entry is that of a post that settles its instance: with it the book has two entries more,
+-- that of the post and that of the instance.
 abbrev pub Settles : ChineseWall → (run : List Entry) → Entry → Type 0
 Settles wall run e = entries_of wall (e ∷ run) ≡ entries_of wall run + 2
 

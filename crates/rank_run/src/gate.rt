@@ -10,8 +10,9 @@ pub trait Gate {
     /// The process is about to make its call of this number.
     fn before_call<R: Wait>(&self, rt: &R, process: u32, number: u64);
 
-    /// The process has claimed the outcome of a request in its call of this number, its turn is
-    /// over, and it is about to work out the reply. It comes at every try of a take.
+    /// The process has claimed the outcome of a request in its call of this number, and its turn is
+    /// over. The reply is there, as `Pending` is, or is worked out next. It comes at every try of a
+    /// take.
     fn computing<R: Wait>(&self, rt: &R, process: u32, number: u64);
 
     /// The process got this reply to its call of this number.
