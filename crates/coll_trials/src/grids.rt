@@ -183,11 +183,11 @@ fn most_dimensions(rt: HostRuntime) {
 
 // Ranks of a grid of 65,536 rows and 65,535 columns, with the neighbour in each slot: the first,
 // those at the end of what the grid keeps in its table, and the last.
-const FAR: &[(u32, [Option<u32>; 4])] = &[
-    (0, [Some(4_294_836_225), Some(65_535), None, Some(1)]),
+const FAR: &[(u32, &[Option<u32>])] = &[
+    (0, &[Some(4_294_836_225), Some(65_535), None, Some(1)]),
     (
         16_383,
-        [
+        &[
             Some(4_294_852_608),
             Some(81_918),
             Some(16_382),
@@ -196,7 +196,7 @@ const FAR: &[(u32, [Option<u32>; 4])] = &[
     ),
     (
         16_384,
-        [
+        &[
             Some(4_294_852_609),
             Some(81_919),
             Some(16_383),
@@ -205,7 +205,7 @@ const FAR: &[(u32, [Option<u32>; 4])] = &[
     ),
     (
         4_294_901_759,
-        [Some(4_294_836_224), Some(65_534), Some(4_294_901_758), None],
+        &[Some(4_294_836_224), Some(65_534), Some(4_294_901_758), None],
     ),
 ];
 
