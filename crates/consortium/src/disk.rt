@@ -236,19 +236,19 @@ impl<'a> Env for System<'a> {
     }
 }
 
-/// A stream that keeps what it is given, in pieces of no more than `step` bytes, until a call
-/// fails.
+/// A stream that keeps what it is given, in pieces of no more than `step` bytes. One call fails.
 #[derive(Drop)]
 pub struct Stream<'a> {
     pub kept: &'a RefCell<Vec<u8>>,
     pub step: usize,
-    /// How many calls go well before all fail.
+    /// How many calls go well before one fails.
     pub left: u64,
 }
 
 impl<'a> Write for Stream<'a> {
     fn write(&mut self, bytes: &[u8]) -> io::Result<usize> {
         if self.left == 0 {
+            self.left = u64::MAX;
             return Err(refused());
         }
         self.left -= 1;

@@ -1,4 +1,6 @@
 //! Devices at their limits, and texts that are cut or spoiled.
+use super::run_tests::ALONE;
+use super::tests::{sink, source};
 use super::*;
 use program_commands::{audit_on, replay_on, run_on};
 use std::process::Abort;
@@ -7,16 +9,6 @@ use std::test::Fail;
 use std::thread::Threads;
 use wall_labels::memory::{ExpectingSink, Fuse, MemorySource};
 use wall_labels::{Failed, Source};
-
-// One process of one bank.
-const ALONE: &[u8] = b"version = 1
-[[class]]
-name = \"banks\"
-datasets = [\"alpha\", \"beta\"]
-[[process]]
-name = \"p0\"
-home = \"alpha\"
-";
 
 // Two banks; the third process has no home.
 const RIVALS: &[u8] = b"version = 1
@@ -72,19 +64,8 @@ fn long<'a>(front: &'a [u8], length: usize) -> Repeating<'a> {
     }
 }
 
-fn sink<'a>(rest: &'a [u8]) -> ExpectingSink<'a> {
-    ExpectingSink {
-        rest,
-        is_same: true,
-        fuse: Fuse::Whole,
-    }
-}
-
 fn whole<'a>(rest: &'a [u8]) -> MemorySource<'a> {
-    MemorySource {
-        rest,
-        fuse: Fuse::Whole,
-    }
+    source(rest, Fuse::Whole)
 }
 
 // The status of a replay, or of a run, if it writes nothing but this line.
@@ -99,8 +80,8 @@ fn silent_status<R, P: Source, S: Source>(
 where
     R: AllocGlobal + Threads + Wait + Sync,
 {
-    let mut out = sink(said);
-    let mut err = sink(line);
+    let mut out = sink(said, Fuse::Whole);
+    let mut err = sink(line, Fuse::Whole);
     let book = None::<&mut ExpectingSink>;
     let status = if is_run {
         run_on(rt, rt.alloc(), policy, script, &mut out, &mut err, book)
@@ -128,20 +109,30 @@ fn policies_have_a_limit(rt: HostRuntime) {
     }
 }
 
+// Whether it is a run, the bytes of a script, what is written, on standard error too, and the
+// status.
+const SCRIPTS: &[(bool, usize, &str, &str, u8)] = &[
+    (false, 16777216, "", "", 0),
+    (false, 16777217, "", "read fault\n", 3),
+    (true, 16777216, "rank 0 p0\n", "", 0),
+    (true, 16777217, "", "read fault\n", 3),
+];
+
 // The limit is 16,777,216 bytes, as that of policies; of that length here is a comment.
 #[test]
 fn scripts_have_a_limit(rt: HostRuntime) {
-    let rows = [
-        (false, 16777216, "", "", 0),
-        (false, 16777217, "", "read fault\n", 3),
-        (true, 16777216, "rank 0 p0\n", "", 0),
-        (true, 16777217, "", "read fault\n", 3),
-    ];
-    for (is_run, length, said, line, status) in rows {
-        let mut script = long(b"", length);
+    for (is_run, length, said, line, status) in SCRIPTS {
+        let mut script = long(b"", *length);
         let (said, line) = (said.as_bytes(), line.as_bytes());
-        let given = silent_status(&rt, &mut whole(ALONE), &mut script, said, line, is_run);
-        assert_eq!(&rt; given, Some(status), "{length}");
+        let given = silent_status(
+            &rt,
+            &mut whole(ALONE.as_bytes()),
+            &mut script,
+            said,
+            line,
+            *is_run,
+        );
+        assert_eq!(&rt; given, Some(*status), "{length}");
     }
 }
 
@@ -152,8 +143,8 @@ fn audit_status<B: Source>(
     line: &[u8],
 ) -> Option<u8> {
     let mut policy = whole(RIVALS);
-    let mut out = sink(said);
-    let mut err = sink(line);
+    let mut out = sink(said, Fuse::Whole);
+    let mut err = sink(line, Fuse::Whole);
     let status = audit_on(rt.alloc(), &mut policy, book, &mut out, &mut err);
     let is_same = out.is_same && err.is_same && out.rest.is_empty() && err.rest.is_empty();
     if is_same { Some(status) } else { None }
@@ -192,49 +183,53 @@ fn books_are_cut_at_every_byte(rt: HostRuntime) {
     }
 }
 
+// Books that are none, and the line that is told.
+const SPOILED: &[(&str, &str)] = &[
+    ("book 1\nbook 1\nend 0\n", "book: line 2\n"),
+    ("book 1\nend 0\nend 0\n", "book: line 3\n"),
+    ("book 1\nend 0\n\n", "book: line 3\n"),
+    ("book 1\nend 1\n", "book: line 2\n"),
+    ("book 1\nend 00\n", "book: line 2\n"),
+    ("book 1\r\nend 0\n", "book: line 1\n"),
+    ("book 1\n\nend 0\n", "book: line 2\n"),
+    (" book 1\nend 0\n", "book: line 1\n"),
+    ("book 1 \nend 0\n", "book: line 1\n"),
+    ("book 1\n#\nend 0\n", "book: line 2\n"),
+];
+
 // A book as long as BOOK with other lines in it.
 #[test]
-fn spoiled_books_are_refused(rt: HostRuntime) -> Result<(), Fail> {
-    let rows = [
-        ("book 1\nbook 1\nend 0\n", "book: line 2\n"),
-        ("book 1\nend 0\nend 0\n", "book: line 3\n"),
-        ("book 1\nend 0\n\n", "book: line 3\n"),
-        ("book 1\nend 1\n", "book: line 2\n"),
-        ("book 1\nend 00\n", "book: line 2\n"),
-        ("book 1\r\nend 0\n", "book: line 1\n"),
-        ("book 1\n\nend 0\n", "book: line 2\n"),
-        (" book 1\nend 0\n", "book: line 1\n"),
-        ("book 1 \nend 0\n", "book: line 1\n"),
-        ("book 1\n#\nend 0\n", "book: line 2\n"),
-    ];
-    for (book, line) in rows {
+fn spoiled_books_are_refused(rt: HostRuntime) {
+    for (book, line) in SPOILED {
         let status = audit_status(&rt, &mut whole(book.as_bytes()), b"", line.as_bytes());
         assert_eq!(&rt; status, Some(2), "{book}");
     }
-    Ok(())
 }
+
+// So many bytes of a line, and what comes of them: what is written, on standard error too, and the
+// status.
+const CUT: &[(usize, &str, &str, u8)] = &[
+    (38, "posted 0\n", "", 0),
+    (37, "", "script: line 1: BadNumber\n", 2),
+    (36, "", "script: line 1: BadShape\n", 2),
+    (35, "refused BadCount\n", "", 0),
+    (33, "refused BadCount\n", "", 0),
+    (27, "", "script: line 1: BadShape\n", 2),
+    (25, "", "script: line 1: BadShape\n", 2),
+    (14, "", "script: line 1: BadShape\n", 2),
+    (13, "", "script: line 1: BadKind\n", 2),
+    (3, "", "script: line 1: BadVerb\n", 2),
+    (0, "", "", 0),
+];
 
 // The first line of a script, cut within its words and behind them.
 #[test]
 fn lines_are_cut(rt: HostRuntime) {
     let line = b"post 0 0 bcast 0 int32 2 as alpha 7 -1";
-    let rows = [
-        (38, "posted 0\n", "", 0),
-        (37, "", "script: line 1: BadNumber\n", 2),
-        (36, "", "script: line 1: BadShape\n", 2),
-        (35, "refused BadCount\n", "", 0),
-        (33, "refused BadCount\n", "", 0),
-        (27, "", "script: line 1: BadShape\n", 2),
-        (25, "", "script: line 1: BadShape\n", 2),
-        (14, "", "script: line 1: BadShape\n", 2),
-        (13, "", "script: line 1: BadKind\n", 2),
-        (3, "", "script: line 1: BadVerb\n", 2),
-        (0, "", "", 0),
-    ];
-    for (length, said, told, status) in rows {
+    for (length, said, told, status) in CUT {
         let (said, told) = (said.as_bytes(), told.as_bytes());
-        let mut script = whole(&line[..length.min(line.len())]);
+        let mut script = whole(&line[..line.len().min(*length)]);
         let given = silent_status(&rt, &mut whole(RIVALS), &mut script, said, told, false);
-        assert_eq!(&rt; given, Some(status), "{length}");
+        assert_eq!(&rt; given, Some(*status), "{length}");
     }
 }

@@ -1,6 +1,6 @@
-//! As many processes and datasets as there can be.
+//! As many processes, datasets, elements, members and communicators as there can be.
 
-use super::run_tests::runs_so;
+use super::run_tests::{ALONE, runs_so};
 use super::tests::ends_so;
 use super::*;
 use std::alloc::{AllocError, Global};
@@ -79,5 +79,154 @@ fn the_last_two_datasets_are_rivals(rt: HostRuntime) -> Result<(), Fail> {
         let said = format!(in rt.alloc(); "posted 0\nposted 0\n{denied}{denied}")?;
         assert!(&rt; ends_so(&rt, policy.as_str(), script, said.as_str(), "", 0));
     }
+    Ok(())
+}
+
+// So many copies of a word, each behind a space.
+fn repeated(alloc: Global, word: &str, count: u32) -> Result<String, Fail> {
+    let mut text = String::new(alloc);
+    for _ in 0..count {
+        text.push_str(" ")?;
+        text.push_str(word)?;
+    }
+    Ok(text)
+}
+
+// Kinds to which one member gives 65,536 elements, and an element.
+const WIDE: &[(&str, &str)] = &[
+    ("allgather int8 65536", "1"),
+    ("gatherv 0 int64", "1"),
+    ("allgatherv 2int", "1 0"),
+];
+
+// A post of 65,536 elements, and of one more.
+#[test]
+fn as_many_elements_are_given_as_there_can_be(rt: HostRuntime) -> Result<(), Fail> {
+    for (kind, one) in WIDE {
+        let rest = repeated(rt.alloc(), one, 65535)?;
+        let script = format!(in rt.alloc();
+            "post 0 0 {kind} as alpha {one}{rest}\ntake 0 0\npost 0 0 {kind} as alpha {one} {one}{rest}\n"
+        )?;
+        let said = format!(in rt.alloc(); "posted 0\ndelivered [{one}{rest}]\nrefused BadCount\n")?;
+        assert!(&rt;
+            ends_so(&rt, ALONE, script.as_bytes(), &said, "", 0),
+            "{kind}"
+        );
+        let ran = format!(in rt.alloc(); "rank 0 p0\n{said}")?;
+        assert!(&rt; runs_so(&rt, ALONE, &script, &ran, "", 0), "{kind}");
+    }
+    Ok(())
+}
+
+// A grid of eight dimensions with two places each, of the world; the ranks of all neighbours there;
+// and a split of the world by parity, members from the last to the first.
+fn grid_script(alloc: Global) -> Result<String, Fail> {
+    let mut script = String::new(alloc);
+    for p in 0..256u32 {
+        write!(
+            script,
+            "post {p} 0 cart_create 2,2,2,2,2,2,2,2 1,1,1,1,1,1,1,1\n"
+        )?;
+    }
+    for p in 0..256u32 {
+        write!(
+            script,
+            "take {p} 0\npost {p} 1 neighbor_allgather int32 1 as public {p}\n"
+        )?;
+    }
+    for p in 0..256u32 {
+        let (colour, sign) = (p % 2, if p == 0 { "" } else { "-" });
+        write!(script, "post {p} 0 split {colour} {sign}{p}\n")?;
+    }
+    for p in 0..256u32 {
+        write!(script, "take {p} 1\ntake {p} 2\n")?;
+    }
+    Ok(script)
+}
+
+// What a process takes of its neighbours and of the split.
+fn put_takes(text: &mut String, p: u32) -> Result<(), Fail> {
+    text.push_str("delivered")?;
+    for d in 0..8u32 {
+        let neighbour = p ^ (128 >> d);
+        write!(text, " [{neighbour}] [{neighbour}]")?;
+    }
+    let comm = 2 + p % 2;
+    let rank = 255u32.saturating_sub(p) / 2;
+    write!(text, "\ncomm {comm} rank {rank} size 128\n")?;
+    Ok(())
+}
+
+// The replies to these calls, in a replay.
+fn grid_replies(alloc: Global) -> Result<String, Fail> {
+    let mut said = String::new(alloc);
+    for _ in 0..256u32 {
+        said.push_str("posted 0\n")?;
+    }
+    for p in 0..256u32 {
+        write!(said, "comm 1 rank {p} size 256\nposted 1\n")?;
+    }
+    for _ in 0..256u32 {
+        said.push_str("posted 2\n")?;
+    }
+    for p in 0..256u32 {
+        put_takes(&mut said, p)?;
+    }
+    Ok(said)
+}
+
+// The same in a run.
+fn grid_ranks(alloc: Global) -> Result<String, Fail> {
+    let mut said = String::new(alloc);
+    for p in 0..256u32 {
+        write!(
+            said,
+            "rank {p} p{p}\nposted 0\ncomm 1 rank {p} size 256\nposted 1\nposted 2\n"
+        )?;
+        put_takes(&mut said, p)?;
+    }
+    Ok(said)
+}
+
+#[test]
+fn groups_are_as_large_as_they_can_be(rt: HostRuntime) -> Result<(), Fail> {
+    let policy = crowd(rt.alloc(), 256)?;
+    let script = grid_script(rt.alloc())?;
+    let replies = grid_replies(rt.alloc())?;
+    assert!(&rt; ends_so(&rt, &policy, script.as_bytes(), &replies, "", 0));
+    let ranks = grid_ranks(rt.alloc())?;
+    assert!(&rt; runs_so(&rt, &policy, &script, &ranks, "", 0));
+    Ok(())
+}
+
+// Constructors where all communicators are made, and what each comes to. The first communicator is
+// a grid.
+const LATE: &[(&str, &str)] = &[
+    ("0 split 0 0", "noroom"),
+    ("0 create 0", "noroom"),
+    ("0 cart_create 1 0", "noroom"),
+    ("1 cart_sub 1", "noroom"),
+    ("0 split undefined 0", "null"),
+    ("0 create -", "null"),
+    ("0 dup", "noroom"),
+];
+
+// A process makes communicators until there are 1,024 with the world.
+#[test]
+fn communicators_have_a_limit(rt: HostRuntime) -> Result<(), Fail> {
+    let mut script = String::from_str(rt.alloc(), "post 0 0 cart_create 1 0\ntake 0 0\n")?;
+    let mut said = String::from_str(rt.alloc(), "posted 0\ncomm 1 rank 0 size 1\n")?;
+    for comm in 2..1024u32 {
+        let request = comm - 1;
+        write!(script, "post 0 0 dup\ntake 0 {request}\n")?;
+        write!(said, "posted {request}\ncomm {comm} rank 0 size 1\n")?;
+    }
+    let mut request = 1023u32;
+    for (call, reply) in LATE {
+        write!(script, "post 0 {call}\ntake 0 {request}\n")?;
+        write!(said, "posted {request}\n{reply}\n")?;
+        request = request.saturating_add(1);
+    }
+    assert!(&rt; ends_so(&rt, ALONE, script.as_bytes(), &said, "", 0));
     Ok(())
 }

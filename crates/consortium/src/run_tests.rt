@@ -7,8 +7,8 @@ use std::sync::Wait;
 use std::thread::Threads;
 use wall_labels::memory::{ExpectingSink, Fuse};
 
-// One process.
-const ALONE: &str = "version = 1
+// One process of one bank.
+pub(crate) const ALONE: &str = "version = 1
 [[class]]
 name = \"banks\"
 datasets = [\"alpha\", \"beta\"]
@@ -43,14 +43,22 @@ pub(crate) fn runs_so<R: AllocGlobal + Threads + Wait + Sync>(
     given == status && is_all && out.is_same && err.is_same
 }
 
-#[test]
-fn processes_run_at_the_same_time(rt: HostRuntime) {
+// Three processes without a home.
+const THREE: &str = "version = 1
+[[process]]
+name = \"p0\"
+[[process]]
+name = \"p1\"
+[[process]]
+name = \"p2\"
+";
+
+// A policy, a script, and what its run writes.
+const RUNS: &[(&str, &str, &str)] = &[
     // each take waits for the posts of the others
-    assert!(&rt;
-        runs_so(
-            &rt,
-            WALL,
-            "post 0 0 allreduce sum int32 1 as alpha 5
+    (
+        WALL,
+        "post 0 0 allreduce sum int32 1 as alpha 5
 take 0 0
 post 1 0 allreduce sum int32 1 as beta 6
 take 1 0
@@ -59,7 +67,7 @@ take 2 0
 post 3 0 allreduce sum int32 1 as public 1
 take 3 0
 ",
-            "rank 0 a0
+        "rank 0 a0
 posted 0
 delivered [19]
 rank 1 b0
@@ -72,63 +80,150 @@ rank 3 n0
 posted 0
 delivered [19]
 ",
-            "",
-            0,
-        )
-    );
-    let idle = "rank 0 a0\nrank 1 b0\nrank 2 c0\nrank 3 n0\n";
-    assert!(&rt; runs_so(&rt, WALL, "", idle, "", 0));
-    let rows = [
-        (WALL, "take 0 0\npst\n", "script: line 2: BadVerb\n", 2),
-        (
-            WALL,
-            "take 0 0\ntake 4 0\n",
-            "script: line 2: BadField\n",
-            2,
-        ),
-        (ALONE, "take 7 0\n", "script: line 1: BadField\n", 2),
-        ("version = ", "pst", "policy: NotToml\n", 1),
-    ];
-    for (policy, script, line, status) in rows {
-        assert!(&rt; runs_so(&rt, policy, script, "", line, status), "{line}");
+    ),
+    (WALL, "", "rank 0 a0\nrank 1 b0\nrank 2 c0\nrank 3 n0\n"),
+    // c0 writes what it may not, and waits for the others
+    (
+        WALL,
+        "post 2 0 bcast 2 int32 1 as alpha 4
+take 2 0
+post 0 0 bcast 2 int32 1
+take 0 0
+post 1 0 bcast 2 int32 1
+take 1 0
+post 3 0 bcast 2 int32 1
+take 3 0
+",
+        "rank 0 a0
+posted 0
+denied star c0 alpha
+rank 1 b0
+posted 0
+denied star c0 alpha
+rank 2 c0
+barred 0 alpha
+denied star c0 alpha
+rank 3 n0
+posted 0
+denied star c0 alpha
+",
+    ),
+    // a refused post has no request, and is no member's post
+    (
+        WALL,
+        "post 0 0 bcast 0 int32 2 as alpha 7
+post 0 0 barrier
+take 0 0
+post 1 0 barrier
+take 1 0
+post 2 0 barrier
+take 2 0
+post 3 0 barrier
+take 3 0
+",
+        "rank 0 a0
+refused BadCount
+posted 0
+delivered none
+rank 1 b0
+posted 0
+delivered none
+rank 2 c0
+posted 0
+delivered none
+rank 3 n0
+posted 0
+delivered none
+",
+    ),
+    // the second instance waits for posts behind a take of the first
+    (
+        THREE,
+        "post 0 0 barrier
+post 0 0 barrier
+take 0 1
+post 1 0 barrier
+take 1 0
+post 1 0 barrier
+post 2 0 barrier
+post 2 0 barrier
+",
+        "rank 0 p0
+posted 0
+posted 1
+delivered none
+rank 1 p1
+posted 0
+delivered none
+posted 1
+rank 2 p2
+posted 0
+posted 1
+",
+    ),
+];
+
+// What is not run: the policy and the script, the line on standard error, and the status.
+const UNRUN: &[(&str, &str, &str, u8)] = &[
+    (WALL, "take 0 0\npst\n", "script: line 2: BadVerb\n", 2),
+    (
+        WALL,
+        "take 0 0\ntake 4 0\n",
+        "script: line 2: BadField\n",
+        2,
+    ),
+    (ALONE, "take 7 0\n", "script: line 1: BadField\n", 2),
+    ("version = ", "pst", "policy: NotToml\n", 1),
+];
+
+#[test]
+fn processes_run_at_the_same_time(rt: HostRuntime) {
+    for (policy, script, said) in RUNS {
+        assert!(&rt; runs_so(&rt, policy, script, said, "", 0), "{said}");
     }
+    for (policy, script, line, status) in UNRUN {
+        assert!(&rt; runs_so(&rt, policy, script, "", line, *status), "{line}");
+    }
+}
+
+// Whether running the script of one process writes these lines, this book, and this line on
+// standard error, with this status.
+fn keeps_so<R: AllocGlobal + Threads + Wait + Sync>(
+    rt: &R,
+    script: &str,
+    said: &str,
+    book: &str,
+    line: &str,
+    status: u8,
+) -> bool {
+    let mut policy = source(ALONE.as_bytes(), Fuse::Whole);
+    let mut script = source(script.as_bytes(), Fuse::Whole);
+    let mut out = sink(said.as_bytes(), Fuse::Whole);
+    let mut err = sink(line.as_bytes(), Fuse::Whole);
+    let mut kept = sink(book.as_bytes(), Fuse::Whole);
+    let given = run_on(
+        rt,
+        rt.alloc(),
+        &mut policy,
+        &mut script,
+        &mut out,
+        &mut err,
+        Some(&mut kept),
+    );
+    let is_all = out.rest.is_empty() && err.rest.is_empty() && kept.rest.is_empty();
+    given == status && is_all && out.is_same && err.is_same && kept.is_same
 }
 
 #[test]
 fn books_of_runs_are_kept(rt: HostRuntime) {
-    let rows = [
-        (
-            "post 0 0 bcast 0 int32 1 as alpha 5\ntake 0 0\ntake 0 0\n",
-            "rank 0 p0\nposted 0\ndelivered none\nrefused NoSuchRequest\n",
-            "book 1\npost 0 0 bcast 0 int32 1 gives 1 as alpha passed\nverdict 0 0 granted\nend 2\n",
-            "",
-            0,
-        ),
-        ("", "rank 0 p0\n", "book 1\nend 0\n", "", 0),
-        ("take 7 0\n", "", "", "script: line 1: BadField\n", 2),
-    ];
-    for (script, said, book, line, status) in rows {
-        let mut policy = source(ALONE.as_bytes(), Fuse::Whole);
-        let mut script = source(script.as_bytes(), Fuse::Whole);
-        let mut out = sink(said.as_bytes(), Fuse::Whole);
-        let mut err = sink(line.as_bytes(), Fuse::Whole);
-        let mut kept = sink(book.as_bytes(), Fuse::Whole);
-        let given = run_on(
-            &rt,
-            rt.alloc(),
-            &mut policy,
-            &mut script,
-            &mut out,
-            &mut err,
-            Some(&mut kept),
-        );
-        assert_eq!(&rt; given, status, "{said}");
-        assert!(&rt; out.is_same && err.is_same && kept.is_same, "{said}");
-        assert!(&rt;
-            out.rest.is_empty() && err.rest.is_empty() && kept.rest.is_empty(),
-            "{said}"
-        );
-    }
+    let script = "post 0 0 bcast 0 int32 1 as alpha 5\ntake 0 0\ntake 0 0\n";
+    let said = "rank 0 p0\nposted 0\ndelivered none\nrefused NoSuchRequest\n";
+    let book =
+        "book 1\npost 0 0 bcast 0 int32 1 gives 1 as alpha passed\nverdict 0 0 granted\nend 2\n";
+    assert!(&rt; keeps_so(&rt, script, said, book, "", 0));
+    assert!(&rt; keeps_so(&rt, "", "rank 0 p0\n", "book 1\nend 0\n", "", 0));
+    let fault = "script: line 1: BadField\n";
+    assert!(&rt; keeps_so(&rt, "take 7 0\n", "", "", fault, 2));
 }
 
 #[test]

@@ -1,17 +1,22 @@
 //! Serves one command line of a system, over its files and streams.
-ghost use Rattle.std.specs.Prelude.{◌≡◌};
+ghost use Rattle.std.specs.Prelude.{◌≡◌, IfOk, IfErr};
+ghost use Rattle.hall_script.specs.Devices.{used};
+ghost use Rattle.program_commands.specs.Endings.{EndsSo};
+ghost use Rattle.consortium.specs.Performing.{refusal_ending};
 
 use crate::commands::{Counts, fault_ending, perform};
 use program_commands::end;
 use program_files::{Count, StreamSink};
 use program_words::ArgFault;
-use std::alloc::Global;
+use std::alloc::{AllocError, Global};
+use std::env;
+use std::env::Args;
 use std::io::Write;
 use std::rt::{Env, Files};
 use std::sync::Wait;
 use std::sync::ledger::{Blank, Ledger};
 use std::thread::Threads;
-use std::{env, io};
+use wall_labels::Sink;
 
 // A new ledger for the failures of each device: the policy, the second file that a command reads,
 // the book that it keeps, and the streams.
@@ -67,44 +72,57 @@ where
         stream: err,
         failures: Count::<E>::new(told),
     };
-    let words = match given_words(rt.alloc(), system) {
-        Ok(words) => words,
-        Err(fault) => return end(&mut err, fault_ending(fault)),
-    };
-    match texts(rt.alloc(), &words) {
-        Ok(texts) => perform(rt, system, &texts, counts, &mut out, &mut err),
-        Err(fault) => end(&mut err, fault_ending(fault)),
+    let outcome = answered(rt, system, counts, &mut out, &mut err);
+    settle(outcome, &mut err)
+}
+
+// Does what the words of the command line ask for, and gives the status.
+fn answered<R, F: Files + Env, P: Ledger, S: Ledger, B: Ledger, O: Sink, E: Sink>(
+    rt: &R,
+    system: &F,
+    counts: Counts<P, S, B>,
+    out: &mut O,
+    err: &mut E,
+) -> Result<u8, ArgFault>
+where
+    R: AllocGlobal + Threads + Wait + Sync,
+{
+    let words = given_words(rt.alloc(), system)?;
+    let texts = texts(rt.alloc(), &words)?;
+    Ok(perform(rt, system, &texts, counts, out, err))
+}
+
+// The status of what was done; or the line of a fault, and its status.
+fn settle<E: Sink>(outcome: Result<u8, ArgFault>, err: &mut E) -> u8
+    ensures done { IfOk outcome (λ status. result ≡ status) }
+    ensures told { let errs = used E.failures E.contents err.old err.new in
+        IfErr outcome (λ fault. EndsSo (λ e. e ≡ refusal_ending fault) errs result) }
+{
+    match outcome {
+        Ok(status) => status,
+        Err(fault) => end(err, fault_ending(fault)),
     }
 }
 
 // The words behind the program's name. Words that are no text are bad arguments.
 fn given_words<F: Env>(alloc: Global, system: &F) -> Result<Vec<String>, ArgFault> {
-    let args = match env::args(&(system, alloc)) {
-        Ok(args) => args,
-        Err(error) => {
-            return Err(match error.kind() {
-                io::ErrorKind::OutOfMemory => ArgFault::NoMemory,
-                _ => ArgFault::BadArguments,
-            });
-        }
-    };
+    let args = env::args(&(system, alloc))?;
+    let words = behind_the_name(alloc, args)?;
+    Ok(words)
+}
+
+fn behind_the_name(alloc: Global, args: Args) -> Result<Vec<String>, AllocError> {
     let mut words = Vec::new(alloc);
     for word in args.skip(1) {
-        match words.push(word) {
-            Ok(()) => {}
-            Err(_) => return Err(ArgFault::NoMemory),
-        }
+        words.push(word)?;
     }
     Ok(words)
 }
 
-fn texts<'a>(alloc: Global, words: &'a [String]) -> Result<Vec<&'a str>, ArgFault> {
+fn texts<'a>(alloc: Global, words: &'a [String]) -> Result<Vec<&'a str>, AllocError> {
     let mut texts = Vec::new(alloc);
     for word in words {
-        match texts.push(word.as_str()) {
-            Ok(()) => {}
-            Err(_) => return Err(ArgFault::NoMemory),
-        }
+        texts.push(word.as_str())?;
     }
     Ok(texts)
 }

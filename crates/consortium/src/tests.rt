@@ -297,6 +297,15 @@ fn sums_of_few_firms_are_charged(rt: HostRuntime) -> Result<(), Fail> {
     Ok(())
 }
 
+// Scripts that end at a line, and what is told of it.
+const NO_CALLS: &[(&str, &str)] = &[
+    ("pst 0", "script: line 1: BadVerb\n"),
+    ("post 0 0 bcst", "script: line 1: BadKind\n"),
+    ("post 0 0 bcast 0 int33 1", "script: line 1: BadType\n"),
+    ("\n\n#\ntake 0", "script: line 4: BadShape\n"),
+    ("\n\r\r\n", "script: line 2: BadShape\n"),
+];
+
 #[test]
 fn lines_are_cut_at_their_ends(rt: HostRuntime) {
     let mixed = b"# a comment\r\ntake 0 0\r\n\n\r\n#\xff\ntake 1 0";
@@ -311,14 +320,7 @@ fn lines_are_cut_at_their_ends(rt: HostRuntime) {
         )
     );
     assert!(&rt; ends_so(&rt, WALL, b"", "", "", 0));
-    let rows = [
-        ("pst 0", "script: line 1: BadVerb\n"),
-        ("post 0 0 bcst", "script: line 1: BadKind\n"),
-        ("post 0 0 bcast 0 int33 1", "script: line 1: BadType\n"),
-        ("\n\n#\ntake 0", "script: line 4: BadShape\n"),
-        ("\n\r\r\n", "script: line 2: BadShape\n"),
-    ];
-    for (script, line) in rows {
+    for (script, line) in NO_CALLS {
         assert!(&rt;
             ends_so(&rt, WALL, script.as_bytes(), "", line, 2),
             "{script}"
@@ -352,6 +354,14 @@ post 2 0 split 0 5 gives 0 as none passed
 post 3 0 split 2 0 gives 0 as none passed
 ";
 
+// The last lines of such books.
+const DENIED: &str = "verdict 0 0 denied simple b0 alpha\nend 5\n";
+
+const MADE: &str = "verdict 0 0 made 1 2\nend 5\n";
+
+// The first of four gatherers gives what it may not.
+const BARRED: &str = "book 1\npost 0 0 gatherv 3 int32 gives 1 as public barred\n";
+
 // Three of four gatherers, and the verdict that the first post brings.
 const GATHERERS: &str = "post 1 0 gatherv 3 int32 gives 0 as none passed
 post 2 0 gatherv 3 int32 gives 0 as none passed
@@ -378,54 +388,74 @@ fn audits_so(
     given == status && is_all && out.is_same && err.is_same
 }
 
+// A policy, a book in two pieces, what its audit writes, on standard error too, and its status.
+const AUDITS: &[(&str, &str, &str, &str, &str, u8)] = &[
+    (WALL, BROADCASTS, DENIED, "sound 5\n", "", 0),
+    (
+        WALL,
+        BROADCASTS,
+        "verdict 0 0 granted\nend 5\n",
+        "unsound at entry 5\n",
+        "",
+        2,
+    ),
+    (
+        WALL,
+        BROADCASTS,
+        "verdict 0 0 denied simple b0 alpha\nend 5",
+        "",
+        "book: cut\n",
+        2,
+    ),
+    (WALL, "", "", "", "book: cut\n", 2),
+    (
+        WALL,
+        BROADCASTS,
+        "verdict 0 0 denied simple b0 alpha\nend 4\n",
+        "",
+        "book: line 7\n",
+        2,
+    ),
+    (BANK, SPLITS, MADE, "sound 5\n", "", 0),
+    (
+        BANK,
+        SPLITS,
+        "verdict 0 0 made 1 1\nend 5\n",
+        "unsound at entry 5\n",
+        "",
+        2,
+    ),
+    (BANK, SPLITS, "end 4\n", "unsound at entry 5\n", "", 2),
+    (WALL, BARRED, GATHERERS, "sound 5\n", "", 0),
+    (
+        WALL,
+        "book 1\npost 0 0 gatherv 3 int32 gives 1 as public passed\n",
+        GATHERERS,
+        "unsound at entry 1\n",
+        "",
+        2,
+    ),
+    (
+        WALL_IN_VERSION_2,
+        BROADCASTS,
+        DENIED,
+        "",
+        "book: line 1\n",
+        2,
+    ),
+    ("version = ", BROADCASTS, DENIED, "", "policy: NotToml\n", 1),
+];
+
 #[test]
 fn books_are_audited(rt: HostRuntime) -> Result<(), Fail> {
-    let denied = "verdict 0 0 denied simple b0 alpha\nend 5\n";
-    let unfinished = "verdict 0 0 denied simple b0 alpha\nend 5";
-    let miscounted = "verdict 0 0 denied simple b0 alpha\nend 4\n";
-    let granted = "verdict 0 0 granted\nend 5\n";
-    let barred = "book 1\npost 0 0 gatherv 3 int32 gives 1 as public barred\n";
-    let passed = "book 1\npost 0 0 gatherv 3 int32 gives 1 as public passed\n";
-    let rows = [
-        (WALL, BROADCASTS, denied, "sound 5\n", "", 0),
-        (WALL, BROADCASTS, granted, "unsound at entry 5\n", "", 2),
-        (WALL, BROADCASTS, unfinished, "", "book: cut\n", 2),
-        (WALL, "", "", "", "book: cut\n", 2),
-        (WALL, BROADCASTS, miscounted, "", "book: line 7\n", 2),
-        (
-            BANK,
-            SPLITS,
-            "verdict 0 0 made 1 2\nend 5\n",
-            "sound 5\n",
-            "",
-            0,
-        ),
-        (
-            BANK,
-            SPLITS,
-            "verdict 0 0 made 1 1\nend 5\n",
-            "unsound at entry 5\n",
-            "",
-            2,
-        ),
-        (BANK, SPLITS, "end 4\n", "unsound at entry 5\n", "", 2),
-        (WALL, barred, GATHERERS, "sound 5\n", "", 0),
-        (WALL, passed, GATHERERS, "unsound at entry 1\n", "", 2),
-        (
-            WALL_IN_VERSION_2,
-            BROADCASTS,
-            denied,
-            "",
-            "book: line 1\n",
-            2,
-        ),
-        ("version = ", BROADCASTS, denied, "", "policy: NotToml\n", 1),
-    ];
-    for (policy, front, rest, said, line, status) in rows {
+    for (policy, front, rest, said, line, status) in AUDITS {
         let book = format!(in rt.alloc(); "{front}{rest}")?;
-        assert!(&rt; audits_so(&rt, policy, &book, said, line, status), "{book}");
+        assert!(&rt;
+            audits_so(&rt, policy, &book, said, line, *status),
+            "{book}"
+        );
     }
-    let book = format!(in rt.alloc(); "{BROADCASTS}{denied}")?;
+    let book = format!(in rt.alloc(); "{BROADCASTS}{DENIED}")?;
     let second = book.replace(rt.alloc(), "book 1", "book 2")?;
     assert!(&rt; audits_so(&rt, WALL_IN_VERSION_2, &second, "sound 5\n", "", 0));
     assert!(&rt; audits_so(&rt, WALL, &second, "", "book: line 1\n", 2));
@@ -434,7 +464,7 @@ fn books_are_audited(rt: HostRuntime) -> Result<(), Fail> {
 
 #[test]
 fn devices_of_an_audit_fail(rt: HostRuntime) -> Result<(), Fail> {
-    let book = format!(in rt.alloc(); "{SPLITS}verdict 0 0 made 1 2\nend 5\n")?;
+    let book = format!(in rt.alloc(); "{SPLITS}{MADE}")?;
     for k in 0..2u64 {
         let mut policy = source(BANK.as_bytes(), Fuse::Whole);
         let mut given = source(book.as_bytes(), Fuse::After(k));
@@ -496,30 +526,33 @@ posted 0
 posted 0
 ";
 
-#[test]
-fn books_are_kept(rt: HostRuntime) -> Result<(), Fail> {
-    let denied = format!(in rt.alloc(); "{BROADCASTS}verdict 0 0 denied simple b0 alpha\nend 5\n")?;
-    let made = format!(in rt.alloc(); "{SPLITS}verdict 0 0 made 1 2\nend 5\n")?;
-    let first = "book 1\npost 0 0 gatherv 3 int32 gives 1 as public barred\n";
-    let barred = format!(in rt.alloc(); "{first}{GATHERERS}")?;
-    let split_all = format!(in rt.alloc(); "{SPLITTING}take 0 0\ntake 1 0\ntake 2 0\ntake 3 0\n")?;
-    let rows = [
-        (
-            WALL,
-            "post 0 0 bcast 0 int32 2 as alpha 7 -1
+// A policy, a script, its replies, and its book in two pieces.
+const KEPT: &[(&str, &str, &str, &str, &str)] = &[
+    (
+        WALL,
+        "post 0 0 bcast 0 int32 2 as alpha 7 -1
 post 1 0 bcast 0 int32 2
 post 2 0 bcast 0 int32 2
 take 0 0
 post 3 0 bcast 0 int32 2
 take 1 0
 ",
-            "posted 0\nposted 0\nposted 0\npending\nposted 0\ndenied simple b0 alpha\n",
-            denied.as_str(),
-        ),
-        (
-            BANK,
-            split_all.as_str(),
-            "posted 0
+        "posted 0\nposted 0\nposted 0\npending\nposted 0\ndenied simple b0 alpha\n",
+        BROADCASTS,
+        DENIED,
+    ),
+    (
+        BANK,
+        "post 0 0 split 2 0
+post 1 0 split undefined 0
+post 2 0 split 0 5
+post 3 0 split 2 0
+take 0 0
+take 1 0
+take 2 0
+take 3 0
+",
+        "posted 0
 posted 0
 posted 0
 posted 0
@@ -528,35 +561,43 @@ null
 comm 1 rank 0 size 1
 comm 2 rank 1 size 2
 ",
-            made.as_str(),
-        ),
-        (
-            WALL,
-            "post 0 0 gatherv 3 int32 as public 1
+        SPLITS,
+        MADE,
+    ),
+    (
+        WALL,
+        "post 0 0 gatherv 3 int32 as public 1
 post 1 0 gatherv 3 int32
 post 2 0 gatherv 3 int32
 post 3 0 gatherv 3 int32
 take 2 0
 ",
-            "barred 0 public\nposted 0\nposted 0\nposted 0\ndenied star a0 public\n",
-            barred.as_str(),
-        ),
-        (
-            WALL,
-            "take 0 0\npost 0 7 barrier\n",
-            "refused NoSuchRequest\nrefused NoSuchComm\n",
-            "book 1\nend 0\n",
-        ),
-        (
-            WALL_IN_VERSION_2,
-            "take 0 0\n",
-            "refused NoSuchRequest\n",
-            "book 2\nend 0\n",
-        ),
-    ];
-    for (policy, script, replies, book) in rows {
+        "barred 0 public\nposted 0\nposted 0\nposted 0\ndenied star a0 public\n",
+        BARRED,
+        GATHERERS,
+    ),
+    (
+        WALL,
+        "take 0 0\npost 0 7 barrier\n",
+        "refused NoSuchRequest\nrefused NoSuchComm\n",
+        "book 1\n",
+        "end 0\n",
+    ),
+    (
+        WALL_IN_VERSION_2,
+        "take 0 0\n",
+        "refused NoSuchRequest\n",
+        "book 2\n",
+        "end 0\n",
+    ),
+];
+
+#[test]
+fn books_are_kept(rt: HostRuntime) -> Result<(), Fail> {
+    for (policy, script, replies, front, rest) in KEPT {
+        let book = format!(in rt.alloc(); "{front}{rest}")?;
         assert!(&rt;
-            keeps_so(&rt, policy, script, replies, book, "", 0),
+            keeps_so(&rt, policy, script, replies, &book, "", 0),
             "{book}"
         );
         assert!(&rt;
@@ -583,7 +624,7 @@ take 2 0
 
 #[test]
 fn writers_of_books_fail_at_each_write(rt: HostRuntime) -> Result<(), Fail> {
-    let made = format!(in rt.alloc(); "{SPLITS}verdict 0 0 made 1 2\nend 5\n")?;
+    let made = format!(in rt.alloc(); "{SPLITS}{MADE}")?;
     let mut writes: u64 = 0;
     for k in 0..100u64 {
         let mut policy = source(BANK.as_bytes(), Fuse::Whole);
@@ -613,103 +654,101 @@ fn writers_of_books_fail_at_each_write(rt: HostRuntime) -> Result<(), Fail> {
 
 #[test]
 fn policies_are_judged_before_scripts(rt: HostRuntime) {
-    let rows = [
-        ("version = ", "policy: NotToml\n"),
-        ("", "policy: BadVersion\n"),
-        ("version = 1", "policy: MissingKey\n"),
-    ];
-    for (policy, line) in rows {
-        assert!(&rt; ends_so(&rt, policy, b"pst", "", line, 1), "{line}");
-    }
+    let bad = b"pst".as_slice();
+    assert!(&rt; ends_so(&rt, "version = ", bad, "", "policy: NotToml\n", 1));
+    assert!(&rt; ends_so(&rt, "", bad, "", "policy: BadVersion\n", 1));
+    assert!(&rt; ends_so(&rt, "version = 1", bad, "", "policy: MissingKey\n", 1));
 }
+
+// Endings with their status and line.
+const ENDINGS: &[(Ending, u8, &str)] = &[
+    (Ending::Done, 0, ""),
+    (
+        Ending::BadPolicy(PolicyFault::NotToml),
+        1,
+        "policy: NotToml\n",
+    ),
+    (
+        Ending::BadPolicy(PolicyFault::BadVersion),
+        1,
+        "policy: BadVersion\n",
+    ),
+    (
+        Ending::BadPolicy(PolicyFault::MissingKey),
+        1,
+        "policy: MissingKey\n",
+    ),
+    (
+        Ending::BadPolicy(PolicyFault::UnknownKey),
+        1,
+        "policy: UnknownKey\n",
+    ),
+    (
+        Ending::BadPolicy(PolicyFault::BadName),
+        1,
+        "policy: BadName\n",
+    ),
+    (
+        Ending::BadPolicy(PolicyFault::DuplicateName),
+        1,
+        "policy: DuplicateName\n",
+    ),
+    (
+        Ending::BadPolicy(PolicyFault::UnknownDataset),
+        1,
+        "policy: UnknownDataset\n",
+    ),
+    (Ending::BadPolicy(PolicyFault::BadOp), 1, "policy: BadOp\n"),
+    (
+        Ending::BadPolicy(PolicyFault::BadLeast),
+        1,
+        "policy: BadLeast\n",
+    ),
+    (
+        Ending::BadPolicy(PolicyFault::TooMany),
+        1,
+        "policy: TooMany\n",
+    ),
+    (
+        Ending::BadLine(1, LineFault::UnknownOp),
+        2,
+        "script: line 1: UnknownOp\n",
+    ),
+    (
+        Ending::BadLine(16777217, LineFault::BadLabel),
+        2,
+        "script: line 16777217: BadLabel\n",
+    ),
+    (
+        Ending::BadLine(10, LineFault::BadNumber),
+        2,
+        "script: line 10: BadNumber\n",
+    ),
+    (
+        Ending::BadLine(9, LineFault::OddPair),
+        2,
+        "script: line 9: OddPair\n",
+    ),
+    (Ending::BadBookLine(7), 2, "book: line 7\n"),
+    (Ending::BadBookLine(16777217), 2, "book: line 16777217\n"),
+    (Ending::CutBook, 2, "book: cut\n"),
+    (Ending::Unsound(5), 2, ""),
+    (Ending::ReadFault, 3, "read fault\n"),
+    (Ending::WriteFault, 3, "write fault\n"),
+    (Ending::NoThread, 4, "no thread\n"),
+    (Ending::Exhausted, 4, "exhausted\n"),
+    (Ending::NoMemory, 4, "out of memory\n"),
+    (Ending::BadArguments, 5, "bad arguments\n"),
+];
 
 #[test]
 fn endings_have_their_status_and_line(rt: HostRuntime) {
-    let rows = [
-        (Ending::Done, 0, ""),
-        (
-            Ending::BadPolicy(PolicyFault::NotToml),
-            1,
-            "policy: NotToml\n",
-        ),
-        (
-            Ending::BadPolicy(PolicyFault::BadVersion),
-            1,
-            "policy: BadVersion\n",
-        ),
-        (
-            Ending::BadPolicy(PolicyFault::MissingKey),
-            1,
-            "policy: MissingKey\n",
-        ),
-        (
-            Ending::BadPolicy(PolicyFault::UnknownKey),
-            1,
-            "policy: UnknownKey\n",
-        ),
-        (
-            Ending::BadPolicy(PolicyFault::BadName),
-            1,
-            "policy: BadName\n",
-        ),
-        (
-            Ending::BadPolicy(PolicyFault::DuplicateName),
-            1,
-            "policy: DuplicateName\n",
-        ),
-        (
-            Ending::BadPolicy(PolicyFault::UnknownDataset),
-            1,
-            "policy: UnknownDataset\n",
-        ),
-        (Ending::BadPolicy(PolicyFault::BadOp), 1, "policy: BadOp\n"),
-        (
-            Ending::BadPolicy(PolicyFault::BadLeast),
-            1,
-            "policy: BadLeast\n",
-        ),
-        (
-            Ending::BadPolicy(PolicyFault::TooMany),
-            1,
-            "policy: TooMany\n",
-        ),
-        (
-            Ending::BadLine(1, LineFault::UnknownOp),
-            2,
-            "script: line 1: UnknownOp\n",
-        ),
-        (
-            Ending::BadLine(16777217, LineFault::BadLabel),
-            2,
-            "script: line 16777217: BadLabel\n",
-        ),
-        (
-            Ending::BadLine(10, LineFault::BadNumber),
-            2,
-            "script: line 10: BadNumber\n",
-        ),
-        (
-            Ending::BadLine(9, LineFault::OddPair),
-            2,
-            "script: line 9: OddPair\n",
-        ),
-        (Ending::BadBookLine(7), 2, "book: line 7\n"),
-        (Ending::BadBookLine(16777217), 2, "book: line 16777217\n"),
-        (Ending::CutBook, 2, "book: cut\n"),
-        (Ending::Unsound(5), 2, ""),
-        (Ending::ReadFault, 3, "read fault\n"),
-        (Ending::WriteFault, 3, "write fault\n"),
-        (Ending::NoThread, 4, "no thread\n"),
-        (Ending::Exhausted, 4, "exhausted\n"),
-        (Ending::NoMemory, 4, "out of memory\n"),
-        (Ending::BadArguments, 5, "bad arguments\n"),
-    ];
-    for (ending, status, line) in rows {
+    for (ending, status, line) in ENDINGS {
         let mut err = sink(line.as_bytes(), Fuse::Whole);
-        assert_eq!(&rt; end(&mut err, ending), status, "{line}");
+        assert_eq!(&rt; end(&mut err, *ending), *status, "{line}");
         assert!(&rt; err.is_same && err.rest.is_empty(), "{line}");
         let mut broken = sink(line.as_bytes(), Fuse::After(0));
-        assert_eq!(&rt; end(&mut broken, ending), status, "{line}");
+        assert_eq!(&rt; end(&mut broken, *ending), *status, "{line}");
     }
 }
 
