@@ -1,6 +1,5 @@
 //! The commands over a system in memory: long files, short reads and writes, and each call at a
 //! file failing in turn.
-use super::run_tests::ALONE;
 use super::*;
 use crate::disk::{Disk, Name, Stream, System};
 use crate::serving::Blanks;
@@ -12,6 +11,16 @@ use std::rt::Files;
 use std::sync::Wait;
 use std::test::Fail;
 use std::thread::Threads;
+
+// One process of one bank.
+const ALONE: &str = "version = 1
+[[class]]
+name = \"banks\"
+datasets = [\"alpha\", \"beta\"]
+[[process]]
+name = \"p0\"
+home = \"alpha\"
+";
 
 // One use of the program: its words and files, and what it is to write and to open.
 #[derive(Clone, Copy)]

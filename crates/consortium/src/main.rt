@@ -18,14 +18,6 @@ use std::sync::ledger::Blank;
 mod disk;
 #[cfg(test)]
 mod files_tests;
-#[cfg(test)]
-mod hostile_tests;
-#[cfg(test)]
-mod limit_tests;
-#[cfg(test)]
-mod run_tests;
-#[cfg(test)]
-mod tests;
 
 fn main(rt: HostRuntime) -> ExitCode {
     let blanks = Blanks {

@@ -1,8 +1,7 @@
 //! As many processes, datasets, elements, members and communicators as there can be.
 
-use super::run_tests::{ALONE, runs_so};
-use super::tests::ends_so;
-use super::*;
+use crate::endings::ends_so;
+use crate::runs::{ALONE, runs_so};
 use std::alloc::{AllocError, Global};
 use std::test::Fail;
 

@@ -1,3 +1,5 @@
+//! Replays and audits over devices in memory: what is written, the book that is kept, and how each
+//! ends.
 use coll_text::LineFault;
 use program_commands::{Ending, audit_on, end, replay_on};
 use std::alloc::AllocError;

@@ -1,6 +1,5 @@
 //! Runs of scripts whose calls each process makes for itself.
-use super::tests::{WALL, sink, source};
-use super::*;
+use crate::endings::{WALL, sink, source};
 use program_commands::run_on;
 use std::process::Abort;
 use std::sync::Wait;

@@ -1,7 +1,6 @@
 //! Devices at their limits, and texts that are cut or spoiled.
-use super::run_tests::ALONE;
-use super::tests::{sink, source};
-use super::*;
+use crate::endings::{sink, source};
+use crate::runs::ALONE;
 use program_commands::{audit_on, replay_on, run_on};
 use std::process::Abort;
 use std::sync::Wait;

@@ -1,0 +1,14 @@
+//! The tests of the program's commands over devices in memory, through their public calls.
+//!
+//! They stand in a crate of their own, since a check of a crate's tests proves the crate once more;
+//! here there is nothing to prove but the tests.
+#![tactic(auto)]
+
+#[cfg(test)]
+mod endings;
+#[cfg(test)]
+mod hostile;
+#[cfg(test)]
+mod limits;
+#[cfg(test)]
+mod runs;
