@@ -1,5 +1,5 @@
 //! A book of two entries, and one of a thousand.
-ghost use Rattle.std.specs.Prelude.{◌≡◌, ◌<◌, ◌+◌};
+ghost use Rattle.std.specs.Prelude.{◌≡◌, ◌<◌, ◌≤◌, ◌+◌};
 
 use coll_routes::{Own, Signature, Stated};
 use run_state::{Book, Entry, Outcome};
@@ -39,7 +39,7 @@ fn make_room(rt: &impl Abort, book: &mut Book) -> bool
     let Ok(()) = book.reserve(2) else {
         panic!(rt; "no memory")
     };
-    assert!(rt; book.room() <= 2 * book.len() + 16);
+    assert!(rt; book.room() <= book.len().saturating_mul(2).saturating_add(16));
     grows
 }
 
