@@ -321,7 +321,7 @@ fn wait_alone<R: Wait + Abort>(rt: &R, door: &Door, pass: &mut Pass, patience: u
     is_pending(rt, wait(rt, door, pass, 0, patience, &gate));
     stands(rt, &gate.computing, tries);
     stands(rt, &gate.numbers, 0);
-    stands(rt, &gate.processes, 3 * tries);
+    stands(rt, &gate.processes, tries.saturating_mul(3));
     stands(rt, &gate.before, 0);
     stands(rt, &gate.answered, 0);
 }
