@@ -1,7 +1,10 @@
 -- What a process is told. (Own rule.)
-use Rattle.std.specs.Prelude.{◌≡◌, List, ◌∷◌}
+use Rattle.std.specs.Prelude.{◌≡◌, ℤ, List, ◌∷◌, slice_get, Some}
+use Rattle.coll_values.specs.declared.delivery.Block.{Block}
+use Rattle.coll_values.specs.declared.delivery.Block.TheVariants.{Numbers}
 use Rattle.run_model.specs.declared.call.Call.{Call}
 use Rattle.run_model.specs.declared.reply.Reply.{Reply}
+use Rattle.run_model.specs.declared.reply.Reply.TheVariants.{Delivered}
 use Rattle.run_model.specs.Runs.{Entry, entry}
 use Rattle.hall_turn.specs.Runs.{calls_of}
 use Rattle.hall_turn.specs.Known.{Known}
@@ -11,3 +14,9 @@ abbrev pub WasTold : Known → Reply → Type 0
 WasTold pass reply =
     (call : Call) × (earlier : List Entry)
     × (calls_of pass.process pass.seen ≡ entry call reply ∷ earlier)
+
+-- this is the first number in the first block that was delivered
+abbrev pub IsFirstNumber : Reply → ℤ → Type 0
+IsFirstNumber reply n =
+    (blocks : List Block) × (numbers : List ℤ) × (reply ≡ Delivered blocks)
+    × (slice_get blocks 0 ≡ Some (Numbers numbers)) × (slice_get numbers 0 ≡ Some n)

@@ -1,10 +1,10 @@
 //! What each process does at the door.
-ghost use Rattle.std.specs.Prelude.{◌≡◌, ◌++◌, IfOk};
+ghost use Rattle.std.specs.Prelude.{◌≡◌, ◌++◌, IfOk, IfSome};
 ghost use Rattle.run_model.specs.Known.{IsKnownLabel};
 ghost use Rattle.run_model.specs.Replies.{Legal};
 ghost use Rattle.hall_script.specs.Replies.{reply_line};
 ghost use Rattle.hall_turn.specs.Answers.{IsSamePass};
-ghost use Rattle.joint_sum.specs.Told.{WasTold};
+ghost use Rattle.joint_sum.specs.Told.{WasTold, IsFirstNumber};
 
 use anyhow::{Result, bail};
 use coll_routes::{Own, Signature};
@@ -21,7 +21,7 @@ use wall_policy::Policy;
 const INTEGER: ElemType = ElemType::Int64;
 
 /// What each process gives to the sum, in the order of the policy file.
-const FIGURES: [i128; 4] = [120, 80, 300, 0];
+const FIGURES: [i128; 4] = [120, 80, 3000000000, 0];
 
 /// A process that has played.
 #[derive(Drop)]
@@ -89,7 +89,9 @@ fn exchange<R: Wait>(
 }
 
 // The number in the first block that was delivered.
-fn first_number(reply: &Reply) -> Option<i128> {
+fn first_number(reply: &Reply) -> Option<i128>
+    ensures { IfSome result (IsFirstNumber reply.now) }
+{
     let Reply::Delivered(delivery) = reply else {
         return None;
     };

@@ -2,7 +2,8 @@
 //! process, and the audit of the book. `README.md` walks through it.
 #![tactic(auto)]
 
-ghost use Rattle.std.specs.Prelude.{◌≡◌, ◌≤◌, ◌++◌, [], IfOk, OnOk, length, codes, decimal};
+ghost use Rattle.std.specs.Prelude.{◌≡◌, ◌≤◌, ◌++◌, [], IfOk, OnOk, IsErr, length, codes};
+ghost use Rattle.std.specs.Prelude.{decimal};
 ghost use Rattle.std.specs.Prelude.{string_bytes, vec_len, vec_capacity};
 ghost use Rattle.std.specs.List.{All};
 ghost use Rattle.run_model.specs.Books.{IsSound};
@@ -111,15 +112,21 @@ fn put(policy: &Policy, process: u32, told: &[u8], text: &mut Vec<u8>) -> Result
     Ok(())
 }
 
+// What a process was told.
+fn told_to(told: &[Result<Vec<u8>>], process: u32) -> Result<&[u8]> {
+    match told.get(process as usize) {
+        Some(Ok(lines)) => Ok(lines),
+        Some(Err(fault)) => bail!("{fault}"),
+        None => bail!("a process is missing"),
+    }
+}
+
 // What all processes were told, in order, and the line of the audit.
 fn report(alloc: Global, hall: &Hall, told: &[Result<Vec<u8>>]) -> Result<Vec<u8>> {
     let mut text = Vec::new(alloc);
     for process in 0..hall.policy().processes() {
-        match told.get(process as usize) {
-            Some(Ok(told)) => put(hall.policy(), process, told, &mut text)?,
-            Some(Err(fault)) => bail!("{fault}"),
-            None => bail!("a process is missing"),
-        }
+        let lines = told_to(told, process)?;
+        put(hall.policy(), process, lines, &mut text)?;
     }
     let line = audit_line(alloc, hall.policy(), hall.book())?;
     text.extend_from_slice(line.as_bytes())?;
@@ -183,8 +190,19 @@ fn text<R: Files + Env + AllocGlobal + Threads + Wait + Sync>(rt: &R) -> Result<
     }
 }
 
+// Writes the text, if there is one.
+fn print<W: Write>(out: &mut W, text: Result<Vec<u8>>) -> Result<()>
+    ensures { IsErr text → IsErr result }
+{
+    match text {
+        Ok(text) => {
+            out.write_all(&text)?;
+            Ok(())
+        }
+        Err(fault) => Err(fault),
+    }
+}
+
 fn main(rt: HostRuntime) -> Result<()> {
-    let text = text(&rt)?;
-    rt.stdout().write_all(&text)?;
-    Ok(())
+    print(&mut rt.stdout(), text(&rt))
 }
