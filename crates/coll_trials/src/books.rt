@@ -30,8 +30,8 @@ fn push(rt: &impl Abort, book: &mut Book, entry: Entry)
     book.push(entry);
 }
 
-// Makes room for two entries, and says whether there was none for them. The room is in proportion to
-// the book.
+// Makes room for two entries, and says whether there was none for them. The room is in proportion
+// to the book.
 fn make_room(rt: &impl Abort, book: &mut Book) -> bool
     ensures { 2 ≤ book.new.room }
 {
