@@ -6,7 +6,6 @@ use Rattle.run_model.specs.declared.entry.Entry.{Entry as BookEntry}
 use Rattle.run_model.specs.declared.entry.Entry.TheVariants.{Posted as EntryPosted}
 use Rattle.run_model.specs.declared.entry.Entry.TheVariants.{Settled as EntrySettled}
 use Rattle.run_state.specs.declared.entered.Entered.{Entered}
-use Rattle.hall_core.specs.declared.records.Records.{Records}
 use Rattle.hall_core.specs.Asking.{requests_of}
 use Rattle.hall_core.specs.Halls.{settlement}
 use Rattle.hall_core.specs.Invariant.{view_in}

@@ -1,4 +1,4 @@
-use Rattle.std.proofs.Common.{◌∙◌, ap, subst, length}
+use Rattle.std.proofs.Common.{◌∙◌, ap, length}
 use Rattle.wall_policy.specs.Policy.{ChineseWall}
 use Rattle.run_model.specs.Books.{book}
 use Rattle.run_model.specs.Runs.{posts}
