@@ -2,7 +2,8 @@
 
 use crate::parties::{lowest, plain};
 use coll_pending::{ArrivalFault, Arrived, Next, NoMemory, Pending, Unarrived};
-use coll_routes::{Numbers, Own, Shape, Signature, Stated};
+use coll_routes::{Numbers, Own, Roll, Shape, Signature, Stated};
+use coll_values::Full;
 use mpi_elems::ElemType;
 use mpi_group::Group;
 use std::alloc::Global;
@@ -86,7 +87,7 @@ impl Table {
             .pending
             .arrive(comm, rank, &self.group, &self.shape, stated, part);
         let ended = expect_answer(rt, &answer, part, next, parts);
-        drop(answer);
+        expect_little_room(rt, answer);
         ended
     }
 }
@@ -112,6 +113,39 @@ fn expect_answer(
         }
     }
     Ok(())
+}
+
+// The room of the counts of a roll's signature: none where it has no counts.
+fn room_of_counts(roll: Roll) -> usize {
+    let Roll {
+        members,
+        shape,
+        sig,
+        stated,
+    } = roll;
+    drop(members);
+    drop(shape);
+    drop(stated);
+    match sig {
+        Signature::ReduceScatter { counts, .. } => counts.into_vec().capacity(),
+        _ => 0,
+    }
+}
+
+// A full instance has room for its parts and no more, and little more than it needs for counts:
+// each instance that waits keeps it.
+fn expect_little_room(rt: &impl Abort, answer: Result<Arrived<u64>, Unarrived<u64>>) {
+    match answer {
+        Ok(Arrived::Full(Full { roll, parts })) => {
+            let parts = parts.into_vec();
+            assert!(rt; parts.capacity() == parts.len());
+            drop(parts);
+            let room = room_of_counts(roll);
+            assert!(rt; room <= 16);
+        }
+        Ok(Arrived::Waiting) => {}
+        Err(refused) => drop(refused),
+    }
 }
 
 // Lends a table of so many members to the steps of a test. One that goes out of scope is taken

@@ -1,5 +1,5 @@
 //! The policy file: what is read, and each fault.
-use crate::parties::{BANKS_AND_OIL, wall};
+use crate::parties::{BANKS_AND_OIL, dataset, wall};
 use std::alloc::{AllocError, Global};
 use std::process::Abort;
 use std::test::Fail;
@@ -212,7 +212,13 @@ fn push_class(
 }
 
 // A policy of so many processes, and so many classes of so many datasets each.
-fn many(rt: &impl Abort, alloc: Global, processes: u32, classes: u32, datasets: u32) -> String {
+pub(crate) fn many(
+    rt: &impl Abort,
+    alloc: Global,
+    processes: u32,
+    classes: u32,
+    datasets: u32,
+) -> String {
     let Ok(mut text) = String::from_str(alloc, "version = 1\n") else {
         panic!(rt; "no memory")
     };
@@ -343,6 +349,36 @@ fn check_names(rt: &impl Abort, policy: &Policy) {
 #[test]
 fn names(rt: HostRuntime) {
     at_both(&rt, BANKS_AND_OIL, |policy| check_names(&rt, policy));
+}
+
+// Looks up two names in turn, one as text and one as bytes: the next by what was found last, so
+// that no round can be left out.
+fn look_up_often(rt: &impl Abort, policy: &Policy, times: u32) {
+    assert!(rt; policy.datasets() == 1024);
+    let text = policy.dataset_name(dataset(998));
+    let bytes = policy.dataset_name(dataset(999)).as_bytes();
+    let mut last = 999;
+    for _ in 0..times {
+        let found = if last == 999 {
+            policy.dataset_named(text)
+        } else {
+            policy.dataset_named_bytes(bytes)
+        };
+        match found {
+            Some(id) => last = id.number(),
+            None => panic!(rt; "no dataset"),
+        }
+    }
+    assert_eq!(rt; last, 999);
+}
+
+// A look at each of the thousand names before these two would take minutes.
+#[test]
+fn names_are_looked_up_in_a_table(rt: HostRuntime) {
+    let text = many(&rt, rt.alloc(), 1, 1, 1024);
+    let policy = wall(&rt, rt.alloc(), text.as_str());
+    look_up_often(&rt, &policy, 50_000_000);
+    drop(policy);
 }
 
 const FAULT_NAMES: &[(PolicyFault, &str)] = &[

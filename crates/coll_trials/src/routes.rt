@@ -5,7 +5,7 @@
 ghost use Rattle.std.specs.Prelude.{◌<◌};
 ghost use Rattle.coll_routes.specs.Fit.{IsFit};
 
-use crate::parties::{flags, grid, lowest, numbers, plain, stated};
+use crate::parties::{flags, grid, lowest, numbers, plain, stated, upward};
 use coll_routes::{
     Flags, Gathering, Kind, Numbers, Own, Piece, Roll, Shape, ShapeFault, Signature, Stated,
     Statements, gathered, is_missing, piece, places, routed, shape_fault,
@@ -616,6 +616,14 @@ fn faults_of_constructors(rt: HostRuntime) {
     expect_constructor(&rt, Signature::CartSub { keep }, no_grid);
 }
 
+// The first that is no member ends it: so many are not compared with one another.
+#[test]
+fn ranks_out_of_range_end_at_once(rt: HostRuntime) {
+    let ranks = Numbers::from(upward(&rt, rt.alloc(), 0, 4_000_000));
+    let no_subgroup = Some(ShapeFault::NotSubgroup);
+    expect_constructor(&rt, Signature::Create { ranks }, no_subgroup);
+}
+
 // The dimensions that are kept of a grid of two, and the fault.
 const KEPT: &[(&[bool], Option<ShapeFault>)] = &[
     (&[true], Some(ShapeFault::BadDims)),
@@ -706,10 +714,12 @@ fn lists_of_numbers(rt: HostRuntime) {
         panic!(&rt; "no memory")
     };
     assert!(&rt; copy.is_same(&list) && !copy.is_same(&empty));
+    // A book keeps such copies to the end.
+    let room = copy.into_vec().capacity();
+    assert!(&rt; room <= 16);
     let items = list.into_vec();
     assert_eq!(&rt; items.as_slice(), [5, 6].as_slice());
     drop(items);
-    drop(copy);
     drop(empty);
 }
 
@@ -739,10 +749,11 @@ fn lists_of_flags(rt: HostRuntime) {
         panic!(&rt; "no memory")
     };
     assert!(&rt; copy.is_same(&kept) && !copy.is_same(&empty));
+    let room = copy.into_vec().capacity();
+    assert!(&rt; room <= 16);
     let values = kept.into_vec();
     assert_eq!(&rt; values.as_slice(), [true, false].as_slice());
     drop(values);
-    drop(copy);
     drop(empty);
 }
 

@@ -1,7 +1,8 @@
 //! Verdicts worked by hand from the rules, under one policy.
 ghost use Rattle.std.specs.Prelude.{◌≡◌, ◌<◌};
 
-use crate::parties::{BANKS_AND_OIL, dataset, group, opening, process, wall};
+use crate::parties::{BANKS_AND_OIL, dataset, group, opening, process, upward, wall};
+use crate::policies::many;
 use coll_routes::{Own, Roll, Shape, Signature, Stated, Statements};
 use mpi_cart::Grid;
 use mpi_elems::ElemType;
@@ -393,6 +394,84 @@ fn a_grant_charges_receivers_alone(rt: HostRuntime) {
     let policy = policy(&rt, alloc);
     let mut histories = opening(&rt, alloc, &policy);
     grant_and_denial(&rt, alloc, &policy, &mut histories);
+    drop(histories);
+    drop(policy);
+}
+
+// A policy of 256 processes without a home, and of two banks.
+fn policy_of_256(rt: &impl Abort, alloc: Global) -> Policy {
+    let text = many(rt, alloc, 256, 1, 2);
+    wall(rt, alloc, text.as_str())
+}
+
+// An instance of all of these, which give of one bank to all.
+fn roll_of_256(rt: &impl Abort, alloc: Global, bank: u32) -> Roll {
+    let members = upward(rt, alloc, 0, 256);
+    roll(rt, alloc, &members, allgather(), &[Of(bank); 256])
+}
+
+// The verdicts on two instances in turn.
+fn decide_often(
+    rt: &impl Abort,
+    policy: &Policy,
+    histories: &Histories,
+    even: &Roll,
+    odd: &Roll,
+    times: u32,
+)
+    requires { histories.now.classes ≡ policy.now.classes }
+{
+    assert!(rt; even.is_fit() && odd.is_fit());
+    for time in 0..times {
+        let found = if time % 2 == 0 {
+            decide(policy, histories, even)
+        } else {
+            decide(policy, histories, odd)
+        };
+        expect(rt, found, Verdict::Granted);
+    }
+}
+
+// A look at each pair of ranks would take minutes.
+#[test]
+fn a_verdict_looks_at_each_rank_once(rt: HostRuntime) {
+    let alloc = rt.alloc();
+    let policy = policy_of_256(&rt, alloc);
+    let histories = opening(&rt, alloc, &policy);
+    let even = roll_of_256(&rt, alloc, 0);
+    let odd = roll_of_256(&rt, alloc, 1);
+    decide_often(&rt, &policy, &histories, &even, &odd, 120_000);
+    drop(odd);
+    drop(even);
+    drop(histories);
+    drop(policy);
+}
+
+// One grant after the other.
+fn settle_often(
+    rt: &impl Abort,
+    policy: &Policy,
+    histories: &mut Histories,
+    roll: &Roll,
+    times: u32,
+)
+    requires { histories.old.classes ≡ policy.now.classes }
+{
+    assert!(rt; roll.is_fit());
+    for _ in 0..times {
+        let verdict = settle(policy, histories, roll);
+        expect(rt, verdict, Verdict::Granted);
+    }
+}
+
+#[test]
+fn a_grant_looks_at_each_rank_once(rt: HostRuntime) {
+    let alloc = rt.alloc();
+    let policy = policy_of_256(&rt, alloc);
+    let mut histories = opening(&rt, alloc, &policy);
+    let roll = roll_of_256(&rt, alloc, 0);
+    settle_often(&rt, &policy, &mut histories, &roll, 60_000);
+    drop(roll);
     drop(histories);
     drop(policy);
 }

@@ -1,0 +1,5 @@
+use Rattle.std.proofs.Common.{◌≡◌}
+use Rattle.coll_trials.proofs.verdicts.settle_often.Given as goal
+
+abbrev pub invariant-loop : goal.invariant-loop
+invariant-loop l = l.histories.classes ≡ l.policy.classes
