@@ -137,7 +137,7 @@ impl<'r, G: Gate> Pause for Part<'r, G> {
         self.gate.computing(rt, self.process, self.number);
     }
 
-    fn step_back<R: Wait>(&self, rt: &R, left: Option<Aside>) {
+    fn step_back<R: Wait>(&self, rt: &R, left: Option<Aside>, _reply: &Reply) {
         match left {
             Some(aside) => self.stage.step_back(rt, aside),
             None => {}

@@ -1,9 +1,9 @@
 //! Which instance each request of a rank is for, so that the rank can wait for it.
-ghost use Rattle.std.specs.Prelude.{◌≡◌, ◌≢◌, ℕ, ◌<◌, ◌≤◌, [], ◌∷◌, ◌++◌, Some, IfOk, IfSome};
-ghost use Rattle.std.specs.Prelude.{length, vec_len, vec_capacity, slice_index_or};
+ghost use Rattle.std.specs.Prelude.{◌≡◌, ◌≢◌, ℕ, ◌<◌, ◌≤◌, [], ◌∷◌, ◌++◌, Some, IfOk};
+ghost use Rattle.std.specs.Prelude.{length, vec_len, vec_capacity, slice_get, slice_index_or};
 ghost use Rattle.std.specs.List.{All, count_by};
 ghost use Rattle.mpi_comm.specs.declared.table.TheConstants.{COMMUNICATOR_LIMIT};
-ghost use Rattle.rank_run.specs.Asked.{AreCounted, CountsAll, no_instance, on_comm, next_on};
+ghost use Rattle.rank_run.specs.Asked.{AreCounted, CountsAll, on_comm, next_on};
 ghost use Rattle.rank_run.specs.Asked.{request_of, comm_of, is_post, PostsBelow, HasPlace};
 
 use hall_core::{Act, NoMemory, Reply};
@@ -165,10 +165,9 @@ impl Requests {
         }
     }
 
-    /// The instance of a request.
+    /// The instance of a request. None where the rank was given no request of that number.
     pub(crate) fn instance_of(&self, request: u64) -> Option<Instance>
-        ensures { IfSome result
-            (λ it. it ≡ slice_index_or self.now.instances.items request no_instance) }
+        ensures { result ≡ slice_get self.now.instances.items request }
     {
         self.instances.get(request as usize).copied()
     }

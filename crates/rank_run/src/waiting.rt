@@ -50,8 +50,9 @@ pub(crate) trait Pause {
     /// Calls the gate's `computing`.
     fn computing<R: Wait>(&self, rt: &R);
 
-    /// Comes back, if it made room.
-    fn step_back<R: Wait>(&self, rt: &R, left: Self::Left);
+    /// Comes back, if it made room. It is shown the reply, so that nobody comes back before that is
+    /// worked out: the others may play until then.
+    fn step_back<R: Wait>(&self, rt: &R, left: Self::Left, reply: &Reply);
 }
 
 /// A process by itself, which yields between tries.
@@ -77,7 +78,7 @@ impl<'g, G: Gate> Pause for Yields<'g, G> {
         self.gate.computing(rt, self.process, 0);
     }
 
-    fn step_back<R: Wait>(&self, _rt: &R, _left: ()) {}
+    fn step_back<R: Wait>(&self, _rt: &R, _left: (), _reply: &Reply) {}
 }
 
 // The finish of a claim, the gate's `computing` before it. Others may play meanwhile.
@@ -89,7 +90,7 @@ fn finish_aside<R: Wait, P: Pause>(rt: &R, claim: Claim, pause: &P) -> Reply
     let left = pause.step_aside(rt, &claim);
     pause.computing(rt);
     let reply = finish(claim);
-    pause.step_back(rt, left);
+    pause.step_back(rt, left, &reply);
     reply
 }
 
