@@ -13,9 +13,12 @@ use coll_values::{Block, Integers};
 use hall_core::{Act, Call, Hall, Posting, Refusal, Reply};
 use hall_turn::{Answer, Claim, Claimed, CloseFault, Door, Pass, Passes, Unclosed, finish};
 use mpi_elems::{Buffer, ElemType};
-use std::alloc::Global;
+use std::alloc::{AllocError, Global};
+use std::fs;
 use std::process::Abort;
+use std::rt::Files;
 use std::sync::Wait;
+use std::test::Fail;
 use std::thread::{Threads, join};
 use wall_labels::{Label, Op};
 use wall_policy::Policy;
@@ -469,4 +472,66 @@ fn threads_post(rt: HostRuntime) {
     meet_by_threads(&rt, &door, &mut passes, mine, theirs);
     drop(passes);
     drop(door);
+}
+
+/// The pages of memory that this process has resident, as the system tells.
+fn resident_pages<R: Files + AllocGlobal>(rt: &R) -> Result<u64, Fail> {
+    let text = fs::read_to_string(rt, "/proc/self/statm")?;
+    let Some(word) = text.as_str().split(' ').nth(1) else {
+        return Err(Fail::from("the system tells no pages"));
+    };
+    match word.parse::<u64>() {
+        Ok(pages) => Ok(pages),
+        Err(_) => Err(Fail::from("the pages are no number")),
+    }
+}
+
+/// A door under a copy of the policy is opened and let go, with its passes.
+fn open_once<R: Abort>(rt: &R, alloc: Global, policy: &Policy) {
+    let copy = policy.copy(alloc).expect(rt, "the policy is not copied");
+    let (door, passes) = open(rt, alloc, copy);
+    drop(passes);
+    drop(door);
+}
+
+/// A tool that looks for uses of what was let go keeps up to so many bytes of it from use.
+const KEPT: usize = 1 << 28;
+
+/// A hundred doors, one after another. So much room at the end, which nothing is written to, takes
+/// what such a tool has kept of them out of its hands.
+fn open_hundred<R: Abort>(rt: &R, alloc: Global, policy: &Policy) {
+    for _ in 0..100 {
+        open_once(rt, alloc, policy);
+    }
+    let room: Result<Vec<u8>, AllocError> = Vec::with_capacity(alloc, KEPT);
+    drop(room);
+}
+
+fn open_hundreds<R: Abort>(rt: &R, alloc: Global, policy: &Policy, hundreds: u32) {
+    for _ in 0..hundreds {
+        open_hundred(rt, alloc, policy);
+    }
+}
+
+/// A thousand doors more take no more memory, but for some pages that the allocator keeps. A hall
+/// that was not let go would keep eight pages at least: it has 256 rows of 136 bytes.
+fn keep_no_pages<R: Files + AllocGlobal + Abort>(rt: &R, policy: &Policy) -> Result<(), Fail> {
+    open_hundreds(rt, rt.alloc(), policy, 2);
+    let before = resident_pages(rt)?;
+    open_hundreds(rt, rt.alloc(), policy, 10);
+    let after = resident_pages(rt)?;
+    assert!(rt;
+        after < before.saturating_add(512),
+        "{before} pages, then {after}"
+    );
+    Ok(())
+}
+
+/// A door that is let go, with its passes, takes its hall with it.
+#[test]
+fn doors_are_let_go(rt: HostRuntime) -> Result<(), Fail> {
+    let policy = wall(&rt, rt.alloc(), RIVALS);
+    let kept = keep_no_pages(&rt, &policy);
+    drop(policy);
+    kept
 }

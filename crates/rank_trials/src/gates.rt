@@ -211,6 +211,45 @@ impl Gate for Tallying {
     }
 }
 
+/// Hears all calls, and counts the computations during which it heard another call. It holds
+/// nobody, but computes long enough for others to be heard, if they may play.
+#[derive(Drop)]
+struct Alone {
+    heard: AtomicU64,
+    disturbed: AtomicU64,
+}
+
+impl Alone {
+    /// How many calls of the gate it heard, with this one.
+    fn hear(&self) -> u64 {
+        self.heard.fetch_add(1, Ordering::SeqCst).wrapping_add(1)
+    }
+}
+
+impl Gate for Alone {
+    fn before_call<R: Wait>(&self, _rt: &R, _process: u32, _number: u64) {
+        self.hear();
+    }
+
+    fn computing<R: Wait>(&self, _rt: &R, _process: u32, _number: u64) {
+        let heard = self.hear();
+        for _ in 0..2000 {
+            thread::yield_now();
+        }
+        if self.heard.load(Ordering::SeqCst) != heard {
+            self.disturbed.fetch_add(1, Ordering::SeqCst);
+        }
+    }
+
+    fn answered<R: Wait>(&self, _rt: &R, _process: u32, _number: u64, _reply: &Reply) {
+        self.hear();
+    }
+
+    fn holds(&self) -> bool {
+        false
+    }
+}
+
 /// A number of a process for all members of a communicator, as alpha.
 fn number<R: Abort>(rt: &R, alloc: Global, policy: &Policy, process: u32, comm: u32) -> Posting
     ensures { IsKnownLabel policy.now result.label }
@@ -413,5 +452,24 @@ fn tally<R: Threads + Wait + Sync + Abort>(rt: &R, alloc: Global) {
 fn no_take_is_tried_twice(rt: HostRuntime) {
     for _ in 0..50 {
         tally(&rt, rt.alloc());
+    }
+}
+
+fn compute_alone<R: Threads + Wait + Sync + Abort>(rt: &R, alloc: Global) {
+    let gate = Alone {
+        heard: AtomicU64::new(0),
+        disturbed: AtomicU64::new(0),
+    };
+    run(rt, alloc, &gate);
+    stands(rt, &gate.disturbed, 0);
+    stands(rt, &gate.heard, 22);
+}
+
+/// While a rank works out a small delivery nobody else plays. (The gate hears the nine calls before
+/// and after each, and the four deliveries.)
+#[test]
+fn a_small_delivery_makes_no_room(rt: HostRuntime) {
+    for _ in 0..20 {
+        compute_alone(&rt, rt.alloc());
     }
 }

@@ -123,7 +123,9 @@ fn gathering<R: Abort>(rt: &R, alloc: Global, policy: &Policy, name: &str, given
     script
 }
 
-/// So many copies of the world, each taken before the next post, and a barrier on the last copy.
+/// So many copies of the world, each taken before the next post, and two barriers on the last copy,
+/// the second after the first was taken. Were it told elsewhere that the first has settled, who goes
+/// on to the second would try in vain to take it, while the others sleep for the first.
 fn dupping<R: Abort>(rt: &R, alloc: Global, policy: &Policy) -> Acts
     ensures { All (HasKnownLabel policy.now) result }
 {
@@ -136,6 +138,9 @@ fn dupping<R: Abort>(rt: &R, alloc: Global, policy: &Policy) -> Acts
     let barrier = nothing(alloc, LAST_COMM, Signature::Barrier);
     add(rt, policy, &mut script, Act::Post(barrier));
     add(rt, policy, &mut script, Act::Take(DUPS));
+    let again = nothing(alloc, LAST_COMM, Signature::Barrier);
+    add(rt, policy, &mut script, Act::Post(again));
+    add(rt, policy, &mut script, Act::Take(DUPS + 1));
     script
 }
 
@@ -146,7 +151,7 @@ enum Play {
     Rivals,
     /// Each gives many numbers of one dataset to all.
     Large,
-    /// All copy the world until there is no room, and meet on the last copy.
+    /// All copy the world until there is no room, and meet on the last copy, twice.
     Dups,
 }
 
@@ -215,15 +220,15 @@ fn a_denial_is_waited_for(rt: HostRuntime) {
 }
 
 /// New communicators wake all who wait for them, once; so does want of room for one more, and so
-/// does an instance on the last communicator that there can be.
+/// does each of two instances on the last communicator that there can be.
 #[test]
 fn constructors_are_waited_for(rt: HostRuntime) {
     let gate = new_outcomes(false);
     run(&rt, rt.alloc(), &gate, Play::Dups);
     stands(&rt, &gate.made, 4 * (DUPS - 1));
     stands(&rt, &gate.no_room, 4);
-    stands(&rt, &gate.delivered, 4);
-    stands(&rt, &gate.tries, 4 * (DUPS + 1));
+    stands(&rt, &gate.delivered, 8);
+    stands(&rt, &gate.tries, 4 * (DUPS + 2));
 }
 
 /// While a rank works out a large delivery another plays.

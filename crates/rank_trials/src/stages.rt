@@ -9,6 +9,7 @@ use std::sync::atomic::{AtomicU64, Ordering};
 use std::test::Fail;
 use std::thread;
 use std::thread::Threads;
+use std::time::{Clock, CpuClock, Duration};
 
 /// How often the counts are looked at before a test fails.
 const LOOKS: u64 = 10_000_000;
@@ -359,5 +360,46 @@ fn a_rank_that_steps_aside_makes_room(rt: HostRuntime) -> Result<(), Fail> {
     let stage = Stage::new(rt.alloc(), 2, 1, false)?;
     let sight = new_sight(2);
     aside(&rt, &stage, &sight);
+    Ok(())
+}
+
+/// Rank 0 keeps its place for a second.
+fn play_late<R: Wait + Clock>(rt: &R, stage: &Stage, sight: &Sight, rank: usize) {
+    let Some(role) = sight.begin(rt, stage, rank) else {
+        return;
+    };
+    if rank == 0 {
+        thread::sleep(rt, Duration::from_millis(1000));
+    }
+    sight.end(rt, stage, role);
+}
+
+/// All wait for rank 0. Nobody looks at their counts meanwhile, which would take time.
+fn play_all_late<R: Threads + Wait + Clock + Sync + Abort>(rt: &R, stage: &Stage, sight: &Sight) {
+    thread::scope(thread::scope_env(), rt, |scope| {
+        for rank in 0..sight.ranks as usize {
+            let refused = scope
+                .spawn(move || play_late(rt, stage, sight, rank))
+                .is_err();
+            assert!(rt; !refused);
+        }
+        assert!(rt; stage.release(true));
+    });
+    stands(rt, &sight.ended, sight.ranks);
+    stands(rt, &sight.wrong, 0);
+}
+
+/// Ranks that wait for their place take no processor: seven wait for a second, and all together use
+/// less than half a second of processor time.
+#[test]
+fn ranks_that_wait_take_no_processor(rt: HostRuntime) -> Result<(), Fail> {
+    let before = rt.process_cpu_time()?;
+    let stage = Stage::new(rt.alloc(), 8, 1, false)?;
+    let sight = new_sight(8);
+    play_all_late(&rt, &stage, &sight);
+    drop(sight);
+    drop(stage);
+    let used = rt.process_cpu_time()?.saturating_sub(before);
+    assert!(&rt; used.as_millis() < 500);
     Ok(())
 }
