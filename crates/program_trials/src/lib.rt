@@ -11,4 +11,6 @@ mod hostile;
 #[cfg(test)]
 mod limits;
 #[cfg(test)]
+mod memory;
+#[cfg(test)]
 mod runs;

@@ -160,6 +160,83 @@ posted 0
 posted 1
 ",
     ),
+    // c0 writes what it may not, as the last of its instance, and the others wait once more
+    (
+        WALL,
+        "post 0 0 barrier
+take 0 0
+post 0 0 bcast 2 int32 1
+take 0 1
+post 0 0 barrier
+take 0 2
+post 1 0 barrier
+take 1 0
+post 1 0 bcast 2 int32 1
+take 1 1
+post 1 0 barrier
+take 1 2
+post 2 0 barrier
+take 2 0
+post 2 0 bcast 2 int32 1 as alpha 4
+take 2 1
+post 2 0 barrier
+take 2 2
+post 3 0 barrier
+take 3 0
+post 3 0 bcast 2 int32 1
+take 3 1
+post 3 0 barrier
+take 3 2
+",
+        "rank 0 a0
+posted 0
+delivered none
+posted 1
+denied star c0 alpha
+posted 2
+delivered none
+rank 1 b0
+posted 0
+delivered none
+posted 1
+denied star c0 alpha
+posted 2
+delivered none
+rank 2 c0
+posted 0
+delivered none
+barred 1 alpha
+denied star c0 alpha
+posted 2
+delivered none
+rank 3 n0
+posted 0
+delivered none
+posted 1
+denied star c0 alpha
+posted 2
+delivered none
+",
+    ),
+    // p2 never posts: the takes are pending in the end, and their processes go on
+    (
+        THREE,
+        "post 0 0 barrier
+take 0 0
+post 1 0 barrier
+take 1 0
+take 1 9
+",
+        "rank 0 p0
+posted 0
+pending
+rank 1 p1
+posted 0
+pending
+refused NoSuchRequest
+rank 2 p2
+",
+    ),
 ];
 
 // What is not run: the policy and the script, the line on standard error, and the status.
