@@ -1,4 +1,5 @@
 //! A system in memory, for tests: its words, four files, and streams that keep what they are given.
+use crate::serving::{Complaints, Output};
 use std::alloc::Allocator;
 use std::cell::{Cell, RefCell};
 use std::env::FillError;
@@ -31,7 +32,8 @@ pub struct Disk<'a> {
     pub left: Cell<u64>,
     /// The file at which it failed.
     pub failed: Cell<Option<Name>>,
-    /// A letter for each file that was opened, `k` where it was made.
+    /// A letter for each file that was opened, `k` where it was made, and `!` for each call that no
+    /// command makes.
     pub opened: RefCell<Vec<u8>>,
 }
 
@@ -52,6 +54,14 @@ impl<'a> Disk<'a> {
         Ok(())
     }
 
+    // A call that no command makes: it is seen among the files that were opened.
+    fn unasked(&self) -> io::Error {
+        if let Ok(mut opened) = self.opened.try_borrow_mut() {
+            let _ = opened.push(b'!');
+        }
+        refused()
+    }
+
     fn named(&self, path: &str) -> io::Result<(Name, u8)> {
         match path {
             "w" => Ok((Name::Policy, b'w')),
@@ -63,8 +73,12 @@ impl<'a> Disk<'a> {
     }
 
     // Gives the file anew where it is made, and refuses one that is opened otherwise than its use
-    // wants.
+    // wants, or than a system would.
     fn admit(&self, name: Name, how: &OpenOptions) -> io::Result<()> {
+        how.check()?;
+        if how.asks_append() || how.asks_create_new() {
+            return Err(refused());
+        }
         if name != Name::Kept {
             return if how.asks_write() {
                 Err(refused())
@@ -125,25 +139,25 @@ impl<'a> Write for Opened<'a> {
 
 impl<'a> Seek for Opened<'a> {
     fn seek(&mut self, _to: SeekFrom) -> io::Result<u64> {
-        Err(refused())
+        Err(self.disk.unasked())
     }
 }
 
 impl<'a> OpenFile for Opened<'a> {
     fn metadata(&self) -> io::Result<Metadata> {
-        Err(refused())
+        Err(self.disk.unasked())
     }
 
     fn set_len(&self, _size: u64) -> io::Result<()> {
-        Err(refused())
+        Err(self.disk.unasked())
     }
 
     fn sync_all(&self) -> io::Result<()> {
-        Err(refused())
+        Err(self.disk.unasked())
     }
 
     fn sync_data(&self) -> io::Result<()> {
-        Err(refused())
+        Err(self.disk.unasked())
     }
 }
 
@@ -177,39 +191,39 @@ impl<'a> Files for System<'a> {
     }
 
     fn open_dir(&self, _path: &str) -> io::Result<Opened<'a>> {
-        Err(refused())
+        Err(self.disk.unasked())
     }
 
     fn metadata(&self, _path: &str) -> io::Result<Metadata> {
-        Err(refused())
+        Err(self.disk.unasked())
     }
 
     fn symlink_metadata(&self, _path: &str) -> io::Result<Metadata> {
-        Err(refused())
+        Err(self.disk.unasked())
     }
 
     fn copy(&self, _from: &str, _to: &str) -> io::Result<u64> {
-        Err(refused())
+        Err(self.disk.unasked())
     }
 
     fn rename(&self, _from: &str, _to: &str) -> io::Result<()> {
-        Err(refused())
+        Err(self.disk.unasked())
     }
 
     fn remove_file(&self, _path: &str) -> io::Result<()> {
-        Err(refused())
+        Err(self.disk.unasked())
     }
 
     fn create_dir(&self, _path: &str) -> io::Result<()> {
-        Err(refused())
+        Err(self.disk.unasked())
     }
 
     fn remove_dir(&self, _path: &str) -> io::Result<()> {
-        Err(refused())
+        Err(self.disk.unasked())
     }
 
     fn remove_dir_all<B: Allocator>(&self, _alloc: B, _path: &str) -> io::Result<()> {
-        Err(refused())
+        Err(self.disk.unasked())
     }
 }
 
@@ -266,3 +280,7 @@ impl<'a> Write for Stream<'a> {
         Ok(())
     }
 }
+
+impl<'a> Output for Stream<'a> {}
+
+impl<'a> Complaints for Stream<'a> {}

@@ -56,7 +56,7 @@ const NONE: Faults = Faults {
 // What a use of the program came to.
 #[derive(Drop)]
 struct Ended {
-    status: u8,
+    status: ExitCode,
     out: Vec<u8>,
     err: Vec<u8>,
     kept: Vec<u8>,
@@ -112,7 +112,7 @@ where
     })
 }
 
-fn status_of<R>(rt: &R, disk: &Disk, out: Stream, err: Stream) -> u8
+fn status_of<R>(rt: &R, disk: &Disk, out: Stream, err: Stream) -> ExitCode
 where
     R: AllocGlobal + Threads + Wait + Sync,
 {
@@ -132,7 +132,7 @@ where
 fn is_as_told(ended: &Ended, case: &Case) -> bool {
     let is_written = ended.out.as_slice() == case.out && ended.err.as_slice() == case.err;
     let is_kept = ended.kept.as_slice() == case.kept && ended.opened.as_slice() == case.opened;
-    ended.status == case.status && is_written && is_kept
+    ended.status == ExitCode::from(case.status) && is_written && is_kept
 }
 
 // The texts of a long run of one process: so many barriers that script, replies and book are longer
@@ -252,7 +252,7 @@ fn each_call_at_a_file_fails(rt: HostRuntime) -> Result<(), Fail> {
                 break;
             };
             calls = files + 1;
-            assert_eq!(&rt; ended.status, 3);
+            assert_eq!(&rt; ended.status, ExitCode::from(3));
             assert!(&rt; case.kept.starts_with(&ended.kept));
             assert!(&rt; case.opened.starts_with(&ended.opened));
             if name == Name::Kept {
@@ -277,7 +277,7 @@ fn each_call_at_a_stream_fails(rt: HostRuntime) -> Result<(), Fail> {
         for out in 0..4000u64 {
             let step = 53;
             let ended = used(&rt, &case, Faults { step, out, ..NONE })?;
-            if ended.status != 3 {
+            if ended.status != ExitCode::from(3) {
                 assert!(&rt; is_as_told(&ended, &case));
                 break;
             }
@@ -299,7 +299,8 @@ fn each_call_at_a_stream_fails(rt: HostRuntime) -> Result<(), Fail> {
                 ..NONE
             },
         )?;
-        assert!(&rt; ended.status == 5 && bad.err.starts_with(&ended.err) && ended.out.is_empty());
+        assert_eq!(&rt; ended.status, ExitCode::from(5));
+        assert!(&rt; bad.err.starts_with(&ended.err) && ended.out.is_empty());
     }
     Ok(())
 }
@@ -360,6 +361,18 @@ const REFUSED: &[(&[&[u8]], &str, &str, u8)] = &[
         "bad arguments\n",
         "",
         5,
+    ),
+    (
+        &[b"consortium", b"replay", b"w", b"s", b"--book", b"k", b"t"],
+        "bad arguments\n",
+        "",
+        5,
+    ),
+    (
+        &[b"consortium", b"replay", b"w ", b"s"],
+        "read fault\n",
+        "",
+        3,
     ),
     (
         &[b"consortium", b"replay", b"x", b"s"],
@@ -499,7 +512,7 @@ where
         for case in commands(long) {
             let ended = used(rt, &case, NONE)?;
             let broken = used(rt, &case, Faults { out: 0, ..NONE })?;
-            if !is_as_told(&ended, &case) || broken.status != 3 {
+            if !is_as_told(&ended, &case) || broken.status != ExitCode::from(3) {
                 return Err(Fail::from("a use ended otherwise"));
             }
         }
@@ -514,10 +527,10 @@ fn what_was_served_is_let_go(rt: HostRuntime) -> Result<(), Fail> {
     let long = long_texts(&rt, 1000)?;
     serve_often(&rt, &long, 3)?;
     let before = resident_pages(&rt)?;
-    serve_often(&rt, &long, 12)?;
+    serve_often(&rt, &long, 24)?;
     let after = resident_pages(&rt)?;
     assert!(&rt;
-        after < before.saturating_add(512),
+        after < before.saturating_add(256),
         "{before} pages, then {after}"
     );
     Ok(())

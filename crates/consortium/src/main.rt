@@ -28,16 +28,7 @@ fn main(rt: HostRuntime) -> ExitCode {
         err: Blank::new(1),
     };
     let (out, err) = (rt.stdout(), rt.stderr());
-    let status = serve::<
-        HostRuntime,
-        HostRuntime,
-        Stdout,
-        Stderr,
-        Brand,
-        Brand,
-        Brand,
-        Brand,
-        Brand,
-    >(&rt, &rt, out, err, blanks);
-    ExitCode::from(status)
+    serve::<HostRuntime, HostRuntime, Stdout, Stderr, Brand, Brand, Brand, Brand, Brand>(
+        &rt, &rt, out, err, blanks,
+    )
 }

@@ -1,5 +1,6 @@
 //! Serves one command line of a system, over its files and streams.
 ghost use Rattle.std.specs.Prelude.{◌≡◌, IfOk, IfErr};
+ghost use Rattle.std.specs.Process.{exit_status};
 ghost use Rattle.hall_script.specs.Devices.{used};
 ghost use Rattle.program_commands.specs.Endings.{EndsSo};
 ghost use Rattle.consortium.specs.Performing.{refusal_ending};
@@ -11,7 +12,8 @@ use program_words::ArgFault;
 use std::alloc::{AllocError, Global};
 use std::env;
 use std::env::Args;
-use std::io::Write;
+use std::io::{Stderr, Stdout, Write};
+use std::process::ExitCode;
 use std::rt::{Env, Files};
 use std::sync::Wait;
 use std::sync::ledger::{Blank, Ledger};
@@ -28,6 +30,17 @@ pub(crate) struct Blanks {
     pub(crate) err: Blank,
 }
 
+// What replies may be written to: standard output itself, with nothing between that could keep
+// bytes back. (A test has a stream of its own.)
+pub(crate) trait Output: Write + Drop {}
+
+impl Output for Stdout {}
+
+// What the line of a fault may be written to: standard error itself.
+pub(crate) trait Complaints: Write + Drop {}
+
+impl Complaints for Stderr {}
+
 // Does what the command line asks for, and gives the status.
 pub(crate) fn serve<R, F, W, V, P: Ledger, S: Ledger, B: Ledger, O: Ledger, E: Ledger>(
     rt: &R,
@@ -35,12 +48,12 @@ pub(crate) fn serve<R, F, W, V, P: Ledger, S: Ledger, B: Ledger, O: Ledger, E: L
     out: W,
     err: V,
     blanks: Blanks,
-) -> u8
+) -> ExitCode
 where
     R: AllocGlobal + Threads + Wait + Sync,
     F: Files + Env,
-    W: Write + Drop,
-    V: Write + Drop,
+    W: Output,
+    V: Complaints,
     requires policy { let blank = blanks.policy in
         (blank.name ≡ P.name) × (blank.parts ≡ P.parts) × (blank.parts ≡ 1) }
     requires second { let blank = blanks.second in
@@ -93,14 +106,15 @@ where
 }
 
 // The status of what was done; or the line of a fault, and its status.
-fn settle<E: Sink>(outcome: Result<u8, ArgFault>, err: &mut E) -> u8
-    ensures done { IfOk outcome (λ status. result ≡ status) }
+fn settle<E: Sink>(outcome: Result<u8, ArgFault>, err: &mut E) -> ExitCode
+    ensures done { IfOk outcome (λ status. exit_status result ≡ status) }
     ensures told { let errs = used E.failures E.contents err.old err.new in
-        IfErr outcome (λ fault. EndsSo (λ e. e ≡ refusal_ending fault) errs result) }
+        let status = exit_status result in
+        IfErr outcome (λ fault. EndsSo (λ e. e ≡ refusal_ending fault) errs status) }
 {
     match outcome {
-        Ok(status) => status,
-        Err(fault) => end(err, fault_ending(fault)),
+        Ok(status) => ExitCode::from(status),
+        Err(fault) => ExitCode::from(end(err, fault_ending(fault))),
     }
 }
 
