@@ -6,6 +6,7 @@ ghost use Rattle.std.specs.Prelude.{◌≡◌, ◌≤◌, ◌++◌, [], IfOk, On
 ghost use Rattle.std.specs.Prelude.{decimal};
 ghost use Rattle.std.specs.Prelude.{string_bytes, vec_len, vec_capacity};
 ghost use Rattle.std.specs.List.{All};
+ghost use Rattle.std.specs.Io.KnownBytes.{Appends};
 ghost use Rattle.run_model.specs.Books.{IsSound};
 
 mod firm;
@@ -192,7 +193,9 @@ fn text<R: Files + Env + AllocGlobal + Threads + Wait + Sync>(rt: &R) -> Result<
 
 // Writes the text, if there is one.
 fn print<W: Write>(out: &mut W, text: Result<Vec<u8>>) -> Result<()>
-    ensures { IsErr text → IsErr result }
+    ensures fault { IsErr text → IsErr result }
+    ensures written { OnOk result
+        (IfOk text (λ t. Appends (W.contents out.old) (W.contents out.new) t.items)) }
 {
     match text {
         Ok(text) => {
