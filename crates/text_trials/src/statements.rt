@@ -134,6 +134,36 @@ fn what_is_behind_a_statement_is_left(rt: HostRuntime) {
     assert!(rt; are_printable(b" ~") && !are_printable(b"\t"));
 }
 
+// The room of a constructor's lists.
+fn room_of(sig: Signature) -> Option<usize> {
+    match sig {
+        Signature::CartCreate { dims, periods } => {
+            let room = dims.into_vec().capacity();
+            Some(periods.into_vec().capacity().max(room))
+        }
+        _ => None,
+    }
+}
+
+// The room that the lists of this constructor took.
+fn list_room(rt: &impl AllocGlobal, line: &str) -> Option<usize> {
+    let mut words = Parts::new(line.as_bytes(), b' ');
+    match next_statement(rt.alloc(), &mut words) {
+        Ok((sig, own)) => {
+            drop(own);
+            room_of(sig)
+        }
+        Err(_) => None,
+    }
+}
+
+// A book keeps the lists of its entries to the end.
+#[test]
+fn lists_take_room_for_their_numbers_alone(rt: HostRuntime) {
+    assert!(rt; list_room(&rt, "cart_create 2,2 1,0").is_some_and(|room| room <= 16));
+    assert!(rt; list_room(&rt, "cart_create - -") == Some(0));
+}
+
 const NAMES: &[(LineFault, &str)] = &[
     (LineFault::BadVerb, "BadVerb"),
     (LineFault::BadShape, "BadShape"),
