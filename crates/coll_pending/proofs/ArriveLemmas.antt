@@ -1,10 +1,10 @@
 -- What callers see after a member has posted to an instance that waits.
-use Rattle.std.proofs.Common.{◌≡◌, ◌≢◌, ℕ, zero, suc, ◌+◌, ◌-◌, ◌<◌, ◌≤◌, ◌^◌, Bool, true, false}
-use Rattle.std.proofs.Common.{List, [], ◌∷◌, ◌++◌, length, set, map, drop, get_or, slice_get}
+use Rattle.std.proofs.Common.{◌≡◌, ◌≢◌, ℕ, zero, suc, ◌+◌, ◌-◌, ◌<◌, ◌≤◌, ◌^◌, true, false}
+use Rattle.std.proofs.Common.{List, [], ◌∷◌, length, set, map, get_or}
 use Rattle.std.proofs.Common.{Option, Some, None, IsSome, is_some, refl, sym, ap, ◌∙◌, subst, arith}
-use Rattle.std.proofs.Common.{◌⊎◌, inl, inr, nat_lt, ⊎_elim, length-set}
+use Rattle.std.proofs.Common.{inl, inr, nat_lt, length-set}
 use Rattle.std.specs.Prelude.{IfSome, IsSomeAnd}
-use Rattle.std.proofs.lemmas.Bool.{cases_eq, cases_Bool, false≢true}
+use Rattle.std.proofs.lemmas.Bool.{cases_eq, false≢true}
 use Rattle.std.proofs.lemmas.Bool.Decides.{nat_tests}
 use Rattle.std.proofs.lemmas.List.{get_or_default, get_or-set_same, get_or-set_other}
 use Rattle.slab.specs.Slab.{Slab, get, Updates}
@@ -15,15 +15,14 @@ use Rattle.coll_pending.specs.declared.arrival.Arrived.{Arrived}
 use Rattle.coll_pending.specs.declared.arrival.Arrived.TheVariants.{Waiting, Full}
 use Rattle.coll_pending.specs.declared.arrival.Next.TheVariants.{Mismatch}
 use Rattle.coll_pending.specs.Instances.{Instance, Communicator, is_full, joined, roll_in, IsAgreed}
-use Rattle.coll_pending.specs.Keyed.{updated}
 use Rattle.coll_pending.specs.declared.slot.Slot.{Slot}
 use Rattle.coll_pending.specs.Queues.{Queue, Queues, communicator, count, counted, popped, key_at}
 use Rattle.coll_pending.specs.Queues.{queue_at, key_in, known_in, count_in, slot_in, key_of}
-use Rattle.coll_pending.specs.Queues.{slot_of, instance_of, instance_in, IsQueue, IsSlot, IsFree}
+use Rattle.coll_pending.specs.Queues.{slot_of, instance_of, instance_in, IsFree}
 use Rattle.coll_pending.specs.Queues.{IsOf, IsOfIn, IsQueues, CanTell, CanPost, Posts, PostsTo}
 use Rattle.coll_pending.specs.Queues.{posted, has_posted, lacks_one}
-use Rattle.coll_pending.specs.Waiting.{updated_at, PendingView, seen, next, before, after, Arrives}
-use Rattle.coll_pending.specs.Waiting.{HasArrived, Meets, CanArrive}
+use Rattle.coll_pending.specs.Waiting.{updated_at, PendingView, seen, next, before, after}
+use Rattle.coll_pending.specs.Waiting.{HasArrived, CanArrive}
 use Rattle.coll_pending.proofs.KeyLemmas.{key_within, key_there, popped_here, popped_other}
 use Rattle.coll_pending.proofs.KeyLemmas.{length_drop_one, less_is, not_less}
 use Rattle.coll_pending.proofs.TableLemmas.{updated_at_is}

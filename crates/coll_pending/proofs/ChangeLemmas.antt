@@ -1,19 +1,17 @@
 -- What callers see after one queue and one slot have changed.
-use Rattle.std.proofs.Common.{◌≡◌, ◌≢◌, ℕ, ◌+◌, ◌<◌, ◌≤◌, true, false, List, length, set, replicate}
-use Rattle.std.proofs.Common.{get_or, Option, Some, None, IsSome, refl, sym, ap, ◌∙◌, subst, arith}
+use Rattle.std.proofs.Common.{◌≡◌, ◌≢◌, ℕ, ◌<◌, List, length, set}
+use Rattle.std.proofs.Common.{Option, Some, None, IsSome, refl, sym, ap, ◌∙◌, subst}
 use Rattle.std.proofs.Common.{◌⊎◌, inl, inr}
-use Rattle.std.specs.Prelude.{IfSome, nat_lt}
 use Rattle.std.proofs.lemmas.Bool.{cases_eq}
 use Rattle.std.proofs.lemmas.List.{get_or-set_same, get_or-set_other}
 use Rattle.slab.specs.Slab.{Slab, get, Updates}
-use Rattle.coll_pending.specs.Instances.{Instance, Communicator}
 use Rattle.coll_pending.specs.Keyed.{updated}
 use Rattle.coll_pending.specs.declared.slot.Slot.{Slot}
 use Rattle.coll_pending.specs.Queues.{Queue, Queues, communicator, count, key_at, queue_at}
 use Rattle.coll_pending.specs.Queues.{known_in, count_in, key_in, slot_in, key_of, slot_of}
 use Rattle.coll_pending.specs.Queues.{instance_in, IsQueue, IsQueueIn, IsOf, IsOfIn, IsQueues}
 use Rattle.coll_pending.specs.Queues.{IsRoomier}
-use Rattle.coll_pending.specs.Waiting.{updated_at, PendingView, seen}
+use Rattle.coll_pending.specs.Waiting.{updated_at, seen}
 use Rattle.coll_pending.proofs.TableLemmas.{updated_is, updated_at_is}
 
 -- the queue of a communicator that stands, or one in its place that tells the same

@@ -1,20 +1,19 @@
 -- What callers see after an instance has been opened.
-use Rattle.std.proofs.Common.{◌≡◌, ◌≢◌, ℕ, zero, suc, ◌+◌, ◌-◌, ◌<◌, ◌≤◌, Bool, true, false, List}
-use Rattle.std.proofs.Common.{[], ◌∷◌, ◌++◌, length, set, replicate, get_or, slice_get, Option}
-use Rattle.std.proofs.Common.{Some, None, IsSome, refl, sym, ap, ◌∙◌, subst, arith, ◌⊎◌, inl, inr}
-use Rattle.std.proofs.Common.{cond, nat_lt, ⊎_elim}
+use Rattle.std.proofs.Common.{◌≡◌, ◌≢◌, ℕ, zero, suc, ◌+◌, ◌<◌, Bool, true, false}
+use Rattle.std.proofs.Common.{length, set, replicate, get_or, Option}
+use Rattle.std.proofs.Common.{Some, None, IsSome, refl, sym, ap, ◌∙◌, subst, arith, inl, inr}
+use Rattle.std.proofs.Common.{cond, nat_lt}
 use Rattle.std.proofs.lemmas.Bool.{cases_eq, false≢true}
 use Rattle.std.proofs.lemmas.List.{length_push, get_or_default}
 use Rattle.slab.specs.Slab.{Slab, get, Updates}
-use Rattle.coll_routes.specs.declared.signature.Signature.{Signature}
-use Rattle.coll_pending.specs.Instances.{Instance, Communicator, vacant}
+use Rattle.coll_pending.specs.Instances.{Communicator, vacant}
 use Rattle.coll_pending.specs.Keyed.{updated}
 use Rattle.coll_pending.specs.declared.slot.Slot.{Slot}
-use Rattle.coll_pending.specs.Queues.{Queue, Queues, communicator, count, key_at, queue_at, key_in}
-use Rattle.coll_pending.specs.Queues.{count_in, slot_in, key_of, slot_of, instance_of, IsQueue}
+use Rattle.coll_pending.specs.Queues.{Queue, Queues, communicator, count, queue_at, key_in}
+use Rattle.coll_pending.specs.Queues.{count_in, slot_in, key_of, slot_of, instance_of}
 use Rattle.coll_pending.specs.Queues.{IsOf, IsQueues, IsVacant, pushed, unused, or_fresh}
 use Rattle.coll_pending.specs.Spares.{IsQueueOf, IsQueueFor, members_of}
-use Rattle.coll_pending.specs.Waiting.{updated_at, PendingView, seen, Opens, HasPlace}
+use Rattle.coll_pending.specs.Waiting.{updated_at, seen, Opens, HasPlace}
 use Rattle.coll_pending.proofs.KeyLemmas.{pushed_here, pushed_other, key_there, not_less}
 use Rattle.coll_pending.proofs.SlotLemmas.{vacant_is_slot, vacant_is_free}
 use Rattle.coll_pending.proofs.ChangeLemmas.{Stands, there, Changes, changed_sound, pending_changed}

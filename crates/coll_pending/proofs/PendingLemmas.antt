@@ -1,9 +1,9 @@
 -- The steps of an arrival, as callers see them.
-use Rattle.std.proofs.Common.{◌≡◌, ◌≢◌, ℕ, ◌+◌, ◌<◌, ◌≤◌, ◌^◌, Bool, true, false, List, length}
+use Rattle.std.proofs.Common.{◌≡◌, ◌≢◌, ℕ, ◌+◌, ◌<◌, ◌≤◌, Bool, true, false, length}
 use Rattle.std.proofs.Common.{Option, Some, None, IsSome, is_some, refl, sym, ap, ◌∙◌, subst, arith}
-use Rattle.std.proofs.Common.{◌⊎◌, inl, inr, Result, Ok, Err, ⊎_elim, nat_le, ◌&&◌}
+use Rattle.std.proofs.Common.{inl, inr, Result, Ok, Err, nat_le}
 use Rattle.std.specs.Prelude.{IfOk, OnOk, OnErr}
-use Rattle.std.proofs.lemmas.Bool.{cases_Bool, cases_eq, false≢true, and_from, and_parts, leb-true}
+use Rattle.std.proofs.lemmas.Bool.{cases_eq, false≢true, and_from, and_parts, leb-true}
 use Rattle.std.proofs.lemmas.Bool.{le-leb}
 use Rattle.coll_routes.specs.declared.signature.Signature.{Signature}
 use Rattle.coll_routes.specs.declared.statement.Stated.{Stated}

@@ -1,8 +1,8 @@
 -- Rows of ranks, and how many of them are filled.
 use Rattle.std.proofs.Common.{◌≡◌, ℕ, zero, suc, ◌+◌, ◌<◌, ◌≤◌, Bool, true, false, List, [], ◌∷◌}
-use Rattle.std.proofs.Common.{length, set, map, replicate, get_or, take, drop, Option, Some, None}
-use Rattle.std.proofs.Common.{is_some, refl, sym, ap, ◌∙◌, subst, arith, eqb, count_by, cond, ◌&&◌}
-use Rattle.std.proofs.Common.{◌⊎◌, inl, inr, ne_eqb, add-one, length-set}
+use Rattle.std.proofs.Common.{length, set, replicate, take, drop, Option, Some, None}
+use Rattle.std.proofs.Common.{is_some, refl, sym, ap, ◌∙◌, arith, eqb, count_by, cond, ◌&&◌}
+use Rattle.std.proofs.Common.{ne_eqb, add-one, length-set}
 use Rattle.std.specs.List.{list_all}
 use Rattle.std.proofs.lemmas.Bool.{false≢true}
 use Rattle.std.proofs.lemmas.Bool.Decides.{nat_tests}

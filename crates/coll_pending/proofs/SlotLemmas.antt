@@ -1,9 +1,9 @@
 -- One slot, and what a post makes of it.
 use Rattle.std.proofs.Common.{◌≡◌, ◌≢◌, ℕ, zero, suc, ◌+◌, ◌<◌, ◌≤◌, true, false, List, [], ◌∷◌}
-use Rattle.std.proofs.Common.{length, set, replicate, get_or, Option, Some, None, slice_get, refl}
-use Rattle.std.proofs.Common.{sym, ap, ◌∙◌, subst, arith, eqb, ne_eqb, count_by, is_some, ⊎_elim}
+use Rattle.std.proofs.Common.{length, set, replicate, Option, Some, None, slice_get, refl}
+use Rattle.std.proofs.Common.{sym, ap, ◌∙◌, subst, arith, eqb, count_by, is_some, ⊎_elim}
 use Rattle.std.proofs.Common.{◌⊎◌, inl, inr, length-set}
-use Rattle.std.proofs.lemmas.Bool.{cases_Bool, cases_eq}
+use Rattle.std.proofs.lemmas.Bool.{cases_Bool}
 use Rattle.std.proofs.lemmas.Bool.Decides.{nat_tests}
 use Rattle.std.proofs.lemmas.List.{get_or-set_other}
 use Rattle.coll_routes.specs.declared.signature.Signature.{Signature}
@@ -15,9 +15,9 @@ use Rattle.coll_routes.proofs.CollRoutesLemmas.{same_signatures_are_equal}
 use Rattle.coll_pending.specs.declared.arrival.Next.TheVariants.{Mismatch}
 use Rattle.coll_pending.specs.declared.slot.Slot.{Slot}
 use Rattle.coll_pending.specs.Instances.{Communicator, is_full, is_full_but_for, next_by, IsAgreed}
-use Rattle.coll_pending.specs.Queues.{IsSlot, IsFree, IsVacant, IsOf, posted, lacks_one, has_posted}
+use Rattle.coll_pending.specs.Queues.{IsSlot, IsFree, IsVacant, posted, lacks_one, has_posted}
 use Rattle.coll_pending.specs.Queues.{marks}
-use Rattle.coll_pending.proofs.RowLemmas.{marks_none, marks_set, marked_length, full_marks}
+use Rattle.coll_pending.proofs.RowLemmas.{marks_none, marks_set, full_marks}
 use Rattle.coll_pending.proofs.RowLemmas.{count_none, count_set, full_set, full_but, not_full_but}
 use Rattle.coll_pending.proofs.RowLemmas.{posted_none, posted_here}
 

@@ -1,6 +1,6 @@
 -- What contracts see of the instances that wait: look-ups by communicator, rank and number.
 -- (MPI 4.1, section 6.12.)
-use Rattle.std.specs.Prelude.{◌≡◌, ◌≢◌, ◌<◌, ◌⊎◌, ℕ, ◌+◌, List, length, map, true, false, Option}
+use Rattle.std.specs.Prelude.{◌≡◌, ◌≢◌, ◌<◌, ◌⊎◌, ℕ, ◌+◌, length, map, true, false, Option}
 use Rattle.std.specs.Prelude.{Some, None, IsSome}
 use Rattle.slab.specs.Slab.{HasRoomFor}
 use Rattle.coll_routes.specs.declared.signature.Signature.{Signature}

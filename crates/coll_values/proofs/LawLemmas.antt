@@ -1,5 +1,5 @@
 -- What holds of all values.
-use Rattle.std.proofs.Common.{◌≡◌, ℕ, zero, suc, ◌+◌, ◌<◌, List, [], ◌∷◌, ◌++◌, length, ◌∙◌, ap}
+use Rattle.std.proofs.Common.{◌≡◌, ℕ, zero, suc, ◌+◌, ◌<◌, List, ◌∷◌, ◌++◌, length, ◌∙◌, ap}
 use Rattle.std.proofs.Common.{refl, arith, Bool, true, false, cond, Option, Some, None, slice_get}
 use Rattle.std.proofs.Common.{map, fold, max, filter, filter_map, flat_map}
 use Rattle.std.proofs.lemmas.List.FromFn.{length-range_with_len}

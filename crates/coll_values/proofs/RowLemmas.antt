@@ -1,9 +1,8 @@
 -- The rows of a reduction: those of the first ranks are of one length, and the others are empty.
 use Rattle.std.proofs.Common.{◌≡◌, ℕ, zero, suc, ◌+◌, ◌-◌, ◌<◌, ◌≤◌, List, [], ◌∷◌, length, ◌∙◌, ap}
-use Rattle.std.proofs.Common.{sym, refl, arith, Bool, true, false, ◌&&◌, cond, max, nat_le, nat_lt}
+use Rattle.std.proofs.Common.{sym, refl, arith, Bool, true, false, ◌&&◌, max, nat_le, nat_lt}
 use Rattle.std.proofs.Common.{add-one, subst, ⊎_elim}
 use Rattle.std.proofs.lemmas.Bool.{lt-ltb, le-ltb, ltb-true, ltb-false, cases_Bool}
-use Rattle.mpi_elems.specs.Lists.{merged}
 use Rattle.mpi_elems.specs.Elements.{Element}
 use Rattle.mpi_elems.specs.Contents.{Contents}
 use Rattle.coll_routes.specs.Rolls.{goes, given}

@@ -40,7 +40,7 @@ use Rattle.coll_routes.specs.Faults.{bad_colour, not_subgroup, bad_dims, no_topo
 use Rattle.coll_routes.specs.Faults.{stated_type}
 use Rattle.coll_routes.specs.Fit.{IsFit}
 use Rattle.coll_routes.proofs.CollRoutesLemmas.{no_fault, it_is}
-use Rattle.coll_routes.specs.Rolls.{goes_by, places_by, in_block, slots, neighbour_in, is_it}
+use Rattle.coll_routes.specs.Rolls.{goes_by, places_by, in_block, slots, neighbour_in}
 use Rattle.coll_routes.specs.Rolls.{is_neighbour, stated_by, own_counts_in, given, goes, places}
 use Rattle.coll_routes.specs.Rolls.{ranks}
 use Rattle.coll_values.specs.declared.full.Full.{Full}

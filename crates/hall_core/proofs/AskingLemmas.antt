@@ -1,7 +1,7 @@
 -- How many requests are open.
-use Rattle.std.proofs.Common.{◌≡◌, ◌≢◌, ℕ, zero, suc, ◌+◌, ◌-◌, ◌<◌, ◌≤◌, Bool, true, false, ◌&&◌}
+use Rattle.std.proofs.Common.{◌≡◌, ◌≢◌, ℕ, zero, suc, ◌+◌, ◌-◌, ◌<◌, ◌≤◌, Bool, true, false}
 use Rattle.std.proofs.Common.{List, [], ◌∷◌, ◌++◌, length, set, get_or, replicate, Option, Some}
-use Rattle.std.proofs.Common.{None, refl, sym, ap, ◌∙◌, arith, cond, ⊎_elim, ◌⊎◌, inl, inr}
+use Rattle.std.proofs.Common.{None, refl, sym, ap, ◌∙◌, arith, cond, ⊎_elim, ◌⊎◌}
 use Rattle.std.proofs.Common.{eqb-true, eq-eqb, slice_get}
 use Rattle.std.specs.Prelude.{is_some, ◌==◌, IsSome}
 use Rattle.std.proofs.lemmas.Bool.{cases_Bool, cond-true, cond-false, false≢true, and_parts}

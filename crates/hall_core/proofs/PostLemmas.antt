@@ -22,7 +22,6 @@ use Rattle.run_model.specs.declared.entry.Entry.TheVariants.{Posted as EntryPost
 use Rattle.run_model.specs.Comms.{Comm, processes, shape_of}
 use Rattle.run_model.specs.Posts.{place, histories}
 use Rattle.run_model.specs.Refusals.{refused_for, or_else, fault}
-use Rattle.run_model.specs.Books.{IsCounted}
 use Rattle.run_model.specs.EntryForms.{HasForm}
 use Rattle.run_model.proofs.RunModelLemmas.{accepted as accepted_by, no_fault_has, fault_spared}
 use Rattle.run_model.proofs.RunModelLemmas.{taken, given_of, entry_of, after_posted, after_barred}

@@ -1,5 +1,5 @@
 -- What the code computes with.
-use Rattle.std.specs.Prelude.{◌≡◌, ℕ, ◌*◌, ◌/◌, ◌%◌, ◌<◌, ◌≤◌, List, [], ◌∷◌, length, Bool, Option}
+use Rattle.std.specs.Prelude.{◌≡◌, ℕ, ◌*◌, ◌/◌, ◌%◌, ◌<◌, ◌≤◌, List, [], ◌∷◌, length, Option}
 use Rattle.std.specs.Prelude.{None, slice_get, get_or, unwrap_or}
 use Rattle.mpi_cart.specs.Grids.{Topology, volume, cells, neighbour, IsGrid}
 

@@ -1,6 +1,6 @@
 -- The text of a run, process by process, and what becomes of a script whose scripts were run.
 use Rattle.std.proofs.Common.{◌≡◌, ℕ, zero, suc, ◌+◌, ◌-◌, ◌≤◌, ◌⊎◌, inl, inr, List, [], ◌++◌}
-use Rattle.std.proofs.Common.{length, slice_index_or, Option, None, sym, ap, subst, subst₂, ◌∙◌}
+use Rattle.std.proofs.Common.{length, slice_index_or, Option, sym, ap, subst, subst₂, ◌∙◌}
 use Rattle.std.proofs.Common.{append_assoc, append-nil, arith}
 use Rattle.std.specs.Io.KnownBytes.{Appends}
 use Rattle.wall_labels.specs.Known.{AppendsFront}

@@ -26,7 +26,6 @@ use Rattle.run_model.specs.Contributions.{Contribution, parts_in, kth_parts, ful
 use Rattle.run_model.specs.declared.call.Posting.{Posting}
 use Rattle.run_model.specs.declared.call.Act.{Act}
 use Rattle.run_model.specs.declared.call.Act.TheVariants.{Post as ToPost, Take, Info as ToInfo}
-use Rattle.run_model.specs.declared.reply.Reply.{Reply}
 use Rattle.run_model.specs.declared.reply.Reply.TheVariants.{Delivered, Refused}
 use Rattle.run_model.specs.Runs.{Entry, Effects, contribution_in, requests, is_outcome, takes}
 use Rattle.run_model.specs.Runs.{after_entry}

@@ -5,7 +5,7 @@ use Rattle.std.proofs.Common.{refl, sym, ap, ◌∙◌, subst, arith, inl, inr, 
 use Rattle.std.proofs.Common.{false, Option, Some, None, slice_get, cond, eqb-true, nat_lt, lt-ltb}
 use Rattle.std.proofs.Common.{ltb-true}
 use Rattle.std.specs.Prelude.{filter, filter_map, All, is_some, ◌==◌}
-use Rattle.std.specs.List.{range_with_len, items_where_true, list_all}
+use Rattle.std.specs.List.{range_with_len, items_where_true}
 use Rattle.std.proofs.lemmas.Bool.{cases_Bool, cond-true, cond-false, false≢true, and_parts}
 use Rattle.std.proofs.lemmas.Bool.{and_from, cases_lt}
 use Rattle.std.proofs.lemmas.Option.{slice_get_within, slice_get-get_or}

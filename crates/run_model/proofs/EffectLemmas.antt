@@ -4,8 +4,8 @@ use Rattle.std.proofs.Common.{refl, sym, ap, ◌∙◌, arith, Bool, true, false
 use Rattle.std.proofs.Common.{◌⊎◌, inl, inr, Option, None, cond, eqb-true, eq-eqb, ne_eqb}
 use Rattle.std.specs.Prelude.{◌==◌, count_by}
 use Rattle.std.specs.List.{range_with_len, cons_option}
-use Rattle.std.proofs.lemmas.Bool.{cases_Bool, cond-true, cond-false, false≢true, and_parts}
-use Rattle.std.proofs.lemmas.Bool.{and_from, and_left, and_right, or_cases, or_right}
+use Rattle.std.proofs.lemmas.Bool.{cases_Bool, false≢true}
+use Rattle.std.proofs.lemmas.Bool.{and_from, and_left, and_right, or_right}
 use Rattle.std.proofs.lemmas.List.Sums.{sum_by-append}
 use Rattle.wall_labels.specs.declared.label.Label.{Label}
 use Rattle.mpi_elems.specs.Contents.{Contents}

@@ -26,10 +26,10 @@ use Rattle.run_model.specs.Posts.{is_full, filled, comms, histories}
 use Rattle.run_model.specs.Refusals.{differs, mismatches}
 use Rattle.run_model.specs.Books.{IsCounted, AreCounted}
 use Rattle.run_model.specs.PostLaws.{FilledInstancesAreFit}
-use Rattle.run_model.proofs.PostLemmas.{IsFilled, filled_is, IsKth, kth_from, get_either}
+use Rattle.run_model.proofs.PostLemmas.{filled_is, kth_from, get_either}
 use Rattle.run_model.proofs.CommLemmas.{IsComm, AreComms, both_comms, world_is, new_are_comms}
 use Rattle.run_model.proofs.CommLemmas.{at_one, ranked, rank_is}
-use Rattle.run_model.proofs.CountedLemmas.{IsAcceptedPost, taken_accepted, no_fault_has, taken_at}
+use Rattle.run_model.proofs.CountedLemmas.{taken_accepted, no_fault_has, taken_at}
 use Rattle.run_model.proofs.CountedLemmas.{comm_later}
 
 ---- Signatures within an instance.

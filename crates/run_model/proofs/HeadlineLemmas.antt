@@ -1,25 +1,22 @@
 -- Every full collective of a legal run is judged by the two rules.
-use Rattle.std.proofs.Common.{◌≡◌, ◌≢◌, ℕ, zero, suc, ◌<◌, List, [], ◌∷◌, ◌++◌, length, map, refl}
-use Rattle.std.proofs.Common.{sym, ap, ◌∙◌, subst, arith, Bool, true, false, not, ◌&&◌, ◌⊎◌, ⊎_elim}
+use Rattle.std.proofs.Common.{◌≡◌, ◌≢◌, ℕ, zero, suc, List, [], ◌∷◌, ◌++◌, length, map, refl}
+use Rattle.std.proofs.Common.{sym, ap, ◌∙◌, subst, Bool, true, false, not, ◌&&◌, ◌⊎◌, ⊎_elim}
 use Rattle.std.proofs.Common.{inl, inr, Option, Some, None, slice_get, option_map, eqb-true, eq-eqb}
-use Rattle.std.proofs.Common.{ne_eqb}
-use Rattle.std.specs.Prelude.{◌==◌, ◌↔◌, is_some, is_none, unwrap_or}
+use Rattle.std.specs.Prelude.{◌==◌, ◌↔◌, is_some, is_none}
 use Rattle.std.specs.Option.{option_and_then}
-use Rattle.std.specs.List.{list_all}
 use Rattle.std.proofs.lemmas.Bool.{cases_Bool, cond-true, cond-false, false≢true, and_from}
 use Rattle.std.proofs.lemmas.Bool.{and_parts}
 use Rattle.std.proofs.lemmas.Option.{slice_get-map}
 use Rattle.wall_labels.specs.declared.ids.TheConstants.{DATASET_LIMIT}
 use Rattle.wall_labels.specs.declared.label.Label.{Label}
-use Rattle.wall_labels.specs.declared.label.Label.TheVariants.{Public, Of}
+use Rattle.wall_labels.specs.declared.label.Label.TheVariants.{Of}
 use Rattle.wall_policy.specs.Policy.{ChineseWall, IsPolicy}
 use Rattle.wall_rules.specs.Histories.{History}
 use Rattle.wall_rules.specs.Rules.{is_held_other, first_other}
 use Rattle.wall_rules.proofs.WallRulesLemmas.{none-least}
-use Rattle.mpi_group.specs.Groups.{rank_in}
 use Rattle.coll_routes.specs.declared.statement.Stated.{Stated}
 use Rattle.coll_routes.specs.declared.roll.Roll.{Roll}
-use Rattle.coll_routes.specs.Rolls.{is_barred, barred_in, stated_in}
+use Rattle.coll_routes.specs.Rolls.{is_barred}
 use Rattle.coll_routes.specs.Signatures.{is_constructor}
 use Rattle.wall_verdict.specs.declared.verdict.Rule.{Rule}
 use Rattle.wall_verdict.specs.declared.verdict.Verdict.{Verdict}
@@ -30,29 +27,26 @@ use Rattle.wall_verdict.specs.Verdicts.{verdict, member}
 use Rattle.wall_verdict.proofs.WallVerdictLemmas.{member_at}
 use Rattle.run_model.specs.declared.outcome.Outcome.{Outcome}
 use Rattle.run_model.specs.declared.outcome.Outcome.TheVariants.{Granted, Denied as DeniedBy}
-use Rattle.run_model.specs.declared.outcome.Outcome.TheVariants.{Made as MadeComms}
-use Rattle.run_model.specs.declared.outcome.Outcome.TheVariants.{NoRoom as NoneMade}
 use Rattle.run_model.specs.Comms.{Comm, new_comms}
 use Rattle.run_model.specs.Posts.{Post, posts_on, kth_posts, instance, is_full, if_full, place}
 use Rattle.run_model.specs.Posts.{filled, comms, labelled, histories, outcome, outcome_of}
 use Rattle.run_model.specs.Posts.{by_verdict, constructor_outcome, outcome_at}
-use Rattle.run_model.specs.Books.{AreCounted, IsCounted}
+use Rattle.run_model.specs.Books.{AreCounted}
 use Rattle.run_model.specs.Holding.{IsMoment, IsPart}
-use Rattle.run_model.proofs.PostLemmas.{IsKth, kth_from, IsFilled, filled_is, stated_at, get_front}
-use Rattle.run_model.proofs.PostLemmas.{get_either}
-use Rattle.run_model.proofs.CountedLemmas.{taken_older, taken_at, taken_accepted, comm_stays}
+use Rattle.run_model.proofs.PostLemmas.{kth_from, IsFilled, filled_is, stated_at}
+use Rattle.run_model.proofs.CountedLemmas.{taken_at, taken_accepted}
 use Rattle.run_model.proofs.CountedLemmas.{comm_later}
-use Rattle.run_model.proofs.HoldingLemmas.{label_held, size_is, part_barred, part_within}
+use Rattle.run_model.proofs.HoldingLemmas.{label_held, part_barred, part_within}
 use Rattle.run_model.proofs.FitLemmas.{filled_is_fit}
-use Rattle.run_model.specs.declared.reply.Reply.TheVariants.{Delivered, Denied}
+use Rattle.run_model.specs.declared.reply.Reply.TheVariants.{Denied}
 use Rattle.run_model.specs.Runs.{Entry, posts, contributions}
-use Rattle.run_model.specs.Replies.{comm_at, Legal}
+use Rattle.run_model.specs.Replies.{Legal}
 use Rattle.run_model.specs.RunLaws as laws
-use Rattle.run_model.specs.Headline.{PassesTheStarRule, EachPassedAtItsPost, EachIsPermitted}
-use Rattle.run_model.specs.Headline.{EachIsDue, IsDenied, IsJudged, IsFullCollective}
-use Rattle.run_model.specs.Headline.{FullCollectivesAreJudged, Headline}
+use Rattle.run_model.specs.Headline.{PassesTheStarRule, EachPassedAtItsPost}
+use Rattle.run_model.specs.Headline.{IsJudged, IsFullCollective}
+use Rattle.run_model.specs.Headline.{Headline}
 use Rattle.run_model.proofs.CountLemmas.{legal_posts_count}
-use Rattle.run_model.proofs.SettledLemmas.{all_at, past_end, IsSettled, settled_from, settled_now}
+use Rattle.run_model.proofs.SettledLemmas.{all_at, IsSettled, settled_from}
 use Rattle.run_model.proofs.SettledLemmas.{settled_roll, settles, comm_at_is}
 use Rattle.run_model.proofs.RunLemmas.{grants_are_joint_in_runs, nobody_holds_two_rivals_in_runs}
 use Rattle.run_model.proofs.TellLemmas.{grants_are_delivered, denials_are_told}

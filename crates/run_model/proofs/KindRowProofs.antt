@@ -1,10 +1,10 @@
 -- The worked runs of KindRows, by computation.
-use Rattle.std.proofs.Common.{[], ◌∷◌, pos, negsuc, refl, ⊎_elim, None}
+use Rattle.std.proofs.Common.{[], ◌∷◌, pos, refl, ⊎_elim, None}
 use Rattle.coll_values.specs.declared.delivery.Block.TheVariants.{Missing, Numbers}
 use Rattle.run_model.specs.declared.refusal.Refusal.TheVariants.{NoSuchComm, NotMember}
-use Rattle.run_model.specs.declared.reply.Reply.TheVariants.{Posted, Delivered, NewComm, NullComm}
+use Rattle.run_model.specs.declared.reply.Reply.TheVariants.{Delivered}
 use Rattle.run_model.specs.declared.reply.Reply.TheVariants.{Info, Refused}
-use Rattle.run_model.specs.RunRows.{LegalList, four_of_alpha, alpha}
+use Rattle.run_model.specs.RunRows.{LegalList, four_of_alpha}
 use Rattle.run_model.specs.KindRows.{gathers, scatters, exchanges, reductions_by_root_and_block}
 use Rattle.run_model.specs.KindRows.{all_gather_and_wait, neighbours_of_a_line, empty_and_reordered}
 use Rattle.run_model.proofs.RunRowProofs.{opened, due_is_legal}

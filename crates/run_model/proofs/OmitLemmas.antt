@@ -1,15 +1,14 @@
 -- What an entry moves, and what can be left out of a run.
-use Rattle.std.proofs.Common.{◌≡◌, ℕ, List, [], ◌∷◌, ◌++◌, refl, sym, ap, ◌∙◌, subst, true, Option}
-use Rattle.std.proofs.Common.{None}
+use Rattle.std.proofs.Common.{◌≡◌, List, [], ◌∷◌, ◌++◌, sym, ap, ◌∙◌, subst}
 use Rattle.std.specs.List.{cons_option}
 use Rattle.wall_policy.specs.Policy.{ChineseWall}
-use Rattle.run_model.specs.Posts.{Post, comms, histories, outcome_at}
+use Rattle.run_model.specs.Posts.{comms, histories, outcome_at}
 use Rattle.run_model.specs.Books.{book, posts_in as posts_in_book}
 use Rattle.run_model.proofs.BookLemmas.{posts_in-book}
 use Rattle.run_model.specs.Contributions.{posts_of}
 use Rattle.run_model.specs.Runs.{Entry, Effects, effects, posts, contributions, contribution_by}
-use Rattle.run_model.specs.Runs.{counted, MakesNothing, after_entry}
-use Rattle.run_model.specs.Replies.{reply, reply_by, IsAnswer, Legal}
+use Rattle.run_model.specs.Runs.{MakesNothing, after_entry}
+use Rattle.run_model.specs.Replies.{reply, reply_by, IsAnswer}
 use Rattle.run_model.specs.RunLaws as laws
 use Rattle.run_model.proofs.EffectLemmas.{after_nothing}
 

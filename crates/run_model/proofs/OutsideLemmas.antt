@@ -42,13 +42,13 @@ use Rattle.run_model.specs.declared.call.Act.TheVariants.{Post as ToPost, Take, 
 use Rattle.run_model.specs.declared.reply.Reply.{Reply}
 use Rattle.run_model.specs.declared.reply.Reply.TheVariants.{Posted, Delivered}
 use Rattle.run_model.specs.Runs.{Entry, effects, posts, contributions, given_in}
-use Rattle.run_model.specs.Runs.{label_in as label_given, label_if, requests, is_taken}
+use Rattle.run_model.specs.Runs.{label_in as label_given, label_if, requests}
 use Rattle.run_model.specs.Replies.{refusal, comm_at, reply_by, reply}
 use Rattle.run_model.specs.RunLaws.{instance_in, IsDelivered}
 use Rattle.run_model.specs.Worlds.{SamePostingButForValues, SameActButForValues, AreTwoWorlds}
 use Rattle.run_model.specs.Worlds.{form_of_reply, SameButForNumbers, SameValues, MayWriteOf}
 use Rattle.run_model.specs.Worlds.{DifferOnlyIn, is_sanitised_of, is_spared_at, is_spared}
-use Rattle.run_model.specs.Worlds.{without_numbers_if, what_is_seen, LooksTheSameTo, CannotTell}
+use Rattle.run_model.specs.Worlds.{without_numbers_if, what_is_seen, LooksTheSameTo}
 use Rattle.run_model.specs.Worlds.{WhoHoldsNothingLearnsNothing, NoQuestionTellsWorldsApart}
 use Rattle.run_model.specs.Worlds.{RivalsLearnNothing, HomesOfRivalsSeeNothing}
 use Rattle.run_model.proofs.CountLemmas.{posted_taken}

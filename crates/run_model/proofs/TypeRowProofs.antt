@@ -1,8 +1,8 @@
 -- The worked runs of TypeRows, by computation.
-use Rattle.std.proofs.Common.{[], ◌∷◌, pos, negsuc, refl, ⊎_elim}
+use Rattle.std.proofs.Common.{[], ◌∷◌, pos, refl, ⊎_elim}
 use Rattle.coll_values.specs.declared.delivery.Block.TheVariants.{Numbers}
-use Rattle.run_model.specs.declared.reply.Reply.TheVariants.{Posted, Delivered}
-use Rattle.run_model.specs.RunRows.{LegalList, two_of_alpha, alpha}
+use Rattle.run_model.specs.declared.reply.Reply.TheVariants.{Delivered}
+use Rattle.run_model.specs.RunRows.{LegalList, two_of_alpha}
 use Rattle.run_model.specs.TypeRows.{both_ends_of_each_type, orders_sums_and_truth, bits_and_places}
 use Rattle.run_model.proofs.RunRowProofs.{opened, due_is_legal}
 

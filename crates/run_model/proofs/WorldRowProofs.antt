@@ -1,5 +1,5 @@
 -- Worked pairs of worlds, by computation.
-use Rattle.std.proofs.Common.{◌≡◌, ℕ, List, [], ◌∷◌, length, map, pos, reverse, take, arith, refl}
+use Rattle.std.proofs.Common.{◌≡◌, ℕ, List, [], ◌∷◌, length, pos, reverse, take, arith, refl}
 use Rattle.std.proofs.Common.{sym, ap, ◌∙◌, inl, inr, ⊎_elim, Bool, true, false, not}
 use Rattle.std.specs.List.{list_all}
 use Rattle.std.proofs.lemmas.Bool.{false≢true, and_parts}
@@ -21,7 +21,7 @@ use Rattle.run_model.specs.Replies.{Legal}
 use Rattle.run_model.specs.RunRows.{banks_and_oil, five_groups, relayed, summed, two_offers}
 use Rattle.run_model.specs.RunRows.{barred_allgather}
 use Rattle.run_model.specs.Worlds.{SameActButForValues, SameCallButForValues, SameCallsButForValues}
-use Rattle.run_model.specs.Worlds.{NobodyLacksMemory, AreTwoWorlds, SamePostingButForValues}
+use Rattle.run_model.specs.Worlds.{NobodyLacksMemory, SamePostingButForValues}
 use Rattle.run_model.specs.Worlds.{SameValues, DifferOnlyIn, AreAlikeOutside, is_spared}
 use Rattle.run_model.specs.WorldRows.{Worlds, Alike, LookAlike}
 use Rattle.run_model.proofs.RunLemmas.{holding_is_history_in_runs}

@@ -1,5 +1,5 @@
 -- Two worlds are one to the wall.
-use Rattle.std.proofs.Common.{◌≡◌, ◌≢◌, ℕ, List, [], ◌∷◌, length, map, refl, sym, ap, ◌∙◌, arith}
+use Rattle.std.proofs.Common.{◌≡◌, ◌≢◌, ℕ, List, [], ◌∷◌, length, map, refl, sym, ap, ◌∙◌}
 use Rattle.std.proofs.Common.{Bool, true, false, not, ◌&&◌, ◌||◌, cond, Option, Some, None}
 use Rattle.std.proofs.Common.{slice_get, option_map}
 use Rattle.std.specs.Prelude.{◌==◌, unwrap_or, count_by}
@@ -7,9 +7,7 @@ use Rattle.std.specs.List.{cons_option}
 use Rattle.std.proofs.lemmas.Option.{slice_get-map}
 use Rattle.wall_labels.specs.declared.label.Label.{Label}
 use Rattle.wall_policy.specs.Policy.{ChineseWall}
-use Rattle.mpi_elems.specs.declared.elem_type.ElemType.{ElemType}
-use Rattle.mpi_elems.specs.Types.{is_pair}
-use Rattle.mpi_elems.specs.Elements.{Element, single, pair, pairs_of, elements_of}
+use Rattle.mpi_elems.specs.Elements.{Element}
 use Rattle.mpi_elems.specs.Contents.{Contents, contents, elements}
 use Rattle.mpi_group.specs.Groups.{rank_in}
 use Rattle.mpi_cart.specs.Grids.{below}
@@ -31,18 +29,18 @@ use Rattle.run_model.specs.Comms.{Comm, new_comms}
 use Rattle.run_model.specs.Posts.{Post, comms, instance, histories, outcome_at}
 use Rattle.run_model.specs.Refusals.{or_else, fault}
 use Rattle.run_model.specs.Books.{book}
-use Rattle.run_model.specs.Contributions.{Contribution, posts_of, full_at}
+use Rattle.run_model.specs.Contributions.{Contribution, full_at}
 use Rattle.run_model.specs.declared.call.Posting.{Posting}
 use Rattle.run_model.specs.declared.call.Act.{Act}
 use Rattle.run_model.specs.declared.call.Act.TheVariants.{Post as ToPost, Take, Info as ToInfo}
 use Rattle.run_model.specs.declared.reply.Reply.{Reply}
 use Rattle.run_model.specs.declared.reply.Reply.TheVariants.{Posted, Barred, Delivered, Refused}
 use Rattle.run_model.specs.Runs.{Entry, Effects, effects, contribution_by, given_in}
-use Rattle.run_model.specs.Runs.{contribution_in, label_in, statement, kept, counted, requests}
+use Rattle.run_model.specs.Runs.{contribution_in, statement, counted, requests}
 use Rattle.run_model.specs.Runs.{is_outcome, takes, after_entry}
-use Rattle.run_model.specs.Replies.{posts_in, is_limit_reached, open_requests, refusal, accepted}
+use Rattle.run_model.specs.Replies.{posts_in, is_limit_reached, refusal, accepted}
 use Rattle.run_model.specs.Replies.{reply_to_post, joined, reply_by_outcome, comm_at, reply_to_take}
-use Rattle.run_model.specs.Replies.{reply_to_info, reply_by, reply, IsAnswer, Legal}
+use Rattle.run_model.specs.Replies.{reply_by, reply, IsAnswer}
 use Rattle.run_model.specs.Worlds.{SamePostingButForValues, SameActButForValues}
 use Rattle.run_model.specs.Worlds.{SameCallButForValues, AreTwoWorlds, form_of_reply}
 use Rattle.run_model.specs.Worlds.{SameButForNumbers, RepliesSameButForNumbers, WallSeesOne}

@@ -1,6 +1,6 @@
 -- The headline: what becomes of every collective that is full, after every legal run. A run has its
 -- newest entry first.
-use Rattle.std.specs.Prelude.{◌≡◌, ◌≢◌, ◌<◌, ◌↔◌, ℕ, List, ◌∷◌, true, false, length, slice_get}
+use Rattle.std.specs.Prelude.{◌≡◌, ◌≢◌, ◌<◌, ◌↔◌, ℕ, List, ◌∷◌, true, false, slice_get}
 use Rattle.std.specs.Prelude.{Option, Some, None}
 use Rattle.wall_labels.specs.declared.ids.TheConstants.{DATASET_LIMIT}
 use Rattle.wall_labels.specs.declared.label.Label.{Label}

@@ -1,5 +1,5 @@
 -- Worked runs of each kind: what each rank is delivered.
-use Rattle.std.specs.Prelude.{List, [], ◌∷◌, pos, negsuc, false, Some, None}
+use Rattle.std.specs.Prelude.{List, [], ◌∷◌, pos, negsuc, false, Some}
 use Rattle.wall_labels.specs.declared.op.Op.TheVariants.{Max, Prod}
 use Rattle.mpi_elems.specs.declared.elem_type.ElemType.TheVariants.{Int8, Int16, Int32, Uint8}
 use Rattle.mpi_elems.specs.declared.elem_type.ElemType.TheVariants.{Uint16}
@@ -13,9 +13,8 @@ use Rattle.coll_routes.specs.declared.signature.Signature.TheVariants.{NeighborA
 use Rattle.coll_routes.specs.declared.signature.Signature.TheVariants.{Create, CartCreate}
 use Rattle.coll_routes.specs.declared.statement.Own.TheVariants.{Plain, Counts, Split as SplitBy}
 use Rattle.coll_values.specs.declared.delivery.Block.TheVariants.{Missing, Numbers}
-use Rattle.run_model.specs.declared.refusal.Refusal.TheVariants.{NoSuchComm, NotMember}
 use Rattle.run_model.specs.declared.reply.Reply.TheVariants.{Posted, Delivered, NewComm, NullComm}
-use Rattle.run_model.specs.declared.reply.Reply.TheVariants.{Info, Refused}
+use Rattle.run_model.specs.declared.reply.Reply.TheVariants.{Info}
 use Rattle.run_model.specs.declared.reply.Reply.{Reply}
 use Rattle.run_model.specs.Runs.{Entry}
 use Rattle.run_model.specs.RunRows.{alpha, gave, stated, came, took, asked}

@@ -1,20 +1,14 @@
 -- What a legal run makes, in words that need no run. A list of posts has the newest first.
-use Rattle.std.specs.Prelude.{◌≡◌, ◌<◌, ℕ, List, [], ◌∷◌, length, true, false, Option, Some, None}
-use Rattle.std.specs.Option.{option_map}
+use Rattle.std.specs.Prelude.{◌≡◌, ◌<◌, ℕ, List, [], ◌∷◌, length, true, false, Some}
 use Rattle.wall_policy.specs.Policy.{ChineseWall}
 use Rattle.mpi_elems.specs.declared.elem_type.ElemType.{ElemType}
 use Rattle.mpi_elems.specs.Contents.{Contents, elements}
 use Rattle.coll_routes.specs.declared.statement.Stated.{Stated}
 use Rattle.coll_routes.specs.Signatures.{elem_type}
-use Rattle.coll_values.specs.declared.full.Full.{Full}
-use Rattle.run_model.specs.declared.outcome.Outcome.{Outcome}
-use Rattle.run_model.specs.Posts.{outcome_at}
 use Rattle.run_model.specs.Books.{AreCounted}
-use Rattle.run_model.specs.Contributions.{Contribution, full_at}
-use Rattle.run_model.specs.declared.reply.Reply.{Reply}
-use Rattle.run_model.specs.declared.reply.Reply.TheVariants.{Pending}
+use Rattle.run_model.specs.Contributions.{Contribution}
 use Rattle.run_model.specs.Runs.{Effects, requests}
-use Rattle.run_model.specs.Replies.{posts_in, comm_at, reply_by_outcome}
+use Rattle.run_model.specs.Replies.{posts_in}
 
 -- the part has as many elements as its post states, of the type that the signature has, if it has
 -- one

@@ -6,7 +6,6 @@ use Rattle.coll_routes.specs.declared.signature.Signature.{Signature}
 use Rattle.coll_routes.specs.declared.signature.Signature.TheVariants.{Dup, Create}
 use Rattle.coll_routes.specs.declared.statement.Stated.{Stated}
 use Rattle.coll_routes.specs.declared.roll.Shape.{Shape}
-use Rattle.coll_routes.specs.declared.roll.Roll.{Roll}
 use Rattle.run_model.specs.declared.outcome.Outcome.{Outcome}
 use Rattle.run_model.specs.declared.outcome.Outcome.TheVariants.{Made, NoRoom}
 use Rattle.run_model.specs.Posts.{outcome_of}

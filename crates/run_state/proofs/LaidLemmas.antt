@@ -4,8 +4,7 @@ use Rattle.std.proofs.Common.{◌∙◌, subst, arith, Bool, true, false, Option
 use Rattle.std.proofs.Common.{map, drop, cond}
 use Rattle.std.specs.Prelude.{◌==◌, nat_lt, unwrap_or, filter_map}
 use Rattle.std.specs.List.{list_all}
-use Rattle.std.proofs.lemmas.Bool.{cases_Bool, cond-true, cond-false, false≢true, and_parts, lt-ltb}
-use Rattle.std.proofs.lemmas.Option.{slice_get_within}
+use Rattle.std.proofs.lemmas.Bool.{cond-true, cond-false, and_parts, lt-ltb}
 use Rattle.mpi_group.specs.Groups.{members_at, are_ranks}
 use Rattle.mpi_cart.specs.Grids.{Topology, volume}
 use Rattle.mpi_comm.specs.Comms.{group_at, fits, is_subgroup, subset_groups, constructor_fault}

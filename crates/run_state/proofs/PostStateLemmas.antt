@@ -17,7 +17,7 @@ use Rattle.coll_pending.specs.declared.arrival.Arrived.{Arrived}
 use Rattle.coll_pending.specs.declared.arrival.Arrived.TheVariants as arrived
 use Rattle.coll_pending.specs.Instances.{Instance, is_full}
 use Rattle.coll_pending.specs.Keyed.{updated}
-use Rattle.coll_pending.specs.Waiting.{PendingView, IsKnownAs, updated_at, HasArrived, Arrives}
+use Rattle.coll_pending.specs.Waiting.{PendingView, IsKnownAs, updated_at, HasArrived}
 use Rattle.wall_verdict.specs.Star.{star, with_label}
 use Rattle.run_model.specs.Comms.{Comm, world, processes, added, new_comms, asks, new_comms_by}
 use Rattle.run_model.specs.Comms.{if_fit}

@@ -3,8 +3,7 @@ use Rattle.std.proofs.Common.{◌≡◌, ◌≢◌, ℕ, zero, suc, ◌<◌, Lis
 use Rattle.std.proofs.Common.{ap, ◌∙◌, subst, arith, true, false, ◌||◌, Option, Some, None}
 use Rattle.std.proofs.Common.{slice_get, map, set, replicate, is_some, ⊎_elim, eqb, eqb-true}
 use Rattle.std.specs.Prelude.{filter_map}
-use Rattle.std.proofs.lemmas.Bool.{false≢true, cases_Bool, and_left, and_right, or_parts, cond-true}
-use Rattle.std.proofs.lemmas.Bool.{cond-false}
+use Rattle.std.proofs.lemmas.Bool.{false≢true, cases_Bool, and_right}
 use Rattle.coll_routes.specs.declared.statement.Stated.{Stated}
 use Rattle.coll_pending.specs.Instances.{is_begun, is_full}
 use Rattle.run_model.specs.Posts.{signature_in}

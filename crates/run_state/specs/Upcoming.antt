@@ -13,7 +13,7 @@ use Rattle.coll_routes.specs.Fit.{IsSized}
 use Rattle.coll_pending.specs.declared.arrival.Next.{Next}
 use Rattle.coll_pending.specs.declared.arrival.Next.TheVariants.{Opens, Joins, Fills, Mismatch}
 use Rattle.coll_pending.specs.Instances.{Instance, roll_in}
-use Rattle.coll_pending.specs.Waiting.{PendingView, next, before, updated_at}
+use Rattle.coll_pending.specs.Waiting.{PendingView, next, before}
 use Rattle.run_model.specs.Comms.{Comm, shape_of, ask_by, ask_in, new_comms, added}
 use Rattle.run_model.specs.Posts.{constructor_outcome, if_full, is_full}
 use Rattle.run_model.specs.declared.outcome.Outcome.{Outcome}

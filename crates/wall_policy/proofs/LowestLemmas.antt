@@ -6,7 +6,7 @@ use Rattle.std.specs.Prelude.{is_none}
 use Rattle.std.specs.Option.{option_map_or}
 use Rattle.toml.specs.Data.{Members}
 use Rattle.wall_policy.specs.declared.fault.PolicyFault.{PolicyFault}
-use Rattle.wall_policy.specs.declared.fault.PolicyFault.TheVariants.{BadVersion, MissingKey}
+use Rattle.wall_policy.specs.declared.fault.PolicyFault.TheVariants.{MissingKey}
 use Rattle.wall_policy.specs.declared.fault.PolicyFault.TheVariants.{UnknownKey, BadName}
 use Rattle.wall_policy.specs.declared.fault.PolicyFault.TheVariants.{DuplicateName, UnknownDataset}
 use Rattle.wall_policy.specs.declared.fault.PolicyFault.TheVariants.{BadOp, BadLeast, TooMany}
@@ -17,7 +17,7 @@ use Rattle.wall_policy.specs.Checks.{has_good_names, has_repeats, has_known_home
 use Rattle.wall_policy.specs.Checks.{has_good_leasts, is_small}
 use Rattle.wall_policy.specs.Meaning.{wall_of}
 use Rattle.wall_policy.specs.Policy.{ChineseWall}
-use Rattle.wall_policy.specs.Answer.{tree_of, answer_by, answer_in, answer_to, record_in}
+use Rattle.wall_policy.specs.Answer.{tree_of, answer_by, answer_in, answer_to}
 use Rattle.wall_policy.specs.InTurn.{judged, of_record, of_version, of_tree, in_turn}
 
 -- a test that holds answers, and one that does not leaves it to the rest

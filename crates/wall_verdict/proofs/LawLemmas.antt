@@ -1,5 +1,5 @@
 -- What verdicts say, and what a grant means.
-use Rattle.std.proofs.Common.{◌≡◌, ℕ, zero, suc, ◌+◌, ◌<◌, ◌≤◌, Bool, true, false, List, length}
+use Rattle.std.proofs.Common.{◌≡◌, ℕ, zero, suc, ◌+◌, ◌<◌, Bool, true, false, List, length}
 use Rattle.std.proofs.Common.{Option, Some, None, refl, sym, ap, ◌∙◌, subst, arith, ◌||◌, ◌&&◌, not}
 use Rattle.std.proofs.Common.{slice_get, ⊎_elim, inl, inr, ◌⊎◌, IsSome, add-one}
 use Rattle.std.specs.Prelude.{is_some, unwrap_or, ◌↔◌}

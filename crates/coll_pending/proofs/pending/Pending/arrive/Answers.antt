@@ -1,4 +1,4 @@
-use Rattle.std.proofs.Common.{◌≡◌, ◌∙◌, ◌<◌, sym, ap, subst}
+use Rattle.std.proofs.Common.{◌∙◌, ◌<◌, sym, ap, subst}
 use Rattle.coll_pending.specs.Instances.{Communicator}
 use Rattle.coll_pending.specs.Queues.{known_in, queue_at}
 use Rattle.coll_pending.specs.Waiting.{State, PendingView, view_of_pending, seen, HasArrived}

@@ -1,7 +1,7 @@
-use Rattle.std.proofs.Common.{◌≡◌, ◌∙◌, ◌<◌, sym, ap, subst, length, IsSome}
+use Rattle.std.proofs.Common.{◌∙◌, ◌<◌, sym, ap, subst, length, IsSome}
 use Rattle.coll_pending.specs.Instances.{Communicator}
 use Rattle.coll_pending.specs.Queues.{queue_at, count_in, slot_of}
-use Rattle.coll_pending.specs.Waiting.{State, PendingView, view_of_pending, HasRoom}
+use Rattle.coll_pending.specs.Waiting.{State, view_of_pending, HasRoom}
 use Rattle.coll_pending.proofs.PendingLemmas.{none_of, room_opens, waits_opened, waits_meets}
 use Rattle.coll_pending.proofs.PendingLemmas.{new_opened, new_meets, lists_fit, slot_for_some}
 use Rattle.coll_pending.proofs.PendingLemmas.{next_opens, opening, opens_as}

@@ -1,5 +1,4 @@
-use Rattle.std.proofs.Common.{◌≡◌, ◌∙◌, sym, ap, subst}
-use Rattle.std.specs.Prelude.{OnErr}
+use Rattle.std.proofs.Common.{◌∙◌, sym, ap, subst}
 use Rattle.coll_pending.specs.Instances.{Communicator}
 use Rattle.coll_pending.specs.Waiting.{State, PendingView, view_of_pending, IsKnownAs}
 use Rattle.coll_pending.proofs.PendingLemmas.{room_made, room_kept}

@@ -1,11 +1,10 @@
-use Rattle.std.proofs.Common.{◌≡◌, ◌≤◌, ◌<◌, ℕ, List, Bool, true, false, not, None, length, refl}
+use Rattle.std.proofs.Common.{◌≡◌, ◌≤◌, List, not, length}
 use Rattle.std.proofs.Common.{sym, ap, ◌∙◌, subst, arith, ⊎_elim}
 use Rattle.std.proofs.lemmas.Grind.{common_steps}
 use Rattle.std.proofs.lemmas.Bool.{cases_Bool}
 use Rattle.mpi_elems.specs.Contents.{Contents}
 use Rattle.coll_routes.specs.Faults.{stated_type}
 use Rattle.wall_verdict.specs.Star.{star}
-use Rattle.run_model.specs.EntryForms.{HasForm}
 use Rattle.run_model.specs.Posts.{histories}
 use Rattle.run_model.specs.Books.{IsCounted}
 use Rattle.run_model.specs.Contributions.{Contribution, contribution}

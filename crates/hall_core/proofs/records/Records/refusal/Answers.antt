@@ -1,4 +1,4 @@
-use Rattle.std.proofs.Common.{◌≡◌, ℕ, List, None, refl, sym, ap, ◌∙◌}
+use Rattle.std.proofs.Common.{List, None, sym, ap, ◌∙◌}
 use Rattle.run_model.specs.Refusals.{fault}
 use Rattle.run_model.specs.Replies.{posts_in, is_limit_reached}
 use Rattle.hall_core.specs.Asking.{Asked, requests_of, open_number}

@@ -1,5 +1,4 @@
 use Rattle.std.proofs.Common.{◌<◌, length, ap, arith, rules}
-use Rattle.mpi_cart.specs.Laid.{strides_of}
 use Rattle.mpi_cart.proofs.StrideLemmas.{length-strides}
 use Rattle.mpi_cart.proofs.grid.Grid.copy.Goals as goal
 
