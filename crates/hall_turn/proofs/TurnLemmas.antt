@@ -1,6 +1,7 @@
 -- A turn, step by step, for the seat that takes it.
-use Rattle.std.proofs.Common.{◌≡◌, ◌≢◌, ℕ, true, false, List, [], ◌∷◌, Option, Some, refl, sym, ap}
-use Rattle.std.proofs.Common.{◌∙◌, subst}
+use Rattle.std.proofs.Common.{◌≡◌, ◌≢◌, ◌↔◌, ℕ, Bool, true, false, List, [], ◌∷◌, Option, Some}
+use Rattle.std.proofs.Common.{refl, sym, ap}
+use Rattle.std.proofs.Common.{◌∙◌, subst, IsTrue}
 use Rattle.atomic_table.specs.Table.{Me, Step, rest}
 use Rattle.wall_policy.specs.Policy.{ChineseWall}
 use Rattle.run_model.specs.declared.call.Call.{Call}
@@ -10,7 +11,7 @@ use Rattle.run_model.specs.Replies.{Legal}
 use Rattle.hall_turn.specs.Runs.{Continues, calls_of}
 use Rattle.hall_turn.specs.Known.{Doorway}
 use Rattle.hall_turn.specs.Answers.{SeesOn, EntersAnd}
-use Rattle.hall_turn.specs.Machines.{Carries}
+use Rattle.hall_turn.specs.Machines.{Carries, Settles}
 use Rattle.hall_turn.specs.Views.{SeatView, saw, drawn, declared}
 use Rattle.hall_turn.specs.Steps.{Looks, HoldsMachine, MayCarryOut, Turned, TellsAfter, IsReady}
 use Rattle.hall_turn.specs.Steps.{IsIdle}
@@ -153,12 +154,12 @@ module _ {M : Type 0} (stands : ChineseWall → M → List Entry → Type 0) whe
       })
 
   -- a look of a seat between two calls
-  pub sees_on : (door d : Doorway) (p : ℕ) (r : ℕ) (st : Step (Option M))
+  pub sees_on : (door d : Doorway) (p : ℕ) (b b' : Bool) (r : ℕ) (st : Step (Option M))
       (m m' : Me (Option M) SeatView) → IsIdle p m → Looks stands st m r m'
       →
-      SeesOn (record { door = door; process = p; seen = m.0.seen })
-      (record { door = d; process = p; seen = m'.0.seen })
-  sees_on door d p r st m m' idle l =
+      SeesOn (record { door = door; process = p; seen = m.0.seen; settled = b })
+      (record { door = d; process = p; seen = m'.0.seen; settled = b' })
+  sees_on door d p b b' r st m m' idle l =
       record {
         begins = l.0.begins;
         own =
@@ -167,14 +168,14 @@ module _ {M : Type 0} (stands : ChineseWall → M → List Entry → Type 0) whe
       }
 
   -- what a deed that was carried out does
-  pub carried : (door d : Doorway) (p : ℕ) (e : Entry) (Tells : ChineseWall → List Entry → Type 0)
-      (r : ℕ) (st : Step (Option M)) (m m1 m2 : Me (Option M) SeatView)
+  pub carried : (door d : Doorway) (p : ℕ) (b b' : Bool) (e : Entry)
+      (Tells : ChineseWall → List Entry → Type 0) (r : ℕ) (st : Step (Option M)) (m m1 m2 : Me (Option M) SeatView)
       → door.policy ≡ m.0.policy → e.call.process ≡ p
       → IsIdle p m → Looks stands st m r m1 → Turned m1.0 e m2.0
       → TellsAfter m2.0.seen (Tells m1.0.policy)
-      → EntersAnd (record { door = door; process = p; seen = m.0.seen }) e (Tells door.policy)
-      (record { door = d; process = p; seen = m2.0.seen })
-  carried door d p e Tells r st m m1 m2 wall by idle l t tells =
+      → EntersAnd (record { door = door; process = p; seen = m.0.seen; settled = b }) e
+      (Tells door.policy) (record { door = d; process = p; seen = m2.0.seen; settled = b' })
+  carried door d p b b' e Tells r st m m1 m2 wall by idle l t tells =
       let saw_it = l.2 (λ (x : m.0.ticket ≡ Some r). cc (idle.ticket, x)) in
       let policy : m1.0.policy ≡ door.policy = (λ i. (saw_it i).0.policy) ∙ sym wall in
       let process : m1.0.process ≡ p = (λ i. (saw_it i).0.process) ∙ idle.process_is in
@@ -191,3 +192,13 @@ module _ {M : Type 0} (stands : ChineseWall → M → List Entry → Type 0) whe
         };
         so = subst (λ w. Tells w t.run) policy (tells e t.run t.seen_is);
       }
+
+  -- what the pass says after a turn of whether that settled an instance
+  pub says_whether : (b : Bool) (e : Entry) (m1 m2 : Me (Option M) SeatView) → Turned m1.0 e m2.0
+      → TellsAfter m2.0.seen (λ run. IsTrue b ↔ Settles m1.0.policy run e)
+      → (last : Entry) (run : List Entry) → m2.0.seen ≡ last ∷ run
+      → IsTrue b ↔ Settles m2.0.policy run last
+  says_whether b e m1 m2 t tells last run is =
+      let same : e ≡ last = cc (t.seen_is, is) in
+      subst (λ x. IsTrue b ↔ Settles m2.0.policy run x) same
+      (subst (λ w. IsTrue b ↔ Settles w run e) (sym t.policy_is) (tells last run is))

@@ -1,5 +1,5 @@
 -- What a call at a door does to the pass. (Own rules.)
-use Rattle.std.specs.Prelude.{◌≡◌, ℕ, ◌^◌, ◌≤◌, List, [], ◌∷◌, length, map}
+use Rattle.std.specs.Prelude.{◌≡◌, ◌↔◌, ℕ, ◌^◌, ◌≤◌, List, [], ◌∷◌, length, map, false, IsTrue}
 use Rattle.run_model.specs.declared.call.Act.{Act}
 use Rattle.mpi_cart.specs.Grids.{below}
 use Rattle.run_model.specs.Runs.{Entry, entry}
@@ -12,11 +12,11 @@ use Rattle.hall_turn.specs.declared.answer.Answer.{Answer}
 use Rattle.hall_turn.specs.declared.answer.Answer.TheVariants.{Reply as Replied, Exhausted}
 use Rattle.hall_turn.specs.Runs.{Continues, calls_of}
 use Rattle.hall_turn.specs.Known.{Doorway, Known}
-use Rattle.hall_turn.specs.Machines.{ClaimsAfter}
+use Rattle.hall_turn.specs.Machines.{ClaimsAfter, Settles}
 
 -- the pass of a process at a new door
 abbrev pub new_pass : Doorway → (process : ℕ) → Known
-new_pass door process = record { door = door; process = process; seen = [] }
+new_pass door process = record { door = door; process = process; seen = []; settled = false }
 
 -- the passes of so many processes, in order
 abbrev pub new_passes : Doorway → (processes : ℕ) → List Known
@@ -55,6 +55,17 @@ Answered before act (Replied reply) after =
     Enters before (entry (record { process = before.process; act = act }) reply) after
 Answered before act Exhausted after = IsTooLate before after
 
+-- the pass says of its call, which made the newest entry that it has seen, whether that settled an
+-- instance
+abbrev pub SaysWhether : Known → Type 0
+SaysWhether after = (e : Entry) (run : List Entry) → after.seen ≡ e ∷ run →
+    IsTrue after.settled ↔ Settles after.door.policy run e
+
+-- so it says where the call was made; where it was not, it says what it said before
+abbrev pub SaysOf : (before : Known) → Answer → (after : Known) → Type 0
+SaysOf before (Replied reply) after = SaysWhether after
+SaysOf before Exhausted after = after.settled ≡ before.settled
+
 -- the processes and labels that the answer names are the policy's
 abbrev pub NamesKnown : ChineseWall → Answer → Type 0
 NamesKnown wall (Replied reply) = IsKnownReply wall reply
@@ -69,6 +80,11 @@ ClaimAnswered before request (claimed.Claim claim) after =
     EntersAnd before (claim_entry before.process request claim)
     (λ run. ClaimsAfter before.door.policy run before.process request claim) after
 ClaimAnswered before request claimed.Exhausted after = IsTooLate before after
+
+-- the pass says of the claim what it says of a call
+abbrev pub SaysOfClaim : (before : Known) → Claimed → (after : Known) → Type 0
+SaysOfClaim before (claimed.Claim claim) after = SaysWhether after
+SaysOfClaim before claimed.Exhausted after = after.settled ≡ before.settled
 
 -- a claim that was made may be finished
 abbrev pub MayFinish : Claimed → Type 0

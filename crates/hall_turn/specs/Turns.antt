@@ -72,7 +72,7 @@ pub record HoldsTicket (views : List SeatView) (p t : ℕ) : Type 0 where
 abbrev pub HasNumber : (run : List Entry) (views : List SeatView) (p t : ℕ) → Type 0
 HasNumber run views p t = TookTurn run p t ⊎ HoldsTicket views p t
 
--- of the turns and tickets numbered 2^62 or more p has at most one
+-- p has no two turns or tickets whose numbers are 2^62 or above
 abbrev pub HasOneLate : (run : List Entry) (views : List SeatView) (p : ℕ) → Type 0
 HasOneLate run views p =
     (t u : ℕ) → 2 ^ 62 ≤ t → 2 ^ 62 ≤ u
@@ -100,7 +100,7 @@ module _ {M : Type 0} (stands : ChineseWall → M → List Entry → Type 0) whe
     pub legal : Legal wall run
     -- TICKET is SERVING and the number of views with a ticket
     pub drawn : next ≡ length run + total tickets_of s.views
-    -- of the turns and tickets numbered 2^62 or more each process has at most one
+    -- no process has two turns or tickets whose numbers are 2^62 or above
     pub late : (p : ℕ) → HasOneLate run s.views p
     -- the parts of the right to close are as many as the processes
     pub whole : total parts_of s.views ≡ processes wall

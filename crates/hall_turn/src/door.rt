@@ -9,6 +9,7 @@ ghost use Rattle.run_model.specs.Runs.{entry};
 ghost use Rattle.run_model.specs.Known.{IsKnownLabel, HasKnownLabel, IsKnownReply};
 ghost use Rattle.hall_turn.specs.Answers.{Answered, ClaimAnswered, ClaimNamesKnown, EntersAnd};
 ghost use Rattle.hall_turn.specs.Answers.{MayFinish, IsSamePass, IsTooLate, NamesKnown, new_passes};
+ghost use Rattle.hall_turn.specs.Answers.{SaysOf, SaysOfClaim, SaysWhether};
 ghost use Rattle.hall_turn.specs.Views.{newcomer};
 
 use crate::answer::{Answer, Claimed};
@@ -131,6 +132,7 @@ impl Door {
         ensures legal { Legal self.now.policy pass.new.seen }
         ensures answered { Answered pass.old (ToPost posting) result pass.new }
         ensures named { NamesKnown self.now.policy result }
+        ensures settled { SaysOf pass.old result pass.new }
     {
         self.call(rt, pass, Act::Post(posting))
     }
@@ -146,6 +148,7 @@ impl Door {
         ensures legal { Legal self.now.policy pass.new.seen }
         ensures answered { Answered pass.old (ToTake request) result pass.new }
         ensures named { NamesKnown self.now.policy result }
+        ensures settled { SaysOf pass.old result pass.new }
     {
         match self.claim(rt, pass, request) {
             Claimed::Claim(claim) => Answer::Reply(finish(claim)),
@@ -165,6 +168,7 @@ impl Door {
         ensures answered { ClaimAnswered pass.old request result pass.new }
         ensures may { MayFinish result }
         ensures named { ClaimNamesKnown self.now.policy result }
+        ensures settled { SaysOfClaim pass.old result pass.new }
     {
         let claiming = Claiming {
             process: pass.process,
@@ -185,6 +189,7 @@ impl Door {
         ensures legal { Legal self.now.policy pass.new.seen }
         ensures answered { Answered pass.old (ToInfo comm) result pass.new }
         ensures named { NamesKnown self.now.policy result }
+        ensures settled { SaysOf pass.old result pass.new }
     {
         self.call(rt, pass, Act::Info(comm))
     }
@@ -197,6 +202,7 @@ impl Door {
         ensures legal { Legal self.now.policy pass.new.seen }
         ensures answered { Answered pass.old act result pass.new }
         ensures named { NamesKnown self.now.policy result }
+        ensures settled { SaysOf pass.old result pass.new }
     {
         let call = Call {
             process: pass.process,
@@ -225,6 +231,8 @@ impl Door {
             (λ run. D.tells self.now.policy run deed told) pass.new) }
         ensures named { IfSome result (λ told. IsKnownReply self.now.policy (D.reply told)) }
         ensures exhausted { IfNone result (IsTooLate pass.old pass.new) }
+        ensures settled { IfSome result (λ _. SaysWhether pass.new) }
+        ensures kept { IfNone result (pass.new.settled ≡ pass.old.settled) }
     {
         if self.turns.look(&mut pass.seat) >= LAST {
             return None;

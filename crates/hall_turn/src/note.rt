@@ -53,6 +53,7 @@ impl Door {
         ensures sees { SeesOn pass.old pass.new }
         ensures note { Continues pass.new.seen note.seen }
         ensures legal { Legal self.now.policy pass.new.seen }
+        ensures settled { pass.new.settled ≡ pass.old.settled }
     {
         let Note { seat } = note;
         self.turns.hear(&mut pass.seat, seat);

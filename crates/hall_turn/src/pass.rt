@@ -9,13 +9,13 @@ use atomic_table::Seat;
 use hall_core::Hall;
 use std::marker::Model;
 
-/// The right to call as one process. Contracts see its door, its process, and the run that it has
-/// seen, the newest entry first.
+/// The right to call as one process. Contracts see its door, its process, the run that it has
+/// seen, the newest entry first, and whether its last call settled an instance.
 #[derive(Drop)]
 pub struct Pass {
     pub(crate) seat: Seat<Option<Hall>, View>,
     pub(crate) process: u32,
-    // The last turn settled an instance. It is a hint.
+    // Its last call settled an instance.
     pub(crate) settled: bool,
 }
 
@@ -30,6 +30,7 @@ impl Model for Pass {
       door = record { name = p.seat.table_id; policy = p.seat.me.0.policy };
       process = p.process;
       seen = p.seat.me.0.seen;
+      settled = p.settled;
     } };
 
     ghost invariant = { λ p. IsIdle p.process p.seat.me };
@@ -47,9 +48,10 @@ impl Pass {
         self.process
     }
 
-    /// Whether the pass's last turn settled an instance, for those that sleep until one does. It is
-    /// a hint: nothing is proved of it.
-    pub fn settled(&self) -> bool {
+    /// Whether the pass's last call settled an instance, for those that sleep until one does.
+    pub fn settled(&self) -> bool
+        ensures { result ≡ self.now.settled }
+    {
         self.settled
     }
 }
@@ -63,6 +65,7 @@ impl Door {
         ensures sees { SeesOn pass.old pass.new }
         ensures legal { Legal self.now.policy pass.new.seen }
         ensures length { result ≡ length pass.new.seen }
+        ensures settled { pass.new.settled ≡ pass.old.settled }
     {
         self.turns.look(&mut pass.seat)
     }

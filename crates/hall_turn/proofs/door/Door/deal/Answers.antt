@@ -1,4 +1,4 @@
-use Rattle.std.proofs.Common.{◌≡◌, ◌∙◌, ◌+◌, ◌-◌, [], ap, sym, arith}
+use Rattle.std.proofs.Common.{◌≡◌, ◌∙◌, ◌+◌, ◌-◌, [], false, ap, sym, arith}
 use Rattle.run_model.specs.Comms.{processes}
 use Rattle.hall_turn.specs.Known.{Doorway, Known}
 use Rattle.hall_turn.specs.Views.{SeatView, maker_left, next_pass}
@@ -31,12 +31,14 @@ loop-process-preserved c =
       door = record { name = made.table_id; policy = made.me.0.policy };
       process = n;
       seen = made.me.0.seen;
+      settled = false;
     } in
     let is : k ≡ new_pass door n = (λ j. record {
       door =
           record { name = (m.at.1 ∙ i.at) j; policy = (pass j).0.policy };
       process = n;
       seen = (pass j).0.seen;
+      settled = false;
     }) in record {
       at = m.at.0.0 ∙ i.at;
       maker = m.maker ∙ (λ j. (maker_left (i.maker j).0, (i.maker j).1))
@@ -74,12 +76,14 @@ returns c =
       door = record { name = left.table_id; policy = left.me.0.policy };
       process = c.self.inside.count - 1;
       seen = left.me.0.seen;
+      settled = false;
     } in
     let is : k ≡ new_pass door n = (λ j. record {
       door =
           record { name = i.at j; policy = (i.maker j).0.policy };
       process = sym here j;
       seen = (i.maker j).0.seen;
+      settled = false;
     }) in
     let passes = push.items ∙ more_passes door n c.loop-process.passes.items k i.passes is ∙ ap
     (new_passes door) all in
