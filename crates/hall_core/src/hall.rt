@@ -85,12 +85,13 @@ impl Hall {
         self.records.step(process, act)
     }
 
-    /// All of a take that needs the hall, the mark as taken included; `finish` gives its reply.
+    /// The part of a take for which the hall is needed; it also marks the request as taken.
+    /// `finish` gives its reply.
     ///
-    /// It is ready exactly where that reply is `Delivered`. Then it holds the instance as the run
-    /// has it (its buffers may have other room), which never changes again, the caller's rank in
-    /// it, and room for what that rank gets, with no block filled. A claim that found no memory is
-    /// `Refused(NoMemory)`, and the request stays.
+    /// Where that reply is `Delivered`, and only there, the claim is ready, and has in it the
+    /// instance as the run has it (its buffers may have other room), which never changes again, the
+    /// caller's rank in it, and room for what that rank gets, with no block filled. A claim that
+    /// found no memory is `Refused(NoMemory)`, and the request stays.
     pub fn claim(&mut self, process: u32, request: u64) -> Claim
         ensures policy { self.new.policy ≡ self.old.policy }
         ensures runs { (run : List Entry) → Legal self.old.policy run → StandsFor self.old run →
@@ -149,6 +150,11 @@ impl Hall {
     /// How many places are kept for instances of a communicator.
     pub(crate) fn kept_places(&self, comm: u32) -> usize {
         self.records.settled.kept(comm)
+    }
+
+    /// For how many instances of a communicator there is memory.
+    pub(crate) fn place_room(&self, comm: u32) -> usize {
+        self.records.settled.room(comm)
     }
 
     /// How many requests are kept for a process.

@@ -1,6 +1,7 @@
 //! Instances that were filled, each plain or shared.
 ghost use Rattle.std.specs.Prelude.{◌≡◌, IfOk};
 ghost use Rattle.std.specs.Arc.{arc_value};
+ghost use Rattle.hall_core.specs.Sharing.{full_in, is_plain};
 
 use coll_values::Full;
 use mpi_elems::Buffer;
@@ -16,6 +17,15 @@ pub enum Form {
     Plain(Full<Buffer>),
     /// It never changes again, and claims have it too.
     Shared(Arc<Full<Buffer>>),
+}
+
+impl Form {
+    /// Whether the hall alone has it.
+    pub fn is_plain(&self) -> bool
+        ensures { result ≡ is_plain self.now }
+    {
+        matches!(self, Form::Plain(_))
+    }
 }
 
 /// An instance that was filled. Contracts see the instance, in either form.
@@ -51,9 +61,11 @@ impl Instance {
         }
     }
 
-    /// Whether the hall alone has it. Contracts see no difference.
-    pub fn is_plain(&self) -> bool {
-        matches!(&self.form, Form::Plain(_))
+    /// The form that it is kept in.
+    pub fn form(&self) -> &Form
+        ensures { full_in result.now ≡ self.now }
+    {
+        &self.form
     }
 
     /// The shared form of it; the plain one again where memory runs out.

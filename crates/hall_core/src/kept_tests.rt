@@ -1,16 +1,21 @@
 //! What a hall keeps: an instance until its last member has taken its outcome, and the requests of
-//! a process from the first on that it has not taken. So its tables do not grow with the calls.
+//! a process from the first on that it has not taken. So its tables do not grow with the calls, and
+//! all other memory is given back.
 
 ghost use Rattle.std.specs.Prelude.{◌≡◌, ℕ};
 ghost use Rattle.hall_core.specs.Settling.{nothing, place_at};
 
-use crate::Hall;
 use crate::settled::Settlements;
-use crate::tests::Doing::{Cast, Sum, Take};
+use crate::tests::Doing::{Cast, Sum, Take, Trade};
 use crate::tests::{FRIENDS, Line, RIVALS, answers, at_a_hall};
+use crate::{Hall, finish};
 use std::alloc::Global;
+use std::fs;
+use std::process::Abort;
+use std::rt::Files;
 use std::test::Fail;
 use wall_labels::NoMemory;
+use wall_policy::read_policy;
 
 /// How many rounds are played, of two collectives each.
 const ROUNDS: u64 = 100;
@@ -79,10 +84,14 @@ fn takes_in_order(alloc: Global, hall: &mut Hall) -> Result<bool, NoMemory> {
     Ok(keeps(hall, 0) && keeps_one_more(alloc, hall)?)
 }
 
-/// Whether there is room for 200 requests of a process, and for some as many more: so it grew seldom.
-fn has_fit_room(hall: &Hall) -> bool {
-    let room = hall.request_room(0);
+/// Whether there is room for 200, and for some as many more: so it grew seldom.
+fn is_fit(room: usize) -> bool {
     200 < room && room <= 512
+}
+
+/// Whether there is fit room for the requests of a process, and for the world's instances.
+fn has_fit_room(hall: &Hall) -> bool {
+    is_fit(hall.request_room(0)) && is_fit(hall.place_room(0))
 }
 
 /// All rounds are posted before the first take, and the last request is taken first.
@@ -160,7 +169,8 @@ fn what_one_has_not_taken_is_kept(rt: HostRuntime) -> Result<(), Fail> {
     Ok(())
 }
 
-/// Whether places that were dropped come back where they are asked for, as many as are needed.
+/// Whether places that were dropped come back where they are asked for, as many as are needed, in
+/// room for a few more.
 fn come_back(settlements: &mut Settlements) -> Result<bool, NoMemory>
     requires { (c k : ℕ) → place_at settlements.old c k ≡ nothing }
 {
@@ -169,7 +179,7 @@ fn come_back(settlements: &mut Settlements) -> Result<bool, NoMemory>
     settlements.leave(0, 5);
     let none = settlements.kept(0) == 0;
     settlements.ready(0, 3)?;
-    Ok(none && settlements.kept(0) == 3)
+    Ok(none && settlements.kept(0) == 3 && settlements.room(0) <= 64)
 }
 
 #[test]
@@ -178,5 +188,80 @@ fn dropped_places_come_back(rt: HostRuntime) -> Result<(), Fail> {
     let back = come_back(&mut settlements);
     drop(settlements);
     assert!(rt; back?);
+    Ok(())
+}
+
+/// The pages of memory that this process has resident, as the system tells.
+fn resident_pages<R: Files + AllocGlobal>(rt: &R) -> Result<u64, Fail> {
+    let text = fs::read_to_string(rt, "/proc/self/statm")?;
+    let Some(word) = text.as_str().split(' ').nth(1) else {
+        return Err(Fail::from("the system tells no pages"));
+    };
+    match word.parse::<u64>() {
+        Ok(pages) => Ok(pages),
+        Err(_) => Err(Fail::from("the pages are no number")),
+    }
+}
+
+/// Four pages of numbers.
+const WIDE: &[i128] = &[1; 4096];
+
+/// All four trade these, by counts in vectors of 16 pages. One more such post is refused.
+const TRADE: &[Line] = &[
+    (0, Trade(16_384, "alpha", WIDE), "any"),
+    (1, Trade(16_384, "alpha", WIDE), "any"),
+    (2, Trade(16_384, "alpha", WIDE), "any"),
+    (3, Trade(16_384, "alpha", WIDE), "any"),
+    (0, Trade(16_384, "alpha", &[1]), "any"),
+];
+
+/// How often they trade.
+const TRADES: u64 = 300;
+
+/// Each process claims its request of that number.
+fn all_claim(hall: &mut Hall, request: u64) {
+    for process in 0..4 {
+        let claim = hall.claim(process, request);
+        let reply = finish(claim);
+        drop(reply);
+    }
+}
+
+/// How many more pages are resident after all trades, each claimed by all.
+fn pages_of_trades<R: Files + AllocGlobal + Abort>(rt: &R, hall: &mut Hall) -> Result<u64, Fail> {
+    let before = resident_pages(rt)?;
+    for request in 0..TRADES {
+        asks_all(rt.alloc(), hall, TRADE)?;
+        all_claim(hall, request);
+    }
+    let after = resident_pages(rt)?;
+    assert!(rt; keeps(hall, 0) && hall.book().len() == 1500);
+    Ok(after.saturating_sub(before))
+}
+
+/// The same in a hall that is opened with the policy, before it is let go.
+fn pages_at_a_hall<R: Files + AllocGlobal + Abort>(rt: &R, policy: &str) -> Result<u64, Fail> {
+    let Ok(policy) = read_policy(rt.alloc(), policy.as_bytes()) else {
+        return Err(Fail::from("the policy is not read"));
+    };
+    match Hall::open(rt.alloc(), policy) {
+        Ok(mut hall) => {
+            let pages = pages_of_trades(rt, &mut hall);
+            drop(hall);
+            pages
+        }
+        Err(_) => Err(Fail::from("no memory")),
+    }
+}
+
+/// A hall gives back what was posted, whether it was granted, as at the friends', or denied: of 300
+/// trades stays a book of some 50 pages. The vectors of an instance are 80 pages, of a refused post
+/// 16, and the numbers of those that are barred 8, each 300 times.
+#[test]
+fn memory_is_given_back(rt: HostRuntime) -> Result<(), Fail> {
+    for policy in [FRIENDS, RIVALS] {
+        let pages = pages_at_a_hall(&rt, policy)?;
+        assert!(&rt; pages < 1024, "{pages} pages more");
+    }
     Ok(())
 }

@@ -149,7 +149,7 @@ impl Records {
         finish(self.claim(process, request))
     }
 
-    /// All of a take that needs the hall, the mark as taken included.
+    /// The part of a take for which the hall is needed; it also marks the request as taken.
     pub fn claim(&mut self, process: u32, request: u64) -> Claim
         requires policy { IsPolicy self.old.policy }
         requires each { length self.old.requests.items ≡ processes self.old.policy }

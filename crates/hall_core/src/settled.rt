@@ -35,7 +35,7 @@ impl Settlement {
     fn is_unshared_grant(&self) -> bool
         ensures { IsTrue result → self.now.outcome ≡ Granted }
     {
-        matches!(&self.outcome, Outcome::Granted) && self.full.is_plain()
+        matches!(&self.outcome, Outcome::Granted) && self.full.form().is_plain()
     }
 
     // With its instance shared, where there is memory.
@@ -394,6 +394,14 @@ impl Settlements {
     pub fn kept(&self, comm: u32) -> usize {
         match self.rows.get(comm as usize) {
             Some(row) => row.places.len(),
+            None => 0,
+        }
+    }
+
+    /// For how many instances of a communicator there is memory.
+    pub fn room(&self, comm: u32) -> usize {
+        match self.rows.get(comm as usize) {
+            Some(row) => row.places.capacity(),
             None => 0,
         }
     }

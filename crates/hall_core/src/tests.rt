@@ -41,7 +41,8 @@ version = 1\n\
 /// What a process does: a broadcast on a communicator from a root of so many numbers, with its own
 /// under a label; a sum over all, of its own numbers under a label; a split of the world, by colour
 /// and key; a gather of one number each; a take; an info. Or a group of these ranks of the world is
-/// created; or all gather one number of each, on a communicator.
+/// created; or all gather one number of each, on a communicator; or all four trade 1,024 numbers
+/// with each, by counts in a vector that had so many.
 #[derive(Clone, Copy)]
 pub(crate) enum Doing {
     Group(&'static [u32]),
@@ -50,11 +51,12 @@ pub(crate) enum Doing {
     Sum(&'static str, &'static [i128]),
     Part(Option<i32>, i32),
     Gather(u32, u32, &'static str, &'static [i128]),
+    Trade(usize, &'static str, &'static [i128]),
     Take(u64),
     Info(u32),
 }
 
-use Doing::{Cast, Gather, Group, Info, Part, Share, Sum, Take};
+use Doing::{Cast, Gather, Group, Info, Part, Share, Sum, Take, Trade};
 
 /// A process, what it does, and the reply.
 pub(crate) type Line = (u32, Doing, &'static str);
@@ -182,6 +184,17 @@ fn group(alloc: Global, ranks: &[u32]) -> Result<Signature, NoMemory> {
     }
 }
 
+/// A count of 1,024 for each of four, in a vector that had so many.
+fn roomy_counts(alloc: Global, room: usize) -> Result<Own, NoMemory> {
+    match vec![in alloc; 1024u32; room] {
+        Ok(mut counts) => {
+            counts.truncate(4);
+            Ok(Own::Counts(Numbers::from(counts)))
+        }
+        Err(_) => Err(NoMemory),
+    }
+}
+
 fn act(alloc: Global, doing: Doing, label: Label) -> Result<Act, NoMemory>
     ensures { IfOk result
         (λ act. (wall : ChineseWall) → IsKnownLabel wall label → HasKnownLabel wall act) }
@@ -231,6 +244,17 @@ fn act(alloc: Global, doing: Doing, label: Label) -> Result<Act, NoMemory>
             };
             posted(alloc, comm, sig, Own::Plain, label, numbers)
         }
+        Trade(room, _, numbers) => match roomy_counts(alloc, room) {
+            Ok(own) => posted(
+                alloc,
+                0,
+                Signature::Alltoallv { elem_type },
+                own,
+                label,
+                numbers,
+            ),
+            Err(_) => Err(NoMemory),
+        },
         Take(request) => Ok(Act::Take(request)),
         Info(comm) => Ok(Act::Info(comm)),
     }
@@ -242,6 +266,7 @@ fn label_name(doing: &Doing) -> &'static str {
         Sum(name, _) => *name,
         Share(_, name, _) => *name,
         Gather(_, _, name, _) => *name,
+        Trade(_, name, _) => *name,
         _ => "public",
     }
 }
