@@ -162,7 +162,8 @@ impl<X: Drop> Pending<X> {
         requires rank { rank < length group.now }
         requires known { IsKnownAs (made_of group.now shape.now)
             ((view_of_pending self.old).known comm) }
-        ensures agrees { OnOk result (next (view_of_pending self.old) comm rank sig.now ≢ Mismatch) }
+        ensures agrees { OnOk result
+            (next (view_of_pending self.old) comm rank sig.now ≢ Mismatch) }
         ensures opened { OnOk result
             (IsOpened (view_of_pending self.old) (view_of_pending self.new) comm rank
             (made_of group.now shape.now) sig.now) }

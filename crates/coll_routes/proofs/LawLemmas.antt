@@ -319,7 +319,8 @@ module _ (back : NeighboursAreOpposite) (shape : Shape) (counts : List ℕ) (i x
   at_slots sizes e f =
       let one = and_parts (is_neighbour shape i j t) (in_block sizes (opposite t) x) e in
       let two = and_parts (is_neighbour shape i k u) (in_block sizes (opposite u) x) f in
-      let same : t ≡ u = same_slot t u (one_block sizes (opposite t) (opposite u) x one.1 two.1) in (
+      let same : t ≡ u = same_slot t u (one_block sizes (opposite t) (opposite u) x one.1 two.1)
+      in (
         met_from back shape.size shape.grid i j k t sized h l one.0
             (ap (λ s. is_neighbour shape i k s) same ∙ two.0),
         same,

@@ -1,4 +1,5 @@
--- What the ranks send to one rank in a kind that reduces: ranks from 0 on send, each the same piece.
+-- What the ranks send to one rank in a kind that reduces: those from 0 on send, each the same
+-- piece.
 use Rattle.std.specs.Prelude.{ℕ, ◌+◌, List, ◌==◌, sum, take, if◌then◌else◌}
 use Rattle.coll_routes.specs.declared.signature.Signature.{Signature}
 use Rattle.coll_routes.specs.declared.signature.Signature.TheVariants.{Reduce, ReduceScatter}

@@ -231,7 +231,8 @@ flat_only rows a zero s h low high = absurd (omega arith)
 flat_only rows a (suc n) s h low high =
     elim (cases_lt a s) as (λ _. flat_map rows (range_with_len a (suc n)) ≡ rows s) [
       | inl before
-          ↦ rw (h a (λ same. omega arith)) (flat_only rows (a + 1) n s h (omega arith) (omega arith))
+          ↦ rw (h a (λ same. omega arith)) (flat_only rows (a + 1) n s h (omega arith) (omega
+          arith))
       | inr here
           ↦ (let same : a ≡ s = omega arith in
           rw (flat_past rows (a + 1) n s h (omega arith)) (append-nil (rows a) ∙ ap rows same))

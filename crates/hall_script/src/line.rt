@@ -144,10 +144,9 @@ fn next_call(alloc: Global, policy: &Policy, words: &mut Parts) -> Result<Call, 
 
 /// Reads a line without its end: the call that it says, or its first fault from the left.
 ///
-/// A line is `post P C KIND FIELDS`, with `as LABEL V ..` behind it where the kind has a type and
-/// elements are given, or `take P REQUEST`,
-/// or `info P C`, with one space between two fields. P and C are numbers of 32 bits, REQUEST is one
-/// of 64 bits, V are numbers of the type.
+/// A line is `post P C KIND FIELDS`, with `as LABEL V ..` behind it, where the kind has a type
+/// (there may be no V), or `take P REQUEST`, or `info P C`, with one space between two fields. P
+/// and C are numbers of 32 bits, REQUEST is one of 64 bits, V are numbers of the type.
 ///
 /// Out of memory comes only in place of the call of a post, whose elements and lists take memory: a
 /// line that has a fault is answered its fault, and no other line takes memory.

@@ -79,8 +79,8 @@ fn put_line(
 ///
 /// Lines are read as `replay` reads them. The first line that is no call, or is one of a process
 /// that the policy lacks, is `Line` with its number and its fault, `BadField` for the latter; a
-/// line's own fault comes first. `NoMemory` may come in place of any answer, where a growth was
-/// refused; the other faults never come.
+/// line's own fault comes first. Where a growth was refused the answer may be `NoMemory`, whatever
+/// it would have been; the other faults never come.
 pub fn split_script(alloc: Global, policy: &Policy, script: &[u8]) -> Result<Scripts, ScriptFault>
     ensures split { IsSplit policy.now (members_script policy.now script.now) result }
     ensures known { IfOk result (ScriptsHaveKnownLabels policy.now) }

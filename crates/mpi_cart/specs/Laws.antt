@@ -19,8 +19,8 @@ row_major _ _ = 0
 abbrev pub CellsFillTheGrid : Type 0
 CellsFillTheGrid = (dims : List ℕ) → length (cells dims) ≡ volume dims
 
--- the coordinates of a rank are the one list, each below its size, whose row-major number is the
--- rank
+-- a rank's coordinates lie below the sizes and have the rank as their number in row-major order; no
+-- other list does
 abbrev pub CoordinatesAreRowMajor : Type 0
 CoordinatesAreRowMajor = (g : Topology) (r : ℕ) (cs : List ℕ) → r < volume g.dims →
     (coords g r ≡ cs) ↔ (IsCell g.dims cs × (row_major g.dims cs ≡ r))

@@ -8,8 +8,8 @@ pub fn cells_fill_the_grid()
     ensures { CellsFillTheGrid }
 {}
 
-/// The coordinates of a rank are the one list, each below its size, whose row-major number is the
-/// rank.
+/// A rank's coordinates lie below the sizes and have the rank as their number in row-major order;
+/// no other list does.
 pub fn coordinates_are_row_major()
     ensures { CoordinatesAreRowMajor }
 {}

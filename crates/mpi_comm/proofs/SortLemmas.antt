@@ -153,7 +153,8 @@ module _ {X : Type 0} (less : X → X → Bool) (o : IsStrictWeakOrder less) whe
       let rest : as' ≡ bs = same_ascending as' bs first.1 second.1 (λ x.
       let whole : filter (ties less x) (a ∷ as') ≡ filter (ties less x) (a ∷ bs) = same x ∙ ap
       (λ (h : X). filter (ties less x) (h ∷ bs)) (sym head) in
-      elim (cases_Bool (ties less x a)) as (λ _. filter (ties less x) as' ≡ filter (ties less x) bs) [
+      elim (cases_Bool (ties less x a)) as (λ _. filter (ties less x) as' ≡ filter (ties less x)
+      bs) [
         | inl e
             ↦
             let both : a ∷ filter (ties less x) as' ≡ a ∷ filter (ties less x) bs = rw e at
@@ -221,7 +222,8 @@ module _ {X : Type 0} (less : X → X → Bool) (p : X → Bool) where
   any-put : (x : X) (ys : List X) → list_any p (put less x ys) ≡ (p x || list_any p ys)
   any-put x [] = refl
   any-put x (y ∷ ys) = elim (less y x) as
-      (λ b. list_any p (cond b (y ∷ put less x ys) (x ∷ y ∷ ys)) ≡ (p x || (p y || list_any p ys))) [
+      (λ b. list_any p (cond b (y ∷ put less x ys) (x ∷ y ∷ ys)) ≡ (p x || (p y || list_any p
+      ys))) [
         | true ↦ ap (λ b. p y || b) (any-put x ys) ∙ or_swap (p y) (p x) (list_any p ys)
         | false ↦ refl
       ]
@@ -233,7 +235,8 @@ module _ {X : Type 0} (less : X → X → Bool) (p : X → Bool) where
   all-put : (x : X) (ys : List X) → list_all p (put less x ys) ≡ (p x && list_all p ys)
   all-put x [] = refl
   all-put x (y ∷ ys) = elim (less y x) as
-      (λ b. list_all p (cond b (y ∷ put less x ys) (x ∷ y ∷ ys)) ≡ (p x && (p y && list_all p ys))) [
+      (λ b. list_all p (cond b (y ∷ put less x ys) (x ∷ y ∷ ys)) ≡ (p x && (p y && list_all p
+      ys))) [
         | true ↦ ap (λ b. p y && b) (all-put x ys) ∙ and_swap (p y) (p x) (list_all p ys)
         | false ↦ refl
       ]

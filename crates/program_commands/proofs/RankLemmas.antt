@@ -16,7 +16,8 @@ use Rattle.rank_run.specs.Waits.{script_patience}
 use Rattle.rank_run.specs.Ran.{Ran}
 use Rattle.program_commands.specs.declared.ending.Ending.{Ending}
 use Rattle.program_commands.specs.Replaying.{IsKept, IsUnkept}
-use Rattle.program_commands.specs.Running.{rank_line, reply_lines, ranks_text, rank_text, break_ending}
+use Rattle.program_commands.specs.Running.{rank_line, reply_lines, ranks_text, rank_text}
+use Rattle.program_commands.specs.Running.{break_ending}
 use Rattle.program_commands.specs.Running.{IsScriptOf, IsNoRun, Tells, Breaks, Runs, Reached}
 use Rattle.program_commands.specs.Running.{FellShort}
 use Rattle.wall_labels.proofs.WallLabelsLemmas.{Appends-then}

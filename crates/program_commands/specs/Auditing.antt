@@ -12,8 +12,10 @@ use Rattle.hall_script.specs.Devices.{IsWritten, BrokeOff}
 use Rattle.program_commands.specs.declared.audit.Finding.{Finding}
 use Rattle.program_commands.specs.declared.audit.Finding.TheVariants as findings
 use Rattle.program_commands.specs.declared.ending.Ending.{Ending}
-use Rattle.program_commands.specs.declared.ending.Ending.TheVariants.{Done, BadBookLine, CutBook, Unsound}
-use Rattle.program_commands.specs.declared.ending.Ending.TheVariants.{ReadFault, WriteFault, NoMemory}
+use Rattle.program_commands.specs.declared.ending.Ending.TheVariants.{Done, BadBookLine, CutBook}
+use Rattle.program_commands.specs.declared.ending.Ending.TheVariants.{Unsound}
+use Rattle.program_commands.specs.declared.ending.Ending.TheVariants.{ReadFault, WriteFault}
+use Rattle.program_commands.specs.declared.ending.Ending.TheVariants.{NoMemory}
 use Rattle.program_commands.specs.Endings.{numbered_line}
 use Rattle.program_commands.specs.Walls.{IsPolicyOf, IsNoPolicy}
 

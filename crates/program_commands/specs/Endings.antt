@@ -9,8 +9,10 @@ use Rattle.coll_text.specs.declared.fault.LineFault.TheVariants as lines
 use Rattle.program_commands.specs.declared.ending.Ending.{Ending}
 use Rattle.program_commands.specs.declared.ending.Ending.TheVariants.{Done, BadPolicy, BadLine}
 use Rattle.program_commands.specs.declared.ending.Ending.TheVariants.{BadBookLine, CutBook, Unsound}
-use Rattle.program_commands.specs.declared.ending.Ending.TheVariants.{ReadFault, WriteFault, NoThread}
-use Rattle.program_commands.specs.declared.ending.Ending.TheVariants.{Exhausted, NoMemory, BadArguments}
+use Rattle.program_commands.specs.declared.ending.Ending.TheVariants.{ReadFault, WriteFault}
+use Rattle.program_commands.specs.declared.ending.Ending.TheVariants.{NoThread}
+use Rattle.program_commands.specs.declared.ending.Ending.TheVariants.{Exhausted, NoMemory}
+use Rattle.program_commands.specs.declared.ending.Ending.TheVariants.{BadArguments}
 
 abbrev pub status_of : Ending → ℕ
 status_of Done = 0

@@ -19,7 +19,8 @@ use Rattle.rank_run.specs.declared.fault.RunFault.{RunFault}
 use Rattle.rank_run.specs.declared.fault.RunFault.TheVariants as runs
 use Rattle.rank_run.specs.Ran.{Ran, MayRunOut}
 use Rattle.program_commands.specs.declared.ending.Ending.{Ending}
-use Rattle.program_commands.specs.declared.ending.Ending.TheVariants.{BadLine, ReadFault, WriteFault}
+use Rattle.program_commands.specs.declared.ending.Ending.TheVariants.{BadLine, ReadFault}
+use Rattle.program_commands.specs.declared.ending.Ending.TheVariants.{WriteFault}
 use Rattle.program_commands.specs.declared.ending.Ending.TheVariants.{NoThread, Exhausted, NoMemory}
 use Rattle.program_commands.specs.declared.ending.Ending.TheVariants.{BadArguments}
 use Rattle.program_commands.specs.Replaying.{IsKept, IsUnkept}

@@ -7,7 +7,8 @@ use Rattle.wall_policy.specs.Answer.{answer_to}
 use Rattle.hall_script.specs.Devices.{Used, NeverFailed, IsRead, IsUnreadable}
 use Rattle.hall_script.specs.Scripts.{script_limit}
 use Rattle.program_commands.specs.declared.ending.Ending.{Ending}
-use Rattle.program_commands.specs.declared.ending.Ending.TheVariants.{BadPolicy, ReadFault, NoMemory}
+use Rattle.program_commands.specs.declared.ending.Ending.TheVariants.{BadPolicy, ReadFault}
+use Rattle.program_commands.specs.declared.ending.Ending.TheVariants.{NoMemory}
 
 abbrev pub policy_ending : PolicyFault → Ending
 policy_ending policies.NoMemory = NoMemory

@@ -2,7 +2,8 @@
 ghost use Rattle.std.specs.Prelude.{◌≡◌, IfOk, IfErr, OnOk, OnErr};
 ghost use Rattle.hall_script.specs.Devices.{used, IsWritten, BrokeOff};
 ghost use Rattle.program_commands.specs.Endings.{EndsSo};
-ghost use Rattle.program_commands.specs.Auditing.{text_ending, finding_ending, finding_line, IsBookOf};
+ghost use Rattle.program_commands.specs.Auditing.{text_ending, finding_ending, finding_line};
+ghost use Rattle.program_commands.specs.Auditing.{IsBookOf};
 ghost use Rattle.program_commands.specs.Auditing.{IsNoBook, IsFound, Announces, Audits, AuditEnds};
 
 use crate::ending::{Ending, end, write_numbered};

@@ -1,7 +1,8 @@
 //! How the program ends: its status, and its line on standard error. (Own format.)
 ghost use Rattle.std.specs.Prelude.{◌≡◌, ◌++◌, OnOk, OnErr};
 ghost use Rattle.hall_script.specs.Devices.{used, IsWritten, BrokeOff};
-ghost use Rattle.program_commands.specs.Endings.{status_of, error_line, numbered_line, policy_fault_text};
+ghost use Rattle.program_commands.specs.Endings.{status_of, error_line, numbered_line};
+ghost use Rattle.program_commands.specs.Endings.{policy_fault_text};
 ghost use Rattle.program_commands.specs.Endings.{line_fault_text, IsTold};
 
 use coll_text::LineFault;

@@ -4,7 +4,8 @@ ghost use Rattle.run_model.specs.Runs.{Entry};
 ghost use Rattle.hall_core.specs.Halls.{StandsFor};
 ghost use Rattle.program_commands.specs.Endings.{Writes, EndsSo};
 ghost use Rattle.hall_script.specs.Devices.{used};
-ghost use Rattle.program_commands.specs.Replaying.{script_ending, text_of, perhaps, no_book, ReplayEnds};
+ghost use Rattle.program_commands.specs.Replaying.{script_ending, text_of, perhaps, no_book};
+ghost use Rattle.program_commands.specs.Replaying.{ReplayEnds};
 
 use crate::ending::{Ending, end};
 use crate::wall::read_wall;

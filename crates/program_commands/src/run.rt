@@ -10,7 +10,8 @@ ghost use Rattle.program_commands.specs.Endings.{EndsSo};
 ghost use Rattle.hall_script.specs.Devices.{used, IsWritten};
 ghost use Rattle.program_commands.specs.Replaying.{perhaps, no_book};
 ghost use Rattle.program_commands.specs.Running.{rank_line, reply_lines, rank_text, IsScriptOf};
-ghost use Rattle.program_commands.specs.Running.{IsNoScript, run_ending, IsNoRun, break_ending, Breaks};
+ghost use Rattle.program_commands.specs.Running.{IsNoScript, run_ending, IsNoRun, break_ending};
+ghost use Rattle.program_commands.specs.Running.{Breaks};
 ghost use Rattle.program_commands.specs.Running.{FellShort, Reached, RunEnds};
 
 use crate::ending::{Ending, end};

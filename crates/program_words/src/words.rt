@@ -3,9 +3,11 @@ ghost use Rattle.std.specs.Prelude.{◌≡◌, IfOk, map, false, option_map, [],
 ghost use Rattle.clap.specs.Words.{app_of, rule_of, first_of, found_of, rows_of, fault_of};
 ghost use Rattle.clap.specs.Words.{subcommand_of, subcommand_rows_of};
 ghost use Rattle.clap.specs.declared.builder.Command.TheViews.{out-Command as fields_of};
-ghost use Rattle.program_words.specs.Grammar.{required_rule, optional_rule, script_app, scripts_app};
+ghost use Rattle.program_words.specs.Grammar.{required_rule, optional_rule, script_app};
+ghost use Rattle.program_words.specs.Grammar.{scripts_app};
 ghost use Rattle.program_words.specs.Grammar.{audit_app, program_app, replay_in, run_in, audit_in};
-ghost use Rattle.program_words.specs.Grammar.{command_in, asked, replay_files, run_files, audit_files};
+ghost use Rattle.program_words.specs.Grammar.{command_in, asked, replay_files, run_files};
+ghost use Rattle.program_words.specs.Grammar.{audit_files};
 ghost use Rattle.program_words.specs.Grammar.{asked_by, SaysCommand};
 
 use clap::error::ErrorKind;

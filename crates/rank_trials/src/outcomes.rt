@@ -124,8 +124,8 @@ fn gathering<R: Abort>(rt: &R, alloc: Global, policy: &Policy, name: &str, given
 }
 
 /// So many copies of the world, each taken before the next post, and two barriers on the last copy,
-/// the second after the first was taken. Were it told elsewhere that the first has settled, who goes
-/// on to the second would try in vain to take it, while the others sleep for the first.
+/// the second after the first was taken. Were it told elsewhere that the first has settled, who
+/// goes on to the second would try in vain to take it, while the others sleep for the first.
 fn dupping<R: Abort>(rt: &R, alloc: Global, policy: &Policy) -> Acts
     ensures { All (HasKnownLabel policy.now) result }
 {

@@ -71,7 +71,8 @@ abbrev pub Begins : ChineseWall → List Entry → Type 0
 Begins wall entries = (rest : List Entry) × IsSound wall (entries ++ rest)
 
 -- The first entry, counted from 1, that the posts don't give: a sound book begins with those before
--- it, and none with it too. An entry that is missing at the end has the number after the last.
+-- it, and none with it too. Where only the end lacks an entry, the number is one more than there
+-- are entries.
 pub record IsFirstBad (wall : ChineseWall) (entries : List Entry) (n : ℕ) : Type 0 where
   pub counted : 1 ≤ n
   pub within : n ≤ length entries + 1

@@ -26,9 +26,9 @@ use Rattle.run_model.specs.Runs.{Entry, posts, requests, is_taken}
 use Rattle.run_model.specs.Replies.{reply, Legal}
 use Rattle.run_model.specs.RunLaws.{instance_in, NobodyHoldsTwoRivals}
 
--- The star rule: every dataset in the poster's history is the label of its post. `public` is no
--- dataset, so it needs an empty history; a post without a label passes. (Brewer and Nash 1989: the
--- *-property.)
+-- The star rule: what stands in the poster's history is the label of its post. Under `public` only
+-- a process with an empty history passes, since no dataset is called so; a post without a label
+-- passes always. (Brewer and Nash 1989: the *-property.)
 abbrev pub PassesTheStarRule : History → (p : ℕ) → Option Label → Type 0
 PassesTheStarRule has p None = Unit {0}
 PassesTheStarRule has p (Some label) = (d : ℕ) → d < DATASET_LIMIT → has p d ≡ true → label ≡ Of d

@@ -29,7 +29,7 @@ pub fn posts_keep_the_wall()
 {}
 
 /// After each post a process holds, through chains of deliveries, exactly what stands in its
-/// history: so nothing is refused for data that nobody holds.
+/// history: so a refusal always goes back to data that somebody does hold.
 pub fn holding_is_history()
     ensures { HoldingIsHistory }
 {}

@@ -156,7 +156,7 @@ pub fn legal_runs_keep_the_wall()
 {}
 
 /// After each entry of a legal run a process holds, through chains of deliveries, exactly what
-/// stands in its history: so nothing is refused for data that nobody holds.
+/// stands in its history: so a refusal always goes back to data that somebody does hold.
 #[tactic(auto, using(crate::proofs::RunLemmas::holding_is_history_in_runs))]
 pub fn holding_is_history()
     ensures { HoldingIsHistory }

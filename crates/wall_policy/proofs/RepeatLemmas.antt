@@ -97,7 +97,8 @@ module _ (old seen : List Name) (cs : List ClassText) (i : ℕ) (d : ClassText) 
         →
         repeats_after (seen ++ added) (dataset_names (drop (i + 1) cs))
         ≡ repeats_after old (dataset_names cs)
-    goes_on once rest = ap (λ b. b || repeats_after (seen ++ added) (dataset_names (drop (i + 1) cs)))
+    goes_on once rest =
+        ap (λ b. b || repeats_after (seen ++ added) (dataset_names (drop (i + 1) cs)))
         (sym once) ∙ sym parts ∙ rest
 
     pub goes_through : seen ++ dataset_names (drop i cs) ≡ old ++ dataset_names cs →

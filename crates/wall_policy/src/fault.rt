@@ -33,7 +33,7 @@ impl<T: Drop> From<AllocFailed<T>> for FormFault {
 
 /// Why a policy file is refused: the first of these that holds of its text. (Own format.)
 ///
-/// `NoMemory` may come in place of any answer, where a growth was refused.
+/// `NoMemory` tells that a growth was refused; it never stands for bytes that are not UTF-8.
 #[derive(Clone, Copy, Debug, PartialEq, Eq, Error)]
 pub enum PolicyFault {
     /// The bytes are not UTF-8, or not a TOML document as the crate `toml` reads it.

@@ -43,7 +43,7 @@ clashes classes held d = is_some (first_rival classes held d)
 
 ---- The star rule. A subject may write to a dataset only if it can read no unsanitised object of
 ---- another dataset. (Read here as: what it has had access to is of the dataset that its label
----- names. `public` names none, so it needs an empty history.)
+---- names. Under `public`, which names none, only a process that has had access to none may write.)
 
 -- the process has had access to d, which is not the dataset of the label
 abbrev pub IsHeldOther : (ℕ → Bool) → Label → ℕ → Type 0

@@ -4,7 +4,7 @@ use Rattle.wall_policy.specs.Policy.{ChineseWall, IsPolicy}
 use Rattle.run_model.specs.declared.entry.Entry.{Entry}
 use Rattle.run_model.specs.Books.{IsSound}
 use Rattle.run_model.specs.PostLaws.{KeepsTheWall}
-use Rattle.run_model.proofs.BookLemmas.{sound_books_keep_the_wall}
+use Rattle.run_model.proofs.RunModelLemmas.{sound_books_keep_the_wall}
 use Rattle.audit_book.specs.declared.check_fault.BookFault.{BookFault}
 use Rattle.audit_book.proofs.check.check_book.Goals as goal
 

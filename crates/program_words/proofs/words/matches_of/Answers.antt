@@ -49,4 +49,5 @@ returns-in-Err-clause-bad c same none =
     some_kind (fault_of program_app (map (λ w. w.now) c.args.words.now)) c.in-Err.error
     (subst (λ a. HasKind (fault_of a (map (λ w. w.now) c.args.words.now)) c.in-Err.error) app
     (parse.kinds (ap is_simple_and_free app ∙ simple_and_free)))
-    (λ memory. c.fault_for.ensures.bad (bad_is c.fault_for.result same) (c.kind.ensures ∙ memory)) none
+    (λ memory. c.fault_for.ensures.bad (bad_is c.fault_for.result same) (c.kind.ensures ∙
+    memory)) none

@@ -19,7 +19,8 @@ use Rattle.run_state.proofs.steps.change.Goals as goal
 pub arrive-requires-clause-rank : goal.arrive-requires-clause-rank
 arrive-requires-clause-rank g c =
     let found = some_at c.args.comms.now c.args.post.comm c.requires.there in
-    subst (λ (ms : List ℕ). c.args.post.rank < length ms) (sym (c.group.ensures.members found.0 found.1))
+    subst (λ (ms : List ℕ). c.args.post.rank < length ms) (sym (c.group.ensures.members found.0
+    found.1))
     (c.requires.upcoming found.0 found.1).member
 
 pub arrive-requires-clause-known : goal.arrive-requires-clause-known
@@ -40,7 +41,8 @@ settle_full-outcome-requires-clause-fit g c =
     (rw c.in-Ok-Full.field-0-is at c.in-Ok-Full.ensures.arrived) in
     fit_full c.args.policy.now 0 (seen c.args.comms.now c.args.pending.now c.args.histories.now)
     (view_of_pending c.arrive.new.self) found.0 c.args.post.rank
-    (contribution c.args.post.process c.args.post.comm c.args.post.stated c.args.post.part) c.in-Ok-Full.full
+    (contribution c.args.post.process c.args.post.comm c.args.post.stated c.args.post.part)
+    c.in-Ok-Full.full
     (c.requires.upcoming found.0 found.1) arrived
 
 pub unreachable-requires : goal.unreachable-requires
@@ -52,13 +54,15 @@ unreachable-requires g c =
       members = sym (c.group.ensures.members found.0 found.1) i;
       shape = sym (c.shape.ensures found.0 found.1) i;
     } in
-    let room = subst (λ (k : Communicator). HasRoom c.args.pending.now c.args.post.comm c.args.post.rank k)
+    let room = subst (λ (k : Communicator). HasRoom c.args.pending.now c.args.post.comm
+    c.args.post.rank k)
     same (c.requires.room found.0 found.1) in
     let fit = subst (λ (s : Shape). fits (room_by s) c.args.post.stated.sig ≡ true)
     (sym (c.shape.ensures found.0 found.1)) (c.faultless_signatures_fit.ensures
     (shape_of found.0) c.args.post.rank c.args.post.stated.sig c.args.post.stated.own
     (stated_type c.args.post.stated.sig) c.args.post.stated.given upcoming.faultless) in
-    no_err (next (view_of_pending c.args.pending.now) c.args.post.comm c.args.post.rank c.args.post.stated.sig) _
+    no_err (next (view_of_pending c.args.pending.now) c.args.post.comm c.args.post.rank
+    c.args.post.stated.sig) _
     upcoming.agrees c.in-Err.ensures.fault (c.in-Err.ensures.memory room (λ opens. fit))
 
 pub returns-in-Ok-Waiting-clause-changes : goal.returns-in-Ok-Waiting-clause-changes
@@ -70,13 +74,17 @@ returns-in-Ok-Waiting-clause-changes g c = λ found count there told.
     (rw c.in-Ok-Waiting.field-0-is at c.in-Ok-Waiting.ensures.arrived) in
     let old = seen c.args.comms.now c.args.pending.now c.args.histories.now in
     let new = seen c.args.comms.now c.arrive.new.self c.enter_label.new.histories in
-    let it = contribution c.args.post.process c.args.post.comm c.args.post.stated c.args.post.part in
+    let it = contribution c.args.post.process c.args.post.comm c.args.post.stated
+    c.args.post.part in
     let written = written_is c.args.policy.now count old new
     (record { rank = c.args.post.rank; comm = found }) it c.enter_label.ensures.processes
     c.enter_label.ensures.classes c.requires.word c.enter_label.result
     (has c.enter_label.new.histories) c.enter_label.ensures.passes c.enter_label.ensures.pairs
     in (
-      changes_waiting c.args.policy.now count old new (record { rank = c.args.post.rank; comm = found })
+      changes_waiting c.args.policy.now count old new (record {
+        rank = c.args.post.rank;
+        comm = found;
+      })
           it c.enter_label.ensures.processes c.enter_label.ensures.classes c.requires.word arrived
           written,
       (c.arrivals-k.ensures, arrived.0),
@@ -91,7 +99,8 @@ returns-in-Ok-Full-clause-changes g c = λ found count there told.
     (rw c.in-Ok-Full.field-0-is at c.in-Ok-Full.ensures.arrived) in
     let old = seen c.args.comms.now c.args.pending.now c.args.histories.now in
     let new = seen c.args.comms.now c.arrive.new.self c.settle_full-outcome.new.histories in
-    let it = contribution c.args.post.process c.args.post.comm c.args.post.stated c.args.post.part in
+    let it = contribution c.args.post.process c.args.post.comm c.args.post.stated
+    c.args.post.part in
     let upcoming = c.requires.upcoming found there in
     let processes = c.settle_full-outcome.ensures.processes ∙ c.enter_label.ensures.processes in
     let classes = c.settle_full-outcome.ensures.classes ∙ c.enter_label.ensures.classes in
@@ -104,9 +113,13 @@ returns-in-Ok-Full-clause-changes g c = λ found count there told.
     arrived)) in
     let pairs = c.settle_full-outcome.ensures.pairs count made ∙ ap
     (λ h. with_delivery c.args.policy.now h count (Some c.in-Ok-Full.full.roll)) written in (
-      changes_full c.args.policy.now count old new (record { rank = c.args.post.rank; comm = found }) it
+      changes_full c.args.policy.now count old new (record {
+        rank = c.args.post.rank;
+        comm = found;
+      }) it
           processes classes c.requires.word c.in-Ok-Full.full arrived pairs,
-      answers_full c.args.policy.now count old (view_of_pending c.arrive.new.self) found c.args.post.rank
+      answers_full c.args.policy.now count old (view_of_pending c.arrive.new.self) found
+          c.args.post.rank
           it c.in-Ok-Full.full upcoming arrived c.arrivals-k.result c.settle_full-outcome.result
           (has c.enter_label.new.histories) c.arrivals-k.ensures written
           (c.settle_full-outcome.ensures.outcome count made),

@@ -11,7 +11,8 @@ returns-in-Some-rank_of g c =
     c.refusal_after.ensures ∙ ((λ i. fault_after (c.shape_fault.ensures i) (c.next.ensures i))
     ∙ told_some c.args.processes c.args.comms.now (view_of_pending c.args.pending.now)
     c.args.process c.args.comm c.group.result.now low c.group.ensures.members c.shape.result.now
-    c.in-Some-rank_of.rank c.args.terms.sig.now c.args.terms.own.now c.args.terms.elem_type c.args.terms.given
+    c.in-Some-rank_of.rank c.args.terms.sig.now c.args.terms.own.now c.args.terms.elem_type
+    c.args.terms.given
     c.if-process-processes.false c.shape.ensures
     (c.in-Some-rank_of.ensures ∙ ap (λ q. rank_in c.group.result.now q) c.in-Some.ensures.value))
 
@@ -19,6 +20,7 @@ pub returns-in-None : goal.returns-in-None
 returns-in-None g c =
     let low = subst (λ n. c.args.comm < n) c.len.ensures c.if-comm-len.false in
     told_none c.args.processes c.args.comms.now (view_of_pending c.args.pending.now) c.args.process
-    c.args.comm c.group.result.now low c.group.ensures.members c.args.terms.sig.now c.args.terms.own.now
+    c.args.comm c.group.result.now low c.group.ensures.members c.args.terms.sig.now
+    c.args.terms.own.now
     c.args.terms.elem_type c.args.terms.given c.if-process-processes.false
     (c.in-None.ensures ∙ ap (λ q. rank_in c.group.result.now q) c.in-Some.ensures.value)

@@ -58,7 +58,8 @@ change-requires-clause-there g c =
       lines = c.self.inside.pending;
       accesses = c.self.inside.histories;
     } in
-    let lt = within c.args.policy.now inside c.args.self.now c.self.view_is c.args.process c.args.comm
+    let lt = within c.args.policy.now inside c.args.self.now c.self.view_is c.args.process
+    c.args.comm
     c.args.stated c.requires.accepted in
     let is = spotted c.args.policy.now inside c.args.self.now c.self.view_is c.args.process
     c.args.comm c.in-Some.rank c.args.stated c.group.result.now c.self.invariant
@@ -128,7 +129,8 @@ change-requires-clause-few g c =
       lines = c.self.inside.pending;
       accesses = c.self.inside.histories;
     } in
-    let lt = within c.args.policy.now inside c.args.self.now c.self.view_is c.args.process c.args.comm
+    let lt = within c.args.policy.now inside c.args.self.now c.self.view_is c.args.process
+    c.args.comm
     c.args.stated c.requires.accepted in
     subst (λ n. n < 4611686018427387904) (sym (ap
     (λ (w : PendingView g.row.X.Denot). w.arrivals c.args.comm c.in-Some.rank)
