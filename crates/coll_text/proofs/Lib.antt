@@ -9,6 +9,7 @@ pub mod FoundLemmas
 pub mod AgainLemmas
 pub mod SpacedLemmas
 pub mod SolidLemmas
+pub mod SpellableRowProofs
 pub mod BatchLemmas
 pub mod SendLemmas
 pub mod WordLemmas

@@ -24,6 +24,8 @@ mod instances;
 #[cfg(test)]
 mod labels;
 #[cfg(test)]
+mod memory;
+#[cfg(test)]
 mod parties;
 #[cfg(test)]
 mod pending;

@@ -12,8 +12,8 @@ use std::process::Abort;
 use std::test::Fail;
 use wall_labels::{Label, Op};
 
-// Instances that wait on communicators of the same members.
-struct Table {
+/// Instances that wait on communicators of the same members.
+pub(crate) struct Table {
     group: Group,
     shape: Shape,
     pending: Pending<u64>,
@@ -61,6 +61,11 @@ impl Table {
             Some(_) => true,
             None => false,
         }
+    }
+
+    /// The first rank opens an instance.
+    pub(crate) fn open(&mut self, rt: &impl Abort, comm: u32) -> Result<(), NoMemory> {
+        self.arrive(rt, (comm, 0), Signature::Barrier, 1, Next::Opens, &[])
     }
 
     fn ready(&mut self, rt: &impl Abort, comm: u32, rank: u32) -> Result<(), NoMemory> {
@@ -148,9 +153,13 @@ fn expect_little_room(rt: &impl Abort, answer: Result<Arrived<u64>, Unarrived<u6
     }
 }
 
-// Lends a table of so many members to the steps of a test. One that goes out of scope is taken
-// apart in the function that owns it, which costs the prover half a minute; `drop` is one call.
-fn at_a_table<F>(rt: &(impl AllocGlobal + Abort), size: u32, steps: F) -> Result<(), Fail>
+/// Lends a table of so many members to the steps of a test. One that goes out of scope is taken
+/// apart in the function that owns it, which costs the prover half a minute; `drop` is one call.
+pub(crate) fn at_a_table<F>(
+    rt: &(impl AllocGlobal + Abort),
+    size: u32,
+    steps: F,
+) -> Result<(), Fail>
 where
     F: FnOnce(&mut Table) -> Result<(), Fail>,
     requires { F.IsAlwaysCallable steps }

@@ -32,7 +32,7 @@ distinct = 3
 "#;
 
 // What reading answers: nothing for a policy.
-fn fault_of(alloc: Global, bytes: &[u8]) -> Option<PolicyFault> {
+pub(crate) fn fault_of(alloc: Global, bytes: &[u8]) -> Option<PolicyFault> {
     match read_policy(alloc, bytes) {
         Ok(policy) => {
             drop(policy);

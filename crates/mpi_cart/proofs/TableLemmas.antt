@@ -1,7 +1,7 @@
 -- A table of neighbours, entry by entry.
 use Rattle.std.proofs.Common.{◌≡◌, ℕ, zero, suc, ◌+◌, ◌*◌, ◌/◌, ◌%◌, ◌<◌, ◌≤◌, List, [], ◌∷◌, ◌++◌}
 use Rattle.std.proofs.Common.{length, get_or, ◌∙◌, ap, sym, refl, arith, Option, Some, None, IfSome}
-use Rattle.std.proofs.Common.{⊎_elim, slice_get, subst}
+use Rattle.std.proofs.Common.{⊎_elim, slice_get, subst, min}
 use Rattle.std.proofs.Math.Nat.{mul-add-div_right, mul-add-mod_self_right, mod-eq_of_lt}
 use Rattle.std.proofs.Math.Nat.{div-eq_of_lt}
 use Rattle.std.proofs.lemmas.Nat.{div_below}
@@ -44,9 +44,8 @@ filled_more g k table made found e is w = subst (Filled g (k + 1)) (sym e) (reco
 })
 
 pub filled_all : (g : Topology) (k : ℕ) (table : List (Option ℕ))
-    → k ≤ volume g.dims * (2 * length g.dims) → Filled g k table → IsTable g table
-filled_all g k table few w =
-    record { few = (let long = w.long in omega arith); entries = w.entries }
+    → k ≡ min 65536 (volume g.dims * (2 * length g.dims)) → Filled g k table → IsTable g table
+filled_all g k table all w = record { long = w.long ∙ all; entries = w.entries }
 
 -- an entry's rank and slot
 pub entry_rank : (k size slots : ℕ) → k < size * slots → (0 < slots) × (k / slots < size)
@@ -90,7 +89,7 @@ pub ruleset known_neighbours = (neighbour_below, neighbour_back)
 pub entries_need_dimensions : (g : Topology) (table : List (Option ℕ)) → IsTable g table
     → 0 < length table → 0 < length g.dims
 entries_need_dimensions g table w h =
-    (let few = w.few in some_slots (volume g.dims) (length g.dims) (omega arith))
+    (let long = w.long in some_slots (volume g.dims) (length g.dims) (omega arith))
   where
     some_slots : (v n : ℕ) → 0 < v * (2 * n) → 0 < n
     some_slots v zero h = absurd (let none : v * (2 * zero) ≡ 0 = omega arith in omega arith)

@@ -51,7 +51,9 @@ use Rattle.run_model.specs.declared.call.Posting.{Posting}
 use Rattle.run_model.specs.declared.call.Act.{Act}
 use Rattle.run_model.specs.declared.call.Act.TheVariants.{Post as ToPost, Take, Info as ToInfo}
 use Rattle.run_model.specs.declared.reply.Reply.{Reply}
-use Rattle.run_model.specs.declared.reply.Reply.TheVariants.{Delivered, Refused}
+use Rattle.run_model.specs.declared.reply.Reply.TheVariants.{Posted, Barred, Pending, Delivered}
+use Rattle.run_model.specs.declared.reply.Reply.TheVariants.{NewComm, NullComm, Denied, NoRoom}
+use Rattle.run_model.specs.declared.reply.Reply.TheVariants.{Info, Refused}
 use Rattle.run_model.specs.Runs.{Entry, Effects, effects, posts, contributions, contribution_in}
 use Rattle.run_model.specs.Runs.{contribution_by, label_in, given_in, statement, requests, is_taken}
 use Rattle.run_model.specs.Replies.{posts_in, too_many, refusal, reply_to_post, join, joined}
@@ -335,11 +337,23 @@ unfolding wants reply
 out_of_memory_is_never_due wall run call e =
     false≢true (sym (no_want wall (effects run) call.process call.act) ∙ ap wants e)
 
+needs_memory : (due : Reply) → may_lack_memory due ≡ true → laws.NeedsMemory due
+needs_memory (Posted request) h = tt
+needs_memory (Barred request label) h = tt
+needs_memory (Delivered delivery) h = tt
+needs_memory Pending h = absurd (false≢true h)
+needs_memory (NewComm c r n) h = absurd (false≢true h)
+needs_memory NullComm h = absurd (false≢true h)
+needs_memory (Denied rule p label) h = absurd (false≢true h)
+needs_memory NoRoom h = absurd (false≢true h)
+needs_memory (Info size rank dims) h = absurd (false≢true h)
+needs_memory (Refused refusal) h = absurd (false≢true h)
+
 pub out_of_memory_is_of_growth : laws.OutOfMemoryIsOfGrowth
 out_of_memory_is_of_growth wall run e h is = ⊎_elim
     (λ due. absurd (out_of_memory_is_never_due wall run e.call (sym due ∙ is)))
     (λ (other : (may_lack_memory (reply wall run e.call) ≡ true) × (e.reply ≡ Refused NoMemory)).
-    other.0) h.1
+    needs_memory (reply wall run e.call) other.0) h.1
 
 -- ## what is delivered
 

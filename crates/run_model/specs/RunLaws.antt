@@ -33,10 +33,11 @@ use Rattle.run_model.specs.declared.call.Act.{Act}
 use Rattle.run_model.specs.declared.call.Act.TheVariants.{Take}
 use Rattle.run_model.specs.declared.call.Call.{Call}
 use Rattle.run_model.specs.declared.reply.Reply.{Reply}
-use Rattle.run_model.specs.declared.reply.Reply.TheVariants.{Delivered, NewComm, Denied, Refused}
+use Rattle.run_model.specs.declared.reply.Reply.TheVariants.{Posted, Barred, Delivered}
+use Rattle.run_model.specs.declared.reply.Reply.TheVariants.{NewComm, Denied, Refused}
 use Rattle.run_model.specs.Runs.{Entry, posts, contributions, effects, counted, label_in, requests}
 use Rattle.run_model.specs.Runs.{is_taken, MakesNothing}
-use Rattle.run_model.specs.Replies.{comm_at, reply, may_lack_memory, IsAnswer, Legal}
+use Rattle.run_model.specs.Replies.{comm_at, reply, IsAnswer, Legal}
 use Rattle.run_model.specs.Proper.{IsProper}
 
 -- ## runs and replies
@@ -55,10 +56,17 @@ abbrev pub OutOfMemoryIsNeverDue : Type 0
 OutOfMemoryIsNeverDue =
     (wall : ChineseWall) (run : List Entry) (call : Call) → reply wall run call ≢ Refused NoMemory
 
--- it stands only where a post that counts or a delivery is due
+-- a reply that makes a post or delivers
+abbrev pub NeedsMemory : Reply → Type 0
+NeedsMemory (Posted request) = Unit {0}
+NeedsMemory (Barred request label) = Unit {0}
+NeedsMemory (Delivered delivery) = Unit {0}
+NeedsMemory _ = ⊥
+
+-- it stands only where such a reply is due
 abbrev pub OutOfMemoryIsOfGrowth : Type 0
 OutOfMemoryIsOfGrowth = (wall : ChineseWall) (run : List Entry) (e : Entry) → Legal wall (e ∷ run) →
-    e.reply ≡ Refused NoMemory → may_lack_memory (reply wall run e.call) ≡ true
+    e.reply ≡ Refused NoMemory → NeedsMemory (reply wall run e.call)
 
 -- a call that is refused, that waits or that asks changes nothing on which later replies depend
 abbrev pub RefusedCallsMakeNothing : Type 0
