@@ -169,7 +169,8 @@ module _ {M : Type 0} (stands : ChineseWall → M → List Entry → Type 0) whe
 
   -- what a deed that was carried out does
   pub carried : (door d : Doorway) (p : ℕ) (b b' : Bool) (e : Entry)
-      (Tells : ChineseWall → List Entry → Type 0) (r : ℕ) (st : Step (Option M)) (m m1 m2 : Me (Option M) SeatView)
+      (Tells : ChineseWall → List Entry → Type 0) (r : ℕ) (st : Step (Option M))
+      (m m1 m2 : Me (Option M) SeatView)
       → door.policy ≡ m.0.policy → e.call.process ≡ p
       → IsIdle p m → Looks stands st m r m1 → Turned m1.0 e m2.0
       → TellsAfter m2.0.seen (Tells m1.0.policy)

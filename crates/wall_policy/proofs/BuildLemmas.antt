@@ -1,11 +1,48 @@
--- The classes of the datasets, over a list of classes that is walked from its front.
-use Rattle.std.proofs.Common.{◌≡◌, ℕ, ◌+◌, ◌<◌, List, [], ◌∷◌, ◌++◌, length, get_or, drop, map}
-use Rattle.std.proofs.Common.{refl, sym, ap, ◌∙◌, append_assoc, length-append}
+-- What a list that is built item by item says, over a list that is walked from its front.
+use Rattle.std.proofs.Common.{◌≡◌, ℕ, ℤ, ◌+◌, ◌<◌, List, [], ◌∷◌, ◌++◌, length, get_or, drop, map}
+use Rattle.std.proofs.Common.{Option, Some, None, refl, sym, ap, ◌∙◌, append_assoc, length-append}
 use Rattle.std.proofs.lemmas.List.{drop_more, length-map}
-use Rattle.wall_policy.specs.Plain.{ClassText}
+use Rattle.wall_labels.specs.declared.op.Op.{Op}
+use Rattle.wall_labels.specs.Ops.{op_of}
+use Rattle.wall_policy.specs.Plain.{ClassText, RuleText}
 use Rattle.wall_policy.specs.Names.{Name}
 use Rattle.wall_policy.specs.Checks.{dataset_names}
-use Rattle.wall_policy.specs.Meaning.{class_numbers}
+use Rattle.wall_policy.specs.Meaning.{class_numbers, natural, with_rule, numbers_in}
+
+pub map_goes_on : {A B : Type 0} (f : A → B) (front : List B) (xs : List A) (i : ℕ) (x : A)
+    (all : List B) → i < length xs → x ≡ get_or xs i x → front ++ map f (drop i xs) ≡ all →
+    (front ++ f x ∷ []) ++ map f (drop (i + 1) xs) ≡ all
+map_goes_on f front xs i x all lt same h =
+    append_assoc front (f x ∷ []) _
+    ∙ ap (λ y. front ++ f y ∷ map f (drop (i + 1) xs)) same
+    ∙ ap (λ ys. front ++ map f ys) (sym (drop_more xs i x lt))
+    ∙ h
+
+module _ (number : RuleText → ℤ) (front : List (Op × ℕ)) (rs : List RuleText) (i : ℕ) (r : RuleText)
+    (all : List (Op × ℕ)) (lt : i < length rs) (same : r ≡ get_or rs i r)
+    (h : front ++ numbers_in number (drop i rs) ≡ all)
+  where
+    abbrev rest : List (Op × ℕ)
+    rest = numbers_in number (drop (i + 1) rs)
+
+    rule_on : front ++ with_rule (op_of r.op) (number r) rest ≡ all
+    rule_on =
+        ap (λ (k : RuleText). front ++ with_rule (op_of k.op) (number k) rest) same
+        ∙ ap (λ ks. front ++ numbers_in number ks) (sym (drop_more rs i r lt))
+        ∙ h
+
+    pub named_goes_on : (op : Op) → op_of r.op ≡ Some op →
+        (front ++ (op, natural (number r)) ∷ []) ++ rest ≡ all
+    named_goes_on op named =
+        append_assoc front ((op, natural (number r)) ∷ []) rest
+        ∙ ap (λ (o : Option Op). front ++ with_rule o (number r) rest) (sym named)
+        ∙ rule_on
+
+    pub unnamed_goes_on : op_of r.op ≡ None → front ++ rest ≡ all
+    unnamed_goes_on none =
+        ap (λ (o : Option Op). front ++ with_rule o (number r) rest) (sym none) ∙ rule_on
+
+-- The classes of the datasets.
 
 pub numbers_go_on : (items : List ℕ) (cs : List ClassText) (i id : ℕ) (d : ClassText)
     (words : List Name) (all : List ℕ) → i < length cs → id ≡ i →

@@ -106,6 +106,20 @@ module _ (old seen : List Name) (cs : List ClassText) (i : ℕ) (d : ClassText) 
     goes_through all =
         append_assoc seen added _ ∙ ap (λ ns. seen ++ ns) (sym (datasets-drop cs i d lt)) ∙ all
 
+-- one name more, which was not there
+module _ {A : Type 0} (name_of : A → Name) (seen : List Name) (xs : List A) (i : ℕ) (x : A)
+    (all : Bool) (lt : i < length xs) (same : x ≡ get_or xs i x)
+    (h : repeats_after seen (map name_of (drop i xs)) ≡ all)
+  where
+    pub one_more : is_in seen (name_of x) ≡ false →
+        repeats_after (seen ++ name_of x ∷ []) (map name_of (drop (i + 1) xs)) ≡ all
+    one_more once =
+        ap (λ b. b || repeats_after (seen ++ name_of x ∷ []) (map name_of (drop (i + 1) xs)))
+        (sym once)
+        ∙ ap (λ y. repeats_after seen (name_of y ∷ map name_of (drop (i + 1) xs))) same
+        ∙ ap (λ ys. repeats_after seen (map name_of ys)) (sym (drop_more xs i x lt))
+        ∙ h
+
 pub turned_true : (b x : Bool) → b ≡ not x → b ≡ false → x ≡ true
 turned_true b true e f = refl
 turned_true b false e f = cc

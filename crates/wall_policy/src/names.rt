@@ -9,9 +9,16 @@ use std::alloc::{AllocError, Global};
 use std::marker::Model;
 
 /// Different names, seen as the list of them.
-#[derive(Drop)]
 pub(crate) struct NameTable {
     names: IndexSet<String>,
+}
+
+// By hand: a derived one is proved anew wherever one is dropped.
+impl Drop for NameTable {
+    fn drop(self) {
+        let NameTable { names } = self;
+        drop(names);
+    }
 }
 
 impl Model for NameTable {

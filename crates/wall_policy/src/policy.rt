@@ -16,7 +16,6 @@ use wall_labels::{ClassId, DatasetId, NoMemory, Op, ProcessId};
 /// Which datasets are rivals, where each process is at home, and which results count as sanitised.
 ///
 /// No accessor takes memory.
-#[derive(Drop)]
 pub struct Policy {
     version: u32,
     class_names: NameTable,
@@ -26,6 +25,29 @@ pub struct Policy {
     homes: Vec<Option<DatasetId>>,
     leasts: Vec<(Op, u32)>,
     distincts: Vec<(Op, u32)>,
+}
+
+// By hand: a derived one is proved anew in each crate that drops one.
+impl Drop for Policy {
+    fn drop(self) {
+        let Policy {
+            version: _,
+            class_names,
+            dataset_names,
+            process_names,
+            classes,
+            homes,
+            leasts,
+            distincts,
+        } = self;
+        drop(class_names);
+        drop(dataset_names);
+        drop(process_names);
+        drop(classes);
+        drop(homes);
+        drop(leasts);
+        drop(distincts);
+    }
 }
 
 impl Model for Policy {
@@ -129,14 +151,10 @@ impl Policy {
         ensures leasts { IfOk result (λ l. l.leasts.items ≡ self.now.leasts) }
         ensures distincts { IfOk result (λ l. l.distincts.items ≡ self.now.distincts) }
     {
-        let mut classes = Vec::new(alloc);
-        classes.extend_from_slice(&self.classes)?;
-        let mut homes = Vec::new(alloc);
-        homes.extend_from_slice(&self.homes)?;
-        let mut leasts = Vec::new(alloc);
-        leasts.extend_from_slice(&self.leasts)?;
-        let mut distincts = Vec::new(alloc);
-        distincts.extend_from_slice(&self.distincts)?;
+        let classes = Vec::from_slice(alloc, &self.classes)?;
+        let homes = Vec::from_slice(alloc, &self.homes)?;
+        let leasts = Vec::from_slice(alloc, &self.leasts)?;
+        let distincts = Vec::from_slice(alloc, &self.distincts)?;
         Ok(Lists {
             classes,
             homes,
