@@ -11,3 +11,4 @@ pub mod WriteLemmas
 pub mod NamedLemmas
 pub mod FaultLemmas
 pub mod ScanLemmas
+pub mod SpelledRowProofs

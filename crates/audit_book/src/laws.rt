@@ -1,8 +1,22 @@
 //! What holds of books and their texts, as functions that do nothing.
-ghost use Rattle.std.specs.Prelude.{◌≡◌, ◌↔◌, ℕ, ◌<◌, ◌≤◌, ◌++◌, List, length, Ok, Err};
+ghost use Rattle.std.specs.Prelude.{◌≡◌, ◌↔◌, ℕ, ◌<◌, ◌≤◌, ◌++◌, List, [], ◌∷◌, length, Ok, Err};
+ghost use Rattle.std.specs.Prelude.{pos, negsuc, true, Some, replicate};
 ghost use Rattle.std.specs.List.{AllByRecursion};
+ghost use Rattle.wall_labels.specs.declared.op.Op.TheVariants.{Maxloc};
+ghost use Rattle.wall_labels.specs.declared.label.Label.TheVariants.{Public, Of};
 ghost use Rattle.wall_policy.specs.Policy.{ChineseWall, IsPolicy};
+ghost use Rattle.mpi_elems.specs.declared.elem_type.ElemType.TheVariants.{Uint64, TwoInt};
+ghost use Rattle.coll_routes.specs.declared.signature.Signature.TheVariants.{Scatterv, Reduce};
+ghost use Rattle.coll_routes.specs.declared.signature.Signature.TheVariants.{Split};
+ghost use Rattle.coll_routes.specs.declared.statement.Own.TheVariants.{Counts};
+ghost use Rattle.coll_routes.specs.declared.statement.Own.TheVariants.{Split as SplitBy};
+ghost use Rattle.wall_verdict.specs.declared.verdict.Rule.TheVariants.{Star, Simple};
+ghost use Rattle.run_model.specs.declared.outcome.Outcome.TheVariants.{Granted, Denied, Made};
+ghost use Rattle.run_model.specs.declared.outcome.Outcome.TheVariants.{NoRoom};
 ghost use Rattle.run_model.specs.declared.entry.Entry.{Entry};
+ghost use Rattle.run_model.specs.declared.entry.Entry.TheVariants.{Settled};
+ghost use Rattle.run_model.specs.BookRows.{banks_and_oil, four_of_a_bank, gave, without_elements};
+ghost use Rattle.run_model.specs.BookRows.{denied_broadcast, rows_of_a_grid};
 ghost use Rattle.audit_book.specs.declared.fault.ReadFault.TheVariants.{BadLine, Cut};
 ghost use Rattle.audit_book.specs.Text.{book_text};
 ghost use Rattle.audit_book.specs.Reading.{book_in};
@@ -41,4 +55,28 @@ pub fn cut_texts_stop_early()
 pub fn bad_lines_are_the_first()
     ensures { (wall : ChineseWall) (text : List ℕ) (number : ℕ) →
         (book_in wall text ≡ Err (BadLine number)) ↔ IsBadAt wall text number }
+{}
+
+/// Entries with the least and the greatest numbers have a text: posts that give much and posts that
+/// give nothing, and verdicts of each outcome.
+pub fn extreme_entries_are_spelled()
+    ensures posts { AllByRecursion (IsSpelled banks_and_oil)
+        (gave 3 4294967295 (Reduce 4294967295 Maxloc TwoInt 4294967295) 4294967295 (Of 3) true
+        ∷ without_elements 3 4294967295 (Scatterv 4294967295 Uint64)
+        (Counts (replicate 256 4294967295))
+        ∷ without_elements 0 0 Split (SplitBy (Some (negsuc 2147483647)) (pos 2147483647))
+        ∷ []) }
+    ensures verdicts { AllByRecursion (IsSpelled banks_and_oil)
+        (Settled 4294967295 18446744073709551615 Granted
+        ∷ Settled 4294967295 18446744073709551615 (Denied Simple 3 (Of 3))
+        ∷ Settled 0 0 (Denied Star 0 Public)
+        ∷ Settled 4294967295 18446744073709551615 (Made 4294967295 4294967295)
+        ∷ Settled 4294967295 0 NoRoom
+        ∷ []) }
+{}
+
+/// So have the worked books of a broadcast that is denied, and of a grid that is cut into its rows.
+pub fn worked_books_are_spelled()
+    ensures denied { AllByRecursion (IsSpelled banks_and_oil) denied_broadcast }
+    ensures grid { AllByRecursion (IsSpelled four_of_a_bank) rows_of_a_grid }
 {}

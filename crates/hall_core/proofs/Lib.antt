@@ -18,3 +18,4 @@ pub mod NamedLemmas
 pub mod ApplyLemmas
 pub mod RunLemmas
 pub mod WorldsLemmas
+pub mod WorldRowProofs

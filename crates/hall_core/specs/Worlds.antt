@@ -1,14 +1,15 @@
 -- Two lists of calls with their replies, as two worlds.
-use Rattle.std.specs.Prelude.{◌<◌, ℕ, List}
+use Rattle.std.specs.Prelude.{◌<◌, ℕ, List, map}
 use Rattle.std.specs.List.{AllZip}
 use Rattle.wall_labels.specs.declared.ids.TheConstants.{DATASET_LIMIT}
 use Rattle.wall_policy.specs.Policy.{ChineseWall}
 use Rattle.run_model.specs.Holding.{Holds}
 use Rattle.run_model.specs.declared.call.Call.{Call}
 use Rattle.run_model.specs.declared.reply.Reply.{Reply}
-use Rattle.run_model.specs.Runs.{posts, run_of}
+use Rattle.run_model.specs.Runs.{Entry, posts, run_of}
 use Rattle.run_model.specs.Worlds.{SameCallButForValues, NobodyLacksMemory, AreOneToTheWall}
 use Rattle.run_model.specs.Worlds.{DifferOnlyIn, CannotTell}
+use Rattle.run_model.specs.WorldRows.{told}
 
 -- the calls are equal but for values, and none was answered out of memory
 pub record DifferInValues (first second : List Call) (told other : List Reply) : Type 0 where
@@ -32,3 +33,13 @@ CannotTellIn wall first second told other =
     DifferOnlyIn wall d (run_of first told) (run_of second other) →
     ¬ (Holds wall (posts (run_of first told)) p d) →
     CannotTell wall d p (run_of first told) (run_of second other)
+
+-- ## worked lists
+
+-- the calls of a list of entries
+abbrev pub called : List Entry → List Call
+called entries = map (λ (e : Entry). e.call) entries
+
+-- what is asked of two lists holds of these calls with their replies
+abbrev pub DifferAsListed : (one other : List Entry) → Type 0
+DifferAsListed one other = DifferInValues (called one) (called other) (told one) (told other)

@@ -25,4 +25,4 @@ pub use run_model::{
 };
 pub use runs::{Calls, Replies, run_calls};
 pub use wall_labels::NoMemory;
-pub use worlds::{TwoRuns, run_two};
+pub use worlds::{TwoRuns, lists_may_differ_in_numbers, run_two};

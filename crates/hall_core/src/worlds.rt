@@ -1,10 +1,15 @@
 //! Two runs of one policy.
-ghost use Rattle.std.specs.Prelude.{◌≡◌, [], length, IfOk};
+ghost use Rattle.std.specs.Prelude.{◌≡◌, ℤ, [], ◌∷◌, length, IfOk};
+ghost use Rattle.mpi_elems.specs.declared.elem_type.ElemType.TheVariants.{Int32};
+ghost use Rattle.coll_routes.specs.declared.signature.Signature.TheVariants.{Bcast};
+ghost use Rattle.coll_routes.specs.declared.statement.Own.TheVariants.{Plain};
+ghost use Rattle.run_model.specs.declared.reply.Reply.TheVariants.{Posted};
 ghost use Rattle.run_model.specs.Replies.{Legal};
 ghost use Rattle.run_model.specs.Runs.{run_of};
 ghost use Rattle.run_model.specs.Known.{HaveKnownLabels};
+ghost use Rattle.run_model.specs.RunRows.{alpha, gave, summed, relayed};
 ghost use Rattle.hall_core.specs.Halls.{StandsFor};
-ghost use Rattle.hall_core.specs.Worlds.{OneWallIn, CannotTellIn};
+ghost use Rattle.hall_core.specs.Worlds.{OneWallIn, CannotTellIn, DifferAsListed};
 
 use crate::hall::Hall;
 use crate::runs::{Calls, Replies, apply_each};
@@ -126,3 +131,15 @@ pub fn run_two(
     let two = run_each(alloc, policy, first, second)?;
     Ok(two)
 }
+
+/// What is asked of two lists holds of one broadcast of a number in each, whatever the numbers; of
+/// two sanitised sums, with what all four take of them; and of two relays, where posts are barred
+/// and instances denied.
+pub fn lists_may_differ_in_numbers()
+    ensures broadcasts { (a b : ℤ) → DifferAsListed
+        (gave 0 0 (Bcast 0 Int32 1) Plain alpha (a ∷ []) (Posted 0) ∷ [])
+        (gave 0 0 (Bcast 0 Int32 1) Plain alpha (b ∷ []) (Posted 0) ∷ []) }
+    ensures sums { (a b c total other : ℤ) →
+        DifferAsListed (summed a c total) (summed b c other) }
+    ensures relays { (a b : ℤ) → DifferAsListed (relayed a) (relayed b) }
+{}

@@ -8,3 +8,4 @@ pub mod CheckLemmas
 pub mod AgainLemmas
 pub mod PlainLemmas
 pub mod LineLemmas
+pub mod SayableRowProofs

@@ -8,6 +8,8 @@ use Rattle.wall_policy.specs.Policy.{ChineseWall}
 use Rattle.mpi_elems.specs.Elements.{elements_of}
 use Rattle.mpi_elems.specs.Contents.{contents}
 use Rattle.mpi_elems.specs.Faults.{fault_of}
+use Rattle.coll_routes.specs.declared.signature.Signature.{Signature}
+use Rattle.coll_routes.specs.declared.statement.Own.{Own}
 use Rattle.coll_routes.specs.Signatures.{elem_type}
 use Rattle.coll_routes.specs.Faults.{stated_type}
 use Rattle.coll_text.specs.Numbers.{Word}
@@ -79,3 +81,24 @@ IsSayableAct wall (Info comm) = comm ≤ 4294967295
 
 abbrev pub IsSayableCall : ChineseWall → Call → Type 0
 IsSayableCall wall call = (call.process ≤ 4294967295) × IsSayableAct wall call.act
+
+-- ## worked calls
+
+-- p posts these numbers on communicator c, with no more room than they need
+abbrev pub call_to_post : (p c : ℕ) → Signature → Own → Label → List ℤ → Call
+call_to_post p c sig own label numbers = record {
+  process = p;
+  act = Post (record {
+    comm = c;
+    sig = sig;
+    own = own;
+    label = label;
+    elements = contents (stated_type sig) numbers (length (elements_of (stated_type sig) numbers));
+  });
+}
+
+abbrev pub call_to_take : (p request : ℕ) → Call
+call_to_take p request = record { process = p; act = Take request }
+
+abbrev pub call_to_ask : (p c : ℕ) → Call
+call_to_ask p c = record { process = p; act = Info c }
