@@ -19,18 +19,19 @@ required_rule id = record (new_rule id) { required = true }
 abbrev pub optional_rule : Text → Rule
 optional_rule name = record (new_rule name) { long = Some name }
 
+-- NAME POLICY FILE
+abbrev pub files_app : Text → Text → App
+files_app name file =
+    let with_policy = with_rule (new_app name) (required_rule (codes "policy")) in
+    with_rule with_policy (required_rule file)
+
 -- NAME POLICY SCRIPT [--book FILE]
 abbrev pub script_app : Text → App
-script_app name =
-    let with_policy = with_rule (new_app name) (required_rule (codes "policy")) in
-    let with_script = with_rule with_policy (required_rule (codes "script")) in
-    with_rule with_script (optional_rule (codes "book"))
+script_app name = with_rule (files_app name (codes "script")) (optional_rule (codes "book"))
 
 -- audit POLICY BOOK
 abbrev pub audit_app : App
-audit_app =
-    let with_policy = with_rule (new_app (codes "audit")) (required_rule (codes "policy")) in
-    with_rule with_policy (required_rule (codes "book"))
+audit_app = files_app (codes "audit") (codes "book")
 
 -- the words after the program's name
 abbrev pub bare_app : App
@@ -38,14 +39,11 @@ bare_app =
     let a = new_app (codes "consortium") in
     record a { top = record a.top { no_binary_name = true; subcommand_required = true } }
 
--- replay and run, with files alike
-unfoldable pub scripts_app : App
-scripts_app =
-    let with_replay = with_subcommand bare_app (script_app (codes "replay")).top in
-    with_subcommand with_replay (script_app (codes "run")).top
-
 unfoldable pub program_app : App
-program_app = with_subcommand scripts_app audit_app.top
+program_app =
+    let with_replay = with_subcommand bare_app (script_app (codes "replay")).top in
+    let with_run = with_subcommand with_replay (script_app (codes "run")).top in
+    with_subcommand with_run audit_app.top
 
 -- the files of a replay, as text
 pub record ReplayFiles : Type 0 where

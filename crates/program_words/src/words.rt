@@ -1,14 +1,12 @@
 //! Reads the words of the command line.
-ghost use Rattle.std.specs.Prelude.{◌≡◌, IfOk, map, false, option_map, [], ◌≢◌, Err};
+ghost use Rattle.std.specs.Prelude.{◌≡◌, IfOk, IsOkAnd, map, false, option_map, [], ◌≢◌, Err};
 ghost use Rattle.clap.specs.Words.{app_of, rule_of, first_of, found_of, rows_of, fault_of};
-ghost use Rattle.clap.specs.Words.{subcommand_of, subcommand_rows_of};
+ghost use Rattle.clap.specs.Words.{subcommand_of, subcommand_rows_of, with_subcommand};
 ghost use Rattle.clap.specs.declared.builder.Command.TheViews.{out-Command as fields_of};
-ghost use Rattle.program_words.specs.Grammar.{required_rule, optional_rule, script_app};
-ghost use Rattle.program_words.specs.Grammar.{scripts_app};
-ghost use Rattle.program_words.specs.Grammar.{audit_app, program_app, replay_in, run_in, audit_in};
-ghost use Rattle.program_words.specs.Grammar.{command_in, asked, replay_files, run_files};
-ghost use Rattle.program_words.specs.Grammar.{audit_files};
-ghost use Rattle.program_words.specs.Grammar.{asked_by, SaysCommand};
+ghost use Rattle.program_words.specs.Grammar.{required_rule, files_app, script_app};
+ghost use Rattle.program_words.specs.Grammar.{program_app, replay_in, run_in, audit_in};
+ghost use Rattle.program_words.specs.Grammar.{to_replay, to_run, to_audit, command_in, command_of};
+ghost use Rattle.program_words.specs.Grammar.{asked, asked_by, SaysCommand};
 
 use clap::error::ErrorKind;
 use clap::{Arg, ArgMatches};
@@ -67,12 +65,19 @@ fn required<'a>(alloc: Global, id: &'a str) -> Arg<'a>
     Arg::new(alloc, id).required(true)
 }
 
-// An option `--NAME` with a value, which may be missing.
-fn optional<'a>(alloc: Global, name: &'a str) -> Arg<'a>
-    ensures rule { rule_of result ≡ optional_rule name.now }
-    ensures local { result.global ≡ false }
+// The command `NAME POLICY FILE`; its second argument has the name `file`.
+fn files_command<'a>(
+    alloc: Global,
+    name: &'a str,
+    file: &'a str,
+) -> Result<clap::Command<'a>, AllocError>
+    ensures app { IfOk result (λ c. app_of c ≡ files_app name.now file.now) }
+    ensures globals { IfOk result (λ c. (fields_of c).has_globals ≡ false) }
 {
-    Arg::new(alloc, name).long(name)
+    let Ok(command) = clap::Command::new(alloc, name).arg(required(alloc, "policy")) else {
+        return Err(AllocError);
+    };
+    command.arg(required(alloc, file))
 }
 
 // The command `NAME POLICY SCRIPT [--book FILE]`.
@@ -80,47 +85,43 @@ fn script_command<'a>(alloc: Global, name: &'a str) -> Result<clap::Command<'a>,
     ensures app { IfOk result (λ c. app_of c ≡ script_app name.now) }
     ensures globals { IfOk result (λ c. (fields_of c).has_globals ≡ false) }
 {
-    let command = clap::Command::new(alloc, name)
-        .arg(required(alloc, "policy"))?
-        .arg(required(alloc, "script"))?
-        .arg(optional(alloc, "book"))?;
-    Ok(command)
+    let Ok(command) = files_command(alloc, name, "script") else {
+        return Err(AllocError);
+    };
+    command.arg(Arg::new(alloc, "book").long("book"))
 }
 
-// The command `audit POLICY BOOK`.
-fn audit_command<'a>(alloc: Global) -> Result<clap::Command<'a>, AllocError>
-    ensures app { IfOk result (λ c. app_of c ≡ audit_app) }
-    ensures globals { IfOk result (λ c. (fields_of c).has_globals ≡ false) }
+// The command line with one command more, if that could be made.
+fn with_command<'a>(
+    program: clap::Command<'a>,
+    made: Result<clap::Command<'a>, AllocError>,
+) -> Result<clap::Command<'a>, AllocError>
+    ensures { IfOk result (λ new. IsOkAnd made.entry (λ c. (fields_of c).has_globals ≡ false
+        → app_of new ≡ with_subcommand (app_of program.entry) (app_of c).top)) }
 {
-    let audit = clap::Command::new(alloc, "audit")
-        .arg(required(alloc, "policy"))?
-        .arg(required(alloc, "book"))?;
-    Ok(audit)
-}
-
-// The command line with the commands that read a script.
-#[tactic(auto, unfolding(crate::specs::Grammar::scripts_app))]
-fn script_commands<'a>(alloc: Global) -> Result<clap::Command<'a>, AllocError>
-    ensures { IfOk result (λ c. app_of c ≡ scripts_app) }
-{
-    let replay = script_command(alloc, "replay")?;
-    let run = script_command(alloc, "run")?;
-    let program = clap::Command::new(alloc, "consortium")
-        .no_binary_name(true)
-        .subcommand_required(true);
-    let program = program.subcommand(replay)?.subcommand(run)?;
-    Ok(program)
+    match made {
+        Ok(command) => program.subcommand(command),
+        Err(error) => {
+            drop(program);
+            Err(error)
+        }
+    }
 }
 
 // The command line of the program.
-#[tactic(auto, unfolding(crate::specs::Grammar::program_app))]
 fn program_command<'a>(alloc: Global) -> Result<clap::Command<'a>, AllocError>
     ensures { IfOk result (λ c. app_of c ≡ program_app) }
 {
-    let audit = audit_command(alloc)?;
-    let program = script_commands(alloc)?;
-    let program = program.subcommand(audit)?;
-    Ok(program)
+    let program = clap::Command::new(alloc, "consortium")
+        .no_binary_name(true)
+        .subcommand_required(true);
+    let Ok(program) = with_command(program, script_command(alloc, "replay")) else {
+        return Err(AllocError);
+    };
+    let Ok(program) = with_command(program, script_command(alloc, "run")) else {
+        return Err(AllocError);
+    };
+    with_command(program, files_command(alloc, "audit", "book"))
 }
 
 // The value of an argument.
@@ -130,58 +131,67 @@ fn value_of<'a>(matches: &ArgMatches<'a>, id: &str) -> Option<&'a str>
     matches.get_str(id)
 }
 
-// The files that the arguments of `replay` name.
-fn replay_paths<'a>(matches: &ArgMatches<'a>) -> Option<ReplayPaths<'a>>
-    ensures { option_map replay_files result ≡ replay_in (rows_of (found_of matches.now)) }
+// A replay of the files that its arguments name.
+fn replay_asked<'a>(matches: &ArgMatches<'a>) -> Option<Command<'a>>
+    ensures { option_map asked_by result
+        ≡ option_map to_replay (replay_in (rows_of (found_of matches.now))) }
 {
     let policy = value_of(matches, "policy")?;
     let script = value_of(matches, "script")?;
     let book = value_of(matches, "book");
-    Some(ReplayPaths {
+    let paths = ReplayPaths {
         policy,
         script,
         book,
-    })
+    };
+    Some(Command::Replay(paths))
 }
 
-// The files that the arguments of `run` name.
-fn run_paths<'a>(matches: &ArgMatches<'a>) -> Option<RunPaths<'a>>
-    ensures { option_map run_files result ≡ run_in (rows_of (found_of matches.now)) }
+// A run of the files that its arguments name.
+fn run_asked<'a>(matches: &ArgMatches<'a>) -> Option<Command<'a>>
+    ensures { option_map asked_by result
+        ≡ option_map to_run (run_in (rows_of (found_of matches.now))) }
 {
     let policy = value_of(matches, "policy")?;
     let script = value_of(matches, "script")?;
     let kept = value_of(matches, "book");
-    Some(RunPaths {
+    let paths = RunPaths {
         policy,
         script,
         book: kept,
-    })
+    };
+    Some(Command::Run(paths))
 }
 
-// The files that the arguments of `audit` name.
-fn audit_paths<'a>(matches: &ArgMatches<'a>) -> Option<AuditPaths<'a>>
-    ensures { option_map audit_files result ≡ audit_in (rows_of (found_of matches.now)) }
+// An audit of the files that its arguments name.
+fn audit_asked<'a>(matches: &ArgMatches<'a>) -> Option<Command<'a>>
+    ensures { option_map asked_by result
+        ≡ option_map to_audit (audit_in (rows_of (found_of matches.now))) }
 {
     let policy = value_of(matches, "policy")?;
     let book = value_of(matches, "book")?;
-    Some(AuditPaths { policy, book })
+    Some(Command::Audit(AuditPaths { policy, book }))
 }
 
 // The command of this name, with its files.
 fn command_named<'a>(name: &str, matches: &ArgMatches<'a>) -> Option<Command<'a>>
     ensures { option_map asked_by result ≡ command_in name.now (rows_of (found_of matches.now)) }
 {
-    if name == "replay" {
-        let paths = replay_paths(matches)?;
-        Some(Command::Replay(paths))
-    } else if name == "run" {
-        let paths = run_paths(matches)?;
-        Some(Command::Run(paths))
-    } else if name == "audit" {
-        let paths = audit_paths(matches)?;
-        Some(Command::Audit(paths))
-    } else {
-        None
+    match name {
+        "replay" => replay_asked(matches),
+        "run" => run_asked(matches),
+        "audit" => audit_asked(matches),
+        _ => None,
+    }
+}
+
+// The command that the matches name, with its files.
+fn command_asked<'a>(matches: &ArgMatches<'a>) -> Option<Command<'a>>
+    ensures { option_map asked_by result ≡ command_of (subcommand_rows_of matches.now) }
+{
+    match matches.subcommand() {
+        Some((name, inner)) => command_named(name, inner),
+        None => None,
     }
 }
 
@@ -223,10 +233,9 @@ pub fn read_words<'a>(alloc: Global, words: &'a [&'a str]) -> Result<Command<'a>
         Ok(matches) => matches,
         Err(fault) => return Err(fault),
     };
-    let Some((name, inner)) = matches.subcommand() else {
-        return Err(ArgFault::BadArguments);
-    };
-    match command_named(name, inner) {
+    let command = command_asked(&matches);
+    drop(matches);
+    match command {
         Some(command) => Ok(command),
         None => Err(ArgFault::BadArguments),
     }

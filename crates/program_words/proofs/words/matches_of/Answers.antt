@@ -8,15 +8,15 @@ use Rattle.program_words.specs.declared.words.ArgFault.TheVariants.{BadArguments
 use Rattle.clap.specs.Words.{Kinds, HasKind, kind_of, fault_of, subcommand_of, is_simple}
 use Rattle.clap.specs.Words.{is_simple_and_free}
 use Rattle.clap.proofs.OnLiterals.{clap_on_literals}
-use Rattle.program_words.specs.Grammar.{scripts_app, program_app}
+use Rattle.program_words.specs.Grammar.{program_app}
 use Rattle.program_words.proofs.words.matches_of.Goals as goal
 
 simple_and_free : is_simple_and_free program_app ≡ true
-unfolding program_app scripts_app clap_on_literals
+unfolding program_app clap_on_literals
 simple_and_free = refl
 
 simple : is_simple program_app ≡ true
-unfolding program_app scripts_app clap_on_literals
+unfolding program_app clap_on_literals
 simple = refl
 
 pub returns-in-Ok-try_get_matches_from-clause-ok : goal.returns-in-Ok-try_get_matches_from-clause-ok

@@ -1,0 +1,34 @@
+use Rattle.std.proofs.Common.{rules, ◌≡◌, IfOk, IsOkAnd, false, Result, Ok, Err, ap, ◌∙◌, codes}
+use Rattle.clap.specs.Words.{App, app_of, with_subcommand}
+use Rattle.clap.specs.declared.builder.Command.{Command}
+use Rattle.clap.specs.declared.builder.Command.TheViews.{out-Command as fields_of}
+use Rattle.program_words.specs.Grammar.{bare_app, script_app, audit_app, program_app}
+use Rattle.program_words.proofs.words.program_command.Goals as goal
+
+-- where the command that was made is b, the command line a has b more
+joined : {E : Type 0} (program : Command) (made new : Result Command E) (a b : App) →
+    app_of program ≡ a →
+    IfOk made (λ c. app_of c ≡ b) → IfOk made (λ c. (fields_of c).has_globals ≡ false) →
+    IfOk new (λ n. IsOkAnd made (λ c. (fields_of c).has_globals ≡ false →
+    app_of n ≡ with_subcommand (app_of program) (app_of c).top)) →
+    IfOk new (λ n. app_of n ≡ with_subcommand a b.top)
+joined program (Ok c) (Ok n) a b old app globals added =
+    added globals ∙ ap (λ x. with_subcommand x (app_of c).top) old
+    ∙ ap (λ x. with_subcommand a x.top) app
+joined program (Err e) (Ok n) a b old app globals added = absurd added
+joined program made (Err e) a b old app globals added = tt
+
+pub returns : goal.returns
+unfolding program_app
+returns c =
+    let bare : app_of c.subcommand_required-program.result ≡ bare_app = search rules in
+    let replay = joined c.subcommand_required-program.result c.script_command.result
+    (Ok c.in-Ok.program)
+    bare_app (script_app (codes "replay")) bare c.script_command.ensures.app
+    c.script_command.ensures.globals c.in-Ok.ensures in
+    let run = joined c.in-Ok.program c.script_command-2.result (Ok c.in-Ok-with_command.program)
+    _ (script_app (codes "run")) replay c.script_command-2.ensures.app
+    c.script_command-2.ensures.globals c.in-Ok-with_command.ensures in
+    joined c.in-Ok-with_command.program c.files_command.result c.with_command-3.result
+    _ audit_app run c.files_command.ensures.app c.files_command.ensures.globals
+    c.with_command-3.ensures
