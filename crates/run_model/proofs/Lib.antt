@@ -28,4 +28,5 @@ pub mod KindRowProofs
 pub mod TypeRowProofs
 pub mod RoomRowProofs
 pub mod WorldRowProofs
+pub mod HeadlineRowProofs
 pub mod RunModelLemmas
