@@ -133,7 +133,7 @@ impl<'r, G: Gate> Pause for Part<'r, G> {
         Some(self.stage.step_aside(rt, &self.role))
     }
 
-    fn computing<R: Wait>(&self, rt: &R) {
+    fn computing<R: Wait>(&self, rt: &R, _claim: &Claim) {
         self.gate.computing(rt, self.process, self.number);
     }
 

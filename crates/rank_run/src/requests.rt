@@ -110,6 +110,7 @@ impl Requests {
             (λ requests. count_by is_post script.now ≤ vec_capacity requests.instances) }
         ensures places { IfOk result
             (λ requests. All (HasPlace (length requests.entered.items)) script.now) }
+        ensures few { IfOk result (λ requests. length requests.entered.items ≤ COMMUNICATOR_LIMIT) }
     {
         let comms = comms_in(script).min(COMMUNICATOR_LIMIT as usize);
         let requests = Requests::with_room(alloc, comms, posts_in(script))?;

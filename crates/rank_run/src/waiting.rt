@@ -47,8 +47,9 @@ pub(crate) trait Pause {
     /// Makes room for others while the reply is worked out, if that takes long enough.
     fn step_aside<R: Wait>(&self, rt: &R, claim: &Claim) -> Self::Left;
 
-    /// Calls the gate's `computing`.
-    fn computing<R: Wait>(&self, rt: &R);
+    /// Calls the gate's `computing`. It is shown the claim, so that nobody calls it once that is
+    /// finished.
+    fn computing<R: Wait>(&self, rt: &R, claim: &Claim);
 
     /// Comes back, if it made room. It is shown the reply, so that nobody comes back before that is
     /// worked out: the others may play until then.
@@ -74,28 +75,47 @@ impl<'g, G: Gate> Pause for Yields<'g, G> {
 
     fn step_aside<R: Wait>(&self, _rt: &R, _claim: &Claim) {}
 
-    fn computing<R: Wait>(&self, rt: &R) {
+    fn computing<R: Wait>(&self, rt: &R, _claim: &Claim) {
         self.gate.computing(rt, self.process, 0);
     }
 
     fn step_back<R: Wait>(&self, _rt: &R, _left: (), _reply: &Reply) {}
 }
 
-// The finish of a claim, the gate's `computing` before it. Others may play meanwhile.
+// The finish of a claim. Not inlined: its locals would be cleared at every try that is answered
+// `Pending`.
 #[inline(never)]
-fn finish_aside<R: Wait, P: Pause>(rt: &R, claim: Claim, pause: &P) -> Reply
+fn finish_apart(claim: Claim) -> Reply
+    requires { CanFinish claim }
+    ensures { result ≡ claim_reply claim }
+{
+    finish(claim)
+}
+
+// The reply to a claim. Of one that is done there is nothing to finish.
+fn reply_to(claim: Claim) -> Reply
+    requires { CanFinish claim }
+    ensures { result ≡ claim_reply claim }
+{
+    match claim {
+        Claim::Done(reply) => reply,
+        Claim::Ready { .. } => finish_apart(claim),
+    }
+}
+
+// The reply to a claim, the gate's `computing` before it. Others may play meanwhile.
+fn reply_aside<R: Wait, P: Pause>(rt: &R, claim: Claim, pause: &P) -> Reply
     requires { CanFinish claim }
     ensures { result ≡ claim_reply claim }
 {
     let left = pause.step_aside(rt, &claim);
-    pause.computing(rt);
-    let reply = finish(claim);
+    pause.computing(rt, &claim);
+    let reply = reply_to(claim);
     pause.step_back(rt, left, &reply);
     reply
 }
 
-/// One take: a claim at a turn, and its finish after the turn, the gate's `computing` between. Of a
-/// claim that is done there is nothing to finish.
+/// One take: a claim at a turn, and its finish after the turn, the gate's `computing` between.
 fn take_once<R: Wait, P: Pause>(
     rt: &R,
     door: &Door,
@@ -110,11 +130,7 @@ fn take_once<R: Wait, P: Pause>(
     ensures named { NamesKnown door.now.policy result }
 {
     match door.claim(rt, pass, request) {
-        Claimed::Claim(Claim::Done(reply)) => {
-            pause.computing(rt);
-            Answer::Reply(reply)
-        }
-        Claimed::Claim(claim) => Answer::Reply(finish_aside(rt, claim, pause)),
+        Claimed::Claim(claim) => Answer::Reply(reply_aside(rt, claim, pause)),
         Claimed::Exhausted => Answer::Exhausted,
     }
 }

@@ -1,6 +1,6 @@
 -- Where the ranks of a run stand, and what may be said of it at any time. (Own rules.)
-use Rattle.std.specs.Prelude.{◌≡◌, ◌≢◌, ◌↔◌, ◌⊎◌, ℕ, ◌<◌, ◌≤◌, Bool, true, false, Option, length}
-use Rattle.std.specs.Prelude.{Some, None, IfSome, IsSome, slice_index_or}
+use Rattle.std.specs.Prelude.{◌≡◌, ◌≢◌, ◌↔◌, ◌⊎◌, ℕ, ◌+◌, ◌<◌, ◌≤◌, Bool, true, false, Option}
+use Rattle.std.specs.Prelude.{Some, None, IfSome, IsSome, length, slice_index_or}
 use Rattle.rank_stage.specs.declared.board.Instance.{Instance}
 use Rattle.rank_stage.specs.declared.board.Place.{Place}
 use Rattle.rank_stage.specs.declared.board.Place.TheVariants.{Plays, InLine, Aside, Sleeps, Ended}
@@ -55,11 +55,30 @@ pub record IsOrderly (board : Board) : Type 0 where
   pub watched : IsWatched board
   pub served : IsServed board
 
--- Whoever has come to play is the one to call, and whoever is to be called plays.
+-- The rank comes before all that stand in line, counted from `next` on and then from 0.
+pub record ComesFirst (next : ℕ) (board : Board) (rank : ℕ) : Type 0 where
+  pub first : (other : ℕ) → next ≤ other → other < rank → place_of board other ≢ InLine
+  pub none : rank < next → (other : ℕ) → next ≤ other → place_of board other ≢ InLine
+  pub round : rank < next → (other : ℕ) → other < rank → place_of board other ≢ InLine
+
+-- the rank is the first in line
+pub record IsNextInLine (board : Board) (rank : ℕ) : Type 0 where
+  pub stands : place_of board rank ≡ InLine
+  pub first : ComesFirst board.next board rank
+
+-- where the next search starts: behind whoever is called
+abbrev pub next_after : (next : ℕ) → (called : Option ℕ) → ℕ
+next_after next None = next
+next_after next (Some rank) = rank + 1
+
+-- Whoever has come to play is the one to call, and whoever is to be called plays. It came before
+-- all that are left in line, and the next search starts behind it: they play before it plays again.
 pub record Calls (before after : Board) (called : Option ℕ) : Type 0 where
   pub all : (rank : ℕ) → place_of after rank ≡ Plays → place_of before rank ≢ Plays
       → called ≡ Some rank
   pub only : IfSome called (λ rank. place_of after rank ≡ Plays)
+  pub turn : IfSome called (λ rank. ComesFirst before.next after rank)
+  pub next : after.next ≡ next_after before.next called
 
 -- the rank slept for an instance that has settled, and now stands in line
 pub record HasComeToLine (before after : Board) (rank : ℕ) : Type 0 where
@@ -79,13 +98,6 @@ pub record HasBeenWoken (before after : Board) (rank : ℕ) : Type 0 where
   pub it : Instance
   pub slept : place_of before rank ≡ Sleeps it
   pub wakes : is_awake (place_of after rank) ≡ true
-
--- The rank is the first in line, counted from `next` on and then from 0.
-pub record IsNextInLine (board : Board) (rank : ℕ) : Type 0 where
-  pub stands : place_of board rank ≡ InLine
-  pub first : (other : ℕ) → board.next ≤ other → other < rank → place_of board other ≢ InLine
-  pub none : rank < board.next → (other : ℕ) → board.next ≤ other → place_of board other ≢ InLine
-  pub round : rank < board.next → (other : ℕ) → other < rank → place_of board other ≢ InLine
 
 -- nobody but the rank is awake
 abbrev pub IsLastAwake : Board → (rank : ℕ) → Type 0

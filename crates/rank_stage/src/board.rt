@@ -141,7 +141,6 @@ impl Board {
         ensures orderly { IsOrderly self.new }
         ensures player { result ≡ self.new.player }
         ensures turn { IfSome result (λ rank. IsNextInLine self.old rank) }
-        ensures next { IfSome result (λ rank. self.new.next ≡ rank + 1) }
         ensures calls { Calls self.old self.new result }
         ensures stays { (rank : ℕ) → place_of self.new rank ≢ Plays →
             place_of self.new rank ≡ place_of self.old rank }
@@ -243,6 +242,7 @@ impl Board {
         ensures others { (other : ℕ) → other ≢ rank →
             place_of self.new other ≡ place_of self.old other }
         ensures settled { self.new.settled ≡ self.old.settled }
+        ensures next { self.new.next ≡ self.old.next }
     {
         let Place::Aside = self.place_of(rank) else {
             return self.plays(rank);
@@ -289,6 +289,7 @@ impl Board {
             place_of self.new other ≡ place_of self.old other }
         ensures settled { self.new.settled ≡ self.old.settled }
         ensures player { self.new.player ≡ self.old.player }
+        ensures next { self.new.next ≡ self.old.next }
         ensures len { length self.new.places.items ≡ length self.old.places.items }
     {
         let Place::Sleeps(it) = self.place_of(rank) else {
@@ -310,6 +311,7 @@ impl Board {
             HasComeToLine self.old self.new rank }
         ensures settled { self.new.settled ≡ self.old.settled }
         ensures player { self.new.player ≡ self.old.player }
+        ensures next { self.new.next ≡ self.old.next }
     {
         for rank in 0..self.places.len() {
             self.call_if_settled(rank);
@@ -325,6 +327,7 @@ impl Board {
             settled_on self.new other ≡ settled_on self.old other }
         ensures places { self.new.places ≡ self.old.places }
         ensures player { self.new.player ≡ self.old.player }
+        ensures next { self.new.next ≡ self.old.next }
     {
         if let Some(count) = self.settled.get_mut(comm as usize) {
             *count = count.saturating_add(1);
@@ -344,6 +347,7 @@ impl Board {
             HasWoken self.old self.new rank }
         ensures settled { self.new.settled ≡ self.old.settled }
         ensures player { self.new.player ≡ self.old.player }
+        ensures next { self.new.next ≡ self.old.next }
     {
         if let Some(rank) = self.first_asleep() {
             self.set(rank, Place::InLine);
@@ -359,6 +363,7 @@ impl Board {
         ensures others { (other : ℕ) → other ≢ rank →
             place_of self.new other ≡ place_of self.old other }
         ensures settled { self.new.settled ≡ self.old.settled }
+        ensures next { self.new.next ≡ self.old.next }
     {
         if rank < self.places.len() {
             self.set(rank, Place::Ended);
@@ -383,6 +388,7 @@ impl Board {
             IsLastAwake self.old rank }
         ensures settled { self.new.settled ≡ self.old.settled }
         ensures player { self.new.player ≡ self.old.player }
+        ensures next { self.new.next ≡ self.old.next }
     {
         if !self.others_are_awake(rank) {
             self.call_one();
@@ -507,6 +513,7 @@ impl Standing {
         ensures others { (other : ℕ) → other ≢ rank →
             place_of self.new.board other ≡ place_of self.old.board other }
         ensures settled { self.new.board.settled ≡ self.old.board.settled }
+        ensures next { self.new.board.next ≡ self.old.board.next }
     {
         self.board.step_back(rank)
     }

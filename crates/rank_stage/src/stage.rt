@@ -16,8 +16,9 @@
 //!   before its poster raises the count; that poster is awake until it has. The counts beside the
 //!   board are raised after the lock: who reads them too early asks the board.
 //! - Whoever changes the board gets a `Call`, which cannot be let go by itself: what opens it gives
-//!   the rank that has come to play, and that rank's bell is rung there. A bell that is rung before
-//!   its rank looks for it stays rung, and a stray wake does no harm.
+//!   the rank that has come to play, and that rank's bell is rung there. A bell is std's parker and
+//!   nothing beside it, so there is no order to keep: one that is rung before its rank waits for it
+//!   stays rung, and the wait ends by taking that alone.
 //! - A rank that has begun has a `Role`, and one that has stepped aside an `Aside`: neither can be
 //!   let go, so each rank that begins ends, and each that steps aside comes back.
 //! - Where every other rank has ended or sleeps, a rank does not sleep: it makes its tries one
@@ -45,13 +46,6 @@ use std::sync::{Mutex, Wait};
 use std::thread;
 use std::thread::Parker;
 
-// By which a rank is called.
-#[derive(Drop)]
-struct Bell {
-    rung: AtomicBool,
-    parker: Parker,
-}
-
 /// A rank that has begun. It has no `Drop`: it ends by [`Stage::end`].
 pub struct Role {
     rank: usize,
@@ -68,7 +62,8 @@ pub struct Stage {
     standing: Mutex<Standing>,
     // How many instances have settled on each communicator: a quick look, which may be late.
     settled: Vec<AtomicU64>,
-    bells: Vec<Bell>,
+    // By which each rank is called.
+    bells: Vec<Parker>,
     // All play, and nobody sleeps.
     open: bool,
     // Who is called at the start, if one plays at a time.
@@ -77,43 +72,11 @@ pub struct Stage {
     given_up: AtomicBool,
 }
 
-impl Bell {
-    fn new() -> Bell {
-        Bell {
-            rung: AtomicBool::new(false),
-            parker: Parker::new(),
-        }
-    }
-
-    fn ring(&self) {
-        self.rung.store(true, Ordering::SeqCst);
-        self.parker.unpark();
-    }
-
-    // Whether it was rung since it was heard last.
-    fn hear(&self) -> bool {
-        if !self.rung.load(Ordering::SeqCst) {
-            return false;
-        }
-        self.rung.store(false, Ordering::SeqCst);
-        true
-    }
-
-    fn wait<R: Wait>(&self, rt: &R) {
-        for _ in rt.forever() {
-            if self.hear() {
-                return;
-            }
-            self.parker.park(rt);
-        }
-    }
-}
-
 // So many bells, which nobody has rung.
-fn silent_bells(alloc: Global, ranks: usize) -> Result<Vec<Bell>, AllocError> {
+fn silent_bells(alloc: Global, ranks: usize) -> Result<Vec<Parker>, AllocError> {
     let mut bells = Vec::with_capacity(alloc, ranks)?;
     for _ in 0..ranks {
-        bells.push(Bell::new())?;
+        bells.push(Parker::new())?;
     }
     Ok(bells)
 }
@@ -151,7 +114,7 @@ impl Stage {
 
     fn wait<R: Wait>(&self, rt: &R, rank: usize) {
         if let Some(bell) = self.bells.get(rank) {
-            bell.wait(rt);
+            bell.park(rt);
         }
     }
 
@@ -163,13 +126,13 @@ impl Stage {
     fn wake(&self, rank: Option<usize>) {
         let Some(rank) = rank else { return };
         if let Some(bell) = self.bells.get(rank) {
-            bell.ring();
+            bell.unpark();
         }
     }
 
     fn wake_all(&self) {
         for bell in self.bells.iter() {
-            bell.ring();
+            bell.unpark();
         }
     }
 

@@ -143,7 +143,8 @@ fn stands<R: Abort>(rt: &R, count: &AtomicU64, wanted: u64) {
 #[derive(Clone, Copy)]
 enum Plan {
     /// So often: it posts on one communicator after another, and sleeps until that has settled; now
-    /// and then it computes beside the others.
+    /// and then it computes beside the others. Before, it does not sleep for an instance on a
+    /// communicator that the stage does not have.
     Rounds(u64),
     /// It waits for what never settles.
     InVain,
@@ -155,6 +156,11 @@ fn play_rounds<R: Wait>(rt: &R, stage: &Stage, sight: &Sight, rank: usize, round
     let Some(role) = sight.begin(rt, stage, rank) else {
         return;
     };
+    let past = Instance {
+        comm: COMMS,
+        number: 0,
+    };
+    sight.expect(stage.sleep(rt, &role, past));
     for number in 0..rounds {
         for comm in 0..COMMS {
             sight.post(rt, stage, comm);

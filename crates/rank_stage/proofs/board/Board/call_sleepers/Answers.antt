@@ -51,5 +51,6 @@ loop-rank-preserved c =
       awake = λ r a. e.awake r (i.awake r a);
       settled = e.settled ∙ i.settled;
       player = e.player ∙ i.player;
+      next = e.next ∙ i.next;
       len = e.len ∙ i.len;
     }

@@ -14,5 +14,6 @@ invariant-loop-rank l = record {
   awake : (r : ℕ) → is_awake (place_of l.fn.self r) ≡ true → is_awake (place_of l.self r) ≡ true;
   settled : l.self.settled ≡ l.fn.self.settled;
   player : l.self.player ≡ l.fn.self.player;
+  next : l.self.next ≡ l.fn.self.next;
   len : length l.self.places.items ≡ length l.fn.self.places.items;
 }
