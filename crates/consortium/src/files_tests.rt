@@ -6,7 +6,8 @@ use crate::serving::Blanks;
 use std::alloc::Global;
 use std::cell::{Cell, RefCell};
 use std::fs;
-use std::process::Abort;
+use std::io::Eprint;
+use std::process::{Abort, ExitCode, Termination};
 use std::rt::Files;
 use std::sync::Wait;
 use std::test::Fail;
@@ -73,7 +74,7 @@ fn taken(cell: &RefCell<Vec<u8>>, alloc: Global) -> Result<Vec<u8>, Fail> {
 
 fn used<R>(rt: &R, case: &Case, faults: Faults) -> Result<Ended, Fail>
 where
-    R: AllocGlobal + Threads + Wait + Sync,
+    R: AllocGlobal + Threads + Wait + Sync + Eprint,
 {
     let alloc = rt.alloc();
     let (out, err) = (RefCell::new(Vec::new(alloc)), RefCell::new(Vec::new(alloc)));
@@ -114,7 +115,7 @@ where
 
 fn status_of<R>(rt: &R, disk: &Disk, out: Stream, err: Stream) -> ExitCode
 where
-    R: AllocGlobal + Threads + Wait + Sync,
+    R: AllocGlobal + Threads + Wait + Sync + Eprint,
 {
     let blanks = Blanks {
         policy: Blank::new(1),
@@ -124,9 +125,10 @@ where
         err: Blank::new(1),
     };
     let system = System { disk };
-    serve::<R, System, Stream, Stream, Brand, Brand, Brand, Brand, Brand>(
+    let served = serve::<R, System, Stream, Stream, Brand, Brand, Brand, Brand, Brand>(
         rt, &system, out, err, blanks,
-    )
+    );
+    served.report(rt)
 }
 
 fn is_as_told(ended: &Ended, case: &Case) -> bool {
@@ -506,7 +508,7 @@ fn resident_pages<R: Files + AllocGlobal>(rt: &R) -> Result<u64, Fail> {
 // Serves each command so many times, and each with an output that fails.
 fn serve_often<R>(rt: &R, long: &Long, times: u32) -> Result<(), Fail>
 where
-    R: AllocGlobal + Threads + Wait + Sync,
+    R: AllocGlobal + Threads + Wait + Sync + Eprint,
 {
     for _ in 0..times {
         for case in commands(long) {

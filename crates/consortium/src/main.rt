@@ -8,10 +8,9 @@ mod commands;
 mod serving;
 
 pub use commands::{Counts, perform};
-use serving::{Blanks, serve};
+use serving::{Blanks, Served, serve};
 use std::io::{Stderr, Stdout};
 use std::marker::Brand;
-use std::process::ExitCode;
 use std::sync::ledger::Blank;
 
 #[cfg(test)]
@@ -19,7 +18,7 @@ mod disk;
 #[cfg(test)]
 mod files_tests;
 
-fn main(rt: HostRuntime) -> ExitCode {
+fn main(rt: HostRuntime) -> Served {
     let blanks = Blanks {
         policy: Blank::new(1),
         second: Blank::new(1),

@@ -12,8 +12,8 @@ use program_words::ArgFault;
 use std::alloc::{AllocError, Global};
 use std::env;
 use std::env::Args;
-use std::io::{Stderr, Stdout, Write};
-use std::process::ExitCode;
+use std::io::{Eprint, Stderr, Stdout, Write};
+use std::process::{ExitCode, Termination};
 use std::rt::{Env, Files};
 use std::sync::Wait;
 use std::sync::ledger::{Blank, Ledger};
@@ -41,6 +41,19 @@ pub(crate) trait Complaints: Write + Drop {}
 
 impl Complaints for Stderr {}
 
+// The status of the command line that was served. It is not `Drop`, so whoever has one can but hand
+// it on: `main` ends with it, and with no status of its own.
+pub(crate) struct Served(ExitCode);
+
+impl Termination for Served {
+    fn report<R: Eprint>(self, _rt: &R) -> ExitCode
+        ensures { result ≡ self.0 }
+    {
+        let Served(code) = self;
+        code
+    }
+}
+
 // Does what the command line asks for, and gives the status.
 pub(crate) fn serve<R, F, W, V, P: Ledger, S: Ledger, B: Ledger, O: Ledger, E: Ledger>(
     rt: &R,
@@ -48,7 +61,7 @@ pub(crate) fn serve<R, F, W, V, P: Ledger, S: Ledger, B: Ledger, O: Ledger, E: L
     out: W,
     err: V,
     blanks: Blanks,
-) -> ExitCode
+) -> Served
 where
     R: AllocGlobal + Threads + Wait + Sync,
     F: Files + Env,
@@ -106,15 +119,15 @@ where
 }
 
 // The status of what was done; or the line of a fault, and its status.
-fn settle<E: Sink>(outcome: Result<u8, ArgFault>, err: &mut E) -> ExitCode
-    ensures done { IfOk outcome (λ status. exit_status result ≡ status) }
+fn settle<E: Sink>(outcome: Result<u8, ArgFault>, err: &mut E) -> Served
+    ensures done { IfOk outcome (λ status. exit_status result.0 ≡ status) }
     ensures told { let errs = used E.failures E.contents err.old err.new in
-        let status = exit_status result in
+        let status = exit_status result.0 in
         IfErr outcome (λ fault. EndsSo (λ e. e ≡ refusal_ending fault) errs status) }
 {
     match outcome {
-        Ok(status) => ExitCode::from(status),
-        Err(fault) => ExitCode::from(end(err, fault_ending(fault))),
+        Ok(status) => Served(ExitCode::from(status)),
+        Err(fault) => Served(ExitCode::from(end(err, fault_ending(fault)))),
     }
 }
 

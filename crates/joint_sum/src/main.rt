@@ -2,22 +2,22 @@
 //! process, and the audit of the book. `README.md` walks through it.
 #![tactic(auto)]
 
-ghost use Rattle.std.specs.Prelude.{◌≡◌, ◌≤◌, ◌++◌, [], IfOk, OnOk, IsErr, length, codes};
+ghost use Rattle.std.specs.Prelude.{◌≡◌, ◌≤◌, ◌++◌, [], IfOk, OnOk, length, codes};
 ghost use Rattle.std.specs.Prelude.{decimal};
 ghost use Rattle.std.specs.Prelude.{string_bytes, vec_len, vec_capacity};
 ghost use Rattle.std.specs.List.{All};
-ghost use Rattle.std.specs.Io.KnownBytes.{Appends};
 ghost use Rattle.run_model.specs.Books.{IsSound};
 
 mod firm;
+mod printed;
 
 use anyhow::{Result, bail};
 use audit_book::{Book, check_book};
 use firm::{Firm, play};
 use hall_core::Hall;
 use hall_turn::{Door, Passes};
+use printed::{Printed, print};
 use std::alloc::Global;
-use std::io::Write;
 use std::rt::{Env, Files};
 use std::sync::Wait;
 use std::thread::Threads;
@@ -191,21 +191,6 @@ fn text<R: Files + Env + AllocGlobal + Threads + Wait + Sync>(rt: &R) -> Result<
     }
 }
 
-// Writes the text, if there is one.
-fn print<W: Write>(out: &mut W, text: Result<Vec<u8>>) -> Result<()>
-    ensures fault { IsErr text → IsErr result }
-    ensures written { OnOk result
-        (IfOk text (λ t. Appends (W.contents out.old) (W.contents out.new) t.items)) }
-{
-    match text {
-        Ok(text) => {
-            out.write_all(&text)?;
-            Ok(())
-        }
-        Err(fault) => Err(fault),
-    }
-}
-
-fn main(rt: HostRuntime) -> Result<()> {
+fn main(rt: HostRuntime) -> Printed {
     print(&mut rt.stdout(), text(&rt))
 }

@@ -373,7 +373,7 @@ end 5
 ";
 
 // Whether auditing the book writes this line, and this one on standard error, with this status.
-fn audits_so(
+pub(crate) fn audits_so(
     rt: &impl AllocGlobal,
     policy: &str,
     book: &str,
@@ -489,7 +489,7 @@ fn devices_of_an_audit_fail(rt: HostRuntime) -> Result<(), Fail> {
 
 // Whether replaying the script writes these replies, this book, and this line on standard error,
 // with this status.
-fn keeps_so(
+pub(crate) fn keeps_so(
     rt: &impl AllocGlobal,
     policy: &str,
     script: &str,

@@ -9,8 +9,12 @@ mod endings;
 #[cfg(test)]
 mod hostile;
 #[cfg(test)]
+mod kinds;
+#[cfg(test)]
 mod limits;
 #[cfg(test)]
 mod memory;
 #[cfg(test)]
 mod runs;
+#[cfg(test)]
+mod texts;

@@ -1,7 +1,9 @@
-//! As many processes, datasets, elements, members and communicators as there can be.
+//! As many processes, datasets, elements, members and communicators as there can be, and a replay
+//! that goes on.
 
-use crate::endings::ends_so;
+use crate::endings::{audits_so, ends_so};
 use crate::runs::{ALONE, runs_so};
+use crate::texts::{Texts, begun, is_kept};
 use std::alloc::{AllocError, Global};
 use std::test::Fail;
 
@@ -45,7 +47,7 @@ fn as_many_processes_run_as_there_can_be(rt: HostRuntime) -> Result<(), Fail> {
 }
 
 /// So many classes of two datasets each, and two processes that are at home in the last two.
-fn pairs(alloc: Global, classes: u32, homes: [u32; 2]) -> Result<String, AllocError> {
+pub(crate) fn pairs(alloc: Global, classes: u32, homes: [u32; 2]) -> Result<String, AllocError> {
     let mut text = String::from_str(alloc, "version = 1\n")?;
     for class in 0..classes {
         let low = 2 * u64::from(class);
@@ -91,10 +93,11 @@ fn repeated(alloc: Global, word: &str, count: u32) -> Result<String, Fail> {
     Ok(text)
 }
 
-// Kinds to which one member gives 65,536 elements, and an element.
+// Kinds to which one member gives 65,536 elements, and an element. With the longest of them a line
+// has 1.4 MB.
 const WIDE: &[(&str, &str)] = &[
     ("allgather int8 65536", "1"),
-    ("gatherv 0 int64", "1"),
+    ("gatherv 0 int64", "-9223372036854775808"),
     ("allgatherv 2int", "1 0"),
 ];
 
@@ -198,34 +201,93 @@ fn groups_are_as_large_as_they_can_be(rt: HostRuntime) -> Result<(), Fail> {
     Ok(())
 }
 
-// Constructors where all communicators are made, and what each comes to. The first communicator is
-// a grid.
-const LATE: &[(&str, &str)] = &[
-    ("0 split 0 0", "noroom"),
-    ("0 create 0", "noroom"),
-    ("0 cart_create 1 0", "noroom"),
-    ("1 cart_sub 1", "noroom"),
-    ("0 split undefined 0", "null"),
-    ("0 create -", "null"),
-    ("0 dup", "noroom"),
+// Constructors where all communicators are made, the first of which is a grid: the communicator,
+// the kind with its fields, what it comes to, and the instance with its outcome as the book has
+// them.
+const LATE: &[(&str, &str, &str, &str)] = &[
+    ("0", "split 0 0", "noroom", "1023 noroom"),
+    ("0", "create 0", "noroom", "1024 noroom"),
+    ("0", "cart_create 1 0", "noroom", "1025 noroom"),
+    ("1", "cart_sub 1", "noroom", "0 noroom"),
+    ("0", "split undefined 0", "null", "1026 made 1024 0"),
+    ("0", "create -", "null", "1027 made 1024 0"),
+    ("0", "dup", "noroom", "1028 noroom"),
 ];
 
+// One constructor more: posted, and then taken.
+fn put_made(
+    texts: &mut Texts,
+    request: u32,
+    comm: &str,
+    call: &str,
+    reply: &str,
+    outcome: &str,
+) -> Result<(), AllocError> {
+    let Texts { script, said, book } = texts;
+    write!(script, "post 0 {comm} {call}\ntake 0 {request}\n")?;
+    write!(said, "posted {request}\n{reply}\n")?;
+    write!(
+        book,
+        "post 0 {comm} {call} gives 0 as none passed\nverdict {comm} {outcome}\n"
+    )
+}
+
 // A process makes communicators until there are 1,024 with the world.
-#[test]
-fn communicators_have_a_limit(rt: HostRuntime) -> Result<(), Fail> {
-    let mut script = String::from_str(rt.alloc(), "post 0 0 cart_create 1 0\ntake 0 0\n")?;
-    let mut said = String::from_str(rt.alloc(), "posted 0\ncomm 1 rank 0 size 1\n")?;
-    for comm in 2..1024u32 {
-        let request = comm - 1;
-        write!(script, "post 0 0 dup\ntake 0 {request}\n")?;
-        write!(said, "posted {request}\ncomm {comm} rank 0 size 1\n")?;
+fn put_communicators(alloc: Global, texts: &mut Texts) -> Result<(), AllocError> {
+    let mut call = "cart_create 1 0";
+    for request in 0..1023u32 {
+        let comm = request + 1;
+        let reply = format!(in alloc; "comm {comm} rank 0 size 1")?;
+        let outcome = format!(in alloc; "{request} made {comm} 1")?;
+        put_made(texts, request, "0", call, &reply, &outcome)?;
+        call = "dup";
     }
+    Ok(())
+}
+
+// It asks for more then.
+fn put_late(texts: &mut Texts) -> Result<(), AllocError> {
     let mut request = 1023u32;
-    for (call, reply) in LATE {
-        write!(script, "post 0 {call}\ntake 0 {request}\n")?;
-        write!(said, "posted {request}\n{reply}\n")?;
+    for (comm, call, reply, outcome) in LATE {
+        put_made(texts, request, comm, call, reply, outcome)?;
         request = request.saturating_add(1);
     }
-    assert!(&rt; ends_so(&rt, ALONE, script.as_bytes(), &said, "", 0));
+    Ok(())
+}
+
+#[test]
+fn communicators_have_a_limit(rt: HostRuntime) -> Result<(), Fail> {
+    let mut texts = begun(rt.alloc())?;
+    put_communicators(rt.alloc(), &mut texts)?;
+    put_late(&mut texts)?;
+    texts.book.push_str("end 2060\n")?;
+    assert!(&rt; is_kept(&rt, ALONE, &texts));
+    assert!(&rt; audits_so(&rt, ALONE, &texts.book, "sound 2060\n", "", 0));
+    Ok(())
+}
+
+// So many barriers of one process, each taken before the next is posted.
+fn put_barriers(texts: &mut Texts, barriers: u64) -> Result<(), AllocError> {
+    let Texts { script, said, book } = texts;
+    for k in 0..barriers {
+        write!(script, "post 0 0 barrier\ntake 0 {k}\n")?;
+        write!(said, "posted {k}\ndelivered none\n")?;
+        write!(
+            book,
+            "post 0 0 barrier gives 0 as none passed\nverdict 0 {k} granted\n"
+        )?;
+    }
+    Ok(())
+}
+
+// The instances of a communicator and the entries of a book have no limit but memory: here are more
+// than 16 bits can number. One is open at a time.
+#[test]
+fn a_replay_goes_on(rt: HostRuntime) -> Result<(), Fail> {
+    let mut texts = begun(rt.alloc())?;
+    put_barriers(&mut texts, 70000)?;
+    texts.book.push_str("end 140000\n")?;
+    assert!(&rt; is_kept(&rt, ALONE, &texts));
+    assert!(&rt; audits_so(&rt, ALONE, &texts.book, "sound 140000\n", "", 0));
     Ok(())
 }

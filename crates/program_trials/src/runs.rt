@@ -237,6 +237,12 @@ refused NoSuchRequest
 rank 2 p2
 ",
     ),
+    // no number of a communicator is one too many to be asked for
+    (
+        ALONE,
+        "post 0 4294967295 barrier\npost 0 1024 barrier\npost 0 0 barrier\ntake 0 0\n",
+        "rank 0 p0\nrefused NoSuchComm\nrefused NoSuchComm\nposted 0\ndelivered none\n",
+    ),
 ];
 
 // What is not run: the policy and the script, the line on standard error, and the status.

@@ -1,10 +1,11 @@
 //! Scripts that are replayed over devices in memory.
 
 use crate::books::expect_texts;
-use crate::scripts::wall;
+use crate::scripts::{FAULTS, fault_of_script, wall};
 use hall_script::*;
 use std::process::Abort;
 use wall_labels::memory::{ExpectingSink, Fuse, MemorySource};
+use wall_policy::Policy;
 
 // The first of the worked examples, with comments, empty lines, ends of two kinds, and a last line
 // without one.
@@ -120,6 +121,41 @@ fn scripts_are_replayed(rt: HostRuntime) {
         };
         assert!(&rt; is_replayed(&rt, &case));
     }
+}
+
+// Whether a script's line of this text is the text: it is neither passed over nor loses a CR.
+fn is_taken_whole(line: &str) -> bool {
+    !(line.is_empty() || line.starts_with('#') || line.ends_with('\r'))
+}
+
+// The script of this line alone has this fault, where it is replayed and where it is split.
+fn expect_fault(rt: &(impl AllocGlobal + Abort), policy: &Policy, line: &str, fault: LineFault) {
+    let script = line.as_bytes();
+    let fault = Some(ScriptFault::Line(1, fault));
+    let case = Case {
+        script,
+        replies: b"",
+        reads: Fuse::Whole,
+        writes: Fuse::Whole,
+        fault,
+    };
+    assert!(rt; is_replayed(rt, &case), "{line}");
+    assert!(rt;
+        fault_of_script(rt.alloc(), policy, script) == fault,
+        "{line}"
+    );
+}
+
+// A script ends with the fault that its line has by itself, and with no other in its place.
+#[test]
+fn scripts_tell_each_fault_of_a_line(rt: HostRuntime) {
+    let policy = wall(&rt);
+    for (line, fault) in FAULTS {
+        if is_taken_whole(line) {
+            expect_fault(&rt, &policy, line, *fault);
+        }
+    }
+    drop(policy);
 }
 
 // When the reader fails, when the writer, and what is told.

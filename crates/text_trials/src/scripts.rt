@@ -15,6 +15,7 @@ use mpi_elems::{Buffer, ElemType};
 use run_model::{Act, Block, Call, Delivery, Integers, Posting, Refusal, Reply, Rule};
 use std::alloc::{AllocError, Global};
 use std::process::Abort;
+use std::test::Fail;
 use wall_labels::memory::{Fuse, MemorySource};
 use wall_labels::{DatasetId, Label, NoMemory, ProcessId};
 use wall_policy::{Policy, read_policy};
@@ -26,7 +27,8 @@ pub(crate) fn wall(rt: &(impl AllocGlobal + Abort)) -> Policy {
     }
 }
 
-const FAULTS: &[(&str, LineFault)] = &[
+// Lines that are no call, and their first fault.
+pub(crate) const FAULTS: &[(&str, LineFault)] = &[
     ("", LineFault::BadShape),
     ("pst 0", LineFault::BadVerb),
     ("pst  0", LineFault::BadVerb),
@@ -282,6 +284,33 @@ fn deliveries_have_their_lines(rt: HostRuntime) {
     );
 }
 
+// A delivery of as many blocks as there can be members: of the numbers from 0 on, one in each.
+fn wide_delivery(rt: &(impl AllocGlobal + Abort)) -> Delivery {
+    let mut blocks = Vec::new(rt.alloc());
+    for number in 0..256i128 {
+        let block = block(rt, ElemType::Int16, &[number]);
+        assert!(rt; blocks.push(block).is_ok(), "no memory");
+    }
+    Delivery::from(blocks)
+}
+
+// Its line.
+fn wide_line(alloc: Global) -> Result<String, AllocError> {
+    let mut line = String::from_str(alloc, ">delivered")?;
+    for number in 0..256u32 {
+        write!(line, " [{number}]")?;
+    }
+    line.push_str("\n")?;
+    Ok(line)
+}
+
+#[test]
+fn a_delivery_of_256_blocks_has_its_line(rt: HostRuntime) -> Result<(), Fail> {
+    let line = wide_line(rt.alloc())?;
+    expect_line(&rt, Reply::Delivered(wide_delivery(&rt)), &line);
+    Ok(())
+}
+
 #[test]
 fn replies_have_their_lines(rt: HostRuntime) {
     expect_line(
@@ -391,6 +420,7 @@ const LONG: [u8; 1024] = [b'x'; 1024];
 const DEVICES: &[(&[u8], usize, Fuse, Option<DeviceFault>)] = &[
     (b"abcde", 4, Fuse::Whole, Some(DeviceFault::Read)),
     (b"abcde", 5, Fuse::Whole, None),
+    (b"abcde", 16777216, Fuse::Whole, None),
     (b"abcde", 5, Fuse::After(0), Some(DeviceFault::Read)),
     (b"abcde", 5, Fuse::After(1), Some(DeviceFault::Read)),
     (b"abcde", 5, Fuse::After(2), None),
@@ -399,6 +429,23 @@ const DEVICES: &[(&[u8], usize, Fuse, Option<DeviceFault>)] = &[
     (&LONG, 1024, Fuse::After(2), None),
 ];
 
+// The fault of a device, none where it is read to its end. Room is taken for what it gives, and not
+// for the limit.
+fn fault_of_device(
+    rt: &(impl AllocGlobal + Abort),
+    source: &mut MemorySource,
+    limit: usize,
+) -> Option<DeviceFault> {
+    match read_device(rt.alloc(), source, limit) {
+        Ok(bytes) => {
+            let most = bytes.len().saturating_mul(2).saturating_add(64);
+            assert!(rt; bytes.capacity() <= most, "{limit}");
+            None
+        }
+        Err(fault) => Some(fault),
+    }
+}
+
 #[test]
 fn devices_are_read_to_their_limit(rt: HostRuntime) {
     for (bytes, limit, fuse, fault) in DEVICES {
@@ -406,7 +453,7 @@ fn devices_are_read_to_their_limit(rt: HostRuntime) {
             rest: *bytes,
             fuse: *fuse,
         };
-        let found = read_device(rt.alloc(), &mut source, *limit).err();
+        let found = fault_of_device(&rt, &mut source, *limit);
         assert_eq!(&rt; found, *fault, "{limit}");
     }
 }
@@ -460,7 +507,18 @@ fn are_put_as(alloc: Global, policy: &Policy, scripts: &Scripts, acts: &str) -> 
     is_put && text.as_slice() == acts.as_bytes()
 }
 
-// The scripts have these acts, for so many processes.
+// The most room that the acts of one process have.
+fn most_room(rows: Vec<Acts>) -> usize {
+    let mut most = 0;
+    for acts in rows {
+        let acts = acts.into_vec();
+        most = most.max(acts.capacity());
+        drop(acts);
+    }
+    most
+}
+
+// The scripts have these acts, for so many processes, and each room for a few.
 fn expect_scripts(
     rt: &(impl AllocGlobal + Abort),
     policy: &Policy,
@@ -473,7 +531,7 @@ fn expect_scripts(
             assert!(rt; are_put_as(rt.alloc(), policy, &scripts, acts));
             let rows = scripts.into_vec();
             assert!(rt; rows.len() == processes);
-            drop(rows);
+            assert!(rt; most_room(rows) <= 16);
         }
         Err(_) => panic!(rt; "the script is not split"),
     }
@@ -487,7 +545,11 @@ fn scripts_are_split_by_processes(rt: HostRuntime) {
 }
 
 // The fault of a script, none where it is split.
-fn fault_of_script(alloc: Global, policy: &Policy, script: &[u8]) -> Option<ScriptFault> {
+pub(crate) fn fault_of_script(
+    alloc: Global,
+    policy: &Policy,
+    script: &[u8],
+) -> Option<ScriptFault> {
     match split_script(alloc, policy, script) {
         Ok(scripts) => {
             drop(scripts);

@@ -4,7 +4,9 @@ use crate::books::expect_texts;
 use coll_routes::{Own, Signature};
 use coll_text::*;
 use mpi_elems::{Buffer, ElemType};
+use std::alloc::{AllocError, Global};
 use std::process::Abort;
+use std::test::Fail;
 
 // Whether the line is read whole, and written again as it was.
 fn is_spelled(rt: &(impl AllocGlobal + Abort), line: &str) -> bool {
@@ -87,6 +89,39 @@ fn statements_are_read_and_written(rt: HostRuntime) {
     for line in STATEMENTS {
         assert!(rt; is_spelled(&rt, line), "{line}");
     }
+}
+
+// Statements up to a list, and the most that a number of the list is.
+const LONG: &[(&str, u32)] = &[
+    ("create ", 255),
+    ("scatterv 0 int32 ", 255),
+    ("alltoallv uint16 ", 255),
+    ("reduce_scatter sum int8 ", 1),
+    ("cart_create - ", 1),
+    ("cart_sub ", 1),
+];
+
+// The statement with a list of as many numbers as there can be members: those from 0 on, up to the
+// most.
+fn listing(alloc: Global, front: &str, most: u32) -> Result<String, AllocError> {
+    let mut line = String::from_str(alloc, front)?;
+    let mut comma = "";
+    for number in 0..256u32 {
+        let number = number.min(most);
+        write!(line, "{comma}{number}")?;
+        comma = ",";
+    }
+    Ok(line)
+}
+
+// Ranks, counts and flags, as many of each as a communicator has members at most.
+#[test]
+fn long_lists_are_read_and_written(rt: HostRuntime) -> Result<(), Fail> {
+    for (front, most) in LONG {
+        let line = listing(rt.alloc(), front, *most)?;
+        assert!(&rt; is_spelled(&rt, &line), "{front}");
+    }
+    Ok(())
 }
 
 const FAULTS: &[(&str, LineFault)] = &[
