@@ -2,7 +2,6 @@ use Rattle.std.proofs.Common.{sym, subst}
 use Rattle.run_model.specs.declared.call.Act.TheVariants.{Take as ToTake}
 use Rattle.run_model.specs.declared.reply.Reply.{Reply}
 use Rattle.run_model.specs.Runs.{entry}
-use Rattle.hall_core.specs.Claims.{claim_reply}
 use Rattle.hall_turn.specs.Answers.{Enters}
 use Rattle.rank_run.proofs.waiting.take_once.Goals as goal
 
