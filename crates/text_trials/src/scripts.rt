@@ -287,8 +287,8 @@ fn deliveries_have_their_lines(rt: HostRuntime) {
 // A delivery of as many blocks as there can be members: of the numbers from 0 on, one in each.
 fn wide_delivery(rt: &(impl AllocGlobal + Abort)) -> Delivery {
     let mut blocks = Vec::new(rt.alloc());
-    for number in 0..256i128 {
-        let block = block(rt, ElemType::Int16, &[number]);
+    for number in 0..256u32 {
+        let block = block(rt, ElemType::Int16, &[i128::from(number)]);
         assert!(rt; blocks.push(block).is_ok(), "no memory");
     }
     Delivery::from(blocks)
