@@ -2,6 +2,7 @@
 ghost use Rattle.std.specs.Prelude.{◌≡◌};
 
 use hall_core::NoMemory;
+use rank_stage::GivenUp;
 use std::alloc::AllocError;
 use thiserror::Error;
 
@@ -43,9 +44,9 @@ impl From<NoMemory> for RunFault {
     }
 }
 
-/// A thread was refused.
+/// A thread was refused, and the stage was given up, so that those which had started go home.
 #[derive(Drop)]
-pub(crate) struct ThreadRefused;
+pub(crate) struct ThreadRefused(pub(crate) GivenUp);
 
 impl From<ThreadRefused> for RunFault {
     ghost use Rattle.rank_run.specs.declared.fault.RunFault.TheVariants.{NoThread};

@@ -1,6 +1,6 @@
 //! All scripts at the same time.
 ghost use Rattle.std.specs.Prelude.{◌≡◌, ◌≢◌, ◌↔◌, [], ◌≤◌, IfOk, IfErr, length, vec_len};
-ghost use Rattle.std.specs.Prelude.{vec_capacity, vec_items, map, true, Some};
+ghost use Rattle.std.specs.Prelude.{vec_capacity, vec_items, map, true, false, Some};
 ghost use Rattle.std.specs.List.{All};
 ghost use Rattle.run_model.specs.Comms.{processes};
 ghost use Rattle.rank_run.specs.declared.fault.RunFault.TheVariants.{BadScripts, Exhausted};
@@ -24,7 +24,7 @@ use crate::requests::Requests;
 use hall_core::{Hall, NoMemory, Reply};
 use hall_turn::{Door, Passes};
 use mpi_comm::COMMUNICATOR_LIMIT;
-use rank_stage::Stage;
+use rank_stage::{Begun, Stage};
 use run_model::{Acts, Scripts};
 use std::alloc::Global;
 use std::snapshot::Snapshot;
@@ -53,7 +53,14 @@ impl Promise<Played> for Playing {
     ghost kept_by = { λ p r. HasPlayed PATIENCE p.0.value r };
 }
 
-// What the threads gave back.
+// What the threads gave back that were told to begin. Who has it did tell them.
+#[derive(Drop)]
+struct Home {
+    begun: Begun,
+    played: Vec<Played>,
+}
+
+// The same, sorted.
 #[derive(Drop)]
 struct Ended {
     passes: Passes,
@@ -155,26 +162,29 @@ fn sort_out(ended: Vec<Played>, mut passes: Passes, mut replies: Vec<Vec<Reply>>
 }
 
 // The ranks begin if all have their threads, or go home. All have ended, and are joined, when it
-// returns.
+// returns. Neither answer can be given where the stage was not told: none would come home then.
 fn end_all<R: Threads>(
     rt: &R,
     stage: &Stage,
     all_started: bool,
     handles: Vec<PromisedHandle<Played, Playing>>,
     ended: Vec<Played>,
-) -> Result<Vec<Played>, ThreadRefused>
+) -> Result<Home, ThreadRefused>
     requires { (ended.items ≡ []) × (vec_len handles ≤ vec_capacity ended) }
-    ensures played { IfOk result (λ v. AllPlayed PATIENCE (handed handles.items) v.items) }
-    ensures len { IfOk result (λ v. vec_len v ≡ vec_len handles) }
+    ensures played { IfOk result
+        (λ home. AllPlayed PATIENCE (handed handles.items) home.played.items) }
+    ensures len { IfOk result (λ home. vec_len home.played ≡ vec_len handles) }
     ensures refused { IfOk result (λ _. all_started ≡ true) }
+    ensures started { IfErr result (λ _. all_started ≡ false) }
 {
-    let begin = stage.release(all_started);
-    let ended = join_all(rt, handles, ended);
-    if begin {
-        Ok(ended)
-    } else {
-        drop(ended);
-        Err(ThreadRefused)
+    let told = stage.release(all_started);
+    let played = join_all(rt, handles, ended);
+    match told {
+        Ok(begun) => Ok(Home { begun, played }),
+        Err(given_up) => {
+            drop(played);
+            Err(ThreadRefused(given_up))
+        }
     }
 }
 
@@ -186,23 +196,23 @@ fn run_each<R: Threads + Wait + Sync, G: Gate + Sync>(
     setting: &Setting<G>,
     mut handles: Vec<PromisedHandle<Played, Playing>>,
     ended: Vec<Played>,
-) -> Result<Vec<Played>, ThreadRefused>
+) -> Result<Home, ThreadRefused>
     requires fresh { All (IsFresh door.now) jobs.items }
     requires handles { (handles.items ≡ []) × (vec_len jobs ≤ vec_capacity handles) }
     requires ended { (ended.items ≡ []) × (vec_len jobs ≤ vec_capacity ended) }
-    ensures played { IfOk result (λ v. AllPlayed PATIENCE jobs.items v.items) }
-    ensures len { IfOk result (λ v. vec_len v ≡ vec_len jobs) }
+    ensures played { IfOk result (λ home. AllPlayed PATIENCE jobs.items home.played.items) }
+    ensures len { IfOk result (λ home. vec_len home.played ≡ vec_len jobs) }
 {
     let Setting { gate, stage } = *setting;
     thread::scope(
         thread::scope_env(),
         rt,
-        move |scope| -> Result<Vec<Played>, ThreadRefused>
+        move |scope| -> Result<Home, ThreadRefused>
             requires fresh { All (IsFresh door.now) jobs.items }
             requires handles { (handles.items ≡ []) × (vec_len jobs ≤ vec_capacity handles) }
             requires ended { (ended.items ≡ []) × (vec_len jobs ≤ vec_capacity ended) }
-            ensures played { IfOk result (λ v. AllPlayed PATIENCE jobs.items v.items) }
-            ensures len { IfOk result (λ v. vec_len v ≡ vec_len jobs) }
+            ensures played { IfOk result (λ home. AllPlayed PATIENCE jobs.items home.played.items) }
+            ensures len { IfOk result (λ home. vec_len home.played ≡ vec_len jobs) }
         {
             for job in jobs {
                 let promise = Playing(Snapshot::of(&job));
@@ -245,8 +255,8 @@ fn run_jobs<R: Threads + Wait + Sync, G: Gate + Sync>(
         gate,
         stage: &stage,
     };
-    let ended = run_each(rt, door, jobs, &setting, handles, ended)?;
-    Ok(sort_out(ended, passes, replies))
+    let Home { begun: _, played } = run_each(rt, door, jobs, &setting, handles, ended)?;
+    Ok(sort_out(played, passes, replies))
 }
 
 // A door, and a job for each process there.

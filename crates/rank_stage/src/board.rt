@@ -13,6 +13,7 @@ ghost use Rattle.rank_stage.specs.Boards.{HasWoken, IsLastAwake, OthersStay, Ope
 ghost use Rattle.rank_stage.specs.Boards.{IsNextInLine, HasBeenWoken};
 
 use std::alloc::{AllocError, Global};
+use std::thread::Parker;
 
 /// An instance: the communicator, and how many there were before it.
 #[derive(Clone, Copy)]
@@ -443,16 +444,23 @@ impl Board {
     }
 }
 
-/// Whom to call. It has no `Drop`, so whoever gets one calls that rank by [`Call::rank`].
+/// Whom to call. It has no `Drop`, so whoever gets one calls that rank by [`Call::ring`].
 pub(crate) struct Call(Option<usize>);
 
 impl Call {
-    /// The rank to call, if there is one.
-    pub(crate) fn rank(self) -> Option<usize>
-        ensures { result ≡ self.0 }
-    {
+    /// Rings the bell of the rank, if there is one to call. The lock is let go before, so that the
+    /// rank does not wait for it.
+    pub(crate) fn ring(self, bells: &[Parker]) {
         let Call(rank) = self;
-        rank
+        wake(bells, rank);
+    }
+}
+
+/// Rings the bell of the rank, if there is one.
+pub(crate) fn wake(bells: &[Parker], rank: Option<usize>) {
+    let Some(rank) = rank else { return };
+    if let Some(bell) = bells.get(rank) {
+        bell.unpark();
     }
 }
 
@@ -472,14 +480,14 @@ pub(crate) struct Standing {
 }
 
 impl Standing {
-    /// All ranks stand in line, but for the first, which plays and is to be called.
+    /// All ranks stand in line, but for the first, which plays and is to be called at the start.
     pub(crate) fn new(
         alloc: Global,
         ranks: usize,
         communicators: usize,
-    ) -> Result<(Standing, Call), AllocError>
+    ) -> Result<(Standing, Option<usize>), AllocError>
         ensures opens { IfOk result (λ opened. Opens opened.0.board ranks communicators) }
-        ensures called { IfOk result (λ opened. opened.1.0 ≡ opened.0.board.player) }
+        ensures called { IfOk result (λ opened. opened.1 ≡ opened.0.board.player) }
     {
         let places = places_in_line(alloc, ranks)?;
         let settled = no_counts(alloc, communicators)?;
@@ -490,7 +498,7 @@ impl Standing {
             next: 0,
         };
         let called = board.cast();
-        Ok((Standing { board }, Call(called)))
+        Ok((Standing { board }, called))
     }
 
     /// The rank, if it plays, steps aside: it makes no call for a while.
@@ -533,6 +541,14 @@ impl Standing {
             Lying::Stays => Rest::Stays,
             Lying::Sleeps(called) => Rest::Sleeps(Call(called)),
         }
+    }
+
+    /// Whether the rank has the place.
+    pub(crate) fn plays(&self, rank: usize) -> bool
+        ensures yes { result ≡ true → place_of self.now.board rank ≡ Plays }
+        ensures no { result ≡ false → place_of self.now.board rank ≢ Plays }
+    {
+        self.board.plays(rank)
     }
 
     /// Whether the instance has settled.

@@ -7,4 +7,4 @@ mod board;
 mod stage;
 
 pub use board::Instance;
-pub use stage::{Aside, Role, Stage};
+pub use stage::{Aside, Begun, GivenUp, Role, Stage};

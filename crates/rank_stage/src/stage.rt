@@ -15,10 +15,12 @@
 //!   board is orderly each time that it is let go. The hall itself may have settled an instance
 //!   before its poster raises the count; that poster is awake until it has. The counts beside the
 //!   board are raised after the lock: who reads them too early asks the board.
-//! - Whoever changes the board gets a `Call`, which cannot be let go by itself: what opens it gives
-//!   the rank that has come to play, and that rank's bell is rung there. A bell is std's parker and
-//!   nothing beside it, so there is no order to keep: one that is rung before its rank waits for it
-//!   stays rung, and the wait ends by taking that alone.
+//! - Whoever changes the board gets a `Call`, which cannot be let go by itself: what opens it rings
+//!   the bell of the rank that has come to play. A bell is std's parker and nothing beside it, so
+//!   there is no order to keep: one that is rung before its rank waits for it stays rung, and the
+//!   wait ends by taking that.
+//! - A rank that wakes asks the board whether it plays, and waits on if it does not. It plays there
+//!   before its bell is rung, so it may be woken too often, and nothing is lost.
 //! - A rank that has begun has a `Role`, and one that has stepped aside an `Aside`: neither can be
 //!   let go, so each rank that begins ends, and each that steps aside comes back.
 //! - Where every other rank has ended or sleeps, a rank does not sleep: it makes its tries one
@@ -32,17 +34,19 @@
 //! - It waits for its bell, which nobody rings before the start: the first has its place on the
 //!   board but is not called yet, and the gate is not asked yet, so it holds nobody.
 //! - The function that starts the threads waits for nobody before it has told the ranks to begin,
-//!   or to give up: it joins them afterwards.
+//!   or to give up: it joins them afterwards. What it is to answer tells which of the two it told
+//!   them, by a value that only `Stage::release` makes (`Begun`, `GivenUp`).
 //! - To begin, the first to play is called, and the others are called by those before them; where
 //!   all play, each bell is rung. To give up, that is noted before each bell is rung, whether its
-//!   rank has a thread or not. A rank that wakes looks at the note, and goes home if it is there.
+//!   rank has a thread or not. A rank that wakes looks at the note, and goes home if it is there; else
+//!   it begins if it plays, or if all do, and else waits on.
 
-ghost use Rattle.std.specs.Prelude.{◌≡◌};
+ghost use Rattle.std.specs.Prelude.{◌≡◌, IfOk, IfErr, true, false};
 
-use crate::board::{Call, Instance, Rest, Standing};
+use crate::board::{Instance, Rest, Standing, wake};
 use std::alloc::{AllocError, Global};
 use std::sync::atomic::{AtomicBool, AtomicU64, Ordering};
-use std::sync::{Mutex, Wait};
+use std::sync::{Mutex, MutexGuard, Wait};
 use std::thread;
 use std::thread::Parker;
 
@@ -71,6 +75,16 @@ pub struct Stage {
     // No rank begins.
     given_up: AtomicBool,
 }
+
+/// The ranks of a stage were told to begin. Only [`Stage::release`] makes one, so who has it knows
+/// that no rank waits for the start any more.
+#[derive(Drop)]
+pub struct Begun(());
+
+/// A stage was given up. Only [`Stage::release`] makes one, so who has it knows that each rank
+/// which waits for the start, or comes to wait for it, goes home.
+#[derive(Drop)]
+pub struct GivenUp(());
 
 // So many bells, which nobody has rung.
 fn silent_bells(alloc: Global, ranks: usize) -> Result<Vec<Parker>, AllocError> {
@@ -107,27 +121,23 @@ impl Stage {
             settled,
             bells,
             open,
-            first: first.rank(),
+            first,
             given_up: AtomicBool::new(false),
         })
     }
 
-    fn wait<R: Wait>(&self, rt: &R, rank: usize) {
-        if let Some(bell) = self.bells.get(rank) {
+    // Waits until the rank plays, and gives the board as it lies then. A wait for the bell that ends
+    // too early is begun again. None if there is no such rank.
+    fn await_place<'s, R: Wait>(&'s self, rt: &R, rank: usize) -> Option<MutexGuard<'s, Standing>> {
+        let bell = self.bells.get(rank)?;
+        for _ in rt.forever() {
             bell.park(rt);
+            let standing = self.standing.lock(rt);
+            if standing.plays(rank) {
+                return Some(standing);
+            }
         }
-    }
-
-    // No lock is held, so that the rank does not wait for it.
-    fn ring(&self, call: Call) {
-        self.wake(call.rank());
-    }
-
-    fn wake(&self, rank: Option<usize>) {
-        let Some(rank) = rank else { return };
-        if let Some(bell) = self.bells.get(rank) {
-            bell.unpark();
-        }
+        unreachable!()
     }
 
     fn wake_all(&self) {
@@ -136,30 +146,51 @@ impl Stage {
         }
     }
 
-    /// If all threads have started, the ranks begin; if one was refused, the run is given up, and
-    /// no rank begins. Gives which of the two. Comes before any thread is joined, which waits for
-    /// this.
-    pub fn release(&self, all_started: bool) -> bool
-        ensures { result ≡ all_started }
-    {
-        if !all_started {
-            self.given_up.store(true, Ordering::SeqCst);
-            self.wake_all();
-        } else if self.open {
+    fn begin_all(&self) -> Begun {
+        if self.open {
             self.wake_all();
         } else {
-            self.wake(self.first);
+            wake(self.bells.as_slice(), self.first);
         }
-        all_started
+        Begun(())
     }
 
-    /// The rank begins, as soon as it may. None if the run was given up.
-    pub fn begin<R: Wait>(&self, rt: &R, rank: usize) -> Option<Role> {
-        self.wait(rt, rank);
-        if self.given_up.load(Ordering::SeqCst) {
-            return None;
+    fn give_up(&self) -> GivenUp {
+        self.given_up.store(true, Ordering::SeqCst);
+        self.wake_all();
+        GivenUp(())
+    }
+
+    /// If all threads have started, the ranks begin; if one was refused, the run is given up, and
+    /// no rank begins. Comes before any thread is joined, which waits for this.
+    pub fn release(&self, all_started: bool) -> Result<Begun, GivenUp>
+        ensures begun { IfOk result (λ _. all_started ≡ true) }
+        ensures given_up { IfErr result (λ _. all_started ≡ false) }
+    {
+        if all_started {
+            Ok(self.begin_all())
+        } else {
+            Err(self.give_up())
         }
-        Some(Role { rank })
+    }
+
+    fn may_play<R: Wait>(&self, rt: &R, rank: usize) -> bool {
+        self.open || self.standing.lock(rt).plays(rank)
+    }
+
+    /// The rank begins, as soon as it may. None if the run was given up, or has no such rank.
+    pub fn begin<R: Wait>(&self, rt: &R, rank: usize) -> Option<Role> {
+        let bell = self.bells.get(rank)?;
+        for _ in rt.forever() {
+            bell.park(rt);
+            if self.given_up.load(Ordering::SeqCst) {
+                return None;
+            }
+            if self.may_play(rt, rank) {
+                return Some(Role { rank });
+            }
+        }
+        unreachable!()
     }
 
     /// The rank has ended.
@@ -168,7 +199,7 @@ impl Stage {
         let mut standing = self.standing.lock(rt);
         let call = standing.end(rank);
         drop(standing);
-        self.ring(call);
+        call.ring(self.bells.as_slice());
     }
 
     /// The rank makes no call for a while.
@@ -180,7 +211,7 @@ impl Stage {
         let mut standing = self.standing.lock(rt);
         let call = standing.step_aside(rank);
         drop(standing);
-        self.ring(call);
+        call.ring(self.bells.as_slice());
         Aside { rank }
     }
 
@@ -194,7 +225,7 @@ impl Stage {
         let plays = standing.step_back(rank);
         drop(standing);
         if !plays {
-            self.wait(rt, rank);
+            drop(self.await_place(rt, rank));
         }
     }
 
@@ -204,7 +235,7 @@ impl Stage {
             let mut standing = self.standing.lock(rt);
             let call = standing.settle(comm);
             drop(standing);
-            self.ring(call);
+            call.ring(self.bells.as_slice());
         }
         if let Some(count) = self.settled.get(comm as usize) {
             count.fetch_add(1, Ordering::SeqCst);
@@ -235,14 +266,12 @@ impl Stage {
             Rest::Stays => standing.has_settled(it),
             Rest::Sleeps(call) => {
                 drop(standing);
-                self.ring(call);
-                self.wait(rt, rank);
-                self.has_settled(rt, it)
+                call.ring(self.bells.as_slice());
+                match self.await_place(rt, rank) {
+                    Some(standing) => standing.has_settled(it),
+                    None => false,
+                }
             }
         }
-    }
-
-    fn has_settled<R: Wait>(&self, rt: &R, it: Instance) -> bool {
-        self.standing.lock(rt).has_settled(it)
     }
 }

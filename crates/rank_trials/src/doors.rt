@@ -14,6 +14,7 @@ use hall_core::{Act, Call, Hall, Posting, Refusal, Reply};
 use hall_turn::{Answer, Claim, Claimed, CloseFault, Door, Pass, Passes, Unclosed, finish};
 use mpi_elems::{Buffer, ElemType};
 use std::alloc::{AllocError, Global};
+use std::fmt::Write;
 use std::fs;
 use std::process::Abort;
 use std::rt::Files;
@@ -486,22 +487,26 @@ fn resident_pages<R: Files + AllocGlobal>(rt: &R) -> Result<u64, Fail> {
     }
 }
 
-/// A door under a copy of the policy is opened and let go, with its passes.
-fn open_once<R: Abort>(rt: &R, alloc: Global, policy: &Policy) {
+/// A door under a copy of the policy is opened and let go with its passes, and another is closed.
+fn open_two<R: Abort>(rt: &R, alloc: Global, policy: &Policy) {
     let copy = policy.copy(alloc).expect(rt, "the policy is not copied");
     let (door, passes) = open(rt, alloc, copy);
     drop(passes);
     drop(door);
+    let copy = policy.copy(alloc).expect(rt, "the policy is not copied");
+    let (door, passes) = open(rt, alloc, copy);
+    let hall = close(rt, door, passes);
+    drop(hall);
 }
 
 /// A tool that looks for uses of what was let go keeps up to so many bytes of it from use.
 const KEPT: usize = 1 << 28;
 
-/// A hundred doors, one after another. So much room at the end, which nothing is written to, takes
+/// Two hundred doors, one after another. So much room at the end, which nothing is written to, takes
 /// what such a tool has kept of them out of its hands.
-fn open_hundred<R: Abort>(rt: &R, alloc: Global, policy: &Policy) {
+fn open_two_hundred<R: Abort>(rt: &R, alloc: Global, policy: &Policy) {
     for _ in 0..100 {
-        open_once(rt, alloc, policy);
+        open_two(rt, alloc, policy);
     }
     let room: Result<Vec<u8>, AllocError> = Vec::with_capacity(alloc, KEPT);
     drop(room);
@@ -509,12 +514,12 @@ fn open_hundred<R: Abort>(rt: &R, alloc: Global, policy: &Policy) {
 
 fn open_hundreds<R: Abort>(rt: &R, alloc: Global, policy: &Policy, hundreds: u32) {
     for _ in 0..hundreds {
-        open_hundred(rt, alloc, policy);
+        open_two_hundred(rt, alloc, policy);
     }
 }
 
-/// A thousand doors more take no more memory, but for some pages that the allocator keeps. A hall
-/// that was not let go would keep eight pages at least: it has 256 rows of 136 bytes.
+/// Two thousand doors more take no more memory, but for some pages that the allocator keeps. Of a
+/// door of 256 processes each list that has a place for each of them is a page or more.
 fn keep_no_pages<R: Files + AllocGlobal + Abort>(rt: &R, policy: &Policy) -> Result<(), Fail> {
     open_hundreds(rt, rt.alloc(), policy, 2);
     let before = resident_pages(rt)?;
@@ -527,10 +532,21 @@ fn keep_no_pages<R: Files + AllocGlobal + Abort>(rt: &R, policy: &Policy) -> Res
     Ok(())
 }
 
-/// A door that is let go, with its passes, takes its hall with it.
+/// The text of a policy of as many processes as there can be, each without a home.
+fn crowd(alloc: Global) -> Result<String, AllocError> {
+    let mut text = String::from_str(alloc, "version = 1\n")?;
+    for process in 0..256u32 {
+        write!(text, "[[process]]\nname = \"p{process}\"\n").map_err(|_| AllocError)?;
+    }
+    Ok(text)
+}
+
+/// A door that is let go, with its passes, takes its hall with it; one that is closed leaves its
+/// hall alone, which takes all with it that it has.
 #[test]
 fn doors_are_let_go(rt: HostRuntime) -> Result<(), Fail> {
-    let policy = wall(&rt, rt.alloc(), RIVALS);
+    let text = crowd(rt.alloc())?;
+    let policy = wall(&rt, rt.alloc(), text.as_str());
     let kept = keep_no_pages(&rt, &policy);
     drop(policy);
     kept

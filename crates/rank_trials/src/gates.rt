@@ -251,7 +251,13 @@ impl Gate for Alone {
 }
 
 /// A number of a process for all members of a communicator, as alpha.
-fn number<R: Abort>(rt: &R, alloc: Global, policy: &Policy, process: u32, comm: u32) -> Posting
+pub(crate) fn number<R: Abort>(
+    rt: &R,
+    alloc: Global,
+    policy: &Policy,
+    process: u32,
+    comm: u32,
+) -> Posting
     ensures { IsKnownLabel policy.now result.label }
 {
     let number = process as i128 + 1;

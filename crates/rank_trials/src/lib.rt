@@ -9,6 +9,8 @@ mod doors;
 #[cfg(test)]
 mod gates;
 #[cfg(test)]
+mod heard;
+#[cfg(test)]
 mod outcomes;
 #[cfg(test)]
 mod parties;

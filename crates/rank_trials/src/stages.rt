@@ -223,11 +223,11 @@ fn play_all<R: Threads + Wait + Sync + Abort>(rt: &R, stage: &Stage, sight: &Sig
         stands(rt, &sight.home, 0);
         match plan {
             Plan::GoHome => {
-                assert!(rt; !stage.release(false));
+                assert!(rt; stage.release(false).is_err());
                 await_count(rt, &sight.home, sight.ranks);
             }
             Plan::Rounds(_) | Plan::InVain => {
-                assert!(rt; stage.release(true));
+                assert!(rt; stage.release(true).is_ok());
                 await_count(rt, &sight.ended, sight.ranks);
             }
         }
@@ -314,7 +314,7 @@ fn play_all_open<R: Threads + Wait + Sync + Abort>(rt: &R, stage: &Stage, sight:
         }
         linger();
         stands(rt, &sight.begun, 0);
-        assert!(rt; stage.release(true));
+        assert!(rt; stage.release(true).is_ok());
         await_count(rt, &sight.ended, sight.ranks);
     });
     stands(rt, &sight.wrong, 0);
@@ -354,7 +354,7 @@ fn aside<R: Threads + Wait + Sync + Abort>(rt: &R, stage: &Stage, sight: &Sight)
             .spawn(move || begin_and_end(rt, stage, sight))
             .is_err();
         assert!(rt; !first && !second);
-        assert!(rt; stage.release(true));
+        assert!(rt; stage.release(true).is_ok());
         await_count(rt, &sight.ended, 2);
     });
     stands(rt, &sight.wrong, 0);
@@ -389,7 +389,7 @@ fn play_all_late<R: Threads + Wait + Clock + Sync + Abort>(rt: &R, stage: &Stage
                 .is_err();
             assert!(rt; !refused);
         }
-        assert!(rt; stage.release(true));
+        assert!(rt; stage.release(true).is_ok());
     });
     stands(rt, &sight.ended, sight.ranks);
     stands(rt, &sight.wrong, 0);
