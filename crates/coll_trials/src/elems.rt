@@ -162,7 +162,8 @@ fn reads_pairs(rt: HostRuntime) {
     drop(pair);
 }
 
-// An operation on a number of this type and another, and what it gives.
+// An operation on a number of this type and another, and what it gives. The logical ones look at
+// the truth of each number, whatever bits the two have in common.
 const COMBINED: &[(Op, ElemType, i128, i128, i128)] = &[
     (Op::Bxor, ElemType::Uint8, 255, 1, 254),
     (Op::Bxor, ElemType::Int8, -1, 1, -2),
@@ -189,6 +190,54 @@ const COMBINED: &[(Op, ElemType, i128, i128, i128)] = &[
         18446744073709551615,
     ),
     (Op::Min, ElemType::Int16, -1, 1, -1),
+    (Op::Max, ElemType::Int16, -1, 1, 1),
+    (Op::Min, ElemType::Uint16, 65535, 1, 1),
+    (Op::Band, ElemType::Int8, -128, 127, 0),
+    (Op::Band, ElemType::Uint32, 12, 10, 8),
+    (Op::Bor, ElemType::Int16, -32768, 1, -32767),
+    (Op::Bor, ElemType::Uint32, 12, 10, 14),
+    (Op::Bxor, ElemType::Int64, -1, -256, 255),
+    (Op::Bxor, ElemType::Uint32, 12, 10, 6),
+    (Op::Land, ElemType::Int32, 0, 0, 0),
+    (Op::Land, ElemType::Int32, 0, -5, 0),
+    (Op::Land, ElemType::Int32, 5, 0, 0),
+    (Op::Land, ElemType::Int32, 5, -5, 1),
+    (Op::Land, ElemType::Int32, 4, 3, 1),
+    (Op::Land, ElemType::Int32, 2, 1, 1),
+    (Op::Lor, ElemType::Int32, 0, 0, 0),
+    (Op::Lor, ElemType::Int32, 0, -5, 1),
+    (Op::Lor, ElemType::Int32, 5, 0, 1),
+    (Op::Lor, ElemType::Int32, 5, -5, 1),
+    (Op::Lor, ElemType::Int32, 4, 3, 1),
+    (Op::Lor, ElemType::Int32, 2, 1, 1),
+    (Op::Lxor, ElemType::Int32, 0, 0, 0),
+    (Op::Lxor, ElemType::Int32, 0, -5, 1),
+    (Op::Lxor, ElemType::Int32, 5, 0, 1),
+    (Op::Lxor, ElemType::Int32, 5, -5, 0),
+    (Op::Lxor, ElemType::Int32, 4, 3, 0),
+    (Op::Lxor, ElemType::Int32, 2, 1, 0),
+    (Op::Land, ElemType::Uint16, 0, 0, 0),
+    (Op::Land, ElemType::Uint16, 0, 7, 0),
+    (Op::Land, ElemType::Uint16, 5, 0, 0),
+    (Op::Land, ElemType::Uint16, 5, 7, 1),
+    (Op::Land, ElemType::Uint16, 4, 3, 1),
+    (Op::Land, ElemType::Uint16, 2, 1, 1),
+    (Op::Lor, ElemType::Uint16, 0, 0, 0),
+    (Op::Lor, ElemType::Uint16, 0, 7, 1),
+    (Op::Lor, ElemType::Uint16, 5, 0, 1),
+    (Op::Lor, ElemType::Uint16, 5, 7, 1),
+    (Op::Lor, ElemType::Uint16, 4, 3, 1),
+    (Op::Lor, ElemType::Uint16, 2, 1, 1),
+    (Op::Lxor, ElemType::Uint16, 0, 0, 0),
+    (Op::Lxor, ElemType::Uint16, 0, 7, 1),
+    (Op::Lxor, ElemType::Uint16, 5, 0, 1),
+    (Op::Lxor, ElemType::Uint16, 5, 7, 0),
+    (Op::Lxor, ElemType::Uint16, 4, 3, 0),
+    (Op::Lxor, ElemType::Uint16, 2, 1, 0),
+    // A number's truth is that of all its bits.
+    (Op::Land, ElemType::Int8, -128, 64, 1),
+    (Op::Lxor, ElemType::Int64, 4294967296, 0, 1),
+    (Op::Lor, ElemType::Uint64, 0, 9223372036854775808, 1),
 ];
 
 // Whether the operation gives these numbers.

@@ -2,7 +2,7 @@
 //!
 //! No memory ends a test at once: each way out of a function that owns a group costs its proof.
 //! Where one has served it is handed to `drop`.
-use crate::parties::{group, processes, upward};
+use crate::parties::{group, process, processes, upward};
 use mpi_group::{Group, GroupCompare, GroupFault};
 use std::alloc::Global;
 use std::process::Abort;
@@ -152,4 +152,27 @@ fn all_ranks_named(rt: HostRuntime) {
     let but_last = upward(&rt, alloc, 0, 255);
     expect_made(&rt, a.excl(alloc, &but_last), &[255]);
     drop(a);
+}
+
+// Looks up the last two members of a group in turn: the next by what was found last, so that no
+// round can be left out.
+fn look_up_often(rt: &impl Abort, group: &Group, last_two: [ProcessId; 2], times: u32) {
+    let [last, before] = last_two;
+    let mut found = 255;
+    for _ in 0..times {
+        let asked = if found == 255 { before } else { last };
+        match group.rank_of(asked) {
+            Some(rank) => found = rank,
+            None => panic!(rt; "no member"),
+        }
+    }
+    assert_eq!(rt; found, 255);
+}
+
+// A look at each of the members before these two would take minutes.
+#[test]
+fn ranks_are_looked_up_in_a_table(rt: HostRuntime) {
+    let all = group(&rt, rt.alloc(), &downward(&rt, rt.alloc(), 0, 256));
+    look_up_often(&rt, &all, [process(0), process(1)], 1_000_000_000);
+    drop(all);
 }

@@ -1,8 +1,8 @@
 //! What is opened and what waits asks for little memory, written to or not; what was read is let
 //! go.
 
-use crate::parties::{BANKS_AND_OIL, opening, wall};
-use crate::pending::{Table, at_a_table};
+use crate::parties::{BANKS_AND_OIL, grid, opening, wall};
+use crate::pending::{Table, at_a_table, line_of_two};
 use crate::policies::{fault_of, many};
 use run_model::{Act, Acts};
 use std::alloc::Global;
@@ -11,6 +11,7 @@ use std::process::Abort;
 use std::rt::Files;
 use std::test::Fail;
 use wall_labels::NoMemory;
+use wall_policy::Policy;
 
 // The pages of memory that this process has asked for (at place 0), and of these those that are
 // resident (1), as the system tells.
@@ -64,10 +65,52 @@ fn what_is_opened_asks_for_little(rt: HostRuntime) -> Result<(), Fail> {
     Ok(())
 }
 
-// An instance opens on each of 64 communicators.
-fn open_each(rt: &impl Abort, table: &mut Table) -> Result<(), NoMemory> {
-    for comm in 0..64 {
-        table.open(rt, comm)?;
+// How many more pages were asked for when the histories of a policy are opened.
+fn pages_of_opening<R: Files + AllocGlobal + Abort>(rt: &R, policy: &Policy) -> Result<u64, Fail> {
+    let before = pages(rt, 0)?;
+    let histories = opening(rt, rt.alloc(), policy);
+    let after = pages(rt, 0);
+    drop(histories);
+    let after = after?;
+    Ok(after.saturating_sub(before))
+}
+
+// Of each dataset its rivals, and of each process what it holds, a bit for each of 1,024 datasets:
+// some 45 pages.
+#[test]
+fn histories_of_many_datasets_ask_for_little(rt: HostRuntime) -> Result<(), Fail> {
+    let text = many(&rt, rt.alloc(), 1, 1, 1024);
+    let policy = wall(&rt, rt.alloc(), text.as_str());
+    let more = pages_of_opening(&rt, &policy);
+    drop(policy);
+    let more = more?;
+    assert!(&rt; more < 128, "{more} pages more");
+    Ok(())
+}
+
+// A table of 65,536 neighbours, the largest that a grid keeps, is 128 pages.
+#[test]
+fn a_large_grid_asks_for_little(rt: HostRuntime) -> Result<(), Fail> {
+    let before = pages(&rt, 0)?;
+    let shape = grid(&rt, rt.alloc(), u32::MAX, &[65_536, 65_535], &[true, false]);
+    let after = pages(&rt, 0);
+    drop(shape);
+    let after = after?;
+    assert!(&rt;
+        after < before.saturating_add(256),
+        "{before} pages, then {after}"
+    );
+    Ok(())
+}
+
+// An instance opens on each of so many communicators.
+fn open_each(
+    rt: &(impl AllocGlobal + Abort),
+    table: &mut Table,
+    comms: u32,
+) -> Result<(), NoMemory> {
+    for comm in 0..comms {
+        table.open(rt, comm, line_of_two(rt, rt.alloc()))?;
     }
     Ok(())
 }
@@ -76,21 +119,34 @@ fn open_each(rt: &impl Abort, table: &mut Table) -> Result<(), NoMemory> {
 fn pages_of_waiting<R: Files + AllocGlobal + Abort>(
     rt: &R,
     table: &mut Table,
+    comms: u32,
 ) -> Result<u64, Fail> {
     let before = pages(rt, 0)?;
-    open_each(rt, table)?;
+    open_each(rt, table, comms)?;
     let after = pages(rt, 0)?;
     Ok(after.saturating_sub(before))
 }
 
-// An instance of 256 members that waits takes some ten pages.
-#[test]
-fn instances_that_wait_ask_for_little(rt: HostRuntime) -> Result<(), Fail> {
-    at_a_table(&rt, 256, |table| {
-        let more = pages_of_waiting(&rt, table)?;
-        assert!(&rt; more < 1200, "{more} pages more");
+// Of so many members an instance waits on each of so many communicators.
+fn expect_little_waiting<R: Files + AllocGlobal + Abort>(
+    rt: &R,
+    members: u32,
+    comms: u32,
+    limit: u64,
+) -> Result<(), Fail> {
+    at_a_table(rt, members, |table| {
+        let more = pages_of_waiting(rt, table, comms)?;
+        assert!(rt; more < limit, "{more} pages more");
         Ok(())
     })
+}
+
+// An instance of 256 members that waits takes some ten pages. One of two members takes less than
+// half a page, with its lists and what is kept of its communicator.
+#[test]
+fn instances_that_wait_ask_for_little(rt: HostRuntime) -> Result<(), Fail> {
+    expect_little_waiting(&rt, 256, 64, 860)?;
+    expect_little_waiting(&rt, 2, 1000, 1000)
 }
 
 // Three acts have room for a few.

@@ -1,6 +1,6 @@
 //! Arrivals on small communicators, worked by hand: the k-th arrivals of the members meet.
 
-use crate::parties::{lowest, plain};
+use crate::parties::{flags, lowest, numbers, plain};
 use coll_pending::{ArrivalFault, Arrived, Next, NoMemory, Pending, Unarrived};
 use coll_routes::{Numbers, Own, Roll, Shape, Signature, Stated};
 use coll_values::Full;
@@ -64,8 +64,13 @@ impl Table {
     }
 
     /// The first rank opens an instance.
-    pub(crate) fn open(&mut self, rt: &impl Abort, comm: u32) -> Result<(), NoMemory> {
-        self.arrive(rt, (comm, 0), Signature::Barrier, 1, Next::Opens, &[])
+    pub(crate) fn open(
+        &mut self,
+        rt: &impl Abort,
+        comm: u32,
+        sig: Signature,
+    ) -> Result<(), NoMemory> {
+        self.arrive(rt, (comm, 0), sig, 1, Next::Opens, &[])
     }
 
     fn ready(&mut self, rt: &impl Abort, comm: u32, rank: u32) -> Result<(), NoMemory> {
@@ -221,19 +226,23 @@ fn scatter(
     Ok(())
 }
 
-// A statement that gives one element, or none to a barrier.
+// A statement that gives one element, or none where the kind has no type.
 fn stated_for(sig: Signature) -> Stated {
-    let is_barrier = sig.is_same(&Signature::Barrier);
+    let gives = sig.elem_type().is_some();
     Stated {
         sig,
         own: Own::Plain,
-        given: if is_barrier { 0 } else { 1 },
-        label: if is_barrier {
-            None
-        } else {
-            Some(Label::Public)
-        },
+        given: if gives { 1 } else { 0 },
+        label: if gives { Some(Label::Public) } else { None },
         barred: false,
+    }
+}
+
+/// A constructor of a line of two, which keeps a list of either kind.
+pub(crate) fn line_of_two(rt: &impl Abort, alloc: Global) -> Signature {
+    Signature::CartCreate {
+        dims: numbers(rt, alloc, &[2]),
+        periods: flags(rt, alloc, &[false]),
     }
 }
 

@@ -67,6 +67,28 @@ const SHORT: &[(&[u8], PolicyFault)] = &[
     (b"version = 3", PolicyFault::BadVersion),
     (b"version = 2", PolicyFault::MissingKey),
     (b"version = 1", PolicyFault::MissingKey),
+    (b"version = 1\nx = 1", PolicyFault::MissingKey),
+    (
+        b"version = 1\nclass = 1\nprocess = [{name = \"p\"}]",
+        PolicyFault::MissingKey,
+    ),
+    (
+        b"version = 1\n[class]\nname = \"k\"\ndatasets = []\n[[process]]\nname = \"p\"",
+        PolicyFault::MissingKey,
+    ),
+    (
+        b"version = 1\nclass = [\"k\"]\nprocess = [{name = \"p\"}]",
+        PolicyFault::MissingKey,
+    ),
+    (b"version = 1\nprocess = [\"p\"]", PolicyFault::MissingKey),
+    (
+        b"version = 1\n[process]\nname = \"p\"",
+        PolicyFault::MissingKey,
+    ),
+    (
+        b"version = 1\nsanitise = [3]\nprocess = [{name = \"p\"}]",
+        PolicyFault::MissingKey,
+    ),
 ];
 
 #[test]
@@ -120,6 +142,66 @@ const CHANGED: &[Change] = &[
     ("version = 1", "version = 2", PolicyFault::MissingKey),
     ("version = 1", "version = 1.0", PolicyFault::BadVersion),
     ("version = 1", "version = true", PolicyFault::BadVersion),
+    // A key that its table does not have, then one that is missing or of another kind.
+    ("home = \"beta\"", "hom = \"beta\"", PolicyFault::UnknownKey),
+    (
+        "name = \"oil\"",
+        "name = \"oil\"\nx = 1",
+        PolicyFault::UnknownKey,
+    ),
+    (
+        "home = \"alpha\"",
+        "home = [\"alpha\"]",
+        PolicyFault::MissingKey,
+    ),
+    ("home = \"alpha\"", "home = 1", PolicyFault::MissingKey),
+    ("name = \"banks\"\n", "", PolicyFault::MissingKey),
+    ("\"banks\"", "1", PolicyFault::MissingKey),
+    (
+        "datasets = [\"alpha\", \"beta\"]\n",
+        "",
+        PolicyFault::MissingKey,
+    ),
+    (
+        "[\"alpha\", \"beta\"]",
+        "\"alpha\"",
+        PolicyFault::MissingKey,
+    ),
+    ("\"delta\"]", "1]", PolicyFault::MissingKey),
+    ("name = \"n0\"\n", "", PolicyFault::MissingKey),
+    ("\"n0\"", "true", PolicyFault::MissingKey),
+    ("op = \"sum\"\n", "", PolicyFault::MissingKey),
+    ("\"sum\"", "[\"sum\"]", PolicyFault::MissingKey),
+    ("least = 3\n", "", PolicyFault::MissingKey),
+    ("least = 3", "least = \"3\"", PolicyFault::MissingKey),
+    ("[[sanitise]]", "[sanitise]", PolicyFault::MissingKey),
+    // Two faults at once, neighbours in the order of faults: the first of them is told.
+    ("\"n0\"\n", "\"N0\"\nhom = 1\n", PolicyFault::UnknownKey),
+    (
+        "name = \"n0\"\n",
+        "hom = \"alpha\"\n",
+        PolicyFault::MissingKey,
+    ),
+    (
+        "\"n0\"",
+        "\"a0\"\n[[process]]\nname = \"N1\"",
+        PolicyFault::BadName,
+    ),
+    (
+        "\"n0\"",
+        "\"a0\"\nhome = \"gamma\"",
+        PolicyFault::DuplicateName,
+    ),
+    (
+        "\"n0\"\n[[sanitise]]\nop = \"sum\"",
+        "\"n0\"\nhome = \"gamma\"\n[[sanitise]]\nop = \"avg\"",
+        PolicyFault::UnknownDataset,
+    ),
+    (
+        "\"sum\"\nleast = 3",
+        "\"avg\"\nleast = 1",
+        PolicyFault::BadOp,
+    ),
 ];
 
 #[test]
@@ -140,6 +222,12 @@ const CHANGED_OF_VERSION_2: &[Change] = &[
     ),
     ("version = 2", "version = 1", PolicyFault::UnknownKey),
     ("version = 2", "version = 3", PolicyFault::BadVersion),
+    (
+        "\"sum\"\nleast = 3\ndistinct = 3",
+        "\"avg\"\nleast = 3\ndistinct = 4",
+        PolicyFault::BadOp,
+    ),
+    ("distinct = 3", "dist = 3", PolicyFault::MissingKey),
 ];
 
 #[test]
@@ -169,6 +257,25 @@ name = "p"
 op = "max"
 least = 256
 distinct = 256
+"#,
+    r#"version = 1
+[[process]]
+name = "p"
+[[sanitise]]
+op = "sum"
+least = 2
+"#,
+    r#"version = 2
+[[process]]
+name = "p"
+[[sanitise]]
+op = "sum"
+least = 2
+distinct = 1
+[[sanitise]]
+op = "max"
+least = 2
+distinct = 2
 "#,
     r#"version = 1
 [[class]]
@@ -254,6 +361,31 @@ fn limits(rt: HostRuntime) {
         let found = fault_of(rt.alloc(), text.as_bytes());
         assert!(rt; found == *fault, "{processes} {classes} {datasets}");
     }
+}
+
+// One process more than there may be, alone and beside another fault.
+const CHANGED_OF_256: &[Change] = &[
+    (
+        "\"p255\"\n",
+        "\"p255\"\n[[process]]\nname = \"p256\"\n",
+        PolicyFault::TooMany,
+    ),
+    (
+        "\"p255\"\n",
+        "\"p255\"\n[[process]]\nname = \"p256\"\n[[sanitise]]\nop = \"sum\"\nleast = 1\n",
+        PolicyFault::BadLeast,
+    ),
+    (
+        "\"p255\"\n",
+        "\"p255\"\n[[process]]\nname = \"p0\"\n",
+        PolicyFault::DuplicateName,
+    ),
+];
+
+#[test]
+fn changed_policies_of_256_processes(rt: HostRuntime) {
+    let text = many(&rt, rt.alloc(), 256, 0, 0);
+    expect_faults(&rt, rt.alloc(), &text, CHANGED_OF_256);
 }
 
 // Lends the policy of a text to a look at it, and then a copy of it. One that goes out of scope is

@@ -1,9 +1,9 @@
 //! Verdicts worked by hand from the rules, under one policy.
 ghost use Rattle.std.specs.Prelude.{◌≡◌, ◌<◌};
 
-use crate::parties::{BANKS_AND_OIL, dataset, group, opening, process, upward, wall};
+use crate::parties::{BANKS_AND_OIL, dataset, group, numbers, opening, process, upward, wall};
 use crate::policies::many;
-use coll_routes::{Own, Roll, Shape, Signature, Stated, Statements};
+use coll_routes::{Kind, Own, Roll, Shape, Signature, Stated, Statements};
 use mpi_cart::Grid;
 use mpi_elems::ElemType;
 use std::alloc::{AllocError, Global};
@@ -17,7 +17,7 @@ const WORLD: [u32; 4] = [0, 1, 2, 3];
 
 const INT: ElemType = ElemType::Int32;
 
-/// What a rank gives: one element under a label or nothing, and whether its post was barred.
+/// What a rank gives: elements under a label or nothing, and whether its post was barred.
 #[derive(Clone, Copy)]
 enum Gift {
     Nothing,
@@ -54,10 +54,21 @@ fn label(rt: &impl Abort, gift: Gift) -> Option<Label> {
     }
 }
 
+// How many elements a rank gives that gives some: one, and one for each of 256 ranks where each of
+// them gets its own.
+fn elements(sig: &Signature) -> u32 {
+    match sig {
+        Signature::Alltoall { .. } => 256,
+        Signature::ReduceScatter { .. } => 256,
+        Signature::ReduceScatterBlock { .. } => 256,
+        _ => 1,
+    }
+}
+
 fn statement(rt: &impl Abort, alloc: Global, sig: &Signature, gift: Gift) -> Stated {
     let given = match gift {
         Nothing => 0,
-        _ => 1,
+        _ => elements(sig),
     };
     let barred = match gift {
         Barred(_) => true,
@@ -94,7 +105,7 @@ fn state_all(
     }
 }
 
-// An instance of these members, in a grid if there is one, where each rank gives one element or
+// An instance of these members, in a grid if there is one, where each rank gives elements or
 // nothing.
 fn roll_in(
     rt: &impl Abort,
@@ -405,9 +416,51 @@ fn policy_of_256(rt: &impl Abort, alloc: Global) -> Policy {
 }
 
 // An instance of all of these, which give of one bank to all.
-fn roll_of_256(rt: &impl Abort, alloc: Global, bank: u32) -> Roll {
+fn roll_of_256(rt: &impl Abort, alloc: Global, sig: Signature, bank: u32) -> Roll {
     let members = upward(rt, alloc, 0, 256);
-    roll(rt, alloc, &members, allgather(), &[Of(bank); 256])
+    roll(rt, alloc, &members, sig, &[Of(bank); 256])
+}
+
+// The kinds in which all receivers get alike from the ranks that reach them, and how many verdicts
+// take a second or two. In a scan half of the pairs of ranks have nothing to do with each other:
+// there it takes twice as many until a look at each pair is seen.
+const ALIKE: &[(Kind, u32)] = &[
+    (Kind::Allgather, 80_000),
+    (Kind::Allgatherv, 80_000),
+    (Kind::Alltoall, 80_000),
+    (Kind::Allreduce, 80_000),
+    (Kind::ReduceScatter, 80_000),
+    (Kind::ReduceScatterBlock, 80_000),
+];
+
+const SCANS: &[(Kind, u32)] = &[(Kind::Scan, 160_000), (Kind::Exscan, 160_000)];
+
+// A signature of such a kind, on 256 ranks.
+fn alike(rt: &impl Abort, alloc: Global, kind: Kind) -> Signature {
+    let (op, elem_type, count) = (Op::Sum, INT, 1);
+    match kind {
+        Kind::Allgather => allgather(),
+        Kind::Allgatherv => Signature::Allgatherv { elem_type },
+        Kind::Alltoall => Signature::Alltoall { elem_type, count },
+        Kind::Allreduce => sum(),
+        Kind::ReduceScatter => Signature::ReduceScatter {
+            op,
+            elem_type,
+            counts: numbers(rt, alloc, &[1; 256]),
+        },
+        Kind::ReduceScatterBlock => Signature::ReduceScatterBlock {
+            op,
+            elem_type,
+            count,
+        },
+        Kind::Scan => scan(),
+        Kind::Exscan => Signature::Exscan {
+            op,
+            elem_type,
+            count,
+        },
+        _ => panic!(rt; "another kind"),
+    }
 }
 
 // The verdicts on two instances in turn.
@@ -432,19 +485,43 @@ fn decide_often(
     }
 }
 
-// A look at each pair of ranks would take minutes.
-#[test]
-fn a_verdict_looks_at_each_rank_once(rt: HostRuntime) {
-    let alloc = rt.alloc();
-    let policy = policy_of_256(&rt, alloc);
-    let histories = opening(&rt, alloc, &policy);
-    let even = roll_of_256(&rt, alloc, 0);
-    let odd = roll_of_256(&rt, alloc, 1);
-    decide_often(&rt, &policy, &histories, &even, &odd, 120_000);
+// So many verdicts on instances of the kind, whose ranks give of one bank and of the other.
+fn decide_of_kind(
+    rt: &impl Abort,
+    alloc: Global,
+    policy: &Policy,
+    histories: &Histories,
+    kind: Kind,
+    times: u32,
+)
+    requires { histories.now.classes ≡ policy.now.classes }
+{
+    let even = roll_of_256(rt, alloc, alike(rt, alloc, kind), 0);
+    let odd = roll_of_256(rt, alloc, alike(rt, alloc, kind), 1);
+    decide_often(rt, policy, histories, &even, &odd, times);
     drop(odd);
     drop(even);
+}
+
+fn decide_of_kinds(rt: &impl Abort, alloc: Global, kinds: &[(Kind, u32)]) {
+    let policy = policy_of_256(rt, alloc);
+    let histories = opening(rt, alloc, &policy);
+    for (kind, times) in kinds {
+        decide_of_kind(rt, alloc, &policy, &histories, *kind, *times);
+    }
     drop(histories);
     drop(policy);
+}
+
+// A look at each pair of ranks would take more than a minute in a single one of the kinds.
+#[test]
+fn a_verdict_looks_at_each_rank_once(rt: HostRuntime) {
+    decide_of_kinds(&rt, rt.alloc(), ALIKE);
+}
+
+#[test]
+fn a_verdict_on_a_scan_looks_at_each_rank_once(rt: HostRuntime) {
+    decide_of_kinds(&rt, rt.alloc(), SCANS);
 }
 
 // One grant after the other.
@@ -464,12 +541,13 @@ fn settle_often(
     }
 }
 
+// One kind for all: a grant goes through what comes to the ranks as a verdict does.
 #[test]
 fn a_grant_looks_at_each_rank_once(rt: HostRuntime) {
     let alloc = rt.alloc();
     let policy = policy_of_256(&rt, alloc);
     let mut histories = opening(&rt, alloc, &policy);
-    let roll = roll_of_256(&rt, alloc, 0);
+    let roll = roll_of_256(&rt, alloc, allgather(), 0);
     settle_often(&rt, &policy, &mut histories, &roll, 60_000);
     drop(roll);
     drop(histories);

@@ -1,7 +1,8 @@
 //! Scripts that are replayed over devices in memory.
 
 use crate::books::expect_texts;
-use crate::scripts::{FAULTS, fault_of_script, wall};
+use crate::scripts::{FAULTS, fault_of_script, policy_of, wall};
+use crate::walls::FOUR;
 use hall_script::*;
 use std::process::Abort;
 use wall_labels::memory::{ExpectingSink, Fuse, MemorySource};
@@ -77,8 +78,13 @@ struct Case<'a> {
     fault: Option<ScriptFault>,
 }
 
-// Whether these replies are written, and the replay ends so.
+// Whether these replies are written, and the replay ends so, under the policy of most tests.
 fn is_replayed(rt: &(impl AllocGlobal + Abort), case: &Case) -> bool {
+    is_replayed_under(rt, wall(rt), case)
+}
+
+// The same under this policy.
+fn is_replayed_under(rt: &(impl AllocGlobal + Abort), policy: Policy, case: &Case) -> bool {
     let mut source = MemorySource {
         rest: case.script,
         fuse: case.reads,
@@ -88,7 +94,7 @@ fn is_replayed(rt: &(impl AllocGlobal + Abort), case: &Case) -> bool {
         is_same: true,
         fuse: case.writes,
     };
-    let ended = replay(rt.alloc(), wall(rt), &mut source, &mut sink).err();
+    let ended = replay(rt.alloc(), policy, &mut source, &mut sink).err();
     ended == case.fault && sink.is_same && sink.rest.is_empty()
 }
 
@@ -121,6 +127,176 @@ fn scripts_are_replayed(rt: HostRuntime) {
         };
         assert!(&rt; is_replayed(&rt, &case));
     }
+}
+
+// Communicators that are made of others, by four processes that may all give public data: with the
+// ranks in another order, with a grid of two by two, and of parts of that.
+const GRIDS: &[u8] = b"# ranks out of order
+post 0 0 create 2,0,3,1
+post 1 0 create 2,0,3,1
+post 2 0 create 2,0,3,1
+post 3 0 create 2,0,3,1
+take 0 0
+take 1 0
+take 2 0
+take 3 0
+post 0 1 allgather int32 1 as public 10
+post 1 1 allgather int32 1 as public 11
+post 2 1 allgather int32 1 as public 12
+post 3 1 allgather int32 1 as public 13
+take 3 1
+# a tube: what a rank gives for a slot arrives in the opposite one
+post 0 0 cart_create 2,2 1,0
+post 1 0 cart_create 2,2 1,0
+post 2 0 cart_create 2,2 1,0
+post 3 0 cart_create 2,2 1,0
+take 0 2
+take 1 2
+take 2 2
+take 3 2
+post 0 2 neighbor_alltoall int32 1 as public 1 2 3 4
+post 1 2 neighbor_alltoall int32 1 as public 11 12 13 14
+post 2 2 neighbor_alltoall int32 1 as public 21 22 23 24
+post 3 2 neighbor_alltoall int32 1 as public 31 32 33 34
+take 0 3
+take 1 3
+take 2 3
+take 3 3
+# a duplicate has the grid, a part by colours has none
+post 0 2 dup
+post 1 2 dup
+post 2 2 dup
+post 3 2 dup
+take 1 4
+info 1 3
+post 0 2 split 0 0
+post 1 2 split 0 -1
+post 2 2 split 0 -2
+post 3 2 split 0 -3
+take 1 5
+info 1 4
+post 1 4 neighbor_allgather int32 1 as public 1
+post 1 4 cart_sub 1
+post 1 3 cart_sub 1
+# no dimension is kept: each rank is alone, and has no neighbour
+post 0 2 cart_sub 0,0
+post 1 2 cart_sub 0,0
+post 2 2 cart_sub 0,0
+post 3 2 cart_sub 0,0
+take 0 6
+take 1 6
+take 2 6
+take 3 6
+info 2 7
+post 2 7 neighbor_allgather int32 1 as public 1
+take 2 7
+# the leading dimension is kept: every second rank
+post 0 2 cart_sub 1,0
+post 1 2 cart_sub 1,0
+post 2 2 cart_sub 1,0
+post 3 2 cart_sub 1,0
+take 0 7
+take 1 7
+take 2 8
+take 3 7
+info 3 10
+post 1 10 neighbor_allgather int32 1 as public 1
+post 3 10 neighbor_allgather int32 1 as public 3
+take 1 8
+# no elements: the label is none
+post 0 0 allgather int32 0 as alpha
+post 1 0 allgather int32 0 as alpha
+post 2 0 allgather int32 0 as alpha
+post 3 0 allgather int32 0 as alpha
+take 0 8
+take 3 9
+";
+
+const GRID_REPLIES: &[u8] = b"posted 0
+posted 0
+posted 0
+posted 0
+comm 1 rank 1 size 4
+comm 1 rank 3 size 4
+comm 1 rank 0 size 4
+comm 1 rank 2 size 4
+posted 1
+posted 1
+posted 1
+posted 1
+delivered [12] [10] [13] [11]
+posted 2
+posted 2
+posted 2
+posted 2
+comm 2 rank 0 size 4
+comm 2 rank 1 size 4
+comm 2 rank 2 size 4
+comm 2 rank 3 size 4
+posted 3
+posted 3
+posted 3
+posted 3
+delivered [22] [21] - [13]
+delivered [32] [31] [4] -
+delivered [2] [1] - [33]
+delivered [12] [11] [24] -
+posted 4
+posted 4
+posted 4
+posted 4
+comm 3 rank 1 size 4
+info size 4 rank 1 dims 2
+posted 5
+posted 5
+posted 5
+posted 5
+comm 4 rank 2 size 4
+info size 4 rank 2
+refused NoTopology
+refused NoTopology
+refused BadDims
+posted 6
+posted 6
+posted 6
+posted 6
+comm 5 rank 0 size 1
+comm 6 rank 0 size 1
+comm 7 rank 0 size 1
+comm 8 rank 0 size 1
+info size 1 rank 0 dims 0
+posted 7
+delivered none
+posted 7
+posted 7
+posted 8
+posted 7
+comm 9 rank 0 size 2
+comm 10 rank 0 size 2
+comm 9 rank 1 size 2
+comm 10 rank 1 size 2
+info size 2 rank 1 dims 1
+posted 8
+posted 8
+delivered [3] [3]
+posted 8
+posted 9
+posted 9
+posted 9
+delivered [] [] [] []
+delivered [] [] [] []
+";
+
+#[test]
+fn communicators_of_grids_are_replayed(rt: HostRuntime) {
+    let case = Case {
+        script: GRIDS,
+        replies: GRID_REPLIES,
+        reads: Fuse::Whole,
+        writes: Fuse::Whole,
+        fault: None,
+    };
+    assert!(&rt; is_replayed_under(&rt, policy_of(&rt, FOUR), &case));
 }
 
 // Whether a script's line of this text is the text: it is neither passed over nor loses a CR.

@@ -20,11 +20,16 @@ use wall_labels::memory::{Fuse, MemorySource};
 use wall_labels::{DatasetId, Label, NoMemory, ProcessId};
 use wall_policy::{Policy, read_policy};
 
-pub(crate) fn wall(rt: &(impl AllocGlobal + Abort)) -> Policy {
-    match read_policy(rt.alloc(), WALL.as_bytes()) {
+/// The policy of a text that has one.
+pub(crate) fn policy_of(rt: &(impl AllocGlobal + Abort), text: &str) -> Policy {
+    match read_policy(rt.alloc(), text.as_bytes()) {
         Ok(policy) => policy,
         Err(_) => panic!(rt; "the policy is not read"),
     }
+}
+
+pub(crate) fn wall(rt: &(impl AllocGlobal + Abort)) -> Policy {
+    policy_of(rt, WALL)
 }
 
 // Lines that are no call, and their first fault.
