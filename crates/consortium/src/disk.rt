@@ -32,9 +32,11 @@ pub struct Disk<'a> {
     pub left: Cell<u64>,
     /// The file at which it failed.
     pub failed: Cell<Option<Name>>,
-    /// A letter for each file that was opened, `k` where it was made, and `!` for each call that no
-    /// command makes.
+    /// A letter for each file that was asked for, `k` where it was to be made, `?` for a name that
+    /// none has, and `!` for each call that no command makes.
     pub opened: RefCell<Vec<u8>>,
+    /// How many were opened and are not closed.
+    pub open: Cell<u64>,
 }
 
 fn refused() -> io::Error {
@@ -54,21 +56,35 @@ impl<'a> Disk<'a> {
         Ok(())
     }
 
-    // A call that no command makes: it is seen among the files that were opened.
-    fn unasked(&self) -> io::Error {
-        if let Ok(mut opened) = self.opened.try_borrow_mut() {
-            let _ = opened.push(b'!');
+    fn note(&self, letter: u8) -> io::Result<()> {
+        match self.opened.try_borrow_mut() {
+            Ok(mut opened) => {
+                opened.push(letter)?;
+                Ok(())
+            }
+            Err(_) => Err(refused()),
         }
+    }
+
+    // A call that no command makes: it is seen among the files that were asked for.
+    fn unasked(&self) -> io::Error {
+        let _ = self.note(b'!');
         refused()
     }
 
-    fn named(&self, path: &str) -> io::Result<(Name, u8)> {
-        match path {
-            "w" => Ok((Name::Policy, b'w')),
-            "s" => Ok((Name::Script, b's')),
-            "b" => Ok((Name::Book, b'b')),
-            "k" => Ok((Name::Kept, b'k')),
-            _ => Err(io::Error::from(ErrorKind::NotFound)),
+    // The file of this name. That it was asked for is seen, also where there is none.
+    fn asked(&self, path: &str) -> io::Result<Name> {
+        let (name, letter) = match path {
+            "w" => (Some(Name::Policy), b'w'),
+            "s" => (Some(Name::Script), b's'),
+            "b" => (Some(Name::Book), b'b'),
+            "k" => (Some(Name::Kept), b'k'),
+            _ => (None, b'?'),
+        };
+        self.note(letter)?;
+        match name {
+            Some(name) => Ok(name),
+            None => Err(io::Error::from(ErrorKind::NotFound)),
         }
     }
 
@@ -100,11 +116,22 @@ impl<'a> Disk<'a> {
 }
 
 /// One of the files, opened.
-#[derive(Drop)]
 pub struct Opened<'a> {
     disk: &'a Disk<'a>,
     name: Name,
     rest: &'a [u8],
+}
+
+// By hand, so that one that is never closed is seen.
+impl<'a> Drop for Opened<'a> {
+    fn drop(self) {
+        let Opened {
+            disk,
+            name: _,
+            rest: _,
+        } = self;
+        disk.open.set(disk.open.get().wrapping_sub(1));
+    }
 }
 
 impl<'a> Read for Opened<'a> {
@@ -174,13 +201,10 @@ impl<'a> Files for System<'a> {
 
     fn open_file(&self, how: &OpenOptions, path: &str) -> io::Result<Opened<'a>> {
         let disk = self.disk;
-        let (name, letter) = disk.named(path)?;
+        let name = disk.asked(path)?;
         disk.turn(name)?;
         disk.admit(name, how)?;
-        match disk.opened.try_borrow_mut() {
-            Ok(mut opened) => opened.push(letter)?,
-            Err(_) => return Err(refused()),
-        }
+        disk.open.set(disk.open.get().wrapping_add(1));
         let rest = match name {
             Name::Policy => disk.policy,
             Name::Script => disk.script,

@@ -23,7 +23,7 @@ name = \"p0\"
 home = \"alpha\"
 ";
 
-// One use of the program: its words and files, and what it is to write and to open.
+// One use of the program: its words and files, and what it is to write and to ask for.
 #[derive(Clone, Copy)]
 struct Case<'a> {
     words: &'a [&'a [u8]],
@@ -62,6 +62,8 @@ struct Ended {
     err: Vec<u8>,
     kept: Vec<u8>,
     opened: Vec<u8>,
+    // The files that were not closed.
+    open: u64,
     failed: Option<Name>,
 }
 
@@ -88,6 +90,7 @@ where
         left: Cell::new(faults.files),
         failed: Cell::new(None),
         opened: RefCell::new(Vec::new(alloc)),
+        open: Cell::new(0),
     };
     let status = status_of(
         rt,
@@ -109,6 +112,7 @@ where
         err: taken(&err, alloc)?,
         kept: taken(&disk.kept, alloc)?,
         opened: taken(&disk.opened, alloc)?,
+        open: disk.open.get(),
         failed: disk.failed.get(),
     })
 }
@@ -134,7 +138,8 @@ where
 fn is_as_told(ended: &Ended, case: &Case) -> bool {
     let is_written = ended.out.as_slice() == case.out && ended.err.as_slice() == case.err;
     let is_kept = ended.kept.as_slice() == case.kept && ended.opened.as_slice() == case.opened;
-    ended.status == ExitCode::from(case.status) && is_written && is_kept
+    let is_closed = ended.open == 0;
+    ended.status == ExitCode::from(case.status) && is_written && is_kept && is_closed
 }
 
 // The texts of a long run of one process: so many barriers that script, replies and book are longer
@@ -256,7 +261,7 @@ fn each_call_at_a_file_fails(rt: HostRuntime) -> Result<(), Fail> {
             calls = files + 1;
             assert_eq!(&rt; ended.status, ExitCode::from(3));
             assert!(&rt; case.kept.starts_with(&ended.kept));
-            assert!(&rt; case.opened.starts_with(&ended.opened));
+            assert!(&rt; case.opened.starts_with(&ended.opened) && ended.open == 0);
             if name == Name::Kept {
                 assert!(&rt; ended.err.as_slice() == b"write fault\n".as_slice());
                 assert!(&rt; ended.out.as_slice() == case.out);
@@ -322,7 +327,8 @@ fn refused<'a>(words: &'a [&'a [u8]], err: &'a [u8], opened: &'a [u8], status: u
     }
 }
 
-// Words, and what comes of them: the line on standard error, the files that are opened, the status.
+// Words, and what comes of them: the line on standard error, the files that are asked for, the
+// status.
 const REFUSED: &[(&[&[u8]], &str, &str, u8)] = &[
     (&[], "bad arguments\n", "", 5),
     (&[b"consortium"], "bad arguments\n", "", 5),
@@ -373,45 +379,50 @@ const REFUSED: &[(&[&[u8]], &str, &str, u8)] = &[
     (
         &[b"consortium", b"replay", b"w ", b"s"],
         "read fault\n",
-        "",
+        "?",
         3,
     ),
     (
         &[b"consortium", b"replay", b"x", b"s"],
         "read fault\n",
-        "",
+        "?",
         3,
     ),
     (
         &[b"consortium", b"replay", b"", b"s"],
         "read fault\n",
-        "",
+        "?",
         3,
     ),
     (
         &[b"consortium", b"replay", b"w", b"x"],
         "read fault\n",
-        "w",
+        "w?",
         3,
     ),
     (
         &[b"consortium", b"replay", b"w", b"x", b"--book", b"k"],
         "read fault\n",
-        "w",
+        "w?",
         3,
     ),
-    (&[b"consortium", b"run", b"x", b"s"], "read fault\n", "", 3),
-    (&[b"consortium", b"run", b"w", b"x"], "read fault\n", "w", 3),
+    (&[b"consortium", b"run", b"x", b"s"], "read fault\n", "?", 3),
+    (
+        &[b"consortium", b"run", b"w", b"x"],
+        "read fault\n",
+        "w?",
+        3,
+    ),
     (
         &[b"consortium", b"audit", b"x", b"b"],
         "read fault\n",
-        "",
+        "?",
         3,
     ),
     (
         &[b"consortium", b"audit", b"w", b"x"],
         "read fault\n",
-        "w",
+        "w?",
         3,
     ),
     (
@@ -456,6 +467,25 @@ const REFUSED: &[(&[&[u8]], &str, &str, u8)] = &[
         "ww",
         2,
     ),
+    // letter for letter: a space is part of a word
+    (
+        &[b"consortium", b" replay", b"w", b"s"],
+        "bad arguments\n",
+        "",
+        5,
+    ),
+    (
+        &[b"consortium", b"replay", b" w", b"s"],
+        "read fault\n",
+        "?",
+        3,
+    ),
+    (
+        &[b"consortium", b"audit", b"w", b" b"],
+        "read fault\n",
+        "w?",
+        3,
+    ),
 ];
 
 #[test]
@@ -478,6 +508,14 @@ const UNKEPT: &[(&[&[u8]], &str)] = &[
         &[b"consortium", b"run", b"w", b"s", b"--book", b"x"],
         "rank 0 p0\nrefused NoSuchRequest\n",
     ),
+    (
+        &[b"consortium", b"replay", b"w", b"s", b"--book= k"],
+        "refused NoSuchRequest\n",
+    ),
+    (
+        &[b"consortium", b"replay", b"w", b"s", b"--book="],
+        "refused NoSuchRequest\n",
+    ),
 ];
 
 #[test]
@@ -485,7 +523,7 @@ fn books_that_cannot_be_made_are_told(rt: HostRuntime) -> Result<(), Fail> {
     for (words, out) in UNKEPT {
         let case = Case {
             out: out.as_bytes(),
-            ..refused(words, b"write fault\n", b"ws", 3)
+            ..refused(words, b"write fault\n", b"ws?", 3)
         };
         let ended = used(&rt, &case, NONE)?;
         assert!(&rt; is_as_told(&ended, &case));

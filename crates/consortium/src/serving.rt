@@ -1,13 +1,16 @@
 //! Serves one command line of a system, over its files and streams.
-ghost use Rattle.std.specs.Prelude.{◌≡◌, IfOk, IfErr};
+ghost use Rattle.std.specs.Prelude.{◌≡◌, IfOk, IfErr, OnErr, List, map, drop, string_bytes};
+ghost use Rattle.clap.specs.Words.{Text};
+ghost use Rattle.std.specs.Vec.Iter.{into_iter_items};
 ghost use Rattle.std.specs.Process.{exit_status};
 ghost use Rattle.hall_script.specs.Devices.{used};
 ghost use Rattle.program_commands.specs.Endings.{EndsSo};
-ghost use Rattle.consortium.specs.Performing.{refusal_ending};
+ghost use Rattle.program_words.specs.Grammar.{asked};
+ghost use Rattle.consortium.specs.Performing.{refusal_ending, file_kind, path_unopened, Performs};
 
 use crate::commands::{Counts, fault_ending, perform};
 use program_commands::end;
-use program_files::{Count, StreamSink};
+use program_files::{Count, FileSink, FileSource, StreamSink};
 use program_words::ArgFault;
 use std::alloc::{AllocError, Global};
 use std::env;
@@ -18,7 +21,7 @@ use std::rt::{Env, Files};
 use std::sync::Wait;
 use std::sync::ledger::{Blank, Ledger};
 use std::thread::Threads;
-use wall_labels::Sink;
+use wall_labels::{Sink, Source};
 
 // A new ledger for the failures of each device: the policy, the second file that a command reads,
 // the book that it keeps, and the streams.
@@ -102,16 +105,32 @@ where
     settle(outcome, &mut err)
 }
 
-// Does what the words of the command line ask for, and gives the status.
-fn answered<R, F: Files + Env, P: Ledger, S: Ledger, B: Ledger, O: Sink, E: Sink>(
+// Does what the words of the command line ask for, and gives the status. That they are the words
+// which the system was given, no contract can say: there are some that were done, and where they
+// cannot be read nothing is.
+fn answered<'a, R, F: Files + Env, P: Ledger, S: Ledger, B: Ledger, O: Sink, E: Sink>(
     rt: &R,
-    system: &F,
+    system: &'a F,
     counts: Counts<P, S, B>,
     out: &mut O,
     err: &mut E,
 ) -> Result<u8, ArgFault>
 where
     R: AllocGlobal + Threads + Wait + Sync,
+    ensures done { let policies = file_kind ⟦<FileSource<'a, F, P> as Source>⟧.failures
+        ⟦<FileSource<'a, F, P> as Source>⟧.remaining
+        (λ d. path_unopened d.path.now d.file) counts.policy in
+        let seconds = file_kind ⟦<FileSource<'a, F, S> as Source>⟧.failures
+        ⟦<FileSource<'a, F, S> as Source>⟧.remaining
+        (λ d. path_unopened d.path.now d.file) counts.second in
+        let books = file_kind ⟦<FileSink<'a, F, B> as Sink>⟧.failures
+        ⟦<FileSink<'a, F, B> as Sink>⟧.contents
+        (λ d. path_unopened d.path.now d.file) counts.kept in
+        let outs = used O.failures O.contents out.old out.new in
+        let errs = used E.failures E.contents err.old err.new in
+        IfOk result (λ status. (words : List Text)
+        × Performs policies seconds books (asked words) outs errs status) }
+    ensures refused { OnErr result ((out.new ≡ out.old) × (err.new ≡ err.old)) }
 {
     let words = given_words(rt.alloc(), system)?;
     let texts = texts(rt.alloc(), &words)?;
@@ -138,15 +157,23 @@ fn given_words<F: Env>(alloc: Global, system: &F) -> Result<Vec<String>, ArgFaul
     Ok(words)
 }
 
-fn behind_the_name(alloc: Global, args: Args) -> Result<Vec<String>, AllocError> {
+// All that the command line says but its first word, which is the program's name.
+fn behind_the_name(alloc: Global, mut args: Args) -> Result<Vec<String>, AllocError>
+    ensures { IfOk result (λ words. words.items ≡ drop 1 (into_iter_items args)) }
+{
+    drop(args.next());
     let mut words = Vec::new(alloc);
-    for word in args.skip(1) {
+    for word in args {
         words.push(word)?;
     }
     Ok(words)
 }
 
-fn texts<'a>(alloc: Global, words: &'a [String]) -> Result<Vec<&'a str>, AllocError> {
+// The words as they are, letter for letter.
+fn texts<'a>(alloc: Global, words: &'a [String]) -> Result<Vec<&'a str>, AllocError>
+    ensures { IfOk result (λ texts.
+        map (λ t. t.now) texts.items ≡ map (λ w. string_bytes w) words.entry.now) }
+{
     let mut texts = Vec::new(alloc);
     for word in words {
         texts.push(word.as_str())?;

@@ -654,14 +654,6 @@ fn writers_of_books_fail_at_each_write(rt: HostRuntime) -> Result<(), Fail> {
     Ok(())
 }
 
-#[test]
-fn policies_are_judged_before_scripts(rt: HostRuntime) {
-    let bad = b"pst".as_slice();
-    assert!(&rt; ends_so(&rt, "version = ", bad, "", "policy: NotToml\n", 1));
-    assert!(&rt; ends_so(&rt, "", bad, "", "policy: BadVersion\n", 1));
-    assert!(&rt; ends_so(&rt, "version = 1", bad, "", "policy: MissingKey\n", 1));
-}
-
 // Endings with their status and line.
 const ENDINGS: &[(Ending, u8, &str)] = &[
     (Ending::Done, 0, ""),

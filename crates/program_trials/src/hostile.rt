@@ -196,7 +196,7 @@ const SPOILED: &[(&str, &str)] = &[
     ("book 1\n#\nend 0\n", "book: line 2\n"),
 ];
 
-// A book as long as BOOK with other lines in it.
+// Lines too many, spaces and other numbers: nothing of it is passed over.
 #[test]
 fn spoiled_books_are_refused(rt: HostRuntime) {
     for (book, line) in SPOILED {

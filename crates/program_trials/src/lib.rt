@@ -15,6 +15,8 @@ mod limits;
 #[cfg(test)]
 mod memory;
 #[cfg(test)]
+mod policies;
+#[cfg(test)]
 mod runs;
 #[cfg(test)]
 mod texts;

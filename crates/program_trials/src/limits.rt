@@ -8,7 +8,7 @@ use std::alloc::{AllocError, Global};
 use std::test::Fail;
 
 /// A policy of so many processes without a home.
-fn crowd(alloc: Global, processes: u32) -> Result<String, AllocError> {
+pub(crate) fn crowd(alloc: Global, processes: u32) -> Result<String, AllocError> {
     let mut text = String::from_str(alloc, "version = 1\n")?;
     for process in 0..processes {
         write!(text, "[[process]]\nname = \"p{process}\"\n").map_err(|_| AllocError)?;
@@ -289,5 +289,22 @@ fn a_replay_goes_on(rt: HostRuntime) -> Result<(), Fail> {
     texts.book.push_str("end 140000\n")?;
     assert!(&rt; is_kept(&rt, ALONE, &texts));
     assert!(&rt; audits_so(&rt, ALONE, &texts.book, "sound 140000\n", "", 0));
+    Ok(())
+}
+
+// The lines of a script have no limit but its bytes: here are more than 20 bits can number, each
+// with its reply. In a run one line more is no call, and none is made.
+#[test]
+fn many_lines_are_replayed(rt: HostRuntime) -> Result<(), Fail> {
+    let mut script = String::new(rt.alloc());
+    let mut said = String::new(rt.alloc());
+    for _ in 0..1100000u32 {
+        script.push_str("take 0 0\n")?;
+        said.push_str("refused NoSuchRequest\n")?;
+    }
+    assert!(&rt; ends_so(&rt, ALONE, script.as_bytes(), &said, "", 0));
+    script.push_str("pst")?;
+    let line = "script: line 1100001: BadVerb\n";
+    assert!(&rt; runs_so(&rt, ALONE, &script, "", line, 2));
     Ok(())
 }

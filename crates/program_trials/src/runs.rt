@@ -243,6 +243,40 @@ rank 2 p2
         "post 0 4294967295 barrier\npost 0 1024 barrier\npost 0 0 barrier\ntake 0 0\n",
         "rank 0 p0\nrefused NoSuchComm\nrefused NoSuchComm\nposted 0\ndelivered none\n",
     ),
+    // p2 is in none of the new communicators
+    (
+        THREE,
+        "post 0 0 split 1 0
+take 0 0
+info 0 1
+post 1 0 split 1 5
+take 1 0
+info 1 1
+post 2 0 split undefined 0
+take 2 0
+info 2 1
+info 2 0
+",
+        "rank 0 p0
+posted 0
+comm 1 rank 0 size 2
+info size 2 rank 0
+rank 1 p1
+posted 0
+comm 1 rank 1 size 2
+info size 2 rank 1
+rank 2 p2
+posted 0
+null
+refused NotMember
+info size 3 rank 2
+",
+    ),
+    (
+        ALONE,
+        "post 0 0 cart_create 1 0\ntake 0 0\ninfo 0 1\n",
+        "rank 0 p0\nposted 0\ncomm 1 rank 0 size 1\ninfo size 1 rank 0 dims 1\n",
+    ),
 ];
 
 // What is not run: the policy and the script, the line on standard error, and the status.
@@ -256,6 +290,39 @@ const UNRUN: &[(&str, &str, &str, u8)] = &[
     ),
     (ALONE, "take 7 0\n", "script: line 1: BadField\n", 2),
     ("version = ", "pst", "policy: NotToml\n", 1),
+    // one line for each other fault
+    (WALL, "#\ntake 0\n", "script: line 2: BadShape\n", 2),
+    (WALL, "post 0 0 bcst", "script: line 1: BadKind\n", 2),
+    (
+        WALL,
+        "post 0 0 bcast 0 int33 1",
+        "script: line 1: BadType\n",
+        2,
+    ),
+    (
+        WALL,
+        "post 0 0 allreduce avg int32 1",
+        "script: line 1: UnknownOp\n",
+        2,
+    ),
+    (
+        WALL,
+        "post 0 0 bcast 0 int32 1 as gamma 7",
+        "script: line 1: BadLabel\n",
+        2,
+    ),
+    (
+        WALL,
+        "post 0 0 bcast 0 int32 1 as alpha x",
+        "script: line 1: BadNumber\n",
+        2,
+    ),
+    (
+        WALL,
+        "post 0 0 bcast 0 2int 1 as alpha 7",
+        "script: line 1: OddPair\n",
+        2,
+    ),
 ];
 
 #[test]
