@@ -1,10 +1,12 @@
 //! What each process does at the door.
 ghost use Rattle.std.specs.Prelude.{◌≡◌, ◌++◌, IfOk, IfSome};
+ghost use Rattle.run_model.specs.declared.call.Act.TheVariants.{Post as ToPost};
 ghost use Rattle.run_model.specs.Known.{IsKnownLabel};
 ghost use Rattle.run_model.specs.Replies.{Legal};
 ghost use Rattle.hall_script.specs.Replies.{reply_line};
 ghost use Rattle.hall_turn.specs.Answers.{IsSamePass};
-ghost use Rattle.joint_sum.specs.Told.{WasTold, IsFirstNumber};
+ghost use Rattle.rank_run.specs.Waits.{script_patience};
+ghost use Rattle.joint_sum.specs.Told.{WasTold, WasAwaited, IsFirstNumber};
 
 use anyhow::{Result, bail};
 use coll_routes::{Own, Signature};
@@ -60,7 +62,7 @@ fn posting(alloc: Global, sig: Signature, label: Label, number: Option<i128>) ->
 }
 
 // Posts, waits for the outcome, and appends its line. The outcome is what the pass was told last,
-// in the legal run that it has seen.
+// in the legal run that it has seen. It is tried for as often as a take of a script is.
 fn exchange<R: Wait>(
     rt: &R,
     door: &Door,
@@ -75,6 +77,8 @@ fn exchange<R: Wait>(
     ensures same { IsSamePass pass.old pass.new }
     ensures legal { Legal policy.now pass.new.seen }
     ensures told { IfOk result (WasTold pass.new) }
+    ensures waited { IfOk result (λ reply.
+        WasAwaited script_patience pass.old (ToPost posting) reply pass.new) }
     ensures line { IfOk result (λ reply.
         told.new.items ≡ told.old.items ++ reply_line policy.now reply) }
 {

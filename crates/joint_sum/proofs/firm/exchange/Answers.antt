@@ -17,3 +17,11 @@ returns-clause-told g c =
 
 pub returns-clause-line : goal.returns-clause-line
 returns-clause-line g c = c.in_ok-write_reply.ensures.ok
+
+pub returns-clause-waited : goal.returns-clause-waited
+returns-clause-waited g c = (
+  c.in-Reply-Posted.request,
+  c.post.new.pass,
+  (rw c.in-Reply-Posted.field-0-is at c.in-Reply-Posted.ensures.answered),
+  c.in-Reply.ensures.waited,
+)
