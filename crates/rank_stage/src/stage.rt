@@ -38,8 +38,8 @@
 //!   them, by a value that only `Stage::release` makes (`Begun`, `GivenUp`).
 //! - To begin, the first to play is called, and the others are called by those before them; where
 //!   all play, each bell is rung. To give up, that is noted before each bell is rung, whether its
-//!   rank has a thread or not. A rank that wakes looks at the note, and goes home if it is there; else
-//!   it begins if it plays, or if all do, and else waits on.
+//!   rank has a thread or not. A rank that wakes looks at the note, and goes home if it is there;
+//!   else it begins if it plays, or if all do, and else waits on.
 
 ghost use Rattle.std.specs.Prelude.{◌≡◌, IfOk, IfErr, true, false};
 
@@ -126,8 +126,8 @@ impl Stage {
         })
     }
 
-    // Waits until the rank plays, and gives the board as it lies then. A wait for the bell that ends
-    // too early is begun again. None if there is no such rank.
+    // Waits until the rank plays, and gives the board as it lies then. A wait for the bell that
+    // ends too early is begun again. None if there is no such rank.
     fn await_place<'s, R: Wait>(&'s self, rt: &R, rank: usize) -> Option<MutexGuard<'s, Standing>> {
         let bell = self.bells.get(rank)?;
         for _ in rt.forever() {

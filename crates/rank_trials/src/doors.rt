@@ -502,8 +502,8 @@ fn open_two<R: Abort>(rt: &R, alloc: Global, policy: &Policy) {
 /// A tool that looks for uses of what was let go keeps up to so many bytes of it from use.
 const KEPT: usize = 1 << 28;
 
-/// Two hundred doors, one after another. So much room at the end, which nothing is written to, takes
-/// what such a tool has kept of them out of its hands.
+/// Two hundred doors, one after another. So much room at the end, which nothing is written to,
+/// takes what such a tool has kept of them out of its hands.
 fn open_two_hundred<R: Abort>(rt: &R, alloc: Global, policy: &Policy) {
     for _ in 0..100 {
         open_two(rt, alloc, policy);
