@@ -163,7 +163,7 @@ fn sort_out(ended: Vec<Played>, mut passes: Passes, mut replies: Vec<Vec<Reply>>
 
 // The ranks begin if all have their threads, or go home. All have ended, and are joined, when it
 // returns. Neither answer can be given where the stage was not told: none would come home then.
-fn end_all<R: Threads>(
+fn end_all<R: Threads + Wait>(
     rt: &R,
     stage: &Stage,
     all_started: bool,
@@ -177,7 +177,7 @@ fn end_all<R: Threads>(
     ensures refused { IfOk result (λ _. all_started ≡ true) }
     ensures started { IfErr result (λ _. all_started ≡ false) }
 {
-    let told = stage.release(all_started);
+    let told = stage.release(rt, all_started);
     let played = join_all(rt, handles, ended);
     match told {
         Ok(begun) => Ok(Home { begun, played }),

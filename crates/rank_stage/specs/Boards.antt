@@ -5,6 +5,8 @@ use Rattle.rank_stage.specs.declared.board.Instance.{Instance}
 use Rattle.rank_stage.specs.declared.board.Place.{Place}
 use Rattle.rank_stage.specs.declared.board.Place.TheVariants.{Plays, InLine, Aside, Sleeps, Ended}
 use Rattle.rank_stage.specs.declared.board.Board.{Board}
+use Rattle.rank_stage.specs.declared.board.Start.{Start}
+use Rattle.rank_stage.specs.declared.board.Start.TheVariants.{InTurn, AtOnce}
 use Rattle.rank_stage.specs.declared.board.Rest.{Rest}
 use Rattle.rank_stage.specs.declared.board.Rest.TheVariants.{Stays as IsUp, Sleeps as Rests}
 
@@ -116,6 +118,10 @@ pub record Opens (board : Board) (ranks communicators : ℕ) : Type 0 where
   pub awake : (rank : ℕ) → rank < ranks → is_awake (place_of board rank) ≡ true
   pub counts : length board.settled.items ≡ communicators
   pub none : (comm : ℕ) → settled_on board comm ≡ 0
+
+-- a rank that waits for the start begins where all do, and else when it comes to play
+abbrev pub MayBegin : Start → Board → (rank : ℕ) → Type 0
+MayBegin start board rank = (start ≡ AtOnce) ⊎ ((start ≡ InTurn) × (place_of board rank ≡ Plays))
 
 -- whom a rank calls that lies down
 abbrev pub called_by : Rest → Option ℕ

@@ -10,7 +10,11 @@ ghost use Rattle.rank_stage.specs.Boards.{IsInLineOrNone, place_of, settled_on, 
 ghost use Rattle.rank_stage.specs.Boards.{PlaysAlone, IsWatched, IsOrderly, Calls, HasComeToLine};
 ghost use Rattle.rank_stage.specs.declared.board.Rest.TheVariants.{Stays as IsUp};
 ghost use Rattle.rank_stage.specs.Boards.{HasWoken, IsLastAwake, OthersStay, Opens, called_by};
-ghost use Rattle.rank_stage.specs.Boards.{IsNextInLine, HasBeenWoken};
+ghost use Rattle.rank_stage.specs.Boards.{IsNextInLine, HasBeenWoken, MayBegin};
+ghost use Rattle.rank_stage.specs.declared.board.Start.TheVariants.{Awaited, InTurn, AtOnce};
+ghost use Rattle.rank_stage.specs.declared.board.Start.TheVariants.{GivenUp};
+ghost use Rattle.rank_stage.specs.declared.board.Entry.TheVariants.{Begins, GoesHome, WaitsOn};
+ghost use Rattle.rank_stage.specs.declared.board.Role.{Role};
 
 use std::alloc::{AllocError, Global};
 use std::thread::Parker;
@@ -457,11 +461,65 @@ impl Call {
 }
 
 /// Rings the bell of the rank, if there is one.
-pub(crate) fn wake(bells: &[Parker], rank: Option<usize>) {
+fn wake(bells: &[Parker], rank: Option<usize>) {
     let Some(rank) = rank else { return };
     if let Some(bell) = bells.get(rank) {
         bell.unpark();
     }
+}
+
+/// All ranks are to be called. It has no `Drop`, so whoever gets one rings each bell.
+pub(crate) struct CallAll(());
+
+impl CallAll {
+    /// Rings the bell of each rank, whether it has a thread or not. The lock is let go before.
+    pub(crate) fn ring(self, bells: &[Parker]) {
+        let CallAll(()) = self;
+        for bell in bells {
+            bell.unpark();
+        }
+    }
+}
+
+/// Whether the ranks may begin.
+#[derive(Clone, Copy)]
+pub(crate) enum Start {
+    /// Nobody has been told yet.
+    Awaited,
+    /// Each begins when it comes to play.
+    InTurn,
+    /// All begin.
+    AtOnce,
+    /// None begins any more.
+    GivenUp,
+}
+
+/// A rank that has begun. It has no `Drop`: it ends by `Stage::end`.
+pub struct Role {
+    rank: usize,
+}
+
+impl Role {
+    pub(crate) fn rank(&self) -> usize
+        ensures { result ≡ self.now.rank }
+    {
+        self.rank
+    }
+
+    /// The rank has played its part.
+    pub(crate) fn lay_down(self) -> usize
+        ensures { result ≡ self.rank }
+    {
+        let Role { rank } = self;
+        rank
+    }
+}
+
+/// What a rank does that waits for the start.
+pub(crate) enum Entry {
+    Begins(Role),
+    WaitsOn,
+    GoesHome,
 }
 
 /// What came of a rank that would sleep.
@@ -476,18 +534,19 @@ pub(crate) enum Rest {
 #[derive(Drop)]
 pub(crate) struct Standing {
     board: Board,
+    start: Start,
     ghost orderly: { IsOrderly board },
 }
 
 impl Standing {
-    /// All ranks stand in line, but for the first, which plays and is to be called at the start.
+    /// All ranks stand in line, but for the first, which plays. None begins before it is told so.
     pub(crate) fn new(
         alloc: Global,
         ranks: usize,
         communicators: usize,
-    ) -> Result<(Standing, Option<usize>), AllocError>
-        ensures opens { IfOk result (λ opened. Opens opened.0.board ranks communicators) }
-        ensures called { IfOk result (λ opened. opened.1 ≡ opened.0.board.player) }
+    ) -> Result<Standing, AllocError>
+        ensures opens { IfOk result (λ opened. Opens opened.board ranks communicators) }
+        ensures start { IfOk result (λ opened. opened.start ≡ Awaited) }
     {
         let places = places_in_line(alloc, ranks)?;
         let settled = no_counts(alloc, communicators)?;
@@ -497,8 +556,58 @@ impl Standing {
             player: None,
             next: 0,
         };
-        let called = board.cast();
-        Ok((Standing { board }, called))
+        let _ = board.cast();
+        let start = Start::Awaited;
+        Ok(Standing { board, start })
+    }
+
+    /// Each rank begins when it comes to play. The one that plays is to be called.
+    pub(crate) fn begin_in_turn(&mut self) -> Call
+        ensures told { self.new.start ≡ InTurn }
+        ensures first { result.0 ≡ self.old.board.player }
+        ensures same { self.new.board ≡ self.old.board }
+    {
+        self.start = Start::InTurn;
+        Call(self.board.player)
+    }
+
+    /// All ranks begin.
+    pub(crate) fn begin_at_once(&mut self) -> CallAll
+        ensures told { self.new.start ≡ AtOnce }
+        ensures same { self.new.board ≡ self.old.board }
+    {
+        self.start = Start::AtOnce;
+        CallAll(())
+    }
+
+    /// No rank begins.
+    pub(crate) fn give_up(&mut self) -> CallAll
+        ensures told { self.new.start ≡ GivenUp }
+        ensures same { self.new.board ≡ self.old.board }
+    {
+        self.start = Start::GivenUp;
+        CallAll(())
+    }
+
+    /// What the rank does, which waits for the start.
+    pub(crate) fn enter(&self, rank: usize) -> Entry
+        ensures begins { (role : Role) → result ≡ Begins role →
+            (role.rank ≡ rank) × MayBegin self.now.start self.now.board rank }
+        ensures waits { result ≡ WaitsOn →
+            (self.now.start ≢ GivenUp) × (MayBegin self.now.start self.now.board rank → ⊥) }
+        ensures home { result ≡ GoesHome → self.now.start ≡ GivenUp }
+    {
+        let begins = match self.start {
+            Start::Awaited => false,
+            Start::InTurn => self.board.plays(rank),
+            Start::AtOnce => true,
+            Start::GivenUp => return Entry::GoesHome,
+        };
+        if begins {
+            Entry::Begins(Role { rank })
+        } else {
+            Entry::WaitsOn
+        }
     }
 
     /// The rank, if it plays, steps aside: it makes no call for a while.

@@ -6,5 +6,5 @@
 mod board;
 mod stage;
 
-pub use board::Instance;
-pub use stage::{Aside, Begun, GivenUp, Role, Stage};
+pub use board::{Instance, Role};
+pub use stage::{Aside, Begun, GivenUp, Stage};

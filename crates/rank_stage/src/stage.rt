@@ -31,29 +31,25 @@
 //! No rank begins before all threads have started, so that where one is refused nobody waits for a
 //! rank that has none. No rank waits for the start for ever:
 //!
-//! - It waits for its bell, which nobody rings before the start: the first has its place on the
-//!   board but is not called yet, and the gate is not asked yet, so it holds nobody.
+//! - It waits for its bell. The first has its place on the board, but a rank that wakes before the
+//!   start, for whatever cause, waits on: the start stands on the board, under its lock. The gate
+//!   is not asked yet, so it holds nobody.
 //! - The function that starts the threads waits for nobody before it has told the ranks to begin,
 //!   or to give up: it joins them afterwards. What it is to answer tells which of the two it told
 //!   them, by a value that only `Stage::release` makes (`Begun`, `GivenUp`).
 //! - To begin, the first to play is called, and the others are called by those before them; where
-//!   all play, each bell is rung. To give up, that is noted before each bell is rung, whether its
-//!   rank has a thread or not. A rank that wakes looks at the note, and goes home if it is there;
-//!   else it begins if it plays, or if all do, and else waits on.
+//!   all play, or the run is given up, each bell is rung, whether its rank has a thread or not. Who
+//!   writes that on the board gets a call for it, so no bell is rung before it stands there. A rank
+//!   that wakes asks the board whether it begins (a `Role` comes from there), goes home or waits on.
 
-ghost use Rattle.std.specs.Prelude.{◌≡◌, IfOk, IfErr, true, false};
+ghost use Rattle.std.specs.Prelude.{◌≡◌, IfOk, IfErr, IfSome, true, false};
 
-use crate::board::{Instance, Rest, Standing, wake};
+use crate::board::{Entry, Instance, Rest, Role, Standing};
 use std::alloc::{AllocError, Global};
-use std::sync::atomic::{AtomicBool, AtomicU64, Ordering};
+use std::sync::atomic::{AtomicU64, Ordering};
 use std::sync::{Mutex, MutexGuard, Wait};
 use std::thread;
 use std::thread::Parker;
-
-/// A rank that has begun. It has no `Drop`: it ends by [`Stage::end`].
-pub struct Role {
-    rank: usize,
-}
 
 /// A rank that has stepped aside. It has no `Drop`: it comes back by [`Stage::step_back`].
 pub struct Aside {
@@ -70,10 +66,6 @@ pub struct Stage {
     bells: Vec<Parker>,
     // All play, and nobody sleeps.
     open: bool,
-    // Who is called at the start, if one plays at a time.
-    first: Option<usize>,
-    // No rank begins.
-    given_up: AtomicBool,
 }
 
 /// The ranks of a stage were told to begin. Only [`Stage::release`] makes one, so who has it knows
@@ -115,14 +107,12 @@ impl Stage {
     ) -> Result<Stage, AllocError> {
         let bells = silent_bells(alloc, ranks)?;
         let settled = no_counts(alloc, communicators)?;
-        let (standing, first) = Standing::new(alloc, ranks, communicators)?;
+        let standing = Standing::new(alloc, ranks, communicators)?;
         Ok(Stage {
             standing: Mutex::new(standing),
             settled,
             bells,
             open,
-            first,
-            given_up: AtomicBool::new(false),
         })
     }
 
@@ -140,54 +130,52 @@ impl Stage {
         unreachable!()
     }
 
-    fn wake_all(&self) {
-        for bell in self.bells.iter() {
-            bell.unpark();
-        }
-    }
-
-    fn begin_all(&self) -> Begun {
+    fn begin_all<R: Wait>(&self, rt: &R) -> Begun {
+        let mut standing = self.standing.lock(rt);
         if self.open {
-            self.wake_all();
+            let call = standing.begin_at_once();
+            drop(standing);
+            call.ring(self.bells.as_slice());
         } else {
-            wake(self.bells.as_slice(), self.first);
+            let call = standing.begin_in_turn();
+            drop(standing);
+            call.ring(self.bells.as_slice());
         }
         Begun(())
     }
 
-    fn give_up(&self) -> GivenUp {
-        self.given_up.store(true, Ordering::SeqCst);
-        self.wake_all();
+    fn give_up<R: Wait>(&self, rt: &R) -> GivenUp {
+        let mut standing = self.standing.lock(rt);
+        let call = standing.give_up();
+        drop(standing);
+        call.ring(self.bells.as_slice());
         GivenUp(())
     }
 
     /// If all threads have started, the ranks begin; if one was refused, the run is given up, and
     /// no rank begins. Comes before any thread is joined, which waits for this.
-    pub fn release(&self, all_started: bool) -> Result<Begun, GivenUp>
+    pub fn release<R: Wait>(&self, rt: &R, all_started: bool) -> Result<Begun, GivenUp>
         ensures begun { IfOk result (λ _. all_started ≡ true) }
         ensures given_up { IfErr result (λ _. all_started ≡ false) }
     {
         if all_started {
-            Ok(self.begin_all())
+            Ok(self.begin_all(rt))
         } else {
-            Err(self.give_up())
+            Err(self.give_up(rt))
         }
     }
 
-    fn may_play<R: Wait>(&self, rt: &R, rank: usize) -> bool {
-        self.open || self.standing.lock(rt).plays(rank)
-    }
-
     /// The rank begins, as soon as it may. None if the run was given up, or has no such rank.
-    pub fn begin<R: Wait>(&self, rt: &R, rank: usize) -> Option<Role> {
+    pub fn begin<R: Wait>(&self, rt: &R, rank: usize) -> Option<Role>
+        ensures { IfSome result (λ role. role.rank ≡ rank) }
+    {
         let bell = self.bells.get(rank)?;
         for _ in rt.forever() {
             bell.park(rt);
-            if self.given_up.load(Ordering::SeqCst) {
-                return None;
-            }
-            if self.may_play(rt, rank) {
-                return Some(Role { rank });
+            match self.standing.lock(rt).enter(rank) {
+                Entry::Begins(role) => return Some(role),
+                Entry::WaitsOn => {}
+                Entry::GoesHome => return None,
             }
         }
         unreachable!()
@@ -195,16 +183,15 @@ impl Stage {
 
     /// The rank has ended.
     pub fn end<R: Wait>(&self, rt: &R, role: Role) {
-        let Role { rank } = role;
         let mut standing = self.standing.lock(rt);
-        let call = standing.end(rank);
+        let call = standing.end(role.lay_down());
         drop(standing);
         call.ring(self.bells.as_slice());
     }
 
     /// The rank makes no call for a while.
     pub fn step_aside<R: Wait>(&self, rt: &R, role: &Role) -> Aside {
-        let rank = role.rank;
+        let rank = role.rank();
         if self.open {
             return Aside { rank };
         }
@@ -253,7 +240,7 @@ impl Stage {
     /// instance has not settled, and every other rank has ended or sleeps: then it will not settle
     /// before this rank goes on.
     pub fn sleep<R: Wait>(&self, rt: &R, role: &Role, it: Instance) -> bool {
-        let rank = role.rank;
+        let rank = role.rank();
         if self.is_settled(it) {
             return true;
         }

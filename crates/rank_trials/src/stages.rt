@@ -2,6 +2,7 @@
 //!
 //! Each rank has a thread. The test looks at their counts, and fails after too many looks: a rank
 //! that is left asleep, and one that never begins, end a test too.
+use crate::ranks::stands;
 use rank_stage::{Instance, Role, Stage};
 use std::process::Abort;
 use std::sync::Wait;
@@ -33,6 +34,8 @@ struct Sight {
     posts: [AtomicU64; 3],
     /// How many of those who slept for something that never settles were told so.
     told: AtomicU64,
+    /// How much processor time the ranks took that slept beside others, in microseconds.
+    micros: AtomicU64,
     /// What does not fit.
     wrong: AtomicU64,
 }
@@ -46,6 +49,7 @@ fn new_sight(ranks: u64) -> Sight {
         playing: AtomicU64::new(0),
         posts: [AtomicU64::new(0), AtomicU64::new(0), AtomicU64::new(0)],
         told: AtomicU64::new(0),
+        micros: AtomicU64::new(0),
         wrong: AtomicU64::new(0),
     }
 }
@@ -135,10 +139,6 @@ fn await_count<R: Abort>(rt: &R, count: &AtomicU64, wanted: u64) {
     assert!(rt; false, "a rank is left asleep");
 }
 
-fn stands<R: Abort>(rt: &R, count: &AtomicU64, wanted: u64) {
-    assert!(rt; count.load(Ordering::SeqCst) == wanted);
-}
-
 /// What a rank does once it may.
 #[derive(Clone, Copy)]
 enum Plan {
@@ -223,16 +223,51 @@ fn play_all<R: Threads + Wait + Sync + Abort>(rt: &R, stage: &Stage, sight: &Sig
         stands(rt, &sight.home, 0);
         match plan {
             Plan::GoHome => {
-                assert!(rt; stage.release(false).is_err());
+                assert!(rt; stage.release(rt, false).is_err());
                 await_count(rt, &sight.home, sight.ranks);
             }
             Plan::Rounds(_) | Plan::InVain => {
-                assert!(rt; stage.release(true).is_ok());
+                assert!(rt; stage.release(rt, true).is_ok());
                 await_count(rt, &sight.ended, sight.ranks);
             }
         }
     });
     stands(rt, &sight.wrong, 0);
+}
+
+/// What does not fit is counted, and nothing else: were it not, no test here would fail.
+#[test]
+fn what_does_not_fit_is_seen(rt: HostRuntime) {
+    let sight = new_sight(2);
+    sight.expect(true);
+    stands(&rt, &sight.wrong, 0);
+    sight.expect(false);
+    stands(&rt, &sight.wrong, 1);
+    sight.enter();
+    stands(&rt, &sight.wrong, 1);
+    sight.enter();
+    stands(&rt, &sight.wrong, 2);
+    sight.leave();
+    stands(&rt, &sight.wrong, 3);
+}
+
+/// An instance has settled once each rank has posted, and no sooner.
+#[test]
+fn an_instance_settles_by_all_posts(rt: HostRuntime) {
+    let sight = new_sight(2);
+    let first = Instance { comm: 1, number: 0 };
+    let second = Instance { comm: 1, number: 1 };
+    for (posts, one, two) in [(0, false, false), (1, false, false), (2, true, false)] {
+        sight.posts[1].store(posts, Ordering::SeqCst);
+        assert!(&rt; sight.has_settled(first) == one && sight.has_settled(second) == two);
+    }
+    assert!(&rt; !sight.has_settled(Instance { comm: 0, number: 0 }));
+    assert!(&rt;
+        !sight.has_settled(Instance {
+            comm: COMMS,
+            number: 0
+        })
+    );
 }
 
 /// Ranks that post and sleep, two of them often, many of them now and then, on several
@@ -314,7 +349,7 @@ fn play_all_open<R: Threads + Wait + Sync + Abort>(rt: &R, stage: &Stage, sight:
         }
         linger();
         stands(rt, &sight.begun, 0);
-        assert!(rt; stage.release(true).is_ok());
+        assert!(rt; stage.release(rt, true).is_ok());
         await_count(rt, &sight.ended, sight.ranks);
     });
     stands(rt, &sight.wrong, 0);
@@ -354,7 +389,7 @@ fn aside<R: Threads + Wait + Sync + Abort>(rt: &R, stage: &Stage, sight: &Sight)
             .spawn(move || begin_and_end(rt, stage, sight))
             .is_err();
         assert!(rt; !first && !second);
-        assert!(rt; stage.release(true).is_ok());
+        assert!(rt; stage.release(rt, true).is_ok());
         await_count(rt, &sight.ended, 2);
     });
     stands(rt, &sight.wrong, 0);
@@ -369,43 +404,183 @@ fn a_rank_that_steps_aside_makes_room(rt: HostRuntime) -> Result<(), Fail> {
     Ok(())
 }
 
-/// Rank 0 keeps its place for a second.
-fn play_late<R: Wait + Clock>(rt: &R, stage: &Stage, sight: &Sight, rank: usize) {
+/// For what the others wait while one rank keeps its place.
+#[derive(Clone, Copy)]
+enum Late {
+    /// To begin.
+    Begin,
+    /// For an instance to settle.
+    Settle,
+    /// To come back, having stepped aside.
+    Back,
+}
+
+impl Late {
+    /// Who keeps its place: the first, so that nobody else begins, or the last to begin.
+    fn keeper(self, ranks: u64) -> usize {
+        match self {
+            Late::Begin => 0,
+            Late::Settle | Late::Back => ranks.saturating_sub(1) as usize,
+        }
+    }
+}
+
+/// It sleeps until the instance settles, as all of these do in the end.
+fn await_settled<R: Wait>(rt: &R, stage: &Stage, sight: &Sight, role: &Role, it: Instance) {
+    sight.leave();
+    sight.expect(stage.sleep(rt, role, it));
+    sight.enter();
+}
+
+/// One rank keeps its place for a second, and then settles what the others may wait for.
+fn play_late<R: Wait + Clock>(rt: &R, stage: &Stage, sight: &Sight, rank: usize, late: Late) {
     let Some(role) = sight.begin(rt, stage, rank) else {
         return;
     };
-    if rank == 0 {
+    let it = Instance { comm: 0, number: 0 };
+    if rank == late.keeper(sight.ranks) {
         thread::sleep(rt, Duration::from_millis(1000));
+        stage.settle(rt, 0);
+    } else {
+        match late {
+            Late::Begin => {}
+            Late::Settle => await_settled(rt, stage, sight, &role, it),
+            Late::Back => sight.compute(rt, stage, &role),
+        }
     }
     sight.end(rt, stage, role);
 }
 
-/// All wait for rank 0. Nobody looks at their counts meanwhile, which would take time.
-fn play_all_late<R: Threads + Wait + Clock + Sync + Abort>(rt: &R, stage: &Stage, sight: &Sight) {
+/// All wait for one rank. Nobody looks at their counts meanwhile, which would take time.
+fn play_all_late<R: Threads + Wait + Clock + Sync + Abort>(
+    rt: &R,
+    stage: &Stage,
+    sight: &Sight,
+    late: Late,
+) {
     thread::scope(thread::scope_env(), rt, |scope| {
         for rank in 0..sight.ranks as usize {
             let refused = scope
-                .spawn(move || play_late(rt, stage, sight, rank))
+                .spawn(move || play_late(rt, stage, sight, rank, late))
                 .is_err();
             assert!(rt; !refused);
         }
-        assert!(rt; stage.release(true).is_ok());
+        assert!(rt; stage.release(rt, true).is_ok());
     });
     stands(rt, &sight.ended, sight.ranks);
     stands(rt, &sight.wrong, 0);
 }
 
-/// Ranks that wait for their place take no processor: seven wait for a second, and all together use
-/// less than half a second of processor time.
+/// Ranks that wait take no processor, whether to begin, for an instance or to come back: 31 wait
+/// for a second, and all together use less than half a second of processor time.
 #[test]
 fn ranks_that_wait_take_no_processor(rt: HostRuntime) -> Result<(), Fail> {
-    let before = rt.process_cpu_time()?;
-    let stage = Stage::new(rt.alloc(), 8, 1, false)?;
-    let sight = new_sight(8);
-    play_all_late(&rt, &stage, &sight);
+    for (late, what) in [
+        (Late::Begin, "to begin"),
+        (Late::Settle, "for an instance"),
+        (Late::Back, "to come back"),
+    ] {
+        let before = rt.process_cpu_time()?;
+        let stage = Stage::new(rt.alloc(), 32, 1, false)?;
+        let sight = new_sight(32);
+        play_all_late(&rt, &stage, &sight, late);
+        drop(sight);
+        drop(stage);
+        let used = rt.process_cpu_time()?.saturating_sub(before).as_millis();
+        assert!(&rt; used < 500, "{used} ms while ranks wait {what}");
+    }
+    Ok(())
+}
+
+/// How often two ranks take turns beside ranks that sleep.
+const TURNS: u64 = 2000;
+
+/// How much processor time those that sleep may take, all together, in microseconds. It is ten
+/// times what they take on a busy machine.
+const SLEEP_MICROS: u64 = 50_000;
+
+/// The processor time that this thread has taken, in microseconds. That it is not told is seen.
+fn own_micros<R: CpuClock>(rt: &R, sight: &Sight) -> u64 {
+    match rt.thread_cpu_time() {
+        Ok(time) => u64::try_from(time.as_micros()).unwrap_or(u64::MAX),
+        Err(_) => {
+            sight.expect(false);
+            0
+        }
+    }
+}
+
+/// Rank 0 settles what rank 1 sleeps for, and sleeps for what rank 1 settles. Before each of its
+/// turns the stage is still for a moment: who was woken in vain has time to lie down again.
+fn lead<R: Wait + Clock>(rt: &R, stage: &Stage, sight: &Sight, role: &Role) {
+    for number in 0..TURNS {
+        thread::sleep(rt, Duration::from_micros(200));
+        stage.settle(rt, 0);
+        await_settled(rt, stage, sight, role, Instance { comm: 1, number });
+    }
+    stage.settle(rt, 2);
+}
+
+/// Rank 1.
+fn follow<R: Wait>(rt: &R, stage: &Stage, sight: &Sight, role: &Role) {
+    for number in 0..TURNS {
+        await_settled(rt, stage, sight, role, Instance { comm: 0, number });
+        stage.settle(rt, 1);
+    }
+}
+
+/// Any other rank sleeps until those two are done, and counts the processor time that this takes.
+fn sleep_beside<R: Wait + CpuClock>(rt: &R, stage: &Stage, sight: &Sight, role: &Role) {
+    let before = own_micros(rt, sight);
+    await_settled(rt, stage, sight, role, Instance { comm: 2, number: 0 });
+    let used = own_micros(rt, sight).saturating_sub(before);
+    sight.micros.fetch_add(used, Ordering::SeqCst);
+}
+
+fn play_beside<R: Wait + Clock + CpuClock>(rt: &R, stage: &Stage, sight: &Sight, rank: usize) {
+    let Some(role) = sight.begin(rt, stage, rank) else {
+        return;
+    };
+    match rank {
+        0 => lead(rt, stage, sight, &role),
+        1 => follow(rt, stage, sight, &role),
+        _ => sleep_beside(rt, stage, sight, &role),
+    }
+    sight.end(rt, stage, role);
+}
+
+/// A thread for each rank.
+fn play_all_beside<R: Threads + Wait + Clock + CpuClock + Sync + Abort>(
+    rt: &R,
+    stage: &Stage,
+    sight: &Sight,
+) {
+    thread::scope(thread::scope_env(), rt, |scope| {
+        for rank in 0..sight.ranks as usize {
+            let refused = scope
+                .spawn(move || play_beside(rt, stage, sight, rank))
+                .is_err();
+            assert!(rt; !refused);
+        }
+        assert!(rt; stage.release(rt, true).is_ok());
+    });
+    stands(rt, &sight.ended, sight.ranks);
+    stands(rt, &sight.wrong, 0);
+}
+
+/// While two ranks take turns the others sleep in peace: they do not look for themselves, and of
+/// the bells that of the called rank alone is rung. Else each of them would run at each turn.
+#[test]
+fn only_who_is_called_wakes(rt: HostRuntime) -> Result<(), Fail> {
+    let stage = Stage::new(rt.alloc(), 64, COMMS as usize, false)?;
+    let sight = new_sight(64);
+    play_all_beside(&rt, &stage, &sight);
+    let used = sight.micros.load(Ordering::SeqCst);
+    assert!(&rt;
+        used < SLEEP_MICROS,
+        "{used} microseconds while ranks sleep"
+    );
     drop(sight);
     drop(stage);
-    let used = rt.process_cpu_time()?.saturating_sub(before);
-    assert!(&rt; used.as_millis() < 500);
     Ok(())
 }
