@@ -551,3 +551,23 @@ fn doors_are_let_go(rt: HostRuntime) -> Result<(), Fail> {
     drop(policy);
     kept
 }
+
+/// Other answers than those that these tests hold a door to are told apart from them.
+#[test]
+fn other_answers_are_told_apart(rt: HostRuntime) {
+    let posted = Answer::Reply(Reply::Posted(1));
+    assert!(&rt; is_posted(&posted, 1) && !is_posted(&posted, 0));
+    assert!(&rt; !is_delivered(&posted, &[]) && !is_info(&posted, 1, 0));
+    assert!(&rt; !is_refused(&posted, Refusal::NoSuchRequest));
+    let refused = Answer::Reply(Reply::Refused(Refusal::NoSuchComm));
+    assert!(&rt; is_refused(&refused, Refusal::NoSuchComm) && !is_posted(&refused, 0));
+    assert!(&rt; !is_refused(&refused, Refusal::NoSuchRequest));
+    let exhausted = Answer::Exhausted;
+    assert!(&rt; !is_posted(&exhausted, 0) && !is_delivered(&exhausted, &[]));
+    let unclaimed = Claimed::Exhausted;
+    assert!(&rt; !is_ready(&unclaimed, 0));
+    drop(posted);
+    drop(refused);
+    drop(exhausted);
+    drop(unclaimed);
+}

@@ -386,6 +386,26 @@ fn others_call_while_one_computes(rt: HostRuntime) {
     stands(&rt, &gate.late, 0);
 }
 
+/// What does not fit is counted: a reply that is not due, and a call out of its order.
+#[test]
+fn a_gate_sees_what_does_not_fit(rt: HostRuntime) {
+    let wrong = Reply::Posted(1);
+    assert!(&rt; !is_due(0, 0, &wrong) && !is_due(0, 1, &wrong) && !is_due(0, 2, &wrong));
+    assert!(&rt; is_due(1, 2, &wrong) && !is_due(1, 3, &wrong));
+    assert!(&rt; !is_all(&wrong) && !is_block(&Block::Missing, 1));
+    let replies = [Reply::Posted(0), Reply::Posted(1)];
+    assert!(&rt; !are(&[], 0) && !are(&replies, 0));
+    let gate = new_listening();
+    gate.before_call(&rt, 0, 1);
+    stands(&rt, &gate.wrong, 1);
+    gate.expect(true);
+    stands(&rt, &gate.wrong, 1);
+    gate.expect(false);
+    stands(&rt, &gate.wrong, 2);
+    drop(wrong);
+    drop(replies);
+}
+
 /// How many calls the gate was told to the end, of a process.
 fn heard_of<R: Wait>(rt: &R, gate: &Listening, process: usize) -> Option<u64> {
     let heard = *gate.heard.get(process)?.lock(rt);

@@ -25,6 +25,15 @@ struct Hearing {
     wrong: AtomicU64,
 }
 
+fn new_hearing() -> Hearing {
+    Hearing {
+        begun: AtomicU64::new(0),
+        tries: AtomicU64::new(0),
+        ended: AtomicU64::new(0),
+        wrong: AtomicU64::new(0),
+    }
+}
+
 impl Hearing {
     fn expect(&self, is: bool) {
         if !is {
@@ -105,15 +114,31 @@ fn hear<R: Threads + Wait + Sync + Abort>(rt: &R, alloc: Global, gate: &Hearing)
 /// computed at every try of a take, also where it is refused or pending.
 #[test]
 fn a_gate_hears_calls_of_every_reply(rt: HostRuntime) {
-    let gate = Hearing {
-        begun: AtomicU64::new(0),
-        tries: AtomicU64::new(0),
-        ended: AtomicU64::new(0),
-        wrong: AtomicU64::new(0),
-    };
+    let gate = new_hearing();
     hear(&rt, rt.alloc(), &gate);
     stands(&rt, &gate.wrong, 0);
     stands(&rt, &gate.begun, 5);
     stands(&rt, &gate.ended, 5);
     stands(&rt, &gate.tries, PATIENCE + 1);
+}
+
+/// A reply that is not due does not pass for one, and what does not fit is counted.
+#[test]
+fn what_is_not_due_is_seen(rt: HostRuntime) {
+    let pending = Reply::Pending;
+    for number in [0, 1, 2, 3, 5] {
+        assert!(&rt; !is_due(number, &pending), "call {number}");
+    }
+    let posted = Reply::Posted(0);
+    assert!(&rt; !is_due(3, &posted) && !is_due(4, &posted));
+    let refused = Reply::Refused(Refusal::NoSuchComm);
+    assert!(&rt; !is_due(1, &refused));
+    drop(pending);
+    drop(posted);
+    drop(refused);
+    let gate = new_hearing();
+    gate.expect(true);
+    stands(&rt, &gate.wrong, 0);
+    gate.before_call(&rt, 1, 0);
+    stands(&rt, &gate.wrong, 1);
 }

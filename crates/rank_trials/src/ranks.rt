@@ -230,10 +230,14 @@ pub(crate) fn run_four<R: Threads + Wait + Sync + Abort, G: Gate + Sync>(
     run
 }
 
+/// Whether the counter stands at this number.
+pub(crate) fn is_at(counter: &AtomicU64, number: u64) -> bool {
+    counter.load(Ordering::SeqCst) == number
+}
+
 /// The counter stands at this number.
 pub(crate) fn stands<R: Abort>(rt: &R, counter: &AtomicU64, number: u64) {
-    let counted = counter.load(Ordering::SeqCst);
-    assert!(rt; counted == number);
+    assert!(rt; is_at(counter, number));
 }
 
 /// The replies are given up as vectors, one for each process.
@@ -271,6 +275,20 @@ fn ranks_meet(rt: HostRuntime) {
     let run = run_four(&rt, rt.alloc(), &gate);
     stands(&rt, &gate.late, 0);
     drop(run);
+}
+
+/// A count and a reply other than the one that a test holds to are told apart from it.
+#[test]
+fn other_counts_and_replies_are_told_apart(rt: HostRuntime) {
+    let one = AtomicU64::new(1);
+    assert!(&rt; is_at(&one, 1) && !is_at(&one, 0) && !is_at(&one, 2));
+    let posted = Reply::Posted(1);
+    assert!(&rt; is_posted(&posted, 1) && !is_posted(&posted, 0) && !is_delivered(&posted, 1));
+    let pending = [Reply::Pending, Reply::Pending];
+    assert!(&rt; !is_posted(&pending[0], 0) && !is_delivered(&pending[0], 0));
+    assert!(&rt; !are(&[], 19) && !are(&pending, 19));
+    drop(posted);
+    drop(pending);
 }
 
 const FAULTS: &[(RunFault, &str)] = &[
