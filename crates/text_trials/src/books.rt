@@ -2,6 +2,7 @@
 ghost use Rattle.std.specs.List.{All};
 ghost use Rattle.run_model.specs.Known.{IsKnownEntry};
 
+use crate::statements::listing;
 use crate::walls::{WALL, WALL_IN_VERSION_2};
 use audit_book::*;
 use std::alloc::Global;
@@ -107,6 +108,7 @@ fn again(rt: &(impl AllocGlobal + Abort), policy: &Policy) -> Result<(), Fail> {
     let text = BOOK.as_bytes();
     let failed = Some((Some(WriteFault::Write), text.len()));
     assert!(rt; is_whole(rt.alloc(), policy, text));
+    assert!(rt; !is_whole(rt.alloc(), policy, b"book 1\r\nend 0\n"));
     assert!(rt; written(rt.alloc(), policy, text, Fuse::After(0)) == failed);
     Ok(())
 }
@@ -249,6 +251,33 @@ fn forms(rt: &(impl AllocGlobal + Abort), policy: &Policy) -> Result<(), Fail> {
             is_as_said(rt.alloc(), policy, text.as_bytes(), *is_form),
             "{line}"
         );
+    }
+    Ok(())
+}
+
+// A post's line up to a list, and how it goes on behind it.
+const LONG: &[(&str, &str)] = &[
+    (
+        "post 0 0 reduce_scatter sum int8 ",
+        " gives 4294967295 as delta passed",
+    ),
+    ("post 3 1 create ", " gives 0 as none passed"),
+    ("post 0 0 cart_create - ", " gives 0 as none passed"),
+];
+
+// Lines of up to a few thousand bytes: lists of as many numbers as there can be members, and more.
+#[test]
+fn long_lines_are_read_and_written(rt: HostRuntime) -> Result<(), Fail> {
+    under(&rt, WALL, |policy| long_lines(&rt, policy))
+}
+
+fn long_lines(rt: &(impl AllocGlobal + Abort), policy: &Policy) -> Result<(), Fail> {
+    for (front, rest) in LONG {
+        for numbers in [256, 1000] {
+            let list = listing(rt.alloc(), front, numbers, 1)?;
+            let text = format!(in rt.alloc(); "book 1\n{list}{rest}\nend 1\n")?;
+            assert!(rt; is_whole(rt.alloc(), policy, text.as_bytes()), "{front}");
+        }
     }
     Ok(())
 }

@@ -115,6 +115,29 @@ const CASES: &[(&[u8], &[u8], Option<ScriptFault>)] = &[
     ),
 ];
 
+// A script, and replies or a fault that are not its own: the tests notice each.
+const UNLIKE: &[(&[u8], &[u8], Option<ScriptFault>)] = &[
+    (b"take 0 0\n", b"pending\n", None),
+    (b"take 0 0\n", b"", None),
+    (b"", b"refused NoSuchRequest\n", None),
+    (b"pst", b"", None),
+    (b"pst", b"", Some(ScriptFault::Line(2, LineFault::BadVerb))),
+];
+
+#[test]
+fn other_replays_are_noticed(rt: HostRuntime) {
+    for (script, replies, fault) in UNLIKE {
+        let case = Case {
+            script,
+            replies,
+            reads: Fuse::Whole,
+            writes: Fuse::Whole,
+            fault: *fault,
+        };
+        assert!(&rt; !is_replayed(&rt, &case));
+    }
+}
+
 #[test]
 fn scripts_are_replayed(rt: HostRuntime) {
     for (script, replies, fault) in CASES {

@@ -370,6 +370,11 @@ fn barred_replies_name_their_label(rt: HostRuntime) {
     };
     assert!(&rt; has_line(&rt, barred, ">barred 6 alpha\n"));
     assert!(&rt; has_line(&rt, public, ">barred 0 public\n"));
+    let other = Reply::Barred {
+        request: 6,
+        label: Label::Of(dataset),
+    };
+    assert!(&rt; !has_line(&rt, other, ">barred 6 beta\n"));
 }
 
 #[test]

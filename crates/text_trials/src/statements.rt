@@ -101,12 +101,16 @@ const LONG: &[(&str, u32)] = &[
     ("cart_sub ", 1),
 ];
 
-// The statement with a list of as many numbers as there can be members: those from 0 on, up to the
-// most.
-fn listing(alloc: Global, front: &str, most: u32) -> Result<String, AllocError> {
+/// The statement with a list of so many numbers: those from 0 on, up to the most.
+pub(crate) fn listing(
+    alloc: Global,
+    front: &str,
+    numbers: u32,
+    most: u32,
+) -> Result<String, AllocError> {
     let mut line = String::from_str(alloc, front)?;
     let mut comma = "";
-    for number in 0..256u32 {
+    for number in 0..numbers {
         let number = number.min(most);
         write!(line, "{comma}{number}")?;
         comma = ",";
@@ -114,14 +118,24 @@ fn listing(alloc: Global, front: &str, most: u32) -> Result<String, AllocError> 
     Ok(line)
 }
 
-// Ranks, counts and flags, as many of each as a communicator has members at most.
+// Ranks, counts and flags: as many of each as a communicator has members at most, one more, and
+// far more, which it is the rules' part to refuse.
 #[test]
 fn long_lists_are_read_and_written(rt: HostRuntime) -> Result<(), Fail> {
     for (front, most) in LONG {
-        let line = listing(rt.alloc(), front, *most)?;
-        assert!(&rt; is_spelled(&rt, &line), "{front}");
+        for numbers in [256, 257, 5000] {
+            let line = listing(rt.alloc(), front, numbers, *most)?;
+            assert!(&rt; is_spelled(&rt, &line), "{front}");
+        }
     }
     Ok(())
+}
+
+#[test]
+fn other_spellings_are_noticed(rt: HostRuntime) {
+    for line in ["", "barrier ", "create 0,", "split 0 +1", "bcast 00 int8 1"] {
+        assert!(&rt; !is_spelled(&rt, line), "{line}");
+    }
 }
 
 const FAULTS: &[(&str, LineFault)] = &[
