@@ -125,6 +125,37 @@ pub(crate) fn ends_so(
     given == status && is_all && out.is_same && err.is_same
 }
 
+// What the tests rest on notices other replies, none, and one too many; another line, and another
+// status; another book; and what a broken device was given.
+#[test]
+fn other_endings_are_noticed(rt: HostRuntime) {
+    let script = "take 0 0\n";
+    let said = "refused NoSuchRequest\n";
+    assert!(&rt; ends_so(&rt, WALL, script.as_bytes(), said, "", 0));
+    let others = [
+        ("pending\n", "", 0),
+        ("", "", 0),
+        ("refused NoSuchRequest\nrefused NoSuchRequest\n", "", 0),
+        (said, "read fault\n", 0),
+        (said, "", 1),
+    ];
+    for (replies, line, status) in others {
+        assert!(&rt; !ends_so(&rt, WALL, script.as_bytes(), replies, line, status));
+        let book = "book 1\nend 0\n";
+        assert!(&rt; !keeps_so(&rt, WALL, script, replies, book, line, status));
+    }
+    for book in ["", "book 1\nend 1\n", "book 1\nend 0\n\n"] {
+        assert!(&rt; !keeps_so(&rt, WALL, script, said, book, "", 0));
+    }
+    let sound = "book 1\nend 0\n";
+    let unsound = "book 1\nverdict 0 0 granted\nend 1\n";
+    assert!(&rt; !audits_so(&rt, WALL, sound, "sound 1\n", "", 0));
+    assert!(&rt; !audits_so(&rt, WALL, sound, "", "", 0));
+    assert!(&rt; !audits_so(&rt, WALL, sound, "sound 0\n", "book: cut\n", 0));
+    assert!(&rt; !audits_so(&rt, WALL, sound, "sound 0\n", "", 2));
+    assert!(&rt; !audits_so(&rt, WALL, unsound, "sound 1\n", "", 0));
+}
+
 #[test]
 fn broadcasts_are_answered(rt: HostRuntime) {
     // a0's numbers would reach its rival b0

@@ -55,7 +55,7 @@ impl<'a> Source for Repeating<'a> {
     }
 }
 
-// So many bytes: these, and then `#` again and again.
+// So many bytes: these, and then `#` again and again, for a lifetime where the number is the largest.
 fn long<'a>(front: &'a [u8], length: usize) -> Repeating<'a> {
     Repeating {
         front,
@@ -92,12 +92,13 @@ where
 }
 
 // The limit is 16,777,216 bytes: a text of that length is read and judged, one byte more is a read
-// fault, and the script is not looked at.
+// fault, and the script is not looked at. A device that does not end in a lifetime is left at once.
 #[test]
 fn policies_have_a_limit(rt: HostRuntime) {
     let rows = [
         (16777216, "policy: NotToml\n", 1),
         (16777217, "read fault\n", 3),
+        (usize::MAX, "read fault\n", 3),
     ];
     for (length, line, status) in rows {
         let mut policy = long(b"version = \n", length);
@@ -115,6 +116,8 @@ const SCRIPTS: &[(bool, usize, &str, &str, u8)] = &[
     (false, 16777217, "", "read fault\n", 3),
     (true, 16777216, "rank 0 p0\n", "", 0),
     (true, 16777217, "", "read fault\n", 3),
+    (false, usize::MAX, "", "read fault\n", 3),
+    (true, usize::MAX, "", "read fault\n", 3),
 ];
 
 // The limit is 16,777,216 bytes, as that of policies; of that length here is a comment.
@@ -156,6 +159,7 @@ fn books_have_a_limit(rt: HostRuntime) {
     let rows = [
         (134217728, "book: line 1\n", 2),
         (134217729, "read fault\n", 3),
+        (usize::MAX, "read fault\n", 3),
     ];
     for (length, line, status) in rows {
         let mut book = long(b"book\nend 0\n", length);

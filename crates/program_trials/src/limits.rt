@@ -120,71 +120,111 @@ fn as_many_elements_are_given_as_there_can_be(rt: HostRuntime) -> Result<(), Fai
     Ok(())
 }
 
-// A grid of eight dimensions with two places each, of the world; the ranks of all neighbours there;
-// and a split of the world by parity, members from the last to the first.
-fn grid_script(alloc: Global) -> Result<String, Fail> {
-    let mut script = String::new(alloc);
-    for p in 0..256u32 {
-        write!(
-            script,
-            "post {p} 0 cart_create 2,2,2,2,2,2,2,2 1,1,1,1,1,1,1,1\n"
-        )?;
+// How many processes there are where groups are as large as they can be.
+const ALL: u32 = 256;
+
+// All post this to the communicator; and how the instance is settled.
+fn put_all(
+    texts: &mut Texts,
+    comm: u32,
+    call: &str,
+    request: u32,
+    settled: &str,
+) -> Result<(), AllocError> {
+    let Texts { script, said, book } = texts;
+    for p in 0..ALL {
+        write!(script, "post {p} {comm} {call}\n")?;
+        write!(said, "posted {request}\n")?;
+        write!(book, "post {p} {comm} {call} gives 0 as none passed\n")?;
     }
-    for p in 0..256u32 {
-        write!(
-            script,
-            "take {p} 0\npost {p} 1 neighbor_allgather int32 1 as public {p}\n"
-        )?;
-    }
-    for p in 0..256u32 {
-        let (colour, sign) = (p % 2, if p == 0 { "" } else { "-" });
-        write!(script, "post {p} 0 split {colour} {sign}{p}\n")?;
-    }
-    for p in 0..256u32 {
-        write!(script, "take {p} 1\ntake {p} 2\n")?;
-    }
-    Ok(script)
+    write!(book, "verdict {settled}\n")
 }
 
-// What a process takes of its neighbours and of the split.
-fn put_takes(text: &mut String, p: u32) -> Result<(), Fail> {
-    text.push_str("delivered")?;
+// All take the grid, and then tell their neighbours there who they are.
+fn put_neighbours(texts: &mut Texts) -> Result<(), AllocError> {
+    let Texts { script, said, book } = texts;
+    for p in 0..ALL {
+        let call = "neighbor_allgather int32 1";
+        write!(script, "take {p} 0\npost {p} 1 {call} as public {p}\n")?;
+        write!(said, "comm 1 rank {p} size 256\nposted 1\n")?;
+        write!(book, "post {p} 1 {call} gives 1 as public passed\n")?;
+    }
+    book.push_str("verdict 1 0 granted\n")
+}
+
+// All split the world by parity, members from the last to the first.
+fn put_parities(texts: &mut Texts) -> Result<(), AllocError> {
+    let Texts { script, said, book } = texts;
+    for p in 0..ALL {
+        let (colour, sign) = (p % 2, if p == 0 { "" } else { "-" });
+        let call = "split";
+        write!(script, "post {p} 0 {call} {colour} {sign}{p}\n")?;
+        said.push_str("posted 2\n")?;
+        write!(
+            book,
+            "post {p} 0 {call} {colour} {sign}{p} gives 0 as none passed\n"
+        )?;
+    }
+    book.push_str("verdict 0 1 made 2 2\n")
+}
+
+// The constructor of a group of all, the last first.
+fn create_of_all(alloc: Global) -> Result<String, AllocError> {
+    let mut call = String::from_str(alloc, "create 255")?;
+    for p in 1..ALL {
+        let back = 255u32.saturating_sub(p);
+        write!(call, ",{back}")?;
+    }
+    Ok(call)
+}
+
+// What a process takes of all that was posted, and what it is told of the duplicate.
+fn put_takes(said: &mut String, p: u32) -> Result<(), AllocError> {
+    said.push_str("delivered")?;
     for d in 0..8u32 {
         let neighbour = p ^ (128 >> d);
-        write!(text, " [{neighbour}] [{neighbour}]")?;
+        write!(said, " [{neighbour}] [{neighbour}]")?;
     }
-    let comm = 2 + p % 2;
-    let rank = 255u32.saturating_sub(p) / 2;
-    write!(text, "\ncomm {comm} rank {rank} size 128\n")?;
-    Ok(())
+    let back = 255u32.saturating_sub(p);
+    let (parity, rank) = (2 + p % 2, back / 2);
+    write!(said, "\ncomm {parity} rank {rank} size 128\n")?;
+    write!(said, "comm 4 rank {back} size 256\n")?;
+    write!(said, "comm 5 rank {p} size 256\n")?;
+    let (half, place) = (6 + p / 128, p % 128);
+    write!(said, "comm {half} rank {place} size 128\n")?;
+    write!(said, "info size 256 rank {p} dims 8\n")
 }
 
-// The replies to these calls, in a replay.
-fn grid_replies(alloc: Global) -> Result<String, Fail> {
-    let mut said = String::new(alloc);
-    for _ in 0..256u32 {
-        said.push_str("posted 0\n")?;
+// A grid of eight dimensions with two places each, of the world; the ranks of all neighbours there;
+// the world split by parity, and turned round; a duplicate of the grid, and its halves.
+fn put_largest(alloc: Global, texts: &mut Texts) -> Result<(), AllocError> {
+    let grid = "cart_create 2,2,2,2,2,2,2,2 1,1,1,1,1,1,1,1";
+    put_all(texts, 0, grid, 0, "0 0 made 1 1")?;
+    put_neighbours(texts)?;
+    put_parities(texts)?;
+    let create = create_of_all(alloc)?;
+    put_all(texts, 0, &create, 3, "0 2 made 4 1")?;
+    put_all(texts, 1, "dup", 4, "1 1 made 5 1")?;
+    put_all(texts, 1, "cart_sub 0,1,1,1,1,1,1,1", 5, "1 2 made 6 2")?;
+    let Texts { script, said, book } = texts;
+    for p in 0..ALL {
+        for request in 1..6u32 {
+            write!(script, "take {p} {request}\n")?;
+        }
+        write!(script, "info {p} 5\n")?;
+        put_takes(said, p)?;
     }
-    for p in 0..256u32 {
-        write!(said, "comm 1 rank {p} size 256\nposted 1\n")?;
-    }
-    for _ in 0..256u32 {
-        said.push_str("posted 2\n")?;
-    }
-    for p in 0..256u32 {
-        put_takes(&mut said, p)?;
-    }
-    Ok(said)
+    book.push_str("end 1542\n")
 }
 
-// The same in a run.
-fn grid_ranks(alloc: Global) -> Result<String, Fail> {
+// The same replies in a run.
+fn ranks_of_largest(alloc: Global) -> Result<String, AllocError> {
     let mut said = String::new(alloc);
-    for p in 0..256u32 {
-        write!(
-            said,
-            "rank {p} p{p}\nposted 0\ncomm 1 rank {p} size 256\nposted 1\nposted 2\n"
-        )?;
+    for p in 0..ALL {
+        write!(said, "rank {p} p{p}\nposted 0\ncomm 1 rank {p} size 256\n")?;
+        for request in 1..6u32 {
+            write!(said, "posted {request}\n")?;
+        }
         put_takes(&mut said, p)?;
     }
     Ok(said)
@@ -192,12 +232,13 @@ fn grid_ranks(alloc: Global) -> Result<String, Fail> {
 
 #[test]
 fn groups_are_as_large_as_they_can_be(rt: HostRuntime) -> Result<(), Fail> {
-    let policy = crowd(rt.alloc(), 256)?;
-    let script = grid_script(rt.alloc())?;
-    let replies = grid_replies(rt.alloc())?;
-    assert!(&rt; ends_so(&rt, &policy, script.as_bytes(), &replies, "", 0));
-    let ranks = grid_ranks(rt.alloc())?;
-    assert!(&rt; runs_so(&rt, &policy, &script, &ranks, "", 0));
+    let policy = crowd(rt.alloc(), ALL)?;
+    let mut texts = begun(rt.alloc())?;
+    put_largest(rt.alloc(), &mut texts)?;
+    assert!(&rt; is_kept(&rt, &policy, &texts));
+    assert!(&rt; audits_so(&rt, &policy, &texts.book, "sound 1542\n", "", 0));
+    let ranks = ranks_of_largest(rt.alloc())?;
+    assert!(&rt; runs_so(&rt, &policy, &texts.script, &ranks, "", 0));
     Ok(())
 }
 
@@ -277,6 +318,84 @@ fn put_barriers(texts: &mut Texts, barriers: u64) -> Result<(), AllocError> {
             "post 0 0 barrier gives 0 as none passed\nverdict 0 {k} granted\n"
         )?;
     }
+    Ok(())
+}
+
+// A verdict that comes twice, behind a thousand instances, is told by its number.
+#[test]
+fn late_entries_are_judged(rt: HostRuntime) -> Result<(), Fail> {
+    let mut texts = begun(rt.alloc())?;
+    put_barriers(&mut texts, 1000)?;
+    texts.book.push_str("verdict 0 999 granted\nend 2001\n")?;
+    let unsound = "unsound at entry 2001\n";
+    assert!(&rt; audits_so(&rt, ALONE, &texts.book, unsound, "", 2));
+    Ok(())
+}
+
+// A line of a million elements is read whole, and refused for their number alone.
+#[test]
+fn lines_of_a_million_elements_are_read(rt: HostRuntime) -> Result<(), Fail> {
+    let numbers = repeated(rt.alloc(), "1", 1000000)?;
+    let script = format!(in rt.alloc(); "post 0 0 allgather int8 1 as alpha{numbers}\n")?;
+    let said = "refused BadCount\n";
+    assert!(&rt; ends_so(&rt, ALONE, script.as_bytes(), said, "", 0));
+    let ran = "rank 0 p0\nrefused BadCount\n";
+    assert!(&rt; runs_so(&rt, ALONE, &script, ran, "", 0));
+    Ok(())
+}
+
+// Lists of more numbers than there can be members, which are refused for what they ask.
+const LONGER: &[(&str, u32, &str)] = &[
+    ("create 0", 257, "refused NotSubgroup\n"),
+    ("scatterv 0 int32 0", 1000, "refused BadCount\n"),
+    ("cart_sub 1", 1000, "refused NoTopology\n"),
+];
+
+#[test]
+fn lists_of_a_thousand_numbers_are_read(rt: HostRuntime) -> Result<(), Fail> {
+    for (front, numbers, said) in LONGER {
+        let mut script = format!(in rt.alloc(); "post 0 0 {front}")?;
+        for _ in 1..*numbers {
+            script.push_str(",1")?;
+        }
+        assert!(&rt;
+            ends_so(&rt, ALONE, script.as_bytes(), said, "", 0),
+            "{front}"
+        );
+    }
+    Ok(())
+}
+
+// Names of as many bytes as there can be are told, kept in the book, and audited.
+const LONG_NAMES: &str = "version = 1
+[[class]]
+name = \"banks_of_the_northern_provinces_\"
+datasets = [\"alpha_of_the_northern_provinces_\", \"beta_of_the_northern_provinces__\"]
+[[process]]
+name = \"clerk_of_the_northern_provinces_\"
+home = \"alpha_of_the_northern_provinces_\"
+[[process]]
+name = \"guest_of_the_northern_provinces_\"
+home = \"beta_of_the_northern_provinces__\"
+";
+
+#[test]
+fn long_names_are_told(rt: HostRuntime) -> Result<(), Fail> {
+    let alpha = "alpha_of_the_northern_provinces_";
+    let beta = "beta_of_the_northern_provinces__";
+    let guest = "guest_of_the_northern_provinces_";
+    let script = format!(in rt.alloc();
+        "post 0 0 bcast 0 int32 1 as {alpha} 1\npost 1 0 bcast 0 int32 1\ntake 1 0\npost 0 0 bcast 0 int32 1 as {beta} 1\n"
+    )?;
+    let said = format!(in rt.alloc();
+        "posted 0\nposted 0\ndenied simple {guest} {alpha}\nbarred 1 {beta}\n"
+    )?;
+    let book = format!(in rt.alloc();
+        "book 1\npost 0 0 bcast 0 int32 1 gives 1 as {alpha} passed\npost 1 0 bcast 0 int32 1 gives 0 as none passed\nverdict 0 0 denied simple {guest} {alpha}\npost 0 0 bcast 0 int32 1 gives 1 as {beta} barred\nend 4\n"
+    )?;
+    let texts = Texts { script, said, book };
+    assert!(&rt; is_kept(&rt, LONG_NAMES, &texts));
+    assert!(&rt; audits_so(&rt, LONG_NAMES, &texts.book, "sound 4\n", "", 0));
     Ok(())
 }
 

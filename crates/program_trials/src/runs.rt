@@ -363,6 +363,29 @@ fn keeps_so<R: AllocGlobal + Threads + Wait + Sync>(
     given == status && is_all && out.is_same && err.is_same && kept.is_same
 }
 
+// What the tests of runs rest on notices other lines, none, and one too many, another line on
+// standard error, another status and another book.
+#[test]
+fn other_runs_are_noticed(rt: HostRuntime) {
+    let script = "take 0 0\n";
+    let said = "rank 0 p0\nrefused NoSuchRequest\n";
+    assert!(&rt; runs_so(&rt, ALONE, script, said, "", 0));
+    let others = [
+        ("rank 0 p0\npending\n", "", 0),
+        ("", "", 0),
+        ("rank 0 p0\nrefused NoSuchRequest\nrank 1 p1\n", "", 0),
+        (said, "no thread\n", 0),
+        (said, "", 4),
+    ];
+    for (lines, line, status) in others {
+        assert!(&rt; !runs_so(&rt, ALONE, script, lines, line, status));
+        assert!(&rt; !keeps_so(&rt, script, lines, "book 1\nend 0\n", line, status));
+    }
+    for book in ["", "book 1\nend 1\n", "book 1\nend 0\n\n"] {
+        assert!(&rt; !keeps_so(&rt, script, said, book, "", 0));
+    }
+}
+
 #[test]
 fn books_of_runs_are_kept(rt: HostRuntime) {
     let script = "post 0 0 bcast 0 int32 1 as alpha 5\ntake 0 0\ntake 0 0\n";
