@@ -8,8 +8,9 @@ and grids, refused calls, denials, wide deliveries, and takes out of order. Ever
 collectives in one order, and takes only what it has posted, so nobody waits for ever. Of each run
 it is wanted that
 
-- it ends with status 0, within 60 seconds, with one reply for each call;
-- its book audits as sound;
+- it ends with status 0, within 60 seconds, with nothing on standard error, and for each rank with
+  its number and name and one reply for each call;
+- its book audits as sound, with as many entries as it has lines;
 - each reply is the one that is due: the calls, put into the order of the book, each take just before
   its rank's next counted post, are replayed, and give the same replies.
 """
@@ -161,14 +162,17 @@ def merged(rng, acts):
 
 
 def replies_of(text, ranks):
-    """The replies of each rank, in what `run` prints."""
-    replies, at = [], None
+    """The replies of each rank, in what `run` prints; none if a rank is not called by its number and name."""
+    replies = []
     for line in text.splitlines():
         if line.startswith("rank "):
-            at = []
-            replies.append(at)
+            if line != f"rank {len(replies)} p{len(replies)}":
+                return None
+            replies.append([])
+        elif not replies:
+            return None
         else:
-            at.append(line)
+            replies[-1].append(line)
     return replies if len(replies) == ranks else None
 
 
@@ -213,19 +217,22 @@ def judge(program, seed, folder, ranks, processors):
         with open(paths[name], "w", encoding="utf-8") as f:
             f.write(content)
     ran = run([program, "run", paths["policy"], paths["script"], "--book", paths["book"]], processors)
-    if ran.returncode:
+    if ran.returncode or ran.stderr:
         return f"status {ran.returncode}: {ran.stderr.strip()}"
     replies = replies_of(ran.stdout, ranks)
     if replies is None or [len(r) for r in replies] != [len(a) for a in acts]:
         return "not one reply for each call"
     audited = run([program, "audit", paths["policy"], paths["book"]], None)
-    if audited.returncode:
-        return f"the book is not sound: {audited.stdout.strip()} {audited.stderr.strip()}"
     with open(paths["book"], encoding="utf-8") as f:
-        calls = by_the_book(f.read(), acts, replies)
+        book = f.read()
+    if (audited.returncode, audited.stdout, audited.stderr) != (0, f"sound {book.count(chr(10)) - 2}\n", ""):
+        return f"the book is not sound: {audited.stdout.strip()} {audited.stderr.strip()}"
+    calls = by_the_book(book, acts, replies)
     with open(paths["again"], "w", encoding="utf-8") as f:
         f.write("".join(line + "\n" for line, _ in calls))
     again = run([program, "replay", paths["policy"], paths["again"]], None)
+    if again.returncode or again.stderr:
+        return f"the replay ends with {again.returncode}: {again.stderr.strip()}"
     due = again.stdout.splitlines()
     for (line, reply), other in zip(calls, due):
         if reply != other:
