@@ -32,8 +32,8 @@ pub struct Disk<'a> {
     pub left: Cell<u64>,
     /// The file at which it failed.
     pub failed: Cell<Option<Name>>,
-    /// A letter for each file that was asked for, `k` where it was to be made, `?` for a name that
-    /// none has, and `!` for each call that no command makes.
+    /// A line for each file that was asked for, its name byte for byte, and a line `!` for each
+    /// call that no command makes.
     pub opened: RefCell<Vec<u8>>,
     /// How many were opened and are not closed.
     pub open: Cell<u64>,
@@ -56,10 +56,11 @@ impl<'a> Disk<'a> {
         Ok(())
     }
 
-    fn note(&self, letter: u8) -> io::Result<()> {
+    fn note(&self, line: &str) -> io::Result<()> {
         match self.opened.try_borrow_mut() {
             Ok(mut opened) => {
-                opened.push(letter)?;
+                opened.extend_from_slice(line.as_bytes())?;
+                opened.push(b'\n')?;
                 Ok(())
             }
             Err(_) => Err(refused()),
@@ -68,23 +69,19 @@ impl<'a> Disk<'a> {
 
     // A call that no command makes: it is seen among the files that were asked for.
     fn unasked(&self) -> io::Error {
-        let _ = self.note(b'!');
+        let _ = self.note("!");
         refused()
     }
 
-    // The file of this name. That it was asked for is seen, also where there is none.
+    // The file of this name. What was asked for is seen, also where there is no such file.
     fn asked(&self, path: &str) -> io::Result<Name> {
-        let (name, letter) = match path {
-            "w" => (Some(Name::Policy), b'w'),
-            "s" => (Some(Name::Script), b's'),
-            "b" => (Some(Name::Book), b'b'),
-            "k" => (Some(Name::Kept), b'k'),
-            _ => (None, b'?'),
-        };
-        self.note(letter)?;
-        match name {
-            Some(name) => Ok(name),
-            None => Err(io::Error::from(ErrorKind::NotFound)),
+        self.note(path)?;
+        match path {
+            "w" => Ok(Name::Policy),
+            "s" => Ok(Name::Script),
+            "b" => Ok(Name::Book),
+            "k" => Ok(Name::Kept),
+            _ => Err(io::Error::from(ErrorKind::NotFound)),
         }
     }
 
@@ -102,7 +99,7 @@ impl<'a> Disk<'a> {
                 Ok(())
             };
         }
-        if !how.asks_write() || !how.asks_create() || !how.asks_truncate() {
+        if how.asks_read() || !how.asks_write() || !how.asks_create() || !how.asks_truncate() {
             return Err(refused());
         }
         match self.kept.try_borrow_mut() {
@@ -148,6 +145,9 @@ impl<'a> Read for Opened<'a> {
 
 impl<'a> Write for Opened<'a> {
     fn write(&mut self, bytes: &[u8]) -> io::Result<usize> {
+        if self.name != Name::Kept {
+            return Err(self.disk.unasked());
+        }
         self.disk.turn(self.name)?;
         let count = bytes.len().min(self.disk.step);
         match self.disk.kept.try_borrow_mut() {
@@ -160,7 +160,7 @@ impl<'a> Write for Opened<'a> {
     }
 
     fn flush(&mut self) -> io::Result<()> {
-        Ok(())
+        Err(self.disk.unasked())
     }
 }
 
@@ -300,8 +300,12 @@ impl<'a> Write for Stream<'a> {
         }
     }
 
+    // No command asks for it: it is seen among the bytes.
     fn flush(&mut self) -> io::Result<()> {
-        Ok(())
+        if let Ok(mut kept) = self.kept.try_borrow_mut() {
+            kept.push(b'!')?;
+        }
+        Err(refused())
     }
 }
 

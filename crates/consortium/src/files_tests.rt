@@ -14,7 +14,7 @@ use std::test::Fail;
 use std::thread::Threads;
 
 // One process of one bank.
-const ALONE: &str = "version = 1
+pub(crate) const ALONE: &str = "version = 1
 [[class]]
 name = \"banks\"
 datasets = [\"alpha\", \"beta\"]
@@ -25,29 +25,29 @@ home = \"alpha\"
 
 // One use of the program: its words and files, and what it is to write and to ask for.
 #[derive(Clone, Copy)]
-struct Case<'a> {
-    words: &'a [&'a [u8]],
-    policy: &'a [u8],
-    script: &'a [u8],
-    book: &'a [u8],
-    out: &'a [u8],
-    err: &'a [u8],
-    kept: &'a [u8],
-    opened: &'a [u8],
-    status: u8,
+pub(crate) struct Case<'a> {
+    pub(crate) words: &'a [&'a [u8]],
+    pub(crate) policy: &'a [u8],
+    pub(crate) script: &'a [u8],
+    pub(crate) book: &'a [u8],
+    pub(crate) out: &'a [u8],
+    pub(crate) err: &'a [u8],
+    pub(crate) kept: &'a [u8],
+    pub(crate) opened: &'a [u8],
+    pub(crate) status: u8,
 }
 
 // How the devices of a use fail: the most bytes of a call, and how many calls go well at the files
 // and at each stream.
 #[derive(Clone, Copy)]
-struct Faults {
-    step: usize,
-    files: u64,
-    out: u64,
-    err: u64,
+pub(crate) struct Faults {
+    pub(crate) step: usize,
+    pub(crate) files: u64,
+    pub(crate) out: u64,
+    pub(crate) err: u64,
 }
 
-const NONE: Faults = Faults {
+pub(crate) const NONE: Faults = Faults {
     step: usize::MAX,
     files: u64::MAX,
     out: u64::MAX,
@@ -56,25 +56,25 @@ const NONE: Faults = Faults {
 
 // What a use of the program came to.
 #[derive(Drop)]
-struct Ended {
-    status: ExitCode,
-    out: Vec<u8>,
-    err: Vec<u8>,
-    kept: Vec<u8>,
-    opened: Vec<u8>,
+pub(crate) struct Ended {
+    pub(crate) status: ExitCode,
+    pub(crate) out: Vec<u8>,
+    pub(crate) err: Vec<u8>,
+    pub(crate) kept: Vec<u8>,
+    pub(crate) opened: Vec<u8>,
     // The files that were not closed.
-    open: u64,
-    failed: Option<Name>,
+    pub(crate) open: u64,
+    pub(crate) failed: Option<Name>,
 }
 
-fn taken(cell: &RefCell<Vec<u8>>, alloc: Global) -> Result<Vec<u8>, Fail> {
+pub(crate) fn taken(cell: &RefCell<Vec<u8>>, alloc: Global) -> Result<Vec<u8>, Fail> {
     match cell.try_replace(Vec::new(alloc)) {
         Ok(bytes) => Ok(bytes),
         Err(_) => Err(Fail::from("a cell is in use")),
     }
 }
 
-fn used<R>(rt: &R, case: &Case, faults: Faults) -> Result<Ended, Fail>
+pub(crate) fn used<R>(rt: &R, case: &Case, faults: Faults) -> Result<Ended, Fail>
 where
     R: AllocGlobal + Threads + Wait + Sync + Eprint,
 {
@@ -135,7 +135,7 @@ where
     served.report(rt)
 }
 
-fn is_as_told(ended: &Ended, case: &Case) -> bool {
+pub(crate) fn is_as_told(ended: &Ended, case: &Case) -> bool {
     let is_written = ended.out.as_slice() == case.out && ended.err.as_slice() == case.err;
     let is_kept = ended.kept.as_slice() == case.kept && ended.opened.as_slice() == case.opened;
     let is_closed = ended.open == 0;
@@ -189,7 +189,7 @@ fn commands<'a>(long: &'a Long) -> [Case<'a>; 5] {
         out: long.replies.as_bytes(),
         err: b"",
         kept: b"",
-        opened: b"ws",
+        opened: b"w\ns\n",
         status: 0,
     };
     [
@@ -200,7 +200,7 @@ fn commands<'a>(long: &'a Long) -> [Case<'a>; 5] {
         Case {
             words: &[b"consortium", b"replay", b"w", b"--book", b"k", b"s"],
             kept: long.book.as_bytes(),
-            opened: b"wsk",
+            opened: b"w\ns\nk\n",
             ..quiet
         },
         Case {
@@ -212,13 +212,13 @@ fn commands<'a>(long: &'a Long) -> [Case<'a>; 5] {
             words: &[b"consortium", b"run", b"--book", b"k", b"w", b"s"],
             out: long.run.as_bytes(),
             kept: long.book.as_bytes(),
-            opened: b"wsk",
+            opened: b"w\ns\nk\n",
             ..quiet
         },
         Case {
             words: &[b"consortium", b"audit", b"w", b"b"],
             out: long.sound.as_bytes(),
-            opened: b"wb",
+            opened: b"w\nb\n",
             ..quiet
         },
     ]
@@ -236,8 +236,26 @@ fn long_files_are_read_and_written_whole(rt: HostRuntime) -> Result<(), Fail> {
     Ok(())
 }
 
+// The most calls at the files that a use asks for: each is opened, its bytes come or go in pieces
+// of this size, the last of them short, and the end is seen.
+fn most_calls(case: &Case, step: usize) -> u64 {
+    let mut most: u64 = 0;
+    for (name, bytes) in [
+        (b'w', case.policy),
+        (b's', case.script),
+        (b'b', case.book),
+        (b'k', case.kept),
+    ] {
+        if case.opened.contains(&name) {
+            let pieces = bytes.len().checked_div(step).unwrap_or(0) as u64;
+            most = most.saturating_add(pieces).saturating_add(3);
+        }
+    }
+    most
+}
+
 // Each call at a file fails once: the line and the status are of that file, and what is written is
-// a prefix.
+// a prefix. No call moves less than the system would take.
 #[test]
 fn each_call_at_a_file_fails(rt: HostRuntime) -> Result<(), Fail> {
     let long = long_texts(&rt, 30)?;
@@ -270,12 +288,13 @@ fn each_call_at_a_file_fails(rt: HostRuntime) -> Result<(), Fail> {
                 assert!(&rt; ended.out.is_empty() && ended.kept.is_empty());
             }
         }
-        assert!(&rt; 10 < calls && calls < 4000);
+        assert!(&rt; 10 < calls && calls <= most_calls(&case, 97), "{calls}");
     }
     Ok(())
 }
 
-// Each call at standard output fails once, in turn. Standard error that fails changes nothing.
+// Each call at standard output fails once, in turn. But for a few, which end a part of a line, no
+// call gives less than the system would take.
 #[test]
 fn each_call_at_a_stream_fails(rt: HostRuntime) -> Result<(), Fail> {
     let long = long_texts(&rt, 30)?;
@@ -293,240 +312,8 @@ fn each_call_at_a_stream_fails(rt: HostRuntime) -> Result<(), Fail> {
             assert!(&rt; case.out.starts_with(&ended.out));
             assert!(&rt; ended.kept.is_empty() && case.opened.starts_with(&ended.opened));
         }
-        assert!(&rt; 0 < calls && calls < 4000);
-    }
-    let bad = refused(&[b"consortium", b"help"], b"bad arguments\n", b"", 5);
-    for err in 0..2u64 {
-        let ended = used(
-            &rt,
-            &bad,
-            Faults {
-                step: 5,
-                err,
-                ..NONE
-            },
-        )?;
-        assert_eq!(&rt; ended.status, ExitCode::from(5));
-        assert!(&rt; bad.err.starts_with(&ended.err) && ended.out.is_empty());
-    }
-    Ok(())
-}
-
-// A use that writes nothing but a line on standard error.
-fn refused<'a>(words: &'a [&'a [u8]], err: &'a [u8], opened: &'a [u8], status: u8) -> Case<'a> {
-    Case {
-        words,
-        policy: ALONE.as_bytes(),
-        script: b"take 0 0\n",
-        book: b"book 1\nend 0",
-        out: b"",
-        err,
-        kept: b"",
-        opened,
-        status,
-    }
-}
-
-// Words, and what comes of them: the line on standard error, the files that are asked for, the
-// status.
-const REFUSED: &[(&[&[u8]], &str, &str, u8)] = &[
-    (&[], "bad arguments\n", "", 5),
-    (&[b"consortium"], "bad arguments\n", "", 5),
-    (&[b"consortium", b""], "bad arguments\n", "", 5),
-    (&[b"consortium", b"replay", b"w"], "bad arguments\n", "", 5),
-    (
-        &[b"consortium", b"play", b"w", b"s"],
-        "bad arguments\n",
-        "",
-        5,
-    ),
-    (
-        &[b"consortium", b"replay", b"w", b"\xff"],
-        "bad arguments\n",
-        "",
-        5,
-    ),
-    (
-        &[b"consortium", b"\xff", b"w", b"s"],
-        "bad arguments\n",
-        "",
-        5,
-    ),
-    (
-        &[b"consortium", b"run", b"--help"],
-        "bad arguments\n",
-        "",
-        5,
-    ),
-    (
-        &[b"consortium", b"audit", b"w", b"b", b"--book", b"k"],
-        "bad arguments\n",
-        "",
-        5,
-    ),
-    (
-        &[b"consortium", b"replay", b"w", b"s", b"--book"],
-        "bad arguments\n",
-        "",
-        5,
-    ),
-    (
-        &[b"consortium", b"replay", b"w", b"s", b"--book", b"k", b"t"],
-        "bad arguments\n",
-        "",
-        5,
-    ),
-    (
-        &[b"consortium", b"replay", b"w ", b"s"],
-        "read fault\n",
-        "?",
-        3,
-    ),
-    (
-        &[b"consortium", b"replay", b"x", b"s"],
-        "read fault\n",
-        "?",
-        3,
-    ),
-    (
-        &[b"consortium", b"replay", b"", b"s"],
-        "read fault\n",
-        "?",
-        3,
-    ),
-    (
-        &[b"consortium", b"replay", b"w", b"x"],
-        "read fault\n",
-        "w?",
-        3,
-    ),
-    (
-        &[b"consortium", b"replay", b"w", b"x", b"--book", b"k"],
-        "read fault\n",
-        "w?",
-        3,
-    ),
-    (&[b"consortium", b"run", b"x", b"s"], "read fault\n", "?", 3),
-    (
-        &[b"consortium", b"run", b"w", b"x"],
-        "read fault\n",
-        "w?",
-        3,
-    ),
-    (
-        &[b"consortium", b"audit", b"x", b"b"],
-        "read fault\n",
-        "?",
-        3,
-    ),
-    (
-        &[b"consortium", b"audit", b"w", b"x"],
-        "read fault\n",
-        "w?",
-        3,
-    ),
-    (
-        &[b"consortium", b"audit", b"w", b"b"],
-        "book: cut\n",
-        "wb",
-        2,
-    ),
-    (
-        &[b"consortium", b"audit", b"s", b"b"],
-        "policy: NotToml\n",
-        "s",
-        1,
-    ),
-    (
-        &[b"consortium", b"run", b"s", b"w"],
-        "policy: NotToml\n",
-        "s",
-        1,
-    ),
-    (
-        &[b"consortium", b"replay", b"s", b"x", b"--book=x"],
-        "policy: NotToml\n",
-        "s",
-        1,
-    ),
-    (
-        &[b"consortium", b"replay", b"w", b"w"],
-        "script: line 1: BadVerb\n",
-        "ww",
-        2,
-    ),
-    (
-        &[b"consortium", b"replay", b"w", b"w", b"--book=k"],
-        "script: line 1: BadVerb\n",
-        "ww",
-        2,
-    ),
-    (
-        &[b"consortium", b"run", b"w", b"w", b"--book=k"],
-        "script: line 1: BadVerb\n",
-        "ww",
-        2,
-    ),
-    // letter for letter: a space is part of a word
-    (
-        &[b"consortium", b" replay", b"w", b"s"],
-        "bad arguments\n",
-        "",
-        5,
-    ),
-    (
-        &[b"consortium", b"replay", b" w", b"s"],
-        "read fault\n",
-        "?",
-        3,
-    ),
-    (
-        &[b"consortium", b"audit", b"w", b" b"],
-        "read fault\n",
-        "w?",
-        3,
-    ),
-];
-
-#[test]
-fn faults_of_words_and_files_are_told(rt: HostRuntime) -> Result<(), Fail> {
-    for (words, err, opened, status) in REFUSED {
-        let case = refused(words, err.as_bytes(), opened.as_bytes(), *status);
-        let ended = used(&rt, &case, NONE)?;
-        assert!(&rt; is_as_told(&ended, &case), "{err} {opened}");
-    }
-    Ok(())
-}
-
-// Words that want a book where none can be made, and what is written before.
-const UNKEPT: &[(&[&[u8]], &str)] = &[
-    (
-        &[b"consortium", b"replay", b"w", b"s", b"--book", b"x"],
-        "refused NoSuchRequest\n",
-    ),
-    (
-        &[b"consortium", b"run", b"w", b"s", b"--book", b"x"],
-        "rank 0 p0\nrefused NoSuchRequest\n",
-    ),
-    (
-        &[b"consortium", b"replay", b"w", b"s", b"--book= k"],
-        "refused NoSuchRequest\n",
-    ),
-    (
-        &[b"consortium", b"replay", b"w", b"s", b"--book="],
-        "refused NoSuchRequest\n",
-    ),
-];
-
-#[test]
-fn books_that_cannot_be_made_are_told(rt: HostRuntime) -> Result<(), Fail> {
-    for (words, out) in UNKEPT {
-        let case = Case {
-            out: out.as_bytes(),
-            ..refused(words, b"write fault\n", b"ws?", 3)
-        };
-        let ended = used(&rt, &case, NONE)?;
-        assert!(&rt; is_as_told(&ended, &case));
+        let pieces = (case.out.len() / 53) as u64;
+        assert!(&rt; 0 < calls && calls < pieces.saturating_add(4), "{calls}");
     }
     Ok(())
 }

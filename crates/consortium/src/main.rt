@@ -16,7 +16,11 @@ use std::sync::ledger::Blank;
 #[cfg(test)]
 mod disk;
 #[cfg(test)]
+mod disk_tests;
+#[cfg(test)]
 mod files_tests;
+#[cfg(test)]
+mod words_tests;
 
 fn main(rt: HostRuntime) -> Served {
     let blanks = Blanks {
