@@ -85,7 +85,9 @@ impl<X: Drop> Pending<X> {
         }
     }
 
-    /// Makes the room with which the next arrival, if it is that member's, takes no memory.
+    /// Makes the room with which the next arrival, if it is that member's, takes no memory:
+    /// whatever its signature where its instance waits, and else one whose lists are no longer
+    /// than a communicator of that shape allows.
     #[tactic(auto, unfolding(crate::specs::Waiting::view_of_pending, crate::specs::Waiting::HasRoom))]
     pub fn ready(
         &mut self,

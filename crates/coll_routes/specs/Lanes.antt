@@ -25,11 +25,6 @@ abbrev pub covers : Option Piece → ℕ → Bool
 covers None x = false
 covers (Some p) x = nat_le p.start x && nat_lt x (p.start + p.len)
 
--- the piece has an element
-abbrev pub is_filled : Option Piece → Bool
-is_filled None = false
-is_filled (Some p) = nat_lt 0 p.len
-
 -- what of rank i goes to place t of rank j
 unfoldable pub lane_by : Signature → Shape → (i j t : ℕ) → Lane
 lane_by (Bcast r ty n) shape i j t = if i == r && not (j == r) && t == 0 then Whole else Nowhere

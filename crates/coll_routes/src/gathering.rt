@@ -16,9 +16,9 @@ use super::signature::Signature;
 /// and the others nothing.
 #[derive(Clone, Copy, Debug, PartialEq, Eq)]
 pub struct Gathering {
-    /// The first rank that sends nothing.
+    /// Each rank below this sends the piece, which may be empty. No other sends anything.
     pub until: u32,
-    /// What each rank below it sends.
+    /// What each of them sends.
     pub piece: Piece,
 }
 

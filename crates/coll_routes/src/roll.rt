@@ -26,7 +26,8 @@ impl Shape {
     ghost use Rattle.coll_routes.specs.Fit.{IsSized};
     ghost use Rattle.coll_routes.specs.Rolls.{slots, neighbour_in};
 
-    /// An equal shape. Takes memory only for the dimensions of a grid.
+    /// An equal shape. Takes memory only for a grid: its dimensions, its strides and the table of
+    /// its neighbours.
     pub fn copy(&self, alloc: Global) -> Result<Shape, NoMemory>
         ensures made { IfOk result (λ shape. shape ≡ self.now) }
         ensures memory { IsErr result → 0 < slots self.now }

@@ -25,8 +25,8 @@ pub(crate) fn stated(roll: &Roll, rank: u32) -> &Stated
 }
 
 /// The elements of rank `from` that go to place `place` of rank `to`: never an empty piece, but
-/// none where it sends nothing there. The work doesn't grow with the elements. Where each rank
-/// states counts it adds those before the block.
+/// none where it sends nothing there. The work doesn't grow with the elements. Where counts are
+/// stated for blocks, by each rank or by the signature, it adds those before the block.
 #[tactic(auto, using(crate::proofs::FitLemmas::of_roll))]
 pub fn piece(roll: &Roll, from: u32, to: u32, place: u32) -> Option<Piece>
     requires fit { IsFit roll.now }

@@ -131,7 +131,7 @@ fn lines_for(
 }
 
 /// Room for exactly the blocks of a rank, none of them filled. Takes one piece of memory for each
-/// block that isn't empty, and two for the lists of them.
+/// block that isn't empty, and two for the lists of them where there is a block.
 pub fn room(alloc: Global, full: &Full<Buffer>, rank: u32) -> Result<Room, NoMemory>
     requires whole { IsWhole full.now }
     requires rank { rank < full.now.roll.shape.size }

@@ -198,8 +198,8 @@ impl Group {
 }
 
 /// What is wrong with a list of ranks of a group of this size: the first fault that `incl` and
-/// `excl` would answer, out of memory aside. Looks at each rank up to the first repeat, and for
-/// each at those before it.
+/// `excl` would answer, out of memory aside. Looks at each rank, and then, up to the first repeat,
+/// for each at those before it.
 pub fn ranks_fault(size: u32, ranks: &[u32]) -> Option<GroupFault>
     ensures { result ≡ ranks_fault size ranks.now }
 {

@@ -3,7 +3,8 @@
 //!
 //! A group keeps the rank of each process in a table beside its members, up to the highest member's
 //! number. So `rank_of` and `translate` take a step, and the other calls work in time linear in the
-//! sizes of the groups that they are given.
+//! sizes of the groups that they are given; but `incl`, `excl` and `ranks_fault` compare each rank
+//! of a list with those before it.
 #![tactic(auto)]
 
 mod compare;

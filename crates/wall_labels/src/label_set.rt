@@ -16,8 +16,8 @@ const WORDS: usize = (DATASET_LIMIT / WORD_BITS) as usize;
 
 /// A set of datasets: a bit for each number that a dataset can have. No call takes memory.
 ///
-/// Looks at no word past the highest one that was ever set, so under a policy of few datasets
-/// a set costs no more than its first words.
+/// A scan or a union looks at no word past the highest one that was ever set, so under a policy of
+/// few datasets a set costs no more than its first words.
 #[derive(Drop)]
 pub struct LabelSet {
     words: [u64; WORDS],

@@ -38,6 +38,7 @@ impl Inflow {
         ensures number { result.number ≡ 0 }
         ensures different { result.different ≡ 0 }
         ensures datasets { result.datasets ≡ sets.empty }
+        ensures rivals { result.rivals ≡ sets.empty }
     {
         Inflow {
             ranks,
