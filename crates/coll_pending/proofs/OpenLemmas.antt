@@ -4,7 +4,7 @@ use Rattle.std.proofs.Common.{length, set, replicate, get_or, Option}
 use Rattle.std.proofs.Common.{Some, None, IsSome, refl, sym, ap, ◌∙◌, subst, arith, inl, inr}
 use Rattle.std.proofs.Common.{cond, nat_lt}
 use Rattle.std.proofs.lemmas.Bool.{cases_eq, false≢true}
-use Rattle.std.proofs.lemmas.List.{length_push, get_or_default}
+use Rattle.std.proofs.lemmas.List.{length_push, get_or_default, length-replicate}
 use Rattle.slab.specs.Slab.{Slab, get, Updates}
 use Rattle.coll_pending.specs.Instances.{Communicator, vacant}
 use Rattle.coll_pending.specs.Keyed.{updated}
@@ -26,10 +26,6 @@ zero_at zero r = refl
 zero_at (suc n) zero = refl
 zero_at (suc n) (suc r) = zero_at n r
 
-length_zeros : (n : ℕ) → length (replicate {A = ℕ} n 0) ≡ n
-length_zeros zero = refl
-length_zeros (suc n) = ap suc (length_zeros n)
-
 either : {A : Type 0} (b : Bool) (x : A) → cond b x x ≡ x
 either true x = refl
 either false x = refl
@@ -43,7 +39,7 @@ stands_unused s c comm room none = record {
   keys = λ k. ap (λ w. key_in w k) none ∙ sym (either (nat_lt k 0) None);
   counts = λ r. ap (λ w. count_in w r) none ∙ sym (zero_at (length comm.members) r);
   queue = record {
-    sized = length_zeros (length comm.members);
+    sized = length-replicate (length comm.members) 0;
     low = λ r lt. omega arith;
     high = λ r lt. omega (arith, zero_at (length comm.members) r);
   };

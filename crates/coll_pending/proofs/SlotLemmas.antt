@@ -5,7 +5,7 @@ use Rattle.std.proofs.Common.{sym, ap, ◌∙◌, subst, arith, eqb, count_by, i
 use Rattle.std.proofs.Common.{◌⊎◌, inl, inr, length-set}
 use Rattle.std.proofs.lemmas.Bool.{cases_Bool}
 use Rattle.std.proofs.lemmas.Bool.Decides.{nat_tests}
-use Rattle.std.proofs.lemmas.List.{get_or-set_other}
+use Rattle.std.proofs.lemmas.List.{get_or-set_other, length-replicate}
 use Rattle.coll_routes.specs.declared.signature.Signature.{Signature}
 use Rattle.coll_routes.specs.declared.statement.Stated.{Stated}
 use Rattle.coll_routes.specs.declared.roll.Roll.{Roll}
@@ -42,15 +42,11 @@ stated_none zero i t e = absurd (cc)
 stated_none (suc n) zero t e = absurd (cc)
 stated_none (suc n) (suc i) t e = stated_none n i t e
 
-length_none : {A : Type 0} (n : ℕ) (x : A) → length (replicate n x) ≡ n
-length_none zero x = refl
-length_none (suc n) x = ap suc (length_none n x)
-
 pub vacant_is_slot : {X : Type 0} (comm : Communicator) (o : Slot X) → IsVacant comm o →
     0 < length comm.members → IsSlot o
 vacant_is_slot {X} comm o is some = record {
   rows = ap length is.stated
-      ∙ (length_none {A = Option Stated} (length comm.members) None ∙ sym (ap length is.members));
+      ∙ (length-replicate {A = Option Stated} (length comm.members) None ∙ sym (ap length is.members));
   marked = ap (λ (rows : List (Option X)). marks rows) is.parts
       ∙ (marks_none X Stated (length comm.members)
       ∙ sym (ap (λ (rows : List (Option Stated)). marks rows) is.stated));

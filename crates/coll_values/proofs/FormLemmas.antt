@@ -4,6 +4,7 @@ use Rattle.std.proofs.Common.{refl, sym, arith, Bool, true, false, cond, Option,
 use Rattle.std.proofs.Common.{slice_get, map, fold, max, filter, filter_map, flat_map, option_map}
 use Rattle.std.specs.List.{range_with_len, cons_option}
 use Rattle.std.proofs.lemmas.Option.{slice_get-map}
+use Rattle.std.proofs.lemmas.List.{length-map, map-append}
 use Rattle.wall_labels.specs.declared.op.Op.{Op}
 use Rattle.mpi_elems.specs.declared.elem_type.ElemType.{ElemType}
 use Rattle.mpi_elems.specs.Elements.{Element, single, pair, numbers_of, combine, folded}
@@ -22,13 +23,9 @@ use Rattle.coll_values.specs.Values.{block_of, blocks, value}
 use Rattle.coll_values.specs.Forms.{form_of_element, form_of_elements, zeros_for, form_of_block}
 use Rattle.coll_values.specs.Forms.{form, FormsAreOfForms}
 use Rattle.coll_values.proofs.LawLemmas.{map_same, filter_map_same}
-use Rattle.coll_values.proofs.RoomLemmas.{length_map, map_map}
+use Rattle.coll_values.proofs.RoomLemmas.{map_map}
 
 -- ## forms of lists
-
-map_append : {X Y : Type 0} (f : X → Y) (xs ys : List X) → map f (xs ++ ys) ≡ map f xs ++ map f ys
-map_append f [] ys = refl
-map_append f (x ∷ xs) ys = ap (λ rest. f x ∷ rest) (map_append f xs ys)
 
 map_cons_option : {X Y : Type 0} (f : X → Y) (o : Option X) (xs : List X) →
     map f (cons_option o xs) ≡ cons_option (option_map f o) (map f xs)
@@ -47,9 +44,9 @@ flat_map_forms : (f g : ℕ → List Element) (a n : ℕ) →
     ≡ form_of_elements (flat_map g (range_with_len a n))
 flat_map_forms f g a zero h = refl
 flat_map_forms f g a (suc n) h =
-    map_append form_of_element (f a) (flat_map f (range_with_len (a + 1) n))
+    map-append form_of_element (f a) (flat_map f (range_with_len (a + 1) n))
     ∙ ((λ i. h a (omega arith) i ++ flat_map_forms f g (a + 1) n (λ k low. h k (omega arith)) i)
-    ∙ sym (map_append form_of_element (g a) (flat_map g (range_with_len (a + 1) n))))
+    ∙ sym (map-append form_of_element (g a) (flat_map g (range_with_len (a + 1) n))))
 
 -- ## forms of folds
 
@@ -87,8 +84,8 @@ module _ (roll : Roll) (s r : Sendings)
     (same : (i t : ℕ) → i < roll.shape.size → form_of_elements (s i t) ≡ form_of_elements (r i t))
   where
     long : (i : ℕ) → i < roll.shape.size → length (s i 0) ≡ length (r i 0)
-    long i low = sym (length_map form_of_element (s i 0))
-        ∙ (ap length (same i 0 low) ∙ length_map form_of_element (r i 0))
+    long i low = sym (length-map (s i 0) form_of_element)
+        ∙ (ap length (same i 0 low) ∙ length-map (r i 0) form_of_element)
 
     breadth_same : breadth roll s ≡ breadth roll r
     breadth_same =

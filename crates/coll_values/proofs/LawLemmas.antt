@@ -4,6 +4,7 @@ use Rattle.std.proofs.Common.{refl, arith, Bool, true, false, cond, Option, Some
 use Rattle.std.proofs.Common.{map, fold, max, filter, filter_map, flat_map}
 use Rattle.std.proofs.lemmas.List.FromFn.{length-range_with_len}
 use Rattle.std.specs.List.{range_with_len, cons_option}
+use Rattle.std.proofs.lemmas.List.{length-map}
 use Rattle.wall_labels.specs.declared.op.Op.{Op}
 use Rattle.mpi_elems.specs.Elements.{combine, folded}
 use Rattle.mpi_elems.specs.Contents.{Contents}
@@ -20,7 +21,6 @@ use Rattle.coll_values.specs.Values.{block_of, blocks, value}
 use Rattle.coll_values.specs.Laws.{AgreeOnRouted, ValuesAreOfRoutedElements, ValuesAreOfRoutedRanks}
 use Rattle.coll_values.specs.Laws.{ValuesFillPlaces, MergedRowsAreFolds}
 use Rattle.coll_values.proofs.FoldLemmas.{merged_rows}
-use Rattle.coll_values.proofs.RoomLemmas.{length_map}
 
 -- ## functions that agree on a range
 
@@ -131,8 +131,8 @@ values_are_of_routed_ranks routes F G j agree = values_are_of_routed_elements F 
 
 pub values_fill_places : ValuesFillPlaces
 unfolding value blocks
-values_fill_places F j = length_map block_of _
-    ∙ (length_map _ (below (places F.roll j)) ∙ length-range_with_len 0 (places F.roll j))
+values_fill_places F j = length-map _ block_of
+    ∙ (length-map (below (places F.roll j)) _ ∙ length-range_with_len 0 (places F.roll j))
 
 pub merged_rows_are_folds : MergedRowsAreFolds
 merged_rows_are_folds op ty rows y = merged_rows (combine op ty) rows y

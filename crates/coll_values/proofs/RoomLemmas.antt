@@ -3,6 +3,7 @@ use Rattle.std.proofs.Common.{◌≡◌, ℕ, zero, suc, ◌+◌, ◌<◌, List,
 use Rattle.std.proofs.Common.{sym, refl, arith, Option, Some, slice_get, map}
 use Rattle.std.proofs.lemmas.List.FromFn.{length-range_with_len}
 use Rattle.std.specs.List.{range_with_len}
+use Rattle.std.proofs.lemmas.List.{length-map}
 use Rattle.mpi_elems.specs.declared.elem_type.ElemType.{ElemType}
 use Rattle.mpi_elems.specs.Elements.{Element}
 use Rattle.mpi_elems.specs.Contents.{Contents, contents}
@@ -24,10 +25,6 @@ pub rooms_are : (ty : ElemType) (ns : List ℕ) →
     map (λ (line : Contents). line.room) (map (λ n. contents ty [] n) ns) ≡ ns
 rooms_are ty [] = refl
 rooms_are ty (n ∷ ns) = ap (λ ms. n ∷ ms) (rooms_are ty ns)
-
-pub length_map : {X Y : Type 0} (f : X → Y) (xs : List X) → length (map f xs) ≡ length xs
-length_map f [] = refl
-length_map f (x ∷ xs) = omega (arith, length_map f xs)
 
 pub map_map : {X Y Z : Type 0} (f : Y → Z) (g : X → Y) (xs : List X) →
     map f (map g xs) ≡ map (λ x. f (g x)) xs
@@ -104,21 +101,21 @@ module _ (F : Full Contents) (j : ℕ) where
   pub lines_fill : (lines : List Contents) → map (λ (l : Contents). l.room) lines ≡ sizes F j →
       length lines ≡ places F.roll j
   lines_fill lines rooms =
-      sym (length_map (λ (l : Contents). l.room) lines)
+      sym (length-map lines (λ (l : Contents). l.room))
       ∙ (ap length (rooms ∙ sizes_are)
-      ∙ (length_map (λ t. size_of (at_place t)) (below (places F.roll j))
+      ∙ (length-map (below (places F.roll j)) (λ t. size_of (at_place t))
       ∙ length-range_with_len 0 (places F.roll j)))
 
   pub count_lines : (ty : ElemType) →
       length (map (λ n. contents ty [] n) (sizes F j)) ≡ places F.roll j
-  count_lines ty = length_map (λ n. contents ty [] n) (sizes F j)
+  count_lines ty = length-map (sizes F j) (λ n. contents ty [] n)
       ∙ (ap length sizes_are
-      ∙ (length_map (λ t. size_of (at_place t)) (below (places F.roll j))
+      ∙ (length-map (below (places F.roll j)) (λ t. size_of (at_place t))
       ∙ length-range_with_len 0 (places F.roll j)))
 
 pub count_items : {X : Type 0} (f : ℕ → X) (n : ℕ) (xs : List X) → xs ≡ map f (below n) →
     length xs ≡ n
-count_items f n xs e = ap length e ∙ (length_map f (below n) ∙ length-range_with_len 0 n)
+count_items f n xs e = ap length e ∙ (length-map (below n) f ∙ length-range_with_len 0 n)
 
 pub some_place : (n k : ℕ) → n ≡ k → (n ≡ 0 → ⊥) → 0 < k
 some_place zero k e h = absurd (h refl)

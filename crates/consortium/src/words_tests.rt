@@ -390,7 +390,8 @@ fn other_spellings_are_other_files(rt: HostRuntime) -> Result<(), Fail> {
     Ok(())
 }
 
-// Whether a command that is to keep a book of this name, where none can be made, asks for that name.
+// Whether a command that is to keep a book of this name, where none can be made, asks for that
+// name.
 fn is_other_book<R>(rt: &R, command: &str, out: &str, name: &str) -> Result<bool, Fail>
 where
     R: AllocGlobal + Threads + Wait + Sync + Eprint,

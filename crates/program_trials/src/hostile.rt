@@ -55,7 +55,8 @@ impl<'a> Source for Repeating<'a> {
     }
 }
 
-// So many bytes: these, and then `#` again and again, for a lifetime where the number is the largest.
+// So many bytes: these, and then `#` again and again, for a lifetime where the number is the
+// largest.
 fn long<'a>(front: &'a [u8], length: usize) -> Repeating<'a> {
     Repeating {
         front,

@@ -107,7 +107,9 @@ fn as_many_elements_are_given_as_there_can_be(rt: HostRuntime) -> Result<(), Fai
     for (kind, one) in WIDE {
         let rest = repeated(rt.alloc(), one, 65535)?;
         let script = format!(in rt.alloc();
-            "post 0 0 {kind} as alpha {one}{rest}\ntake 0 0\npost 0 0 {kind} as alpha {one} {one}{rest}\n"
+            "post 0 0 {kind} as alpha {one}{rest}\n\
+            take 0 0\n\
+            post 0 0 {kind} as alpha {one} {one}{rest}\n"
         )?;
         let said = format!(in rt.alloc(); "posted 0\ndelivered [{one}{rest}]\nrefused BadCount\n")?;
         assert!(&rt;
@@ -385,13 +387,21 @@ fn long_names_are_told(rt: HostRuntime) -> Result<(), Fail> {
     let beta = "beta_of_the_northern_provinces__";
     let guest = "guest_of_the_northern_provinces_";
     let script = format!(in rt.alloc();
-        "post 0 0 bcast 0 int32 1 as {alpha} 1\npost 1 0 bcast 0 int32 1\ntake 1 0\npost 0 0 bcast 0 int32 1 as {beta} 1\n"
+        "post 0 0 bcast 0 int32 1 as {alpha} 1\n\
+        post 1 0 bcast 0 int32 1\n\
+        take 1 0\n\
+        post 0 0 bcast 0 int32 1 as {beta} 1\n"
     )?;
     let said = format!(in rt.alloc();
         "posted 0\nposted 0\ndenied simple {guest} {alpha}\nbarred 1 {beta}\n"
     )?;
     let book = format!(in rt.alloc();
-        "book 1\npost 0 0 bcast 0 int32 1 gives 1 as {alpha} passed\npost 1 0 bcast 0 int32 1 gives 0 as none passed\nverdict 0 0 denied simple {guest} {alpha}\npost 0 0 bcast 0 int32 1 gives 1 as {beta} barred\nend 4\n"
+        "book 1\n\
+        post 0 0 bcast 0 int32 1 gives 1 as {alpha} passed\n\
+        post 1 0 bcast 0 int32 1 gives 0 as none passed\n\
+        verdict 0 0 denied simple {guest} {alpha}\n\
+        post 0 0 bcast 0 int32 1 gives 1 as {beta} barred\n\
+        end 4\n"
     )?;
     let texts = Texts { script, said, book };
     assert!(&rt; is_kept(&rt, LONG_NAMES, &texts));

@@ -1,6 +1,6 @@
 -- Jobs that are handed out and played.
 use Rattle.std.proofs.Common.{◌≡◌, ℕ, zero, suc, ◌+◌, ◌*◌, ◌^◌, ◌<◌, ◌≤◌}
-use Rattle.std.proofs.Common.{◌&&◌, ◌||◌, Bool, true, false, true≢false, if◌then◌else◌}
+use Rattle.std.proofs.Common.{◌||◌, true, false, true≢false, if◌then◌else◌}
 use Rattle.std.proofs.Common.{List, [], ◌∷◌, ◌++◌, length, map, take, get_or, reverse, append_assoc}
 use Rattle.std.proofs.Common.{vec_items, vec_capacity, Global, refl, sym, ap, subst, subst₂}
 use Rattle.std.proofs.Common.{◌∙◌, arith}
@@ -11,6 +11,7 @@ use Rattle.std.proofs.lemmas.List.Elements.{All-push}
 use Rattle.std.proofs.lemmas.List.FromFn.{get_or-map-range_with_len}
 use Rattle.std.proofs.lemmas.List.Sums.{sum_by_more, sum_by-take-le}
 use Rattle.std.specs.declared.thread.PromisedHandle.{PromisedHandle}
+use Rattle.std.proofs.lemmas.Bool.{and_parts}
 use Rattle.wall_policy.specs.Policy.{ChineseWall}
 use Rattle.run_model.specs.Comms.{processes}
 use Rattle.run_model.specs.declared.call.Act.{Act}
@@ -137,17 +138,13 @@ ends_cut all e =
           → c ≡ true) [ true ↦ λ f. refl | false ↦ λ f. absurd (cc) ] is)
     ] e
 
-both_true : (a b : Bool) → (a && b) ≡ true → (a ≡ true) × (b ≡ true)
-both_true true b e = (refl, e)
-both_true false b e = absurd (true≢false (sym e))
-
 pub whole_at : (all : List Played) (i : ℕ) (d : Played) → are_whole all ≡ true → i < length all
     → (get_or all i d).ending ≡ Whole
 whole_at [] i d e lt = absurd (omega arith)
 whole_at (x ∷ all) zero d e lt =
-    whole_is x.ending (both_true (is_whole x.ending) (are_whole all) e).0
+    whole_is x.ending (and_parts (is_whole x.ending) (are_whole all) e).0
 whole_at (x ∷ all) (suc i) d e lt =
-    whole_at all i d (both_true (is_whole x.ending) (are_whole all) e).1 (omega arith)
+    whole_at all i d (and_parts (is_whole x.ending) (are_whole all) e).1 (omega arith)
 
 -- the jobs of a new door: as many as its passes
 pub jobs_long : (door : Doorway) (n : ℕ) (jobs : List Job) → passes_of jobs ≡ new_passes door n →

@@ -40,7 +40,8 @@
 //! - To begin, the first to play is called, and the others are called by those before them; where
 //!   all play, or the run is given up, each bell is rung, whether its rank has a thread or not. Who
 //!   writes that on the board gets a call for it, so no bell is rung before it stands there. A rank
-//!   that wakes asks the board whether it begins (a `Role` comes from there), goes home or waits on.
+//!   that wakes asks the board whether it begins (a `Role` comes from there), goes home or waits
+//!   on.
 
 ghost use Rattle.std.specs.Prelude.{◌≡◌, IfOk, IfErr, IfSome, true, false};
 

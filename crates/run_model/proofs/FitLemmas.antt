@@ -1,6 +1,6 @@
 -- Instances that posts fill are fit: of one signature, without a fault, and full; and the
 -- communicators are such on which this holds.
-use Rattle.std.proofs.Common.{◌≡◌, ℕ, zero, suc, ◌<◌, List, [], ◌∷◌, ◌++◌, length, map, refl, sym}
+use Rattle.std.proofs.Common.{◌≡◌, ℕ, zero, suc, ◌<◌, List, [], ◌∷◌, ◌++◌, length, refl, sym}
 use Rattle.std.proofs.Common.{ap, ◌∙◌, subst, arith, inl, inr, ◌⊎◌, ⊎_elim, true, false, not, ◌&&◌}
 use Rattle.std.proofs.Common.{Option, Some, None, slice_get, option_map, eqb-true}
 use Rattle.std.specs.Prelude.{is_some, IsSome, ◌==◌}
@@ -8,6 +8,7 @@ use Rattle.std.specs.List.{list_all}
 use Rattle.std.proofs.lemmas.Bool.{cases_Bool, cond-true, cond-false, false≢true, true≢false}
 use Rattle.std.proofs.lemmas.Bool.{and_parts, or_left, or_right}
 use Rattle.std.proofs.lemmas.Option.{slice_get-map}
+use Rattle.std.proofs.lemmas.List.{length-map}
 use Rattle.wall_policy.specs.Policy.{ChineseWall, IsPolicy}
 use Rattle.mpi_group.specs.Groups.{rank_in}
 use Rattle.mpi_comm.specs.Comms.{fits}
@@ -29,8 +30,7 @@ use Rattle.run_model.specs.PostLaws.{FilledInstancesAreFit}
 use Rattle.run_model.proofs.PostLemmas.{filled_is, kth_from, get_either}
 use Rattle.run_model.proofs.CommLemmas.{IsComm, AreComms, both_comms, world_is, new_are_comms}
 use Rattle.run_model.proofs.CommLemmas.{at_one, ranked, rank_is}
-use Rattle.run_model.proofs.CountedLemmas.{taken_accepted, no_fault_has, taken_at}
-use Rattle.run_model.proofs.CountedLemmas.{comm_later}
+use Rattle.run_model.proofs.CountedLemmas.{taken_accepted, no_fault_has, taken_at, comm_later}
 
 ---- Signatures within an instance.
 
@@ -215,17 +215,13 @@ stated_some : (o : Option (Option Stated)) (s : Stated) → stated_in o ≡ Some
 stated_some None s e = absurd (cc)
 stated_some (Some row) s e = ap (λ r. Some r) e
 
-length_map : {X Y : Type 0} (f : X → Y) (xs : List X) → length (map f xs) ≡ length xs
-length_map f [] = refl
-length_map f (x ∷ xs) = ap suc (length_map f xs)
-
 pub sound_instance : (wall : ChineseWall) (past : List Post) (comm : Comm) (c k : ℕ) →
     AreCounted wall past → AreComms (comms wall past) → slice_get (comms wall past) c ≡ Some comm →
     IsSound (instance comm c k past)
 sound_instance wall past comm c k taken are there = record {
   members = refl;
   grid = (are c comm there).sized;
-  rows = length_map (λ m. slice_get (posts_on c m past) k) comm.members;
+  rows = length-map comm.members (λ m. slice_get (posts_on c m past) k);
   statements = λ i s at. statement_is wall past comm c k i s taken are there
       (stated_some (slice_get (kth_posts comm c k past) i) s at);
 }
@@ -244,7 +240,7 @@ pub fit_instance : (wall : ChineseWall) (past : List Post) (comm : Comm) (c k : 
 fit_instance wall past comm c k taken are there full = record {
   sound = sound_instance wall past comm c k taken are there;
   full = λ i low. full_at (kth_posts comm c k past) i full
-      (let long = length_map (λ m. slice_get (posts_on c m past) k) comm.members in omega arith);
+      (let long = length-map comm.members (λ m. slice_get (posts_on c m past) k) in omega arith);
 }
 
 ---- All communicators.

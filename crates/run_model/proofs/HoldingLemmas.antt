@@ -6,6 +6,7 @@ use Rattle.std.specs.Prelude.{◌==◌, is_some, is_none}
 use Rattle.std.proofs.lemmas.Bool.{cases_Bool, cond-false, false≢true, and_parts, and_from}
 use Rattle.std.proofs.lemmas.Bool.{or_cases, or_right, not-true}
 use Rattle.std.proofs.lemmas.Option.{slice_get_within}
+use Rattle.std.proofs.lemmas.List.{append-nil}
 use Rattle.wall_labels.specs.declared.ids.TheConstants.{DATASET_LIMIT}
 use Rattle.wall_labels.specs.declared.label.Label.{Label}
 use Rattle.wall_labels.specs.declared.label.Label.TheVariants.{Public, Of}
@@ -52,10 +53,6 @@ names : (label : Option Label) (d : ℕ) → label ≡ Some (Of d) → is_that (
 names label d is = subst (λ l. is_that (dataset_in l) d ≡ true) (sym is) (eq-eqb d d refl)
 
 ---- Older posts.
-
-append_nil : {X : Type 0} (xs : List X) → xs ++ [] ≡ xs
-append_nil [] = refl
-append_nil (x ∷ xs) = ap (λ ys. x ∷ ys) (append_nil xs)
 
 grow_to : (wall : ChineseWall) (past : List Post) (x : Post) (before : List Post) (p d : ℕ) →
     IsMoment past x before → histories wall (x ∷ before) p d ≡ true → histories wall past p d ≡ true
@@ -205,7 +202,7 @@ unlabelled given (Some label) h e = absurd (cc)
 held_in_history : (wall : ChineseWall) {past : List Post} {p d : ℕ} → d < DATASET_LIMIT →
     AreCounted wall past → Holds wall past p d → histories wall past p d ≡ true
 held_in_history wall {past = past} {p = p} {d = d} low taken (at_home e) =
-    subst (λ ps. histories wall ps p d ≡ true) (append_nil past)
+    subst (λ ps. histories wall ps p d ≡ true) (append-nil past)
     (grow wall past [] p d ((opening-Decides wall p d).1 e))
 held_in_history wall {past = past} {p = p} {d = d} low taken (wrote x before m by unbarred label) =
     let has = histories wall before in

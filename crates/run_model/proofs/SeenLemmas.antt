@@ -5,6 +5,7 @@ use Rattle.std.specs.Prelude.{◌==◌, is_some}
 use Rattle.std.specs.List.{list_all, cons_option}
 use Rattle.std.proofs.lemmas.Bool.{false≢true}
 use Rattle.std.proofs.lemmas.Option.{slice_get-map}
+use Rattle.std.proofs.lemmas.List.{map-append, map-id}
 use Rattle.coll_routes.specs.declared.statement.Stated.{Stated}
 use Rattle.run_model.specs.Comms.{Comm}
 use Rattle.run_model.specs.Posts.{posts_on, kth_posts, is_full}
@@ -16,14 +17,6 @@ pub map_map : {X Y Z : Type 0} (f : Y → Z) (g : X → Y) (xs : List X) → map
     ≡ map (λ x. f (g x)) xs
 map_map f g [] = refl
 map_map f g (x ∷ xs) = ap (λ rest. f (g x) ∷ rest) (map_map f g xs)
-
-map_self : {X : Type 0} (xs : List X) → map (λ x. x) xs ≡ xs
-map_self [] = refl
-map_self (x ∷ xs) = ap (λ rest. x ∷ rest) (map_self xs)
-
-map_append : {X Y : Type 0} (f : X → Y) (xs ys : List X) → map f (xs ++ ys) ≡ map f xs ++ map f ys
-map_append f [] ys = refl
-map_append f (x ∷ xs) ys = ap (λ rest. f x ∷ rest) (map_append f xs ys)
 
 pub map_cons_option : {X Y : Type 0} (f : X → Y) (o : Option X) (xs : List X) →
     map f (cons_option o xs) ≡ cons_option (option_map f o) (map f xs)
@@ -65,7 +58,7 @@ same_posts view past other e =
 
 last_if : {X Y : Type 0} (f : X → Y) (t : Bool) (xs : List X) (x : X) (ys : List Y) →
     ys ≡ map f xs → cond t (ys ++ f x ∷ []) ys ≡ map f (cond t (xs ++ x ∷ []) xs)
-last_if f true xs x ys e = ap (λ zs. zs ++ f x ∷ []) e ∙ sym (map_append f xs (x ∷ []))
+last_if f true xs x ys e = ap (λ zs. zs ++ f x ∷ []) e ∙ sym (map-append f xs (x ∷ []))
 last_if f false xs x ys e = e
 
 parts_viewed : {X Y : Type 0} (f : X → Y) (c p : ℕ) (past : List (Contribution X)) →
@@ -137,7 +130,7 @@ module _ {X : Type 0} (comm : Comm) (c k : ℕ) (past : List (Contribution X)) w
       ∙ parts_in_mapped (of_pair view) (kth_parts comm c k (paired past))
 
   pub own_parts_are : parts_in (kth_parts comm c k past) ≡ map (λ (q : Stated × X). q.1) pairs
-  own_parts_are = ap (λ gs. parts_in (kth_parts comm c k gs)) (sym (map_self past))
+  own_parts_are = ap (λ gs. parts_in (kth_parts comm c k gs)) (sym (map-id past))
       ∙ parts_are (λ s x. x)
 
   pub rows_are : kth_posts comm c k (posts_of past) ≡ map (option_map (λ (q : Stated × X). q.0))

@@ -208,7 +208,7 @@ abbrev pub settles : ChineseWall → (c k : ℕ) → Post → List Post → Bool
 settles wall c k x past =
     x.comm == c && place x past == k && is_some (filled (comms wall past) x past)
 
-some_is : {X : Type 0} (o : Option X) → is_some o ≡ true → (x : X) × (o ≡ Some x)
+pub some_is : {X : Type 0} (o : Option X) → is_some o ≡ true → (x : X) × (o ≡ Some x)
 some_is (Some x) h = (x, refl)
 some_is None h = absurd (false≢true h)
 

@@ -1,11 +1,12 @@
 -- In a granted instance each rank gave what it stated.
-use Rattle.std.proofs.Common.{◌≡◌, ℕ, zero, suc, ◌<◌, List, [], ◌∷◌, ◌++◌, length, map, refl, sym}
+use Rattle.std.proofs.Common.{◌≡◌, ℕ, zero, suc, ◌<◌, List, [], ◌∷◌, ◌++◌, length, refl, sym}
 use Rattle.std.proofs.Common.{ap, ◌∙◌, subst, arith, true, false, ◌&&◌, ⊎_elim, ◌⊎◌, Option, Some}
 use Rattle.std.proofs.Common.{None, slice_get, option_map}
 use Rattle.std.specs.Prelude.{◌==◌, is_some}
 use Rattle.std.specs.List.{list_all}
 use Rattle.std.proofs.lemmas.Bool.{cases_Bool, cond-true, cond-false, false≢true}
 use Rattle.std.proofs.lemmas.Option.{slice_get-map, slice_get_within}
+use Rattle.std.proofs.lemmas.List.{length-map}
 use Rattle.wall_policy.specs.Policy.{ChineseWall, IsPolicy}
 use Rattle.mpi_elems.specs.Contents.{Contents}
 use Rattle.coll_routes.specs.declared.statement.Stated.{Stated}
@@ -31,13 +32,9 @@ use Rattle.run_model.specs.Contributions.{full_at}
 use Rattle.run_model.specs.Replies.{comm_at}
 use Rattle.run_model.specs.Proper.{IsAsStated, AreAsStated}
 use Rattle.run_model.proofs.SettledLemmas.{lengths, rows_alike, all_at, kth_later, settled_from}
-use Rattle.run_model.proofs.SettledLemmas.{comm_at_is}
+use Rattle.run_model.proofs.SettledLemmas.{comm_at_is, some_is}
 
 -- ## parts and statements stand side by side
-
-either_end : {X : Type 0} (xs : List X) (y : X) (k : ℕ) (x : X) →
-    slice_get (xs ++ y ∷ []) k ≡ Some x → (slice_get xs k ≡ Some x) ⊎ ((k ≡ length xs) × (y ≡ x))
-either_end xs y k x e = get_either xs y k x e
 
 within : {X : Type 0} (xs : List X) (k : ℕ) (x : X) → slice_get xs k ≡ Some x → k < length xs
 within xs k x e = slice_get_within xs k x e
@@ -63,15 +60,15 @@ brought_at c m k (g ∷ past) part s brought at states passed = ⊎_elim
     (λ (new : (k ≡ length (posts_on c m (posts_of past))) × (g.post.stated ≡ s)).
     absurd (let low = within (parts_on c m past) k part old_part in
     let is = new.0 in omega (arith, low, is, long)))
-    (either_end (posts_on c m (posts_of past)) g.post.stated k s states_now))
+    (get_either (posts_on c m (posts_of past)) g.post.stated k s states_now))
     (λ (new_part : (k ≡ length (parts_on c m past)) × (g.part ≡ part)). ⊎_elim
     (λ old. absurd (let low = within (posts_on c m (posts_of past)) k s old in
     let is = new_part.0 in omega (arith, low, is, long)))
     (λ (new : (k ≡ length (posts_on c m (posts_of past))) × (g.post.stated ≡ s)).
     subst (λ q. IsAsStated q part) new.1 (subst (λ x. IsAsStated g.post.stated x) new_part.1
     (brought.1 (ap (λ (q : Stated). q.barred) new.1 ∙ passed))))
-    (either_end (posts_on c m (posts_of past)) g.post.stated k s states_now))
-    (either_end (parts_on c m past) g.part k part at_now))
+    (get_either (posts_on c m (posts_of past)) g.post.stated k s states_now))
+    (get_either (parts_on c m past) g.part k part at_now))
     (λ f. brought_at c m k past part s brought.0
     (sym (ap (λ xs. slice_get xs k) (cond-false (g.post.comm == c && g.post.process == m)
     (parts_on c m past ++ g.part ∷ []) (parts_on c m past) f)) ∙ at)
@@ -96,18 +93,10 @@ part_row (None ∷ rows) i x full e = absurd (false≢true full)
 part_row (Some y ∷ rows) zero x full e = ap (λ o. Some o) e
 part_row (Some y ∷ rows) (suc i) x full e = part_row rows i x full e
 
-length_map : {X Y : Type 0} (f : X → Y) (xs : List X) → length (map f xs) ≡ length xs
-length_map f [] = refl
-length_map f (x ∷ xs) = ap suc (length_map f xs)
-
 mapped : {Y : Type 0} (f : ℕ → Option Y) (o : Option ℕ) (y : Y) → option_map f o ≡ Some (Some y) →
     (m : ℕ) × (o ≡ Some m) × (f m ≡ Some y)
 mapped f None y e = absurd (cc)
 mapped f (Some m) y e = (m, refl, cc)
-
-some_is : {X : Type 0} (o : Option X) → is_some o ≡ true → (x : X) × (o ≡ Some x)
-some_is (Some x) h = (x, refl)
-some_is None h = absurd (false≢true h)
 
 -- ## an instance that is full and has no barred rank
 
@@ -124,7 +113,7 @@ module _ (comm : Comm) (c k : ℕ) (past : List (Contribution Contents))
 
   parts_count : length (parts_in (kth_parts comm c k past)) ≡ length comm.members
   parts_count = parts_long (kth_parts comm c k past) parts_full
-      ∙ length_map (λ m. slice_get (parts_on c m past) k) comm.members
+      ∙ length-map comm.members (λ m. slice_get (parts_on c m past) k)
 
   part_is : (i : ℕ) (part : Contents) →
       slice_get (parts_in (kth_parts comm c k past)) i ≡ Some part → IsPart roll i part

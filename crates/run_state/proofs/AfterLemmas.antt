@@ -5,6 +5,7 @@ use Rattle.std.proofs.Common.{false, not, ◌&&◌, Option, Some, None, slice_ge
 use Rattle.std.proofs.Common.{⊎_elim, eqb-true, option_and_then}
 use Rattle.std.proofs.lemmas.Bool.{cases_Bool, cond-true, cond-false}
 use Rattle.std.proofs.lemmas.Option.{slice_get_within}
+use Rattle.std.proofs.lemmas.List.{length-map}
 use Rattle.wall_policy.specs.Policy.{ChineseWall}
 use Rattle.mpi_group.specs.Groups.{rank_in}
 use Rattle.mpi_group.proofs.MpiGroupLemmas.{one_place}
@@ -24,7 +25,7 @@ use Rattle.run_model.specs.Contributions.{Contribution, posts_of, parts_on, kth_
 use Rattle.run_state.specs.Views.{PostStateView, communicator_of}
 use Rattle.run_state.specs.Entering.{Spot, IsAt, place_at, after, fills}
 use Rattle.run_state.specs.Stands.{StandsForPosts, arrivals_in, arrivals_as, waiting_by, waiting_in}
-use Rattle.run_state.proofs.RowLemmas.{rows-own, row-empty, not_full, none_begun, length_map}
+use Rattle.run_state.proofs.RowLemmas.{rows-own, row-empty, not_full, none_begun}
 use Rattle.run_state.proofs.RowLemmas.{begun_alike, sig_joined, sig_opened}
 use Rattle.run_state.proofs.ContributionLemmas.{posts-grow, parts-grow, lengths}
 
@@ -165,8 +166,8 @@ module _ {X : Type 0} (wall : ChineseWall) (old : PostStateView X) (past : List 
         joined_is spot.comm rows places spot.rank g.post.stated g.part
         (old.waiting.pending g.post.comm (place_at old spot g)) waits_is
         (slice_get_within spot.comm.members spot.rank g.post.process own_rank)
-        (length_map (λ m. slice_get (posts_on g.post.comm m posts) before) spot.comm.members)
-        (length_map (λ m. slice_get (parts_on g.post.comm m past) before) spot.comm.members)
+        (length-map spot.comm.members (λ m. slice_get (posts_on g.post.comm m posts) before))
+        (length-map spot.comm.members (λ m. slice_get (parts_on g.post.comm m past) before))
         (begun_alike (λ m. parts_on g.post.comm m past) (λ m. posts_on g.post.comm m posts) before
         spot.comm.members (λ m. lengths g.post.comm m past))
         not_yet agrees

@@ -1,7 +1,8 @@
 -- The numbers below one more.
-use Rattle.std.proofs.Common.{◌≡◌, ℕ, zero, suc, ◌+◌, List, [], ◌∷◌, ◌++◌, refl, ap, ◌∙◌, arith}
+use Rattle.std.proofs.Common.{◌≡◌, ℕ, zero, suc, ◌+◌, [], ◌∷◌, ◌++◌, ap, ◌∙◌, arith}
 use Rattle.std.proofs.Common.{map}
 use Rattle.std.specs.List.{range_with_len}
+use Rattle.std.proofs.lemmas.List.{map-append}
 use Rattle.mpi_cart.specs.Grids.{below}
 
 range_more : (a n : ℕ) → range_with_len a (suc n) ≡ range_with_len a n ++ (a + n) ∷ []
@@ -14,10 +15,6 @@ pub below_more : (n : ℕ) → below (n + 1) ≡ below n ++ n ∷ []
 below_more n = ap (λ m. below m) (let z : n + 1 ≡ suc n = omega arith in z)
     ∙ (range_more 0 n ∙ ap (λ m. below n ++ m ∷ []) (let z : 0 + n ≡ n = omega arith in z))
 
-map_append : {A B : Type 0} (f : A → B) (xs ys : List A) → map f (xs ++ ys) ≡ map f xs ++ map f ys
-map_append f [] ys = refl
-map_append f (x ∷ xs) ys = ap (λ rest. f x ∷ rest) (map_append f xs ys)
-
 pub map_more : {A : Type 0} (f : ℕ → A) (n : ℕ) →
     map f (below (n + 1)) ≡ map f (below n) ++ f n ∷ []
-map_more f n = ap (λ xs. map f xs) (below_more n) ∙ map_append f (below n) (n ∷ [])
+map_more f n = ap (λ xs. map f xs) (below_more n) ∙ map-append f (below n) (n ∷ [])

@@ -1,10 +1,11 @@
 -- Groups and shapes that stand side by side, and what a constructor adds to both.
 use Rattle.std.proofs.Common.{◌≡◌, ℕ, zero, suc, ◌<◌, List, [], ◌∷◌, ◌++◌, length, refl, sym, ap}
 use Rattle.std.proofs.Common.{◌∙◌, subst, arith, Bool, true, false, Option, Some, None, slice_get}
-use Rattle.std.proofs.Common.{map, drop, cond}
+use Rattle.std.proofs.Common.{drop, cond}
 use Rattle.std.specs.Prelude.{◌==◌, nat_lt, unwrap_or, filter_map}
 use Rattle.std.specs.List.{list_all}
 use Rattle.std.proofs.lemmas.Bool.{cond-true, cond-false, and_parts, lt-ltb}
+use Rattle.std.proofs.lemmas.List.{append-nil, length-map}
 use Rattle.mpi_group.specs.Groups.{members_at, are_ranks}
 use Rattle.mpi_cart.specs.Grids.{Topology, volume}
 use Rattle.mpi_comm.specs.Comms.{group_at, fits, is_subgroup, subset_groups, constructor_fault}
@@ -16,10 +17,6 @@ use Rattle.run_model.specs.Comms.{Comm, with_grid, shape_of}
 use Rattle.run_model.specs.declared.outcome.Outcome.TheVariants.{Made, NoRoom}
 use Rattle.run_state.specs.Laid.{with_shapes, AreLaid, IsShape, laid}
 use Rattle.run_state.specs.Making.{Makes, is_left}
-
-pub append_nil : {A : Type 0} (xs : List A) → xs ++ [] ≡ xs
-append_nil [] = refl
-append_nil (x ∷ xs) = ap (λ ys. x ∷ ys) (append_nil xs)
 
 pub laid_length : (gs : List (List ℕ)) (ss : List Shape) → AreLaid gs ss → length gs ≡ length ss
 laid_length [] [] h = refl
@@ -116,14 +113,10 @@ dropped_front [] ys (suc n) e = absurd (omega (arith, e))
 dropped_front (x ∷ xs) ys zero e = absurd (omega (arith, e))
 dropped_front (x ∷ xs) ys (suc n) e = dropped_front xs ys n (omega (arith, e))
 
-pub length_map : {A B : Type 0} (f : A → B) (xs : List A) → length (map f xs) ≡ length xs
-length_map f [] = refl
-length_map f (x ∷ xs) = ap suc (length_map f xs)
-
 pub length_with_grid : (grid : Option Topology) (groups : List (List ℕ)) →
     length (with_grid grid groups) ≡ length groups
 length_with_grid grid groups =
-    length_map (λ members. record { members = members; grid = grid }) groups
+    length-map groups (λ members. record { members = members; grid = grid })
 
 -- the outcome of a constructor, whose groups fit or don't
 pub makes_some : (gs new : List (List ℕ)) (ss : List Shape) (grid : Option Topology) →
@@ -154,7 +147,7 @@ makes_none gs new ss grid h full =
     let holds : fits (length (with_shapes gs ss)) (length (with_grid grid new)) ≡ false =
     (λ i. fits (count i) (size i)) ∙ full in
     record {
-      grown = sym (append_nil (with_shapes gs ss))
+      grown = sym (append-nil (with_shapes gs ss))
           ∙ ap (λ more. with_shapes gs ss ++ more) (sym (cond-false
           (fits (length (with_shapes gs ss)) (length (with_grid grid new)))
           (with_grid grid new) [] holds));

@@ -4,6 +4,7 @@ use Rattle.std.proofs.Common.{◌≡◌, ℕ, ◌+◌, List, [], ◌++◌, lengt
 use Rattle.std.proofs.Common.{false, not, ◌||◌, Option, Some, None, cond, is_none}
 use Rattle.std.specs.Prelude.{◌==◌, nat_le}
 use Rattle.std.proofs.lemmas.Bool.{false≢true, cond-true}
+use Rattle.std.proofs.lemmas.List.{append-nil}
 use Rattle.mpi_comm.specs.declared.table.TheConstants.{COMMUNICATOR_LIMIT}
 use Rattle.mpi_comm.specs.declared.values.Ask.{Ask}
 use Rattle.mpi_comm.specs.Comms.{fits, is_subgroup, dup_groups}
@@ -29,7 +30,7 @@ use Rattle.run_model.specs.Posts.{constructor_outcome}
 use Rattle.run_model.specs.declared.outcome.Outcome.TheVariants.{Made, NoRoom}
 use Rattle.run_state.specs.Laid.{with_shapes, AreLaid}
 use Rattle.run_state.specs.Making.{Makes, is_faultless, is_kept}
-use Rattle.run_state.proofs.LaidLemmas.{append_nil, joined_length}
+use Rattle.run_state.proofs.LaidLemmas.{joined_length}
 
 -- ## no fault of its own
 
@@ -129,7 +130,7 @@ nothing_made gs ss new count h none is =
     let old = with_shapes gs ss in
     let before = length old in
     record {
-      grown = sym (append_nil old)
+      grown = sym (append-nil old)
           ∙ ap (λ more. old ++ more) (sym (ap (λ cs. if_fit before cs) none ∙ none_fit before));
       told = (λ i. Made ((is ∙ sym (joined_length gs ss h)) i) 0)
           ∙ (sym (cond-true (fits before 0) (Made before 0) NoRoom

@@ -4,7 +4,7 @@ use Rattle.std.proofs.Common.{sym, ap, ◌∙◌, subst, arith, Bool, true, fals
 use Rattle.std.proofs.Common.{slice_get, map, drop, replicate, cond, get_or, ◌&&◌, ◌||◌}
 use Rattle.std.proofs.Common.{append_assoc, length-append}
 use Rattle.std.proofs.lemmas.Bool.{cond-true, cond-false, leb-true}
-use Rattle.std.proofs.lemmas.List.{length-replicate}
+use Rattle.std.proofs.lemmas.List.{length-replicate, append-nil, length-map}
 use Rattle.std.proofs.lemmas.Option.{slice_get_read}
 use Rattle.std.specs.Prelude.{◌==◌, nat_le, Result, Ok, Err, IfOk, OnErr, unwrap_or}
 use Rattle.std.specs.List.{list_all}
@@ -22,7 +22,7 @@ use Rattle.run_model.specs.declared.outcome.Outcome.{Outcome}
 use Rattle.run_model.specs.declared.outcome.Outcome.TheVariants.{Made, NoRoom}
 use Rattle.run_state.specs.Laid.{with_shapes, AreLaid, laid}
 use Rattle.run_state.specs.Making.{Makes}
-use Rattle.run_state.proofs.LaidLemmas.{append_nil, length_map, laid_length, laid_append, AreSized}
+use Rattle.run_state.proofs.LaidLemmas.{laid_length, laid_append, AreSized}
 use Rattle.run_state.proofs.LaidLemmas.{laid_group, laid_shape, laid_sized, there_is, makes_some}
 use Rattle.run_state.proofs.LaidLemmas.{makes_none, fits_is, no_room_is, dropped_front}
 
@@ -65,7 +65,7 @@ entered_more grid gs n shapes all size lt is e =
 pub entered_last : (grid : Option Topology) (gs : List (List ℕ)) (n : ℕ) (shapes all : List Shape) →
     length gs ≤ n → shapes ++ laid grid (drop n gs) ≡ all → shapes ≡ all
 entered_last grid gs n shapes all le e =
-    sym (append_nil shapes) ∙ (ap (λ xs. shapes ++ xs) (sym (laid_end grid gs n le)) ∙ e)
+    sym (append-nil shapes) ∙ (ap (λ xs. shapes ++ xs) (sym (laid_end grid gs n le)) ∙ e)
 
 -- each of so many equal ones is that one
 pub is_copy : {A : Type 0} (xs : List A) (x : A) (ys : List A) (n : ℕ) (g : A) →
@@ -100,7 +100,7 @@ all_at (x ∷ xs) f v = ap (λ b. (length (f x) == v) && b) (all_at xs f v)
 pub length_groups : {A : Type 0} (xs : List A) (f : A → List ℕ) (members : List ℕ) →
     length (subset_groups (map f xs) members) ≡ length xs
 length_groups xs f members =
-    length_map (λ ranks. members_at members ranks) (map f xs) ∙ length_map f xs
+    length-map (map f xs) (λ ranks. members_at members ranks) ∙ length-map xs f
 
 -- ## what is answered
 

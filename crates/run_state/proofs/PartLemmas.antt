@@ -7,6 +7,9 @@ use Rattle.std.specs.List.{list_all, range_with_len, items_where_true}
 use Rattle.std.proofs.lemmas.Bool.{cond-true, cond-false, and_from, and_parts, and_left, or_from}
 use Rattle.std.proofs.lemmas.Bool.{not_from_false, lt-ltb}
 use Rattle.std.proofs.lemmas.Option.{slice_get_within}
+use Rattle.std.proofs.lemmas.List.{append-nil, map-append, length-map}
+use Rattle.std.proofs.lemmas.List.FromFn.{length-range_with_len}
+use Rattle.std.proofs.lemmas.List.Elements.{filter-append}
 use Rattle.mpi_group.specs.Groups.{is_member, is_distinct, are_ranks}
 use Rattle.mpi_group.proofs.MpiGroupLemmas.{is_distinct-filter}
 use Rattle.mpi_comm.specs.Comms.{is_subgroup}
@@ -277,13 +280,8 @@ pub all_coords : (g : Topology) (r n : ℕ) → r < volume g.dims → length g.d
     take n (coords g r) ≡ coords g r
 all_coords g r n lt le =
     take_whole (coords g r) n (let e = coords_length g r lt in omega (arith, le, e))
+  -- ## those of the numbers below one that pass a test
 
--- ## those of the numbers below one that pass a test
-
-filter_append : {A : Type 0} (test : A → Bool) (xs ys : List A) →
-    filter test (xs ++ ys) ≡ filter test xs ++ filter test ys
-filter_append test [] ys = refl
-filter_append test (x ∷ xs) ys = by (test x) (filter_append test xs ys)
   where
     by : (b : Bool) → filter test (xs ++ ys) ≡ filter test xs ++ filter test ys →
         cond b (x ∷ filter test (xs ++ ys)) (filter test (xs ++ ys))
@@ -294,19 +292,15 @@ filter_append test (x ∷ xs) ys = by (test x) (filter_append test xs ys)
 filter_takes : (test : ℕ → Bool) (n : ℕ) → test n ≡ true →
     filter test (below (n + 1)) ≡ filter test (below n) ++ n ∷ []
 filter_takes test n t = ap (λ xs. filter test xs) (below_more n)
-    ∙ (filter_append test (below n) (n ∷ [])
+    ∙ (filter-append test (below n) (n ∷ [])
     ∙ ap (λ xs. filter test (below n) ++ xs) (cond-true (test n) (n ∷ []) [] t))
 
 filter_leaves : (test : ℕ → Bool) (n : ℕ) → test n ≡ false →
     filter test (below (n + 1)) ≡ filter test (below n)
 filter_leaves test n f = ap (λ xs. filter test xs) (below_more n)
-    ∙ (filter_append test (below n) (n ∷ [])
+    ∙ (filter-append test (below n) (n ∷ [])
     ∙ (ap (λ xs. filter test (below n) ++ xs) (cond-false (test n) (n ∷ []) [] f)
-    ∙ append_nil (filter test (below n))))
-  where
-    append_nil : {A : Type 0} (xs : List A) → xs ++ [] ≡ xs
-    append_nil [] = refl
-    append_nil (x ∷ xs) = ap (λ ys. x ∷ ys) (append_nil xs)
+    ∙ append-nil (filter test (below n))))
 
 filter_range : (test other : ℕ → Bool) (a n : ℕ) →
     ((k : ℕ) → k < n → test (a + k) ≡ other (a + k)) →
@@ -403,15 +397,11 @@ read_map f [] k x lt e = absurd (omega (arith, lt))
 read_map f (y ∷ xs) zero x lt e = ap (λ z. Some (f z)) (sym e)
 read_map f (y ∷ xs) (suc k) x lt e = read_map f xs k x (omega (arith, lt)) e
 
-map_append : {A B : Type 0} (f : A → B) (xs ys : List A) → map f (xs ++ ys) ≡ map f xs ++ map f ys
-map_append f [] ys = refl
-map_append f (x ∷ xs) ys = ap (λ rest. f x ∷ rest) (map_append f xs ys)
-
 -- one more of a table by numbers
 pub table_next : {A B : Type 0} (f : A → B) (h : ℕ → B) (n : ℕ) (xs now : List A) (x : A) →
     map f xs ≡ map h (below n) → f x ≡ h n → now ≡ xs ++ x ∷ [] → map f now ≡ map h (below (n + 1))
 table_next f h n xs now x before same more =
-    ap (λ ys. map f ys) more ∙ (map_append f xs (x ∷ [])
+    ap (λ ys. map f ys) more ∙ (map-append f xs (x ∷ [])
     ∙ ((λ i. before i ++ same i ∷ []) ∙ sym (map_more h n)))
 
 -- one more number that passes, and one that does not
@@ -428,15 +418,8 @@ filter_past test n made now f before same = same ∙ (before ∙ sym (filter_lea
 pub table_length : {A B : Type 0} (f : A → B) (h : ℕ → B) (n : ℕ) (xs : List A) →
     map f xs ≡ map h (below n) → length xs ≡ n
 table_length f h n xs e =
-    sym (length_map f xs) ∙ (ap length e ∙ (length_map h (below n) ∙ range_length 0 n))
-  where
-    range_length : (a m : ℕ) → length (range_with_len a m) ≡ m
-    range_length a zero = refl
-    range_length a (suc m) = ap suc (range_length (a + 1) m)
-
-    length_map : {C D : Type 0} (k : C → D) (ys : List C) → length (map k ys) ≡ length ys
-    length_map k [] = refl
-    length_map k (y ∷ ys) = ap suc (length_map k ys)
+    sym (length-map xs f)
+    ∙ (ap length e ∙ (length-map (below n) h ∙ length-range_with_len 0 n))
 
 pub table_same : {A B : Type 0} (f : A → B) (h : ℕ → B) (n : ℕ) (xs ys : List A) → ys ≡ xs →
     map f xs ≡ map h (below n) → map f ys ≡ map h (below n)

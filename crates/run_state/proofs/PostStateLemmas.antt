@@ -5,6 +5,7 @@ use Rattle.std.proofs.Common.{None, slice_get, ⊎_elim, ◌⊎◌, inl, inr, eq
 use Rattle.std.proofs.Common.{length-append}
 use Rattle.std.proofs.lemmas.Bool.{cases_Bool, cond-true, cond-false, and_left, and_right, and_from}
 use Rattle.std.proofs.lemmas.Option.{slice_get_within}
+use Rattle.std.proofs.lemmas.List.{append-nil}
 use Rattle.wall_policy.specs.Policy.{ChineseWall}
 use Rattle.wall_rules.specs.Histories.{History, Accesses, has, opening}
 use Rattle.mpi_comm.specs.declared.values.Ask.{Ask}
@@ -33,18 +34,11 @@ use Rattle.run_state.specs.Entering.{Spot, IsAt, Enters, Changes, Answers, place
 use Rattle.run_state.specs.Entering.{if_waiting, written}
 use Rattle.run_state.specs.Upcoming.{IsNext, IsPrepared, roll_next, constructed}
 use Rattle.run_state.specs.Stands.{StandsForPosts}
-use Rattle.run_state.proofs.RowLemmas.{get-front}
+use Rattle.run_state.proofs.RowLemmas.{get-front, some_same}
 use Rattle.run_state.proofs.StandLemmas.{at_own, at_beside, at_other, same_or_not, grown}
 use Rattle.run_state.proofs.StandLemmas.{unused_waits, unused_arrivals}
 use Rattle.run_state.proofs.SeenLemmas.{roll_is, sig_is, members_is, shape_is, sound_next}
 use Rattle.run_state.proofs.MadeLemmas.{new_comms_are, plain_adds_none}
-
-append_nil : {A : Type 0} (xs : List A) → xs ++ [] ≡ xs
-append_nil [] = refl
-append_nil (x ∷ xs) = ap (λ ys. x ∷ ys) (append_nil xs)
-
-some_same : {X : Type 0} (x y : X) → Some x ≡ Some y → x ≡ y
-some_same x y e = cc
 
 -- ## what every state keeps
 
@@ -201,7 +195,7 @@ module _ {X : Type 0} (waiting : PendingView X) (c rank : ℕ) (comm : Comm) (s 
     outcome = sym (cond-false (is_constructor roll.sig && is_full roll.stated)
         (Some (constructor_outcome (length table) (new_comms roll))) None
         (and_left (is_constructor roll.sig) (is_full roll.stated) (constructs ∙ plain)));
-    comms = sym (append_nil table)
+    comms = sym (append-nil table)
         ∙ ap (λ new. table ++ new) (sym (plain_adds_none (length table) roll comm
         (members_is waiting c rank comm s is) (shape_is waiting c rank comm s is)
         (constructs ∙ plain)));
@@ -214,7 +208,7 @@ module _ {X : Type 0} (waiting : PendingView X) (c rank : ℕ) (comm : Comm) (s 
     outcome = sym (cond-false (is_constructor roll.sig && is_full roll.stated)
         (Some (constructor_outcome (length table) (new_comms roll))) None
         (and_right (is_constructor roll.sig) (is_full roll.stated) waits));
-    comms = sym (append_nil table)
+    comms = sym (append-nil table)
         ∙ ap (λ o. table ++ added (length table) o)
         (sym (cond-false (is_full roll.stated) (Some roll) None waits));
   }

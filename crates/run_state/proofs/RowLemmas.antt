@@ -10,6 +10,9 @@ use Rattle.run_model.specs.Posts.{signature_in}
 
 -- ## lists that grow at their end
 
+pub some_same : {A : Type 0} (x y : A) → Some x ≡ Some y → x ≡ y
+some_same x y e = cc
+
 pub length_snoc : {A : Type 0} (xs : List A) (x : A) → length (xs ++ x ∷ []) ≡ suc (length xs)
 length_snoc [] x = refl
 length_snoc (y ∷ xs) x = ap suc (length_snoc xs x)
@@ -116,11 +119,6 @@ pub none_begun : {A : Type 0} (rows : List (Option A)) → is_begun rows ≡ fal
 none_begun [] f = refl
 none_begun (Some a ∷ rows) f = absurd (false≢true (sym f))
 none_begun (None ∷ rows) f = ap (λ rest. None ∷ rest) (none_begun rows f)
-
-pub length_map : {A : Type 0} (f : ℕ → A) (members : List ℕ) →
-    length (map f members) ≡ length members
-length_map f [] = refl
-length_map f (m ∷ ms) = ap suc (length_map f ms)
 
 -- rows of items of both kinds begin together, where each member has as many of both
 pub begun_alike : {A B : Type 0} (xs : ℕ → List A) (ys : ℕ → List B) (k : ℕ) (members : List ℕ) →

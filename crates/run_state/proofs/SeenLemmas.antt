@@ -9,6 +9,8 @@ use Rattle.std.specs.Option.{option_map}
 use Rattle.std.specs.List.{list_any, range_with_len}
 use Rattle.std.proofs.lemmas.Bool.{cases_Bool, cond-true, cond-false, false≢true, and_parts}
 use Rattle.std.proofs.lemmas.Option.{slice_get_within, slice_get-map}
+use Rattle.std.proofs.lemmas.List.{length-map, length-replicate}
+use Rattle.std.proofs.Math.Bool.{and_assoc}
 use Rattle.wall_labels.specs.declared.label.Label.{Label}
 use Rattle.wall_policy.specs.Policy.{ChineseWall}
 use Rattle.wall_rules.specs.Histories.{History, has}
@@ -42,7 +44,7 @@ use Rattle.run_state.specs.Views.{fault_among, fault_of}
 use Rattle.run_state.specs.Stands.{StandsForPosts, arrivals_in, arrivals_as, waiting_by, waiting_in}
 use Rattle.run_state.specs.Upcoming.{IsNext, roll_with, roll_next, is_last}
 use Rattle.run_state.specs.Upcoming.{stated_in as stated_among, ask_of, asks_with}
-use Rattle.run_state.proofs.RowLemmas.{row-empty, not_full}
+use Rattle.run_state.proofs.RowLemmas.{row-empty, not_full, some_same}
 use Rattle.run_state.proofs.AfterLemmas.{member_at, agreed, instance_by}
 
 -- ## refusals
@@ -277,9 +279,6 @@ barred_labelled : (held : History) (p : ℕ) (label : Option Label) (barred : Bo
 barred_labelled held p None barred word t = absurd (false≢true (sym word ∙ t))
 barred_labelled held p (Some label) barred word t = refl
 
-some_same : {X : Type 0} (x y : X) → Some x ≡ Some y → x ≡ y
-some_same x y e = cc
-
 pub is_next : {X : Type 0} (seen : PostStateView X) (number p c rank : ℕ) (comm : Comm)
     (stated : Stated) → IsPostState seen →
     fault_among number seen.comms seen.waiting p c stated.sig stated.own (stated_type stated.sig)
@@ -313,10 +312,6 @@ pub roll_is : {X : Type 0} (comm : Comm) (rank : ℕ) (s : Stated) (part : X)
 roll_is comm rank s part (Some w) = refl
 roll_is comm rank s part None = refl
 
-and_assoc : (a b c : Bool) → (a && (b && c)) ≡ ((a && b) && c)
-and_assoc true b c = refl
-and_assoc false b c = refl
-
 pub full_set : {A : Type 0} (rows : List (Option A)) (r : ℕ) (a : A) → r < length rows →
     is_full (set rows r (Some a)) ≡ is_full_but_for rows r
 full_set [] r a lt = absurd (omega (arith, lt))
@@ -324,7 +319,7 @@ full_set (row ∷ rows) zero a lt = refl
 full_set (row ∷ rows) (suc r) a lt =
     let e : suc (r + 1) ≡ suc r + 1 = omega arith in
     ap (λ b. is_some row && b) (full_set rows r a (omega (arith, lt)))
-    ∙ (and_assoc (is_some row) (is_full (take r rows)) (is_full (drop (r + 1) rows))
+    ∙ (sym (and_assoc (is_some row) (is_full (take r rows)) (is_full (drop (r + 1) rows)))
     ∙ ap (λ n. (is_some row && is_full (take r rows)) && is_full (drop n (row ∷ rows))) e)
 
 full_none : (n r : ℕ) (s : Stated) → r < n → is_full (set (replicate n None) r (Some s)) ≡ (n == 1)
@@ -391,10 +386,6 @@ shape_is {X} waiting c rank comm s is = by (before waiting c rank) refl
     by None e = refl
     by (Some w) e = (is.sound w e).shape
 
-length_none : {A : Type 0} (n : ℕ) (x : A) → length (replicate n x) ≡ n
-length_none zero x = refl
-length_none (suc n) x = ap suc (length_none n x)
-
 pub rows_is : {X : Type 0} (waiting : PendingView X) (c rank : ℕ) (comm : Comm) (s : Stated) →
     IsNext waiting c rank comm s →
     length (roll_next waiting c rank comm s).stated ≡ length comm.members
@@ -406,7 +397,7 @@ rows_is {X} waiting c rank comm s is = by (before waiting c rank) refl
     by : (w : Option (Instance X)) → before waiting c rank ≡ w →
         length (roll_with comm rank s (roll_in w)).stated ≡ length comm.members
     by None e = length-set (replicate (length comm.members) nothing) rank (Some s)
-        ∙ length_none (length comm.members) nothing
+        ∙ length-replicate (length comm.members) nothing
     by (Some w) e = length-set w.roll.stated rank (Some s)
         ∙ ((is.sound w e).sound.rows
         ∙ ap (λ (shape : Rattle.coll_routes.specs.declared.roll.Shape.Shape). shape.size)
@@ -529,17 +520,13 @@ get-set (y ∷ xs) (suc r) (suc k) x lt =
         (ne_eqb (suc a) (suc b) (λ e. false≢true (sym f ∙ eq-eqb a b (omega (arith, e))))))
         (cases_Bool (eqb a b))
 
-length_map : {A B : Type 0} (f : A → B) (xs : List A) → length (map f xs) ≡ length xs
-length_map f [] = refl
-length_map f (x ∷ xs) = ap suc (length_map f xs)
-
 -- the asks of rows with one set
 asks_set : (rows : List (Option Stated)) (o : Option Roll) (n rank : ℕ) (s : Stated) →
     length rows ≡ n → ((k : ℕ) → k < n → slice_get rows k ≡ Some (stated_among o k)) →
     map (ask_of o rank s.own) (below n) ≡ map ask_in (set rows rank (Some s))
 asks_set rows o n rank s len at = map_below (ask_of o rank s.own) n
     (map ask_in (set rows rank (Some s)))
-    (length_map ask_in (set rows rank (Some s)) ∙ (length-set rows rank (Some s) ∙ len)) each
+    (length-map (set rows rank (Some s)) ask_in ∙ (length-set rows rank (Some s) ∙ len)) each
   where
     each : (k : ℕ) → k < n →
         slice_get (map ask_in (set rows rank (Some s))) k ≡ Some (ask_of o rank s.own k)
@@ -565,7 +552,7 @@ asks_are {X} waiting c rank comm s is = by (before waiting c rank) refl
         asks_with (roll_in w) (length comm.members) rank s.own
         ≡ asks (roll_with comm rank s (roll_in w))
     by None e = asks_set (replicate (length comm.members) nothing) None (length comm.members) rank s
-        (length_none (length comm.members) nothing) (λ k lt. bare (length comm.members) k lt)
+        (length-replicate (length comm.members) nothing) (λ k lt. bare (length comm.members) k lt)
       where
         nothing : Option Stated
         nothing = None
@@ -611,4 +598,4 @@ pub asks_length : {X : Type 0} (waiting : PendingView X) (c rank : ℕ) (comm : 
     IsNext waiting c rank comm s →
     length (asks (roll_next waiting c rank comm s)) ≡ length comm.members
 asks_length waiting c rank comm s is =
-    length_map ask_in (roll_next waiting c rank comm s).stated ∙ rows_is waiting c rank comm s is
+    length-map (roll_next waiting c rank comm s).stated ask_in ∙ rows_is waiting c rank comm s is

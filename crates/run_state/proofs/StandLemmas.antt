@@ -7,6 +7,7 @@ use Rattle.std.specs.Prelude.{IfOk}
 use Rattle.std.specs.Option.{option_map}
 use Rattle.std.proofs.lemmas.Bool.{cases_Bool, cond-true, cond-false, false≢true}
 use Rattle.std.proofs.lemmas.Option.{slice_get_within, slice_get_cases}
+use Rattle.std.proofs.lemmas.List.{length-map}
 use Rattle.wall_policy.specs.Policy.{ChineseWall}
 use Rattle.wall_rules.specs.Histories.{has}
 use Rattle.coll_routes.specs.declared.statement.Stated.{Stated}
@@ -27,7 +28,7 @@ use Rattle.run_state.specs.Entering.{Spot, Answers, Enters, place_at, after, fil
 use Rattle.run_state.specs.Stands.{StandsForPosts, Tells, arrivals_in, arrivals_as, waiting_by}
 use Rattle.run_state.specs.Stands.{waiting_in}
 use Rattle.run_state.proofs.RowLemmas.{length_snoc, get-front, map-same, rows-other, begun_nothing}
-use Rattle.run_state.proofs.RowLemmas.{parts_back, length_map}
+use Rattle.run_state.proofs.RowLemmas.{parts_back}
 use Rattle.run_state.proofs.ContributionLemmas.{posts-grow, parts-grow, posts-elsewhere}
 use Rattle.run_state.proofs.ContributionLemmas.{parts-elsewhere, lengths}
 use Rattle.run_state.proofs.AfterLemmas.{instance_by, own_rank, once, place_is, rows-now, after_is}
@@ -244,7 +245,7 @@ module _ {X : Type 0} (wall : ChineseWall) (old new : PostStateView X)
       let rows = kth_posts spot.comm c before posts in
       let own = own_rank wall old past stands spot g moves.at in
       let within : spot.rank < length rows = subst (λ n. spot.rank < n)
-      (sym (length_map (λ m. slice_get (posts_on c m posts) before) spot.comm.members))
+      (sym (length-map spot.comm.members (λ m. slice_get (posts_on c m posts) before)))
       (slice_get_within spot.comm.members spot.rank g.post.process own) in
       ap is_begun (rows-now wall old past stands spot g moves.at)
       ∙ begun_set rows spot.rank g.post.stated within

@@ -405,8 +405,3 @@ none_in_either words other m n used e one two k past = elim (leb_tells (64 * m) 
   | inl high ↦ ap (λ b. (is_set other k || is_set other k) && b) (one.clear k high.1) ∙ and_false _
   | inr low ↦ let least = low.1 in ap (λ b. (b || b) && is_set words k) (two.clear k (omega arith))
 ]
-
-pub both_is : (a b : Bool) → (a && b) ≡ true → (a ≡ true) × (b ≡ true)
-both_is true true h = (refl, refl)
-both_is true false h = absurd (false≢true h)
-both_is false b h = absurd (false≢true h)

@@ -2,7 +2,7 @@
 use Rattle.std.proofs.Common.{◌≡◌, ℕ, ℤ, pos, negsuc, zero, suc, ◌+◌, ◌<◌, ◌≤◌, Bool, true, false}
 use Rattle.std.proofs.Common.{◌&&◌, List, [], ◌∷◌, ◌++◌, length, map, Option, Some, None, cond}
 use Rattle.std.proofs.Common.{refl, sym, ◌∙◌, inl, inr, arith, slice_get, ◌⊎◌}
-use Rattle.std.proofs.lemmas.Bool.{cases_Bool, leb-true}
+use Rattle.std.proofs.lemmas.Bool.{cases_Bool, leb-true, and_parts}
 use Rattle.std.proofs.lemmas.List.{length-map}
 use Rattle.std.proofs.lemmas.List.Folds.{list_all-append, list_all-map}
 use Rattle.std.specs.List.{list_all, position_from, AllZip}
@@ -20,10 +20,6 @@ use Rattle.wall_policy.specs.Meaning.{wall_of}
 use Rattle.wall_policy.specs.Policy.{is_version, is_least, home_if_any, IsPair, IsPolicy}
 use Rattle.wall_policy.proofs.BuildLemmas.{length-class_numbers}
 use Rattle.wall_policy.proofs.RepeatLemmas.{distinct_names}
-
-and_parts : (a b : Bool) → (a && b) ≡ true → (a ≡ true) × (b ≡ true)
-and_parts true b h = (refl, h)
-and_parts false b h = absurd cc
 
 both : (a b : Bool) → a ≡ true → b ≡ true → (a && b) ≡ true
 both a b p q = rw (p, q) refl

@@ -1,9 +1,9 @@
 -- The test of rivals, and the relation: two different datasets of one class.
-use Rattle.std.proofs.Common.{◌≡◌, ◌≢◌, ℕ, zero, suc, ◌+◌, ◌<◌, Bool, true, false, not, ◌&&◌}
+use Rattle.std.proofs.Common.{◌≡◌, ◌≢◌, ℕ, zero, suc, ◌+◌, ◌<◌, true, false, not, ◌&&◌}
 use Rattle.std.proofs.Common.{nat_eq, List, [], ◌∷◌, length, Option, Some, None, refl, sym, ap, ◌∙◌}
 use Rattle.std.proofs.Common.{inl, inr, arith, slice_get}
 use Rattle.std.specs.Prelude.{Contains, slice_index_or}
-use Rattle.std.proofs.lemmas.Bool.{ne_eqb, eq-eqb}
+use Rattle.std.proofs.lemmas.Bool.{ne_eqb, eq-eqb, and_parts}
 use Rattle.std.proofs.lemmas.Bool.Decides.{eqb_tells}
 use Rattle.wall_policy.specs.Rivals.{datasets_from, AreRivals, is_one_class, are_rivals}
 
@@ -62,10 +62,6 @@ one_class (Some c) (Some k) h = elim (eqb_tells c k) [
 ]
 one_class (Some c) None h = absurd cc
 one_class None b h = absurd cc
-
-and_parts : (a b : Bool) → (a && b) ≡ true → (a ≡ true) × (b ≡ true)
-and_parts true b h = (refl, h)
-and_parts false b h = absurd cc
 
 differ : (d e : ℕ) → not (nat_eq d e) ≡ true → d ≢ e
 differ d e h = elim (eqb_tells d e) [

@@ -6,7 +6,7 @@ use Rattle.std.specs.Prelude.{IsTrue}
 use Rattle.std.proofs.Math.ListN.{set}
 use Rattle.std.proofs.lemmas.List.{get_or_default, get_or_past, length-set}
 use Rattle.std.proofs.lemmas.Option.{slice_get_past}
-use Rattle.std.proofs.lemmas.Bool.{ne_eqb, eq-eqb}
+use Rattle.std.proofs.lemmas.Bool.{ne_eqb, eq-eqb, and_parts}
 use Rattle.std.proofs.lemmas.Bool.Decides.{leb_tells, eqb_tells}
 use Rattle.std.specs.Ordering.{nat_cmp}
 use Rattle.std.specs.Cmp.{nat_cmp_total, unsigned_tied}
@@ -17,7 +17,7 @@ use Rattle.wall_policy.specs.Policy.{ChineseWall, IsPolicy, home_if_any, home_of
 use Rattle.wall_rules.specs.Rules.{HoldsNoRivals, joined}
 use Rattle.wall_rules.specs.Histories.{History, entered, is_home, opening, NobodyHoldsRivals}
 use Rattle.wall_rules.specs.Histories.{Accesses, has_in, has, KeepsWall}
-use Rattle.wall_rules.proofs.RuleLemmas.{no_rivals-part, no_rivals-one, same_number, and_parts}
+use Rattle.wall_rules.proofs.RuleLemmas.{no_rivals-part, no_rivals-one, same_number}
 use Rattle.wall_rules.proofs.RuleLemmas.{or_parts, or_left, or_right}
 
 or_false : (a : Bool) → a ≡ (a || false)

@@ -1,7 +1,8 @@
 use Rattle.std.proofs.Common.{sym, ◌∙◌, arith}
+use Rattle.std.proofs.lemmas.Bool.{and_parts}
 use Rattle.wall_labels.specs.Limits.{dataset_limit}
 use Rattle.wall_labels.specs.Rows.{is_set, differs}
-use Rattle.wall_labels.proofs.RowLemmas.{held, held_below, some_then, none_then, both_is}
+use Rattle.wall_labels.proofs.RowLemmas.{held, held_below, some_then, none_then}
 use Rattle.wall_labels.proofs.RowLemmas.{differs_is, member_is_given}
 use Rattle.wall_labels.proofs.label_set.LabelSet.first_other_than.Goals as goal
 
@@ -13,7 +14,7 @@ returns c =
     let is_held = held words c.args.self.now c.self.view_is in
     record {
       found =
-          some_then result _ _ (λ d is. let both = both_is (is_set words d) (differs other d) is in
+          some_then result _ _ (λ d is. let both = and_parts (is_set words d) (differs other d) is in
           (is_held d ∙ both.0, differs_is other d both.1)) c.lowest_other.ensures.found;
       lowest =
           some_then result _ _ (λ d first e lt has.
