@@ -1,5 +1,4 @@
 //! Why a book is refused.
-ghost use Rattle.std.specs.Prelude.{◌≡◌};
 
 use thiserror::Error;
 

@@ -1,5 +1,5 @@
 //! Reads a line of a book.
-ghost use Rattle.std.specs.Prelude.{◌≡◌, ◌≢◌, IfOk, Err};
+ghost use Rattle.std.specs.Prelude.{◌≢◌, IfOk, Err};
 ghost use Rattle.coll_text.specs.Reading.{Gives, Takes};
 ghost use Rattle.run_model.specs.EntryForms.{HasForm};
 ghost use Rattle.audit_book.specs.Lines.{post_at, denied_at, made_at, came_to, outcome_at};
@@ -13,9 +13,7 @@ use coll_routes::Stated;
 use coll_text::{LineFault, Parts, end_of, next_number, next_number32, next_statement, next_word};
 use run_model::{Entry, Outcome};
 use std::alloc::Global;
-use wall_labels::Label;
 use wall_policy::Policy;
-use wall_verdict::Rule;
 
 /// A finished line behind the header.
 #[derive(Drop)]

@@ -3,7 +3,7 @@ ghost use Rattle.std.specs.Prelude.{◌≡◌, ◌≢◌, true, IfOk, Err};
 ghost use Rattle.run_model.specs.Books.{is_labelled_as};
 ghost use Rattle.coll_text.specs.Reading.{Gives, Takes};
 ghost use Rattle.audit_book.specs.Lines.{past_word, known_process, process_at, named_at, label_at};
-ghost use Rattle.audit_book.specs.Lines.{given_label, either_word, barred_at, rule_at, rule_of};
+ghost use Rattle.audit_book.specs.Lines.{given_label, either_word, barred_at, rule_at};
 ghost use Rattle.audit_book.specs.Lines.{given_at, came_of, verb_of};
 
 use coll_text::{LineFault, Parts, label_in, next_number32, next_word};

@@ -13,7 +13,6 @@ use Rattle.coll_routes.specs.Signatures.{same_signature, numbers, flags}
 use Rattle.coll_routes.proofs.CollRoutesLemmas.{same_signatures_are_equal}
 use Rattle.coll_pending.specs.declared.arrival.Arrived.{Arrived}
 use Rattle.coll_pending.specs.declared.arrival.Arrived.TheVariants.{Waiting, Full}
-use Rattle.coll_pending.specs.declared.arrival.Next.{Next}
 use Rattle.coll_pending.specs.declared.arrival.Next.TheVariants as nexts
 use Rattle.coll_pending.specs.declared.arrival.Unarrived.{Unarrived}
 use Rattle.coll_pending.specs.declared.slot.Slot.{Slot}

@@ -1,5 +1,4 @@
 //! Answers to arrivals.
-ghost use Rattle.std.specs.Prelude.{◌≡◌};
 
 use coll_routes::Stated;
 use coll_values::Full;

@@ -1,5 +1,5 @@
 //! Room for the lists of a signature, made before the signature is known.
-ghost use Rattle.std.specs.Prelude.{◌≡◌, ◌+◌, ◌≤◌, [], ◌∷◌, length, IfOk, IsErr, OnOk, OnErr, true};
+ghost use Rattle.std.specs.Prelude.{◌≡◌, ◌+◌, ◌≤◌, [], length, IfOk, IsErr, OnOk, OnErr, true};
 ghost use Rattle.std.specs.Prelude.{false, vec_len, vec_capacity};
 ghost use Rattle.coll_routes.specs.Signatures.{numbers, flags};
 ghost use Rattle.coll_routes.specs.Rolls.{slots};

@@ -1,6 +1,6 @@
 //! The parts that have come for an instance.
 ghost use Rattle.std.specs.Prelude.{◌≡◌, ◌<◌, ◌≤◌, ◌+◌, ◌++◌, ◌∷◌, IsSome, [], vec_len};
-ghost use Rattle.std.specs.Prelude.{vec_capacity, length, map, slice_set, replicate, IsTrue, IfOk};
+ghost use Rattle.std.specs.Prelude.{vec_capacity, length, map, slice_set, replicate, IfOk};
 ghost use Rattle.std.specs.Prelude.{Some, None, true};
 ghost use Rattle.coll_pending.specs.Instances.{is_full};
 

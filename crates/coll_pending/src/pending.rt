@@ -3,7 +3,7 @@ ghost use Rattle.std.specs.Prelude.{◌≡◌, ◌≢◌, ◌<◌, ◌^◌, ℕ,
 ghost use Rattle.std.specs.Prelude.{None, Some};
 ghost use Rattle.std.specs.Option.{option_copied};
 ghost use Rattle.coll_pending.specs.declared.arrival.Next.TheVariants.{Opens, Mismatch};
-ghost use Rattle.coll_pending.specs.Instances.{Communicator, made_of};
+ghost use Rattle.coll_pending.specs.Instances.{made_of};
 
 use crate::arrival::{ArrivalFault, Arrived, Next, Unarrived};
 use crate::queues::Queues;
@@ -39,7 +39,7 @@ impl<X> Model for Pending<X> {
 }
 
 impl<X: Drop> Pending<X> {
-    ghost use Rattle.coll_pending.specs.Instances.{Communicator, made_of, roll_in};
+    ghost use Rattle.coll_pending.specs.Instances.{made_of, roll_in};
     ghost use Rattle.coll_pending.specs.Lists.{fits, room_by};
     ghost use Rattle.coll_pending.specs.Waiting.{view_of_pending, next, HasRoom, HasArrived};
     ghost use Rattle.coll_pending.specs.Waiting.{IsKnownAs, IsOpened, CanArrive, fault_at};

@@ -1,7 +1,7 @@
 //! A communicator with the arrivals of its members and the queue of its instances.
 ghost use Rattle.std.specs.Prelude.{◌≡◌, ◌<◌, ◌+◌, ◌^◌, length, replicate, Some, None, IfOk, OnOk};
 ghost use Rattle.std.specs.Prelude.{OnErr, IsTrue};
-ghost use Rattle.coll_pending.specs.Instances.{Communicator, made_of};
+ghost use Rattle.coll_pending.specs.Instances.{made_of};
 
 use coll_routes::Shape;
 use mpi_group::Group;
@@ -41,7 +41,7 @@ impl Model for Queue {
 }
 
 impl Queue {
-    ghost use Rattle.coll_pending.specs.Queues.{communicator, count, counted, key_at, popped};
+    ghost use Rattle.coll_pending.specs.Queues.{count, counted, key_at, popped};
     ghost use Rattle.coll_pending.specs.Queues.{pushed, unused};
 
     /// The queue of a communicator at which nobody has arrived.

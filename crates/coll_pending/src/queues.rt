@@ -1,11 +1,10 @@
 //! The queues of all communicators, and the slots in which their instances stand.
-ghost use Rattle.std.specs.Prelude.{◌≡◌, ◌<◌, ◌≤◌, ◌^◌, ℕ, [], length, IfOk, OnOk, OnErr, IfSome};
-ghost use Rattle.std.specs.Prelude.{IsSome, is_some, IsSomeAnd, Some, None, true, false};
+ghost use Rattle.std.specs.Prelude.{◌≡◌, ◌<◌, ◌^◌, ℕ, [], length, OnOk, OnErr, IfSome};
+ghost use Rattle.std.specs.Prelude.{IsSome, is_some, IsSomeAnd, Some, None};
 ghost use Rattle.std.specs.Option.{option_copied};
-ghost use Rattle.coll_routes.specs.declared.roll.Roll.{Roll};
-ghost use Rattle.slab.specs.Slab.{get, ContainsKey, HasRoomFor, Updates, Slab};
+ghost use Rattle.slab.specs.Slab.{get, Updates, Slab};
 ghost use Rattle.coll_pending.specs.Instances.{Communicator, next_by, roll_in};
-ghost use Rattle.coll_pending.specs.Queues.{Queue, has_posted, instance_in, key_at, count};
+ghost use Rattle.coll_pending.specs.Queues.{Queue, instance_in, count};
 ghost use Rattle.coll_pending.specs.Queues.{queue_at, slot_in, or_fresh, pushed, CanTell, CanPost};
 ghost use Rattle.coll_pending.specs.Queues.{IsFree, IsRoomier, PostsTo, posted, lacks_one};
 ghost use Rattle.coll_pending.specs.Waiting.{HasPlaceIn};
@@ -14,7 +13,7 @@ ghost use Rattle.coll_pending.specs.declared.slot.Slot.{Slot};
 use crate::arrival::{Arrived, Next};
 use crate::queue::Queue;
 use crate::slot::Slot;
-use coll_routes::{Roll, Signature, Stated};
+use coll_routes::{Signature, Stated};
 use slab::Slab;
 use std::alloc::Global;
 use std::marker::Model;
@@ -41,8 +40,8 @@ impl<X> Model for Queues<X> {
 
 impl<X: Drop> Queues<X> {
     ghost use Rattle.coll_pending.specs.Instances.{Communicator, roll_in};
-    ghost use Rattle.coll_pending.specs.Queues.{IsQueueIn, queue_at, known_in, count_in, slot_of};
-    ghost use Rattle.coll_pending.specs.Queues.{instance_of, IsVacant};
+    ghost use Rattle.coll_pending.specs.Queues.{queue_at, known_in, count_in, slot_of};
+    ghost use Rattle.coll_pending.specs.Queues.{IsVacant};
     ghost use Rattle.coll_pending.specs.Spares.{IsQueueOf, members_of};
     ghost use Rattle.coll_pending.specs.Waiting.{seen, next, HasArrived, HasPlace, Opens};
     ghost use Rattle.coll_pending.specs.Waiting.{CanArrive};

@@ -1,6 +1,6 @@
 //! What `Pending::ready` makes, so that the next arrival takes no memory.
-ghost use Rattle.std.specs.Prelude.{◌≡◌, ◌<◌, ◌≤◌, ◌==◌, length, IfSome, IfOk, OnOk, OnErr, IsTrue};
-ghost use Rattle.std.specs.Prelude.{IsErr, IsSome, Some, None, true, false};
+ghost use Rattle.std.specs.Prelude.{◌≡◌, ◌<◌, IfSome, IfOk, OnOk, OnErr, IsTrue};
+ghost use Rattle.std.specs.Prelude.{IsSome, Some, None, true, false};
 ghost use Rattle.coll_pending.specs.Instances.{Communicator, made_of};
 ghost use Rattle.coll_pending.specs.Lists.{fits};
 ghost use Rattle.coll_pending.specs.Queues.{communicator, unused, IsVacant};

@@ -1,5 +1,5 @@
 //! What a member states of an instance, without its elements.
-ghost use Rattle.std.specs.Prelude.{◌≡◌, ◌<◌, ◌+◌, length, IsErr, IfOk};
+ghost use Rattle.std.specs.Prelude.{◌≡◌, ◌<◌, length, IsErr, IfOk};
 
 use super::fault::{ShapeFault, shape_fault};
 use super::lists::Numbers;

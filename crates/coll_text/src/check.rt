@@ -2,7 +2,7 @@
 //!
 //! A reader that found no memory for a list asks here whether the words have a fault: a fault is
 //! told before out of memory. Nothing here takes memory.
-ghost use Rattle.std.specs.Prelude.{◌≡◌, ◌≢◌, None, Err};
+ghost use Rattle.std.specs.Prelude.{◌≢◌, None, Err};
 ghost use Rattle.coll_text.specs.Reading.{Gives, Takes, each_of, list_of, flag_of};
 ghost use Rattle.coll_text.specs.Reading.{parts as parts_of};
 ghost use Rattle.coll_text.specs.Fields.{number_of, statement_at};

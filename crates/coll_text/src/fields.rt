@@ -1,6 +1,6 @@
 //! Reads a kind with its fields.
 ghost use Rattle.std.specs.Prelude.{◌≡◌, true, IfOk};
-ghost use Rattle.coll_text.specs.Reading.{Gives, Leaves, Takes};
+ghost use Rattle.coll_text.specs.Reading.{Leaves, Takes};
 ghost use Rattle.coll_routes.specs.Signatures.{kind};
 ghost use Rattle.coll_text.specs.Table.{no_fields};
 ghost use Rattle.coll_routes.specs.Owns.{is_own_of};

@@ -1,5 +1,5 @@
 //! Lists of numbers and of flags between commas.
-ghost use Rattle.std.specs.Prelude.{◌≡◌, ◌≢◌, Err};
+ghost use Rattle.std.specs.Prelude.{◌≢◌, Err};
 ghost use Rattle.coll_text.specs.Reading.{Gives, each_of, list_of, flag_of, parts as parts_of};
 ghost use Rattle.coll_text.specs.Fields.{number_of};
 

@@ -1,6 +1,6 @@
 //! Writes a kind with its fields.
 ghost use Rattle.std.specs.Prelude.{◌≡◌, ◌++◌, OnOk, OnErr};
-ghost use Rattle.coll_text.specs.Table.{forms_of, fields_of, colour_in, key_in};
+ghost use Rattle.coll_text.specs.Table.{fields_of, colour_in, key_in};
 ghost use Rattle.coll_text.specs.Spellings.{list_word, flag_word, colour_word, word_of, words_of};
 ghost use Rattle.coll_text.specs.Spellings.{statement_words, statement_text};
 ghost use Rattle.std.specs.Fmt.{decimal};

@@ -1,7 +1,7 @@
 //! The next word of a line, and the numbers that words spell.
 ghost use Rattle.std.specs.Prelude.{◌≡◌, ◌≢◌, ◌≤◌, IfOk, Ok, Err};
 ghost use Rattle.std.specs.List.{list_all};
-ghost use Rattle.coll_text.specs.Reading.{Gives, Takes, word_at, number_at, number_up_to, ended};
+ghost use Rattle.coll_text.specs.Reading.{Gives, Takes, word_at, number_at, ended};
 ghost use Rattle.coll_text.specs.Reading.{is_printable};
 ghost use Rattle.coll_text.specs.Fields.{number_of};
 

@@ -1,6 +1,6 @@
 //! Deliveries.
 ghost use Rattle.std.specs.Prelude.{◌≡◌, ◌<◌, ◌≤◌, ◌+◌, IfOk, IsErr, [], map, length, vec_len};
-ghost use Rattle.std.specs.Prelude.{vec_capacity, Some, None, true};
+ghost use Rattle.std.specs.Prelude.{vec_capacity, Some, None};
 ghost use Rattle.mpi_elems.specs.Contents.{contents};
 ghost use Rattle.mpi_elems.specs.Elements.{numbers_of};
 ghost use Rattle.coll_routes.specs.Rolls.{places as places_of};

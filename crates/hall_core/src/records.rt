@@ -19,7 +19,7 @@ ghost use Rattle.run_model.specs.declared.reply.Reply.TheVariants.{Info};
 ghost use Rattle.run_model.specs.Runs.{effects, given_in, Effects, MakesNothing};
 ghost use Rattle.run_model.specs.Replies.{refusal};
 ghost use Rattle.hall_core.specs.Claims.{claim_reply, CanFinish, HoldsWhatIsKept};
-ghost use Rattle.hall_core.specs.Asking.{opened, requests_of, room_of, with_request};
+ghost use Rattle.hall_core.specs.Asking.{opened, requests_of, with_request};
 ghost use Rattle.hall_core.specs.Settling.{HasPlace, open_at, settlement_at};
 ghost use Rattle.hall_core.specs.Halls.{StandsForEffects};
 ghost use Rattle.hall_core.specs.Invariant.{AreCounted, IsHallView, view_in};

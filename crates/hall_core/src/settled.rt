@@ -1,11 +1,11 @@
 //! The places of instances, each with what came of it.
-ghost use Rattle.std.specs.Prelude.{◌≡◌, ◌<◌, ◌≤◌, ◌==◌, ◌+◌, ◌^◌, [], ◌∷◌, ◌++◌, ℕ, None, Some};
+ghost use Rattle.std.specs.Prelude.{◌≡◌, ◌<◌, ◌≤◌, ◌==◌, ◌+◌, ◌^◌, ◌∷◌, ◌++◌, ℕ, None, Some};
 ghost use Rattle.std.specs.Prelude.{length, replicate, drop, min, max, OnOk, IsTrue};
 ghost use Rattle.std.specs.Prelude.{if◌then◌else◌};
 ghost use Rattle.std.specs.Option.{is_some, option_copied};
 ghost use Rattle.std.specs.VecDeque.{deque_len};
 ghost use Rattle.run_model.specs.declared.outcome.Outcome.TheVariants.{Granted};
-ghost use Rattle.hall_core.specs.Settling.{nothing, no_places, place_in, place_at, places_of};
+ghost use Rattle.hall_core.specs.Settling.{nothing, no_places, place_in, place_at};
 ghost use Rattle.hall_core.specs.Settling.{open_at, settlement_at, HasPlace, one_more, one_fewer};
 ghost use Rattle.hall_core.specs.Settling.{settled_as, with_place, AreSame, IsPlaced};
 

@@ -1,5 +1,5 @@
 //! What claims on instances that were filled come to.
-ghost use Rattle.std.specs.Prelude.{◌≡◌, ◌≢◌, ◌≤◌, ◌+◌, length, slice_get, IfOk, IsErr, Some, None};
+ghost use Rattle.std.specs.Prelude.{◌≡◌, ◌≢◌, ◌≤◌, ◌+◌, length, IfOk, IsErr, Some, None};
 ghost use Rattle.coll_values.specs.Instances.{IsWhole};
 ghost use Rattle.mpi_group.specs.Groups.{rank_in};
 ghost use Rattle.run_model.specs.declared.outcome.Outcome.TheVariants.{Granted, Made};

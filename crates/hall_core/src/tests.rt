@@ -2,7 +2,7 @@
 //!
 //! A hall, a policy, calls and replies are let go by a call of `drop`, not by the end of a block:
 //! there the proof would take the value apart, field by field, which takes a minute for a hall.
-ghost use Rattle.std.specs.Prelude.{◌≡◌, IfOk, List};
+ghost use Rattle.std.specs.Prelude.{IfOk};
 ghost use Rattle.wall_policy.specs.Policy.{ChineseWall};
 ghost use Rattle.run_model.specs.Known.{IsKnownLabel, HasKnownLabel, HaveKnownLabels};
 

@@ -1,8 +1,6 @@
 //! Answers the lines of a script.
 ghost use Rattle.std.specs.Prelude.{◌≡◌, ◌≢◌, ◌+◌, ◌≤◌, [], length, IfOk, IfErr, IfSome, OnOk};
 ghost use Rattle.std.specs.Prelude.{OnErr, Err};
-ghost use Rattle.std.specs.Io.KnownBytes.{Appends};
-ghost use Rattle.wall_labels.specs.Known.{AppendsFront};
 ghost use Rattle.run_model.specs.Known.{HasKnownLabel};
 ghost use Rattle.coll_text.specs.Reading.{Gives};
 ghost use Rattle.hall_script.specs.Scripts.{trimmed, is_skipped, line_call, script_of};

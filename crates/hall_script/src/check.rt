@@ -2,7 +2,7 @@
 //!
 //! Where a line found no memory, it is gone through here: a fault of it is told before out of
 //! memory. Nothing here takes memory.
-ghost use Rattle.std.specs.Prelude.{◌≡◌, ◌≢◌, Err};
+ghost use Rattle.std.specs.Prelude.{◌≢◌, Err};
 ghost use Rattle.coll_text.specs.Reading.{Gives, each_of};
 ghost use Rattle.coll_text.specs.Checks.{checked};
 ghost use Rattle.hall_script.specs.Lines.{value_of};

@@ -1,5 +1,5 @@
 //! What a door needs of the machine behind it, and the hall as that machine.
-ghost use Rattle.std.specs.Prelude.{◌≡◌, List, ◌∷◌};
+ghost use Rattle.std.specs.Prelude.{◌≡◌, List};
 ghost use Rattle.wall_policy.specs.Policy.{ChineseWall};
 ghost use Rattle.run_model.specs.Runs.{Entry};
 ghost use Rattle.run_model.specs.Replies.{Legal};

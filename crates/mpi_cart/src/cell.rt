@@ -1,5 +1,5 @@
 //! Coordinates and ranks, by strides.
-ghost use Rattle.std.specs.Prelude.{◌≡◌, ◌<◌, ◌^◌, ◌≤ℤ◌, pos, negsuc, IfSome, IfOk, OnErr, Some};
+ghost use Rattle.std.specs.Prelude.{◌≡◌, ◌<◌, ◌≤ℤ◌, pos, negsuc, IfSome, IfOk, OnErr, Some};
 ghost use Rattle.std.specs.Prelude.{None, length, slice_get, slice_index};
 ghost use Rattle.mpi_cart.specs.Grids.{IsGrid, volume, coordinate, rank_named, shifted};
 ghost use Rattle.mpi_cart.specs.Laid.{strides_of, cell_at};

@@ -1,5 +1,5 @@
 //! Lists made for a grid.
-ghost use Rattle.std.specs.Prelude.{◌≡◌, ◌<◌, ◌^◌, length, IfOk, IsErr, true, nat_lt};
+ghost use Rattle.std.specs.Prelude.{◌≡◌, ◌<◌, length, IfOk, IsErr, true, nat_lt};
 ghost use Rattle.std.specs.List.{items_where_true, list_all};
 ghost use Rattle.mpi_cart.specs.Grids.{volume};
 ghost use Rattle.mpi_cart.specs.Laid.{strides_of};

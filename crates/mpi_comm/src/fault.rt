@@ -2,7 +2,6 @@
 ghost use Rattle.std.specs.Prelude.{◌≡◌};
 ghost use Rattle.mpi_comm.specs.declared.fault.CommFault.TheVariants.{NoMemory};
 
-use mpi_group::GroupFault;
 use std::alloc::AllocError;
 use thiserror::Error;
 

@@ -1,11 +1,10 @@
 //! The groups of a split.
-ghost use Rattle.std.specs.Prelude.{ℤ, ◌≡◌, ◌+◌, ◌<◌, ◌≤◌, ◌&&◌, ℕ, List, not, length, map, take};
-ghost use Rattle.std.specs.Prelude.{drop, false, IfOk};
+ghost use Rattle.std.specs.Prelude.{ℤ, ◌≡◌, ◌+◌, ◌<◌, ℕ, List, length, map};
+ghost use Rattle.std.specs.Prelude.{false, IfOk};
 ghost use Rattle.std.specs.List.{list_any, filter_map};
 ghost use Rattle.std.specs.Ordering.{int_cmp, is_lt};
 ghost use Rattle.std.specs.List.Sorted.{IsSorted, IsSortedBy, IsStable, IsStableBy};
 ghost use Rattle.mpi_comm.specs.Sorting.{sorted_by};
-ghost use Rattle.std.specs.Option.{option_map_or};
 ghost use Rattle.mpi_comm.specs.Splits.{asks_for, asked, goes_before, has_bad_colour, colours_of};
 ghost use Rattle.mpi_comm.specs.Splits.{ranks_for, split_groups};
 ghost use Rattle.mpi_comm.specs.Asks.{is_last};

@@ -1,6 +1,6 @@
 //! Buffers filled number by number.
-ghost use Rattle.std.specs.Prelude.{◌≡◌, ◌≢◌, ◌<◌, ◌*◌, ◌+◌, ◌++◌, [], ◌∷◌, ◌↔◌, length, IfOk};
-ghost use Rattle.std.specs.Prelude.{IfErr, IsOk, IsErr, OnOk, OnErr, Some, None, true, false};
+ghost use Rattle.std.specs.Prelude.{◌≡◌, ◌<◌, ◌*◌, ◌+◌, ◌++◌, [], ◌∷◌, length, IfOk};
+ghost use Rattle.std.specs.Prelude.{IfErr, IsOk, OnOk, OnErr, Some, None, true, false};
 ghost use Rattle.std.specs.Prelude.{option_to_list, vec_len, vec_capacity, if◌then◌else◌};
 ghost use Rattle.mpi_elems.specs.Types.{is_pair, numbers_per_element};
 ghost use Rattle.mpi_elems.specs.Numbers.{is_number_of};

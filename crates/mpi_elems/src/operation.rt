@@ -1,5 +1,5 @@
 //! The operations as types, and the loop that merges a row of cells into another.
-ghost use Rattle.std.specs.Prelude.{◌≡◌, ℤ, pos, ◌<◌, ◌≤◌, ◌+◌, length, take, drop, slice_range};
+ghost use Rattle.std.specs.Prelude.{◌≡◌, ◌<◌, ◌≤◌, ◌+◌, length, take, drop, slice_range};
 ghost use Rattle.std.specs.Prelude.{true, false, vec_len, vec_capacity};
 ghost use Rattle.mpi_elems.specs.Operations.{on_numbers, is_of_pairs};
 ghost use Rattle.mpi_elems.specs.Elements.{combine};

@@ -1,7 +1,7 @@
 //! Cells made from whole numbers, and numbers read from cells.
-ghost use Rattle.std.specs.Prelude.{◌≡◌, ℤ, ◌*◌, ◌%◌, ◌/◌, ◌<◌, ◌≤◌, ◌+◌, ◌++◌, [], ◌∷◌, length};
+ghost use Rattle.std.specs.Prelude.{◌≡◌, ◌*◌, ◌%◌, ◌/◌, ◌<◌, ◌≤◌, ◌+◌, ◌++◌, length};
 ghost use Rattle.std.specs.Prelude.{map, IfOk, IsOk, Some, slice_get, slice_range, true, vec_len};
-ghost use Rattle.std.specs.Prelude.{vec_capacity, if◌then◌else◌};
+ghost use Rattle.std.specs.Prelude.{vec_capacity};
 ghost use Rattle.std.specs.List.{list_all};
 ghost use Rattle.mpi_elems.specs.Numbers.{is_number_of};
 ghost use Rattle.mpi_elems.specs.Elements.{single, numbers_of, pairs_of};

@@ -1,5 +1,5 @@
 //! Runs the calls of a script, each process's in a thread of its own, over any devices.
-ghost use Rattle.std.specs.Prelude.{◌≡◌, ◌<◌, ◌++◌, Some, IfOk, IfErr, OnOk, OnErr, length};
+ghost use Rattle.std.specs.Prelude.{◌≡◌, ◌<◌, ◌++◌, Some, IfOk, IfErr, OnOk, length};
 ghost use Rattle.std.specs.Prelude.{codes, decimal, string_bytes};
 ghost use Rattle.std.specs.List.{All};
 ghost use Rattle.run_model.specs.Comms.{processes};

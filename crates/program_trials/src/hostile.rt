@@ -4,7 +4,6 @@ use crate::runs::ALONE;
 use program_commands::{audit_on, replay_on, run_on};
 use std::process::Abort;
 use std::sync::Wait;
-use std::test::Fail;
 use std::thread::Threads;
 use wall_labels::memory::{ExpectingSink, Fuse, MemorySource};
 use wall_labels::{Failed, Source};
@@ -35,8 +34,6 @@ struct Repeating<'a> {
 }
 
 impl<'a> Source for Repeating<'a> {
-    ghost use Rattle.std.specs.Prelude.{ℕ};
-
     ghost failures = { λ _. 0 };
 
     fn read(&mut self, buffer: &mut [u8]) -> Result<usize, Failed> {

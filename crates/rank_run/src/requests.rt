@@ -3,7 +3,7 @@ ghost use Rattle.std.specs.Prelude.{◌≡◌, ◌≢◌, ℕ, ◌<◌, ◌≤�
 ghost use Rattle.std.specs.Prelude.{length, vec_len, vec_capacity, slice_get, slice_index_or};
 ghost use Rattle.std.specs.List.{All, count_by};
 ghost use Rattle.mpi_comm.specs.declared.table.TheConstants.{COMMUNICATOR_LIMIT};
-ghost use Rattle.rank_run.specs.Asked.{AreCounted, CountsAll, on_comm, next_on};
+ghost use Rattle.rank_run.specs.Asked.{AreCounted, CountsAll, next_on};
 ghost use Rattle.rank_run.specs.Asked.{request_of, comm_of, is_post, PostsBelow, HasPlace};
 
 use hall_core::{Act, NoMemory, Reply};

@@ -2,7 +2,7 @@
 //! and a rank that works out a large delivery makes room for another.
 ghost use Rattle.std.specs.Prelude.{◌≡◌};
 ghost use Rattle.std.specs.List.{All};
-ghost use Rattle.run_model.specs.Known.{HasKnownLabel, IsKnownLabel, ScriptsHaveKnownLabels};
+ghost use Rattle.run_model.specs.Known.{HasKnownLabel, ScriptsHaveKnownLabels};
 
 use crate::gates::{FOUR, nothing};
 use crate::parties::{RIVALS, label, wall};

@@ -1,10 +1,10 @@
 //! Worked runs of each kind: what each rank is delivered. The functions do nothing.
-ghost use Rattle.std.specs.Prelude.{[], ◌∷◌, pos, negsuc};
+ghost use Rattle.std.specs.Prelude.{[], ◌∷◌, pos};
 ghost use Rattle.coll_values.specs.declared.delivery.Block.TheVariants.{Missing, Numbers};
 ghost use Rattle.run_model.specs.declared.refusal.Refusal.TheVariants.{NoSuchComm, NotMember};
-ghost use Rattle.run_model.specs.declared.reply.Reply.TheVariants.{Posted, Delivered, NewComm};
-ghost use Rattle.run_model.specs.declared.reply.Reply.TheVariants.{NullComm, Info, Refused};
-ghost use Rattle.run_model.specs.RunRows.{LegalList, four_of_alpha, alpha};
+ghost use Rattle.run_model.specs.declared.reply.Reply.TheVariants.{Delivered};
+ghost use Rattle.run_model.specs.declared.reply.Reply.TheVariants.{Info, Refused};
+ghost use Rattle.run_model.specs.RunRows.{LegalList, four_of_alpha};
 ghost use Rattle.run_model.specs.KindRows.{gathers, scatters, exchanges};
 ghost use Rattle.run_model.specs.KindRows.{reductions_by_root_and_block, all_gather_and_wait};
 ghost use Rattle.run_model.specs.KindRows.{neighbours_of_a_line, empty_and_reordered};

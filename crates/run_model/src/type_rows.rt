@@ -1,8 +1,8 @@
 //! Worked runs over each type and each operation. The functions do nothing.
-ghost use Rattle.std.specs.Prelude.{[], ◌∷◌, pos, negsuc};
+ghost use Rattle.std.specs.Prelude.{[], ◌∷◌, pos};
 ghost use Rattle.coll_values.specs.declared.delivery.Block.TheVariants.{Numbers};
-ghost use Rattle.run_model.specs.declared.reply.Reply.TheVariants.{Posted, Delivered};
-ghost use Rattle.run_model.specs.RunRows.{LegalList, two_of_alpha, alpha};
+ghost use Rattle.run_model.specs.declared.reply.Reply.TheVariants.{Delivered};
+ghost use Rattle.run_model.specs.RunRows.{LegalList, two_of_alpha};
 ghost use Rattle.run_model.specs.TypeRows.{both_ends_of_each_type, orders_sums_and_truth};
 ghost use Rattle.run_model.specs.TypeRows.{bits_and_places};
 

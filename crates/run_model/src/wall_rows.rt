@@ -1,10 +1,10 @@
 //! Worked runs that show the wall: when charges bite, what a post adds, and who is named. The
 //! functions do nothing.
-ghost use Rattle.std.specs.Prelude.{[], ◌∷◌, pos, negsuc};
+ghost use Rattle.std.specs.Prelude.{[], ◌∷◌, pos};
 ghost use Rattle.wall_labels.specs.declared.label.Label.TheVariants.{Public};
 ghost use Rattle.coll_values.specs.declared.delivery.Block.TheVariants.{Numbers};
 ghost use Rattle.wall_verdict.specs.declared.verdict.Rule.TheVariants.{Star, Simple};
-ghost use Rattle.run_model.specs.declared.refusal.Refusal.TheVariants.{Mismatch, NoSuchRequest};
+ghost use Rattle.run_model.specs.declared.refusal.Refusal.TheVariants.{NoSuchRequest};
 ghost use Rattle.run_model.specs.declared.reply.Reply.TheVariants.{Posted, Barred, Pending};
 ghost use Rattle.run_model.specs.declared.reply.Reply.TheVariants.{Delivered, Denied, Refused};
 ghost use Rattle.run_model.specs.RunRows.{LegalList, banks_and_oil, banks_and_oil_in_version_2};

@@ -3,7 +3,7 @@
 //! Each call makes room first; the table then takes all new groups or none, and after it nothing
 //! can fail.
 ghost use Rattle.std.specs.Prelude.{◌≡◌, ◌<◌, ◌≤◌, ◌+◌, ◌-◌, ◌++◌, ◌∷◌, [], ◌==◌, length, map};
-ghost use Rattle.std.specs.Prelude.{drop, replicate, slice_get, vec_len, vec_capacity, IfOk, OnOk};
+ghost use Rattle.std.specs.Prelude.{drop, replicate, slice_get, vec_capacity, IfOk, OnOk};
 ghost use Rattle.std.specs.Prelude.{OnErr, Some, None, true, false};
 ghost use Rattle.mpi_comm.specs.declared.table.TheConstants.{COMMUNICATOR_LIMIT};
 ghost use Rattle.mpi_comm.specs.declared.values.Made.{Made};

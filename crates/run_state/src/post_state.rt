@@ -70,7 +70,6 @@ impl<X> Model for PostState<X> {
 impl<X: Drop> PostState<X> {
     ghost use Rattle.run_model.specs.Contributions.{Contribution, contribution, posts_of};
     ghost use Rattle.run_state.specs.Views.{IsPostState, view_of, fault_of, place_of};
-    ghost use Rattle.run_state.specs.Entering.{Enters};
     ghost use Rattle.run_state.specs.Stands.{StandsForPosts, Tells};
 
     /// A state that stands for no post: the world alone, and each process with access to its home.

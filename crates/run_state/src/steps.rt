@@ -1,12 +1,11 @@
 //! The steps of a post, on the parts of a state.
 ghost use Rattle.std.specs.Prelude.{◌≡◌, ◌<◌, ◌≤◌, ◌^◌, ◌==◌, ℕ, not, length, slice_get, IfOk};
-ghost use Rattle.std.specs.Prelude.{IfErr, OnOk, OnErr, Some, None, true};
+ghost use Rattle.std.specs.Prelude.{OnOk, OnErr, Some, None, true};
 ghost use Rattle.std.specs.Option.{option_copied};
 ghost use Rattle.wall_labels.specs.declared.ids.TheConstants.{PROCESS_LIMIT};
 ghost use Rattle.wall_rules.specs.Histories.{has};
 ghost use Rattle.mpi_cart.specs.Grids.{below};
 ghost use Rattle.coll_routes.specs.Fit.{IsFit};
-ghost use Rattle.coll_routes.specs.Faults.{stated_type};
 ghost use Rattle.coll_routes.specs.declared.roll.Roll;
 ghost use Rattle.coll_pending.specs.declared.arrival.Next.TheVariants.{Mismatch};
 ghost use Rattle.coll_pending.specs.Waiting.{view_of_pending, next, HasRoom};
@@ -15,9 +14,9 @@ ghost use Rattle.run_model.specs.Comms.{Comm, processes, ask_by, ask_in, asks};
 ghost use Rattle.run_model.specs.Posts.{outcome_of, with_delivery, by_verdict};
 ghost use Rattle.run_model.specs.Refusals.{refused_for};
 ghost use Rattle.run_model.specs.Contributions.{contribution};
-ghost use Rattle.run_state.specs.Views.{IsPostState, seen, communicator_of, fault_among};
-ghost use Rattle.run_state.specs.Views.{fault_after, fault_of, place_of};
-ghost use Rattle.run_state.specs.Entering.{Changes, Answers, Enters};
+ghost use Rattle.run_state.specs.Views.{seen, communicator_of, fault_among};
+ghost use Rattle.run_state.specs.Views.{fault_after};
+ghost use Rattle.run_state.specs.Entering.{Changes, Answers};
 ghost use Rattle.run_state.specs.Upcoming.{IsNext, IsPrepared, roll_next, is_last, asks_with};
 ghost use Rattle.run_state.specs.Upcoming.{stated_in, constructed};
 
@@ -25,7 +24,7 @@ use crate::communicators::Communicators;
 use crate::entered::Entered;
 use coll_pending::laws::faultless_signatures_fit;
 use coll_pending::{Arrived, Next, Pending};
-use coll_routes::{Own, Roll, Shape, ShapeFault, Signature, Stated, shape_fault};
+use coll_routes::{Own, Roll, ShapeFault, Signature, Stated, shape_fault};
 use mpi_comm::Ask;
 use mpi_elems::ElemType;
 use mpi_group::{Group, GroupFault};

@@ -8,7 +8,6 @@ use coll_routes::{Own, Signature, Stated};
 use mpi_elems::ElemType;
 use run_model::{Entry, Outcome};
 use run_state::Book;
-use std::alloc::Global;
 use std::process::Abort;
 use std::test::Fail;
 use wall_labels::{DatasetId, Label, ProcessId};

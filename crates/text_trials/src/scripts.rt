@@ -3,7 +3,7 @@
 //!
 //! What is wide, as a policy, is handed to `drop`: where it goes out of scope by itself it is taken
 //! apart in the function's own proof, which costs half a minute.
-ghost use Rattle.std.specs.Prelude.{◌≡◌, ◌<◌, IfOk, All, length};
+ghost use Rattle.std.specs.Prelude.{◌<◌, All, length};
 ghost use Rattle.wall_policy.specs.Policy.{ChineseWall};
 ghost use Rattle.run_model.specs.Known.{HasKnownLabel, IsKnownReply, ScriptsHaveKnownLabels};
 ghost use Rattle.run_model.specs.Known.{IsKnownLabel};

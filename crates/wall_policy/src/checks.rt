@@ -1,5 +1,5 @@
 //! What is asked of the names and numbers of a policy file.
-ghost use Rattle.std.specs.Prelude.{◌≡◌, not, map, is_some, true};
+ghost use Rattle.std.specs.Prelude.{◌≡◌, is_some, true};
 ghost use Rattle.std.specs.List.{list_all};
 ghost use Rattle.wall_labels.specs.Ops.{op_of};
 ghost use Rattle.wall_policy.specs.Names.{is_letter, is_name_byte, is_name, is_dataset_name};

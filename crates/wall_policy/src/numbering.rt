@@ -1,5 +1,5 @@
 //! Numbers named things in their order, and finds a name that comes twice.
-ghost use Rattle.std.specs.Prelude.{◌≡◌, ◌++◌, List, ℕ, [], not, map, IfOk, IsTrue};
+ghost use Rattle.std.specs.Prelude.{◌≡◌, ◌++◌, List, ℕ, not, map, IfOk, IsTrue};
 ghost use Rattle.wall_policy.specs.Numbering.{repeats_after, table_if_distinct};
 ghost use Rattle.wall_policy.specs.Checks.{dataset_names};
 

@@ -1,8 +1,7 @@
 //! Reads the tree of a policy file into plain texts and numbers.
 ghost use Rattle.std.specs.Prelude.{◌≡◌, ◌≤◌, length, IfOk, ℕ, Option, Some, is_some, option_map};
-ghost use Rattle.std.specs.Prelude.{option_and_then, codes};
 ghost use Rattle.toml.specs.Data.{Data, get_member, as_str, as_table};
-ghost use Rattle.toml.specs.View.{view, table_view, array_view, items_view};
+ghost use Rattle.toml.specs.View.{view, table_view, items_view};
 ghost use Rattle.wall_policy.specs.Tree.{Reads, text_at, number_at, text_if_any, listed, list_at};
 ghost use Rattle.wall_policy.specs.Tree.{list_or_empty, each};
 ghost use Rattle.wall_policy.specs.Form.{class_of, process_of, distinct_at, rule_of, processes_in};

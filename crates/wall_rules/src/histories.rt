@@ -11,7 +11,7 @@ ghost use Rattle.wall_rules.specs.Histories.{entered, opening, is_home, has_in, 
 ghost use Rattle.wall_rules.specs.Histories.{AddsRivals, AreRivalRows};
 
 use crate::NoMemory;
-use std::alloc::{AllocError, Global};
+use std::alloc::Global;
 use std::marker::Model;
 use wall_labels::{ClassId, DatasetId, Label, LabelSet, PROCESS_LIMIT, ProcessId};
 use wall_policy::{Policy, are_rivals};
