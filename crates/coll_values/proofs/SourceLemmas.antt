@@ -98,10 +98,9 @@ source_is (CartCreate dims periods) shape counts i x j t d e = absurd (cc)
 source_is (CartSub keep) shape counts i x j t d e = absurd (cc)
 
 -- a kind without a type gives no block
-no_place : (sig : Signature) (shape : Shape) (j : ℕ) → elem_type sig ≡ None →
+pub no_place : (sig : Signature) (shape : Shape) (j : ℕ) → elem_type sig ≡ None →
     places_by sig shape j ≡ 0
 unfolding elem_type places_by
-no_place Barrier shape j e = refl
 no_place (Bcast r ty n) shape j e = absurd (cc)
 no_place (Gather r ty n) shape j e = absurd (cc)
 no_place (Gatherv r ty) shape j e = absurd (cc)
@@ -121,11 +120,7 @@ no_place (NeighborAllgather ty n) shape j e = absurd (cc)
 no_place (NeighborAllgatherv ty) shape j e = absurd (cc)
 no_place (NeighborAlltoall ty n) shape j e = absurd (cc)
 no_place (NeighborAlltoallv ty) shape j e = absurd (cc)
-no_place Dup shape j e = refl
-no_place Split shape j e = refl
-no_place (Create ranks) shape j e = refl
-no_place (CartCreate dims periods) shape j e = refl
-no_place (CartSub keep) shape j e = refl
+no_place other shape j e = refl
 
 -- a kind that reduces has a type
 typed_op : (sig : Signature) (op : Op) → reduction sig ≡ Some op →

@@ -28,6 +28,7 @@ use Rattle.coll_values.specs.Forms.{form_of_elements, form_of_part, form, AreOfO
 use Rattle.coll_values.specs.Forms.{WholeInstancesHaveOneForm}
 use Rattle.coll_values.proofs.FormLemmas.{forms_are_of_forms}
 use Rattle.coll_values.proofs.InstanceLemmas.{not_past}
+use Rattle.coll_values.proofs.SourceLemmas.{no_place}
 
 -- ## elements of one form
 
@@ -76,30 +77,6 @@ one_form a b same =
 
 -- ## kinds without elements
 
-no_places : (sig : Signature) (shape : Shape) (j : ℕ) → elem_type sig ≡ None →
-    places_by sig shape j ≡ 0
-unfolding elem_type places_by
-no_places (Bcast r ty n) shape j e = absurd (cc)
-no_places (Gather r ty n) shape j e = absurd (cc)
-no_places (Gatherv r ty) shape j e = absurd (cc)
-no_places (Scatter r ty n) shape j e = absurd (cc)
-no_places (Scatterv r ty) shape j e = absurd (cc)
-no_places (Allgather ty n) shape j e = absurd (cc)
-no_places (Allgatherv ty) shape j e = absurd (cc)
-no_places (Alltoall ty n) shape j e = absurd (cc)
-no_places (Alltoallv ty) shape j e = absurd (cc)
-no_places (Reduce r op ty n) shape j e = absurd (cc)
-no_places (Allreduce op ty n) shape j e = absurd (cc)
-no_places (ReduceScatter op ty sizes) shape j e = absurd (cc)
-no_places (ReduceScatterBlock op ty n) shape j e = absurd (cc)
-no_places (Scan op ty n) shape j e = absurd (cc)
-no_places (Exscan op ty n) shape j e = absurd (cc)
-no_places (NeighborAllgather ty n) shape j e = absurd (cc)
-no_places (NeighborAllgatherv ty) shape j e = absurd (cc)
-no_places (NeighborAlltoall ty n) shape j e = absurd (cc)
-no_places (NeighborAlltoallv ty) shape j e = absurd (cc)
-no_places other shape j e = refl
-
 nothing : (F : Full Contents) (j : ℕ) → places F.roll j ≡ 0 → form (value F j) ≡ []
 unfolding value blocks
 nothing F j e =
@@ -140,7 +117,7 @@ module _ (F G : Full Contents) (one : F.roll ≡ G.roll)
             parts_of_one_form ty is i low (slice_get F.parts i) (slice_get G.parts i) refl refl;
       })
   by_type j None is =
-      let none = no_places F.roll.sig F.roll.shape j is in
+      let none = no_place F.roll.sig F.roll.shape j is in
       nothing F j none ∙ sym (nothing G j (ap (λ r. places r j) (sym one) ∙ none))
 
 pub whole_instances_have_one_form : WholeInstancesHaveOneForm

@@ -33,7 +33,6 @@ use Rattle.run_model.specs.Known.{IsKnownLabel}
 use Rattle.hall_script.specs.Lines.{value_of, buffer_of, values_of, labelled, given_of, post_of}
 use Rattle.hall_script.specs.Lines.{last_number, act_of, verb_of, call_of}
 use Rattle.coll_text.specs.Words.{label_word}
-use Rattle.hall_script.proofs.KnownLemmas.{is_label}
 use Rattle.hall_script.specs.Spellings.{given_words, act_words, IsSayable, IsSayableAct}
 
 -- ---- numbers
@@ -112,10 +111,9 @@ pub labelled_again : (wall : ChineseWall) (ty : ElemType) (label : Label) (ns : 
     ≡ Ok (label, contents ty ns (length (elements_of ty ns)))
 unfolding labelled
 labelled_again wall ty label ns good known sound =
-    let here = is_label wall label known in
     rw (
-      label_some wall label good here,
-      label_again wall label good here,
+      label_some wall label good known,
+      label_again wall label good known,
       values_again ty ns sound,
     ) refl
 

@@ -1,6 +1,5 @@
 pub mod RunLemmas
 pub mod FillLemmas
-pub mod KnownLemmas
 pub mod ReplyLemmas
 pub mod SplitLemmas
 pub mod CallLemmas

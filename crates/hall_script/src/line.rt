@@ -18,7 +18,7 @@ use wall_labels::Label;
 use wall_policy::Policy;
 
 // What stands behind `as`.
-#[tactic(auto, unfolding(crate::specs::Lines::labelled), using(crate::proofs::KnownLemmas::known))]
+#[tactic(auto, unfolding(crate::specs::Lines::labelled))]
 fn next_labelled(
     alloc: Global,
     policy: &Policy,

@@ -128,7 +128,7 @@ labelled : (zero : Bool) (label : Label) → (if zero then is_none (if zero then
 labelled true label = refl
 labelled false label = refl
 
-first_none : (o m : Option Refusal) → or_else o m ≡ None → o ≡ None
+pub first_none : (o m : Option Refusal) → or_else o m ≡ None → o ≡ None
 first_none (Some f) m h = absurd (cc)
 first_none None m h = refl
 

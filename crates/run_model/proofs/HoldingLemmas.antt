@@ -44,13 +44,15 @@ use Rattle.run_model.proofs.PostLawLemmas.{posts_keep_the_wall}
 
 ---- Labels and datasets.
 
-named : (label : Option Label) (d : ℕ) → is_that (dataset_in label) d ≡ true → label ≡ Some (Of d)
-named None d h = absurd (false≢true h)
-named (Some Public) d h = absurd (false≢true h)
-named (Some (Of own)) d h = ap (λ n. Some (Of n)) (eqb-true own d h)
+pub labelled_d : (label : Option Label) (d : ℕ) → is_that (dataset_in label) d ≡ true →
+    label ≡ Some (Of d)
+labelled_d None d h = absurd (false≢true h)
+labelled_d (Some Public) d h = absurd (false≢true h)
+labelled_d (Some (Of own)) d h = ap (λ n. Some (Of n)) (eqb-true own d h)
 
-names : (label : Option Label) (d : ℕ) → label ≡ Some (Of d) → is_that (dataset_in label) d ≡ true
-names label d is = subst (λ l. is_that (dataset_in l) d ≡ true) (sym is) (eq-eqb d d refl)
+pub is_labelled_d : (label : Option Label) (d : ℕ) → label ≡ Some (Of d) →
+    is_that (dataset_in label) d ≡ true
+is_labelled_d label d is = subst (λ l. is_that (dataset_in l) d ≡ true) (sym is) (eq-eqb d d refl)
 
 ---- Older posts.
 
@@ -210,7 +212,7 @@ held_in_history wall {past = past} {p = p} {d = d} low taken (wrote x before m b
     true =
     and_from (p == x.process && not x.stated.barred) (is_that (dataset_in x.stated.label) d)
     (and_from (p == x.process) (not x.stated.barred) (eq-eqb p x.process (sym by))
-    (ap not unbarred)) (names x.stated.label d label) in
+    (ap not unbarred)) (is_labelled_d x.stated.label d label) in
     grow_to wall past x before p d m (delivery_keeps wall (labelled has x)
     (length (comms wall before)) (filled (comms wall before) x before) p d
     (or_right (has p d) _ mine))
@@ -327,7 +329,7 @@ label_is_held wall x before p d so_far h = ⊎_elim
     (is_that (dataset_in x.stated.label) d) new in
     let inner = and_parts (p == x.process) (not x.stated.barred) outer.0 in
     wrote x before ([], refl) (sym (eqb-true p x.process inner.0))
-    (not-true x.stated.barred inner.1) (named x.stated.label d outer.1))
+    (not-true x.stated.barred inner.1) (labelled_d x.stated.label d outer.1))
     (or_cases (histories wall before p d) _ h)
 
 delivery_is_held :

@@ -33,7 +33,7 @@ use Rattle.run_model.specs.Comms.{Comm}
 use Rattle.run_model.specs.Posts.{Post, kth_posts, instance, is_full, comms, labelled}
 use Rattle.run_model.specs.Posts.{with_delivery, is_granted, histories, outcome_of, outcome_at}
 use Rattle.run_model.specs.Holding.{Holds, at_home}
-use Rattle.run_model.proofs.HoldingLemmas.{label_of_holder, rival_within}
+use Rattle.run_model.proofs.HoldingLemmas.{label_of_holder, rival_within, labelled_d, is_labelled_d}
 use Rattle.run_model.proofs.PostLawLemmas.{grow}
 use Rattle.run_model.specs.Contributions.{Contribution, posts_of, full_at}
 use Rattle.run_model.specs.declared.call.Posting.{Posting}
@@ -69,16 +69,6 @@ use Rattle.run_model.proofs.WorldsLemmas.{reply_told, post_told, worlds_look_sam
 -- the numbers of what is labelled d are hidden
 abbrev pub outside : ℕ → View Contents (List Element)
 outside d s x = cond (is_that (dataset_in s.label) d) (form_of_part x) (elements x)
-
-is_labelled_d : (label : Option Label) (d : ℕ) → label ≡ Some (Of d) → is_that (dataset_in label) d
-    ≡ true
-is_labelled_d label d e = subst (λ l. is_that (dataset_in l) d ≡ true) (sym e) (eq-eqb d d refl)
-
-labelled_d : (label : Option Label) (d : ℕ) → is_that (dataset_in label) d ≡ true →
-    label ≡ Some (Of d)
-labelled_d None d h = absurd (false≢true h)
-labelled_d (Some Public) d h = absurd (false≢true h)
-labelled_d (Some (Of own)) d h = ap (λ n. Some (Of n)) (eqb-true own d h)
 
 -- ## a post that passes looks the same
 

@@ -34,7 +34,7 @@ use Rattle.run_model.specs.Runs.{with_contribution, with_taken, after_entry}
 use Rattle.run_model.specs.Replies.{posts_in, refusal, reply_to_take, reply_by, reply, IsAnswer}
 use Rattle.run_model.specs.Replies.{Legal}
 use Rattle.run_model.specs.Proper.{IsAsStated, IsProper}
-use Rattle.run_model.proofs.CountLemmas.{taken, posted_taken, barred_taken}
+use Rattle.run_model.proofs.CountLemmas.{taken, posted_taken, barred_taken, first_none}
 use Rattle.run_model.proofs.RequestLemmas.{requests_never_fewer}
 use Rattle.run_model.proofs.EffectLemmas.{given_of, entry_of, after_posted, after_barred}
 use Rattle.run_model.proofs.EffectLemmas.{after_other, after_outcome, after_asked, after_untold}
@@ -64,15 +64,11 @@ type_fits shape rank sig own ty given h = not_not (is_of_type (elem_type sig) ty
     not_not true h = refl
     not_not false h = absurd (false≢true (sym h))
 
-no_fault : (o m : Option Refusal) → or_else o m ≡ None → o ≡ None
-no_fault (Some f) m h = absurd (cc)
-no_fault None m h = refl
-
 pub brings : (wall : ChineseWall) (m : Effects) (p : ℕ) (posting : Posting) →
     refusal wall m p posting ≡ None → IsAsStated (statement posting false) posting.elements
 brings wall m p posting free =
     let is = accepted wall (posts_in m) p posting.comm posting.sig posting.own
-    posting.elements.elem_type (given_in posting) (no_fault _ _ free) in
+    posting.elements.elem_type (given_in posting) (first_none _ _ free) in
     let none = no_fault_has (shape_of is.comm) is.rank posting.sig posting.own
     posting.elements.elem_type (given_in posting) is.fits in
     record {

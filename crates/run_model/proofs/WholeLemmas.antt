@@ -36,9 +36,6 @@ use Rattle.run_model.proofs.SettledLemmas.{comm_at_is, some_is}
 
 -- ## parts and statements stand side by side
 
-within : {X : Type 0} (xs : List X) (k : ℕ) (x : X) → slice_get xs k ≡ Some x → k < length xs
-within xs k x e = slice_get_within xs k x e
-
 -- the k-th part of m on c is what the k-th post states, if that passed
 brought_at : (c m k : ℕ) (past : List (Contribution Contents)) (part : Contents) (s : Stated) →
     AreAsStated past → slice_get (parts_on c m past) k ≡ Some part →
@@ -58,11 +55,11 @@ brought_at c m k (g ∷ past) part s brought at states passed = ⊎_elim
     (λ old_part. ⊎_elim
     (λ old. brought_at c m k past part s brought.0 old_part old passed)
     (λ (new : (k ≡ length (posts_on c m (posts_of past))) × (g.post.stated ≡ s)).
-    absurd (let low = within (parts_on c m past) k part old_part in
+    absurd (let low = slice_get_within (parts_on c m past) k part old_part in
     let is = new.0 in omega (arith, low, is, long)))
     (get_either (posts_on c m (posts_of past)) g.post.stated k s states_now))
     (λ (new_part : (k ≡ length (parts_on c m past)) × (g.part ≡ part)). ⊎_elim
-    (λ old. absurd (let low = within (posts_on c m (posts_of past)) k s old in
+    (λ old. absurd (let low = slice_get_within (posts_on c m (posts_of past)) k s old in
     let is = new_part.0 in omega (arith, low, is, long)))
     (λ (new : (k ≡ length (posts_on c m (posts_of past))) × (g.post.stated ≡ s)).
     subst (λ q. IsAsStated q part) new.1 (subst (λ x. IsAsStated g.post.stated x) new_part.1
