@@ -5,7 +5,7 @@ use crate::parties::{BANKS_AND_OIL, grid, opening, wall};
 use crate::pending::{Table, at_a_table, line_of_two};
 use crate::policies::{fault_of, many};
 use run_model::{Act, Acts};
-use std::alloc::Global;
+use std::alloc::{AllocError, Global};
 use std::fs;
 use std::process::Abort;
 use std::rt::Files;
@@ -33,16 +33,37 @@ fn read_often(rt: &impl Abort, alloc: Global, text: &str, times: u32) {
     }
 }
 
-// A leak of the texts of such a policy would be some 15 pages each time.
+// A rule for each operation.
+const RULES: &[&str] = &[
+    "max", "min", "sum", "prod", "land", "lor", "lxor", "band", "bor", "bxor", "maxloc", "minloc",
+];
+
+// The text of a policy with as many processes as there may be, each with a home, as many datasets,
+// and a rule for each operation.
+fn full_policy(rt: &impl Abort, alloc: Global) -> Result<String, AllocError> {
+    let mut text = many(rt, alloc, 0, 1, 1024);
+    for process in 0..256 {
+        text.push_str(&format!(in alloc;
+            "[[process]]\nname = \"p{process}\"\nhome = \"d0_{process}\"\n"
+        )?)?;
+    }
+    for op in RULES {
+        text.push_str(&format!(in alloc; "[[sanitise]]\nop = \"{op}\"\nleast = 3\n")?)?;
+    }
+    Ok(text)
+}
+
+// What is kept of the rules is less than a hundred bytes: a leak of it would be some 50 pages, and
+// one of any other part more.
 #[test]
 fn policies_are_let_go(rt: HostRuntime) -> Result<(), Fail> {
-    let text = many(&rt, rt.alloc(), 256, 1, 1024);
+    let text = full_policy(&rt, rt.alloc())?;
     read_often(&rt, rt.alloc(), text.as_str(), 4);
     let before = pages(&rt, 1)?;
-    read_often(&rt, rt.alloc(), text.as_str(), 60);
+    read_often(&rt, rt.alloc(), text.as_str(), 2000);
     let after = pages(&rt, 1)?;
     assert!(&rt;
-        after < before.saturating_add(256),
+        after < before.saturating_add(32),
         "{before} pages, then {after}"
     );
     Ok(())
@@ -145,8 +166,24 @@ fn expect_little_waiting<R: Files + AllocGlobal + Abort>(
 // half a page, with its lists and what is kept of its communicator.
 #[test]
 fn instances_that_wait_ask_for_little(rt: HostRuntime) -> Result<(), Fail> {
-    expect_little_waiting(&rt, 256, 64, 860)?;
-    expect_little_waiting(&rt, 2, 1000, 1000)
+    expect_little_waiting(&rt, 256, 64, 780)?;
+    expect_little_waiting(&rt, 2, 1000, 750)
+}
+
+// A leak of the room for the parts of the instances would be more than a hundred pages each time.
+#[test]
+fn instances_that_wait_are_let_go(rt: HostRuntime) -> Result<(), Fail> {
+    expect_little_waiting(&rt, 256, 64, 780)?;
+    let before = pages(&rt, 0)?;
+    for _ in 0..20 {
+        expect_little_waiting(&rt, 256, 64, 780)?;
+    }
+    let after = pages(&rt, 0)?;
+    assert!(&rt;
+        after < before.saturating_add(256),
+        "{before} pages, then {after}"
+    );
+    Ok(())
 }
 
 // Three acts have room for a few.

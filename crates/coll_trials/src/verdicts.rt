@@ -524,6 +524,31 @@ fn a_verdict_on_a_scan_looks_at_each_rank_once(rt: HostRuntime) {
     decide_of_kinds(&rt, rt.alloc(), SCANS);
 }
 
+// An instance of all of these on a ring, which give of one bank to their neighbours.
+fn ring_of_256(rt: &impl Abort, alloc: Global, bank: u32) -> Roll {
+    let members = upward(rt, alloc, 0, 256);
+    let Ok(ring) = Grid::new(alloc, &[256], &[true], 256) else {
+        panic!(rt; "no grid")
+    };
+    let sig = Signature::NeighborAllgatherv { elem_type: INT };
+    roll_in(rt, alloc, &members, Some(ring), sig, &[Of(bank); 256])
+}
+
+// Here too a look at each pair of ranks would take more than a minute.
+#[test]
+fn a_verdict_between_neighbours_looks_at_neighbours(rt: HostRuntime) {
+    let alloc = rt.alloc();
+    let policy = policy_of_256(&rt, alloc);
+    let histories = opening(&rt, alloc, &policy);
+    let even = ring_of_256(&rt, alloc, 0);
+    let odd = ring_of_256(&rt, alloc, 1);
+    decide_often(&rt, &policy, &histories, &even, &odd, 160_000);
+    drop(odd);
+    drop(even);
+    drop(histories);
+    drop(policy);
+}
+
 // One grant after the other.
 fn settle_often(
     rt: &impl Abort,
