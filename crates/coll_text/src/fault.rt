@@ -11,8 +11,8 @@ pub enum LineFault {
     /// The first word asks for nothing that is known.
     #[error("BadVerb")]
     BadVerb,
-    /// A byte is not printable, a field is empty, missing or too many, or another word than `as`
-    /// stands where it may stand.
+    /// A byte is not printable, a field is empty, missing or one too many, or another word than
+    /// `as` stands where that may stand.
     #[error("BadShape")]
     BadShape,
     /// A field is not in its form, or out of its range.

@@ -1,4 +1,4 @@
-//! The number at the front of a text, in one pass over its digits.
+//! The number at the front of a text, of at most 19 digits.
 ghost use Rattle.std.specs.Prelude.{◌≡◌, ◌≤◌, ◌<◌, ◌^◌, length, take, get_or, Some, IfSome, true};
 ghost use Rattle.std.specs.Prelude.{nat_lt};
 ghost use Rattle.std.specs.List.{list_all};
@@ -71,8 +71,8 @@ fn front_digits(text: &[u8]) -> (u64, usize)
     (value, len)
 }
 
-// The number at the front, and how many digits it has; none where the text begins with no number,
-// or with a long one.
+// The number that the digits at the front spell, 19 of them at most, and how many these are; none
+// where the text begins with no digit, or with a needless zero.
 #[inline(always)]
 pub(crate) fn front_number(text: &[u8]) -> Option<(u64, usize)>
     ensures within { IfSome result (λ r. r.1 ≤ length text.now) }
@@ -114,8 +114,8 @@ fn front_negative(text: &[u8]) -> Option<(i128, usize)>
     }
 }
 
-/// The signed number at the front, and how many bytes it has; none where the text begins with no
-/// number, or with a long one.
+/// The signed number at the front, of 19 digits at most, and how many bytes it has; none where the
+/// text begins with no number.
 pub(crate) fn front_signed(text: &[u8]) -> Option<(i128, usize)>
     ensures within { IfSome result (λ r. r.1 ≤ length text.now) }
     ensures solid { IfSome result (λ r. list_all (λ b. nat_lt 44 b) (take r.1 text.now) ≡ true) }

@@ -1,10 +1,8 @@
 //! The words of lines: numbers, labels, fields, and a kind of collective with its fields, as
-//! scripts and books spell them. (The format is
-//! our own.)
+//! scripts and books spell them. (The format is our own.)
 //!
 //! A line is cut into words by single spaces, and read from the left. The first fault from the left
-//! is the answer. What is written is
-//! appended to a text, and a long text is written out in pieces.
+//! is the answer. What is written is appended to a text, and a long text is written out in pieces.
 #![tactic(auto)]
 
 mod append;

@@ -64,8 +64,9 @@ pub record IsDenied (wall : ChineseWall) (run : List Entry) (c k : ℕ) (has : H
 
 -- What becomes of instance (c, k): post x of its last member, made after the posts `before`, filled
 -- it. It was granted exactly if every contribution passed the star rule at its post and every
--- receiver is permitted what is charged to it; then each member is due the standard's value. Else
--- all are due the same denial, and nothing enters the histories but the label of post x.
+-- receiver is permitted what is charged to it; then each member is due the value that MPI
+-- prescribes. Else all are due the same denial, and nothing enters the histories but the label of
+-- post x.
 pub record IsJudged (wall : ChineseWall) (run : List Entry) (c k : ℕ) : Type 0 where
   pub x : Post
   pub before : List Post
@@ -99,8 +100,8 @@ FullCollectivesAreJudged =
     IsFullCollective wall run c k → IsJudged wall run c k
 
 -- The headline, in the order of its words: every full collective of every legal run is judged by
--- the two rules, delivered as the standard says or denied to all alike; and no process ever holds,
--- directly or through others, unsanitised data of two rivals.
+-- the two rules, delivered as MPI prescribes or denied to all alike; and nobody ever comes to hold
+-- unsanitised data of two rivals, at first hand or through others.
 pub record Headline : Type 0 where
   pub instances : FullCollectivesAreJudged
   pub holders : NobodyHoldsTwoRivals

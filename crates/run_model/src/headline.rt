@@ -6,9 +6,9 @@ ghost use Rattle.run_model.specs.RunRows.{banks_and_oil, denied_broadcast, sanit
 
 /// Every collective that is full, after every legal run: it was granted exactly if each
 /// contribution passed the star rule at its post and each receiver's history permits, jointly, all
-/// that is charged to it; each request for it is then due the standard's value, until it is taken.
-/// Else all are due one denial, which names the least offender, and nothing moves. And no process
-/// ever holds, directly or through others, unsanitised data of two rivals.
+/// that is charged to it; each request for it is then due what MPI prescribes, until it is taken.
+/// Else all are due one denial, which names the least offender, and nothing moves. And nobody ever
+/// comes to hold unsanitised data of two rivals, at first hand or through others.
 #[tactic(auto, using(crate::proofs::HeadlineLemmas::headline))]
 pub fn headline()
     ensures { Headline }

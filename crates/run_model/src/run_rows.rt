@@ -1,5 +1,5 @@
-//! Worked runs: lists of calls whose replies are those that are due, and two in which a reply is
-//! wrong. The functions do nothing.
+//! Worked runs: lists of calls whose replies are those that are due, and of three the same with one
+//! reply that is wrong. The functions do nothing.
 ghost use Rattle.run_model.specs.Holding.{Holds};
 ghost use Rattle.run_model.specs.RunRows.{LegalList, listed_posts, banks_and_oil, four_of_alpha};
 ghost use Rattle.run_model.specs.RunRows.{alpha, denied_broadcast, barred_gather};
