@@ -1,4 +1,12 @@
-//! The hall: what the server keeps, and its answers to calls.
+//! The hall: what the server keeps, and its answers to calls, one at a time.
+//!
+//! A hall stands for the run of all calls so far (`specs/Halls.antt`): each reply of `apply` is the
+//! one that `run_model` says is due, or out of memory where a post would count or something be
+//! delivered. `claim` is the part of a take that needs the hall, `finish` the rest. `run_calls`
+//! answers a list of calls, and `run_two` two lists under one policy, for the laws on two worlds.
+//!
+//! It stands on `run_state` for the posts and the book, and keeps beside them the requests and what
+//! came of the instances that were filled.
 #![tactic(auto)]
 
 mod claims;

@@ -48,7 +48,8 @@ impl Pass {
         self.process
     }
 
-    /// Whether the pass's last call settled an instance, for those that sleep until one does.
+    /// Whether the pass's last call that was made settled an instance, for those that sleep until
+    /// one does. An exhausted call leaves it as it was.
     pub fn settled(&self) -> bool
         ensures { result ≡ self.now.settled }
     {

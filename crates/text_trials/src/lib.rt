@@ -1,7 +1,7 @@
 //! The tests of scripts, replies and books as text, through their public calls.
 //!
 //! They stand in a crate of their own, since a check of a crate's tests proves the crate once more;
-//! here there is nothing to prove but the tests, and a few rows of definitions.
+//! here there is nothing to prove but the tests, and two rows of definitions.
 #![tactic(auto)]
 
 #[cfg(test)]
