@@ -16,7 +16,7 @@ use Rattle.coll_text.specs.declared.table.Form.TheVariants.{Root, Operation, Typ
 use Rattle.coll_text.specs.declared.table.Form.TheVariants.{Listed, Flagged, Colour, Key}
 use Rattle.coll_text.specs.declared.table.Fields.{Fields}
 use Rattle.coll_text.specs.Numbers.{Word, signed_within}
-use Rattle.coll_text.specs.Reading.{some_or, word_at, number_up_to, list_of, flag_of}
+use Rattle.coll_text.specs.Reading.{◌>>=◌, some_or, word_at, number_up_to, list_of, flag_of}
 use Rattle.coll_text.specs.Table.{forms_of, no_fields, signature_of, own_of}
 
 -- a number of 32 bits

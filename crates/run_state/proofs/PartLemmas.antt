@@ -280,14 +280,8 @@ pub all_coords : (g : Topology) (r n : ℕ) → r < volume g.dims → length g.d
     take n (coords g r) ≡ coords g r
 all_coords g r n lt le =
     take_whole (coords g r) n (let e = coords_length g r lt in omega (arith, le, e))
-  -- ## those of the numbers below one that pass a test
 
-  where
-    by : (b : Bool) → filter test (xs ++ ys) ≡ filter test xs ++ filter test ys →
-        cond b (x ∷ filter test (xs ++ ys)) (filter test (xs ++ ys))
-        ≡ cond b (x ∷ filter test xs) (filter test xs) ++ filter test ys
-    by true rest = ap (λ zs. x ∷ zs) rest
-    by false rest = rest
+-- ## those of the numbers below one that pass a test
 
 filter_takes : (test : ℕ → Bool) (n : ℕ) → test n ≡ true →
     filter test (below (n + 1)) ≡ filter test (below n) ++ n ∷ []
