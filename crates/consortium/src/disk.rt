@@ -1,4 +1,4 @@
-//! A system in memory, for tests: its words, four files, and streams that keep what they are given.
+//! A system in memory, for tests: its words, five files, and streams that keep what they are given.
 use crate::serving::{Complaints, Output};
 use std::alloc::Allocator;
 use std::cell::{Cell, RefCell};
@@ -8,13 +8,40 @@ use std::io;
 use std::io::{ErrorKind, Read, Seek, SeekFrom, Write};
 use std::rt::{Env, Files};
 
-/// The files: three to be read, `w`, `s` and `b`, and one to be written, `k`. There are no others.
+/// The files: four to be read, `w`, `s`, `b` and `e`, which is empty, and one to be written, `k`.
+/// There are no others.
 #[derive(Clone, Copy, Debug, PartialEq, Eq)]
 pub enum Name {
     Policy,
     Script,
     Book,
+    Empty,
     Kept,
+}
+
+/// The error of the call that fails. These few stand for all kinds, whose 42 would make each proof
+/// larger.
+#[derive(Clone, Copy)]
+pub enum Refusal {
+    Other,
+    Interrupted,
+    PermissionDenied,
+    WouldBlock,
+    TimedOut,
+    AlreadyExists,
+}
+
+impl Refusal {
+    fn error(self) -> io::Error {
+        match self {
+            Refusal::Other => io::Error::from(ErrorKind::Other),
+            Refusal::Interrupted => io::Error::from(ErrorKind::Interrupted),
+            Refusal::PermissionDenied => io::Error::from(ErrorKind::PermissionDenied),
+            Refusal::WouldBlock => io::Error::from(ErrorKind::WouldBlock),
+            Refusal::TimedOut => io::Error::from(ErrorKind::TimedOut),
+            Refusal::AlreadyExists => io::Error::from(ErrorKind::AlreadyExists),
+        }
+    }
 }
 
 /// What the files hold, how they give and take it, and what was done with them.
@@ -30,6 +57,8 @@ pub struct Disk<'a> {
     pub step: usize,
     /// How many calls go well before one fails.
     pub left: Cell<u64>,
+    /// The error of that call.
+    pub refusal: Refusal,
     /// The file at which it failed.
     pub failed: Cell<Option<Name>>,
     /// A line for each file that was asked for, its name byte for byte, and a line `!` for each
@@ -50,7 +79,7 @@ impl<'a> Disk<'a> {
         if left == 0 {
             self.failed.set(Some(name));
             self.left.set(u64::MAX);
-            return Err(refused());
+            return Err(self.refusal.error());
         }
         self.left.set(left - 1);
         Ok(())
@@ -80,6 +109,7 @@ impl<'a> Disk<'a> {
             "w" => Ok(Name::Policy),
             "s" => Ok(Name::Script),
             "b" => Ok(Name::Book),
+            "e" => Ok(Name::Empty),
             "k" => Ok(Name::Kept),
             _ => Err(io::Error::from(ErrorKind::NotFound)),
         }
@@ -209,7 +239,7 @@ impl<'a> Files for System<'a> {
             Name::Policy => disk.policy,
             Name::Script => disk.script,
             Name::Book => disk.book,
-            Name::Kept => b"".as_slice(),
+            Name::Empty | Name::Kept => b"".as_slice(),
         };
         Ok(Opened { disk, name, rest })
     }
@@ -281,13 +311,15 @@ pub struct Stream<'a> {
     pub step: usize,
     /// How many calls go well before one fails.
     pub left: u64,
+    /// The error of that call.
+    pub refusal: Refusal,
 }
 
 impl<'a> Write for Stream<'a> {
     fn write(&mut self, bytes: &[u8]) -> io::Result<usize> {
         if self.left == 0 {
             self.left = u64::MAX;
-            return Err(refused());
+            return Err(self.refusal.error());
         }
         self.left -= 1;
         let count = bytes.len().min(self.step);

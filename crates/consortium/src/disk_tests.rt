@@ -1,30 +1,14 @@
 //! The system in memory itself: it refuses what no command is to do, and it is seen that it was
 //! asked. A test that rests on it would else show nothing.
 use super::*;
-use crate::disk::{Disk, Name, Stream, System};
-use crate::files_tests::taken;
-use std::alloc::Global;
-use std::cell::{Cell, RefCell};
+use crate::disk::{Name, Refusal, Stream, System};
+use crate::files_tests::{disk_of, taken};
+use std::cell::RefCell;
 use std::fs::{File, OpenFile, OpenOptions};
 use std::io::{Read, Seek, SeekFrom, Write};
 use std::process::Abort;
 use std::rt::Files;
 use std::test::Fail;
-
-fn disk_of<'a>(policy: &'a [u8], alloc: Global) -> Disk<'a> {
-    Disk {
-        words: &[],
-        policy,
-        script: b"",
-        book: b"",
-        kept: RefCell::new(Vec::new(alloc)),
-        step: usize::MAX,
-        left: Cell::new(u64::MAX),
-        failed: Cell::new(None),
-        opened: RefCell::new(Vec::new(alloc)),
-        open: Cell::new(0),
-    }
-}
 
 // No command makes these calls over names: each is an error, and is noted.
 #[test]
@@ -93,12 +77,12 @@ fn a_file_is_opened_for_its_use_alone(rt: HostRuntime) -> Result<(), Fail> {
     let mut make = OpenOptions::new();
     make.write(true).create(true).truncate(true);
     assert_eq!(&rt; make.open(&system, "k")?.write(b"x")?, 1);
-    for name in ["w", "s", "b", "x"] {
+    for name in ["w", "s", "b", "e", "x"] {
         assert!(&rt; make.open(&system, name).is_err(), "{name}");
     }
     let mut read = OpenOptions::new();
     read.read(true);
-    for name in ["w", "s", "b"] {
+    for name in ["w", "s", "b", "e"] {
         assert!(&rt; read.open(&system, name).is_ok(), "{name}");
     }
     let mut append = OpenOptions::new();
@@ -115,7 +99,7 @@ fn a_file_is_opened_for_its_use_alone(rt: HostRuntime) -> Result<(), Fail> {
         assert!(&rt; how.open(&system, "k").is_err());
     }
     assert!(&rt; taken(&disk.kept, rt.alloc())?.as_slice() == b"x".as_slice());
-    let asked = b"k\nw\ns\nb\nx\nw\ns\nb\nk\nk\nk\nk\nk\nk\n".as_slice();
+    let asked = b"k\nw\ns\nb\ne\nx\nw\ns\nb\ne\nk\nk\nk\nk\nk\nk\n".as_slice();
     assert!(&rt; taken(&disk.opened, rt.alloc())?.as_slice() == asked);
     assert_eq!(&rt; disk.open.get(), 0);
     Ok(())
@@ -145,6 +129,7 @@ fn a_flush_of_a_stream_is_seen(rt: HostRuntime) -> Result<(), Fail> {
         kept: &kept,
         step: 2,
         left: 1,
+        refusal: Refusal::Other,
     };
     assert_eq!(&rt; stream.write(b"abc")?, 2);
     assert!(&rt; stream.write(b"c").is_err());

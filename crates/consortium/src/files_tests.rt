@@ -1,8 +1,11 @@
 //! The commands over a system in memory: long files, short reads and writes, and each call at a
 //! file failing in turn.
+ghost use Rattle.std.specs.Prelude.{◌≡◌};
+
 use super::*;
-use crate::disk::{Disk, Name, Stream, System};
+use crate::disk::{Disk, Name, Refusal, Stream, System};
 use crate::serving::Blanks;
+use program_files::{Count, FileSink, StreamSink};
 use std::alloc::Global;
 use std::cell::{Cell, RefCell};
 use std::fs;
@@ -10,8 +13,10 @@ use std::io::Eprint;
 use std::process::{Abort, ExitCode, Termination};
 use std::rt::Files;
 use std::sync::Wait;
+use std::sync::ledger::Ledger;
 use std::test::Fail;
 use std::thread::Threads;
+use wall_labels::{Failed, Sink};
 
 // One process of one bank.
 pub(crate) const ALONE: &str = "version = 1
@@ -37,11 +42,12 @@ pub(crate) struct Case<'a> {
     pub(crate) status: u8,
 }
 
-// How the devices of a use fail: the most bytes of a call, and how many calls go well at the files
-// and at each stream.
+// How the devices of a use fail: the most bytes of a call, the error of a call that fails, and how
+// many calls go well at the files and at each stream.
 #[derive(Clone, Copy)]
 pub(crate) struct Faults {
     pub(crate) step: usize,
+    pub(crate) refusal: Refusal,
     pub(crate) files: u64,
     pub(crate) out: u64,
     pub(crate) err: u64,
@@ -49,6 +55,7 @@ pub(crate) struct Faults {
 
 pub(crate) const NONE: Faults = Faults {
     step: usize::MAX,
+    refusal: Refusal::Other,
     files: u64::MAX,
     out: u64::MAX,
     err: u64::MAX,
@@ -65,6 +72,23 @@ pub(crate) struct Ended {
     // The files that were not closed.
     pub(crate) open: u64,
     pub(crate) failed: Option<Name>,
+}
+
+// A system whose policy has these bytes, and whose calls all go well.
+pub(crate) fn disk_of<'a>(policy: &'a [u8], alloc: Global) -> Disk<'a> {
+    Disk {
+        words: &[],
+        policy,
+        script: b"",
+        book: b"",
+        kept: RefCell::new(Vec::new(alloc)),
+        step: usize::MAX,
+        left: Cell::new(u64::MAX),
+        refusal: Refusal::Other,
+        failed: Cell::new(None),
+        opened: RefCell::new(Vec::new(alloc)),
+        open: Cell::new(0),
+    }
 }
 
 pub(crate) fn taken(cell: &RefCell<Vec<u8>>, alloc: Global) -> Result<Vec<u8>, Fail> {
@@ -88,6 +112,7 @@ where
         kept: RefCell::new(Vec::new(alloc)),
         step: faults.step,
         left: Cell::new(faults.files),
+        refusal: faults.refusal,
         failed: Cell::new(None),
         opened: RefCell::new(Vec::new(alloc)),
         open: Cell::new(0),
@@ -99,11 +124,13 @@ where
             kept: &out,
             step: faults.step,
             left: faults.out,
+            refusal: faults.refusal,
         },
         Stream {
             kept: &err,
             step: faults.step,
             left: faults.err,
+            refusal: faults.refusal,
         },
     );
     Ok(Ended {
@@ -236,85 +263,188 @@ fn long_files_are_read_and_written_whole(rt: HostRuntime) -> Result<(), Fail> {
     Ok(())
 }
 
+// How the calls of a use fail, in turn: after how many posts, the most bytes of a call, the error.
+const WAYS: &[(u64, usize, Refusal)] = &[
+    (30, 53, Refusal::Other),
+    (30, usize::MAX, Refusal::Other),
+    (30, usize::MAX, Refusal::Interrupted),
+    (30, usize::MAX, Refusal::PermissionDenied),
+    (30, usize::MAX, Refusal::WouldBlock),
+    (30, usize::MAX, Refusal::TimedOut),
+    (30, usize::MAX, Refusal::AlreadyExists),
+    (2500, usize::MAX, Refusal::Other),
+];
+
+// The most bytes that one read asks for, and the least that are written before the last.
+const READ: usize = 1024;
+
+const WRITTEN: usize = 65536;
+
 // The most calls at the files that a use asks for: each is opened, its bytes come or go in pieces
-// of this size, the last of them short, and the end is seen.
+// of such a size, the last of them short, and the end is seen.
 fn most_calls(case: &Case, step: usize) -> u64 {
     let mut most: u64 = 0;
-    for (name, bytes) in [
-        (b'w', case.policy),
-        (b's', case.script),
-        (b'b', case.book),
-        (b'k', case.kept),
+    for (name, bytes, size) in [
+        (b'w', case.policy, READ),
+        (b's', case.script, READ),
+        (b'b', case.book, READ),
+        (b'k', case.kept, WRITTEN),
     ] {
         if case.opened.contains(&name) {
-            let pieces = bytes.len().checked_div(step).unwrap_or(0) as u64;
+            let pieces = bytes.len().checked_div(step.min(size)).unwrap_or(0) as u64;
             most = most.saturating_add(pieces).saturating_add(3);
         }
     }
     most
 }
 
-// Each call at a file fails once: the line and the status are of that file, and what is written is
-// a prefix. No call moves less than the system would take.
+// Whether a use ended as one does whose call at this file failed: the line and the status are of
+// that file, and what is written is a prefix.
+fn is_broken_at(name: Name, ended: &Ended, case: &Case) -> bool {
+    let is_ended = ended.status == ExitCode::from(3) && ended.open == 0;
+    let is_front = case.kept.starts_with(&ended.kept) && case.opened.starts_with(&ended.opened);
+    let is_told = if name == Name::Kept {
+        ended.err.as_slice() == b"write fault\n".as_slice() && ended.out.as_slice() == case.out
+    } else {
+        let is_none = ended.out.is_empty() && ended.kept.is_empty();
+        ended.err.as_slice() == b"read fault\n".as_slice() && is_none
+    };
+    is_ended && is_front && is_told
+}
+
+// Fails each call at the files once, and gives how many there are.
+fn fail_at_files<R>(rt: &R, case: &Case, faults: Faults) -> Result<u64, Fail>
+where
+    R: AllocGlobal + Threads + Wait + Sync + Eprint,
+{
+    for files in 0..4000u64 {
+        let ended = used(rt, case, Faults { files, ..faults })?;
+        let Some(name) = ended.failed else {
+            return if is_as_told(&ended, case) {
+                Ok(files)
+            } else {
+                Err(Fail::from("a use with no fault ended otherwise"))
+            };
+        };
+        if !is_broken_at(name, &ended, case) {
+            return Err(Fail::from("a use with a fault at a file ended otherwise"));
+        }
+    }
+    Err(Fail::from("there are too many calls"))
+}
+
+// Each call at a file fails once. None moves less than was asked for and the system would give or
+// take.
 #[test]
 fn each_call_at_a_file_fails(rt: HostRuntime) -> Result<(), Fail> {
-    let long = long_texts(&rt, 30)?;
-    for case in commands(&long) {
-        let mut calls: u64 = 0;
-        for files in 0..4000u64 {
-            let step = 97;
-            let ended = used(
-                &rt,
-                &case,
-                Faults {
-                    step,
-                    files,
-                    ..NONE
-                },
-            )?;
-            let Some(name) = ended.failed else {
-                assert!(&rt; is_as_told(&ended, &case));
-                break;
+    for (posts, step, refusal) in WAYS {
+        let (step, refusal) = (*step, *refusal);
+        let long = long_texts(&rt, *posts)?;
+        for case in commands(&long) {
+            let faults = Faults {
+                step,
+                refusal,
+                ..NONE
             };
-            calls = files + 1;
-            assert_eq!(&rt; ended.status, ExitCode::from(3));
-            assert!(&rt; case.kept.starts_with(&ended.kept));
-            assert!(&rt; case.opened.starts_with(&ended.opened) && ended.open == 0);
-            if name == Name::Kept {
-                assert!(&rt; ended.err.as_slice() == b"write fault\n".as_slice());
-                assert!(&rt; ended.out.as_slice() == case.out);
-            } else {
-                assert!(&rt; ended.err.as_slice() == b"read fault\n".as_slice());
-                assert!(&rt; ended.out.is_empty() && ended.kept.is_empty());
-            }
+            let calls = fail_at_files(&rt, &case, faults)?;
+            let most = most_calls(&case, step);
+            assert!(&rt; calls <= most && most <= calls.saturating_add(3), "{calls}");
         }
-        assert!(&rt; 10 < calls && calls <= most_calls(&case, 97), "{calls}");
     }
     Ok(())
 }
 
-// Each call at standard output fails once, in turn. But for a few, which end a part of a line, no
-// call gives less than the system would take.
+// Fails each call at standard output once, and gives how many there are.
+fn fail_at_output<R>(rt: &R, case: &Case, faults: Faults) -> Result<u64, Fail>
+where
+    R: AllocGlobal + Threads + Wait + Sync + Eprint,
+{
+    for out in 0..4000u64 {
+        let ended = used(rt, case, Faults { out, ..faults })?;
+        if ended.status != ExitCode::from(3) {
+            return if is_as_told(&ended, case) {
+                Ok(out)
+            } else {
+                Err(Fail::from("a use with no fault ended otherwise"))
+            };
+        }
+        let is_told = ended.err.as_slice() == b"write fault\n".as_slice();
+        let is_front = case.out.starts_with(&ended.out) && case.opened.starts_with(&ended.opened);
+        if !is_told || !is_front || !ended.kept.is_empty() || ended.open != 0 {
+            return Err(Fail::from("a use with a fault at its output ended otherwise"));
+        }
+    }
+    Err(Fail::from("there are too many calls"))
+}
+
+// Each call at standard output fails once, in turn. But for a few, which end a part of a line, none
+// moves less than the program has to write and the system would take.
 #[test]
 fn each_call_at_a_stream_fails(rt: HostRuntime) -> Result<(), Fail> {
-    let long = long_texts(&rt, 30)?;
-    for case in commands(&long) {
-        let mut calls: u64 = 0;
-        for out in 0..4000u64 {
-            let step = 53;
-            let ended = used(&rt, &case, Faults { step, out, ..NONE })?;
-            if ended.status != ExitCode::from(3) {
-                assert!(&rt; is_as_told(&ended, &case));
-                break;
-            }
-            calls = out + 1;
-            assert!(&rt; ended.err.as_slice() == b"write fault\n".as_slice());
-            assert!(&rt; case.out.starts_with(&ended.out));
-            assert!(&rt; ended.kept.is_empty() && case.opened.starts_with(&ended.opened));
+    for (posts, step, refusal) in WAYS {
+        let (step, refusal) = (*step, *refusal);
+        let long = long_texts(&rt, *posts)?;
+        for case in commands(&long) {
+            let faults = Faults {
+                step,
+                refusal,
+                ..NONE
+            };
+            let calls = fail_at_output(&rt, &case, faults)?;
+            let pieces = case.out.len().checked_div(step.min(WRITTEN)).unwrap_or(0) as u64;
+            assert!(&rt; 0 < calls && calls < pieces.saturating_add(4), "{calls}");
         }
-        let pieces = (case.out.len() / 53) as u64;
-        assert!(&rt; 0 < calls && calls < pieces.saturating_add(4), "{calls}");
     }
+    Ok(())
+}
+
+// How many of these bytes one write to a book takes.
+fn kept_at_once<K: Ledger>(disk: &Disk, bytes: &[u8], blank: Blank) -> Result<usize, Failed>
+    requires name { blank.name ≡ K.name }
+    requires parts { blank.parts ≡ K.parts }
+    requires one { blank.parts ≡ 1 }
+{
+    let system = System { disk };
+    let mut book = FileSink {
+        rt: &system,
+        path: "k",
+        file: None,
+        failures: Count::<K>::new(blank),
+    };
+    book.write(bytes)
+}
+
+// How many of these bytes one write to a stream takes.
+fn said_at_once<O: Ledger>(stream: Stream, bytes: &[u8], blank: Blank) -> Result<usize, Failed>
+    requires name { blank.name ≡ O.name }
+    requires parts { blank.parts ≡ O.parts }
+    requires one { blank.parts ≡ 1 }
+{
+    let mut out = StreamSink {
+        stream,
+        failures: Count::<O>::new(blank),
+    };
+    out.write(bytes)
+}
+
+// One write takes as much as the system does, however much that is.
+#[test]
+fn one_write_takes_all(rt: HostRuntime) -> Result<(), Fail> {
+    let text = "text".repeat(rt.alloc(), 750_000)?;
+    let bytes = text.as_bytes();
+    let disk = disk_of(b"", rt.alloc());
+    let said = RefCell::new(Vec::new(rt.alloc()));
+    let stream = Stream {
+        kept: &said,
+        step: usize::MAX,
+        left: u64::MAX,
+        refusal: Refusal::Other,
+    };
+    let kept = kept_at_once::<Brand>(&disk, bytes, Blank::new(1));
+    let told = said_at_once::<Brand>(stream, bytes, Blank::new(1));
+    assert!(&rt; kept == Ok(3_000_000) && told == Ok(3_000_000));
+    assert!(&rt; taken(&disk.kept, rt.alloc())?.as_slice() == bytes);
+    assert!(&rt; taken(&said, rt.alloc())?.as_slice() == bytes);
     Ok(())
 }
 

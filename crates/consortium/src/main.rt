@@ -1,7 +1,7 @@
 //! The program: `consortium replay POLICY SCRIPT [--book FILE]` writes one reply line for each call
-//! of the script, and the audit book of the run, `consortium run POLICY SCRIPT [--book FILE]` does
-//! so with a thread for each process, and `consortium audit POLICY BOOK` writes whether a book is
-//! what its posts give.
+//! of the script, and to FILE, where one is named, the audit book of the run; `consortium run
+//! POLICY SCRIPT [--book FILE]` does so with a thread for each process, and `consortium audit
+//! POLICY BOOK` writes whether a book is what its posts give.
 #![tactic(auto)]
 
 mod commands;

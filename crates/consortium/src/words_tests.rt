@@ -239,6 +239,20 @@ const REFUSED: &[(&[&[u8]], &str, &str, u8)] = &[
         "w\nw\n",
         2,
     ),
+    // a file of no bytes is a file, and its reading no fault
+    (
+        &[b"consortium", b"replay", b"e", b"s"],
+        "policy: BadVersion\n",
+        "e\n",
+        1,
+    ),
+    (&[b"consortium", b"replay", b"w", b"e"], "", "w\ne\n", 0),
+    (
+        &[b"consortium", b"audit", b"w", b"e"],
+        "book: cut\n",
+        "w\ne\n",
+        2,
+    ),
     // letter for letter: a space is part of a word
     (
         &[b"consortium", b" replay", b"w", b"s"],
@@ -364,26 +378,50 @@ where
     Ok(is_as_told(&ended, &case))
 }
 
+// Whether a command whose policy has this name, which no file has, asks for that name.
+fn is_other_policy<R>(rt: &R, command: &str, second: &str, name: &str) -> Result<bool, Fail>
+where
+    R: AllocGlobal + Threads + Wait + Sync + Eprint,
+{
+    let opened = format!(in rt.alloc(); "{name}\n")?;
+    let words = [
+        "consortium".as_bytes(),
+        command.as_bytes(),
+        name.as_bytes(),
+        second.as_bytes(),
+    ];
+    is_unread(rt, &words, &opened)
+}
+
+// Whether a command whose second file has this name, which no file has, asks for that name.
+fn is_other_second<R>(rt: &R, command: &str, name: &str) -> Result<bool, Fail>
+where
+    R: AllocGlobal + Threads + Wait + Sync + Eprint,
+{
+    let opened = format!(in rt.alloc(); "w\n{name}\n")?;
+    let words = [
+        "consortium".as_bytes(),
+        command.as_bytes(),
+        "w".as_bytes(),
+        name.as_bytes(),
+    ];
+    is_unread(rt, &words, &opened)
+}
+
 // The name that a device asks for is, byte for byte, the word of the command line.
 #[test]
 fn other_spellings_are_other_files(rt: HostRuntime) -> Result<(), Fail> {
-    let alloc = rt.alloc();
     for (command, second, likes) in [
         ("replay", "s", LIKE_SCRIPT),
         ("run", "s", LIKE_SCRIPT),
         ("audit", "b", LIKE_BOOK),
     ] {
-        let (program, command) = ("consortium".as_bytes(), command.as_bytes());
         for name in LIKE_POLICY {
-            let opened = format!(in alloc; "{name}\n")?;
-            let words = [program, command, name.as_bytes(), second.as_bytes()];
-            let is_told = is_unread(&rt, &words, &opened)?;
+            let is_told = is_other_policy(&rt, command, second, name)?;
             assert!(&rt; is_told, "{name} {second}");
         }
         for name in likes {
-            let opened = format!(in alloc; "w\n{name}\n")?;
-            let words = [program, command, "w".as_bytes(), name.as_bytes()];
-            let is_told = is_unread(&rt, &words, &opened)?;
+            let is_told = is_other_second(&rt, command, name)?;
             assert!(&rt; is_told, "w {name}");
         }
     }
@@ -414,6 +452,33 @@ fn other_spellings_are_other_books(rt: HostRuntime) -> Result<(), Fail> {
         let replayed = is_other_book(&rt, "replay", "refused NoSuchRequest\n", name)?;
         let run = is_other_book(&rt, "run", "rank 0 p0\nrefused NoSuchRequest\n", name)?;
         assert!(&rt; replayed && run, "{name}");
+    }
+    Ok(())
+}
+
+// Whether each command asks for each of its files by this name, which no file has.
+fn is_other_name<R>(rt: &R, name: &str) -> Result<bool, Fail>
+where
+    R: AllocGlobal + Threads + Wait + Sync + Eprint,
+{
+    for (command, second) in [("replay", "s"), ("run", "s"), ("audit", "b")] {
+        let policy = is_other_policy(rt, command, second, name)?;
+        if !policy || !is_other_second(rt, command, name)? {
+            return Ok(false);
+        }
+    }
+    let replayed = is_other_book(rt, "replay", "refused NoSuchRequest\n", name)?;
+    let run = is_other_book(rt, "run", "rank 0 p0\nrefused NoSuchRequest\n", name)?;
+    Ok(replayed && run)
+}
+
+// A name is asked for whole, however long it is.
+#[test]
+fn long_names_are_asked_for_whole(rt: HostRuntime) -> Result<(), Fail> {
+    for times in [60, 1000] {
+        let name = "wsbk/".repeat(rt.alloc(), times)?;
+        let is_told = is_other_name(&rt, &name)?;
+        assert!(&rt; is_told, "{times}");
     }
     Ok(())
 }

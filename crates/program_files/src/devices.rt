@@ -49,8 +49,8 @@ impl<L: Ledger> Count<L> {
     }
 }
 
-/// A file that is opened at its first read, and never again. A file that is missing is a read that
-/// failed.
+/// A file that is opened at its first read, and not again once it is open. A file that is missing,
+/// or cannot be opened, is a read that failed; the next read tries once more to open it.
 #[derive(Drop)]
 pub struct FileSource<'a, R: Files, L: Ledger> {
     pub rt: &'a R,
@@ -118,6 +118,7 @@ fn counted<L: Ledger>(outcome: io::Result<usize>, failures: &mut Count<L>) -> Re
     ensures bytes { (old : Option (List ℕ)) → (new : Option (List ℕ)) → (given : List ℕ) →
         WriteAppends old new outcome given → WriteAppends old new result given }
     ensures same { IfOk result (λ n. outcome ≡ Ok n) }
+    ensures whole { IfOk outcome (λ n. 0 < n → result ≡ Ok n) }
 {
     match outcome {
         Ok(n) => {
@@ -134,7 +135,9 @@ fn counted<L: Ledger>(outcome: io::Result<usize>, failures: &mut Count<L>) -> Re
     }
 }
 
-/// A file that is made at its first write, in place of one that was there, and never again.
+/// A file that is made at its first write of some bytes, in place of one that was there, and not
+/// again once it is made. A file that cannot be made is a write that failed; the next write tries
+/// once more to make it.
 #[derive(Drop)]
 pub struct FileSink<'a, R: Files, L: Ledger> {
     pub rt: &'a R,
