@@ -7,6 +7,7 @@ pub mod BookLemmas
 pub mod AgainLemmas
 pub mod TextAgainLemmas
 pub mod FormLemmas
+pub mod RangeLemmas
 pub mod WriteLemmas
 pub mod NamedLemmas
 pub mod FaultLemmas

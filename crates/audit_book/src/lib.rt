@@ -18,6 +18,7 @@ mod due;
 mod fault;
 pub mod laws;
 mod line;
+mod ranges;
 mod read;
 mod scan;
 mod words;

@@ -1,6 +1,6 @@
 //! Writes a book.
 ghost use Rattle.std.specs.Prelude.{◌≡◌, ◌+◌, ◌<◌, ◌++◌, All, OnOk, OnErr, IfErr};
-ghost use Rattle.std.specs.Prelude.{codes};
+ghost use Rattle.std.specs.Prelude.{codes, Ok};
 ghost use Rattle.std.specs.Fmt.{decimal};
 ghost use Rattle.std.specs.Io.KnownBytes.{Appends};
 ghost use Rattle.wall_labels.specs.Known.{AppendsFront};
@@ -9,10 +9,13 @@ ghost use Rattle.audit_book.specs.Text.{verdict_words, outcome_words, entry_word
 ghost use Rattle.audit_book.specs.Text.{header_line, end_words, entry_lines, book_text};
 ghost use Rattle.coll_text.specs.Writing.{Moves};
 ghost use Rattle.audit_book.specs.Writing.{IsWriteFault};
+ghost use Rattle.audit_book.specs.Reading.{book_in};
+ghost use Rattle.audit_book.specs.Laws.{IsSpelled};
 ghost use Rattle.run_model.specs.Known.{IsKnownProcess, IsKnownIfAny, IsKnownOutcome, IsKnownEntry};
 ghost use Rattle.run_model.specs.Known.{IsKnownLabel};
 
 use crate::fault::WriteFault;
+use crate::ranges::entry_is_spelled;
 use coll_routes::Stated;
 use coll_text::{label_text, put, put_decimal, rule_text, send, send_long, write_statement};
 use run_model::{Entry, Outcome};
@@ -186,23 +189,26 @@ fn put_end(entries: usize, text: &mut Vec<u8>) -> Result<(), AllocError>
     put(text, "\n")
 }
 
-// Writes the lines of the entries, and leaves the end of them in the text.
+// Writes the lines of the book's entries, and leaves the end of them in the text.
 fn write_entries<W: Sink>(
     policy: &Policy,
-    entries: &[Entry],
+    book: &Book,
     text: &mut Vec<u8>,
     sink: &mut W,
 ) -> Result<(), WriteFault>
-    requires { All (IsKnownEntry policy.now) entries.now }
+    requires { All (IsKnownEntry policy.now) book.now.list }
     ensures went { OnOk result (W.failures sink.new ≡ W.failures sink.old) }
     ensures fault { IfErr result
         (λ fault. IsWriteFault fault (W.failures sink.old) (W.failures sink.new)) }
     ensures moved { OnOk result (Moves (W.contents sink.old) (W.contents sink.new)
-        (text.old.items ++ entry_lines policy.now entries.now) text.new.items) }
+        (text.old.items ++ entry_lines policy.now book.now.list) text.new.items) }
     ensures front { OnErr result (AppendsFront (W.contents sink.old) (W.contents sink.new)
-        (text.old.items ++ entry_lines policy.now entries.now)) }
+        (text.old.items ++ entry_lines policy.now book.now.list)) }
+    ensures spelled { OnOk result (All (IsSpelled policy.now) book.now.list) }
 {
-    for entry in entries {
+    for at in 0..book.len() {
+        let entry = book.get(at);
+        entry_is_spelled(policy, entry);
         match put_entry(policy, entry, text) {
             Ok(()) => {}
             Err(_) => return Err(WriteFault::NoMemory),
@@ -217,8 +223,10 @@ fn write_entries<W: Sink>(
 
 /// Writes the text of a book, whose processes and datasets are the policy's. (Own format.)
 ///
-/// `Write` where the writer failed, `NoMemory` where memory ran out. A prefix of the text is
-/// written then.
+/// What was written is read again as this very book, unless memory runs out there.
+///
+/// `Write` where the writer failed, `NoMemory` where memory ran out. What was written is then the
+/// front of the text.
 #[tactic(auto, unfolding(crate::specs::Text::book_text))]
 pub fn write_book<W: Sink>(
     alloc: Global,
@@ -229,15 +237,18 @@ pub fn write_book<W: Sink>(
     requires { All (IsKnownEntry policy.now) book.now.list }
     ensures written { OnOk result
         (Appends (W.contents sink.old) (W.contents sink.new) (book_text policy.now book.now.list)) }
+    ensures again { OnOk result
+        (book_in policy.now (book_text policy.now book.now.list) ≡ Ok book.now.list) }
     ensures went { OnOk result (W.failures sink.new ≡ W.failures sink.old) }
     ensures fault { IfErr result
         (λ fault. IsWriteFault fault (W.failures sink.old) (W.failures sink.new)) }
     ensures front { OnErr result (AppendsFront (W.contents sink.old) (W.contents sink.new)
         (book_text policy.now book.now.list)) }
 {
+    let _ = policy.processes();
     let mut text = Vec::new(alloc);
     put_header(policy, &mut text)?;
-    write_entries(policy, book.as_slice(), &mut text, sink)?;
+    write_entries(policy, book, &mut text, sink)?;
     put_end(book.len(), &mut text)?;
     match send(&mut text, sink) {
         Ok(()) => Ok(()),
