@@ -7,7 +7,8 @@ ghost use Rattle.hall_core.specs.Settling.{nothing, place_at};
 
 use crate::settled::Settlements;
 use crate::tests::Doing::{Cast, Sum, Take, Trade};
-use crate::tests::{FRIENDS, Line, RIVALS, answers, at_a_hall};
+use crate::tests::{FRIENDS, Line, RIVALS, SUM_OF_FOUR, answers, at_a_hall, runs};
+use crate::worlds_tests::{AT_ONCE, Looked, both};
 use crate::{Hall, finish};
 use std::alloc::Global;
 use std::fs;
@@ -94,10 +95,18 @@ fn has_fit_room(hall: &Hall) -> bool {
     is_fit(hall.request_room(0)) && is_fit(hall.place_room(0))
 }
 
+/// Whether the book has room for no more than as many entries again, and a few.
+fn has_fit_book(hall: &Hall) -> bool {
+    hall.book().room() <= hall.book().len().saturating_add(16)
+}
+
 /// All rounds are posted before the first take, and the last request is taken first.
 fn takes_backwards(alloc: Global, hall: &mut Hall) -> Result<bool, NoMemory> {
     for _ in 0..ROUNDS {
         asks_all(alloc, hall, ROUND)?;
+        if !has_fit_book(hall) {
+            return Ok(false);
+        }
     }
     let all = keeps(hall, 200) && has_fit_room(hall);
     for after in 0..2 * ROUNDS {
@@ -264,4 +273,52 @@ fn memory_is_given_back(rt: HostRuntime) -> Result<(), Fail> {
         assert!(&rt; pages < 1024, "{pages} pages more");
     }
     Ok(())
+}
+
+/// Whether `run_calls` answers a sum of four as it should, in so many halls one after another.
+fn sums_often(alloc: Global, halls: u32) -> Result<bool, NoMemory> {
+    for _ in 0..halls {
+        if !runs(alloc, RIVALS, SUM_OF_FOUR)? {
+            return Ok(false);
+        }
+    }
+    Ok(true)
+}
+
+/// Whether `run_two` answers two such sums as it should, in so many pairs of halls.
+fn pairs_often(alloc: Global, pairs: u32) -> Result<bool, NoMemory> {
+    for _ in 0..pairs {
+        if !both(alloc, AT_ONCE, Looked::Replies)? {
+            return Ok(false);
+        }
+    }
+    Ok(true)
+}
+
+/// Fewer than 256 pages more are resident than before.
+fn expect_few_more<R: Files + AllocGlobal + Abort>(rt: &R, before: u64) -> Result<(), Fail> {
+    let after = resident_pages(rt)?;
+    assert!(rt;
+        after < before.saturating_add(256),
+        "{before} pages, then {after}"
+    );
+    Ok(())
+}
+
+/// Each of the halls lets go all that it has: its policy, what was posted and the book.
+#[test]
+fn halls_of_whole_runs_are_let_go(rt: HostRuntime) -> Result<(), Fail> {
+    assert!(&rt; sums_often(rt.alloc(), 64)?);
+    let before = resident_pages(&rt)?;
+    assert!(&rt; sums_often(rt.alloc(), 4096)?);
+    expect_few_more(&rt, before)
+}
+
+/// So does each of the two halls of a pair.
+#[test]
+fn halls_of_two_runs_are_let_go(rt: HostRuntime) -> Result<(), Fail> {
+    assert!(&rt; pairs_often(rt.alloc(), 64)?);
+    let before = resident_pages(&rt)?;
+    assert!(&rt; pairs_often(rt.alloc(), 4096)?);
+    expect_few_more(&rt, before)
 }

@@ -85,7 +85,7 @@ const BARRED: &[Line] = &[
 
 /// A sum of four is sanitised: all get it, and n0, which has had access to nothing, may then write
 /// as public.
-const SUM_OF_FOUR: &[Line] = &[
+pub(crate) const SUM_OF_FOUR: &[Line] = &[
     (0, Sum("alpha", &[5]), "posted 0"),
     (1, Sum("beta", &[6]), "posted 0"),
     (2, Sum("crude", &[7]), "posted 0"),
@@ -430,7 +430,7 @@ fn told_all(alloc: Global, policy: Policy, calls: Calls, lines: &[Line]) -> Resu
 
 /// Whether `run_calls` answers the lines' calls as they say. The text is a policy: it is read
 /// wherever memory was given.
-fn runs(alloc: Global, policy: &str, lines: &[Line]) -> Result<bool, NoMemory> {
+pub(crate) fn runs(alloc: Global, policy: &str, lines: &[Line]) -> Result<bool, NoMemory> {
     let Ok(policy) = read_policy(alloc, policy.as_bytes()) else {
         return Err(NoMemory);
     };

@@ -94,11 +94,11 @@ macro_rules! barred {
 }
 
 /// Two lists of lines.
-type Pair<'a> = (&'a [Line], &'a [Line]);
+pub(crate) type Pair<'a> = (&'a [Line], &'a [Line]);
 
 /// What is looked at in the replies of two runs.
 #[derive(Clone, Copy)]
-enum Looked {
+pub(crate) enum Looked {
     /// Each reply.
     Replies,
     /// How many there are. There may be none at all, for out of memory.
@@ -161,7 +161,7 @@ fn both_calls(alloc: Global, policy: &Policy, pair: Pair) -> Result<(Calls, Call
 }
 
 /// Whether `run_two` answers the lines' calls as they say.
-fn both(alloc: Global, pair: Pair, looked: Looked) -> Result<bool, NoMemory> {
+pub(crate) fn both(alloc: Global, pair: Pair, looked: Looked) -> Result<bool, NoMemory> {
     let Ok(policy) = read_policy(alloc, RIVALS.as_bytes()) else {
         return Err(NoMemory);
     };
@@ -195,7 +195,7 @@ const IN_GROUPS: &[Pair] = &[
 ];
 
 /// Lists of one line after the other from the first on.
-const AT_ONCE: Pair = (
+pub(crate) const AT_ONCE: Pair = (
     summed!(&[5], "delivered [19]"),
     summed!(&[6], "delivered [20]"),
 );
