@@ -37,7 +37,7 @@ cut_from : (ending : Ending) (fault : RunFault) → fault_of ending ≡ Some fau
     → ending ≡ Cut
 cut_from Whole fault e is = absurd (cc)
 cut_from Cut fault e is = refl
-cut_from NotBegun fault e is = absurd (cc)
+cut_from (NotBegun home) fault e is = absurd (cc)
 
 module _ (patience : ℕ) (wall : ChineseWall) (scripts : List (List Act)) (door : Doorway)
     (jobs : List Job) (ended : Ended) (p : ArePrepared wall scripts door jobs) where

@@ -18,6 +18,7 @@ use Rattle.hall_turn.specs.declared.answer.Answer.TheVariants.{Reply as Replied,
 use Rattle.hall_turn.specs.Runs.{calls_of}
 use Rattle.hall_turn.specs.Known.{Known}
 use Rattle.hall_turn.specs.Answers.{IsSamePass, Answered, NamesKnown}
+use Rattle.rank_stage.specs.declared.board.SentHome.{SentHome}
 use Rattle.rank_run.specs.declared.rank.Job.{Job}
 use Rattle.rank_run.specs.declared.rank.Ending.TheVariants.{Whole, Cut, NotBegun}
 use Rattle.rank_run.specs.declared.rank.Played.{Played}
@@ -193,7 +194,7 @@ come_whole patience job script played h is whole = record {
   whole = λ e. subst
       (λ s. Plays patience job.pass.process s played.replies.items (made played.pass)) is h.plays;
   cut = λ e. absurd (cc);
-  not_begun = λ e. absurd (cc);
+  not_begun = λ home e. absurd (cc);
   named = h.named;
 }
 
@@ -217,15 +218,15 @@ come_cut patience job script rest act answer now played h same performed is all 
           (tries patience * length job.script.items) few times;
       whole = λ e. absurd (cc);
       cut = λ e. s.long;
-      not_begun = λ e. absurd (cc);
+      not_begun = λ home e. absurd (cc);
       named = h.named;
     }
 
 -- the run was given up before the job began
 pub come_not_begun : (patience : ℕ) (job : Job) (played : Played) → job.pass.seen ≡ []
     → job.replies.items ≡ [] → played.pass ≡ job.pass → played.replies ≡ job.replies
-    → played.ending ≡ NotBegun → HasPlayed patience job played
-come_not_begun patience job played unseen none pass replies ending =
+    → (home : SentHome) → played.ending ≡ NotBegun home → HasPlayed patience job played
+come_not_begun patience job played unseen none pass replies home ending =
     let nothing : made played.pass ≡ [] =
     ap made pass ∙ ap (λ run. reverse (calls_of job.pass.process run)) unseen in record {
       same = (ap (λ (p : Known). p.door) pass, ap (λ (p : Known). p.process) pass);
@@ -233,7 +234,7 @@ come_not_begun patience job played unseen none pass replies ending =
           (sym nothing) (omega arith);
       whole = λ e. absurd (cc);
       cut = λ e. absurd (cc);
-      not_begun = λ e. (pass, replies);
+      not_begun = λ other e. (pass, replies);
       named = subst (All (IsKnownReply job.pass.door.policy))
           (sym (ap (λ (v : Vec Reply). v.items) replies ∙ none)) (λ k d lt. absurd (omega arith));
     }

@@ -1,10 +1,10 @@
 -- Jobs that are handed out and played.
 use Rattle.std.proofs.Common.{◌≡◌, ℕ, zero, suc, ◌+◌, ◌*◌, ◌^◌, ◌<◌, ◌≤◌}
-use Rattle.std.proofs.Common.{◌||◌, true, false, true≢false, if◌then◌else◌}
+use Rattle.std.proofs.Common.{Bool, ◌||◌, ◌&&◌, true, false, true≢false}
 use Rattle.std.proofs.Common.{List, [], ◌∷◌, ◌++◌, length, map, take, get_or, reverse, append_assoc}
 use Rattle.std.proofs.Common.{vec_items, vec_capacity, Global, refl, sym, ap, subst, subst₂}
 use Rattle.std.proofs.Common.{◌∙◌, arith}
-use Rattle.std.specs.List.{All, sum_by}
+use Rattle.std.specs.List.{All, sum_by, fold, list_all, list_any}
 use Rattle.std.proofs.Math.Nat.{mul-le-mul_left, mul-add}
 use Rattle.std.proofs.lemmas.List.{get_or-map, length-map, length-reverse, map-append}
 use Rattle.std.proofs.lemmas.List.Elements.{All-push}
@@ -28,11 +28,11 @@ use Rattle.rank_run.specs.declared.rank.Job.{Job}
 use Rattle.rank_run.specs.declared.rank.Ending.{Ending}
 use Rattle.rank_run.specs.declared.rank.Ending.TheVariants.{Whole, Cut, NotBegun}
 use Rattle.rank_run.specs.declared.rank.Played.{Played}
-use Rattle.rank_run.specs.declared.run.Playing.{Playing}
+use Rattle.rank_run.specs.declared.rank.Playing.{Playing}
 use Rattle.rank_run.specs.Waits.{tries}
 use Rattle.rank_run.specs.Plays.{Plays}
 use Rattle.rank_run.specs.Jobs.{made, IsFresh, HasPlayed, HaveRoom, AllPlayed}
-use Rattle.rank_run.specs.Jobs.{is_whole, is_cut, are_whole, has_cut, ending_of}
+use Rattle.rank_run.specs.Jobs.{joined, ending_of}
 use Rattle.rank_run.specs.Jobs.{handed, passes_of, scripts_of, passes_in, replies_in}
 use Rattle.rank_run.specs.Ran.{Ran, most_turns}
 use Rattle.rank_run.proofs.CountLemmas.{calls_below, calls_whole, sum_le, both_le}
@@ -99,15 +99,33 @@ pub record CutAt (all : List Played) : Type 0 where
   pub low : i < length all
   pub cut : (d : Played) → (get_or all i d).ending ≡ Cut
 
+abbrev is_whole : Ending → Bool
+is_whole Whole = true
+is_whole Cut = false
+is_whole (NotBegun home) = false
+
+abbrev is_cut : Ending → Bool
+is_cut Whole = false
+is_cut Cut = true
+is_cut (NotBegun home) = false
+
+-- whether each job was played to its end
+abbrev pub are_whole : List Played → Bool
+are_whole all = list_all (λ played. is_whole played.ending) all
+
+-- whether one of the jobs was cut
+abbrev pub has_cut : List Played → Bool
+has_cut all = list_any (λ played. is_cut played.ending) all
+
 cut_is : (ending : Ending) → is_cut ending ≡ true → ending ≡ Cut
 cut_is Whole e = absurd (true≢false (sym e))
 cut_is Cut e = refl
-cut_is NotBegun e = absurd (true≢false (sym e))
+cut_is (NotBegun home) e = absurd (true≢false (sym e))
 
 whole_is : (ending : Ending) → is_whole ending ≡ true → ending ≡ Whole
 whole_is Whole e = refl
 whole_is Cut e = absurd (true≢false (sym e))
-whole_is NotBegun e = absurd (true≢false (sym e))
+whole_is (NotBegun home) e = absurd (true≢false (sym e))
 
 cut_at : (all : List Played) → has_cut all ≡ true → CutAt all
 cut_at [] e = absurd (true≢false (sym e))
@@ -119,24 +137,52 @@ cut_at (x ∷ all) e =
           record { i = suc c.i; low = (let l = c.low in omega arith); cut = c.cut })
     ] refl e
 
+-- two endings are whole together if both are
+both_whole : (one other : Ending) → joined one other ≡ Whole → (one ≡ Whole) × (other ≡ Whole)
+both_whole Whole other e = (refl, e)
+both_whole Cut other e = absurd (cc)
+both_whole (NotBegun home) Whole e = absurd (cc)
+both_whole (NotBegun home) Cut e = absurd (cc)
+both_whole (NotBegun home) (NotBegun later) e = absurd (cc)
+
+-- and cut together if one is
+one_cut : (one other : Ending) → is_cut (joined one other) ≡ (is_cut one || is_cut other)
+one_cut Whole other = refl
+one_cut Cut other = refl
+one_cut (NotBegun home) Whole = refl
+one_cut (NotBegun home) Cut = refl
+one_cut (NotBegun home) (NotBegun later) = refl
+
+or_more : (a b c : Bool) → ((a || b) || c) ≡ (a || (b || c))
+or_more true b c = refl
+or_more false b c = refl
+
+-- the ending of all behind one more
+abbrev ending_from : Ending → List Played → Ending
+ending_from ending all = fold (λ (e : Ending) (x : Played). joined e x.ending) ending all
+
+wholes : (ending : Ending) (all : List Played) → ending_from ending all ≡ Whole
+    → (ending ≡ Whole) × (are_whole all ≡ true)
+wholes ending [] e = (e, refl)
+wholes ending (x ∷ all) e =
+    let rest = wholes (joined ending x.ending) all e in
+    let both = both_whole ending x.ending rest.0 in
+    (both.0, ap (λ (y : Ending). is_whole y && are_whole all) both.1 ∙ rest.1)
+
+cuts : (ending : Ending) (all : List Played) → ending_from ending all ≡ Cut
+    → (is_cut ending || has_cut all) ≡ true
+cuts ending [] e = ap (λ (y : Ending). is_cut y || false) e
+cuts ending (x ∷ all) e =
+    sym (or_more (is_cut ending) (is_cut x.ending) (has_cut all))
+    ∙ sym (ap (λ b. b || has_cut all) (one_cut ending x.ending))
+    ∙ cuts (joined ending x.ending) all e
+
 -- what the ending of all tells
 pub ends_whole : (all : List Played) → ending_of all ≡ Whole → are_whole all ≡ true
-ends_whole all e =
-    elim (are_whole all) as (λ b. ((if b then Whole else if has_cut all then Cut else NotBegun)
-    ≡ Whole) → b ≡ true) [
-      | true ↦ λ is. refl
-      | false ↦ λ is. (elim (has_cut all) as (λ c. ((if c then Cut else NotBegun) ≡ Whole)
-          → false ≡ true) [ true ↦ λ f. absurd (cc) | false ↦ λ f. absurd (cc) ] is)
-    ] e
+ends_whole all e = (wholes Whole all e).1
 
 pub ends_cut : (all : List Played) → ending_of all ≡ Cut → has_cut all ≡ true
-ends_cut all e =
-    elim (are_whole all) as (λ b. ((if b then Whole else if has_cut all then Cut else NotBegun)
-    ≡ Cut) → has_cut all ≡ true) [
-      | true ↦ λ is. absurd (cc)
-      | false ↦ λ is. (elim (has_cut all) as (λ c. ((if c then Cut else NotBegun) ≡ Cut)
-          → c ≡ true) [ true ↦ λ f. refl | false ↦ λ f. absurd (cc) ] is)
-    ] e
+ends_cut all e = cuts Whole all e
 
 pub whole_at : (all : List Played) (i : ℕ) (d : Played) → are_whole all ≡ true → i < length all
     → (get_or all i d).ending ≡ Whole

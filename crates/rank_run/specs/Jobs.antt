@@ -1,8 +1,8 @@
 -- What the thread of a process is given, and what it comes to. (Own rules.)
-use Rattle.std.specs.Prelude.{◌≡◌, ℕ, ◌*◌, ◌^◌, ◌<◌, ◌≤◌, Bool, true, false, if◌then◌else◌}
+use Rattle.std.specs.Prelude.{◌≡◌, ℕ, ◌*◌, ◌^◌, ◌<◌, ◌≤◌}
 use Rattle.std.specs.Prelude.{Option, Some, None, List, [], ◌++◌, length, map, reverse}
 use Rattle.std.specs.Prelude.{vec_capacity}
-use Rattle.std.specs.List.{All, AllZip, list_all, list_any}
+use Rattle.std.specs.List.{All, AllZip, fold}
 use Rattle.std.specs.Global.{Vec}
 use Rattle.std.specs.declared.thread.PromisedHandle.{PromisedHandle}
 use Rattle.run_model.specs.declared.call.Act.{Act}
@@ -18,11 +18,16 @@ use Rattle.run_model.specs.Comms.{processes}
 use Rattle.hall_turn.specs.Answers.{IsSamePass, new_passes}
 use Rattle.rank_run.specs.declared.fault.RunFault.{RunFault}
 use Rattle.rank_run.specs.declared.fault.RunFault.TheVariants.{Exhausted as OutOfTurns, NoThread}
+use Rattle.rank_run.specs.declared.fault.RunFault.TheVariants.{NoMemory}
+use Rattle.rank_run.specs.declared.fault.NotPlayed.{NotPlayed}
+use Rattle.rank_run.specs.declared.fault.NotPlayed.TheVariants.{Memory, Thread}
+use Rattle.rank_stage.specs.declared.board.SentHome.{SentHome}
 use Rattle.rank_run.specs.declared.rank.Job.{Job}
 use Rattle.rank_run.specs.declared.rank.Ending.{Ending}
 use Rattle.rank_run.specs.declared.rank.Ending.TheVariants.{Whole, Cut, NotBegun}
 use Rattle.rank_run.specs.declared.rank.Played.{Played}
-use Rattle.rank_run.specs.declared.run.Playing.{Playing}
+use Rattle.rank_run.specs.declared.rank.Playing.{Playing}
+use Rattle.rank_run.specs.declared.ready.Room.{Room}
 use Rattle.rank_run.specs.declared.run.Ended.{Ended}
 use Rattle.rank_run.specs.Waits.{tries}
 use Rattle.rank_run.specs.Plays.{Performs, Plays}
@@ -65,7 +70,7 @@ pub record HasPlayed (patience : ℕ) (job : Job) (played : Played) : Type 0 whe
   pub whole : played.ending ≡ Whole
       → Plays patience job.pass.process job.script.items played.replies.items (made played.pass)
   pub cut : played.ending ≡ Cut → 2 ^ 62 ≤ length played.pass.seen
-  pub not_begun : played.ending ≡ NotBegun
+  pub not_begun : (home : SentHome) → played.ending ≡ NotBegun home
       → (played.pass ≡ job.pass) × (played.replies ≡ job.replies)
   pub named : All (IsKnownReply job.pass.door.policy) played.replies.items
 
@@ -81,6 +86,13 @@ HasRoom job = (job.replies.items ≡ []) × (length job.script.items ≤ vec_cap
 
 abbrev pub HaveRoom : List Job → Type 0
 HaveRoom jobs = All HasRoom jobs
+
+-- there is room for what so many jobs come to
+pub record HasRoomFor (jobs : ℕ) (room : Room) : Type 0 where
+  pub passes : (room.passes.items ≡ []) × (jobs ≤ vec_capacity room.passes)
+  pub replies : (room.replies.items ≡ []) × (jobs ≤ vec_capacity room.replies)
+  pub ended : (room.ended.items ≡ []) × (jobs ≤ vec_capacity room.ended)
+  pub handles : (room.handles.items ≡ []) × (jobs ≤ vec_capacity room.handles)
 
 -- A door with the policy, and a job for each of its passes, with the scripts, in order.
 pub record ArePrepared (wall : ChineseWall) (scripts : List (List Act)) (door : Doorway)
@@ -100,33 +112,28 @@ passes_in all = map (λ played. played.pass) all
 abbrev pub replies_in : List Played → List (Vec Reply)
 replies_in all = map (λ played. played.replies) all
 
-abbrev pub is_whole : Ending → Bool
-is_whole Whole = true
-is_whole Cut = false
-is_whole NotBegun = false
-
-abbrev pub is_cut : Ending → Bool
-is_cut Whole = false
-is_cut Cut = true
-is_cut NotBegun = false
+-- how two scripts ended, taken together: whole if both did, else cut if one did
+abbrev pub joined : Ending → Ending → Ending
+joined Whole other = other
+joined Cut other = Cut
+joined (NotBegun home) Whole = NotBegun home
+joined (NotBegun home) Cut = Cut
+joined (NotBegun home) (NotBegun later) = NotBegun home
 
 -- what a run answers that ended so; none where all acts were played
 abbrev pub fault_of : Ending → Option RunFault
 fault_of Whole = None
 fault_of Cut = Some OutOfTurns
-fault_of NotBegun = Some NoThread
+fault_of (NotBegun home) = Some NoThread
 
--- whether each job was played to its end
-abbrev pub are_whole : List Played → Bool
-are_whole all = list_all (λ played. is_whole played.ending) all
-
--- whether one of the jobs was cut
-abbrev pub has_cut : List Played → Bool
-has_cut all = list_any (λ played. is_cut played.ending) all
-
--- how the jobs ended, taken together: whole if each did, else cut if one did
+-- how the jobs ended, taken together
 abbrev pub ending_of : List Played → Ending
-ending_of all = if are_whole all then Whole else if has_cut all then Cut else NotBegun
+ending_of all = fold (λ ending played. joined ending played.ending) Whole all
+
+-- what a run answers whose scripts were not played
+abbrev pub told_as : NotPlayed → RunFault
+told_as (Memory error) = NoMemory
+told_as (Thread refused) = NoThread
 
 -- what became of each job
 abbrev pub AllPlayed : (patience : ℕ) → List Job → List Played → Type 0
@@ -139,3 +146,10 @@ pub record HaveEnded (patience : ℕ) (jobs : List Job) (ended : Ended) : Type 0
   pub passes : ended.passes.items ≡ passes_in all
   pub replies : ended.replies.items ≡ replies_in all
   pub ending : ended.ending ≡ ending_of all
+
+-- The door of a run under the policy, and what became of these scripts there.
+pub record HavePlayed (patience : ℕ) (wall : ChineseWall) (scripts : List (List Act))
+    (door : Doorway) (ended : Ended) : Type 0 where
+  pub jobs : List Job
+  pub prepared : ArePrepared wall scripts door jobs
+  pub have_ended : HaveEnded patience jobs ended

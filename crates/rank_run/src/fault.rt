@@ -1,9 +1,8 @@
 //! Why scripts were not run to their ends.
 ghost use Rattle.std.specs.Prelude.{◌≡◌};
 
-use hall_core::NoMemory;
+use crate::ready::MemoryRefused;
 use rank_stage::GivenUp;
-use std::alloc::AllocError;
 use thiserror::Error;
 
 /// Why scripts were not run, or not to their ends.
@@ -24,36 +23,42 @@ pub enum RunFault {
     NoMemory,
 }
 
-impl From<AllocError> for RunFault {
-    ghost use Rattle.rank_run.specs.declared.fault.RunFault.TheVariants.{NoMemory};
-
-    ghost from_gives = { λ error result. result ≡ NoMemory };
-
-    fn from(_error: AllocError) -> RunFault {
-        RunFault::NoMemory
-    }
-}
-
-impl From<NoMemory> for RunFault {
-    ghost use Rattle.rank_run.specs.declared.fault.RunFault.TheVariants.{NoMemory};
-
-    ghost from_gives = { λ error result. result ≡ NoMemory };
-
-    fn from(_error: NoMemory) -> RunFault {
-        RunFault::NoMemory
-    }
-}
-
 /// A thread was refused, and the stage was given up, so that those which had started go home.
 #[derive(Drop)]
 pub(crate) struct ThreadRefused(pub(crate) GivenUp);
 
-impl From<ThreadRefused> for RunFault {
-    ghost use Rattle.rank_run.specs.declared.fault.RunFault.TheVariants.{NoThread};
+/// Why scripts were not played, with what tells so: neither can be told as the other, since what
+/// is told is made only where it happens.
+#[derive(Drop)]
+pub(crate) enum NotPlayed {
+    Memory(MemoryRefused),
+    Thread(ThreadRefused),
+}
 
-    ghost from_gives = { λ error result. result ≡ NoThread };
+impl From<MemoryRefused> for NotPlayed {
+    fn from(error: MemoryRefused) -> NotPlayed {
+        NotPlayed::Memory(error)
+    }
+}
 
-    fn from(_error: ThreadRefused) -> RunFault {
-        RunFault::NoThread
+impl From<ThreadRefused> for NotPlayed {
+    fn from(error: ThreadRefused) -> NotPlayed {
+        NotPlayed::Thread(error)
+    }
+}
+
+impl From<NotPlayed> for RunFault {
+    ghost use Rattle.std.specs.Prelude.{◌≢◌};
+    ghost use Rattle.rank_run.specs.declared.fault.RunFault.TheVariants.{BadScripts, Exhausted};
+    ghost use Rattle.rank_run.specs.Jobs.{told_as};
+
+    ghost from_gives = { λ error result.
+        (result ≡ told_as error) × (result ≢ BadScripts) × (result ≢ Exhausted) };
+
+    fn from(error: NotPlayed) -> RunFault {
+        match error {
+            NotPlayed::Memory(_) => RunFault::NoMemory,
+            NotPlayed::Thread(_) => RunFault::NoThread,
+        }
     }
 }

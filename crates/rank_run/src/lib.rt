@@ -1,14 +1,16 @@
 //! Ranks: one thread for each process, each running its script at a door.
 //!
 //! A take in a script is tried again while its answer is Pending ([`wait`]). [`run_ranks`] runs all
-//! scripts at the same time, and gives the replies of each process and the hall at the end. A rank
-//! that waits for others sleeps; what it is delivered it works out beside the others' calls.
+//! scripts at the same time, and gives the replies of each process and the hall at the end. Under a
+//! gate that holds nobody a rank that waits for others sleeps; a large delivery it works out beside
+//! the others' calls.
 #![tactic(auto)]
 
 mod fault;
 mod gate;
 mod part;
 mod rank;
+mod ready;
 mod replies;
 mod requests;
 mod rows;

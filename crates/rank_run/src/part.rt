@@ -8,7 +8,7 @@ use crate::requests::Requests;
 use crate::waiting::Pause;
 use hall_core::{Claim, Reply};
 use mpi_elems::Buffer;
-use rank_stage::{Aside, Role, Stage};
+use rank_stage::{Aside, Role, SentHome, Stage};
 use std::sync::Wait;
 
 /// What the ranks of a run share, beside the door.
@@ -57,18 +57,19 @@ fn is_large(claim: &Claim) -> bool
 }
 
 impl<'r, G: Gate> Part<'r, G> {
-    /// It begins, as soon as it may. None if the run was given up: then it makes no call.
+    /// It begins, as soon as it may, or is sent home: then it makes no call.
     pub(crate) fn begin<R: Wait>(
         rt: &R,
         gate: &'r G,
         stage: &'r Stage,
         process: u32,
         requests: Requests,
-    ) -> Option<Part<'r, G>> {
-        let Some(role) = stage.begin(rt, process as usize) else {
-            return None;
+    ) -> Result<Part<'r, G>, SentHome> {
+        let role = match stage.begin(rt, process as usize) {
+            Ok(role) => role,
+            Err(home) => return Err(home),
         };
-        Some(Part {
+        Ok(Part {
             gate,
             stage,
             role,

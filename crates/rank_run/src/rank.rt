@@ -3,7 +3,7 @@ ghost use Rattle.std.specs.Prelude.{◌≡◌};
 ghost use Rattle.run_model.specs.Known.{HasKnownLabel};
 ghost use Rattle.hall_turn.specs.Answers.{IsSamePass, NamesKnown};
 ghost use Rattle.rank_run.specs.declared.waiting.TheConstants.{PATIENCE};
-ghost use Rattle.rank_run.specs.Jobs.{Performed, IsFresh, HasPlayed, is_whole, is_cut, fault_of};
+ghost use Rattle.rank_run.specs.Jobs.{Performed, IsFresh, HasPlayed, joined, fault_of};
 
 use crate::fault::RunFault;
 use crate::gate::Gate;
@@ -12,8 +12,10 @@ use crate::requests::{Requests, comm_of};
 use crate::waiting::{PATIENCE, wait_with};
 use hall_core::{Act, Reply};
 use hall_turn::{Answer, Door, Pass};
-use rank_stage::Stage;
+use rank_stage::{SentHome, Stage};
+use std::snapshot::Snapshot;
 use std::sync::Wait;
+use std::thread::Promise;
 
 /// What a thread is given: the pass of its process, its script, and room for its replies and
 /// requests.
@@ -32,26 +34,21 @@ pub(crate) enum Ending {
     Whole,
     /// The door was exhausted at an act.
     Cut,
-    /// The run was given up before it began, and no call was made.
-    NotBegun,
+    /// It was sent home before it began, and no call was made.
+    NotBegun(SentHome),
 }
 
 impl Ending {
-    pub(crate) fn is_whole(&self) -> bool
-        ensures { result ≡ is_whole self.now }
+    /// How two scripts ended, taken together.
+    pub(crate) fn joined(self, other: Ending) -> Ending
+        ensures { result ≡ joined self other }
     {
-        match self {
-            Ending::Whole => true,
-            Ending::Cut | Ending::NotBegun => false,
-        }
-    }
-
-    pub(crate) fn is_cut(&self) -> bool
-        ensures { result ≡ is_cut self.now }
-    {
-        match self {
-            Ending::Cut => true,
-            Ending::Whole | Ending::NotBegun => false,
+        match (self, other) {
+            (Ending::Whole, other) => other,
+            (Ending::Cut, _) => Ending::Cut,
+            (Ending::NotBegun(_), Ending::Cut) => Ending::Cut,
+            (Ending::NotBegun(home), Ending::Whole) => Ending::NotBegun(home),
+            (Ending::NotBegun(home), Ending::NotBegun(_)) => Ending::NotBegun(home),
         }
     }
 
@@ -62,7 +59,7 @@ impl Ending {
         match self {
             Ending::Whole => None,
             Ending::Cut => Some(RunFault::Exhausted),
-            Ending::NotBegun => Some(RunFault::NoThread),
+            Ending::NotBegun(_) => Some(RunFault::NoThread),
         }
     }
 }
@@ -74,6 +71,17 @@ pub(crate) struct Played {
     /// The replies to the acts of the script, in order.
     pub(crate) replies: Vec<Reply>,
     pub(crate) ending: Ending,
+}
+
+/// The thread of a job plays it.
+#[derive(Drop)]
+pub(crate) struct Playing(pub(crate) Snapshot<Job>);
+
+impl Promise<Played> for Playing {
+    ghost use Rattle.rank_run.specs.declared.waiting.TheConstants.{PATIENCE};
+    ghost use Rattle.rank_run.specs.Jobs.{HasPlayed};
+
+    ghost kept_by = { λ p r. HasPlayed PATIENCE p.0.value r };
 }
 
 // One act of a script.
@@ -138,13 +146,16 @@ pub(crate) fn play<R: Wait, G: Gate>(
         mut replies,
         requests,
     } = job;
-    let Some(mut part) = Part::begin(rt, gate, stage, pass.process(), requests) else {
-        let ending = Ending::NotBegun;
-        return Played {
-            pass,
-            replies,
-            ending,
-        };
+    let mut part = match Part::begin(rt, gate, stage, pass.process(), requests) {
+        Ok(part) => part,
+        Err(home) => {
+            let ending = Ending::NotBegun(home);
+            return Played {
+                pass,
+                replies,
+                ending,
+            };
+        }
     };
     for act in script {
         part.number = replies.len() as u64;

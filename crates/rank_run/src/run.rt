@@ -5,9 +5,9 @@ ghost use Rattle.std.specs.List.{All};
 ghost use Rattle.run_model.specs.Comms.{processes};
 ghost use Rattle.rank_run.specs.declared.fault.RunFault.TheVariants.{BadScripts, Exhausted};
 ghost use Rattle.rank_run.specs.declared.waiting.TheConstants.{PATIENCE};
-ghost use Rattle.rank_run.specs.Jobs.{IsFresh, HasPlayed, HaveRoom, AllPlayed, HaveEnded, handed};
-ghost use Rattle.rank_run.specs.Jobs.{passes_of, scripts_of, passes_in, replies_in};
-ghost use Rattle.rank_run.specs.Jobs.{are_whole, has_cut, ending_of, fault_of, ArePrepared};
+ghost use Rattle.rank_run.specs.Jobs.{IsFresh, HasPlayed, AllPlayed, HaveEnded, handed};
+ghost use Rattle.rank_run.specs.Jobs.{passes_in, replies_in, ending_of, fault_of};
+ghost use Rattle.rank_run.specs.Jobs.{HasRoomFor, HavePlayed};
 ghost use Rattle.hall_core.specs.Halls.{HallValue};
 ghost use Rattle.hall_turn.specs.Ending.{Closed};
 ghost use Rattle.rank_run.specs.declared.rank.Ending.TheVariants.{Whole};
@@ -15,22 +15,21 @@ ghost use Rattle.rank_run.specs.Ran.{Ran, MayRunOut};
 ghost use Rattle.rank_run.specs.Waits.{script_patience};
 ghost use Rattle.run_model.specs.Known.{ScriptsHaveKnownLabels};
 
-use crate::fault::{RunFault, ThreadRefused};
+use crate::fault::{NotPlayed, RunFault, ThreadRefused};
 use crate::gate::Gate;
 use crate::part::Setting;
-use crate::rank::{Ending, Job, Played, play};
+use crate::rank::{Ending, Job, Played, Playing, play};
+use crate::ready::{Ready, Room, prepare};
 use crate::replies::RunReplies;
-use crate::requests::Requests;
-use hall_core::{Hall, NoMemory, Reply};
+use hall_core::{Hall, Reply};
 use hall_turn::{Door, Passes};
-use mpi_comm::COMMUNICATOR_LIMIT;
 use rank_stage::{Begun, Stage};
-use run_model::{Acts, Scripts};
+use run_model::Scripts;
 use std::alloc::Global;
 use std::snapshot::Snapshot;
 use std::sync::Wait;
 use std::thread;
-use std::thread::{Promise, PromisedHandle, Threads};
+use std::thread::{PromisedHandle, Threads};
 use wall_policy::Policy;
 
 /// What scripts came to.
@@ -40,17 +39,6 @@ pub struct Run {
     pub replies: RunReplies,
     /// The hall after all calls.
     pub hall: Hall,
-}
-
-// The thread of a job plays it.
-#[derive(Drop)]
-struct Playing(Snapshot<Job>);
-
-impl Promise<Played> for Playing {
-    ghost use Rattle.rank_run.specs.declared.waiting.TheConstants.{PATIENCE};
-    ghost use Rattle.rank_run.specs.Jobs.{HasPlayed};
-
-    ghost kept_by = { λ p r. HasPlayed PATIENCE p.0.value r };
 }
 
 // What the threads gave back that were told to begin. Who has it did tell them.
@@ -69,32 +57,6 @@ struct Ended {
     ending: Ending,
 }
 
-// A pass, a script and room for replies and requests for each process.
-fn share_out(alloc: Global, passes: Passes, scripts: Vec<Acts>) -> Result<Vec<Job>, NoMemory>
-    requires { vec_len passes ≡ vec_len scripts }
-    ensures passes { IfOk result (λ jobs. passes_of jobs.items ≡ passes.items) }
-    ensures scripts { IfOk result (λ jobs. scripts_of jobs.items ≡ scripts.items) }
-    ensures room { IfOk result (λ jobs. HaveRoom jobs.items) }
-{
-    let mut jobs = Vec::with_capacity(alloc, passes.len())?;
-    let mut passes = passes.into_iter();
-    for acts in scripts {
-        let Some(pass) = passes.next() else {
-            unreachable!()
-        };
-        let script = acts.into_vec();
-        let replies = Vec::with_capacity(alloc, script.len())?;
-        let requests = Requests::new(alloc, &script)?;
-        jobs.push_reserved(Job {
-            pass,
-            script,
-            replies,
-            requests,
-        });
-    }
-    Ok(jobs)
-}
-
 // Joins all threads, and keeps what they gave.
 fn join_all<R: Threads>(
     rt: &R,
@@ -111,29 +73,15 @@ fn join_all<R: Threads>(
     ended
 }
 
-fn are_whole(ended: &[Played]) -> bool
-    ensures { result ≡ are_whole ended.now }
-{
-    ended.iter().all(|played| played.ending.is_whole())
-}
-
-fn has_cut(ended: &[Played]) -> bool
-    ensures { result ≡ has_cut ended.now }
-{
-    ended.iter().any(|played| played.ending.is_cut())
-}
-
-// Whole if all scripts were played to their ends; else cut if one was.
+// How the scripts ended, taken together: whole if each did, else cut if one did.
 fn ending_of(ended: &[Played]) -> Ending
     ensures { result ≡ ending_of ended.now }
 {
-    if are_whole(ended) {
-        Ending::Whole
-    } else if has_cut(ended) {
-        Ending::Cut
-    } else {
-        Ending::NotBegun
+    let mut ending = Ending::Whole;
+    for played in ended {
+        ending = ending.joined(played.ending);
     }
+    ending
 }
 
 // The passes and the replies, and how the scripts ended.
@@ -232,48 +180,31 @@ fn run_each<R: Threads + Wait + Sync, G: Gate + Sync>(
     )
 }
 
-// All jobs at the same time.
+// All jobs at the same time, in the room that was made for them. It takes no memory.
 fn run_jobs<R: Threads + Wait + Sync, G: Gate + Sync>(
     rt: &R,
-    alloc: Global,
     door: &Door,
     jobs: Vec<Job>,
     gate: &G,
-) -> Result<Ended, RunFault>
-    requires { All (IsFresh door.now) jobs.items }
-    ensures ended { IfOk result (HaveEnded PATIENCE jobs.items) }
-    ensures fault { IfErr result (λ fault. (fault ≢ BadScripts) × (fault ≢ Exhausted)) }
+    room: Room,
+) -> Result<Ended, ThreadRefused>
+    requires fresh { All (IsFresh door.now) jobs.items }
+    requires room { HasRoomFor (vec_len jobs) room }
+    ensures { IfOk result (HaveEnded PATIENCE jobs.items) }
 {
-    let count = jobs.len();
-    let passes = Vec::with_capacity(alloc, count)?;
-    let replies = Vec::with_capacity(alloc, count)?;
-    let ended = Vec::with_capacity(alloc, count)?;
-    let handles = Vec::with_capacity(alloc, count)?;
-    let communicators = COMMUNICATOR_LIMIT as usize;
-    let stage = Stage::new(alloc, count, communicators, gate.holds())?;
+    let Room {
+        stage,
+        passes,
+        replies,
+        ended,
+        handles,
+    } = room;
     let setting = Setting {
         gate,
         stage: &stage,
     };
     let Home { begun: _, played } = run_each(rt, door, jobs, &setting, handles, ended)?;
     Ok(sort_out(played, passes, replies))
-}
-
-// A door, and a job for each process there.
-fn prepare(alloc: Global, policy: Policy, scripts: Scripts) -> Result<(Door, Vec<Job>), NoMemory>
-    requires { length scripts ≡ processes policy }
-    ensures { IfOk result
-        (λ prepared. ArePrepared policy scripts prepared.0 prepared.1.items) }
-{
-    // What is wide is handed to `drop` on each way out, which takes it apart in one call.
-    let Ok((door, passes)) = Door::open(alloc, policy) else {
-        return Err(NoMemory);
-    };
-    let Ok(jobs) = share_out(alloc, passes, scripts.into_vec()) else {
-        drop(door);
-        return Err(NoMemory);
-    };
-    Ok((door, jobs))
 }
 
 // Closes the door. How the scripts ended, taken together, says what comes of them.
@@ -307,7 +238,25 @@ fn close_up(door: Door, ended: Ended) -> Result<Run, RunFault>
     })
 }
 
-// The scripts are as many as the processes.
+// All scripts at a new door, which is given back with what became of them.
+fn play_all<R: Threads + Wait + Sync, G: Gate + Sync>(
+    rt: &R,
+    alloc: Global,
+    policy: Policy,
+    scripts: Scripts,
+    gate: &G,
+) -> Result<(Door, Ended), NotPlayed>
+    requires labels { ScriptsHaveKnownLabels policy scripts }
+    requires long { length scripts ≡ processes policy }
+    ensures { IfOk result (λ played. HavePlayed PATIENCE policy scripts played.0 played.1) }
+{
+    let ready = prepare(alloc, policy, scripts, gate.holds())?;
+    let Ready { door, jobs, room } = ready;
+    let ended = run_jobs(rt, &door, jobs, gate, room)?;
+    Ok((door, ended))
+}
+
+// The scripts are as many as the processes. Here alone what was refused becomes a fault.
 fn run_all<R: Threads + Wait + Sync, G: Gate + Sync>(
     rt: &R,
     alloc: Global,
@@ -321,8 +270,7 @@ fn run_all<R: Threads + Wait + Sync, G: Gate + Sync>(
     ensures fault { IfErr result (λ fault. fault ≢ BadScripts) }
     ensures exhausted { IfErr result (λ fault. fault ≡ Exhausted → MayRunOut PATIENCE scripts) }
 {
-    let (door, jobs) = prepare(alloc, policy, scripts)?;
-    let ended = run_jobs(rt, alloc, &door, jobs, gate)?;
+    let (door, ended) = play_all(rt, alloc, policy, scripts, gate)?;
     close_up(door, ended)
 }
 

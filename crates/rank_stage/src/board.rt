@@ -13,8 +13,10 @@ ghost use Rattle.rank_stage.specs.Boards.{HasWoken, IsLastAwake, OthersStay, Ope
 ghost use Rattle.rank_stage.specs.Boards.{IsNextInLine, HasBeenWoken, MayBegin};
 ghost use Rattle.rank_stage.specs.declared.board.Start.TheVariants.{Awaited, InTurn, AtOnce};
 ghost use Rattle.rank_stage.specs.declared.board.Start.TheVariants.{GivenUp};
-ghost use Rattle.rank_stage.specs.declared.board.Entry.TheVariants.{Begins, GoesHome, WaitsOn};
+ghost use Rattle.rank_stage.specs.declared.board.Entry.TheVariants.{Begins, WaitsOn, GoesHome};
+ghost use Rattle.rank_stage.specs.declared.board.Entry.TheVariants.{IsNoRank};
 ghost use Rattle.rank_stage.specs.declared.board.Role.{Role};
+ghost use Rattle.rank_stage.specs.declared.board.SentHome.{SentHome};
 
 use std::alloc::{AllocError, Global};
 use std::thread::Parker;
@@ -515,11 +517,19 @@ impl Role {
     }
 }
 
+/// A rank that does not begin: the run was given up, or has no such rank. Only the board makes one,
+/// so who has it knows that the board said so.
+#[derive(Clone, Copy)]
+pub struct SentHome(());
+
 /// What a rank does that waits for the start.
 pub(crate) enum Entry {
     Begins(Role),
     WaitsOn,
-    GoesHome,
+    /// The run was given up.
+    GoesHome(SentHome),
+    /// The board has no such rank.
+    IsNoRank(SentHome),
 }
 
 /// What came of a rank that would sleep.
@@ -595,13 +605,19 @@ impl Standing {
             (role.rank ≡ rank) × MayBegin self.now.start self.now.board rank }
         ensures waits { result ≡ WaitsOn →
             (self.now.start ≢ GivenUp) × (MayBegin self.now.start self.now.board rank → ⊥) }
-        ensures home { result ≡ GoesHome → self.now.start ≡ GivenUp }
+        ensures stands { result ≡ WaitsOn → rank < length self.now.board.places.items }
+        ensures home { (home : SentHome) → result ≡ GoesHome home → self.now.start ≡ GivenUp }
+        ensures no_rank { (home : SentHome) → result ≡ IsNoRank home →
+            length self.now.board.places.items ≤ rank }
     {
+        if rank >= self.board.places.len() {
+            return Entry::IsNoRank(SentHome(()));
+        }
         let begins = match self.start {
             Start::Awaited => false,
             Start::InTurn => self.board.plays(rank),
             Start::AtOnce => true,
-            Start::GivenUp => return Entry::GoesHome,
+            Start::GivenUp => return Entry::GoesHome(SentHome(())),
         };
         if begins {
             Entry::Begins(Role { rank })

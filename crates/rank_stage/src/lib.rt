@@ -6,5 +6,5 @@
 mod board;
 mod stage;
 
-pub use board::{Instance, Role};
+pub use board::{Instance, Role, SentHome};
 pub use stage::{Aside, Begun, GivenUp, Stage};

@@ -16,9 +16,10 @@
 //!   before its poster raises the count; that poster is awake until it has. The counts beside the
 //!   board are raised after the lock: who reads them too early asks the board.
 //! - Whoever changes the board gets a `Call`, which cannot be let go by itself: what opens it rings
-//!   the bell of the rank that has come to play. A bell is std's parker and nothing beside it, so
-//!   there is no order to keep: one that is rung before its rank waits for it stays rung, and the
-//!   wait ends by taking that.
+//!   the bell of the rank that has come to play. Where all begin at once, or the run is given up, it
+//!   is a `CallAll`, and what opens that rings each bell. Who steps back calls nobody, and is told
+//!   whether it plays. A bell is std's parker and nothing beside it, so there is no order to keep:
+//!   one that is rung before its rank waits for it stays rung, and the wait takes that and ends.
 //! - A rank that wakes asks the board whether it plays, and waits on if it does not. It plays there
 //!   before its bell is rung, so it may be woken too often, and nothing is lost.
 //! - A rank that has begun has a `Role`, and one that has stepped aside an `Aside`: neither can be
@@ -40,12 +41,12 @@
 //! - To begin, the first to play is called, and the others are called by those before them; where
 //!   all play, or the run is given up, each bell is rung, whether its rank has a thread or not. Who
 //!   writes that on the board gets a call for it, so no bell is rung before it stands there. A rank
-//!   that wakes asks the board whether it begins (a `Role` comes from there), goes home or waits
-//!   on.
+//!   that wakes asks the board whether it begins, goes home or waits on: a `Role` comes from there,
+//!   and so does a `SentHome`.
 
-ghost use Rattle.std.specs.Prelude.{◌≡◌, IfOk, IfErr, IfSome, true, false};
+ghost use Rattle.std.specs.Prelude.{◌≡◌, IfOk, IfErr, true, false};
 
-use crate::board::{Entry, Instance, Rest, Role, Standing};
+use crate::board::{Entry, Instance, Rest, Role, SentHome, Standing};
 use std::alloc::{AllocError, Global};
 use std::sync::atomic::{AtomicU64, Ordering};
 use std::sync::{Mutex, MutexGuard, Wait};
@@ -166,17 +167,19 @@ impl Stage {
         }
     }
 
-    /// The rank begins, as soon as it may. None if the run was given up, or has no such rank.
-    pub fn begin<R: Wait>(&self, rt: &R, rank: usize) -> Option<Role>
-        ensures { IfSome result (λ role. role.rank ≡ rank) }
+    /// The rank begins, as soon as it may. It goes home if the run was given up, or has no such
+    /// rank. Either comes from the board: where a wait for the bell ends too early, it waits on.
+    pub fn begin<R: Wait>(&self, rt: &R, rank: usize) -> Result<Role, SentHome>
+        ensures { IfOk result (λ role. role.rank ≡ rank) }
     {
-        let bell = self.bells.get(rank)?;
         for _ in rt.forever() {
-            bell.park(rt);
+            if let Some(bell) = self.bells.get(rank) {
+                bell.park(rt);
+            }
             match self.standing.lock(rt).enter(rank) {
-                Entry::Begins(role) => return Some(role),
+                Entry::Begins(role) => return Ok(role),
                 Entry::WaitsOn => {}
-                Entry::GoesHome => return None,
+                Entry::GoesHome(home) | Entry::IsNoRank(home) => return Err(home),
             }
         }
         unreachable!()

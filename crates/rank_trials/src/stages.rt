@@ -77,7 +77,7 @@ impl Sight {
 
     /// It begins. One that goes home is seen: it does not end.
     fn begin<R: Wait>(&self, rt: &R, stage: &Stage, rank: usize) -> Option<Role> {
-        let Some(role) = stage.begin(rt, rank) else {
+        let Ok(role) = stage.begin(rt, rank) else {
             return None;
         };
         self.enter();
@@ -195,8 +195,8 @@ fn play<R: Wait>(rt: &R, stage: &Stage, sight: &Sight, rank: usize, plan: Plan) 
 /// A rank that begins all the same is seen: it ends, and is not home.
 fn go_home<R: Wait>(rt: &R, stage: &Stage, sight: &Sight, rank: usize) {
     match stage.begin(rt, rank) {
-        Some(role) => sight.end(rt, stage, role),
-        None => {
+        Ok(role) => sight.end(rt, stage, role),
+        Err(_home) => {
             add_one(&sight.home);
         }
     }
@@ -299,7 +299,7 @@ fn ranks_that_wait_in_vain_are_told_so(rt: HostRuntime) -> Result<(), Fail> {
 /// No rank begins where the run is given up, whether one plays at a time or all.
 #[test]
 fn ranks_go_home_where_a_run_is_given_up(rt: HostRuntime) -> Result<(), Fail> {
-    for (ranks, open) in [(1, false), (1, true), (64, false), (64, true)] {
+    for (ranks, open) in [(1, false), (1, true), (256, false), (256, true)] {
         let stage = Stage::new(rt.alloc(), ranks as usize, COMMS as usize, open)?;
         let sight = new_sight(ranks);
         play_all(&rt, &stage, &sight, Plan::GoHome);
@@ -307,9 +307,24 @@ fn ranks_go_home_where_a_run_is_given_up(rt: HostRuntime) -> Result<(), Fail> {
     Ok(())
 }
 
+/// A rank that there is not goes home at once, whether one plays at a time or all.
+#[test]
+fn a_rank_that_there_is_not_goes_home(rt: HostRuntime) -> Result<(), Fail> {
+    for open in [false, true] {
+        let stage = Stage::new(rt.alloc(), 2, 1, open)?;
+        let sight = new_sight(2);
+        go_home(&rt, &stage, &sight, 2);
+        stands(&rt, &sight.home, 1);
+        assert!(&rt; stage.release(&rt, true).is_ok());
+        go_home(&rt, &stage, &sight, usize::MAX);
+        stands(&rt, &sight.home, 2);
+    }
+    Ok(())
+}
+
 /// The ranks of an open stage begin at its start, and each goes on while another has not ended.
 fn play_open<R: Wait>(rt: &R, stage: &Stage, sight: &Sight, rank: usize) {
-    let Some(role) = stage.begin(rt, rank) else {
+    let Ok(role) = stage.begin(rt, rank) else {
         return;
     };
     add_one(&sight.begun);
@@ -331,7 +346,7 @@ fn play_open<R: Wait>(rt: &R, stage: &Stage, sight: &Sight, rank: usize) {
 /// On an open stage all play, and nobody sleeps.
 #[test]
 fn all_ranks_play_on_an_open_stage(rt: HostRuntime) -> Result<(), Fail> {
-    for ranks in [1, 2, 64] {
+    for ranks in [1, 2, 256] {
         let stage = Stage::new(rt.alloc(), ranks as usize, 1, true)?;
         let sight = new_sight(ranks);
         play_all_open(&rt, &stage, &sight);
@@ -355,52 +370,104 @@ fn play_all_open<R: Threads + Wait + Sync + Abort>(rt: &R, stage: &Stage, sight:
     stands(rt, &sight.wrong, 0);
 }
 
-/// Rank 0 steps aside until rank 1 has ended, so rank 1 plays meanwhile.
-fn step_aside_for_another<R: Wait>(rt: &R, stage: &Stage, sight: &Sight) {
+/// What the others do while rank 0 has stepped aside.
+#[derive(Clone, Copy)]
+enum Meanwhile {
+    /// They begin and end.
+    Play,
+    /// They sleep, so nobody plays, until rank 0, which is still aside, settles their instance.
+    Sleep,
+}
+
+/// It sleeps until the instance settles, as all of these do in the end.
+fn await_settled<R: Wait>(rt: &R, stage: &Stage, sight: &Sight, role: &Role, it: Instance) {
+    sight.leave();
+    sight.expect(stage.sleep(rt, role, it));
+    sight.enter();
+}
+
+/// A count comes to a number. That it does not is seen, after too many looks.
+fn look_for(sight: &Sight, count: &AtomicU64, wanted: u64) {
+    for _ in 0..LOOKS {
+        if count.load(Ordering::SeqCst) >= wanted {
+            return;
+        }
+        thread::yield_now();
+    }
+    sight.expect(false);
+}
+
+/// Rank 0 steps aside until all others have ended, so they play meanwhile.
+fn step_aside_for_others<R: Wait>(rt: &R, stage: &Stage, sight: &Sight, meanwhile: Meanwhile) {
     let Some(role) = sight.begin(rt, stage, 0) else {
         return;
     };
     sight.leave();
     let aside = stage.step_aside(rt, &role);
-    for _ in 0..LOOKS {
-        if sight.ended.load(Ordering::SeqCst) == 1 {
-            break;
+    match meanwhile {
+        Meanwhile::Play => {}
+        Meanwhile::Sleep => {
+            look_for(sight, &sight.begun, sight.ranks);
+            linger();
+            stage.settle(rt, 0);
         }
-        thread::yield_now();
     }
-    sight.expect(sight.ended.load(Ordering::SeqCst) == 1);
+    look_for(sight, &sight.ended, sight.ranks.saturating_sub(1));
     stage.step_back(rt, aside);
     sight.enter();
     sight.end(rt, stage, role);
 }
 
-fn begin_and_end<R: Wait>(rt: &R, stage: &Stage, sight: &Sight) {
-    if let Some(role) = sight.begin(rt, stage, 1) {
-        sight.end(rt, stage, role);
+fn play_meanwhile<R: Wait>(
+    rt: &R,
+    stage: &Stage,
+    sight: &Sight,
+    rank: usize,
+    meanwhile: Meanwhile,
+) {
+    let Some(role) = sight.begin(rt, stage, rank) else {
+        return;
+    };
+    let it = Instance { comm: 0, number: 0 };
+    match meanwhile {
+        Meanwhile::Play => {}
+        Meanwhile::Sleep => await_settled(rt, stage, sight, &role, it),
     }
+    sight.end(rt, stage, role);
 }
 
-fn aside<R: Threads + Wait + Sync + Abort>(rt: &R, stage: &Stage, sight: &Sight) {
+fn aside<R: Threads + Wait + Sync + Abort>(
+    rt: &R,
+    stage: &Stage,
+    sight: &Sight,
+    meanwhile: Meanwhile,
+) {
     thread::scope(thread::scope_env(), rt, |scope| {
         let first = scope
-            .spawn(move || step_aside_for_another(rt, stage, sight))
+            .spawn(move || step_aside_for_others(rt, stage, sight, meanwhile))
             .is_err();
-        let second = scope
-            .spawn(move || begin_and_end(rt, stage, sight))
-            .is_err();
-        assert!(rt; !first && !second);
+        assert!(rt; !first);
+        for rank in 1..sight.ranks as usize {
+            let refused = scope
+                .spawn(move || play_meanwhile(rt, stage, sight, rank, meanwhile))
+                .is_err();
+            assert!(rt; !refused);
+        }
         assert!(rt; stage.release(rt, true).is_ok());
-        await_count(rt, &sight.ended, 2);
+        await_count(rt, &sight.ended, sight.ranks);
     });
     stands(rt, &sight.wrong, 0);
 }
 
-/// Another plays while a rank has stepped aside.
+/// Others play while a rank has stepped aside, and it calls them where it settles what they sleep
+/// for: they have ended before it steps back.
 #[test]
 fn a_rank_that_steps_aside_makes_room(rt: HostRuntime) -> Result<(), Fail> {
-    let stage = Stage::new(rt.alloc(), 2, 1, false)?;
-    let sight = new_sight(2);
-    aside(&rt, &stage, &sight);
+    for (ranks, meanwhile) in [(2, Meanwhile::Play), (3, Meanwhile::Sleep)] {
+        let stage = Stage::new(rt.alloc(), ranks as usize, 1, false)?;
+        let sight = new_sight(ranks);
+        aside(&rt, &stage, &sight, meanwhile);
+    }
     Ok(())
 }
 
@@ -425,13 +492,6 @@ impl Late {
     }
 }
 
-/// It sleeps until the instance settles, as all of these do in the end.
-fn await_settled<R: Wait>(rt: &R, stage: &Stage, sight: &Sight, role: &Role, it: Instance) {
-    sight.leave();
-    sight.expect(stage.sleep(rt, role, it));
-    sight.enter();
-}
-
 /// One rank keeps its place for a second, and then settles what the others may wait for.
 fn play_late<R: Wait + Clock>(rt: &R, stage: &Stage, sight: &Sight, rank: usize, late: Late) {
     let Some(role) = sight.begin(rt, stage, rank) else {
@@ -451,26 +511,6 @@ fn play_late<R: Wait + Clock>(rt: &R, stage: &Stage, sight: &Sight, rank: usize,
     sight.end(rt, stage, role);
 }
 
-/// All wait for one rank. Nobody looks at their counts meanwhile, which would take time.
-fn play_all_late<R: Threads + Wait + Clock + Sync + Abort>(
-    rt: &R,
-    stage: &Stage,
-    sight: &Sight,
-    late: Late,
-) {
-    thread::scope(thread::scope_env(), rt, |scope| {
-        for rank in 0..sight.ranks as usize {
-            let refused = scope
-                .spawn(move || play_late(rt, stage, sight, rank, late))
-                .is_err();
-            assert!(rt; !refused);
-        }
-        assert!(rt; stage.release(rt, true).is_ok());
-    });
-    stands(rt, &sight.ended, sight.ranks);
-    stands(rt, &sight.wrong, 0);
-}
-
 /// Ranks that wait take no processor, whether to begin, for an instance or to come back: 31 wait
 /// for a second, and all together use less than half a second of processor time.
 #[test]
@@ -483,7 +523,7 @@ fn ranks_that_wait_take_no_processor(rt: HostRuntime) -> Result<(), Fail> {
         let before = rt.process_cpu_time()?;
         let stage = Stage::new(rt.alloc(), 32, 1, false)?;
         let sight = new_sight(32);
-        play_all_late(&rt, &stage, &sight, late);
+        play_unseen(&rt, &stage, &sight, Unseen::Late(late));
         drop(sight);
         drop(stage);
         let used = rt.process_cpu_time()?.saturating_sub(before).as_millis();
@@ -549,16 +589,39 @@ fn play_beside<R: Wait + Clock + CpuClock>(rt: &R, stage: &Stage, sight: &Sight,
     sight.end(rt, stage, role);
 }
 
-/// A thread for each rank.
-fn play_all_beside<R: Threads + Wait + Clock + CpuClock + Sync + Abort>(
+/// What the ranks do while nobody looks at their counts, which would take time.
+#[derive(Clone, Copy)]
+enum Unseen {
+    /// All wait for one rank.
+    Late(Late),
+    /// All but two sleep, while those take turns.
+    Beside,
+}
+
+fn play_one_unseen<R: Wait + Clock + CpuClock>(
     rt: &R,
     stage: &Stage,
     sight: &Sight,
+    rank: usize,
+    unseen: Unseen,
+) {
+    match unseen {
+        Unseen::Late(late) => play_late(rt, stage, sight, rank, late),
+        Unseen::Beside => play_beside(rt, stage, sight, rank),
+    }
+}
+
+/// A thread for each rank.
+fn play_unseen<R: Threads + Wait + Clock + CpuClock + Sync + Abort>(
+    rt: &R,
+    stage: &Stage,
+    sight: &Sight,
+    unseen: Unseen,
 ) {
     thread::scope(thread::scope_env(), rt, |scope| {
         for rank in 0..sight.ranks as usize {
             let refused = scope
-                .spawn(move || play_beside(rt, stage, sight, rank))
+                .spawn(move || play_one_unseen(rt, stage, sight, rank, unseen))
                 .is_err();
             assert!(rt; !refused);
         }
@@ -574,7 +637,7 @@ fn play_all_beside<R: Threads + Wait + Clock + CpuClock + Sync + Abort>(
 fn only_who_is_called_wakes(rt: HostRuntime) -> Result<(), Fail> {
     let stage = Stage::new(rt.alloc(), 64, COMMS as usize, false)?;
     let sight = new_sight(64);
-    play_all_beside(&rt, &stage, &sight);
+    play_unseen(&rt, &stage, &sight, Unseen::Beside);
     let used = sight.micros.load(Ordering::SeqCst);
     assert!(&rt;
         used < SLEEP_MICROS,

@@ -24,7 +24,7 @@ loop-act-init g c =
 pub loop-act-preserved : goal.loop-act-preserved
 loop-act-preserved g c =
     let i = c.loop-act.invariant in
-    let act = c.in-Some-act.act in
+    let act = c.in-Some.act in
     let done = c.loop-act.yielded in
     let push = c.push_reserved.ensures in
     let p = c.play_act in
@@ -32,7 +32,7 @@ loop-act-preserved g c =
     let count = i.count in
     record {
       whole = append_assoc done (act ∷ []) (into_iter_items c.next.new.self)
-          ∙ ap (λ l. done ++ l) (sym c.in-Some-act.ensures.steps.0) ∙ i.whole;
+          ∙ ap (λ l. done ++ l) (sym c.in-Some.ensures.steps.0) ∙ i.whole;
       come =
           come_more PATIENCE c.args.job done c.loop-act.replies.items c.push_reserved.new.self.items
           act p.result c.in-Reply.reply c.loop-act.pass p.new.pass i.come

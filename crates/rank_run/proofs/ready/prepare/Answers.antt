@@ -1,0 +1,15 @@
+use Rattle.std.proofs.Common.{ap, arith, List, length}
+use Rattle.run_model.specs.Comms.{processes}
+use Rattle.run_model.specs.declared.call.Act.{Act}
+use Rattle.hall_turn.proofs.HallTurnLemmas.{passes_length}
+use Rattle.rank_run.proofs.ready.prepare.Goals as goal
+
+pub share_out-requires : goal.share_out-requires
+share_out-requires c =
+    let n = processes c.args.policy in
+    let o = c.in-Ok.passes.ok in
+    let p = c.into_vec.result.ok in
+    let a = passes_length c.in-Ok.door n c.in-Ok.passes.items c.in-Ok.ensures.passes in
+    let e = ap (λ (l : List (List Act)). length l) c.into_vec.ensures in
+    let long = c.requires in
+    omega arith
