@@ -1,10 +1,10 @@
 -- Scripts that are answered line by line.
 use Rattle.std.proofs.Common.{◌≡◌, ℕ, ◌+◌, List, [], ◌∷◌, ◌++◌, Option, Some, None, Result, Ok, Err}
-use Rattle.std.proofs.Common.{refl, sym, ap, ◌∙◌, subst, append_assoc}
+use Rattle.std.proofs.Common.{inl, inr, refl, sym, ap, ◌∙◌, subst, append_assoc}
 use Rattle.std.specs.Prelude.{IfOk, IfErr}
 use Rattle.std.proofs.lemmas.List.{append-nil}
 use Rattle.std.specs.Io.KnownBytes.{Appends}
-use Rattle.wall_labels.specs.Known.{AppendsFront, AreLeft}
+use Rattle.wall_labels.specs.Known.{AppendsFront}
 use Rattle.wall_labels.proofs.WallLabelsLemmas.{Appends-then}
 use Rattle.wall_policy.specs.Policy.{ChineseWall}
 use Rattle.run_model.specs.declared.call.Call.{Call}
@@ -19,10 +19,11 @@ use Rattle.hall_script.specs.Devices.{Used, bytes_before, bytes_after, IsUntouch
 use Rattle.hall_script.specs.Devices.{FailedOnce, IsRead}
 use Rattle.hall_script.specs.Replies.{reply_line}
 use Rattle.hall_script.specs.Scripts.{Script, with_line, line_call, script_from, script_of}
-use Rattle.hall_script.specs.Scripts.{calls_in, reply_lines, Answers, Stops, IsReplayed, StopsWith}
-use Rattle.hall_script.specs.Scripts.{script_limit}
-use Rattle.hall_script.specs.Answering.{AnswersLine, FailsLine, line_fault, Told, SoFar, no_more}
-use Rattle.hall_script.specs.Answering.{fault_at, Ends, Finishes, HasFinished, HasStopped}
+use Rattle.hall_script.specs.Scripts.{calls_in, reply_lines, Answers, Stops, StopsAtCall}
+use Rattle.hall_script.specs.Scripts.{IsReplayed, StopsWith, script_limit}
+use Rattle.hall_script.specs.Answering.{IsCall, AnswersLine, FailsLine, line_fault, behind, Told}
+use Rattle.hall_script.specs.Answering.{SoFar, no_more, fault_at, Ends, Finishes, HasFinished}
+use Rattle.hall_script.specs.Answering.{HasStopped}
 
 module _ (wall : ChineseWall) (before now : Option (List ℕ)) (text : List ℕ) (whole rest : Script)
     (run : List Entry) (told : Told wall before now text whole rest run) where
@@ -59,11 +60,6 @@ module _ (wall : ChineseWall) (before now : Option (List ℕ)) (text : List ℕ)
     );
   }
 
-  -- all is written, and no more comes
-  pub told-stops : (later : Option (List ℕ)) → Appends now later text →
-      Stops wall before later whole.calls
-  told-stops later h = told-breaks later (text, [], append-nil text, h)
-
 -- the calls of a run, where nothing is left behind them
 pub told-answers : (wall : ChineseWall) (before now later : Option (List ℕ)) (text : List ℕ)
     (whole : Script) (f : Option (ℕ × LineFault)) (run : List Entry) →
@@ -78,6 +74,21 @@ told-answers wall before now later text whole f run told h = (
   },
   sym (ap (λ (s : Script). s.fault) told.left),
 )
+
+-- all is written, and memory ran out at a call
+pub told-short : (wall : ChineseWall) (before now later : Option (List ℕ)) (text : List ℕ)
+    (whole rest : Script) (call : Call) (run : List Entry) →
+    Told wall before now text whole (behind (call ∷ []) rest) run
+    → Appends now later text → StopsAtCall wall before later whole.calls
+told-short wall before now later text whole rest call run told h = record {
+  run = run;
+  call = call;
+  rest = rest.calls;
+  legal = told.legal;
+  first = ap (λ (s : Script). s.calls) told.left;
+  written =
+      told-written wall before now text whole (behind (call ∷ []) rest) run told later h;
+}
 
 module _ {M : Type 0} (stands : M → List Entry → Type 0) (wall : ChineseWall) where
   pub begins : (machine : M) (before : Option (List ℕ)) (text : List ℕ) (whole : Script) →
@@ -177,11 +188,17 @@ module _ {M : Type 0} (stands : M → List Entry → Type 0) (wall : ChineseWall
       )
 
   no_memory : (machine : M) (before now : Option (List ℕ)) (text after : List ℕ)
-      (whole rest : Script) (run : List Entry)
-      → Told wall before now text whole rest run → after ≡ text →
+      (whole rest : Script) (n : ℕ) (said : Result (Option Call) LineFault) (run : List Entry)
+      → Told wall before now text whole (with_line n said rest) run → IsCall said → after ≡ text →
       Ends {X = Unit {0}} stands wall machine before now after whole (Err NoMemory)
-  no_memory machine before now text later whole rest run told k =
-      (rest, run, subst (λ (u : List ℕ). Told wall before now u whole rest run) (sym k) told)
+  no_memory machine before now text later whole rest n (Ok (Some call)) run told is k = (
+    call,
+    rest,
+    run,
+    subst (λ (u : List ℕ). Told wall before now u whole (behind (call ∷ []) rest) run) (sym k) told,
+  )
+  no_memory machine before now text later whole rest n (Ok None) run told is k = absurd is
+  no_memory machine before now text later whole rest n (Err f) run told is k = absurd is
 
   fails : (old new : M) (before now : Option (List ℕ)) (text after : List ℕ) (whole rest : Script)
       (n : ℕ) (said : Result (Option Call) LineFault) (f : LineFault) (run : List Entry)
@@ -189,7 +206,7 @@ module _ {M : Type 0} (stands : M → List Entry → Type 0) (wall : ChineseWall
       FailsLine old new text after said f →
       Ends {X = Unit {0}} stands wall new before now after whole (Err (line_fault n f))
   fails old new before now text later whole rest n said faults.NoMemory run t a =
-      no_memory new before now text later whole (with_line n said rest) run t a
+      no_memory new before now text later whole rest n said run t a.0 a.1
   fails old new before now text later whole rest n said faults.BadVerb run t a =
       at_fault new before now text later whole rest n said faults.BadVerb run t a.0 a.2
   fails old new before now text later whole rest n said faults.BadShape run t a =
@@ -265,7 +282,7 @@ module _ {M : Type 0} (stands : M → List Entry → Type 0) (wall : ChineseWall
       let a = told-answers wall before now later text whole (Some (n, f)) e.0 e.1 h in
       (e.0, a.0, a.1)
   written_out machine before now later text whole (Err NoMemory) other e h =
-      told-stops wall before now text whole e.0 e.1 e.2 later h
+      told-short wall before now later text whole e.1 e.0 e.2 e.3 h
   written_out machine before now later text whole (Err Write) other e h = absurd (other refl)
   written_out machine before now later text whole (Err Read) other e h = absurd e
 
@@ -279,7 +296,7 @@ module _ {M : Type 0} (stands : M → List Entry → Type 0) (wall : ChineseWall
   broken_off machine before now later text whole (Err (Line n g)) other e f =
       told-breaks wall before now text whole (fault_at n g) e.0 e.1 later f
   broken_off machine before now later text whole (Err NoMemory) other e f =
-      told-breaks wall before now text whole e.0 e.1 e.2 later f
+      told-breaks wall before now text whole (behind (e.0 ∷ []) e.1) e.2 e.3 later f
   broken_off machine before now later text whole (Err Write) other e f = absurd (other refl)
   broken_off machine before now later text whole (Err Read) other e f = absurd e
 
@@ -293,30 +310,11 @@ module _ {M : Type 0} (stands : M → List Entry → Type 0) (wall : ChineseWall
 
 -- ---- a script that was not begun
 
-some_left : (left : Option (List ℕ)) → (script : List ℕ) × AreLeft left script
-some_left None = ([], tt)
-some_left (Some bytes) = (bytes, refl)
-
-stops_first : (wall : ChineseWall) (w : Option (List ℕ)) (calls : List Call) → Stops wall w w calls
-stops_first wall w calls = record
-    { run = []; rest = calls; legal = tt; first = refl; written = ([], [], refl, Appends-none w) }
-
 -- memory ran out before the first line
 pub short_of_memory : {R W : Type 0} (wall : ChineseWall) (source : Used R) (sink : Used W) →
     NeverFailed source → IsUntouched sink
     → StopsWith wall source sink NoMemory
-short_of_memory wall source sink went same =
-    let s = some_left (bytes_before source) in (
-      s.0,
-      went,
-      ap sink.failures same,
-      (
-        s.1,
-        subst (λ w. Stops wall (bytes_before sink) (sink.bytes w)
-            (script_of wall.dataset_names s.0).calls) (sym same)
-            (stops_first wall (bytes_before sink) (script_of wall.dataset_names s.0).calls),
-      ),
-    )
+short_of_memory wall source sink went same = inl (went, same)
 
 -- ---- a script that was read
 
@@ -366,9 +364,9 @@ module _ {R W M : Type 0} (stands : M → List Entry → Type 0) (policy : Chine
   stopped_so script Read read went broke h = absurd h
   stopped_so script (Line n e) read went broke h =
       (script, read, (h.0, went (line_is_no_write n e), h.1, h.2))
-  stopped_so script Write read went broke h = (script, read, broke refl, (read.1, h))
+  stopped_so script Write read went broke h = (script, read, broke refl, h)
   stopped_so script NoMemory read went broke h =
-      (script, read.0, went memory_is_no_write, (read.1, h))
+      inr (script, read, went memory_is_no_write, h)
 
   pub answered : (wall : ChineseWall) (script bytes : List ℕ) → wall ≡ policy → bytes ≡ script →
       IsRead source script_limit script → NeverFailed sink

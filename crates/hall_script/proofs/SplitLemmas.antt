@@ -18,7 +18,7 @@ use Rattle.run_model.specs.declared.call.Call.{Call}
 use Rattle.hall_script.specs.Scripts.{Script, with_line, line_call, of_member, member_call}
 use Rattle.hall_script.specs.Scripts.{script_from, acts_of, AreActs, IsSplit}
 use Rattle.hall_script.specs.Splitting.{with_act, with_said, with_line_of, SplitSoFar}
-use Rattle.hall_script.specs.Answering.{line_fault}
+use Rattle.hall_script.specs.Answering.{IsCall, line_fault}
 
 -- ---- processes of the policy
 
@@ -45,6 +45,17 @@ pub member_is_low : (wall : ChineseWall) (line : List ℕ) (call : Call) →
     member_call wall line ≡ Ok (Some call) → call.process < length wall.process_names
 unfolding member_call
 member_is_low wall line call e = low_in wall (line_call wall.dataset_names line) call e
+
+call_in : (wall : ChineseWall) (said : Result (Option Call) LineFault) (call : Call) →
+    (said >>= λ s. of_member wall s) ≡ Ok (Some call) → IsCall said
+call_in wall (Ok (Some c)) call e = tt
+call_in wall (Ok None) call e = absurd cc
+call_in wall (Err f) call e = absurd cc
+
+pub member_is_call : (wall : ChineseWall) (line : List ℕ) (call : Call) →
+    member_call wall line ≡ Ok (Some call) → IsCall (line_call wall.dataset_names line)
+unfolding member_call
+member_is_call wall line call e = call_in wall (line_call wall.dataset_names line) call e
 
 -- ---- acts so far
 

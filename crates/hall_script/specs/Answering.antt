@@ -11,7 +11,7 @@ use Rattle.coll_text.specs.declared.fault.LineFault.TheVariants as lines
 use Rattle.hall_script.specs.declared.fault.ScriptFault.{ScriptFault}
 use Rattle.hall_script.specs.declared.fault.ScriptFault.TheVariants.{Read, Line, Write, NoMemory}
 use Rattle.hall_script.specs.Replies.{reply_line}
-use Rattle.hall_script.specs.Scripts.{Script, calls_in, reply_lines, Answers, Stops}
+use Rattle.hall_script.specs.Scripts.{Script, calls_in, reply_lines, Answers, Stops, StopsAtCall}
 
 -- a call with its reply carries a machine from each run that it stands for to that run with this
 -- entry
@@ -27,10 +27,16 @@ abbrev pub AnswersCall : {M : Type 0} → (M → List Entry → Type 0) → Chin
 AnswersCall stands wall old new before after call = (reply : Reply)
     × Carries stands wall old new call reply × (after ≡ before ++ reply_line wall reply)
 
--- the fault of a line: nothing was done
+-- the line says a call
+abbrev pub IsCall : Result (Option Call) LineFault → Type 0
+IsCall (Ok (Some call)) = Unit {0}
+IsCall (Ok None) = ⊥
+IsCall (Err fault) = ⊥
+
+-- the fault of a line: nothing was done, and memory runs out only at a call
 abbrev pub FailsLine : {M : Type 0} → M → M → (before after : List ℕ) →
     Result (Option Call) LineFault → LineFault → Type 0
-FailsLine old new before after said lines.NoMemory = after ≡ before
+FailsLine old new before after said lines.NoMemory = IsCall said × (after ≡ before)
 FailsLine old new before after said fault = (said ≡ Err fault) × (new ≡ old) × (after ≡ before)
 
 -- what was done with a line that says this
@@ -85,7 +91,8 @@ Ends stands wall machine before now text whole (Ok x) =
 Ends stands wall machine before now text whole (Err (Line n fault)) =
     (run : List Entry) × Told wall before now text whole (fault_at n fault) run
 Ends stands wall machine before now text whole (Err NoMemory) =
-    (rest : Script) × (run : List Entry) × Told wall before now text whole rest run
+    (call : Call) × (rest : Script) × (run : List Entry)
+    × Told wall before now text whole (behind (call ∷ []) rest) run
 Ends stands wall machine before now text whole (Err Write) = Stops wall before now whole.calls
 Ends stands wall machine before now text whole (Err Read) = ⊥
 
@@ -99,7 +106,7 @@ Finishes stands wall machine before after script (Err (Line n fault)) =
     × (script.fault ≡ Some (n, fault))
 Finishes stands wall machine before after script (Err Write) = Stops wall before after script.calls
 Finishes stands wall machine before after script (Err NoMemory) =
-    Stops wall before after script.calls
+    StopsAtCall wall before after script.calls
 Finishes stands wall machine before after script (Err Read) = ⊥
 
 -- a machine that has answered the whole script, by a writer with so many failures before and after

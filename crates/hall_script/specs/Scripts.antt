@@ -1,9 +1,9 @@
 -- What a script says, and what becomes of it. (Own format.)
-use Rattle.std.specs.Prelude.{◌≡◌, ℕ, ◌+◌, ◌-◌, ◌<◌, nat_lt, Bool, true, ◌==◌, List, [], ◌∷◌, ◌++◌}
-use Rattle.std.specs.Prelude.{length, take, slice_index, slice_get, Option, Some, None, Result, Ok}
-use Rattle.std.specs.Prelude.{Err, if◌then◌else◌}
+use Rattle.std.specs.Prelude.{◌≡◌, ◌⊎◌, ℕ, ◌+◌, ◌-◌, ◌<◌, nat_lt, Bool, true, ◌==◌, List, [], ◌∷◌}
+use Rattle.std.specs.Prelude.{◌++◌, length, take, slice_index, slice_get, Option, Some, None}
+use Rattle.std.specs.Prelude.{Result, Ok, Err, if◌then◌else◌}
 use Rattle.std.specs.Io.KnownBytes.{Appends}
-use Rattle.wall_labels.specs.Known.{AppendsFront, AreLeft}
+use Rattle.wall_labels.specs.Known.{AppendsFront}
 use Rattle.wall_policy.specs.Policy.{ChineseWall}
 use Rattle.run_model.specs.declared.call.Act.{Act}
 use Rattle.run_model.specs.declared.call.Call.{Call}
@@ -92,6 +92,16 @@ pub record Stops (wall : ChineseWall) (before after : Option (List ℕ))
   pub first : calls_in run ++ rest ≡ calls
   pub written : AppendsFront before after (reply_lines wall run)
 
+-- some legal run answers the calls before one of them, and the lines of its replies were written
+pub record StopsAtCall (wall : ChineseWall) (before after : Option (List ℕ))
+    (calls : List Call) : Type 0 where
+  pub run : List Entry
+  pub call : Call
+  pub rest : List Call
+  pub legal : Legal wall run
+  pub first : calls_in run ++ call ∷ rest ≡ calls
+  pub written : Appends before after (reply_lines wall run)
+
 -- The script was read and has no bad line. This legal run answers its calls, and the lines of its
 -- replies were written.
 pub record IsReplayed {R W : Type 0} (wall : ChineseWall)
@@ -110,11 +120,13 @@ StopsAtLine wall sink script n fault =
     × Answers wall (bytes_before sink) (bytes_after sink) script.calls run
     × (script.fault ≡ Some (n, fault))
 
--- a legal run answers the first calls of what the reader had to give
-abbrev pub StopsWithin : {R W : Type 0} → ChineseWall → Used R → Used W → List ℕ → Type 0
-StopsWithin wall source sink script =
-    AreLeft (bytes_before source) script
-    × Stops wall (bytes_before sink) (bytes_after sink) (script_of wall.dataset_names script).calls
+-- memory ran out: before the first line, and nothing was written; or at a line that is a call
+abbrev pub StopsShort : {R W : Type 0} → ChineseWall → Used R → Used W → Type 0
+StopsShort wall source sink =
+    (NeverFailed source × IsUntouched sink)
+    ⊎ ((script : List ℕ) × IsRead source script_limit script × NeverFailed sink
+    × StopsAtCall wall (bytes_before sink) (bytes_after sink)
+    (script_of wall.dataset_names script).calls)
 
 -- what a replay leaves that ended with this fault
 abbrev pub StopsWith : {R W : Type 0} → ChineseWall → Used R → Used W → ScriptFault → Type 0
@@ -123,11 +135,9 @@ StopsWith wall source sink (Line n fault) =
     (script : List ℕ) × IsRead source script_limit script
     × StopsAtLine wall sink (script_of wall.dataset_names script) n fault
 StopsWith wall source sink Write =
-    (script : List ℕ) × IsRead source script_limit script
-    × FailedOnce sink × StopsWithin wall source sink script
-StopsWith wall source sink NoMemory =
-    (script : List ℕ) × NeverFailed source
-    × NeverFailed sink × StopsWithin wall source sink script
+    (script : List ℕ) × IsRead source script_limit script × FailedOnce sink
+    × Stops wall (bytes_before sink) (bytes_after sink) (script_of wall.dataset_names script).calls
+StopsWith wall source sink NoMemory = StopsShort wall source sink
 
 -- ---- the acts of each process
 

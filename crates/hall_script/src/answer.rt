@@ -4,8 +4,8 @@ ghost use Rattle.std.specs.Prelude.{OnErr, Err};
 ghost use Rattle.run_model.specs.Known.{HasKnownLabel};
 ghost use Rattle.coll_text.specs.Reading.{Gives};
 ghost use Rattle.hall_script.specs.Scripts.{trimmed, is_skipped, line_call, script_of};
-ghost use Rattle.hall_script.specs.Answering.{AnswersCall, AnswersLine, line_fault, Ends, Finishes};
-ghost use Rattle.hall_script.specs.Answering.{HasFinished, HasStopped};
+ghost use Rattle.hall_script.specs.Answering.{IsCall, AnswersCall, AnswersLine, line_fault, Ends};
+ghost use Rattle.hall_script.specs.Answering.{Finishes, HasFinished, HasStopped};
 
 use crate::fault::ScriptFault;
 use crate::line::read_call;
@@ -44,6 +44,8 @@ pub(crate) fn read_line(
 ) -> Result<Option<Call>, LineFault>
     ensures call { Gives result (line_call policy.now.dataset_names line.now) }
     ensures known { IfOk result (λ said. IfSome said (λ call. HasKnownLabel policy.now call.act)) }
+    ensures sound { result ≡ Err LineFault.NoMemory →
+        IsCall (line_call policy.now.dataset_names line.now) }
 {
     let line = trim(line);
     if is_comment(line) {

@@ -17,7 +17,8 @@ pub enum ScriptFault {
     /// The writer failed. A prefix of the lines of the replies is written.
     #[error("write fault")]
     Write,
-    /// Memory ran out. A prefix of the lines of a replay's replies is written.
+    /// Memory ran out. In a replay that was before the first line, or at a line that is a call; the
+    /// lines of the replies before it are written.
     #[error("out of memory")]
     NoMemory,
 }

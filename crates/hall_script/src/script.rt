@@ -35,8 +35,8 @@ impl Machine for Hall {
 /// Reads the whole script, and then reads, applies and answers it line by line.
 ///
 /// Lines end at LF, and one CR before it is dropped; the last may lack its end. An empty line, and
-/// one that begins with `#`, is skipped but counted. A line's out of memory is the fault
-/// `NoMemory`.
+/// one that begins with `#`, is skipped but counted. Out of memory is the fault `NoMemory`; at a
+/// line it comes only where that line is a call.
 pub fn replay<R: Source, W: Sink>(
     alloc: Global,
     policy: Policy,

@@ -1,8 +1,9 @@
 //! Splits a script by processes.
-ghost use Rattle.std.specs.Prelude.{◌≡◌, ◌<◌, [], length, replicate, IfOk, IfSome, OnOk};
+ghost use Rattle.std.specs.Prelude.{◌≡◌, ◌<◌, [], length, replicate, IfOk, IfSome, OnOk, Err};
 ghost use Rattle.coll_text.specs.Reading.{Gives, Leaves};
 ghost use Rattle.run_model.specs.Known.{HasKnownLabel, ScriptsHaveKnownLabels};
-ghost use Rattle.hall_script.specs.Scripts.{member_call, members_script, IsSplit};
+ghost use Rattle.hall_script.specs.Scripts.{line_call, member_call, members_script, IsSplit};
+ghost use Rattle.hall_script.specs.Answering.{IsCall};
 ghost use Rattle.hall_script.specs.Splitting.{with_act, with_line_of};
 
 use crate::answer::{fault_of, read_line};
@@ -30,6 +31,8 @@ fn read_member(alloc: Global, policy: &Policy, line: &[u8]) -> Result<Option<Cal
     ensures known { IfOk result (λ said. IfSome said (λ call. HasKnownLabel policy.now call.act)) }
     ensures member { IfOk result
         (λ said. IfSome said (λ call. call.process < length policy.now.process_names)) }
+    ensures sound { result ≡ Err LineFault.NoMemory →
+        IsCall (line_call policy.now.dataset_names line.now) }
 {
     match read_line(alloc, policy, line)? {
         None => Ok(None),
@@ -64,6 +67,8 @@ fn put_line(
     ensures count { OnOk result (length rows.new.items ≡ length rows.old.items) }
     ensures known { OnOk result (ScriptsHaveKnownLabels policy.now rows.old.items →
         ScriptsHaveKnownLabels policy.now rows.new.items) }
+    ensures sound { result ≡ Err LineFault.NoMemory →
+        IsCall (line_call policy.now.dataset_names line.now) }
 {
     match read_member(alloc, policy, line)? {
         None => Ok(()),
@@ -80,7 +85,7 @@ fn put_line(
 /// Lines are read as `replay` reads them. The first line that is no call, or is one of a process
 /// that the policy lacks, is `Line` with its number and its fault, `BadField` for the latter; a
 /// line's own fault comes first. Where a growth was refused the answer may be `NoMemory`, whatever
-/// it would have been; the other faults never come.
+/// it would have been; `Read` and `Write` never come.
 pub fn split_script(alloc: Global, policy: &Policy, script: &[u8]) -> Result<Scripts, ScriptFault>
     ensures split { IsSplit policy.now (members_script policy.now script.now) result }
     ensures known { IfOk result (ScriptsHaveKnownLabels policy.now) }
