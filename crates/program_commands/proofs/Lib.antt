@@ -1,3 +1,4 @@
 pub mod KnownLemmas
 pub mod RankLemmas
 pub mod ProgramCommandsLemmas
+pub mod AuditLemmas

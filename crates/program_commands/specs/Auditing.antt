@@ -1,5 +1,5 @@
 -- How an audit ends.
-use Rattle.std.specs.Prelude.{◌≡◌, ℕ, ◌⊎◌, List, length, codes, Ok, Err}
+use Rattle.std.specs.Prelude.{◌≡◌, ℕ, ◌⊎◌, List, length, codes, Ok, Err, IsOk}
 use Rattle.wall_policy.specs.Policy.{ChineseWall}
 use Rattle.run_model.specs.declared.entry.Entry.{Entry}
 use Rattle.run_model.specs.Books.{IsSound, IsFirstBad}
@@ -45,6 +45,13 @@ IsNoBook wall book CutBook = IsNoText wall book texts.Cut
 IsNoBook wall book ReadFault = IsUnreadable book book_limit
 IsNoBook wall book NoMemory = NeverFailed book
 IsNoBook wall book ending = ⊥
+
+-- what came of a text that gave no book: its fault; or memory ran out, in place of a book
+abbrev pub GivesNoBook : ChineseWall → (text : List ℕ) → Ending → Type 0
+GivesNoBook wall text (BadBookLine n) = book_in wall text ≡ Err (texts.BadLine n)
+GivesNoBook wall text CutBook = book_in wall text ≡ Err texts.Cut
+GivesNoBook wall text NoMemory = IsOk (book_in wall text)
+GivesNoBook wall text ending = ⊥
 
 -- What is found of a book of these entries: it is sound, keeps the wall, and this is their number;
 -- or this is the number of the first bad one.

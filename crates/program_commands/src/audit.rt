@@ -1,9 +1,10 @@
 //! Audits a book under a policy, over any devices.
-ghost use Rattle.std.specs.Prelude.{◌≡◌, IfOk, IfErr, OnOk, OnErr};
+ghost use Rattle.std.specs.Prelude.{◌≡◌, Ok, IfOk, IfErr, OnOk, OnErr};
+ghost use Rattle.audit_book.specs.Reading.{book_in};
 ghost use Rattle.hall_script.specs.Devices.{used, IsWritten, BrokeOff};
 ghost use Rattle.program_commands.specs.Endings.{EndsSo};
 ghost use Rattle.program_commands.specs.Auditing.{text_ending, finding_ending, finding_line};
-ghost use Rattle.program_commands.specs.Auditing.{IsBookOf};
+ghost use Rattle.program_commands.specs.Auditing.{IsBookOf, GivesNoBook};
 ghost use Rattle.program_commands.specs.Auditing.{IsNoBook, IsFound, Announces, Audits, AuditEnds};
 
 use crate::ending::{Ending, end, write_numbered};
@@ -44,6 +45,17 @@ fn finding_ending(finding: Finding) -> Ending
     }
 }
 
+// Reads the text of a book. Out of memory comes only in place of a book.
+fn book_of(alloc: Global, wall: &Policy, text: &[u8]) -> Result<Book, Ending>
+    ensures book { IfOk result (λ book. book_in wall.now text.now ≡ Ok book.list) }
+    ensures ending { IfErr result (GivesNoBook wall.now text.now) }
+{
+    match read_book(alloc, wall, text) {
+        Ok(book) => Ok(book),
+        Err(fault) => Err(text_ending(fault)),
+    }
+}
+
 // Reads a book whole.
 fn read_entries<B: Source>(alloc: Global, wall: &Policy, source: &mut B) -> Result<Book, Ending>
     ensures book { let device = used B.failures B.remaining source.old source.new in
@@ -52,10 +64,7 @@ fn read_entries<B: Source>(alloc: Global, wall: &Policy, source: &mut B) -> Resu
         IfErr result (IsNoBook wall.now device) }
 {
     match read_device(alloc, source, BOOK_LIMIT) {
-        Ok(bytes) => match read_book(alloc, wall, &bytes) {
-            Ok(book) => Ok(book),
-            Err(fault) => Err(text_ending(fault)),
-        },
+        Ok(bytes) => book_of(alloc, wall, &bytes),
         Err(DeviceFault::Read) => Err(Ending::ReadFault),
         Err(DeviceFault::NoMemory) => Err(Ending::NoMemory),
     }

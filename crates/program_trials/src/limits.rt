@@ -323,11 +323,17 @@ fn put_barriers(texts: &mut Texts, barriers: u64) -> Result<(), AllocError> {
     Ok(())
 }
 
-// A verdict that comes twice, behind a thousand instances, is told by its number.
+// Behind a thousand instances a text that stops there is cut; and a line that is no entry, or a
+// verdict that comes twice, is told by its number.
 #[test]
 fn late_entries_are_judged(rt: HostRuntime) -> Result<(), Fail> {
     let mut texts = begun(rt.alloc())?;
     put_barriers(&mut texts, 1000)?;
+    let good = texts.book.as_str();
+    assert!(&rt; audits_so(&rt, ALONE, good, "", "book: cut\n", 2));
+    let spoilt = format!(in rt.alloc(); "{good}pst\nend 2001\n")?;
+    let line = "book: line 2002\n";
+    assert!(&rt; audits_so(&rt, ALONE, &spoilt, "", line, 2));
     texts.book.push_str("verdict 0 999 granted\nend 2001\n")?;
     let unsound = "unsound at entry 2001\n";
     assert!(&rt; audits_so(&rt, ALONE, &texts.book, unsound, "", 2));
@@ -346,15 +352,18 @@ fn lines_of_a_million_elements_are_read(rt: HostRuntime) -> Result<(), Fail> {
     Ok(())
 }
 
-// Lists of more numbers than there can be members, which are refused for what they ask.
+// Lists of more numbers than there can be members, which are refused for what they ask. The longest
+// are half as long as a script may be: each number is met once.
 const LONGER: &[(&str, u32, &str)] = &[
     ("create 0", 257, "refused NotSubgroup\n"),
     ("scatterv 0 int32 0", 1000, "refused BadCount\n"),
     ("cart_sub 1", 1000, "refused NoTopology\n"),
+    ("scatterv 0 int32 0", 4000000, "refused BadCount\n"),
+    ("cart_sub 1", 4000000, "refused NoTopology\n"),
 ];
 
 #[test]
-fn lists_of_a_thousand_numbers_are_read(rt: HostRuntime) -> Result<(), Fail> {
+fn lists_of_millions_of_numbers_are_read(rt: HostRuntime) -> Result<(), Fail> {
     for (front, numbers, said) in LONGER {
         let mut script = format!(in rt.alloc(); "post 0 0 {front}")?;
         for _ in 1..*numbers {
@@ -422,7 +431,7 @@ fn a_replay_goes_on(rt: HostRuntime) -> Result<(), Fail> {
 }
 
 // The lines of a script have no limit but its bytes: here are more than 20 bits can number, each
-// with its reply. In a run one line more is no call, and none is made.
+// with its reply. One line more is no call, which is told by its number; in a run none is made.
 #[test]
 fn many_lines_are_replayed(rt: HostRuntime) -> Result<(), Fail> {
     let mut script = String::new(rt.alloc());
@@ -434,6 +443,7 @@ fn many_lines_are_replayed(rt: HostRuntime) -> Result<(), Fail> {
     assert!(&rt; ends_so(&rt, ALONE, script.as_bytes(), &said, "", 0));
     script.push_str("pst")?;
     let line = "script: line 1100001: BadVerb\n";
+    assert!(&rt; ends_so(&rt, ALONE, script.as_bytes(), &said, line, 2));
     assert!(&rt; runs_so(&rt, ALONE, &script, "", line, 2));
     Ok(())
 }
