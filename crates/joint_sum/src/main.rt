@@ -2,27 +2,25 @@
 //! process, and the audit of the book. `README.md` walks through it.
 #![tactic(auto)]
 
-ghost use Rattle.std.specs.Prelude.{◌≡◌, ◌≤◌, ◌++◌, [], IfOk, OnOk, length, codes};
-ghost use Rattle.std.specs.Prelude.{decimal};
-ghost use Rattle.std.specs.Prelude.{string_bytes, vec_len, vec_capacity};
+ghost use Rattle.std.specs.Prelude.{◌≡◌, ◌≤◌, [], IfOk, vec_len, vec_capacity};
 ghost use Rattle.std.specs.List.{All};
-ghost use Rattle.run_model.specs.Books.{IsSound};
+ghost use Rattle.wall_policy.specs.Policy.{ChineseWall};
+ghost use Rattle.joint_sum.specs.Reports.{IsReportOfRun, IsSomeReport};
 
 mod firm;
 mod printed;
+mod reports;
 
 use anyhow::{Result, bail};
-use audit_book::{Book, check_book};
 use firm::{Firm, play};
-use hall_core::Hall;
 use hall_turn::{Door, Passes};
 use printed::{Printed, print};
+use reports::report;
 use std::alloc::Global;
 use std::rt::{Env, Files};
 use std::sync::Wait;
 use std::thread::Threads;
 use std::{env, fs, thread};
-use wall_labels::ProcessId;
 use wall_policy::{Policy, read_policy};
 
 // What the processes came to.
@@ -87,53 +85,6 @@ fn play_all<R: Threads + Wait + Sync>(
     Ok(sort_out(door, firms, back, told))
 }
 
-// The line of a book that is sound. For any other there is none.
-fn audit_line(alloc: Global, policy: &Policy, book: &Book) -> Result<String>
-    ensures sound { OnOk result (IsSound policy.now book.now.list) }
-    ensures line { IfOk result (λ line. string_bytes line ≡ codes "book: sound, "
-        ++ decimal (length book.now.list) ++ codes " entries\n") }
-{
-    check_book(alloc, policy, book)?;
-    Ok(format!(in alloc; "book: sound, {} entries\n", book.len())?)
-}
-
-// The name of a process.
-fn name(policy: &Policy, process: u32) -> &str {
-    match ProcessId::new(process) {
-        Some(id) if process < policy.processes() => policy.process_name(id),
-        _ => "nobody",
-    }
-}
-
-// Appends the name of a process, and what it was told.
-fn put(policy: &Policy, process: u32, told: &[u8], text: &mut Vec<u8>) -> Result<()> {
-    text.extend_from_slice(name(policy, process).as_bytes())?;
-    text.extend_from_slice(b":\n")?;
-    text.extend_from_slice(told)?;
-    Ok(())
-}
-
-// What a process was told.
-fn told_to(told: &[Result<Vec<u8>>], process: u32) -> Result<&[u8]> {
-    match told.get(process as usize) {
-        Some(Ok(lines)) => Ok(lines),
-        Some(Err(fault)) => bail!("{fault}"),
-        None => bail!("a process is missing"),
-    }
-}
-
-// What all processes were told, in order, and the line of the audit.
-fn report(alloc: Global, hall: &Hall, told: &[Result<Vec<u8>>]) -> Result<Vec<u8>> {
-    let mut text = Vec::new(alloc);
-    for process in 0..hall.policy().processes() {
-        let lines = told_to(told, process)?;
-        put(hall.policy(), process, lines, &mut text)?;
-    }
-    let line = audit_line(alloc, hall.policy(), hall.book())?;
-    text.extend_from_slice(line.as_bytes())?;
-    Ok(text)
-}
-
 // The door of a policy, with its passes. The door keeps a copy.
 fn open(alloc: Global, policy: &Policy) -> Result<(Door, Passes)>
     ensures policy { IfOk result (λ opened. policy.now ≡ opened.0.policy) }
@@ -151,9 +102,11 @@ fn open(alloc: Global, policy: &Policy) -> Result<(Door, Passes)>
 // Closes the door, to which all passes have come back.
 fn close(alloc: Global, door: Door, ended: Ended) -> Result<Vec<u8>>
     requires { All (λ pass. pass.door ≡ door) ended.passes.items }
+    ensures { IfOk result (λ text.
+        IsReportOfRun door.policy ended.passes.items ended.told.items text.items) }
 {
     match door.close(ended.passes) {
-        Ok(hall) => report(alloc, &hall, &ended.told),
+        Ok(hall) => report(alloc, hall.policy(), hall.book(), &ended.told),
         Err(_) => bail!("a pass is missing"),
     }
 }
@@ -168,6 +121,7 @@ fn meet<R: Threads + Wait + Sync>(
 ) -> Result<Vec<u8>>
     requires policy { policy.now ≡ door.policy }
     requires passes { All (λ pass. pass.door ≡ door) passes.items }
+    ensures { IfOk result (λ text. IsSomeReport policy.now text.items) }
 {
     match play_all(rt, alloc, &door, policy, passes) {
         Ok(ended) => close(alloc, door, ended),
@@ -176,7 +130,9 @@ fn meet<R: Threads + Wait + Sync>(
 }
 
 // A door under the policy, and all that happens there.
-fn run<R: Threads + Wait + Sync>(rt: &R, alloc: Global, policy: &Policy) -> Result<Vec<u8>> {
+fn run<R: Threads + Wait + Sync>(rt: &R, alloc: Global, policy: &Policy) -> Result<Vec<u8>>
+    ensures { IfOk result (λ text. IsSomeReport policy.now text.items) }
+{
     match open(alloc, policy) {
         Ok((door, passes)) => meet(rt, alloc, door, policy, passes),
         Err(fault) => Err(fault),
@@ -184,7 +140,9 @@ fn run<R: Threads + Wait + Sync>(rt: &R, alloc: Global, policy: &Policy) -> Resu
 }
 
 // What there is to print.
-fn text<R: Files + Env + AllocGlobal + Threads + Wait + Sync>(rt: &R) -> Result<Vec<u8>> {
+fn text<R: Files + Env + AllocGlobal + Threads + Wait + Sync>(rt: &R) -> Result<Vec<u8>>
+    ensures { IfOk result (λ text. (wall : ChineseWall) × IsSomeReport wall text.items) }
+{
     match named_policy(rt) {
         Ok(policy) => run(rt, rt.alloc(), &policy),
         Err(fault) => Err(fault),

@@ -1,5 +1,5 @@
 //! The end of the program: its text is printed, or its fault told.
-ghost use Rattle.std.specs.Prelude.{◌≡◌, IfOk, OnOk, IsOk, IsErr};
+ghost use Rattle.std.specs.Prelude.{◌≡◌, IfOk, IfErr, OnOk, IsOk, IsErr, Err};
 ghost use Rattle.std.specs.Io.KnownBytes.{Appends};
 ghost use Rattle.std.specs.Process.{exit_status};
 
@@ -30,7 +30,7 @@ impl Termination for Printed {
 
 /// Writes the text, if there is one.
 pub fn print<W: Write>(out: &mut W, text: Result<Vec<u8>>) -> Printed
-    ensures fault { IsErr text → IsErr result.0 }
+    ensures fault { IfErr text (λ fault. result.0 ≡ Err fault) }
     ensures written { OnOk result.0
         (IfOk text (λ t. Appends (W.contents out.old) (W.contents out.new) t.items)) }
 {
