@@ -3,8 +3,8 @@
 //!
 //! A group keeps the rank of each process in a table beside its members, up to the highest member's
 //! number. So `rank_of` and `translate` take a step, and the other calls work in time linear in the
-//! sizes of the groups that they are given; but `incl`, `excl` and `ranks_fault` compare each rank
-//! of a list with those before it.
+//! sizes of the groups and lists that they are given; but `ranks_fault` compares each rank of a list
+//! with those before it where it is told of a size above that of any group.
 #![tactic(auto)]
 
 mod compare;
