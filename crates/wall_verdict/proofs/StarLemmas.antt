@@ -1,6 +1,7 @@
 -- The star rule as a test of every dataset that there can be, and what a post that passes enters.
 use Rattle.std.proofs.Common.{◌≡◌, ℕ, ◌<◌, List, Bool, true, false, Option, Some, None, refl, ap}
-use Rattle.std.proofs.Common.{sym, ◌∙◌, ◌||◌, ◌&&◌}
+use Rattle.std.proofs.Common.{sym, ◌∙◌, ◌||◌, ◌&&◌, nat_eq, eqb-true}
+use Rattle.std.proofs.lemmas.Bool.{and_parts}
 use Rattle.std.specs.Prelude.{is_none, ◌==◌}
 use Rattle.std.specs.Ordering.{nat_cmp}
 use Rattle.std.specs.FinSet.{empty, insert, contains, contains-empty}
@@ -43,6 +44,28 @@ pub label_entered : (has : History) (p d : ℕ) (label : Option Label) → datas
 label_entered has p d label e = λ i q c. (ap (λ b. has q c || ((q == p) && b))
     (alone d c ∙ ap (λ o. is_that o c) (sym e))
     ∙ ap (λ b. has q c || b) (and_true (q == p) (is_that (dataset_in label) c))) i
+
+-- or nothing, where the poster has had access to it
+pub label_there : (has : History) (p d : ℕ) (label : Option Label) → dataset_in label ≡ Some d →
+    has p d ≡ true → has ≡ with_label has p label true
+label_there has p d label e there = λ i q c. (at q c) i
+  where
+    same : (q c : ℕ) → (nat_eq q p && nat_eq d c) ≡ true → has q c ≡ true
+    same q c both =
+        let parts = and_parts (nat_eq q p) (nat_eq d c) both in
+        ap (λ r. has r c) (eqb-true q p parts.0)
+        ∙ (ap (λ n. has p n) (sym (eqb-true d c parts.1)) ∙ there)
+
+    nothing_new : (a b : Bool) → (b ≡ true → a ≡ true) → a ≡ (a || b)
+    nothing_new true b h = refl
+    nothing_new false true h = h refl
+    nothing_new false false h = refl
+
+    at : (q c : ℕ) → has q c ≡ with_label has p label true q c
+    at q c =
+        nothing_new (has q c) (nat_eq q p && nat_eq d c) (same q c)
+        ∙ ap (λ b. has q c || b) (and_true (nat_eq q p) (nat_eq d c)
+        ∙ ap (λ o. (nat_eq q p && true) && is_that o c) (sym e))
 
 nothing_and : (b c : Bool) → ((b && false) && c) ≡ false
 nothing_and true c = refl

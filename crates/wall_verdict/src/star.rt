@@ -54,7 +54,7 @@ pub fn enter_label(histories: &mut Histories, process: ProcessId, label: &Option
     passed
 }
 
-#[tactic(auto, using(crate::proofs::StarLemmas::may_enter, crate::proofs::StarLemmas::label_entered, crate::proofs::StarLemmas::no_dataset))]
+#[tactic(auto, using(crate::proofs::StarLemmas::may_enter, crate::proofs::StarLemmas::label_entered, crate::proofs::StarLemmas::label_there, crate::proofs::StarLemmas::no_dataset))]
 fn enter(histories: &mut Histories, process: ProcessId, label: &Option<Label>)
     requires { MayPost (has histories.old) process label.now }
     ensures pairs { has histories.new ≡ with_label (has histories.old) process label.now true }
@@ -63,9 +63,12 @@ fn enter(histories: &mut Histories, process: ProcessId, label: &Option<Label>)
 {
     match dataset_in(label) {
         Some(dataset) => {
-            let mut set = LabelSet::empty();
-            set.insert(dataset);
-            histories.enter(process, &set);
+            // Most often it is there already.
+            if !histories.has(process, dataset) {
+                let mut set = LabelSet::empty();
+                set.insert(dataset);
+                histories.enter(process, &set);
+            }
         }
         None => {}
     }

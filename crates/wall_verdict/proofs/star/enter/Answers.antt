@@ -13,8 +13,8 @@ enter-requires c =
     (may_enter c.args.histories.now.classes (has c.args.histories.now) c.args.process
     c.in-Some.dataset c.args.label.now c.requires (sym c.in-Some.ensures))
 
-pub returns-in-Some-clause-pairs : goal.returns-in-Some-clause-pairs
-returns-in-Some-clause-pairs c =
+pub returns-then-not-has-clause-pairs : goal.returns-then-not-has-clause-pairs
+returns-then-not-has-clause-pairs c =
     let one = c.insert.ensures ∙ ap (λ s. insert s c.in-Some.dataset) c.empty-set.ensures in
     c.enter.ensures.pairs
     ∙ (ap (λ s. entered (has c.args.histories.now) c.args.process s) one
