@@ -1,5 +1,5 @@
 -- What the set of a row contains, and how the set changes with the row.
-use Rattle.std.proofs.Common.{◌≡◌, ◌≢◌, ℕ, zero, suc, ◌+◌, ◌*◌, ◌/◌, ◌%◌, ◌^◌, ◌<◌, ◌≤◌, ◌||◌, ◌&&◌}
+use Rattle.std.proofs.Common.{◌≡◌, ◌≢◌, ℕ, zero, suc, ◌+◌, ◌-◌, ◌*◌, ◌/◌, ◌%◌, ◌^◌, ◌<◌, ◌≤◌, ◌||◌, ◌&&◌}
 use Rattle.std.proofs.Common.{max, min, Bool, true, false, List, length, get_or, Option, Some, None}
 use Rattle.std.proofs.Common.{IfSome, refl, sym, ap, ◌∙◌, ◌⊎◌, inl, inr, arith, nat_eq, not, bit_or}
 use Rattle.std.proofs.Common.{bit_and, get_or-set_same, get_or-set_other, length-set}
@@ -14,6 +14,7 @@ use Rattle.std.proofs.lemmas.Map.Views.{any-filter_same}
 use Rattle.std.proofs.lemmas.Nat.Bits.{bit_at-lt, bit_at-zero, bit_at_or, bit_at_and}
 use Rattle.std.proofs.lemmas.Nat.Bits.{bit_at_set_same, bit_at_set_other, bit_at_clear_same}
 use Rattle.std.proofs.lemmas.Nat.Bits.{bit_at_clear_other, bit_at-trailing_zeros, shr_and_one}
+use Rattle.std.proofs.lemmas.Nat.Bits.{bit_at_not}
 use Rattle.std.specs.Int.{bit_at, bit_not, trailing_zeros, w64}
 use Rattle.std.specs.Ordering.{nat_cmp, eq_by_cmp}
 use Rattle.std.specs.Cmp.{nat_cmp_total, unsigned_tied}
@@ -22,6 +23,7 @@ use Rattle.std.specs.FinSet.{FinSet, empty, insert, union, contains, contains-em
 use Rattle.std.specs.FinSet.{contains-insert, contains-union, contains-from_list_nat, same_set}
 use Rattle.std.specs.FinSet.{nat_cmp-IsAntisymmetric}
 use Rattle.wall_labels.specs.Rows.{is_bit, is_set, set_of_row, differs, is_in_one, IsClearFrom}
+use Rattle.wall_labels.specs.Rows.{is_missing}
 
 ---- places of a row
 
@@ -405,3 +407,42 @@ none_in_either words other m n used e one two k past = elim (leb_tells (64 * m) 
   | inl high ↦ ap (λ b. (is_set other k || is_set other k) && b) (one.clear k high.1) ∙ and_false _
   | inr low ↦ let least = low.1 in ap (λ b. (b || b) && is_set words k) (two.clear k (omega arith))
 ]
+
+---- what one row lacks of another
+
+opposite_test : (y : ℕ) → y < 2 → nat_eq (1 - y) 1 ≡ not (nat_eq y 1)
+opposite_test y h = elim (bit y h) [ inl e ↦ rw e refl | inr e ↦ rw e refl ]
+
+bit_of_not : (y k : ℕ) → y < 2 ^ 64 → is_bit (bit_not w64 y) k ≡ not (is_bit y k)
+bit_of_not y k fits =
+    ap (λ v. nat_eq v 1) (bit_at_not w64 y (k % 64) fits (omega arith))
+    ∙ opposite_test (bit_at y (k % 64)) (bit_at-lt y (k % 64))
+
+-- the word that two rows make at a place
+pub word_missing : (words other : List ℕ) (p k : ℕ) → get_or other p 0 < 2 ^ 64 → k / 64 ≡ p →
+    is_missing words other k
+    ≡ is_bit (bit_and (get_or words p 0) (bit_not w64 (get_or other p 0))) k
+unfolding is_set
+word_missing words other p k fits e =
+    let w : ℕ = get_or words p 0 in
+    let o : ℕ = get_or other p 0 in
+    rw e (sym (bit_of_both w (bit_not w64 o) k ∙ ap (λ b. is_bit w k && b) (bit_of_not o k fits)))
+
+pub missing_is : (s o : Bool) → (s && not o) ≡ true → (s ≡ true) × (o ≡ false)
+missing_is true false h = (refl, refl)
+missing_is true true h = absurd (false≢true h)
+missing_is false o h = absurd (false≢true h)
+
+pub none_missing : (s o : Bool) → (s && not o) ≡ false → s ≡ true → o ≡ true
+none_missing true true h is = refl
+none_missing true false h is = absurd (false≢true (sym h))
+none_missing false o h is = absurd (false≢true is)
+
+pub is_none_unless : (o : Option ℕ) (P : ℕ → Type 0) → IfSome o P → ((d : ℕ) → ¬ (P d)) →
+    is_some o ≡ false
+is_none_unless None P h never = refl
+is_none_unless (Some d) P h never = absurd (never d h)
+
+pub none_is : (o : Option ℕ) (P : Type 0) → is_some o ≡ false → IfNone o P → P
+none_is None P e h = h
+none_is (Some d) P e h = absurd (false≢true (sym e))

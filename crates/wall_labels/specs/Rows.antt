@@ -33,6 +33,10 @@ differs None n = true
 abbrev pub is_in_one : (words left right : List ℕ) → ℕ → Bool
 is_in_one words left right n = (is_set left n || is_set right n) && is_set words n
 
+-- place n is set in the row, and not in the other
+abbrev pub is_missing : (words other : List ℕ) → ℕ → Bool
+is_missing words other n = is_set words n && not (is_set other n)
+
 -- each member is the number of a dataset
 abbrev pub HoldsDatasets : FinSet nat_cmp → Type 0
 HoldsDatasets s = (d : ℕ) → IsTrue (contains s d) → d < dataset_limit
@@ -53,3 +57,7 @@ SharesNone s left right = (d : ℕ) → ¬ (IsShared s left right d)
 -- some number is in both
 abbrev pub Meet : FinSet nat_cmp → FinSet nat_cmp → Type 0
 Meet s other = (d : ℕ) × IsTrue (contains s d) × IsTrue (contains other d)
+
+-- each member of the first is one of the second
+abbrev pub IsWithin : FinSet nat_cmp → FinSet nat_cmp → Type 0
+IsWithin s other = (d : ℕ) → IsTrue (contains s d) → IsTrue (contains other d)

@@ -5,7 +5,7 @@ ghost use Rattle.std.specs.Ordering.{nat_cmp};
 ghost use Rattle.std.specs.FinSet as set;
 ghost use Rattle.std.specs.Int.{trailing_zeros, w64};
 ghost use Rattle.wall_labels.specs.Rows.{HoldsDatasets, IsClearFrom, is_set, is_bit, differs};
-ghost use Rattle.wall_labels.specs.Rows.{is_in_one};
+ghost use Rattle.wall_labels.specs.Rows.{is_in_one, is_missing};
 
 use super::ids::{DATASET_LIMIT, DatasetId};
 use std::marker::Model;
@@ -41,7 +41,7 @@ impl Model for LabelSet {
 }
 
 impl LabelSet {
-    ghost use Rattle.wall_labels.specs.Rows.{IsLowestShared, SharesNone, Meet};
+    ghost use Rattle.wall_labels.specs.Rows.{IsLowestShared, SharesNone, Meet, IsWithin};
 
     pub fn empty() -> LabelSet
         ensures { result ≡ set.empty }
@@ -97,6 +97,13 @@ impl LabelSet {
         lowest_shared(&self.words, self.used, &left.words, &right.words)
     }
 
+    /// Whether the other set has every member.
+    pub fn is_within(&self, other: &LabelSet) -> bool
+        ensures { IsTrue result ↔ IsWithin self.now other.now }
+    {
+        lowest_missing(&self.words, self.used, &other.words).is_none()
+    }
+
     /// Whether both sets have a member.
     pub fn meets(&self, other: &LabelSet) -> bool
         ensures { IsTrue result ↔ Meet self.now other.now }
@@ -150,6 +157,21 @@ fn lowest_shared(
 {
     for place in 0..used {
         let word = words[place] & (left[place] | right[place]);
+        if word != 0 {
+            return Some(lowest(word, place));
+        }
+    }
+    None
+}
+
+// The lowest place that is set in the row and not in the other.
+fn lowest_missing(words: &[u64; WORDS], used: usize, other: &[u64; WORDS]) -> Option<DatasetId>
+    requires { IsClearFrom words.now used }
+    ensures found { IfSome result (λ d. IsTrue (is_missing words.now other.now d)) }
+    ensures none { IfNone result ((k : ℕ) → is_missing words.now other.now k ≡ false) }
+{
+    for place in 0..used {
+        let word = words[place] & !other[place];
         if word != 0 {
             return Some(lowest(word, place));
         }

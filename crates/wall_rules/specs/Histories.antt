@@ -63,6 +63,10 @@ pub record KeepsWall (h : Accesses) : Type 0 where
 abbrev pub HoldsOneOf : (ℕ → Bool) → FinSet nat_cmp → Type 0
 HoldsOneOf held s = (d : ℕ) × IsTrue (held d) × IsTrue (contains s d)
 
+-- a process that has had access to these has had access to all of the set
+abbrev pub HoldsAllOf : (ℕ → Bool) → FinSet nat_cmp → Type 0
+HoldsAllOf held s = (d : ℕ) → IsTrue (contains s d) → IsTrue (held d)
+
 -- the rows have for each dataset its rivals
 abbrev pub AreRivalRows : List ℕ → List (FinSet nat_cmp) → Type 0
 AreRivalRows classes rows =

@@ -8,6 +8,7 @@ ghost use Rattle.wall_policy.specs.Policy.{IsPolicy};
 ghost use Rattle.wall_rules.specs.Rules.{IsLowest, IsHeldRival, PassesSimple, HoldsNoRivals};
 ghost use Rattle.wall_rules.specs.Rules.{first_rival, IsHeldOther, PassesStar, joined};
 ghost use Rattle.wall_rules.specs.Histories.{entered, opening, is_home, has_in, HoldsOneOf};
+ghost use Rattle.wall_rules.specs.Histories.{HoldsAllOf};
 ghost use Rattle.wall_rules.specs.Histories.{AddsRivals, AreRivalRows};
 
 use crate::NoMemory;
@@ -129,6 +130,13 @@ impl Histories {
         ensures { IsTrue result ↔ HoldsOneOf (has self.now process) set.now }
     {
         self.rows[process.number() as usize].meets(set)
+    }
+
+    /// Whether the process has had access to each dataset of the set.
+    pub fn has_all(&self, process: ProcessId, set: &LabelSet) -> bool
+        ensures { IsTrue result ↔ HoldsAllOf (has self.now process) set.now }
+    {
+        set.is_within(&self.rows[process.number() as usize])
     }
 
     /// Adds access of the process to each dataset of the set.
