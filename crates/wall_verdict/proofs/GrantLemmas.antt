@@ -71,6 +71,27 @@ under_all wall has roll n long =
     everyone p d (Some j) e = ap (λ b. b && charged wall roll j d)
         (lt-ltb j n (subst (λ k. j < k) (sym long) (rank_is roll.members p j e).1))
 
+next_low : (n j : ℕ) → nat_lt j (n + 1) ≡ (nat_lt j n || (j == n))
+next_low n j = ⊎_elim
+    (λ t. let low : j < n = ltb-true j n t in
+    lt-ltb j (n + 1) (omega arith) ∙ sym (ap (λ b. b || (j == n)) t))
+    (λ f. ⊎_elim
+    (λ t. let is = eqb-true j n t in
+    lt-ltb j (n + 1) (omega arith) ∙ sym (ap (λ b. b || (j == n)) f ∙ t))
+    (λ g. no_lt (λ low. apart f g (omega arith)) ∙ sym (ap (λ b. b || (j == n)) f ∙ g))
+    (cases_Bool (j == n)))
+    (cases_Bool (nat_lt j n))
+  where
+    no_lt : (j < n + 1 → ⊥) → nat_lt j (n + 1) ≡ false
+    no_lt h =
+        ⊎_elim (λ t. absurd (h (ltb-true j (n + 1) t))) (λ f. f) (cases_Bool (nat_lt j (n + 1)))
+
+    apart : nat_lt j n ≡ false → (j == n) ≡ false → j ≤ n → ⊥
+    apart f g le =
+        let not_low : j < n → ⊥ = (λ low. false≢true (sym f ∙ lt-ltb j n low)) in
+        let not_same : j ≡ n → ⊥ = (λ same. false≢true (sym g ∙ eq-eqb j n same)) in
+        omega arith
+
 module _ (wall : ChineseWall) (has : History) (roll : Roll) (group : IsGroup roll.members) (n m : ℕ)
     (at : slice_get roll.members n ≡ Some m) (s : FinSet nat_cmp)
     (brought : (d : ℕ) → contains s d ≡ charged wall roll n d) where
@@ -91,27 +112,6 @@ module _ (wall : ChineseWall) (has : History) (roll : Roll) (group : IsGroup rol
       false≢true (sym f ∙ eq-eqb p m same))))
       (cases_Bool (nat_eq p m))
 
-  next_low : (j : ℕ) → nat_lt j (n + 1) ≡ (nat_lt j n || (j == n))
-  next_low j = ⊎_elim
-      (λ t. let low : j < n = ltb-true j n t in
-      lt-ltb j (n + 1) (omega arith) ∙ sym (ap (λ b. b || (j == n)) t))
-      (λ f. ⊎_elim
-      (λ t. let is = eqb-true j n t in
-      lt-ltb j (n + 1) (omega arith) ∙ sym (ap (λ b. b || (j == n)) f ∙ t))
-      (λ g. no_lt (λ low. apart f g (omega arith)) ∙ sym (ap (λ b. b || (j == n)) f ∙ g))
-      (cases_Bool (j == n)))
-      (cases_Bool (nat_lt j n))
-    where
-      no_lt : (j < n + 1 → ⊥) → nat_lt j (n + 1) ≡ false
-      no_lt h =
-          ⊎_elim (λ t. absurd (h (ltb-true j (n + 1) t))) (λ f. f) (cases_Bool (nat_lt j (n + 1)))
-
-      apart : nat_lt j n ≡ false → (j == n) ≡ false → j ≤ n → ⊥
-      apart f g le =
-          let not_low : j < n → ⊥ = (λ low. false≢true (sym f ∙ lt-ltb j n low)) in
-          let not_same : j ≡ n → ⊥ = (λ same. false≢true (sym g ∙ eq-eqb j n same)) in
-          omega arith
-
   distribute : (a b c : Bool) → ((a || b) && c) ≡ ((a && c) || (b && c))
   distribute true b true = refl
   distribute true true false = refl
@@ -128,7 +128,7 @@ module _ (wall : ChineseWall) (has : History) (roll : Roll) (group : IsGroup rol
       ap (λ b. (nat_lt j n && charged wall roll j d) || (b && contains s d)) (same_rank p j e)
       ∙ (ap (λ b. (nat_lt j n && charged wall roll j d) || b) (here (cases_Bool (j == n)))
       ∙ (sym (distribute (nat_lt j n) (j == n) (charged wall roll j d))
-      ∙ ap (λ b. b && charged wall roll j d) (sym (next_low j))))
+      ∙ ap (λ b. b && charged wall roll j d) (sym (next_low n j))))
     where
       here : ((j == n) ≡ true) ⊎ ((j == n) ≡ false) →
           ((j == n) && contains s d) ≡ ((j == n) && charged wall roll j d)
@@ -169,6 +169,45 @@ module _ (wall : ChineseWall) (has : History) (roll : Roll) (group : IsGroup rol
           or_right (has m d) _
           (by_rank d (rank_in roll.members m) (ranked roll.members n m group at) new))
           (or_cases (has m d) _ h)
+
+-- a receiver that has had access to all that is charged to it
+module _ (wall : ChineseWall) (has : History) (roll : Roll) (group : IsGroup roll.members) (n m : ℕ)
+    (at : slice_get roll.members n ≡ Some m) where
+  kept_at : (p d : ℕ) (o : Option ℕ) → rank_in roll.members p ≡ o →
+      (charged wall roll n d ≡ true → under wall has roll n m d ≡ true) →
+      (has p d || charged_first wall roll n o d) ≡ (has p d || charged_first wall roll (n + 1) o d)
+  kept_at p d None e all = refl
+  kept_at p d (Some j) e all = ⊎_elim
+      (λ t.
+      let is : j ≡ n = eqb-true j n t in
+      let mine = rank_is roll.members p j e in
+      let both : Some p ≡ Some m = sym mine.0 ∙ (ap (slice_get roll.members) is ∙ at) in
+      let same : p ≡ m = cc in
+      ⊎_elim
+      (λ c.
+      let had : (has p d || charged_first wall roll n (Some j) d) ≡ true =
+      ap (λ o. has p d || charged_first wall roll n o d) (sym e)
+      ∙ (ap (λ q. under wall has roll n q d) same ∙ all c) in
+      had ∙ sym (or_right (has p d) (charged_first wall roll (n + 1) (Some j) d)
+      (ap (λ b. b && charged wall roll j d) (lt-ltb j (n + 1) (omega arith))
+      ∙ (ap (λ k. charged wall roll k d) is ∙ c))))
+      (λ f. ap (λ b. has p d || b) (nothing (nat_lt j n) j is f
+      ∙ sym (nothing (nat_lt j (n + 1)) j is f)))
+      (cases_Bool (charged wall roll n d)))
+      (λ f. ap (λ b. has p d || (b && charged wall roll j d)) (sym (next_low n j
+      ∙ (ap (λ b. nat_lt j n || b) f ∙ or-false (nat_lt j n)))))
+      (cases_Bool (j == n))
+    where
+      nothing : (b : Bool) (k : ℕ) → k ≡ n → charged wall roll n d ≡ false →
+          (b && charged wall roll k d) ≡ false
+      nothing true k is f = ap (λ i. charged wall roll i d) is ∙ f
+      nothing false k is f = refl
+
+  pub under_kept : (now : History) → now ≡ under wall has roll n →
+      ((d : ℕ) → charged wall roll n d ≡ true → now m d ≡ true) →
+      now ≡ under wall has roll (n + 1)
+  under_kept now is all = is ∙ (λ i p d. kept_at p d (rank_in roll.members p) refl
+      (λ c. ap (λ (h : History). h m d) (sym is) ∙ all d c) i)
 
 ---- The histories after a verdict.
 

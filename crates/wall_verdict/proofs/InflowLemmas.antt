@@ -1,33 +1,36 @@
 -- What ranks bring, rank by rank and from one receiver to the next.
 use Rattle.std.proofs.Common.{◌≡◌, ℕ, zero, suc, ◌+◌, ◌-◌, ◌<◌, ◌≤◌, Bool, true, false, ◌||◌, ◌&&◌}
 use Rattle.std.proofs.Common.{List, Option, Some, None, find, slice_get, cond, refl, sym, ap, ◌∙◌}
-use Rattle.std.proofs.Common.{subst, arith, add-one, inl, inr, ⊎_elim, eqb-true, eq-eqb}
+use Rattle.std.proofs.Common.{subst, arith, add-one, inl, inr, ⊎_elim, eqb-true, eq-eqb, nat_eq}
 use Rattle.std.specs.Prelude.{is_some, unwrap_or, count_by}
 use Rattle.std.specs.List.{list_any}
 use Rattle.std.specs.Option.{option_and_then}
 use Rattle.std.specs.Ordering.{nat_cmp}
-use Rattle.std.specs.FinSet.{empty, insert, contains, contains-empty}
+use Rattle.std.specs.Cmp.{nat_cmp_total}
+use Rattle.std.specs.FinSet.{FinSet, empty, insert, contains, contains-empty, same_set}
+use Rattle.std.specs.FinSet.{nat_cmp-IsAntisymmetric}
+use Rattle.std.proofs.Math.Bool.{or-false}
 use Rattle.std.proofs.lemmas.Bool.{false≢true, cases_Bool, or_cases, or_left, or_right}
 use Rattle.wall_labels.specs.Rows.{Meet}
 use Rattle.wall_policy.specs.Policy.{ChineseWall, least_of}
 use Rattle.wall_policy.specs.Rivals.{are_rivals}
 use Rattle.wall_policy.proofs.WallPolicyLemmas.{are_rivals-Decides}
-use Rattle.wall_rules.specs.Histories.{History, HoldsOneOf}
+use Rattle.wall_rules.specs.Histories.{History, HoldsOneOf, AddsRivals}
 use Rattle.wall_rules.specs.Rules.{IsHeldRival}
 use Rattle.wall_rules.proofs.WallRulesLemmas.{none-first_rival}
 use Rattle.mpi_cart.specs.Grids.{below}
 use Rattle.coll_routes.specs.declared.roll.Roll.{Roll}
-use Rattle.coll_routes.specs.Rolls.{ranks, places}
+use Rattle.coll_routes.specs.Rolls.{ranks, places, label_of, routed}
 use Rattle.coll_routes.specs.Signatures.{is_neighbourly}
 use Rattle.coll_routes.specs.Fit.{IsFit}
 use Rattle.coll_routes.proofs.CollRoutesLemmas.{any_at, any_found}
 use Rattle.wall_verdict.specs.declared.inflow.Inflow.{Inflow}
 use Rattle.wall_verdict.specs.Charges.{contribution, contributed_below, contributors}
 use Rattle.wall_verdict.specs.Charges.{different_datasets, least_for, distinct_for, is_at_most}
-use Rattle.wall_verdict.specs.Charges.{is_another, is_that, sanitised}
+use Rattle.wall_verdict.specs.Charges.{is_another, is_that, sanitised, contributed, dataset_in}
 use Rattle.wall_verdict.specs.Verdicts.{member, meets, meets_rival, offends}
 use Rattle.wall_verdict.specs.Inflows.{start_of, end_of, is_alike, is_brought, IsInflow, IsInflowOf}
-use Rattle.wall_verdict.specs.Inflows.{IsTakenFromSlots, IsWhole, Serves}
+use Rattle.wall_verdict.specs.Inflows.{IsTakenFromSlots, IsLabelled, IsWhole, Serves}
 use Rattle.wall_verdict.proofs.BelowLemmas.{any_more, count_more, count_within}
 use Rattle.wall_verdict.proofs.ChargeLemmas.{brought_more, brought_same, contains_inserted}
 use Rattle.wall_verdict.proofs.ChargeLemmas.{different_more, different_same, different_within}
@@ -225,47 +228,85 @@ few_differ classes f n v is = omega (arith, is.different, different_within f n)
 
 ---- A receiver that nothing of it meets.
 
+-- where the set has all that comes to receiver j, and the other one all rivals of it
+module _ (classes : List ℕ) (has : History) (roll : Roll) (j p : ℕ) (v : Inflow)
+    (at : slice_get roll.members j ≡ Some p)
+    (datasets : (d : ℕ) → contributed roll j d ≡ true → contains v.datasets d ≡ true)
+    (rivals : (d e : ℕ) → contains v.datasets d ≡ true → are_rivals classes d e ≡ true
+    → contains v.rivals e ≡ true)
+    (unheld : ¬ (HoldsOneOf (has p) v.rivals)) (apart : ¬ (Meet v.datasets v.rivals)) where
+  abbrev before : ℕ → ℕ → Bool
+  before i e = has (member roll j) e || contributed_below roll j i e
+
+  brought : (i d : ℕ) → i < roll.shape.size → contribution roll i j ≡ Some d →
+      contains v.datasets d ≡ true
+  brought i d lt is = datasets d (
+      any_at (λ k. is_that (contribution roll k j) d) 0 roll.shape.size i (omega arith)
+      (omega arith) (ap (λ o. is_that o d) is ∙ eq-eqb d d refl))
+
+  earlier : (i e : ℕ) → i < roll.shape.size → contributed_below roll j i e ≡ true →
+      contains v.datasets e ≡ true
+  earlier i e lt h =
+      let found = any_found (λ k. is_that (contribution roll k j) e) 0 i h in
+      datasets e (any_at (λ k. is_that (contribution roll k j) e) 0 roll.shape.size found.0
+      (omega arith) (omega (arith, found.1)) found.2)
+
+  held : (i d e : ℕ) → i < roll.shape.size → contribution roll i j ≡ Some d →
+      ¬ (IsHeldRival classes (before i) d e)
+  held i d e lt is h =
+      let rival = rivals d e (brought i d lt is) ((are_rivals-Decides classes d e).1 h.1) in
+      ⊎_elim
+      (λ old. unheld (e, ap (λ q. has q e) (sym (ap (λ o. unwrap_or o 0) at)) ∙ old, rival))
+      (λ new. apart (e, earlier i e lt new, rival))
+      (or_cases (has (member roll j) e) _ h.0)
+
+  spared : (i : ℕ) → i < roll.shape.size → (o : Option ℕ) → contribution roll i j ≡ o →
+      meets classes has roll j i ≡ false
+  spared i lt None is = meets_none classes has roll j i is
+  spared i lt (Some d) is =
+      ap (λ o. meets_rival classes (before i) o) is
+      ∙ ap is_some (none-first_rival classes (before i) d (λ e h. held i d e lt is h))
+
+  spared_all : find (meets classes has roll j) (ranks roll) ≡ None
+  spared_all = none_below (meets classes has roll j)
+      roll.shape.size (λ i lt. spared i lt (contribution roll i j) refl)
+
 pub clear_spares : (classes : List ℕ) (has : History) (roll : Roll) (j p : ℕ) (v : Inflow) →
     slice_get roll.members j ≡ Some p
     → IsWhole classes roll j v → ¬ (HoldsOneOf (has p) v.rivals) → ¬ (Meet v.datasets v.rivals)
     → find (meets classes has roll j) (ranks roll) ≡ None
-clear_spares classes has roll j p v at whole unheld apart = none_below (meets classes has roll j)
-    roll.shape.size (λ i lt. spared i lt (contribution roll i j) refl)
-  where
-    before : ℕ → ℕ → Bool
-    before i e = has (member roll j) e || contributed_below roll j i e
+clear_spares classes has roll j p v at whole unheld apart =
+    spared_all classes has roll j p v at (λ d h. whole.datasets d ∙ h) whole.rivals unheld apart
 
-    brought : (i d : ℕ) → i < roll.shape.size → contribution roll i j ≡ Some d →
-        contains v.datasets d ≡ true
-    brought i d lt is = whole.datasets d
-        ∙ any_at (λ k. is_that (contribution roll k j) d) 0 roll.shape.size i (omega arith)
-        (omega arith) (
-        ap (λ o. is_that o d) is ∙ eq-eqb d d refl
-        )
+---- The labels of all ranks, wherever their elements go.
 
-    earlier : (i e : ℕ) → i < roll.shape.size → contributed_below roll j i e ≡ true →
-        contains v.datasets e ≡ true
-    earlier i e lt h =
-        let found = any_found (λ k. is_that (contribution roll k j) e) 0 i h in
-        whole.datasets e
-        ∙ any_at (λ k. is_that (contribution roll k j) e) 0 roll.shape.size found.0
-        (omega arith) (omega (arith, found.1)) found.2
+if_that : (b : Bool) (o : Option ℕ) (d : ℕ) → is_that (cond b o None) d ≡ true →
+    is_that o d ≡ true
+if_that true o d h = h
+if_that false o d h = absurd (false≢true h)
 
-    held : (i d e : ℕ) → i < roll.shape.size → contribution roll i j ≡ Some d →
-        ¬ (IsHeldRival classes (before i) d e)
-    held i d e lt is h =
-        let rival = whole.rivals d e (brought i d lt is) ((are_rivals-Decides classes d e).1 h.1) in
-        ⊎_elim
-        (λ old. unheld (e, ap (λ q. has q e) (sym (ap (λ o. unwrap_or o 0) at)) ∙ old, rival))
-        (λ new. apart (e, earlier i e lt new, rival))
-        (or_cases (has (member roll j) e) _ h.0)
+-- what comes to a receiver is the label of a rank
+pub labels_have : (classes : List ℕ) (roll : Roll) (j : ℕ) (v : Inflow) →
+    IsLabelled classes roll roll.shape.size v → (d : ℕ) → contributed roll j d ≡ true →
+    contains v.datasets d ≡ true
+labels_have classes roll j v is d h =
+    let found = any_found (λ i. is_that (contribution roll i j) d) 0 roll.shape.size h in
+    is.datasets d
+    ∙ any_at (λ i. is_that (dataset_in (label_of roll i)) d) 0 roll.shape.size found.0
+    (omega arith) (omega (arith, found.1))
+    (if_that (routed roll found.0 j) (dataset_in (label_of roll found.0)) d found.2)
 
-    spared : (i : ℕ) → i < roll.shape.size → (o : Option ℕ) → contribution roll i j ≡ o →
-        meets classes has roll j i ≡ false
-    spared i lt None is = meets_none classes has roll j i is
-    spared i lt (Some d) is =
-        ap (λ o. meets_rival classes (before i) o) is
-        ∙ ap is_some (none-first_rival classes (before i) d (λ e h. held i d e lt is h))
+pub labels_spare : (classes : List ℕ) (has : History) (roll : Roll) (j p : ℕ) (v : Inflow) →
+    slice_get roll.members j ≡ Some p → IsLabelled classes roll roll.shape.size v →
+    ¬ (HoldsOneOf (has p) v.rivals) → ¬ (Meet v.datasets v.rivals)
+    → find (meets classes has roll j) (ranks roll) ≡ None
+labels_spare classes has roll j p v at is unheld apart =
+    spared_all classes has roll j p v at (labels_have classes roll j v is) is.rivals unheld apart
+
+-- a receiver that is passed over
+pub serves_on : (classes : List ℕ) (roll : Roll) (j : ℕ) (v : Inflow) →
+    Serves classes roll j v → Serves classes roll (j + 1) v
+serves_on classes roll j v serves alike k le lt reach = serves alike k (omega arith) lt reach
 
 -- where nothing meets a rival, nothing offends
 pub clear_offends : (wall : ChineseWall) (has : History) (roll : Roll) (j : ℕ) →
@@ -293,3 +334,25 @@ enough_is wall roll j n m number different = ⊎_elim
     (λ plain k. is_at_most (least_for wall roll) (number plain k)
     && is_at_most (distinct_for wall roll) (different plain k))
     (cases_Bool (is_neighbourly roll.sig))
+
+---- A dataset that is there already.
+
+or_true : (b : Bool) → (b || true) ≡ true
+or_true true = refl
+or_true false = refl
+
+pub again : (s : FinSet nat_cmp) (d : ℕ) → contains s d ≡ true → s ≡ insert s d
+again s d is = same_set nat_cmp_total nat_cmp-IsAntisymmetric s (insert s d) (λ q.
+    sym (contains_inserted s d q ∙ ⊎_elim
+    (λ t. ap (λ b. contains s q || b) t ∙ or_true (contains s q)
+    ∙ sym (ap (λ n. contains s n) (sym (eqb-true d q t)) ∙ is))
+    (λ f. ap (λ b. contains s q || b) f ∙ or-false (contains s q))
+    (cases_Bool (nat_eq d q))))
+
+pub rivals_again : (classes : List ℕ) (s r : FinSet nat_cmp) (d : ℕ) → contains s d ≡ true →
+    ((d e : ℕ) → contains s d ≡ true → are_rivals classes d e ≡ true → contains r e ≡ true) →
+    AddsRivals classes d r r
+rivals_again classes s r d is rivals e = ⊎_elim
+    (λ t. rivals d e is t ∙ sym (ap (λ b. contains r e || b) t ∙ or_true (contains r e)))
+    (λ f. sym (ap (λ b. contains r e || b) f ∙ or-false (contains r e)))
+    (cases_Bool (are_rivals classes d e))

@@ -20,10 +20,10 @@ use Rattle.coll_routes.specs.declared.signature.Signature.TheVariants.{NeighborA
 use Rattle.coll_routes.specs.declared.signature.Signature.TheVariants.{NeighborAlltoallv}
 use Rattle.coll_routes.specs.declared.roll.Roll.{Roll}
 use Rattle.wall_verdict.specs.declared.inflow.Inflow.{Inflow}
-use Rattle.coll_routes.specs.Rolls.{neighbour_in}
+use Rattle.coll_routes.specs.Rolls.{neighbour_in, label_of}
 use Rattle.coll_routes.specs.Signatures.{is_neighbourly}
 use Rattle.wall_verdict.specs.Charges.{contribution, contributors, contributed, different_datasets}
-use Rattle.wall_verdict.specs.Charges.{is_that, is_another}
+use Rattle.wall_verdict.specs.Charges.{is_that, is_another, dataset_in}
 
 abbrev pub from_root : (root size : ℕ) → ℕ
 from_root root size = if nat_lt root size then root else 0
@@ -105,6 +105,10 @@ from_slot roll t j = option_and_then (λ i. contribution roll i j) (neighbour_in
 -- below n
 abbrev pub IsTakenFromSlots : List ℕ → Roll → (j n : ℕ) → Inflow → Type 0
 IsTakenFromSlots classes roll j n v = IsInflow classes (λ t. from_slot roll t j) n v
+
+-- what the ranks below n label their elements with, wherever these go
+abbrev pub IsLabelled : List ℕ → Roll → (n : ℕ) → Inflow → Type 0
+IsLabelled classes roll n v = IsInflow classes (λ i. dataset_in (label_of roll i)) n v
 
 -- All that comes to receiver j. Between neighbours both numbers may be others, since one rank can
 -- be its neighbour in two slots; no such kind reduces, and then they don't matter.

@@ -38,10 +38,13 @@ pub fn contribution(roll: &Roll, from: u32, to: u32) -> Option<DatasetId>
     requires to { to < roll.now.shape.size }
     ensures { result ≡ contribution roll.now from to }
 {
-    if routed(roll, from, to) {
-        dataset_in(&label_of(roll, from))
-    } else {
-        None
+    match dataset_in(&label_of(roll, from)) {
+        Some(dataset) => if routed(roll, from, to) {
+            Some(dataset)
+        } else {
+            None
+        },
+        None => None,
     }
 }
 

@@ -10,9 +10,10 @@ ghost use Rattle.wall_verdict.specs.Charges.{contributors, different_datasets, c
 ghost use Rattle.wall_verdict.specs.Charges.{charged};
 ghost use Rattle.wall_verdict.specs.Inflows.{start_of, end_of, is_alike, from_root, past_root};
 ghost use Rattle.wall_verdict.specs.Inflows.{all_at, from_slot, IsTaken, IsTakenFromSlots};
-ghost use Rattle.wall_verdict.specs.Inflows.{IsInflowOf, IsWhole, Serves};
+ghost use Rattle.wall_verdict.specs.Inflows.{IsInflowOf, IsLabelled, IsWhole, Serves};
+ghost use Rattle.wall_policy.specs.Rivals.{are_rivals};
 
-use super::charge::{add_another, contribution, is_enough};
+use super::charge::{contribution, dataset_in, is_enough, label_of};
 use coll_routes::{Roll, Signature, places};
 use wall_labels::{DatasetId, LabelSet};
 use wall_policy::Policy;
@@ -46,6 +47,29 @@ impl Inflow {
             different: 0,
             datasets: LabelSet::empty(),
             rivals: LabelSet::empty(),
+        }
+    }
+
+    /// What all ranks label their elements with, wherever these go. Nothing else comes to anybody.
+    pub fn of_labels(histories: &Histories, roll: &Roll) -> Inflow
+        ensures { IsLabelled histories.now.classes roll.now roll.now.shape.size result }
+    {
+        let mut labels = Inflow::before(0);
+        for rank in 0..roll.shape.size {
+            labels.take_label(histories, roll, rank);
+        }
+        labels
+    }
+
+    // Takes the label of the next rank.
+    fn take_label(&mut self, histories: &Histories, roll: &Roll, rank: u32)
+        requires few { rank < 2 ^ 32 - 1 }
+        requires inflow { IsLabelled histories.now.classes roll.now rank self.old }
+        ensures { IsLabelled histories.now.classes roll.now (rank + 1) self.new }
+    {
+        match dataset_in(&label_of(roll, rank)) {
+            Some(dataset) => self.add(histories, dataset),
+            None => {}
         }
     }
 
@@ -142,9 +166,12 @@ impl Inflow {
         }
     }
 
+    #[tactic(auto, using(crate::proofs::InflowLemmas::rivals_again))]
     fn add(&mut self, histories: &Histories, dataset: DatasetId)
         requires number { self.old.number < 2 ^ 32 - 1 }
         requires different { self.old.different < 2 ^ 32 - 1 }
+        requires rivals { (d e : ℕ) → sets.contains self.old.datasets d ≡ true →
+            are_rivals histories.now.classes d e ≡ true → sets.contains self.old.rivals e ≡ true }
         ensures number { self.new.number ≡ self.old.number + 1 }
         ensures different { self.new.different
             ≡ self.old.different + (if sets.contains self.old.datasets dataset then 0 else 1) }
@@ -152,8 +179,12 @@ impl Inflow {
         ensures rivals { AddsRivals histories.now.classes dataset self.old.rivals self.new.rivals }
     {
         self.number += 1;
-        histories.add_rivals(dataset, &mut self.rivals);
-        self.different += add_another(&mut self.datasets, dataset);
+        // Most often it is there already, and its rivals too.
+        if !self.datasets.contains(dataset) {
+            histories.add_rivals(dataset, &mut self.rivals);
+            self.datasets.insert(dataset);
+            self.different += 1;
+        }
     }
 }
 

@@ -1,5 +1,5 @@
 //! The verdict on a full instance.
-ghost use Rattle.std.specs.Prelude.{◌≡◌, ◌<◌, find, IfSome, IsTrue};
+ghost use Rattle.std.specs.Prelude.{◌≡◌, ◌<◌, ◌+◌, find, IfSome, IsTrue};
 ghost use Rattle.wall_labels.specs.Rows.{Meet};
 ghost use Rattle.wall_rules.specs.Histories.{has, HoldsOneOf, NobodyHoldsRivals};
 ghost use Rattle.wall_rules.specs.Rules.{HoldsNoRivals, joined, clashes};
@@ -7,7 +7,7 @@ ghost use Rattle.coll_routes.specs.Fit.{IsFit};
 ghost use Rattle.coll_routes.specs.Rolls.{ranks, label_of, is_barred};
 ghost use Rattle.wall_verdict.specs.Verdicts.{meets, offends, first_barred, first_offence, told};
 ghost use Rattle.wall_verdict.specs.Verdicts.{verdict};
-ghost use Rattle.wall_verdict.specs.Inflows.{IsWhole};
+ghost use Rattle.wall_verdict.specs.Inflows.{IsWhole, IsLabelled, Serves};
 ghost use Rattle.wall_verdict.specs.Meanings.{IsVerdict, MembersStayApart};
 ghost use Rattle.wall_verdict.specs.declared.verdict.Verdict.TheVariants.{Granted};
 
@@ -103,17 +103,49 @@ fn first_offender(
     first_meeting(histories, roll, to)
 }
 
-/// The least pair of a receiver and a rank that offends.
-fn first_offence(policy: &Policy, histories: &Histories, roll: &Roll) -> Option<(u32, u32)>
+/// The lowest rank for which a dataset is charged to this one that meets a rival. Where nothing
+/// that anybody states is a rival of what it has or of another, nothing that comes to it is.
+fn offender(
+    policy: &Policy,
+    histories: &Histories,
+    roll: &Roll,
+    labels: &Inflow,
+    to: u32,
+    inflow: &mut Inflow,
+) -> Option<u32>
     requires fit { IsFit roll.now }
     requires classes { histories.now.classes ≡ policy.now.classes }
+    requires labels { IsLabelled histories.now.classes roll.now roll.now.shape.size labels.now }
+    requires to { to < roll.now.shape.size }
+    requires serves { Serves histories.now.classes roll.now to inflow.old }
+    ensures least { result
+        ≡ find (offends policy.now (has histories.now) roll.now to) (ranks roll.now) }
+    ensures within { IfSome result (λ i. i < roll.now.shape.size) }
+    ensures serves { Serves histories.now.classes roll.now (to + 1) inflow.new }
+{
+    if is_clear(histories, roll.members.at(to), labels) {
+        return None;
+    }
+    inflow.turn_to(histories, roll, to);
+    first_offender(policy, histories, roll, to, inflow)
+}
+
+/// The least pair of a receiver and a rank that offends.
+fn first_offence(
+    policy: &Policy,
+    histories: &Histories,
+    roll: &Roll,
+    labels: &Inflow,
+) -> Option<(u32, u32)>
+    requires fit { IsFit roll.now }
+    requires classes { histories.now.classes ≡ policy.now.classes }
+    requires labels { IsLabelled histories.now.classes roll.now roll.now.shape.size labels.now }
     ensures least { result ≡ first_offence policy.now (has histories.now) roll.now }
     ensures within { IfSome result (λ pair. pair.0 < roll.now.shape.size) }
 {
     let mut inflow = Inflow::before(0);
     for to in 0..roll.shape.size {
-        inflow.turn_to(histories, roll, to);
-        match first_offender(policy, histories, roll, to, &inflow) {
+        match offender(policy, histories, roll, labels, to, &mut inflow) {
             Some(from) => return Some((to, from)),
             None => {}
         }
@@ -152,9 +184,10 @@ fn told(roll: &Roll, rank: u32) -> Label
 }
 
 #[tactic(auto, unfolding(crate::specs::Verdicts::verdict))]
-fn judge(policy: &Policy, histories: &Histories, roll: &Roll) -> Verdict
+fn judge(policy: &Policy, histories: &Histories, roll: &Roll, labels: &Inflow) -> Verdict
     requires fit { IsFit roll.now }
     requires classes { histories.now.classes ≡ policy.now.classes }
+    requires labels { IsLabelled histories.now.classes roll.now roll.now.shape.size labels.now }
     ensures { result ≡ verdict policy.now (has histories.now) roll.now }
 {
     if let Some(rank) = first_barred(roll) {
@@ -164,7 +197,7 @@ fn judge(policy: &Policy, histories: &Histories, roll: &Roll) -> Verdict
             label: told(roll, rank),
         };
     }
-    match first_offence(policy, histories, roll) {
+    match first_offence(policy, histories, roll, labels) {
         Some((to, from)) => Verdict::Denied {
             rule: Rule::Simple,
             process: roll.members.at(to),
@@ -180,7 +213,8 @@ fn judge(policy: &Policy, histories: &Histories, roll: &Roll) -> Verdict
 /// of a receiver and a contributor for which that is so the least is named, the lowest receiver
 /// first. Else it is granted.
 ///
-/// Where all receivers get alike from the ranks that reach them, as in an allreduce, an allgather
+/// Where no label that is stated has a rival among what the members have had access to or among the
+/// labels, looks at each rank twice. Where all receivers get alike from the ranks that reach them, as in an allreduce, an allgather
 /// or a scan, looks at each rank once, at the masks of each receiver, and, where one offends, at
 /// each rank for it once more. Between neighbours looks at the neighbours of each rank, and, where
 /// one offends, at each rank for it too. In an alltoallv looks at each pair of ranks.
@@ -191,6 +225,19 @@ pub fn decide(policy: &Policy, histories: &Histories, roll: &Roll) -> Verdict
     ensures meaning { IsVerdict policy.now (has histories.now) roll.now result }
     ensures apart { result ≡ Granted → MembersStayApart policy.now (has histories.now) roll.now }
 {
+    let labels = Inflow::of_labels(histories, roll);
+    decide_by(policy, histories, roll, &labels)
+}
+
+/// The same, where the labels of all ranks are at hand.
+pub fn decide_by(policy: &Policy, histories: &Histories, roll: &Roll, labels: &Inflow) -> Verdict
+    requires fit { IsFit roll.now }
+    requires classes { histories.now.classes ≡ policy.now.classes }
+    requires labels { IsLabelled histories.now.classes roll.now roll.now.shape.size labels.now }
+    ensures verdict { result ≡ verdict policy.now (has histories.now) roll.now }
+    ensures meaning { IsVerdict policy.now (has histories.now) roll.now result }
+    ensures apart { result ≡ Granted → MembersStayApart policy.now (has histories.now) roll.now }
+{
     keep_apart(histories);
-    judge(policy, histories, roll)
+    judge(policy, histories, roll, labels)
 }

@@ -17,7 +17,7 @@ pub loop-to-preserved : goal.loop-to-preserved
 loop-to-preserved c = record {
   none = pairs_none (offends c.args.policy.now (has c.args.histories.now) c.args.roll.now)
       c.args.roll.now.shape.size c.loop-to.to c.loop-to.invariant.none c.in-None.ensures.least;
-  serves = c.turn_to.ensures.serves;
+  serves = c.offender.ensures.serves;
 }
 
 pub returns-in-Some-clause-least : goal.returns-in-Some-clause-least

@@ -2,7 +2,7 @@ use Rattle.std.proofs.Common.{sym, subst, ◌∙◌}
 use Rattle.wall_rules.specs.Histories.{has, NobodyHoldsRivals}
 use Rattle.wall_verdict.specs.Meanings.{IsVerdict}
 use Rattle.wall_verdict.proofs.LawLemmas.{verdicts_name_the_least, granted_apart}
-use Rattle.wall_verdict.proofs.judge.decide.Goals as goal
+use Rattle.wall_verdict.proofs.judge.decide_by.Goals as goal
 
 pub returns-clause-meaning : goal.returns-clause-meaning
 returns-clause-meaning c = subst
