@@ -43,6 +43,7 @@ impl<X: Drop> Pending<X> {
     ghost use Rattle.coll_pending.specs.Lists.{fits, room_by};
     ghost use Rattle.coll_pending.specs.Waiting.{view_of_pending, next, HasRoom, HasArrived};
     ghost use Rattle.coll_pending.specs.Waiting.{IsKnownAs, IsOpened, CanArrive, fault_at};
+    ghost use Rattle.coll_pending.specs.Queues.{slot_of, count_in, queue_at};
 
     /// Nobody has arrived.
     #[tactic(auto, unfolding(crate::specs::Waiting::view_of_pending))]
@@ -72,6 +73,15 @@ impl<X: Drop> Pending<X> {
         ensures { result ≡ next (view_of_pending self.now) comm rank sig.now }
     {
         self.queues.next(comm, rank, sig)
+    }
+
+    /// The same, where that is known to be no mismatch. Compares no signatures.
+    #[tactic(auto, unfolding(crate::specs::Waiting::view_of_pending))]
+    pub fn next_agreed(&self, comm: u32, rank: u32, sig: &Signature) -> Next
+        requires { next (view_of_pending self.now) comm rank sig.now ≢ Mismatch }
+        ensures { result ≡ next (view_of_pending self.now) comm rank sig.now }
+    {
+        self.queues.next_agreed(comm, rank, sig)
     }
 
     /// The roll of the k-th instance of a communicator, if it waits for members.
@@ -152,6 +162,50 @@ impl<X: Drop> Pending<X> {
         }
     }
 
+    /// A member arrives with its statement and its part at an instance of its own signature, for
+    /// which there is room. Compares no signatures, and takes no memory.
+    pub fn arrive_ready(
+        &mut self,
+        comm: u32,
+        rank: u32,
+        group: &Group,
+        shape: &Shape,
+        stated: Stated,
+        part: X,
+    ) -> Arrived<X>
+        requires rank { rank < length group.now }
+        requires few { (view_of_pending self.old).arrivals comm rank < 2 ^ 62 }
+        requires agrees { next (view_of_pending self.old) comm rank stated.sig ≢ Mismatch }
+        requires room { HasRoom self.old comm rank (made_of group.now shape.now) }
+        requires fits { next (view_of_pending self.old) comm rank stated.sig ≡ Opens →
+            fits (room_by shape.now) stated.sig ≡ true }
+        ensures { HasArrived (view_of_pending self.old) (view_of_pending self.new) comm rank
+            (made_of group.now shape.now) stated part result }
+    {
+        self.meet_ready(comm, rank, group, shape, &stated.sig);
+        self.queues.arrive(comm, rank, stated, part)
+    }
+
+    // Sees to it that the instance which an arrival of a rank meets waits, for which there is room.
+    fn meet_ready(&mut self, comm: u32, rank: u32, group: &Group, shape: &Shape, sig: &Signature)
+        requires rank { rank < length group.now }
+        requires agrees { next (view_of_pending self.old) comm rank sig.now ≢ Mismatch }
+        requires room { HasRoom self.old comm rank (made_of group.now shape.now) }
+        requires fits { next (view_of_pending self.old) comm rank sig.now ≡ Opens →
+            fits (room_by shape.now) sig.now ≡ true }
+        ensures opened { IsOpened (view_of_pending self.old) (view_of_pending self.new) comm rank
+            (made_of group.now shape.now) sig.now }
+        ensures meets { CanArrive self.new.queues comm rank (made_of group.now shape.now) sig.now }
+    {
+        if self.queues.meets(comm, rank) {
+            return;
+        }
+        match self.open_new(comm, rank, group, shape, sig) {
+            Ok(()) => {}
+            Err(_) => unreachable!(),
+        }
+    }
+
     // Sees to it that the instance which an arrival of a rank meets waits and is of this signature.
     fn meet(
         &mut self,
@@ -216,6 +270,31 @@ impl<X: Drop> Pending<X> {
         if self.queues.meets(comm, rank) {
             return Ok(());
         }
+        self.open_new(comm, rank, group, shape, sig)
+    }
+
+    // Opens the instance that an arrival of a rank meets, which does not wait yet, and for which
+    // there is room.
+    fn open_new(
+        &mut self,
+        comm: u32,
+        _rank: u32,
+        _group: &Group,
+        _shape: &Shape,
+        sig: &Signature,
+    ) -> Result<(), NoMemory>
+        requires rank { _rank < length _group.now }
+        requires room { HasRoom self.old comm _rank (made_of _group.now _shape.now) }
+        requires free { slot_of self.old.queues comm
+            (count_in (queue_at self.old.queues.queues comm) _rank) ≡ None }
+        ensures opened { OnOk result
+            (IsOpened (view_of_pending self.old) (view_of_pending self.new) comm _rank
+            (made_of _group.now _shape.now) sig.now) }
+        ensures meets { OnOk result
+            (CanArrive self.new.queues comm _rank (made_of _group.now _shape.now) sig.now) }
+        ensures unchanged { OnErr result (view_of_pending self.new ≡ view_of_pending self.old) }
+        ensures memory { fits (room_by _shape.now) sig.now ≡ true → OnErr result ⊥ }
+    {
         let is_known = self.queues.knows(comm);
         let slot = self.spare.take_slot(self.alloc, sig)?;
         let fresh = self.spare.take_queue(is_known);

@@ -1,5 +1,5 @@
 //! The queues of all communicators, and the slots in which their instances stand.
-ghost use Rattle.std.specs.Prelude.{◌≡◌, ◌<◌, ◌^◌, ℕ, [], length, OnOk, OnErr, IfSome};
+ghost use Rattle.std.specs.Prelude.{◌≡◌, ◌≢◌, ◌<◌, ◌^◌, ℕ, [], length, OnOk, OnErr, IfSome};
 ghost use Rattle.std.specs.Prelude.{IsSome, is_some, IsSomeAnd, Some, None};
 ghost use Rattle.std.specs.Option.{option_copied};
 ghost use Rattle.slab.specs.Slab.{get, Updates, Slab};
@@ -9,6 +9,7 @@ ghost use Rattle.coll_pending.specs.Queues.{queue_at, slot_in, or_fresh, pushed,
 ghost use Rattle.coll_pending.specs.Queues.{IsFree, IsRoomier, PostsTo, posted, lacks_one};
 ghost use Rattle.coll_pending.specs.Waiting.{HasPlaceIn};
 ghost use Rattle.coll_pending.specs.declared.slot.Slot.{Slot};
+ghost use Rattle.coll_pending.specs.declared.arrival.Next.TheVariants.{Mismatch};
 
 use crate::arrival::{Arrived, Next};
 use crate::queue::Queue;
@@ -106,6 +107,15 @@ impl<X: Drop> Queues<X> {
         next_of(self.slot(comm, self.arrivals(comm, rank)), rank, sig)
     }
 
+    /// The same, where that is no mismatch.
+    pub fn next_agreed(&self, comm: u32, rank: u32, sig: &Signature) -> Next
+        requires { next (seen self.now) comm rank sig.now ≢ Mismatch }
+        ensures { result ≡ next (seen self.now) comm rank sig.now }
+    {
+        let _ = &self.by_comm;
+        next_of_agreed(self.slot(comm, self.arrivals(comm, rank)), rank, sig)
+    }
+
     /// Makes room for one more instance of a communicator.
     pub fn reserve(&mut self, comm: u32) -> Result<(), NoMemory>
         ensures unchanged { seen self.new ≡ seen self.old }
@@ -182,6 +192,25 @@ fn next_of<X: Drop>(slot: Option<&Slot<X>>, rank: u32, sig: &Signature) -> Next
             if !slot.roll.sig.is_same(sig) {
                 Next::Mismatch
             } else if slot.lacks_only(rank) {
+                Next::Fills
+            } else {
+                Next::Joins
+            }
+        }
+    }
+}
+
+// The same, where it is of the signature of the instance, if there is one.
+fn next_of_agreed<X: Drop>(slot: Option<&Slot<X>>, rank: u32, _sig: &Signature) -> Next
+    requires tell { IfSome (option_copied slot) (CanTell rank) }
+    requires agrees { next_by (roll_in (instance_in (option_copied slot))) rank _sig.now
+        ≢ Mismatch }
+    ensures { result ≡ next_by (roll_in (instance_in (option_copied slot.entry))) rank _sig.now }
+{
+    match slot {
+        None => Next::Opens,
+        Some(slot) => {
+            if slot.lacks_only(rank) {
                 Next::Fills
             } else {
                 Next::Joins

@@ -196,7 +196,7 @@ fn make_if_full<X: Drop>(
         return Ok(None);
     }
     let size = comms.group(comm).size();
-    if !is_last(pending.next(comm, rank, &stated.sig), size) {
+    if !is_last(pending.next_agreed(comm, rank, &stated.sig), size) {
         return Ok(None);
     }
     let place = pending.arrivals(comm, rank);
@@ -312,7 +312,7 @@ pub fn change<X: Drop>(
     } = post;
     let k = pending.arrivals(comm, rank);
     let _ = enter_label(histories, process, &stated.label);
-    match pending.arrive(
+    match pending.arrive_ready(
         comm,
         rank,
         comms.group(comm),
@@ -320,12 +320,11 @@ pub fn change<X: Drop>(
         stated,
         part,
     ) {
-        Ok(Arrived::Waiting) => Entered::Waiting { k },
-        Ok(Arrived::Full(full)) => {
+        Arrived::Waiting => Entered::Waiting { k },
+        Arrived::Full(full) => {
             let outcome = settle_full(policy, histories, &full.roll, made);
             Entered::Settled { full, k, outcome }
         }
-        Err(_) => unreachable!(),
     }
 }
 

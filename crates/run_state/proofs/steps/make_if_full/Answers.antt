@@ -9,6 +9,7 @@ use Rattle.run_state.specs.Upcoming.{roll_next, is_last, asks_with}
 use Rattle.run_state.proofs.PostStateLemmas.{prepared_plain, prepared_waiting, prepared_made}
 use Rattle.run_state.proofs.MadeLemmas.{faultless_is}
 use Rattle.run_state.proofs.SeenLemmas.{last_is, asks_are, asks_length, sound_next}
+use Rattle.run_state.proofs.VerdictLemmas.{some_at}
 use Rattle.run_state.proofs.steps.make_if_full.Goals as goal
 
 pub returns-then-not-is_constructor-clause-made : goal.returns-then-not-is_constructor-clause-made
@@ -17,6 +18,11 @@ returns-then-not-is_constructor-clause-made g c = λ found e.
     prepared_plain (view_of_pending c.args.pending.now) c.args.comm c.args.rank found
     c.args.stated.now (c.requires.upcoming found e) c.args.comms.now
     (sym c.is_constructor.ensures ∙ plain)
+
+pub next_agreed-requires : goal.next_agreed-requires
+next_agreed-requires g c =
+    let found = some_at c.args.comms.now c.args.comm c.requires.there in
+    (c.requires.upcoming found.0 found.1).agrees
 
 pub returns-then-not-is_last-clause-made : goal.returns-then-not-is_last-clause-made
 returns-then-not-is_last-clause-made g c = λ found e.
@@ -28,7 +34,7 @@ returns-then-not-is_last-clause-made g c = λ found e.
     c.args.stated.now upcoming c.args.comms.now
     (last_is (view_of_pending c.args.pending.now) c.args.comm c.args.rank found c.args.stated.now
     upcoming
-    ∙ ((λ i. is_last (sym c.next.ensures i) (sym size i)) ∙ (sym c.is_last.ensures ∙ off)))
+    ∙ ((λ i. is_last (sym c.next_agreed.ensures i) (sym size i)) ∙ (sym c.is_last.ensures ∙ off)))
 
 pub make-requires-clause-asks : goal.make-requires-clause-asks
 make-requires-clause-asks g c = λ found e.
@@ -96,5 +102,5 @@ returns-clause-made g c = λ found e.
     (sym c.is_constructor.ensures ∙ constructor)
     (last_is (view_of_pending c.args.pending.now) c.args.comm c.args.rank found c.args.stated.now
     upcoming
-    ∙ ((λ i. is_last (sym c.next.ensures i) (sym size i)) ∙ (sym c.is_last.ensures ∙ last)))
+    ∙ ((λ i. is_last (sym c.next_agreed.ensures i) (sym size i)) ∙ (sym c.is_last.ensures ∙ last)))
     (c.in_ok-outcome.ensures.made found e)

@@ -1,10 +1,8 @@
-use Rattle.std.proofs.Common.{◌∙◌, ◌<◌, sym, ap, subst, length, IsSome}
+use Rattle.std.proofs.Common.{◌∙◌, sym, ap, subst, IsSome}
 use Rattle.coll_pending.specs.Instances.{Communicator}
 use Rattle.coll_pending.specs.Queues.{queue_at, count_in, slot_of}
-use Rattle.coll_pending.specs.Waiting.{State, view_of_pending, HasRoom}
-use Rattle.coll_pending.proofs.PendingLemmas.{none_of, room_opens, waits_opened, waits_meets}
-use Rattle.coll_pending.proofs.PendingLemmas.{new_opened, new_meets, lists_fit, slot_for_some}
-use Rattle.coll_pending.proofs.PendingLemmas.{next_opens, opening, opens_as}
+use Rattle.coll_pending.specs.Waiting.{State, view_of_pending}
+use Rattle.coll_pending.proofs.PendingLemmas.{none_of, waits_opened, waits_meets, next_opens}
 use Rattle.coll_pending.proofs.pending.Pending.open.Goals as goal
 
 pub returns-then-meets-clause-opened : goal.returns-then-meets-clause-opened
@@ -30,177 +28,16 @@ returns-then-meets-clause-meets g c =
     c.in_ok-ready.ensures.unchanged c.in_ok-ready.ensures.room c.requires.agrees some
     c.requires.rank
 
-pub take_slot-requires : goal.take_slot-requires
-take_slot-requires g c =
-    let comm : Communicator = record { members = c.args.group.now; shape = c.args.shape.now } in
-    let inside : State g.row.X.Denot =
-    record { queues = c.self.inside.queues; spare = c.self.inside.spare } in
-    let room =
-    subst (λ (v : State g.row.X.Denot). HasRoom v c.args.comm c.args.rank comm)
-    (sym c.self.view_is) c.in_ok-ready.ensures.room in
-    let free =
-    none_of (slot_of inside.queues c.args.comm
-    (count_in (queue_at inside.queues.queues c.args.comm) c.args.rank))
-    (sym c.meets.ensures ∙ c.if-meets.false) in
-    let can = room_opens inside c.args.comm c.args.rank comm room free in
-    slot_for_some comm c.self.inside.spare.slot can.slot
-
-pub returns-in_err-slot-clause-memory : goal.returns-in_err-slot-clause-memory
+pub returns-clause-memory : goal.returns-clause-memory
 unfolding view_of_pending
-returns-in_err-slot-clause-memory g c = λ had fit.
-    let comm : Communicator = record { members = c.args.group.now; shape = c.args.shape.now } in
-    let inside : State g.row.X.Denot =
-    record { queues = c.self.inside.queues; spare = c.self.inside.spare } in
-    let room =
-    subst (λ (v : State g.row.X.Denot). HasRoom v c.args.comm c.args.rank comm)
-    (sym c.self.view_is) c.in_ok-ready.ensures.room in
+returns-clause-memory g c = λ had fit.
     let free =
-    none_of (slot_of inside.queues c.args.comm
-    (count_in (queue_at inside.queues.queues c.args.comm) c.args.rank))
+    none_of (slot_of c.self.inside.queues c.args.comm
+    (count_in (queue_at c.self.inside.queues.queues c.args.comm) c.args.rank))
     (sym c.meets.ensures ∙ c.if-meets.false) in
-    let can = room_opens inside c.args.comm c.args.rank comm room free in
     let same = ap (λ (v : State g.row.X.Denot). view_of_pending v) c.self.view_is
     ∙ c.in_ok-ready.ensures.unchanged in
     let opens =
     next_opens c.self.inside.queues (view_of_pending c.args.self.now) c.args.comm c.args.rank
     c.args.sig.now same free in
-    absurd (c.in_err-slot.ensures.memory
-    (lists_fit c.args.shape.now c.self.inside.spare.lists c.args.sig.now can.lists (fit opens)))
-
-pub open-requires-clause-place : goal.open-requires-clause-place
-open-requires-clause-place g c =
-    let comm : Communicator = record { members = c.args.group.now; shape = c.args.shape.now } in
-    let inside : State g.row.X.Denot =
-    record { queues = c.self.inside.queues; spare = c.self.inside.spare } in
-    let room =
-    subst (λ (v : State g.row.X.Denot). HasRoom v c.args.comm c.args.rank comm)
-    (sym c.self.view_is) c.in_ok-ready.ensures.room in
-    let free =
-    none_of (slot_of inside.queues c.args.comm
-    (count_in (queue_at inside.queues.queues c.args.comm) c.args.rank))
-    (sym c.meets.ensures ∙ c.if-meets.false) in
-    let can = room_opens inside c.args.comm c.args.rank comm room free in
-    can.place
-
-pub open-requires-clause-vacant : goal.open-requires-clause-vacant
-open-requires-clause-vacant g c =
-    let comm : Communicator = record { members = c.args.group.now; shape = c.args.shape.now } in
-    let inside : State g.row.X.Denot =
-    record { queues = c.self.inside.queues; spare = c.self.inside.spare } in
-    let room =
-    subst (λ (v : State g.row.X.Denot). HasRoom v c.args.comm c.args.rank comm)
-    (sym c.self.view_is) c.in_ok-ready.ensures.room in
-    let free =
-    none_of (slot_of inside.queues c.args.comm
-    (count_in (queue_at inside.queues.queues c.args.comm) c.args.rank))
-    (sym c.meets.ensures ∙ c.if-meets.false) in
-    let can = room_opens inside c.args.comm c.args.rank comm room free in
-    let is = c.in_ok-slot.ensures.slot comm can.slot in
-    let it =
-    opening c.self.inside.queues c.self.inside.spare c.args.comm c.args.rank comm
-    c.in_ok-slot.slot c.take_queue-fresh.result c.knows-is_known.result c.requires.rank can
-    is c.knows-is_known.ensures
-    (λ e. c.take_queue-fresh.ensures e ∙ c.in_ok-slot.ensures.queue) in
-    it.vacant
-
-pub open-requires-clause-some : goal.open-requires-clause-some
-open-requires-clause-some g c =
-    let comm : Communicator = record { members = c.args.group.now; shape = c.args.shape.now } in
-    let inside : State g.row.X.Denot =
-    record { queues = c.self.inside.queues; spare = c.self.inside.spare } in
-    let room =
-    subst (λ (v : State g.row.X.Denot). HasRoom v c.args.comm c.args.rank comm)
-    (sym c.self.view_is) c.in_ok-ready.ensures.room in
-    let free =
-    none_of (slot_of inside.queues c.args.comm
-    (count_in (queue_at inside.queues.queues c.args.comm) c.args.rank))
-    (sym c.meets.ensures ∙ c.if-meets.false) in
-    let can = room_opens inside c.args.comm c.args.rank comm room free in
-    let is = c.in_ok-slot.ensures.slot comm can.slot in
-    let it =
-    opening c.self.inside.queues c.self.inside.spare c.args.comm c.args.rank comm
-    c.in_ok-slot.slot c.take_queue-fresh.result c.knows-is_known.result c.requires.rank can
-    is c.knows-is_known.ensures
-    (λ e. c.take_queue-fresh.ensures e ∙ c.in_ok-slot.ensures.queue) in
-    it.some
-
-pub open-requires-clause-queue : goal.open-requires-clause-queue
-open-requires-clause-queue g c =
-    let comm : Communicator = record { members = c.args.group.now; shape = c.args.shape.now } in
-    let inside : State g.row.X.Denot =
-    record { queues = c.self.inside.queues; spare = c.self.inside.spare } in
-    let room =
-    subst (λ (v : State g.row.X.Denot). HasRoom v c.args.comm c.args.rank comm)
-    (sym c.self.view_is) c.in_ok-ready.ensures.room in
-    let free =
-    none_of (slot_of inside.queues c.args.comm
-    (count_in (queue_at inside.queues.queues c.args.comm) c.args.rank))
-    (sym c.meets.ensures ∙ c.if-meets.false) in
-    let can = room_opens inside c.args.comm c.args.rank comm room free in
-    let is = c.in_ok-slot.ensures.slot comm can.slot in
-    let it =
-    opening c.self.inside.queues c.self.inside.spare c.args.comm c.args.rank comm
-    c.in_ok-slot.slot c.take_queue-fresh.result c.knows-is_known.result c.requires.rank can
-    is c.knows-is_known.ensures
-    (λ e. c.take_queue-fresh.ensures e ∙ c.in_ok-slot.ensures.queue) in
-    it.queue
-
-pub returns-clause-opened : goal.returns-clause-opened
-unfolding view_of_pending
-returns-clause-opened g c =
-    let comm : Communicator = record { members = c.args.group.now; shape = c.args.shape.now } in
-    let inside : State g.row.X.Denot =
-    record { queues = c.self.inside.queues; spare = c.self.inside.spare } in
-    let room =
-    subst (λ (v : State g.row.X.Denot). HasRoom v c.args.comm c.args.rank comm)
-    (sym c.self.view_is) c.in_ok-ready.ensures.room in
-    let free =
-    none_of (slot_of inside.queues c.args.comm
-    (count_in (queue_at inside.queues.queues c.args.comm) c.args.rank))
-    (sym c.meets.ensures ∙ c.if-meets.false) in
-    let can = room_opens inside c.args.comm c.args.rank comm room free in
-    let is = c.in_ok-slot.ensures.slot comm can.slot in
-    let it =
-    opening c.self.inside.queues c.self.inside.spare c.args.comm c.args.rank comm
-    c.in_ok-slot.slot c.take_queue-fresh.result c.knows-is_known.result c.requires.rank can
-    is c.knows-is_known.ensures
-    (λ e. c.take_queue-fresh.ensures e ∙ c.in_ok-slot.ensures.queue) in
-    let same = ap (λ (v : State g.row.X.Denot). view_of_pending v) c.self.view_is
-    ∙ c.in_ok-ready.ensures.unchanged in
-    let lt =
-    subst (λ (m : Communicator). c.args.rank < length m.members) (sym it.of) c.requires.rank in
-    let opens =
-    opens_as c.self.inside.queues c.open.new.self c.args.comm _ c.in_ok-slot.slot comm
-    c.args.sig.now it.of c.in_ok-slot.ensures.sig (c.open.ensures c.args.rank lt free) in
-    new_opened c.self.inside.queues c.open.new.self (view_of_pending c.args.self.now) c.args.comm
-    c.args.rank comm c.args.sig.now same free opens
-
-pub returns-clause-meets : goal.returns-clause-meets
-unfolding view_of_pending
-returns-clause-meets g c =
-    let comm : Communicator = record { members = c.args.group.now; shape = c.args.shape.now } in
-    let inside : State g.row.X.Denot =
-    record { queues = c.self.inside.queues; spare = c.self.inside.spare } in
-    let room =
-    subst (λ (v : State g.row.X.Denot). HasRoom v c.args.comm c.args.rank comm)
-    (sym c.self.view_is) c.in_ok-ready.ensures.room in
-    let free =
-    none_of (slot_of inside.queues c.args.comm
-    (count_in (queue_at inside.queues.queues c.args.comm) c.args.rank))
-    (sym c.meets.ensures ∙ c.if-meets.false) in
-    let can = room_opens inside c.args.comm c.args.rank comm room free in
-    let is = c.in_ok-slot.ensures.slot comm can.slot in
-    let it =
-    opening c.self.inside.queues c.self.inside.spare c.args.comm c.args.rank comm
-    c.in_ok-slot.slot c.take_queue-fresh.result c.knows-is_known.result c.requires.rank can
-    is c.knows-is_known.ensures
-    (λ e. c.take_queue-fresh.ensures e ∙ c.in_ok-slot.ensures.queue) in
-    let same = ap (λ (v : State g.row.X.Denot). view_of_pending v) c.self.view_is
-    ∙ c.in_ok-ready.ensures.unchanged in
-    let lt =
-    subst (λ (m : Communicator). c.args.rank < length m.members) (sym it.of) c.requires.rank in
-    let opens =
-    opens_as c.self.inside.queues c.open.new.self c.args.comm _ c.in_ok-slot.slot comm
-    c.args.sig.now it.of c.in_ok-slot.ensures.sig (c.open.ensures c.args.rank lt free) in
-    new_meets c.self.inside.queues c.open.new.self (view_of_pending c.args.self.now) c.args.comm
-    c.args.rank comm c.args.sig.now same free opens c.requires.rank
+    c.open_new.ensures.memory (fit opens)
