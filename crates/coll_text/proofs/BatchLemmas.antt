@@ -1,5 +1,6 @@
 -- Numbers that are written from the last to the first.
-use Rattle.std.proofs.Common.{◌≡◌, ℕ, ◌+◌, ◌^◌, ◌<◌, ◌≤◌, true, false, ◌&&◌, ℤ, pos, negsuc, List}
+use Rattle.std.proofs.Common.{◌≡◌, ℕ, ◌+◌, ◌^◌, ◌<◌, ◌≤◌, true, false, ◌&&◌, ℤ, pos}
+use Rattle.std.proofs.Common.{negsuc, List, [], set}
 use Rattle.std.proofs.Common.{◌∷◌, ◌++◌, length, get_or, take, drop, slice_get, Some, refl, sym, ap}
 use Rattle.std.proofs.Common.{◌∙◌, append_assoc, arith}
 use Rattle.std.specs.Prelude.{int_le, int_lt, unsigned_abs}
@@ -8,14 +9,14 @@ use Rattle.std.proofs.lemmas.Bool.{and_parts, leb-true, ltb-true}
 use Rattle.std.proofs.lemmas.Fmt.{length-decimal-le}
 use Rattle.std.proofs.lemmas.Grind.{flat_map-append}
 use Rattle.std.proofs.lemmas.List.{drop_more, get_or-take, length-take-le, take-append-drop}
-use Rattle.std.proofs.lemmas.List.{drop-append-le}
+use Rattle.std.proofs.lemmas.List.{drop-append-le, drop-set}
 use Rattle.std.proofs.lemmas.Option.{get_or_from_slice_get}
 use Rattle.mpi_elems.specs.declared.elem_type.ElemType.{ElemType}
 use Rattle.mpi_elems.specs.declared.elem_type.ElemType.TheVariants.{Int8, Int16, Int32, Int64}
 use Rattle.mpi_elems.specs.declared.elem_type.ElemType.TheVariants.{Uint8, Uint16, Uint32, Uint64}
 use Rattle.mpi_elems.specs.declared.elem_type.ElemType.TheVariants.{TwoInt}
 use Rattle.mpi_elems.specs.Numbers.{is_number_of}
-use Rattle.coll_text.specs.Writing.{spaced_numbers}
+use Rattle.coll_text.specs.Writing.{spaced_numbers, enclosed_numbers}
 
 -- ---- each number of a type has 64 bits beside its sign
 
@@ -90,3 +91,15 @@ batch_more ns i to whole line new le within put so_far =
     ∙ sym
     (append_assoc line (spaced_numbers (drop i (take to ns))) (spaced_numbers (drop to ns)))
     ∙ sym (ap (λ (t : List ℕ). t ++ spaced_numbers (drop to ns)) put)
+
+-- a list whose first space gives its place to another byte
+pub enclosed_from : (bytes : List ℕ) (start before behind : ℕ) (ns : List ℤ) → 0 < length ns →
+    start < length bytes → drop start bytes ≡ spaced_numbers ns ++ behind ∷ [] →
+    drop start (set bytes start before) ≡ enclosed_numbers before ns behind
+enclosed_from bytes start before behind [] some lt e = absurd (omega arith)
+enclosed_from bytes start before behind (n ∷ ns) some lt e =
+    let split : drop start bytes ≡ get_or bytes start 0 ∷ drop (start + 1) bytes = drop_more bytes
+    start 0 lt in
+    let rest : drop (start + 1) bytes ≡ signed_decimal n ++ spaced_numbers ns ++ behind ∷ [] = cc
+    in
+    drop-set bytes start before lt ∙ ap (λ (t : List ℕ). before ∷ t) rest

@@ -23,7 +23,7 @@ mod words;
 
 pub use append::{put, put_decimal, put_signed};
 pub use check::check_statement;
-pub use digits::{put_number_at, put_spaced};
+pub use digits::{put_enclosed, put_number_at, put_spaced};
 pub use fault::LineFault;
 pub use fields::next_statement;
 pub use labels::{label_in, label_text, rule_text};

@@ -1,5 +1,5 @@
 //! Writes a reply as a line.
-ghost use Rattle.std.specs.Prelude.{◌≡◌, ◌++◌, OnOk, OnErr, codes};
+ghost use Rattle.std.specs.Prelude.{◌≡◌, ◌≤◌, ◌++◌, OnOk, OnErr, codes, drop, length, take};
 ghost use Rattle.std.specs.Fmt.{decimal};
 ghost use Rattle.run_model.specs.Known.{IsKnownReply};
 ghost use Rattle.coll_text.specs.Writing.{IsFront};
@@ -7,7 +7,8 @@ ghost use Rattle.hall_script.specs.Replies.{block_text, reply_line, reply_text, 
 ghost use Rattle.hall_script.specs.Replies.{numbers_text, blocks_text, delivery_text, denial_text};
 ghost use Rattle.hall_script.specs.Replies.{info_text};
 
-use coll_text::{label_text, put, put_decimal, put_number_at, put_spaced, rule_text};
+use coll_text::{label_text, put, put_decimal, put_enclosed, rule_text};
+use mpi_elems::Buffer;
 use run_model::{Block, Integers, Refusal, Reply, Rule};
 use std::alloc::AllocError;
 use wall_labels::NoMemory;
@@ -34,18 +35,29 @@ fn refusal_word(refusal: Refusal) -> &'static str
     }
 }
 
+/// Appends the numbers of the buffer from one place up to another, in brackets. Where memory ran
+/// out some of them may stand there.
 #[tactic(auto, using(crate::proofs::ReplyLemmas::list_text))]
+pub(crate) fn put_numbers_between(
+    line: &mut Vec<u8>,
+    numbers: &Buffer,
+    from: usize,
+    to: usize,
+) -> Result<(), AllocError>
+    requires order { from ≤ to }
+    requires within { to ≤ length numbers.now.numbers }
+    ensures ok { OnOk result (line.new.items
+        ≡ line.old.items ++ numbers_text (drop from (take to numbers.now.numbers))) }
+    ensures front { IsFront line.old.items line.new.items }
+{
+    put_enclosed(line, b'[', numbers, from, to, b']')
+}
+
 fn put_numbers(line: &mut Vec<u8>, numbers: &Integers) -> Result<(), AllocError>
     ensures ok { OnOk result (line.new.items ≡ line.old.items ++ numbers_text numbers.now) }
     ensures front { IsFront line.old.items line.new.items }
 {
-    if numbers.len() == 0 {
-        return put(line, "[]");
-    }
-    put(line, "[")?;
-    put_number_at(line, numbers.as_buffer(), 0)?;
-    put_spaced(line, numbers.as_buffer(), 1)?;
-    put(line, "]")
+    put_numbers_between(line, numbers.as_buffer(), 0, numbers.len())
 }
 
 fn put_block(line: &mut Vec<u8>, block: &Block) -> Result<(), AllocError>
