@@ -17,7 +17,9 @@ ghost use Rattle.run_model.specs.Known.{IsKnownLabel};
 use crate::fault::WriteFault;
 use crate::ranges::entry_is_spelled;
 use coll_routes::Stated;
-use coll_text::{label_text, put, put_decimal, rule_text, send, send_long, write_statement};
+use coll_text::{
+    label_text, put, put_behind, put_decimal, rule_text, send, send_long, write_statement,
+};
 use run_model::{Entry, Outcome};
 use run_state::Book;
 use std::alloc::{AllocError, Global};
@@ -48,8 +50,7 @@ fn put_numbers(word: &str, first: u64, second: u64, text: &mut Vec<u8>) -> Resul
 {
     put(text, word)?;
     put_decimal(text, first)?;
-    put(text, " ")?;
-    put_decimal(text, second)
+    put_behind(text, b' ', second)
 }
 
 // What a post gives, to the end of its line.

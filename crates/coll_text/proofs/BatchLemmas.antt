@@ -1,12 +1,12 @@
 -- Numbers that are written from the last to the first.
-use Rattle.std.proofs.Common.{◌≡◌, ℕ, ◌+◌, ◌^◌, ◌<◌, ◌≤◌, true, false, ◌&&◌, ℤ, pos}
+use Rattle.std.proofs.Common.{◌≡◌, ℕ, ◌+◌, ◌/◌, ◌%◌, ◌^◌, ◌<◌, ◌≤◌, true, false, ◌&&◌, ℤ, pos}
 use Rattle.std.proofs.Common.{negsuc, List, [], set}
 use Rattle.std.proofs.Common.{◌∷◌, ◌++◌, length, get_or, take, drop, slice_get, Some, refl, sym, ap}
 use Rattle.std.proofs.Common.{◌∙◌, append_assoc, arith}
 use Rattle.std.specs.Prelude.{int_le, int_lt, unsigned_abs}
 use Rattle.std.specs.Fmt.{decimal, signed_decimal}
 use Rattle.std.proofs.lemmas.Bool.{and_parts, leb-true, ltb-true}
-use Rattle.std.proofs.lemmas.Fmt.{length-decimal-le}
+use Rattle.std.proofs.lemmas.Fmt.{length-decimal-le, decimal_digit, decimal_step}
 use Rattle.std.proofs.lemmas.Grind.{flat_map-append}
 use Rattle.std.proofs.lemmas.List.{drop_more, get_or-take, length-take-le, take-append-drop}
 use Rattle.std.proofs.lemmas.List.{drop-append-le, drop-set}
@@ -52,6 +52,19 @@ number_small Uint64 z h = unsigned_small 18446744073709551616 z (omega arith) h
 number_small TwoInt z h = signed_small 2147483647 2147483648 z (omega arith) (omega arith) h
 
 -- ---- texts
+
+pub two_digits : (n : ℕ) → 10 ≤ n → n < 100 → decimal n ≡ decimal (n / 10) ++ decimal (n % 10)
+two_digits n low high =
+    decimal_step n low (omega arith)
+    ∙ ap (λ (t : List ℕ). decimal (n / 10) ++ t) (sym (decimal_digit (n % 10) (omega arith)))
+
+pub length_one : (n : ℕ) → n < 10 → length (decimal n) ≡ 1
+length_one n low = ap length (decimal_digit n low)
+
+pub length_two : (n : ℕ) → 10 ≤ n → n < 100 → length (decimal n) ≡ 2
+length_two n low high =
+    ap length (decimal_step n low (omega arith)
+    ∙ ap (λ (t : List ℕ). t ++ (48 + n % 10) ∷ []) (decimal_digit (n / 10) (omega arith)))
 
 pub length_small : (n : ℕ) → n < 2 ^ 64 → length (decimal n) ≤ 20
 length_small n lt = length-decimal-le 20 n (omega arith) (omega arith) lt

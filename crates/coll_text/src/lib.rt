@@ -21,7 +21,7 @@ mod spell;
 mod table;
 mod words;
 
-pub use append::{put, put_decimal, put_signed};
+pub use append::{put, put_behind, put_decimal, put_signed};
 pub use check::check_statement;
 pub use digits::{put_enclosed, put_number_at, put_spaced};
 pub use fault::LineFault;

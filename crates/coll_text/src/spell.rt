@@ -8,7 +8,7 @@ ghost use Rattle.coll_routes.specs.Signatures.{kind};
 ghost use Rattle.coll_text.specs.Spaced.{behind_each, behind_comma};
 ghost use Rattle.coll_text.specs.Writing.{IsFront};
 
-use crate::append::{put, put_decimal, put_signed};
+use crate::append::{put, put_behind, put_decimal, put_signed};
 use crate::table::{Form, forms};
 use coll_routes::{Own, Signature};
 use mpi_elems::ElemType;
@@ -39,8 +39,7 @@ fn put_more_numbers(text: &mut Vec<u8>, numbers: &[u32]) -> Result<(), AllocErro
     ensures front { IsFront text.old.items text.new.items }
 {
     for n in numbers {
-        put(text, ",")?;
-        put_decimal(text, u64::from(*n))?;
+        put_behind(text, b',', u64::from(*n))?;
     }
     Ok(())
 }
