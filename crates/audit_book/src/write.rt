@@ -7,6 +7,7 @@ ghost use Rattle.wall_labels.specs.Known.{AppendsFront};
 ghost use Rattle.audit_book.specs.Text.{given_word, passage_word, line_of, given_end, post_words};
 ghost use Rattle.audit_book.specs.Text.{verdict_words, outcome_words, entry_words, header_words};
 ghost use Rattle.audit_book.specs.Text.{header_line, end_words, entry_lines, book_text};
+ghost use Rattle.coll_text.specs.Words.{rule_word};
 ghost use Rattle.coll_text.specs.Writing.{Moves};
 ghost use Rattle.audit_book.specs.Writing.{IsWriteFault};
 ghost use Rattle.audit_book.specs.Reading.{book_in};
@@ -17,9 +18,7 @@ ghost use Rattle.run_model.specs.Known.{IsKnownLabel};
 use crate::fault::WriteFault;
 use crate::ranges::entry_is_spelled;
 use coll_routes::Stated;
-use coll_text::{
-    label_text, put, put_behind, put_decimal, rule_text, send, send_long, write_statement,
-};
+use coll_text::{label_text, put, put_behind, put_decimal, send, send_long, write_statement};
 use run_model::{Entry, Outcome};
 use run_state::Book;
 use std::alloc::{AllocError, Global};
@@ -27,10 +26,21 @@ use wall_labels::{Label, NoMemory, ProcessId, Sink};
 use wall_policy::Policy;
 use wall_verdict::Rule;
 
-fn passage_text(barred: bool) -> &'static str
-    ensures { result.now ≡ passage_word barred }
+// The last word of a post's line, between a space and the line's end.
+fn passage_end(barred: bool) -> &'static str
+    ensures { result.now ≡ codes " " ++ passage_word barred ++ codes "\n" }
 {
-    if barred { "barred" } else { "passed" }
+    if barred { " barred\n" } else { " passed\n" }
+}
+
+// The words of a denial before the name of a process.
+fn denied_by(rule: Rule) -> &'static str
+    ensures { result.now ≡ codes "denied " ++ rule_word rule ++ codes " " }
+{
+    match rule {
+        Rule::Star => "denied star ",
+        Rule::Simple => "denied simple ",
+    }
 }
 
 fn given_text<'a>(policy: &'a Policy, label: &Option<Label>) -> &'a str
@@ -62,9 +72,7 @@ fn put_given(policy: &Policy, stated: &Stated, text: &mut Vec<u8>) -> Result<(),
     put_decimal(text, u64::from(stated.given))?;
     put(text, " as ")?;
     put(text, given_text(policy, &stated.label))?;
-    put(text, " ")?;
-    put(text, passage_text(stated.barred))?;
-    put(text, "\n")
+    put(text, passage_end(stated.barred))
 }
 
 fn put_post(
@@ -99,9 +107,7 @@ fn put_denied(
         ≡ text.old.items
         ++ line_of (outcome_words policy.now (Outcome.Denied rule process label.now))) }
 {
-    put(text, "denied ")?;
-    put(text, rule_text(rule))?;
-    put(text, " ")?;
+    put(text, denied_by(rule))?;
     put(text, policy.process_name(process))?;
     put(text, " ")?;
     put(text, label_text(policy, label))?;

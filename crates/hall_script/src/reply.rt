@@ -3,11 +3,12 @@ ghost use Rattle.std.specs.Prelude.{◌≡◌, ◌≤◌, ◌++◌, OnOk, OnErr,
 ghost use Rattle.std.specs.Fmt.{decimal};
 ghost use Rattle.run_model.specs.Known.{IsKnownReply};
 ghost use Rattle.coll_text.specs.Writing.{IsFront};
+ghost use Rattle.coll_text.specs.Words.{rule_word};
 ghost use Rattle.hall_script.specs.Replies.{block_text, reply_line, reply_text, refusal_name};
 ghost use Rattle.hall_script.specs.Replies.{numbers_text, blocks_text, delivery_text, denial_text};
 ghost use Rattle.hall_script.specs.Replies.{info_text};
 
-use coll_text::{label_text, put, put_decimal, put_enclosed, rule_text};
+use coll_text::{label_text, put, put_decimal, put_enclosed};
 use mpi_elems::Buffer;
 use run_model::{Block, Integers, Refusal, Reply, Rule};
 use std::alloc::AllocError;
@@ -93,15 +94,22 @@ fn put_delivery(line: &mut Vec<u8>, blocks: &[Block]) -> Result<(), AllocError>
     put_blocks(line, blocks)
 }
 
+// The words before the name of a process.
+fn denied_by(rule: Rule) -> &'static str
+    ensures { result.now ≡ codes "denied " ++ rule_word rule ++ codes " " }
+{
+    match rule {
+        Rule::Star => "denied star ",
+        Rule::Simple => "denied simple ",
+    }
+}
+
 fn put_denial(line: &mut Vec<u8>, rule: Rule, process: &str, label: &str) -> Result<(), AllocError>
     ensures ok { OnOk result
         (line.new.items ≡ line.old.items ++ denial_text rule process.now label.now) }
     ensures front { IsFront line.old.items line.new.items }
 {
-    let word = rule_text(rule);
-    put(line, "denied ")?;
-    put(line, word)?;
-    put(line, " ")?;
+    put(line, denied_by(rule))?;
     put(line, process)?;
     put(line, " ")?;
     put(line, label)
