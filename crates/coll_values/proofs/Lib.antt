@@ -7,5 +7,6 @@ pub mod RoomLemmas
 pub mod RowLemmas
 pub mod SentLemmas
 pub mod SourceLemmas
+pub mod StretchLemmas
 pub mod WholeLemmas
 pub mod CollValuesLemmas

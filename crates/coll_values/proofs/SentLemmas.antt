@@ -139,7 +139,7 @@ length_range xs start len h =
     omega arith
 
 module _ (F : Full Contents) (i j t : ℕ) (whole : IsWhole F) (h : i < F.roll.shape.size) where
-  its_part : (p : Contents) × (slice_get F.parts i ≡ Some p)
+  pub its_part : (p : Contents) × (slice_get F.parts i ≡ Some p)
   its_part = let long = whole.parts in there_is F.parts i (omega arith)
 
   -- how many elements are sent

@@ -5,4 +5,5 @@ pub mod Lines
 pub mod Rooms
 pub mod Sources
 pub mod Spaces
+pub mod Stretches
 pub mod Values

@@ -1,0 +1,15 @@
+use Rattle.std.proofs.Common.{◌≡◌, true, false}
+use Rattle.coll_routes.specs.Rolls.{is_missing}
+use Rattle.coll_values.proofs.StretchLemmas.{missing_there, copied_there}
+use Rattle.coll_values.proofs.stretch.stretch_at.Goals as goal
+
+pub returns-then-is_missing-clause-block : goal.returns-then-is_missing-clause-block
+returns-then-is_missing-clause-block c =
+    let e : is_missing c.args.full.now.roll c.args.rank c.args.place ≡ true = cc in
+    missing_there c.args.full.now c.args.rank c.args.place c.requires.copies c.requires.place e
+
+pub returns-else-is_missing-clause-block : goal.returns-else-is_missing-clause-block
+returns-else-is_missing-clause-block c =
+    let e : is_missing c.args.full.now.roll c.args.rank c.args.place ≡ false = cc in
+    copied_there c.args.full.now c.args.rank c.args.place c.requires.copies c.requires.place _ e
+    c.copied_along.ensures.numbers

@@ -1,0 +1,111 @@
+//! Where blocks stand among what the ranks gave, in a kind that doesn't reduce.
+ghost use Rattle.std.specs.Prelude.{◌≡◌, ◌<◌, ◌≤◌, ◌+◌, IfSome, Some, None, slice_get, slice_range};
+ghost use Rattle.mpi_elems.specs.Elements.{numbers_of};
+ghost use Rattle.coll_routes.specs.Rolls.{given, places as places_of};
+ghost use Rattle.coll_routes.specs.Signatures.{reduction};
+ghost use Rattle.coll_values.specs.Instances.{part, IsWhole};
+ghost use Rattle.coll_values.specs.Stretches.{IsAlong, numbers_along, block_along};
+ghost use Rattle.coll_values.specs.Values.{sent, copied, value};
+
+use super::full::Full;
+use super::source::source_of;
+use coll_routes::{Piece, is_missing, piece};
+use mpi_elems::Buffer;
+
+/// Consecutive numbers of what a rank gave; a pair is two.
+#[derive(Clone, Copy)]
+pub struct Stretch {
+    /// The rank that gave them.
+    pub source: u32,
+    /// The place of the first.
+    pub from: usize,
+    /// The place behind the last.
+    pub to: usize,
+}
+
+// The stretch of a piece: its numbers in place of its elements.
+fn along(full: &Full<Buffer>, source: u32, piece: Piece) -> Stretch
+    requires whole { IsWhole full.now }
+    requires source { source < full.now.roll.shape.size }
+    requires within { piece.start + piece.len ≤ given full.now.roll source }
+    ensures along { IsAlong full.now result }
+    ensures numbers { numbers_along full.now result
+        ≡ numbers_of (slice_range (part full.now source) piece.start (piece.start + piece.len)) }
+{
+    let part = full.parts.get(source);
+    let from = piece.start as usize;
+    let to = from + piece.len as usize;
+    if part.elem_type().is_pair() {
+        Stretch {
+            source,
+            from: 2 * from,
+            to: 2 * to,
+        }
+    } else {
+        Stretch { source, from, to }
+    }
+}
+
+// An empty stretch.
+fn nowhere(source: u32) -> Stretch
+    ensures source { result.source ≡ source }
+    ensures from { result.from ≡ 0 }
+    ensures to { result.to ≡ 0 }
+{
+    Stretch {
+        source,
+        from: 0,
+        to: 0,
+    }
+}
+
+// The stretch that a rank sends to a place.
+fn sent_along(full: &Full<Buffer>, from: u32, to: u32, place: u32) -> Stretch
+    requires whole { IsWhole full.now }
+    requires from { from < full.now.roll.shape.size }
+    requires to { to < full.now.roll.shape.size }
+    ensures along { IsAlong full.now result }
+    ensures numbers { numbers_along full.now result ≡ numbers_of (sent full.now from to place) }
+{
+    match piece(&full.roll, from, to, place) {
+        Some(piece) => along(full, from, piece),
+        None => nowhere(from),
+    }
+}
+
+// The stretch of the block at a place.
+fn copied_along(full: &Full<Buffer>, to: u32, place: u32) -> Stretch
+    requires whole { IsWhole full.now }
+    requires rank { to < full.now.roll.shape.size }
+    requires copies { reduction full.now.roll.sig ≡ None }
+    ensures along { IsAlong full.now result }
+    ensures numbers { numbers_along full.now result
+        ≡ numbers_of (copied full.now.roll (λ i t. sent full.now i to t) place) }
+{
+    match source_of(&full.roll, to, place) {
+        Some(from) => if from < full.roll.shape.size {
+            sent_along(full, from, to, place)
+        } else {
+            nowhere(to)
+        },
+        None => nowhere(to),
+    }
+}
+
+/// Where the block at a place of a rank stands among what the ranks gave, in a kind that doesn't
+/// reduce; none where the slot has no neighbour. Takes no memory: who only reads the block needs no
+/// copy of it.
+pub fn stretch_at(full: &Full<Buffer>, rank: u32, place: u32) -> Option<Stretch>
+    requires whole { IsWhole full.now }
+    requires rank { rank < full.now.roll.shape.size }
+    requires copies { reduction full.now.roll.sig ≡ None }
+    requires place { place < places_of full.now.roll rank }
+    ensures along { IfSome result (IsAlong full.now) }
+    ensures block { slice_get (value full.now rank) place ≡ Some (block_along full.now result) }
+{
+    if is_missing(&full.roll, rank, place) {
+        None
+    } else {
+        Some(copied_along(full, rank, place))
+    }
+}
