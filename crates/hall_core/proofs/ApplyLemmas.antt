@@ -18,8 +18,9 @@ use Rattle.run_model.specs.declared.reply.Reply.{Reply}
 use Rattle.run_model.specs.Runs.{Entry, effects, posts, entry, after_entry}
 use Rattle.run_model.specs.Replies.{IsAnswer, Legal, posts_in, reply}
 use Rattle.hall_core.specs.declared.claims.Claim.{Claim}
-use Rattle.hall_core.specs.Claims.{HoldsWhatIsKept, Claims}
-use Rattle.hall_core.proofs.ClaimLemmas.{held_claims}
+use Rattle.hall_core.specs.declared.claims.LeanClaim.{LeanClaim}
+use Rattle.hall_core.specs.Claims.{HoldsWhatIsKept, Claims, LeanHoldsWhatIsKept, LeanClaims}
+use Rattle.hall_core.proofs.ClaimLemmas.{held_claims, lean_claims}
 use Rattle.hall_core.specs.Halls.{HallValue, StandsForEffects, StandsForRun, StandsFor, view_of}
 use Rattle.hall_core.specs.Asking.{requests_of}
 use Rattle.hall_core.specs.Settling.{KeepsCount}
@@ -99,6 +100,14 @@ pub claimed : (old : HallValue) (p r : ℕ) (claim : Claim) → HoldsWhatIsKept 
 claimed old p r claim holds run legal stands =
     let of = stands_for old run stands in
     held_claims (view_of old) of.kept (effects run) of.stands of.same p r claim holds
+
+pub lean_claimed : (old : HallValue) (p r : ℕ) (claim : LeanClaim)
+    → LeanHoldsWhatIsKept (view_of old) p r claim
+    → (run : List Entry) → Legal old.policy run → StandsFor old run
+    → LeanClaims old.policy (effects run) p r claim
+lean_claimed old p r claim holds run legal stands =
+    let of = stands_for old run stands in
+    lean_claims (view_of old) of.kept (effects run) of.stands of.same p r claim holds
 
 -- ## what is shown of a hall
 

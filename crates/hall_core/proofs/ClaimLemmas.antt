@@ -16,31 +16,46 @@ use Rattle.hall_core.specs.declared.requests.Request.{Request}
 use Rattle.hall_core.specs.declared.settled.Settlement.{Settlement}
 use Rattle.hall_core.specs.Asking.{opened}
 use Rattle.hall_core.specs.Halls.{HallView, StandsForEffects, settlement}
-use Rattle.hall_core.specs.Claims.{IsClaimOn, HoldsWhatIsKept, Claims}
+use Rattle.hall_core.specs.declared.claims.LeanClaim.{LeanClaim}
+use Rattle.hall_core.specs.declared.claims.LeanClaim.TheVariants.{Claimed, Copied}
+use Rattle.hall_core.specs.Claims.{IsClaimOn, HoldsWhatIsKept, Claims, IsClaimed, IsHeld, IsShare}
+use Rattle.hall_core.specs.Claims.{IsLeanClaimOn, LeanHoldsWhatIsKept, LeanClaims}
 use Rattle.hall_core.proofs.TakeLemmas.{open_at, known_as}
 
-pub of_held : (hall : HallView) (p r : ℕ) (q : Request) (s : Settlement) (claim : Claim)
-    → opened (hall.asked p) r ≡ Some q → hall.settled q.comm q.k ≡ Some s
-    → IsClaimOn s p claim → HoldsWhatIsKept hall p r claim
-of_held hall p r q s (Done reply) waits there of = of
-of_held hall p r q s (Ready full rank room) waits there of = record {
+share_held : (hall : HallView) (p r : ℕ) (q : Request) (s : Settlement) (full : Full Contents)
+    (rank : ℕ) → opened (hall.asked p) r ≡ Some q → hall.settled q.comm q.k ≡ Some s
+    → IsShare s p full rank → IsHeld hall p r full rank
+share_held hall p r q s full rank waits there of = record {
   asked = q;
   waits = waits;
   granted = there ∙ ap (λ t. Some t) of.granted;
   is_member = of.is_member;
 }
 
+of_held : (hall : HallView) (p r : ℕ) (q : Request) (s : Settlement) (claim : Claim)
+    → opened (hall.asked p) r ≡ Some q → hall.settled q.comm q.k ≡ Some s
+    → IsClaimOn s p claim → HoldsWhatIsKept hall p r claim
+of_held hall p r q s (Done reply) waits there of = of
+of_held hall p r q s (Ready full rank room) waits there of =
+    share_held hall p r q s (arc_value full) rank waits there of
+
+pub lean_held : (hall : HallView) (p r : ℕ) (q : Request) (s : Settlement) (claim : LeanClaim)
+    → opened (hall.asked p) r ≡ Some q → hall.settled q.comm q.k ≡ Some s
+    → IsLeanClaimOn s p claim → LeanHoldsWhatIsKept hall p r claim
+lean_held hall p r q s (Claimed claim) waits there of = of_held hall p r q s claim waits there of
+lean_held hall p r q s (Copied full rank) waits there of =
+    share_held hall p r q s (arc_value full) rank waits there of
+
 -- what stands in the hall is what the run has made, but for the room of buffers
-pub held_claims : (hall : HallView) (kept m : Effects) → StandsForEffects hall kept →
-    SameButForRoom kept m → (p r : ℕ) (claim : Claim) → HoldsWhatIsKept hall p r claim →
-    Claims hall.policy m p r claim
-held_claims hall kept m stands same p r (Done reply) held = held
-held_claims hall kept m stands same p r (Ready full rank room) held =
+share_claimed : (hall : HallView) (kept m : Effects) → StandsForEffects hall kept →
+    SameButForRoom kept m → (p r : ℕ) (full : Full Contents) (rank : ℕ) →
+    IsHeld hall p r full rank → IsClaimed hall.policy m p r full rank
+share_claimed hall kept m stands same p r full rank held =
     let comm = held.asked.comm in
     let k = held.asked.k in
     let posts = posts_but_for_room hall.policy kept m same in
-    let known = known_as hall kept stands p r held.asked (settlement (arc_value full) Granted)
-    held.waits held.granted in
+    let known = known_as hall kept stands p r held.asked (settlement full Granted) held.waits
+    held.granted in
     record {
       comm = comm;
       k = k;
@@ -53,3 +68,18 @@ held_claims hall kept m stands same p r (Ready full rank room) held =
           (instance_but_for_room hall.policy kept m same comm k);
       is_member = held.is_member;
     }
+
+pub held_claims : (hall : HallView) (kept m : Effects) → StandsForEffects hall kept →
+    SameButForRoom kept m → (p r : ℕ) (claim : Claim) → HoldsWhatIsKept hall p r claim →
+    Claims hall.policy m p r claim
+held_claims hall kept m stands same p r (Done reply) held = held
+held_claims hall kept m stands same p r (Ready full rank room) held =
+    share_claimed hall kept m stands same p r (arc_value full) rank held
+
+pub lean_claims : (hall : HallView) (kept m : Effects) → StandsForEffects hall kept →
+    SameButForRoom kept m → (p r : ℕ) (claim : LeanClaim) → LeanHoldsWhatIsKept hall p r claim →
+    LeanClaims hall.policy m p r claim
+lean_claims hall kept m stands same p r (Claimed claim) held =
+    held_claims hall kept m stands same p r claim held
+lean_claims hall kept m stands same p r (Copied full rank) held =
+    share_claimed hall kept m stands same p r (arc_value full) rank held

@@ -1,9 +1,10 @@
 -- Claims: takes that leave the filling to their caller.
-use Rattle.std.specs.Prelude.{◌≡◌, ℕ, ◌<◌, Some, slice_get}
+use Rattle.std.specs.Prelude.{◌≡◌, ℕ, ◌<◌, Some, None, slice_get}
 use Rattle.std.specs.Arc.{arc_value}
 use Rattle.wall_policy.specs.Policy.{ChineseWall}
 use Rattle.mpi_elems.specs.Contents.{Contents}
 use Rattle.mpi_group.specs.Groups.{rank_in}
+use Rattle.coll_routes.specs.Signatures.{reduction}
 use Rattle.coll_values.specs.declared.full.Full.{Full}
 use Rattle.coll_values.specs.Instances.{IsWhole}
 use Rattle.coll_values.specs.Spaces.{Space}
@@ -23,6 +24,8 @@ use Rattle.run_model.specs.Buffers.{SameInstanceButForRoom}
 use Rattle.run_model.specs.Replies.{posts_in, comm_at}
 use Rattle.hall_core.specs.declared.claims.Claim.{Claim}
 use Rattle.hall_core.specs.declared.claims.Claim.TheVariants.{Done, Ready}
+use Rattle.hall_core.specs.declared.claims.LeanClaim.{LeanClaim}
+use Rattle.hall_core.specs.declared.claims.LeanClaim.TheVariants.{Claimed, Copied}
 use Rattle.hall_core.specs.declared.requests.Request.{Request}
 use Rattle.hall_core.specs.declared.settled.Settlement.{Settlement}
 use Rattle.hall_core.specs.Asking.{opened}
@@ -108,4 +111,47 @@ pub record IsHeld (hall : HallView) (p request : ℕ) (full : Full Contents) (ra
 abbrev pub HoldsWhatIsKept : HallView → (p request : ℕ) → Claim → Type 0
 HoldsWhatIsKept hall p request (Done reply) = IsNoDelivery reply
 HoldsWhatIsKept hall p request (Ready shared rank room) =
+    IsHeld hall p request (arc_value shared) rank
+
+-- ## claims that make no room where none is needed
+
+-- the reply that such a claim comes to
+abbrev pub lean_reply : LeanClaim → Reply
+lean_reply (Claimed claim) = claim_reply claim
+lean_reply (Copied full rank) = Delivered (value (arc_value full) rank)
+
+-- its entry: the take, with that reply
+abbrev pub lean_entry : (p request : ℕ) → LeanClaim → Entry
+lean_entry p request claim = entry (to_take p request) (lean_reply claim)
+
+-- What reading blocks where they stand asks: the instance is whole, the rank is in it, and the kind
+-- doesn't reduce.
+pub record CanRead (full : Full Contents) (rank : ℕ) : Type 0 where
+  pub whole : IsWhole full
+  pub low : rank < full.roll.shape.size
+  pub copies : reduction full.roll.sig ≡ None
+
+-- its reply may be told
+abbrev pub CanTell : LeanClaim → Type 0
+CanTell (Claimed claim) = CanFinish claim
+CanTell (Copied full rank) = CanRead (arc_value full) rank
+
+-- it is a claim like any other
+abbrev pub IsUsual : LeanClaim → Type 0
+IsUsual (Claimed claim) = Unit {0}
+IsUsual (Copied full rank) = ⊥
+
+-- what it holds
+abbrev pub LeanClaims : ChineseWall → Effects → (p request : ℕ) → LeanClaim → Type 0
+LeanClaims wall effects p request (Claimed claim) = Claims wall effects p request claim
+LeanClaims wall effects p request (Copied full rank) =
+    IsClaimed wall effects p request (arc_value full) rank
+
+abbrev pub IsLeanClaimOn : Settlement → (p : ℕ) → LeanClaim → Type 0
+IsLeanClaimOn s p (Claimed claim) = IsClaimOn s p claim
+IsLeanClaimOn s p (Copied shared rank) = IsShare s p (arc_value shared) rank
+
+abbrev pub LeanHoldsWhatIsKept : HallView → (p request : ℕ) → LeanClaim → Type 0
+LeanHoldsWhatIsKept hall p request (Claimed claim) = HoldsWhatIsKept hall p request claim
+LeanHoldsWhatIsKept hall p request (Copied shared rank) =
     IsHeld hall p request (arc_value shared) rank

@@ -1,7 +1,7 @@
 //! The hall: one call at a time.
 ghost use Rattle.std.specs.Prelude.{◌≡◌, List, [], ◌∷◌, All, IfOk};
 
-use crate::claims::Claim;
+use crate::claims::{Claim, LeanClaim};
 use crate::records::Records;
 use run_model::{Call, Reply};
 use run_state::Book;
@@ -50,6 +50,7 @@ impl Hall {
     ghost use Rattle.run_model.specs.Replies.{Legal};
     ghost use Rattle.hall_core.specs.Halls.{StandsFor, view_of};
     ghost use Rattle.hall_core.specs.Claims.{claim_reply, claim_entry, Claims, CanFinish};
+    ghost use Rattle.hall_core.specs.Claims.{lean_reply, lean_entry, LeanClaims, CanTell};
     ghost use Rattle.run_model.specs.Known.{HasKnownLabel, IsKnownReply, IsKnownEntry};
 
     /// A hall that stands for the empty run. `NoMemory` is answered only where a growth was
@@ -107,6 +108,26 @@ impl Hall {
         ensures named { IsKnownReply self.new.policy (claim_reply result) }
     {
         self.records.claim(process, request)
+    }
+
+    /// `claim` for those who only read what is delivered. Where the kind doesn't reduce it makes no
+    /// room, for the blocks can be read where the members' numbers stand
+    /// (`coll_values::stretch_at`); so it needs less memory, and all else is as there.
+    pub fn claim_lean(&mut self, process: u32, request: u64) -> LeanClaim
+        ensures policy { self.new.policy ≡ self.old.policy }
+        ensures runs { (run : List Entry) → Legal self.old.policy run → StandsFor self.old run →
+            Legal self.new.policy (lean_entry process request result ∷ run)
+            × StandsFor self.new (lean_entry process request result ∷ run) }
+        ensures apart { (run : List Entry) → Legal self.old.policy run → StandsFor self.old run →
+            NobodyHoldsBoth self.new.policy (posts (lean_entry process request result ∷ run)) }
+        ensures claims { (run : List Entry) → Legal self.old.policy run → StandsFor self.old run →
+            LeanClaims self.old.policy (effects run) process request result }
+        ensures can { CanTell result }
+        ensures unchanged { MakesNothing (lean_reply result) →
+            view_of self.new ≡ view_of self.old }
+        ensures named { IsKnownReply self.new.policy (lean_reply result) }
+    {
+        self.records.claim_lean(process, request, true)
     }
 
     /// The policy that the hall was opened with.

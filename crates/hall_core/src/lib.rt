@@ -2,8 +2,9 @@
 //!
 //! A hall stands for the run of all calls so far (`specs/Halls.antt`): each reply of `apply` is the
 //! one that `run_model` says is due, or out of memory where a post would count or something be
-//! delivered. `claim` is the part of a take that needs the hall, `finish` the rest. `run_calls`
-//! answers a list of calls, and `run_two` two lists under one policy, for the laws on two worlds.
+//! delivered. `claim` is the part of a take that needs the hall, `finish` the rest; `claim_lean` is
+//! for those who only read what is delivered. `run_calls` answers a list of calls, and `run_two`
+//! two lists under one policy, for the laws on two worlds.
 //!
 //! It stands on `run_state` for the posts and the book, and keeps beside them the requests and what
 //! came of the instances that were filled.
@@ -26,7 +27,7 @@ mod worlds;
 #[cfg(test)]
 mod worlds_tests;
 
-pub use claims::{Claim, finish};
+pub use claims::{Claim, LeanClaim, finish};
 pub use hall::Hall;
 pub use run_model::{
     Act, Acts, Block, Call, Delivery, Integers, Posting, Refusal, Reply, Rule, Scripts,

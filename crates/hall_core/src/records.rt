@@ -18,7 +18,8 @@ ghost use Rattle.run_model.specs.declared.call.Act.TheVariants.{Take as ToTake, 
 ghost use Rattle.run_model.specs.declared.reply.Reply.TheVariants.{Info};
 ghost use Rattle.run_model.specs.Runs.{effects, given_in, Effects, MakesNothing};
 ghost use Rattle.run_model.specs.Replies.{refusal};
-ghost use Rattle.hall_core.specs.Claims.{claim_reply, CanFinish, HoldsWhatIsKept};
+ghost use Rattle.hall_core.specs.Claims.{claim_reply, CanFinish, HoldsWhatIsKept, lean_reply};
+ghost use Rattle.hall_core.specs.Claims.{CanTell, LeanHoldsWhatIsKept, IsUsual};
 ghost use Rattle.hall_core.specs.Asking.{opened, requests_of, with_request};
 ghost use Rattle.hall_core.specs.Settling.{HasPlace, open_at, settlement_at};
 ghost use Rattle.hall_core.specs.Halls.{StandsForEffects};
@@ -26,7 +27,7 @@ ghost use Rattle.hall_core.specs.Invariant.{AreCounted, IsHallView, view_in};
 ghost use Rattle.hall_core.specs.Moves.{info_of, number_in, IsRecorded, HasRoom, Counts, Closes};
 ghost use Rattle.hall_core.specs.Moves.{Steps};
 
-use crate::claims::{Claim, finish};
+use crate::claims::{Claim, LeanClaim, finish};
 use crate::instance::Instance;
 use crate::requests::{Request, Requests};
 use crate::settled::{Settlement, Settlements};
@@ -165,14 +166,37 @@ impl Records {
         ensures can { CanFinish result }
         ensures holds { HoldsWhatIsKept (view_in self.old) process request result }
     {
+        match self.claim_lean(process, request, false) {
+            LeanClaim::Claimed(claim) => claim,
+            LeanClaim::Copied { .. } => unreachable!(),
+        }
+    }
+
+    /// The same, without room for copies where the claim is lean.
+    pub fn claim_lean(&mut self, process: u32, request: u64, lean: bool) -> LeanClaim
+        requires policy { IsPolicy self.old.policy }
+        requires each { length self.old.requests.items ≡ processes self.old.policy }
+        requires counted { AreCounted self.old }
+        requires hall { IsHallView (view_in self.old) }
+        ensures policy { self.new.policy ≡ self.old.policy }
+        ensures each { length self.new.requests.items ≡ length self.old.requests.items }
+        ensures counted { AreCounted self.new }
+        ensures steps { Steps (view_in self.old) (view_in self.new) process (ToTake request)
+            (lean_reply result) }
+        ensures unchanged { MakesNothing (lean_reply result) →
+            view_in self.new ≡ view_in self.old }
+        ensures can { CanTell result }
+        ensures holds { LeanHoldsWhatIsKept (view_in self.old) process request result }
+        ensures usual { IsFalse lean → IsUsual result }
+    {
         let number = request as usize;
         let Some(asked) = requests::opened_by(&self.requests, process, number) else {
-            return Claim::Done(Reply::Refused(Refusal::NoSuchRequest));
+            return LeanClaim::Claimed(Claim::Done(Reply::Refused(Refusal::NoSuchRequest)));
         };
         if !self.freeze(asked.comm, asked.k) {
-            return Claim::Done(Reply::Pending);
+            return LeanClaim::Claimed(Claim::Done(Reply::Pending));
         }
-        self.claim_of(process, request, asked)
+        self.claim_of(process, request, asked, lean)
     }
 
     // Shares an instance, where it was granted and there is memory, and says whether it was filled
@@ -190,7 +214,7 @@ impl Records {
     }
 
     // A claim for an open request of this instance.
-    fn claim_of(&mut self, process: u32, request: u64, asked: Request) -> Claim
+    fn claim_of(&mut self, process: u32, request: u64, asked: Request, lean: bool) -> LeanClaim
         requires policy { IsPolicy self.old.policy }
         requires each { length self.old.requests.items ≡ processes self.old.policy }
         requires counted { AreCounted self.old }
@@ -201,18 +225,19 @@ impl Records {
         ensures each { length self.new.requests.items ≡ length self.old.requests.items }
         ensures counted { AreCounted self.new }
         ensures steps { Steps (view_in self.old) (view_in self.new) process (ToTake request)
-            (claim_reply result) }
-        ensures unchanged { MakesNothing (claim_reply result) →
+            (lean_reply result) }
+        ensures unchanged { MakesNothing (lean_reply result) →
             view_in self.new ≡ view_in self.old }
-        ensures can { CanFinish result }
-        ensures holds { HoldsWhatIsKept (view_in self.old) process request result }
+        ensures can { CanTell result }
+        ensures holds { LeanHoldsWhatIsKept (view_in self.old) process request result }
+        ensures usual { IsFalse lean → IsUsual result }
     {
         let Some(settlement) = self.settled.get(asked.comm, asked.k) else {
-            return Claim::Done(Reply::Pending);
+            return LeanClaim::Claimed(Claim::Done(Reply::Pending));
         };
         let member = posts::member(process);
-        match claimed(self.alloc, &self.post_state, member, settlement) {
-            Err(_) => Claim::Done(Reply::Refused(Refusal::NoMemory)),
+        match claimed(self.alloc, &self.post_state, member, settlement, lean) {
+            Err(_) => LeanClaim::Claimed(Claim::Done(Reply::Refused(Refusal::NoMemory))),
             Ok(claim) => {
                 self.close(process, request as usize, asked);
                 claim

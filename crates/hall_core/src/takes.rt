@@ -1,13 +1,14 @@
 //! What claims on instances that were filled come to.
-ghost use Rattle.std.specs.Prelude.{◌≡◌, ◌≢◌, ◌≤◌, ◌+◌, length, IfOk, IsErr, Some, None};
+ghost use Rattle.std.specs.Prelude.{◌≡◌, ◌≢◌, ◌≤◌, ◌+◌, length, IfOk, IsErr, IsFalse, Some, None};
 ghost use Rattle.coll_values.specs.Instances.{IsWhole};
 ghost use Rattle.mpi_group.specs.Groups.{rank_in};
 ghost use Rattle.run_model.specs.declared.outcome.Outcome.TheVariants.{Granted, Made};
 ghost use Rattle.run_model.specs.Replies.{joined, reply_by_outcome};
-ghost use Rattle.hall_core.specs.Claims.{claim_reply, CanFinish, IsNoDelivery, IsClaimOn};
+ghost use Rattle.hall_core.specs.Claims.{lean_reply, CanTell, IsNoDelivery, IsLeanClaimOn};
+ghost use Rattle.hall_core.specs.Claims.{IsUsual};
 ghost use Rattle.hall_core.specs.Moves.{IsTellable, row_at};
 
-use crate::claims::Claim;
+use crate::claims::{Claim, LeanClaim};
 use crate::settled::Settlement;
 use coll_values::room;
 use mpi_elems::Buffer;
@@ -17,56 +18,73 @@ use std::alloc::Global;
 use wall_labels::{NoMemory, ProcessId};
 
 /// What a claim of a member comes to, on an instance that was filled. `NoMemory` only for a
-/// delivery.
+/// delivery. A lean one makes no room for copies.
 pub fn claimed(
     alloc: Global,
     post_state: &PostState<Buffer>,
     member: ProcessId,
     settlement: &Settlement,
-) -> Result<Claim, NoMemory>
+    lean: bool,
+) -> Result<LeanClaim, NoMemory>
     requires tellable { IsTellable post_state.now.comms settlement.now }
     requires member { rank_in settlement.now.full.roll.members member ≢ None }
     ensures told { IfOk result (λ claim.
-        claim_reply claim
+        lean_reply claim
         ≡ reply_by_outcome member settlement.now.full (Some settlement.now.outcome)) }
-    ensures can { IfOk result CanFinish }
-    ensures of { IfOk result (IsClaimOn settlement.now member) }
+    ensures can { IfOk result CanTell }
+    ensures of { IfOk result (IsLeanClaimOn settlement.now member) }
+    ensures usual { IsFalse lean → IfOk result IsUsual }
     ensures memory { IsErr result → settlement.now.outcome ≡ Granted }
 {
     match &settlement.outcome {
-        Outcome::Granted => ready(alloc, settlement, member),
+        Outcome::Granted => ready(alloc, settlement, member, lean),
         Outcome::Denied {
             rule,
             process,
             label,
-        } => Ok(Claim::Done(Reply::Denied {
+        } => Ok(done(Reply::Denied {
             rule: *rule,
             process: *process,
             label: *label,
         })),
-        Outcome::Made { first, number } => Ok(Claim::Done(joined(
-            post_state, member, *first, *number,
-        ))),
-        Outcome::NoRoom => Ok(Claim::Done(Reply::NoRoom)),
+        Outcome::Made { first, number } => Ok(done(joined(post_state, member, *first, *number))),
+        Outcome::NoRoom => Ok(done(Reply::NoRoom)),
     }
 }
 
-// A share of an instance that was granted, and room for what the member gets.
-fn ready(alloc: Global, settlement: &Settlement, member: ProcessId) -> Result<Claim, NoMemory>
+// A claim that is done.
+fn done(reply: Reply) -> LeanClaim
+    ensures { result ≡ LeanClaim.Claimed (Claim.Done reply) }
+{
+    LeanClaim::Claimed(Claim::Done(reply))
+}
+
+// A share of an instance that was granted, and room for what the member gets; no room where the
+// claim is lean, and the kind doesn't reduce.
+fn ready(
+    alloc: Global,
+    settlement: &Settlement,
+    member: ProcessId,
+    lean: bool,
+) -> Result<LeanClaim, NoMemory>
     requires whole { IsWhole settlement.now.full }
     requires granted { settlement.now.outcome ≡ Granted }
     requires member { rank_in settlement.now.full.roll.members member ≢ None }
     ensures told { IfOk result (λ claim.
-        claim_reply claim ≡ reply_by_outcome member settlement.now.full (Some Granted)) }
-    ensures can { IfOk result CanFinish }
-    ensures of { IfOk result (IsClaimOn settlement.now member) }
+        lean_reply claim ≡ reply_by_outcome member settlement.now.full (Some Granted)) }
+    ensures can { IfOk result CanTell }
+    ensures of { IfOk result (IsLeanClaimOn settlement.now member) }
+    ensures usual { IsFalse lean → IfOk result IsUsual }
 {
     let full = settlement.full.share()?;
     let Some(rank) = full.roll.members.rank_of(member) else {
         unreachable!()
     };
+    if lean && full.roll.sig.op().is_none() {
+        return Ok(LeanClaim::Copied { full, rank });
+    }
     let room = room(alloc, &full, rank)?;
-    Ok(Claim::Ready { full, rank, room })
+    Ok(LeanClaim::Claimed(Claim::Ready { full, rank, room }))
 }
 
 // The new communicator that the process is in, of so many from this number on.

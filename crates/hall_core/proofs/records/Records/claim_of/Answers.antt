@@ -5,13 +5,13 @@ use Rattle.run_model.specs.declared.refusal.Refusal.TheVariants.{NoMemory}
 use Rattle.run_model.specs.declared.call.Act.TheVariants.{Take as ToTake}
 use Rattle.run_model.specs.declared.reply.Reply.TheVariants.{Refused}
 use Rattle.run_model.specs.Replies.{reply_by_outcome}
-use Rattle.hall_core.specs.Claims.{IsClaimOn, claim_reply}
+use Rattle.hall_core.specs.Claims.{IsLeanClaimOn, lean_reply}
 use Rattle.hall_core.specs.Invariant.{view_in}
 use Rattle.hall_core.specs.Settling.{settlement_at}
 use Rattle.hall_core.proofs.TakeLemmas.{quiet_steps, wanting, taken_steps, told_not_quiet}
 use Rattle.hall_core.proofs.TakeLemmas.{rank_there}
 use Rattle.hall_core.proofs.TellLemmas.{tellable}
-use Rattle.hall_core.proofs.ClaimLemmas.{of_held}
+use Rattle.hall_core.proofs.ClaimLemmas.{lean_held}
 use Rattle.hall_core.proofs.records.Records.claim_of.Goals as goal
 
 pub member-member-requires : goal.member-member-requires
@@ -54,7 +54,7 @@ returns-in-Ok-clause-steps c =
     let there : settlement_at c.args.self.now.settled c.args.asked.comm c.args.asked.k ≡ Some s =
     sym c.get.ensures ∙ ap option_copied c.in-Some.is in
     taken_steps (view_in c.args.self.now) (view_in c.close.new.self)
-    c.args.process c.args.request c.args.asked s (claim_reply c.in-Ok.claim)
+    c.args.process c.args.request c.args.asked s (lean_reply c.in-Ok.claim)
     c.requires.waits there
     (c.in-Ok.ensures.told
     ∙ ap (λ (p : ℕ). reply_by_outcome p s.full (Some s.outcome)) c.member-member.ensures)
@@ -63,13 +63,13 @@ returns-in-Ok-clause-steps c =
 pub returns-in-Ok-clause-unchanged : goal.returns-in-Ok-clause-unchanged
 returns-in-Ok-clause-unchanged c = λ quiet.
     absurd (told_not_quiet c.member-member.result c.in-Some.settlement.now
-    (claim_reply c.in-Ok.claim) c.in-Ok.ensures.told quiet)
+    (lean_reply c.in-Ok.claim) c.in-Ok.ensures.told quiet)
 
 pub returns-in-Ok-clause-holds : goal.returns-in-Ok-clause-holds
 returns-in-Ok-clause-holds c =
     let s = c.in-Some.settlement.now in
     let there : settlement_at c.args.self.now.settled c.args.asked.comm c.args.asked.k ≡ Some s =
     sym c.get.ensures ∙ ap option_copied c.in-Some.is in
-    of_held (view_in c.args.self.now) c.args.process c.args.request c.args.asked s
+    lean_held (view_in c.args.self.now) c.args.process c.args.request c.args.asked s
     c.in-Ok.claim c.requires.waits there
-    (subst (λ (p : ℕ). IsClaimOn s p c.in-Ok.claim) c.member-member.ensures c.in-Ok.ensures.of)
+    (subst (λ (p : ℕ). IsLeanClaimOn s p c.in-Ok.claim) c.member-member.ensures c.in-Ok.ensures.of)

@@ -7,7 +7,7 @@ use Rattle.run_model.specs.declared.reply.Reply.TheVariants.{Refused, Pending}
 use Rattle.hall_core.specs.Asking.{opened, requests_of}
 use Rattle.hall_core.specs.Invariant.{view_in}
 use Rattle.hall_core.proofs.TakeLemmas.{quiet_steps, refused_due, pending_due}
-use Rattle.hall_core.proofs.records.Records.claim.Goals as goal
+use Rattle.hall_core.proofs.records.Records.claim_lean.Goals as goal
 
 pub returns-in_default-clause-steps : goal.returns-in_default-clause-steps
 returns-in_default-clause-steps c =
