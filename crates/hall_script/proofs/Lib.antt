@@ -1,6 +1,7 @@
 pub mod RunLemmas
 pub mod FillLemmas
 pub mod ReplyLemmas
+pub mod CopyLemmas
 pub mod SplitLemmas
 pub mod CallLemmas
 pub mod CheckLemmas

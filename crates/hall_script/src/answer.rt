@@ -3,6 +3,7 @@ ghost use Rattle.std.specs.Prelude.{◌≡◌, ◌≢◌, ◌+◌, ◌≤◌, []
 ghost use Rattle.std.specs.Prelude.{OnErr, Err};
 ghost use Rattle.run_model.specs.Known.{HasKnownLabel};
 ghost use Rattle.coll_text.specs.Reading.{Gives};
+ghost use Rattle.hall_core.specs.Claims.{to_take};
 ghost use Rattle.hall_script.specs.Scripts.{trimmed, is_skipped, line_call, script_of};
 ghost use Rattle.hall_script.specs.Answering.{IsCall, AnswersCall, AnswersLine, line_fault, Ends};
 ghost use Rattle.hall_script.specs.Answering.{Finishes, HasFinished, HasStopped};
@@ -12,7 +13,7 @@ use crate::line::read_call;
 use crate::machine::Machine;
 use crate::reply::write_reply;
 use coll_text::{LineFault, Parts, send, send_long};
-use run_model::Call;
+use run_model::{Act, Call};
 use std::alloc::Global;
 use wall_labels::{NoMemory, Sink};
 use wall_policy::Policy;
@@ -55,6 +56,16 @@ pub(crate) fn read_line(
     Ok(Some(call))
 }
 
+// The request that a call takes, if it takes one.
+fn take_of(call: &Call) -> Option<u64>
+    ensures { IfSome result (λ request. call.now ≡ to_take call.now.process request) }
+{
+    match &call.act {
+        Act::Take(request) => Some(*request),
+        _ => None,
+    }
+}
+
 fn answer_call<M: Machine>(machine: &mut M, call: Call, text: &mut Vec<u8>) -> Result<(), NoMemory>
     requires { HasKnownLabel (M.wall machine.old) call.act }
     ensures wall { M.wall machine.new ≡ M.wall machine.old }
@@ -62,8 +73,13 @@ fn answer_call<M: Machine>(machine: &mut M, call: Call, text: &mut Vec<u8>) -> R
         machine.new text.old.items text.new.items call) }
     ensures err { OnErr result (text.new.items ≡ text.old.items) }
 {
-    let reply = machine.apply(call);
-    write_reply(machine.policy(), &reply, text)
+    match take_of(&call) {
+        Some(request) => machine.take(call.process, request, text),
+        None => {
+            let reply = machine.apply(call);
+            write_reply(machine.policy(), &reply, text)
+        }
+    }
 }
 
 fn answer_line<M: Machine>(

@@ -3,6 +3,7 @@
 
 mod answer;
 mod check;
+mod copies;
 mod device;
 mod elements;
 mod fault;

@@ -6,13 +6,14 @@ ghost use Rattle.hall_script.specs.Devices.{used};
 ghost use Rattle.hall_script.specs.Scripts.{IsReplayed, StopsWith};
 
 use crate::answer::answered;
+use crate::copies::write_claim;
 use crate::device::{DeviceFault, read_device};
 use crate::fault::ScriptFault;
 use crate::machine::Machine;
 use hall_core::Hall;
 use run_model::{Call, Reply};
 use std::alloc::Global;
-use wall_labels::{Sink, Source};
+use wall_labels::{NoMemory, Sink, Source};
 use wall_policy::Policy;
 
 /// The most bytes that a script, or a policy, may have.
@@ -29,6 +30,11 @@ impl Machine for Hall {
 
     fn apply(&mut self, call: Call) -> Reply {
         Hall::apply(self, call)
+    }
+
+    fn take(&mut self, process: u32, request: u64, text: &mut Vec<u8>) -> Result<(), NoMemory> {
+        let claim = self.claim_lean(process, request);
+        write_claim(Hall::policy(self), claim, text)
     }
 }
 
