@@ -21,18 +21,6 @@ pub enum ElemType {
     TwoInt,
 }
 
-const TYPES: [ElemType; 9] = [
-    ElemType::Int8,
-    ElemType::Int16,
-    ElemType::Int32,
-    ElemType::Int64,
-    ElemType::Uint8,
-    ElemType::Uint16,
-    ElemType::Uint32,
-    ElemType::Uint64,
-    ElemType::TwoInt,
-];
-
 impl ElemType {
     ghost use Rattle.mpi_elems.specs.Types.{type_name, type_of};
 
@@ -58,10 +46,18 @@ impl ElemType {
     pub fn named(name: &[u8]) -> Option<ElemType>
         ensures { result ≡ type_of name.now }
     {
-        TYPES
-            .iter()
-            .copied()
-            .find(|ty| ty.name().as_bytes() == name)
+        match name {
+            b"int8" => Some(ElemType::Int8),
+            b"int16" => Some(ElemType::Int16),
+            b"int32" => Some(ElemType::Int32),
+            b"int64" => Some(ElemType::Int64),
+            b"uint8" => Some(ElemType::Uint8),
+            b"uint16" => Some(ElemType::Uint16),
+            b"uint32" => Some(ElemType::Uint32),
+            b"uint64" => Some(ElemType::Uint64),
+            b"2int" => Some(ElemType::TwoInt),
+            _ => None,
+        }
     }
 
     /// Whether an element is a pair.

@@ -18,21 +18,6 @@ pub enum Op {
     Minloc,
 }
 
-const OPS: [Op; 12] = [
-    Op::Max,
-    Op::Min,
-    Op::Sum,
-    Op::Prod,
-    Op::Land,
-    Op::Lor,
-    Op::Lxor,
-    Op::Band,
-    Op::Bor,
-    Op::Bxor,
-    Op::Maxloc,
-    Op::Minloc,
-];
-
 impl Op {
     ghost use Rattle.wall_labels.specs.Ops.{op_name, op_of};
 
@@ -61,6 +46,20 @@ impl Op {
     pub fn named(name: &[u8]) -> Option<Op>
         ensures { result ≡ op_of name.now }
     {
-        OPS.iter().copied().find(|op| op.name().as_bytes() == name)
+        match name {
+            b"max" => Some(Op::Max),
+            b"min" => Some(Op::Min),
+            b"sum" => Some(Op::Sum),
+            b"prod" => Some(Op::Prod),
+            b"land" => Some(Op::Land),
+            b"lor" => Some(Op::Lor),
+            b"lxor" => Some(Op::Lxor),
+            b"band" => Some(Op::Band),
+            b"bor" => Some(Op::Bor),
+            b"bxor" => Some(Op::Bxor),
+            b"maxloc" => Some(Op::Maxloc),
+            b"minloc" => Some(Op::Minloc),
+            _ => None,
+        }
     }
 }
