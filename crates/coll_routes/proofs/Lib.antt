@@ -3,6 +3,7 @@ pub mod BlockLemmas
 pub mod CutLemmas
 pub mod FitLemmas
 pub mod GatheringLemmas
+pub mod KindLemmas
 pub mod LawLemmas
 pub mod RouteLemmas
 pub mod SignatureLemmas

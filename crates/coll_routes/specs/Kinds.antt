@@ -1,5 +1,6 @@
 -- The kinds of collectives and of constructors, and their names.
-use Rattle.std.specs.Prelude.{ℕ, List, [], ◌∷◌, Option, find, codes}
+use Rattle.std.specs.Prelude.{ℕ, ◌==◌, List, [], ◌∷◌, length, Option, find, codes}
+use Rattle.std.specs.List.{filter}
 use Rattle.std.specs.Str.{bytes_eq}
 use Rattle.coll_routes.specs.declared.kind.Kind.{Kind}
 use Rattle.coll_routes.specs.declared.kind.Kind.TheVariants.{Barrier, Bcast, Gather, Gatherv}
@@ -48,6 +49,10 @@ all_kinds = Barrier ∷ Bcast ∷ Gather ∷ Gatherv ∷ Scatter ∷ Scatterv �
 -- the kind of a name
 unfoldable pub kind_of : List ℕ → Option Kind
 kind_of name = find (λ kind. bytes_eq (kind_name kind) name) all_kinds
+
+-- the kinds whose names have so many bytes
+abbrev pub kinds_of_length : ℕ → List Kind
+kinds_of_length n = filter (λ kind. length (kind_name kind) == n) all_kinds
 
 -- the place of a kind in the list above, from 0: no two kinds have one place
 abbrev pub kind_number : Kind → ℕ
