@@ -1,19 +1,22 @@
 -- The number at the front of a text.
 use Rattle.std.proofs.Common.{◌≡◌, ℕ, zero, suc, ◌+◌, ◌-◌, ◌*◌, ◌^◌, ◌<◌, ◌≤◌, true, ◌&&◌, leb, ltb}
-use Rattle.std.proofs.Common.{[], ◌∷◌, ◌++◌, length, get_or, add-one, ◌-ℤ◌, to_z, of_z, FitsSigned}
+use Rattle.std.proofs.Common.{[], ◌∷◌, ◌++◌, length, get_or, add-one, ◌-ℤ◌}
 use Rattle.std.proofs.Common.{rules, take, drop, Some, None, option_map, option_and_then, ℤ, pos}
-use Rattle.std.proofs.Common.{negsuc, refl, sym, ap, ◌∙◌, arith}
+use Rattle.std.proofs.Common.{negsuc, refl, sym, ap, ◌∙◌, arith, eqb, false, List, Ok, Err}
+use Rattle.std.proofs.Common.{Bool, cond}
+use mir.Val.{bool_byte}
 use Rattle.std.specs.List.{list_all}
-use Rattle.std.proofs.lemmas.Bool.{leb-true, le-leb, and_parts, and_from, lt-ltb, lt-leb}
+use Rattle.std.proofs.lemmas.Bool.{leb-true, le-leb, and_parts, and_from, lt-ltb, lt-leb, ne_eqb}
+use Rattle.std.proofs.lemmas.Bool.{eqb-true, eqb-false}
 use Rattle.std.proofs.lemmas.List.{take_more, get_or-take, length-take-le, take_all}
 use Rattle.std.proofs.lemmas.List.Folds.{list_all_more}
-use Rattle.std.specs.Int.{w128}
-use Rattle.std.proofs.lemmas.Int.{to_z_pos, to_z-of_z}
 use Rattle.std.proofs.lemmas.Nat.{pow-add}
 use Rattle.std.proofs.Math.Nat.{pow-le-pow_right}
 use Rattle.coll_text.proofs.NumberLemmas.{form_of, plain, behind_minus, chosen}
 use Rattle.coll_text.specs.Numbers.{Word, is_digit, is_number, value_after, number_within, negative}
 use Rattle.coll_text.specs.Numbers.{signed_within}
+use Rattle.coll_text.specs.Reading.{number_at}
+use Rattle.coll_text.specs.declared.fault.LineFault.TheVariants.{BadField}
 
 pub value_after-append : (n : ℕ) (xs ys : Word) →
     value_after n (xs ++ ys) ≡ value_after (value_after n xs) ys
@@ -99,14 +102,29 @@ minus_solid i [] some first h = absurd (omega arith)
 minus_solid i (b ∷ w) some first h =
     ap (list_all (ltb 44)) (taken_cons b i w) ∙ rw (first, digits_solid (take i w) h) refl
 
-pub wide : (n : ℕ) → n < 2 ^ 64 → to_z w128 n ≡ pos n
-wide n lt = to_z_pos w128 n (omega arith)
+zero_is : (n : ℕ) → n ≡ 0 → eqb n 0 ≡ false → ⊥
+zero_is n z h = eqb-false n 0 h z
 
-pub wide_minus : (n : ℕ) → n < 2 ^ 64 →
-    to_z w128 (of_z w128 (pos 0 -ℤ to_z w128 n)) ≡ pos 0 -ℤ pos n
-wide_minus n lt =
-    let fits : FitsSigned w128 (pos 0 -ℤ pos n) = search (rules, lt) in
-    rw (wide n lt) (to_z-of_z w128 (pos 0 -ℤ pos n) fits)
+-- a number behind its sign, if it has one
+pub signed_is : (s : Bool) (most n i k : ℕ) (w : Word) → eqb (get_or w 0 0) 45 ≡ s →
+    k ≡ bool_byte s → 1 ≤ length w → number_within most (take i (drop k w)) ≡ Some n →
+    (s && eqb n 0) ≡ false →
+    signed_within most most (take (i + k) w) ≡ Some (cond s (pos 0 -ℤ pos n) (pos n))
+signed_is true most n i k w b e some v h =
+    let first : get_or w 0 0 ≡ 45 = eqb-true (get_or w 0 0) 45 b in
+    rw e (minus_is most most n i w some first (rw e at v) (λ z. zero_is n z h))
+signed_is false most n i k w b e some v h =
+    let zero : i + bool_byte false ≡ i = omega arith in
+    rw (e, zero) (plain_is most most n (take i w) (rw e at v))
+
+pub signed_solid : (s : Bool) (i k : ℕ) (w : Word) → eqb (get_or w 0 0) 45 ≡ s →
+    k ≡ bool_byte s → 1 ≤ length w → list_all is_digit (take i (drop k w)) ≡ true →
+    list_all (ltb 44) (take (i + k) w) ≡ true
+signed_solid true i k w b e some d =
+    rw e (minus_solid i w some (eqb-true (get_or w 0 0) 45 b) (rw e at d))
+signed_solid false i k w b e some d =
+    let zero : i + bool_byte false ≡ i = omega arith in
+    rw (e, zero) (digits_solid (take i w) (rw e at d))
 
 -- a number of the whole word, against a limit
 whole_value : (n i limit : ℕ) (w : Word) → length w ≤ i → number_within limit (take i w) ≡ Some n →
@@ -129,3 +147,30 @@ pub whole_above : (n i limit most : ℕ) (w : Word) → length w ≤ i →
 unfolding number_within
 whole_above n i limit most w le e large =
     let v = whole_value n i limit w le e in rw (v.0, v.1, lt-leb n most large) refl
+
+-- the next word, read as a number of 64 bits, against a limit
+some_digits : (limit n : ℕ) (w : Word) → number_within limit w ≡ Some n →
+    eqb (length w) 0 ≡ false
+unfolding number_within
+some_digits limit n [] e = absurd cc
+some_digits limit n (b ∷ bs) e =
+    let other : length (b ∷ bs) ≡ 0 → ⊥ = λ h. absurd (omega arith) in
+    ne_eqb (length (b ∷ bs)) 0 other
+
+of_all : (limit n : ℕ) (w : Word) → number_within limit w ≡ Some n →
+    number_within limit (take (length w) w) ≡ Some n
+of_all limit n w e = ap (number_within limit) (take_all (length w) w (omega arith)) ∙ e
+
+pub read_below : (limit most n : ℕ) (w : Word) (ws vs : List Word) → vs ≡ w ∷ ws →
+    number_within limit w ≡ Some n → n ≤ most → number_at most vs ≡ Ok (n, ws)
+read_below limit most n w ws vs front e le =
+    let v : Some n ≡ number_within most w = whole_below n (length w) limit most w (omega arith)
+    (of_all limit n w e) le in
+    rw (front, some_digits limit n w e, ← v) refl
+
+pub read_above : (limit most n : ℕ) (w : Word) (ws vs : List Word) → vs ≡ w ∷ ws →
+    number_within limit w ≡ Some n → most < n → number_at most vs ≡ Err BadField
+read_above limit most n w ws vs front e lt =
+    let v : None ≡ number_within most w = whole_above n (length w) limit most w (omega arith)
+    (of_all limit n w e) lt in
+    rw (front, some_digits limit n w e, ← v) refl

@@ -1,6 +1,6 @@
 //! The number at the front of a text, of at most 19 digits.
 ghost use Rattle.std.specs.Prelude.{◌≡◌, ◌≤◌, ◌<◌, ◌^◌, length, take, get_or, Some, IfSome, true};
-ghost use Rattle.std.specs.Prelude.{nat_lt};
+ghost use Rattle.std.specs.Prelude.{nat_lt, ◌+◌, ◌*◌, ◌/◌, ◌%◌, ◌-ℤ◌, pos, if◌then◌else◌};
 ghost use Rattle.std.specs.List.{list_all};
 ghost use Rattle.coll_text.specs.Numbers.{is_digit, value_after, number_within, signed_within};
 
@@ -12,23 +12,45 @@ const DIGITS: usize = 19;
 // So many digits are read at a time, where there are as many.
 const STEP: usize = 8;
 
+// Four bytes as the digits of a number in base 256, the least first.
+#[inline(always)]
+fn of_bytes(a: u8, b: u8, c: u8, d: u8) -> u64
+    ensures { result ≡ a + b * 256 + c * 65536 + d * 16777216 }
+{
+    u64::from(a) + u64::from(b) * 0x100 + u64::from(c) * 0x1_0000 + u64::from(d) * 0x100_0000
+}
+
+// The first pair of digits, a byte of its own, and the one two bytes on, as one number.
+#[inline(always)]
+fn two_pairs(pairs: u64) -> u64
+    ensures { result ≡ pairs % 256 * 100 + pairs / 65536 % 256 }
+{
+    pairs % 0x100 * 100 + pairs / 0x1_0000 % 0x100
+}
+
 // The value of eight digits.
+#[inline(always)]
 fn value_of_step(step: &[u8]) -> u64
     requires eight { length step.now ≡ 8 }
     requires digits { list_all is_digit step.now ≡ true }
     ensures value { result ≡ value_after 0 step.now }
     ensures small { result < 100000000 }
 {
-    let mut value: u64 = 0;
-    let mut len = 0;
-    while len < STEP {
-        value = value * 10 + u64::from(step[len].saturating_sub(b'0'));
-        len += 1;
+    match step {
+        [a, b, c, d, e, f, g, h] => {
+            let bytes = of_bytes(*a, *b, *c, *d) + of_bytes(*e, *f, *g, *h) * 0x1_0000_0000;
+            let digits = bytes - 0x3030_3030_3030_3030;
+            // Two neighbours together are at most 99, so that one multiplication makes all pairs,
+            // each within its byte.
+            let pairs = digits * 10 + digits / 0x100;
+            two_pairs(pairs) * 10_000 + two_pairs(pairs / 0x1_0000_0000)
+        }
+        _ => 0,
     }
-    value
 }
 
 // Whole steps of digits at the front, no more than two: their value, and how many.
+#[inline(always)]
 fn front_steps(text: &[u8]) -> (u64, usize)
     ensures within { result.1 ≤ length text.now }
     ensures few { result.1 ≤ 16 }
@@ -52,6 +74,7 @@ fn front_steps(text: &[u8]) -> (u64, usize)
 }
 
 // The digits at the front, no more than 19 of them: their value, and how many.
+#[inline(always)]
 #[tactic(auto)]
 fn front_digits(text: &[u8]) -> (u64, usize)
     ensures within { result.1 ≤ length text.now }
@@ -93,30 +116,20 @@ pub(crate) fn front_number(text: &[u8]) -> Option<(u64, usize)>
     Some((value, len))
 }
 
-// The negative number behind the minus sign at the front, and how many bytes it has with its sign.
-fn front_negative(text: &[u8]) -> Option<(i128, usize)>
-    requires some { 1 ≤ length text.now }
-    requires minus { get_or text.now 0 0 ≡ 45 }
-    ensures within { IfSome result (λ r. r.1 ≤ length text.now) }
-    ensures solid { IfSome result (λ r. list_all (λ b. nat_lt 44 b) (take r.1 text.now) ≡ true) }
-    ensures value { IfSome result
-        (λ r. signed_within u64.MAX u64.MAX (take r.1 text.now) ≡ Some r.0) }
+// The number with its sign.
+#[inline(always)]
+fn with_sign(is_negative: bool, n: u64) -> i64
+    requires { n ≤ 9223372036854775807 }
+    ensures { result ≡ (if is_negative then pos 0 -ℤ pos n else pos n) }
 {
-    let (_, digits) = text.split_at(1);
-    match front_number(digits) {
-        None => None,
-        Some((n, len)) => {
-            if n == 0 {
-                return None;
-            }
-            Some((-(n as i128), len + 1))
-        }
-    }
+    if is_negative { -(n as i64) } else { n as i64 }
 }
 
-/// The signed number at the front, of 19 digits at most, and how many bytes it has; none where the
-/// text begins with no number.
-pub(crate) fn front_signed(text: &[u8]) -> Option<(i128, usize)>
+/// The signed number at the front, of 19 digits at most and within 63 bits behind its sign, and how
+/// many bytes it has; none where the text begins with no number, or with another.
+// Its sign is as good as random, so no step of this waits for a branch on it.
+#[inline(always)]
+pub(crate) fn front_signed(text: &[u8]) -> Option<(i64, usize)>
     ensures within { IfSome result (λ r. r.1 ≤ length text.now) }
     ensures solid { IfSome result (λ r. list_all (λ b. nat_lt 44 b) (take r.1 text.now) ≡ true) }
     ensures value { IfSome result
@@ -125,11 +138,15 @@ pub(crate) fn front_signed(text: &[u8]) -> Option<(i128, usize)>
     if text.is_empty() {
         return None;
     }
-    if text[0] == b'-' {
-        return front_negative(text);
+    let is_negative = text[0] == b'-';
+    let signs = usize::from(is_negative);
+    let (_, digits) = text.split_at(signs);
+    let (n, len) = front_number(digits)?;
+    if n > i64::MAX as u64 {
+        return None;
     }
-    match front_number(text) {
-        None => None,
-        Some((n, len)) => Some((n as i128, len)),
+    if is_negative & (n == 0) {
+        return None;
     }
+    Some((with_sign(is_negative, n), len + signs))
 }

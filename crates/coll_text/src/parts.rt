@@ -1,10 +1,10 @@
 //! The parts of a text between separators, from the left.
 ghost use Rattle.std.specs.Prelude.{◌≡◌, ◌==◌, List, ℕ, [], ◌∷◌, MatchOption, IfSome, Some, None};
-ghost use Rattle.std.specs.Prelude.{length, ◌≤◌, take};
-ghost use Rattle.std.specs.List.{slice_split, position, count_by};
-ghost use Rattle.coll_text.specs.Numbers.{signed_within};
+ghost use Rattle.std.specs.Prelude.{length, ◌≤◌, ◌<◌, take, nat_lt, true};
+ghost use Rattle.std.specs.List.{slice_split, position, count_by, list_all};
+ghost use Rattle.coll_text.specs.Numbers.{number_within, signed_within};
 
-use crate::front::front_signed;
+use crate::front::{front_number, front_signed};
 use crate::numbers::signed;
 use memchr::memchr;
 use std::marker::Model;
@@ -80,6 +80,29 @@ fn cut(text: &[u8], separator: u8, place: Option<usize>) -> (&[u8], Option<&[u8]
             (part, Some(rest))
         }
     }
+}
+
+// The first bytes as a part, and what is after it; none where the part does not end there.
+#[inline(always)]
+fn cut_at(text: &[u8], separator: u8, len: usize) -> Option<(&[u8], Option<&[u8]>)>
+    requires below { separator < 45 }
+    requires within { len ≤ length text.now }
+    requires solid { list_all (λ b. nat_lt 44 b) (take len text.now) ≡ true }
+    ensures part { IfSome result (λ r. r.0.now ≡ take len text.now) }
+    ensures whole { IfSome result (λ r. MatchOption r.1
+        (slice_split (λ b. b == separator) text.now ≡ r.0.now ∷ [])
+        (λ rest. slice_split (λ b. b == separator) text.now
+        ≡ r.0.now ∷ slice_split (λ b. b == separator) rest.now)) }
+{
+    if len == text.len() {
+        return Some((text, None));
+    }
+    if text[len] != separator {
+        return None;
+    }
+    let (part, _) = text.split_at(len);
+    let (_, rest) = text.split_at(len + 1);
+    Some((part, Some(rest)))
 }
 
 impl<'a> Parts<'a> {
@@ -163,9 +186,35 @@ impl<'a> Parts<'a> {
         }
     }
 
-    // The next part where a signed number of at most 19 digits is the whole of it, with the number;
-    // else none, and nothing is taken.
-    fn next_plain(&mut self) -> Option<(&'a [u8], i128)>
+    /// The next part where a number of 64 bits and at most 19 digits is the whole of it, with the
+    /// number; else none, and nothing is taken.
+    #[inline]
+    pub fn next_small(&mut self) -> Option<(&'a [u8], u64)>
+        ensures none { result ≡ None → self.new ≡ self.old }
+        ensures part { IfSome result (λ r. self.old ≡ r.0.now ∷ self.new) }
+        ensures number { IfSome result (λ r. number_within u64.MAX r.0.now ≡ Some r.1) }
+    {
+        if self.is_done || self.separator >= b'-' {
+            return None;
+        }
+        let (number, len) = front_number(self.rest)?;
+        match cut_at(self.rest, self.separator, len) {
+            None => None,
+            Some((part, None)) => {
+                self.is_done = true;
+                Some((part, number))
+            }
+            Some((part, Some(rest))) => {
+                self.rest = rest;
+                Some((part, number))
+            }
+        }
+    }
+
+    /// The next part where a signed number of 64 bits and at most 19 digits is the whole of it,
+    /// with the number; else none, and nothing is taken.
+    #[inline(always)]
+    pub fn next_narrow(&mut self) -> Option<(&'a [u8], i64)>
         ensures none { result ≡ None → self.new ≡ self.old }
         ensures part { IfSome result (λ r. self.old ≡ r.0.now ∷ self.new) }
         ensures number { IfSome result (λ r. signed_within u64.MAX u64.MAX r.0.now ≡ Some r.1) }
@@ -173,18 +222,14 @@ impl<'a> Parts<'a> {
         if self.is_done || self.separator >= b'-' {
             return None;
         }
-        match front_signed(self.rest) {
+        let (number, len) = front_signed(self.rest)?;
+        match cut_at(self.rest, self.separator, len) {
             None => None,
-            Some((number, len)) => {
-                if len == self.rest.len() {
-                    self.is_done = true;
-                    return Some((self.rest, number));
-                }
-                if self.rest[len] != self.separator {
-                    return None;
-                }
-                let (part, _) = self.rest.split_at(len);
-                let (_, rest) = self.rest.split_at(len + 1);
+            Some((part, None)) => {
+                self.is_done = true;
+                Some((part, number))
+            }
+            Some((part, Some(rest))) => {
                 self.rest = rest;
                 Some((part, number))
             }
@@ -197,8 +242,8 @@ impl<'a> Parts<'a> {
             (λ r. self.old ≡ r.0.now ∷ self.new) }
         ensures number { IfSome result (λ r. r.1 ≡ signed_within u64.MAX u64.MAX r.0.now) }
     {
-        match self.next_plain() {
-            Some((part, number)) => Some((part, Some(number))),
+        match self.next_narrow() {
+            Some((part, number)) => Some((part, Some(i128::from(number)))),
             None => match self.next() {
                 None => None,
                 Some(part) => Some((part, signed(part, u64::MAX, u64::MAX))),

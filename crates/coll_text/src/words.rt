@@ -43,8 +43,18 @@ pub fn next_number(words: &mut Parts, most: u64) -> Result<u64, LineFault>
     ensures below { IfOk result (λ n. n ≤ most) }
     ensures memory { result ≢ Err LineFault.NoMemory }
 {
-    let word = next_word(words)?;
-    number(word, most).ok_or(LineFault::BadField)
+    match words.next_small() {
+        None => {
+            let word = next_word(words)?;
+            number(word, most).ok_or(LineFault::BadField)
+        }
+        Some((_, n)) => {
+            if n > most {
+                return Err(LineFault::BadField);
+            }
+            Ok(n)
+        }
+    }
 }
 
 pub(crate) fn number_in(word: &[u8]) -> Result<u32, LineFault>
@@ -59,8 +69,8 @@ pub fn next_number32(words: &mut Parts) -> Result<u32, LineFault>
     ensures number { Takes (λ n. n) result words.new (number_at u32.MAX words.old) }
     ensures memory { result ≢ Err LineFault.NoMemory }
 {
-    let word = next_word(words)?;
-    number_in(word)
+    let n = next_number(words, u64::from(u32::MAX))?;
+    Ok(n as u32)
 }
 
 /// The end of the line: there is no further word.

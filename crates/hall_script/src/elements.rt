@@ -3,7 +3,7 @@ ghost use Rattle.std.specs.Prelude.{◌≡◌, ◌≤◌, ◌<◌, ◌+◌, ◌*
 ghost use Rattle.mpi_elems.specs.Types.{numbers_per_element};
 ghost use Rattle.mpi_elems.specs.Contents.{contents};
 ghost use Rattle.coll_text.specs.Numbers.{signed_within};
-ghost use Rattle.coll_text.specs.Reading.{Gives, Leaves};
+ghost use Rattle.coll_text.specs.Reading.{Gives, Leaves, Fails};
 ghost use Rattle.hall_script.specs.Lines.{buffer_of, values_of};
 ghost use Rattle.hall_script.specs.Filling.{room_for, with_word, with_words};
 
@@ -36,6 +36,7 @@ fn builder(alloc: Global, elem_type: ElemType, numbers: usize) -> Result<BufferB
 }
 
 // Takes the number that an element's word spells.
+#[inline(always)]
 fn push_value(
     builder: &mut BufferBuilder,
     word: &[u8],
@@ -58,9 +59,29 @@ fn push_value(
     }
 }
 
-// Reads the numbers to the end of the line. It stands alone so that its loop has the registers for
-// itself.
+// Reads the numbers up to one that is not as plain as most are, or to the end of the line, and
+// answers the words from there on. It stands alone so that its loop has the registers for itself.
 #[inline(never)]
+fn fill_plain<'a>(builder: &mut BufferBuilder, line: Parts<'a>) -> Result<Parts<'a>, LineFault>
+    requires { length builder.old.numbers + length line
+        ≤ numbers_per_element builder.old.elem_type * builder.old.room }
+    ensures filled { IfOk result
+        (λ rest. with_words builder.new rest ≡ with_words builder.old line.entry) }
+    ensures fault { IfErr result (λ fault. Fails fault (with_words builder.old line.entry)) }
+    ensures kind { OnOk result (builder.new.elem_type ≡ builder.old.elem_type) }
+    ensures room { OnOk result (builder.new.room ≡ builder.old.room) }
+    ensures count { IfOk result (λ rest. length builder.new.numbers + length rest
+        ≡ length builder.old.numbers + length line.entry) }
+    ensures fewer { IfOk result (λ rest. length rest ≤ length line.entry) }
+{
+    let mut words = line;
+    while let Some((word, number)) = words.next_narrow() {
+        push_value(builder, word, Some(i128::from(number)))?;
+    }
+    Ok(words)
+}
+
+// Reads the numbers to the end of the line.
 fn fill(builder: &mut BufferBuilder, line: Parts) -> Result<(), LineFault>
     requires { length builder.old.numbers + length line
         ≤ numbers_per_element builder.old.elem_type * builder.old.room }
@@ -70,9 +91,10 @@ fn fill(builder: &mut BufferBuilder, line: Parts) -> Result<(), LineFault>
     ensures count { OnOk result
         (length builder.new.numbers ≡ length builder.old.numbers + length line.entry) }
 {
-    let mut words = line;
+    let mut words = fill_plain(builder, line)?;
     while let Some((word, number)) = words.next_signed() {
         push_value(builder, word, number)?;
+        words = fill_plain(builder, words)?;
     }
     Ok(())
 }

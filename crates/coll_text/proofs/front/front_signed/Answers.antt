@@ -1,14 +1,26 @@
-use Rattle.std.proofs.Common.{◌<◌, ◌^◌, take, Some, ap, sym, ◌∙◌, arith}
-use Rattle.coll_text.proofs.FrontLemmas.{plain_is, digits_solid, wide}
+use Rattle.std.proofs.Common.{◌≡◌, ◌≤◌, length, take, drop, true, Some, ap, sym, ◌∙◌, eqb, get_or, rules}
+use Rattle.std.proofs.Common.{FitsSigned, w64, refl}
+use Rattle.std.specs.List.{list_all}
+use Rattle.std.proofs.lemmas.Int.{to_z-of_z}
+use Rattle.coll_text.specs.Numbers.{is_digit, number_within}
+use Rattle.coll_text.proofs.FrontLemmas.{signed_is, signed_solid}
 use Rattle.coll_text.proofs.front.front_signed.Goals as goal
 
-pub returns-in-Some-clause-solid : goal.returns-in-Some-clause-solid
-returns-in-Some-clause-solid c =
-    digits_solid (take c.in-Some.len c.args.text.now) c.in-Some.ensures.digits
+pub returns-clause-solid : goal.returns-clause-solid
+returns-clause-solid c =
+    let some : 1 ≤ length c.args.text.now = search rules in
+    let d : list_all is_digit (take c.in_ok-n.len (drop c.from-signs.result c.args.text.now)) ≡ true
+    = rw (← c.split_at.ensures.back) c.in_ok-n.ensures.digits in
+    signed_solid (eqb (get_or c.args.text.now 0 0) 45) c.in_ok-n.len c.from-signs.result
+    c.args.text.now refl c.from-signs.ensures some d
 
-pub returns-in-Some-clause-value : goal.returns-in-Some-clause-value
-returns-in-Some-clause-value c =
-    let lt : c.in-Some.n < 2 ^ 64 = omega (arith, c.in-Some.ensures.below) in
-    plain_is 18446744073709551615 18446744073709551615 c.in-Some.n
-    (take c.in-Some.len c.args.text.now) c.in-Some.ensures.value
-    ∙ ap (λ z. Some z) (sym (wide c.in-Some.n lt))
+pub returns-clause-value : goal.returns-clause-value
+returns-clause-value c =
+    let some : 1 ≤ length c.args.text.now = search rules in
+    let v : number_within 18446744073709551615
+    (take c.in_ok-n.len (drop c.from-signs.result c.args.text.now)) ≡ Some c.in_ok-n.n = rw
+    (← c.split_at.ensures.back) c.in_ok-n.ensures.value in
+    let fits : FitsSigned w64 c.with_sign.result = search rules in
+    signed_is (eqb (get_or c.args.text.now 0 0) 45) 18446744073709551615 c.in_ok-n.n c.in_ok-n.len
+    c.from-signs.result c.args.text.now refl c.from-signs.ensures some v c.if-is_negative-n.false
+    ∙ ap (λ z. Some z) (sym c.with_sign.ensures ∙ sym (to_z-of_z w64 c.with_sign.result fits))
