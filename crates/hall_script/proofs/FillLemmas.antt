@@ -3,7 +3,7 @@ use Rattle.std.proofs.Common.{◌≡◌, ℕ, ◌+◌, ◌/◌, ◌%◌, List, [
 use Rattle.std.proofs.Common.{not, cond, ◌&&◌, eqb, Some, None, Result, Ok, Err, refl, sym, ap}
 use Rattle.std.proofs.Common.{subst, ◌∙◌, append_assoc, length-append, arith}
 use Rattle.std.specs.List.{list_all}
-use Rattle.std.proofs.lemmas.Bool.{eqb-true}
+use Rattle.std.proofs.lemmas.Bool.{eqb-true, ne_eqb}
 use Rattle.std.proofs.lemmas.List.{append-nil, length-map}
 use Rattle.mpi_elems.specs.declared.elem_type.ElemType.{ElemType}
 use Rattle.mpi_elems.specs.declared.elem_type.ElemType.TheVariants.{Int8, Int16, Int32, Int64}
@@ -17,7 +17,7 @@ use Rattle.mpi_elems.specs.Elements.{single, pairs_of, elements_of}
 use Rattle.mpi_elems.specs.Contents.{Contents, contents}
 use Rattle.mpi_elems.specs.Faults.{fault_of}
 use Rattle.coll_text.specs.declared.fault.LineFault.{LineFault}
-use Rattle.coll_text.specs.Numbers.{Word}
+use Rattle.coll_text.specs.Numbers.{Word, signed_within}
 use Rattle.coll_text.specs.Reading.{◌>>=◌, Fails, each_of}
 use Rattle.hall_script.specs.Lines.{value_of, buffer_of}
 use Rattle.hall_script.specs.Filling.{room_for, with_numbers, with_word, with_words}
@@ -95,6 +95,17 @@ grown b new (Err f) e = absurd cc
 
 pub grows : (b new : Contents) (w : Word) → with_word b w ≡ Ok new → Grows b new
 grows b new w e = grown b new (value_of b.elem_type w) e
+
+-- ---- plain words
+
+-- a word that spells a number is not empty
+pub some_word : (most least : ℕ) (w : Word) (z : ℤ) → signed_within most least w ≡ Some z →
+    eqb (length w) 0 ≡ false
+unfolding signed_within
+some_word most least [] z e = absurd cc
+some_word most least (b ∷ bs) z e =
+    let other : length (b ∷ bs) ≡ 0 → ⊥ = λ h. absurd (omega arith) in
+    ne_eqb (length (b ∷ bs)) 0 other
 
 -- ---- room
 

@@ -1,5 +1,5 @@
 //! Reads the elements of a post straight into their buffer.
-ghost use Rattle.std.specs.Prelude.{◌≡◌, ◌≤◌, ◌<◌, ◌+◌, ◌*◌, [], length, IfOk, OnOk, IfErr};
+ghost use Rattle.std.specs.Prelude.{◌≡◌, ◌≤◌, ◌<◌, ◌+◌, ◌*◌, [], length, Some, IfOk, OnOk, IfErr};
 ghost use Rattle.mpi_elems.specs.Types.{numbers_per_element};
 ghost use Rattle.mpi_elems.specs.Contents.{contents};
 ghost use Rattle.coll_text.specs.Numbers.{signed_within};
@@ -35,8 +35,24 @@ fn builder(alloc: Global, elem_type: ElemType, numbers: usize) -> Result<BufferB
     }
 }
 
-// Takes the number that an element's word spells.
+// Takes the number of 64 bits that an element's word spells.
 #[inline(always)]
+#[tactic(auto, using(crate::proofs::FillLemmas::some_word))]
+fn push_plain(builder: &mut BufferBuilder, word: &[u8], number: i64) -> Result<(), LineFault>
+    requires spelled { signed_within u64.MAX u64.MAX word.now ≡ Some number }
+    requires room { length builder.old.numbers
+        < numbers_per_element builder.old.elem_type * builder.old.room }
+    ensures { Leaves result builder.new (with_word builder.old word.now) }
+{
+    // The word says what the number is in the contract, and is not looked at again.
+    let _ = word;
+    match builder.push_narrow(number) {
+        Ok(()) => Ok(()),
+        Err(_) => Err(LineFault::BadNumber),
+    }
+}
+
+// Takes the number that an element's word spells.
 fn push_value(
     builder: &mut BufferBuilder,
     word: &[u8],
@@ -76,7 +92,7 @@ fn fill_plain<'a>(builder: &mut BufferBuilder, line: Parts<'a>) -> Result<Parts<
 {
     let mut words = line;
     while let Some((word, number)) = words.next_narrow() {
-        push_value(builder, word, Some(i128::from(number)))?;
+        push_plain(builder, word, number)?;
     }
     Ok(words)
 }

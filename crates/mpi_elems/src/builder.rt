@@ -1,7 +1,7 @@
 //! Buffers filled number by number.
 ghost use Rattle.std.specs.Prelude.{◌≡◌, ◌<◌, ◌*◌, ◌+◌, ◌++◌, [], ◌∷◌, length, IfOk};
 ghost use Rattle.std.specs.Prelude.{IfErr, IsOk, OnOk, OnErr, Some, None, true, false};
-ghost use Rattle.std.specs.Prelude.{option_to_list, vec_len, vec_capacity, if◌then◌else◌};
+ghost use Rattle.std.specs.Prelude.{option_to_list, vec_len, vec_capacity, if◌then◌else◌, Ok, Err};
 ghost use Rattle.mpi_elems.specs.Types.{is_pair, numbers_per_element};
 ghost use Rattle.mpi_elems.specs.Numbers.{is_number_of};
 ghost use Rattle.mpi_elems.specs.Elements.{numbers_of};
@@ -63,11 +63,22 @@ impl BufferBuilder {
             (λ f. (f ≡ BufferFault.BadNumber) × (is_number_of self.old.elem_type number ≡ false)) }
         ensures unchanged { OnErr result (self.new ≡ self.old) }
     {
-        if push(&mut self.cells, &mut self.half, number) {
-            Ok(())
-        } else {
-            Err(BufferFault::BadNumber)
-        }
+        outcome(push(&mut self.cells, &mut self.half, number))
+    }
+
+    /// The same of a number of 64 bits, at that width.
+    #[inline(always)]
+    pub fn push_narrow(&mut self, number: i64) -> Result<(), BufferFault>
+        requires { length self.old.numbers
+            < numbers_per_element self.old.elem_type * self.old.room }
+        ensures added { OnOk result (self.new
+            ≡ contents self.old.elem_type (self.old.numbers ++ number ∷ []) self.old.room) }
+        ensures sound { OnOk result (is_number_of self.old.elem_type number ≡ true) }
+        ensures outside { IfErr result
+            (λ f. (f ≡ BufferFault.BadNumber) × (is_number_of self.old.elem_type number ≡ false)) }
+        ensures unchanged { OnErr result (self.new ≡ self.old) }
+    {
+        outcome(push_small(&mut self.cells, &mut self.half, number))
     }
 
     /// The buffer of the numbers. `OddPair` where the last pair lacks its index. Takes no memory.
@@ -85,6 +96,18 @@ impl BufferBuilder {
     }
 }
 
+// What is answered for a number that the type has, or has not.
+#[inline(always)]
+fn outcome(is_added: bool) -> Result<(), BufferFault>
+    ensures { result ≡ (if is_added then Ok tt else Err BufferFault.BadNumber) }
+{
+    if is_added {
+        Ok(())
+    } else {
+        Err(BufferFault::BadNumber)
+    }
+}
+
 // Adds the number, if the type has it.
 fn push_single<T: Native>(items: &mut Vec<T>, number: i128) -> bool
     requires { vec_len items.old < vec_capacity items.old }
@@ -94,6 +117,24 @@ fn push_single<T: Native>(items: &mut Vec<T>, number: i128) -> bool
     ensures room { vec_capacity items.new ≡ vec_capacity items.old }
 {
     match T::from_number(number) {
+        Some(cell) => {
+            items.push_reserved(cell);
+            true
+        }
+        None => false,
+    }
+}
+
+// The same of a number of 64 bits.
+#[inline(always)]
+fn push_small_single<T: Native>(items: &mut Vec<T>, number: i64) -> bool
+    requires { vec_len items.old < vec_capacity items.old }
+    ensures accepted { result ≡ is_number_of T.kind number }
+    ensures numbers { numbers_of (singles T.number items.new.items)
+        ≡ numbers_of (singles T.number items.old.items) ++ (if result then number ∷ [] else []) }
+    ensures room { vec_capacity items.new ≡ vec_capacity items.old }
+{
+    match T::from_narrow(number) {
         Some(cell) => {
             items.push_reserved(cell);
             true
@@ -137,6 +178,26 @@ fn push_of_pair(items: &mut Vec<(i32, i32)>, half: &mut Option<i32>, number: i12
     }
 }
 
+// The same of a number of 64 bits.
+#[inline(always)]
+#[tactic(auto, unfolding(crate::specs::Numbers::is_number_of))]
+fn push_small_of_pair(items: &mut Vec<(i32, i32)>, half: &mut Option<i32>, number: i64) -> bool
+    requires { vec_len items.old < vec_capacity items.old }
+    ensures accepted { result ≡ is_number_of TwoInt number }
+    ensures numbers { numbers_of (pairs items.new.items) ++ option_to_list half.new
+        ≡ (numbers_of (pairs items.old.items) ++ option_to_list half.old)
+        ++ (if result then number ∷ [] else []) }
+    ensures room { vec_capacity items.new ≡ vec_capacity items.old }
+{
+    match i32::from_narrow(number) {
+        Some(part) => {
+            push_part(items, half, part);
+            true
+        }
+        None => false,
+    }
+}
+
 // Adds the number, if the type has it.
 #[tactic(auto, using(crate::proofs::BuilderLemmas::single_pushed))]
 fn push(cells: &mut Cells, half: &mut Option<i32>, number: i128) -> bool
@@ -160,5 +221,32 @@ fn push(cells: &mut Cells, half: &mut Option<i32>, number: i128) -> bool
         Cells::U32(items) => push_single(items, number),
         Cells::U64(items) => push_single(items, number),
         Cells::Pairs(items) => push_of_pair(items, half, number),
+    }
+}
+
+// The same of a number of 64 bits.
+#[inline(always)]
+#[tactic(auto, using(crate::proofs::BuilderLemmas::single_pushed))]
+fn push_small(cells: &mut Cells, half: &mut Option<i32>, number: i64) -> bool
+    requires room { length (elements_in cells.old) < room_of cells.old }
+    requires no_half { is_pair (kind_of cells.old) ≡ false → half.old ≡ None }
+    ensures accepted { result ≡ is_number_of (kind_of cells.old) number }
+    ensures kind { kind_of cells.new ≡ kind_of cells.old }
+    ensures numbers { numbers_of (elements_in cells.new) ++ option_to_list half.new
+        ≡ (numbers_of (elements_in cells.old) ++ option_to_list half.old)
+        ++ (if result then number ∷ [] else []) }
+    ensures no_half { is_pair (kind_of cells.old) ≡ false → half.new ≡ None }
+    ensures room { room_of cells.new ≡ room_of cells.old }
+{
+    match cells {
+        Cells::I8(items) => push_small_single(items, number),
+        Cells::I16(items) => push_small_single(items, number),
+        Cells::I32(items) => push_small_single(items, number),
+        Cells::I64(items) => push_small_single(items, number),
+        Cells::U8(items) => push_small_single(items, number),
+        Cells::U16(items) => push_small_single(items, number),
+        Cells::U32(items) => push_small_single(items, number),
+        Cells::U64(items) => push_small_single(items, number),
+        Cells::Pairs(items) => push_small_of_pair(items, half, number),
     }
 }

@@ -6,12 +6,12 @@ use Rattle.hall_script.proofs.elements.fill_plain.Goals as goal
 
 pub loop-word-preserved : goal.loop-word-preserved
 loop-word-preserved c =
-    let more = grows c.loop-word.builder c.push_value.new.builder c.in-Some.word.now
-    c.in_ok-push_value.ensures in
+    let more = grows c.loop-word.builder c.push_plain.new.builder c.in-Some.word.now
+    c.in_ok-push_plain.ensures in
     record {
-      so_far = goes_on c.loop-word.builder c.push_value.new.builder c.in-Some.word.now
+      so_far = goes_on c.loop-word.builder c.push_plain.new.builder c.in-Some.word.now
           c.loop-word.words c.next_narrow.new.self (with_words c.args.builder.now c.args.line)
-          c.in-Some.ensures.part c.in_ok-push_value.ensures c.loop-word.invariant.so_far;
+          c.in-Some.ensures.part c.in_ok-push_plain.ensures c.loop-word.invariant.so_far;
       kind = more.kind ∙ c.loop-word.invariant.kind;
       room = more.room ∙ c.loop-word.invariant.room;
       count = let split = ap length c.in-Some.ensures.part in
@@ -20,9 +20,9 @@ loop-word-preserved c =
           omega (arith, split, c.loop-word.invariant.fewer);
     }
 
-pub returns-in_err-push_value-clause-fault : goal.returns-in_err-push_value-clause-fault
-returns-in_err-push_value-clause-fault c =
+pub returns-in_err-push_plain-clause-fault : goal.returns-in_err-push_plain-clause-fault
+returns-in_err-push_plain-clause-fault c =
     let p = err_from_is_err_and c.from_residual.result c.from_residual.ensures.1 in
-    rw (p.1, p.2) (stops c.in_err-push_value.field-0.0 c.loop-word.builder c.in-Some.word.now
+    rw (p.1, p.2) (stops c.in_err-push_plain.field-0.0 c.loop-word.builder c.in-Some.word.now
     c.loop-word.words c.next_narrow.new.self (with_words c.args.builder.now c.args.line)
-    c.in-Some.ensures.part c.in_err-push_value.ensures c.loop-word.invariant.so_far)
+    c.in-Some.ensures.part c.in_err-push_plain.ensures c.loop-word.invariant.so_far)
