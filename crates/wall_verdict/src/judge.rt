@@ -214,10 +214,11 @@ fn judge(policy: &Policy, histories: &Histories, roll: &Roll, labels: &Inflow) -
 /// first. Else it is granted.
 ///
 /// Where no label that is stated has a rival among what the members have had access to or among the
-/// labels, looks at each rank twice. Where all receivers get alike from the ranks that reach them, as in an allreduce, an allgather
-/// or a scan, looks at each rank once, at the masks of each receiver, and, where one offends, at
-/// each rank for it once more. Between neighbours looks at the neighbours of each rank, and, where
-/// one offends, at each rank for it too. In an alltoallv looks at each pair of ranks.
+/// labels, looks at each rank twice. Where all receivers get alike from the ranks that reach them,
+/// as in an allreduce, an allgather or a scan, looks at each rank once, at the masks of each
+/// receiver, and, where one offends, at each rank for it once more. Between neighbours looks at the
+/// neighbours of each rank, and, where one offends, at each rank for it too. In an alltoallv looks
+/// at each pair of ranks.
 pub fn decide(policy: &Policy, histories: &Histories, roll: &Roll) -> Verdict
     requires fit { IsFit roll.now }
     requires classes { histories.now.classes ≡ policy.now.classes }
