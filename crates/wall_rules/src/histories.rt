@@ -1,6 +1,6 @@
 //! The histories of all processes, in a row of bits for each.
 ghost use Rattle.std.specs.Prelude.{◌≡◌, ℕ, ◌<◌, ◌≤◌, ◌↔◌, length, IfOk, IfErr, IfSome, IfNone};
-ghost use Rattle.std.specs.Prelude.{IsOk, IsTrue};
+ghost use Rattle.std.specs.Prelude.{IsOk, IsTrue, Some, slice_get};
 ghost use Rattle.std.specs.FinSet as sets;
 ghost use Rattle.wall_labels.specs.Limits.{process_limit, dataset_limit};
 ghost use Rattle.wall_policy.specs.Rivals.{are_rivals};
@@ -15,7 +15,7 @@ use crate::NoMemory;
 use std::alloc::Global;
 use std::marker::Model;
 use wall_labels::{ClassId, DatasetId, Label, LabelSet, PROCESS_LIMIT, ProcessId};
-use wall_policy::{Policy, are_rivals};
+use wall_policy::Policy;
 
 /// A set of pairs of process and dataset, in which no process has two rivals.
 ///
@@ -208,17 +208,30 @@ fn rival_rows(alloc: Global, classes: &[ClassId]) -> Result<Vec<LabelSet>, NoMem
     Ok(rows)
 }
 
+// Whether the number is a rival of the dataset, which is of this class.
+#[inline(always)]
+#[tactic(auto, unfolding(wall_policy::specs::Rivals::are_rivals))]
+fn is_rival(classes: &[ClassId], class: u32, dataset: u32, number: u32) -> bool
+    requires class { slice_get classes.now dataset ≡ Some class }
+    requires number { number < length classes.now }
+    ensures { result ≡ are_rivals classes.now dataset number }
+{
+    classes[number as usize].number() == class && number != dataset
+}
+
 // The rivals of the dataset.
 fn rival_row(classes: &[ClassId], dataset: DatasetId) -> LabelSet
-    requires { length classes.now ≤ dataset_limit }
+    requires limit { length classes.now ≤ dataset_limit }
+    requires known { dataset < length classes.now }
     ensures { (d : ℕ) → sets.contains result d ≡ are_rivals classes.now dataset d }
 {
     let mut row = LabelSet::empty();
+    let class = classes[dataset.number() as usize].number();
     for number in 0..classes.len() as u32 {
-        let Some(other) = DatasetId::new(number) else {
-            unreachable!()
-        };
-        if are_rivals(classes, dataset, other) {
+        if is_rival(classes, class, dataset.number(), number) {
+            let Some(other) = DatasetId::new(number) else {
+                unreachable!()
+            };
             row.insert(other);
         }
     }
