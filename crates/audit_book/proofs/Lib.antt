@@ -13,3 +13,4 @@ pub mod NamedLemmas
 pub mod FaultLemmas
 pub mod ScanLemmas
 pub mod SpelledRowProofs
+mod SameLemmas

@@ -73,7 +73,7 @@ fn take_lines(
     ensures { Reads result book.new.list (entries_in policy.now 0 (first.now ∷ lines.old)) }
 {
     let mut line = first;
-    while let Some(next) = lines.next() {
+    while let Some(next) = lines.next_long() {
         if !take_line(alloc, policy, line, book)? {
             return end_of(book.len() as u64 + 3, next, lines);
         }

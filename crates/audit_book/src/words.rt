@@ -1,5 +1,6 @@
 //! The words of a book's lines that scripts do not have.
 ghost use Rattle.std.specs.Prelude.{◌≡◌, ◌≢◌, true, IfOk, Err};
+ghost use Rattle.std.specs.Str.{bytes_eq};
 ghost use Rattle.run_model.specs.Books.{is_labelled_as};
 ghost use Rattle.coll_text.specs.Reading.{Gives, Takes};
 ghost use Rattle.audit_book.specs.Lines.{past_word, known_process, process_at, named_at, label_at};
@@ -36,15 +37,33 @@ pub(crate) struct Given {
     pub barred: bool,
 }
 
+// Whether the word is this text. It is short and known where this is called, so the bytes are
+// compared one after the other, without a loop.
+#[inline(always)]
+#[tactic(auto, using(crate::proofs::SameLemmas::is_same, crate::proofs::SameLemmas::is_other, crate::proofs::SameLemmas::is_longer))]
+fn is_word(word: &[u8], text: &[u8]) -> bool
+    ensures { result ≡ bytes_eq word.now text.now }
+{
+    if word.len() != text.len() {
+        return false;
+    }
+    for at in 0..text.len() {
+        if word[at] != text[at] {
+            return false;
+        }
+    }
+    true
+}
+
 #[tactic(auto, unfolding(crate::specs::Lines::verb_of))]
 pub(crate) fn verb_in(word: &[u8]) -> Option<Verb>
     ensures { result ≡ verb_of word.now }
 {
-    if word == b"post".as_slice() {
+    if is_word(word, b"post") {
         Some(Verb::Post)
-    } else if word == b"verdict".as_slice() {
+    } else if is_word(word, b"verdict") {
         Some(Verb::Verdict)
-    } else if word == b"end".as_slice() {
+    } else if is_word(word, b"end") {
         Some(Verb::End)
     } else {
         None
@@ -55,13 +74,13 @@ pub(crate) fn verb_in(word: &[u8]) -> Option<Verb>
 pub(crate) fn came_in(word: &[u8]) -> Option<Came>
     ensures { result ≡ came_of word.now }
 {
-    if word == b"granted".as_slice() {
+    if is_word(word, b"granted") {
         Some(Came::Granted)
-    } else if word == b"denied".as_slice() {
+    } else if is_word(word, b"denied") {
         Some(Came::Denied)
-    } else if word == b"made".as_slice() {
+    } else if is_word(word, b"made") {
         Some(Came::Made)
-    } else if word == b"noroom".as_slice() {
+    } else if is_word(word, b"noroom") {
         Some(Came::NoRoom)
     } else {
         None
@@ -69,12 +88,13 @@ pub(crate) fn came_in(word: &[u8]) -> Option<Came>
 }
 
 // Goes past this very word.
+#[inline(always)]
 fn pass_word(words: &mut Parts, word: &[u8]) -> Result<(), LineFault>
     ensures word { Takes (λ w. w) result words.new (past_word word.now words.old) }
     ensures memory { result ≢ Err LineFault.NoMemory }
 {
     let next = next_word(words)?;
-    if next == word {
+    if is_word(next, word) {
         Ok(())
     } else {
         Err(LineFault::BadShape)
@@ -141,13 +161,14 @@ fn next_given_label(
     }
 }
 
+#[inline(always)]
 fn either_word(word: &[u8], first: &[u8], second: &[u8]) -> Result<bool, LineFault>
     ensures word { Gives result (either_word first.now second.now word.now) }
     ensures memory { result ≢ Err LineFault.NoMemory }
 {
-    if word == first {
+    if is_word(word, first) {
         Ok(false)
-    } else if word == second {
+    } else if is_word(word, second) {
         Ok(true)
     } else {
         Err(LineFault::BadShape)

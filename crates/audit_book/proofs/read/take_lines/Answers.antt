@@ -14,7 +14,7 @@ pub returns-in_err-take_line : goal.returns-in_err-take_line
 returns-in_err-take_line c =
     let p = err_from_is_err_and c.from_residual.result c.from_residual.ensures.1 in
     rw (p.1, p.2) (at_fault c.args.policy.now c.loop-next.book.list c.take_line.new.book.list
-    c.loop-next.line.now c.in-Some.next.now c.loop-next.lines c.next.new.self
+    c.loop-next.line.now c.in-Some.next.now c.loop-next.lines c.next_long.new.self
     (entries_in c.args.policy.now 0 (c.args.first.now ∷ c.args.lines.now)) c.in-Some.ensures
     c.loop-next.invariant (Unit {0}) c.in_err-take_line.field-0.0
     c.in_err-take_line.ensures)
@@ -25,10 +25,10 @@ returns-then-not-branch c =
     (line_at c.args.policy.now c.loop-next.line.now)) c.if-not-branch.true
     c.in_ok-take_line.ensures in
     at_end c.args.policy.now c.loop-next.book.list c.take_line.new.book.list c.loop-next.line.now
-    c.in-Some.next.now c.loop-next.lines c.next.new.self
+    c.in-Some.next.now c.loop-next.lines c.next_long.new.self
     (entries_in c.args.policy.now 0 (c.args.first.now ∷ c.args.lines.now)) c.in-Some.ensures
     c.loop-next.invariant c.end_of.result h (subst (λ (n : ℕ).
-    Reads c.end_of.result [] (ended_at (n + 3) (c.in-Some.next.now ∷ c.next.new.self)))
+    Reads c.end_of.result [] (ended_at (n + 3) (c.in-Some.next.now ∷ c.next_long.new.self)))
     c.len.ensures.value c.end_of.ensures.end)
 
 pub loop-next-preserved : goal.loop-next-preserved
@@ -37,7 +37,7 @@ loop-next-preserved c =
     (line_at c.args.policy.now c.loop-next.line.now)) c.if-not-branch.false
     c.in_ok-take_line.ensures in
     goes_on c.args.policy.now c.loop-next.book.list c.take_line.new.book.list c.loop-next.line.now
-    c.in-Some.next.now c.loop-next.lines c.next.new.self
+    c.in-Some.next.now c.loop-next.lines c.next_long.new.self
     (entries_in c.args.policy.now 0 (c.args.first.now ∷ c.args.lines.now)) c.in-Some.ensures
     c.loop-next.invariant h
 
