@@ -1,4 +1,5 @@
 pub mod Numbers
+pub mod Eights
 pub mod Reading
 pub mod Words
 pub mod Table

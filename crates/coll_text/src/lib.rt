@@ -8,6 +8,7 @@
 mod append;
 mod check;
 mod digits;
+mod eights;
 mod fault;
 mod fields;
 mod front;

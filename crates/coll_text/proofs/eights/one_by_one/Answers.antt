@@ -1,7 +1,7 @@
 use Rattle.std.proofs.Common.{◌≡◌, ◌≤◌, ◌<◌, length, true, get_or, arith, sym, ◌∙◌, refl}
 use Rattle.coll_text.specs.Numbers.{is_digit}
 use Rattle.coll_text.proofs.FrontLemmas.{value_more, digits_more, digit_range, fits, fits_more}
-use Rattle.coll_text.proofs.front.front_digits.Goals as goal
+use Rattle.coll_text.proofs.eights.one_by_one.Goals as goal
 
 pub overflow_mul-value : goal.overflow_mul-value
 overflow_mul-value c =

@@ -1,7 +1,7 @@
 use Rattle.std.proofs.Common.{◌≡◌, ◌≤◌, ◌<◌, ◌^◌, ◌-◌, take, true}
 use Rattle.std.specs.List.{list_all}
 use Rattle.coll_text.specs.Numbers.{is_digit, value_after}
-use Rattle.coll_text.proofs.front.front_steps.Given as goal
+use Rattle.coll_text.proofs.eights.one_by_one.Given as goal
 
 abbrev pub invariant-loop-len : goal.invariant-loop-len
 invariant-loop-len l = record {

@@ -1,0 +1,17 @@
+use Rattle.coll_text.proofs.StepLemmas.{none_stops, one_stops}
+use Rattle.coll_text.proofs.eights.stop_of.Goals as goal
+
+pub returns-then-marks-eq0-clause-digits : goal.returns-then-marks-eq0-clause-digits
+returns-then-marks-eq0-clause-digits c =
+    let none = rw c.eight_of.ensures at c.if-marks-eq0.true in
+    none_stops c.args.text.now c.requires c.type_inv.text none
+
+pub returns-clause-few : goal.returns-clause-few
+returns-clause-few c =
+    let some = rw c.eight_of.ensures at c.if-marks-eq0.false in
+    rw c.eight_of.ensures (one_stops c.args.text.now c.requires c.type_inv.text some).0
+
+pub returns-clause-digits : goal.returns-clause-digits
+returns-clause-digits c =
+    let some = rw c.eight_of.ensures at c.if-marks-eq0.false in
+    rw c.eight_of.ensures (one_stops c.args.text.now c.requires c.type_inv.text some).1
