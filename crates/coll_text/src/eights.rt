@@ -118,9 +118,9 @@ fn with_more(text: &[u8], value: u64, len: usize, count: usize) -> u64
     value_of_few(rest, count) + value * TENS[count]
 }
 
-// Goes on digit by digit.
+/// Goes on digit by digit.
 #[inline(always)]
-fn one_by_one(text: &[u8], value: u64, len: usize) -> (u64, usize)
+pub(crate) fn one_by_one(text: &[u8], value: u64, len: usize) -> (u64, usize)
     requires front { IsFront text.now value len }
     requires few { len ≤ 19 }
     ensures { IsFront text.now result.0 result.1 }

@@ -2,9 +2,32 @@
 ghost use Rattle.std.specs.Prelude.{◌≡◌, ◌≤◌, length, take, Some, IfSome, true, nat_lt, ◌-ℤ◌, pos};
 ghost use Rattle.std.specs.Prelude.{if◌then◌else◌};
 ghost use Rattle.std.specs.List.{list_all};
-ghost use Rattle.coll_text.specs.Numbers.{is_digit, number_within, signed_within};
+ghost use Rattle.coll_text.specs.Numbers.{is_digit, value_after, number_within, signed_within};
 
-use crate::eights::front_digits;
+use crate::eights::{front_digits, one_by_one};
+
+// The digits at the front as a number: none where there is no digit, or a needless zero.
+#[inline(always)]
+fn as_number(text: &[u8], value: u64, len: usize) -> Option<(u64, usize)>
+    requires within { len ≤ length text.now }
+    requires digits { list_all is_digit (take len text.now) ≡ true }
+    requires value { value ≡ value_after 0 (take len text.now) }
+    ensures within { IfSome result (λ r. r.1 ≤ length text.now) }
+    ensures digits { IfSome result (λ r. list_all is_digit (take r.1 text.now) ≡ true) }
+    ensures value { IfSome result (λ r. number_within u64.MAX (take r.1 text.now) ≡ Some r.0) }
+    ensures below { IfSome result (λ r. r.0 ≤ u64.MAX) }
+{
+    if len == 0 {
+        return None;
+    }
+    if len == 1 {
+        return Some((value, 1));
+    }
+    if text[0] == b'0' {
+        return None;
+    }
+    Some((value, len))
+}
 
 // The number that the digits at the front spell, 19 of them at most, and how many these are; none
 // where the text begins with no digit, or with a needless zero.
@@ -16,16 +39,19 @@ pub(crate) fn front_number(text: &[u8]) -> Option<(u64, usize)>
     ensures below { IfSome result (λ r. r.0 ≤ u64.MAX) }
 {
     let (value, len) = front_digits(text);
-    if len == 0 {
-        return None;
-    }
-    if len == 1 {
-        return Some((value, 1));
-    }
-    if text[0] == b'0' {
-        return None;
-    }
-    Some((value, len))
+    as_number(text, value, len)
+}
+
+// The same digit by digit, for numbers that are mostly short.
+#[inline(always)]
+pub(crate) fn front_short(text: &[u8]) -> Option<(u64, usize)>
+    ensures within { IfSome result (λ r. r.1 ≤ length text.now) }
+    ensures digits { IfSome result (λ r. list_all is_digit (take r.1 text.now) ≡ true) }
+    ensures value { IfSome result (λ r. number_within u64.MAX (take r.1 text.now) ≡ Some r.0) }
+    ensures below { IfSome result (λ r. r.0 ≤ u64.MAX) }
+{
+    let (value, len) = one_by_one(text, 0, 0);
+    as_number(text, value, len)
 }
 
 // The number with its sign.

@@ -1,10 +1,10 @@
 //! Numbers as text.
-ghost use Rattle.std.specs.Prelude.{◌≡◌, ◌≤◌, IfSome};
+ghost use Rattle.std.specs.Prelude.{◌≡◌, ◌≤◌, IfSome, Some, take};
 ghost use Rattle.std.specs.List.{list_all};
 ghost use Rattle.coll_text.specs.Numbers.{is_digit, is_number, number_within, signed_within};
 ghost use Rattle.coll_text.specs.Numbers.{IsBetween};
 
-use crate::front::front_number;
+use crate::front::{front_number, front_short};
 
 pub(crate) fn is_digit_byte(byte: u8) -> bool
     ensures { result ≡ is_digit byte }
@@ -53,12 +53,14 @@ fn long_number(word: &[u8], most: u64) -> Option<u64>
     Some(value)
 }
 
-/// The number that the word spells, up to this one: `0`, or a digit from 1 to 9 and further digits.
-pub fn number(word: &[u8], most: u64) -> Option<u64>
+// The number of the word, whose front was read as this one.
+#[inline(always)]
+fn whole_number(front: Option<(u64, usize)>, word: &[u8], most: u64) -> Option<u64>
+    requires read { IfSome front (λ r. number_within u64.MAX (take r.1 word.now) ≡ Some r.0) }
     ensures value { result ≡ number_within most word.now }
     ensures below { IfSome result (λ n. n ≤ most) }
 {
-    match front_number(word) {
+    match front {
         None => long_number(word, most),
         Some((n, len)) => {
             if len < word.len() {
@@ -72,11 +74,19 @@ pub fn number(word: &[u8], most: u64) -> Option<u64>
     }
 }
 
+/// The number that the word spells, up to this one: `0`, or a digit from 1 to 9 and further digits.
+pub fn number(word: &[u8], most: u64) -> Option<u64>
+    ensures value { result ≡ number_within most word.now }
+    ensures below { IfSome result (λ n. n ≤ most) }
+{
+    whole_number(front_number(word), word, most)
+}
+
 /// The number of 32 bits that the word spells.
 pub fn number32(word: &[u8]) -> Option<u32>
     ensures { result ≡ number_within u32.MAX word.now }
 {
-    number(word, u64::from(u32::MAX)).map(|n| n as u32)
+    whole_number(front_short(word), word, u64::from(u32::MAX)).map(|n| n as u32)
 }
 
 /// The signed number that the word spells, down to -least and up to most: a number, or a minus sign

@@ -4,7 +4,7 @@ ghost use Rattle.std.specs.Prelude.{length, ◌≤◌, ◌<◌, take, nat_lt, tr
 ghost use Rattle.std.specs.List.{slice_split, position, count_by, list_all};
 ghost use Rattle.coll_text.specs.Numbers.{number_within, signed_within};
 
-use crate::front::{front_number, front_signed};
+use crate::front::{front_short, front_signed};
 use crate::numbers::signed;
 use memchr::memchr;
 use std::marker::Model;
@@ -197,7 +197,7 @@ impl<'a> Parts<'a> {
         if self.is_done || self.separator >= b'-' {
             return None;
         }
-        let (number, len) = front_number(self.rest)?;
+        let (number, len) = front_short(self.rest)?;
         match cut_at(self.rest, self.separator, len) {
             None => None,
             Some((part, None)) => {
