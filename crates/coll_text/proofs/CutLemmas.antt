@@ -62,6 +62,25 @@ not_true : (b : Bool) → (b ≡ true → ⊥) → b ≡ false
 not_true true h = absurd (h refl)
 not_true false h = refl
 
+-- the first place, where it was not found before
+pub place_here : (s i : ℕ) (w : List ℕ) → i < length w → get_or w i 0 ≡ s →
+    ((k : ℕ) → k < i → eqb (get_or w k 0) s ≡ false) → Some i ≡ position (λ b. eqb b s) w
+place_here s i w near here before =
+    let p = λ (b : ℕ). eqb b s in
+    let first : position_or_len p w ≡ i = position_or_len_is p w i 0 (omega (arith, near)) before
+    (λ lt. eq-eqb (get_or w i 0) s here) in
+    rw (lt-ltb (position_or_len p w) (length w) (omega (arith, first, near)))
+    (ap (λ (n : ℕ). Some n) (sym first))
+
+-- no place, where it was found nowhere
+pub place_nowhere : (s i : ℕ) (w : List ℕ) → length w ≤ i →
+    ((k : ℕ) → k < i → eqb (get_or w k 0) s ≡ false) → None ≡ position (λ b. eqb b s) w
+place_nowhere s i w all before =
+    let p = λ (b : ℕ). eqb b s in
+    let far : position_or_len p w ≡ length w = position_or_len_is p w (length w) 0 (omega arith)
+    (λ k lt. before k (omega (arith, all, lt))) (λ lt. absurd (omega arith)) in
+    rw (le-ltb (position_or_len p w) (length w) (omega (arith, far))) refl
+
 -- what a search for a byte answers is its first place
 pub place_is : (s : ℕ) (w : List ℕ) (r : Option ℕ) → IsFirstByte (is_byte s) w r →
     r ≡ position (λ b. eqb b s) w

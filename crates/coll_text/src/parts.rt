@@ -54,7 +54,12 @@ fn count_parts(text: &[u8], separator: u8) -> usize
 fn place_of(text: &[u8], separator: u8) -> Option<usize>
     ensures { result ≡ position (λ b. b == separator) text.now }
 {
-    text.iter().position(|b| *b == separator)
+    for i in 0..text.len() {
+        if text[i] == separator {
+            return Some(i);
+        }
+    }
+    None
 }
 
 // The same place, found many bytes at a time.
