@@ -3,6 +3,7 @@ pub mod FrontLemmas
 pub mod DigitLemmas
 pub mod EachLemmas
 pub mod FieldLemmas
+pub mod StatedLemmas
 pub mod CheckLemmas
 pub mod NumberLemmas
 pub mod FoundLemmas

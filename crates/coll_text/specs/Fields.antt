@@ -1,11 +1,16 @@
 -- A kind with its fields, read from the left: the grammar that scripts and books share. (Own
 -- format.)
 use Rattle.std.specs.Prelude.{ℕ, ℤ, List, [], ◌∷◌, codes, Option, Some, None, option_map}
-use Rattle.std.specs.Prelude.{Result, Ok, if◌then◌else◌}
+use Rattle.std.specs.Prelude.{Result, Ok, Err, Bool, true, false, if◌then◌else◌}
 use Rattle.std.specs.Str.{bytes_eq}
 use Rattle.wall_labels.specs.Ops.{op_of}
+use Rattle.wall_labels.specs.declared.op.Op.{Op}
 use Rattle.mpi_elems.specs.Types.{type_of}
+use Rattle.mpi_elems.specs.declared.elem_type.ElemType.{ElemType}
 use Rattle.coll_routes.specs.Kinds.{kind_of}
+use Rattle.coll_routes.specs.declared.kind.Kind.{Kind}
+use Rattle.coll_routes.specs.declared.kind.Kind.TheVariants as kinds
+use Rattle.coll_routes.specs.declared.signature.Signature.TheVariants as signatures
 use Rattle.coll_routes.specs.declared.signature.Signature.{Signature}
 use Rattle.coll_routes.specs.declared.statement.Own.{Own}
 use Rattle.coll_text.specs.declared.fault.LineFault.{LineFault}
@@ -16,7 +21,8 @@ use Rattle.coll_text.specs.declared.table.Form.TheVariants.{Root, Operation, Typ
 use Rattle.coll_text.specs.declared.table.Form.TheVariants.{Listed, Flagged, Colour, Key}
 use Rattle.coll_text.specs.declared.table.Fields.{Fields}
 use Rattle.coll_text.specs.Numbers.{Word, signed_within}
-use Rattle.coll_text.specs.Reading.{◌>>=◌, some_or, word_at, number_up_to, list_of, flag_of}
+use Rattle.coll_text.specs.Reading.{◌>>=◌, some_or, word_at, number_at, number_up_to, list_of}
+use Rattle.coll_text.specs.Reading.{flag_of}
 use Rattle.coll_text.specs.Table.{forms_of, no_fields, signature_of, own_of}
 
 -- a number of 32 bits
@@ -76,3 +82,99 @@ statement_at ws = do
   kind ← some_or BadKind (kind_of w.0)
   f ← fields_at (forms_of kind) no_fields w.1
   Ok ((signature_of kind f.0, own_of kind f.0), f.1)
+
+-- ---- words of private contracts
+
+-- a type of elements
+unfoldable pub elem_type_at : List Word → Result (ElemType × List Word) LineFault
+elem_type_at ws = do
+  w ← word_at ws
+  ty ← some_or BadType (type_of w.0)
+  Ok (ty, w.1)
+
+-- an operation
+unfoldable pub op_at : List Word → Result (Op × List Word) LineFault
+op_at ws = do
+  w ← word_at ws
+  op ← some_or UnknownOp (op_of w.0)
+  Ok (op, w.1)
+
+-- a type of elements and their number
+unfoldable pub block_at : List Word → Result ((ElemType × ℕ) × List Word) LineFault
+block_at ws = do
+  ty ← elem_type_at ws
+  n ← number_at 4294967295 ty.1
+  Ok ((ty.0, n.0), n.1)
+
+-- an operation, a type of elements and their number
+unfoldable pub folded_at : List Word → Result ((Op × ElemType × ℕ) × List Word) LineFault
+folded_at ws = do
+  op ← op_at ws
+  b ← block_at op.1
+  Ok ((op.0, b.0.0, b.0.1), b.1)
+
+-- a rank, a type of elements and their number
+unfoldable pub rooted_at : List Word → Result ((ℕ × ElemType × ℕ) × List Word) LineFault
+rooted_at ws = do
+  root ← number_at 4294967295 ws
+  b ← block_at root.1
+  Ok ((root.0, b.0.0, b.0.1), b.1)
+
+-- a rank, an operation, a type of elements and their number
+unfoldable pub reduced_at : List Word → Result ((ℕ × Op × ElemType × ℕ) × List Word) LineFault
+reduced_at ws = do
+  root ← number_at 4294967295 ws
+  b ← folded_at root.1
+  Ok ((root.0, b.0.0, b.0.1, b.0.2), b.1)
+
+-- a rank and a type of elements
+unfoldable pub gathered_at : List Word → Result ((ℕ × ElemType) × List Word) LineFault
+gathered_at ws = do
+  root ← number_at 4294967295 ws
+  ty ← elem_type_at root.1
+  Ok ((root.0, ty.0), ty.1)
+
+-- the fields of this kind, and what they make
+unfoldable pub stated_at : Kind → List Word → Result ((Signature × Own) × List Word) LineFault
+stated_at kind ws = do
+  f ← fields_at (forms_of kind) no_fields ws
+  Ok ((signature_of kind f.0, own_of kind f.0), f.1)
+
+-- the kinds whose fields are no lists, no colour and no key
+abbrev pub is_plain : Kind → Bool
+is_plain kinds.Scatterv = false
+is_plain kinds.Alltoallv = false
+is_plain kinds.NeighborAlltoallv = false
+is_plain kinds.ReduceScatter = false
+is_plain kinds.Split = false
+is_plain kinds.Create = false
+is_plain kinds.CartCreate = false
+is_plain kinds.CartSub = false
+is_plain _ = true
+
+-- the same of these, read field by field
+unfoldable pub plain_at : Kind → List Word → Result (Signature × List Word) LineFault
+plain_at kinds.Barrier ws = Ok (signatures.Barrier, ws)
+plain_at kinds.Bcast ws = rooted_at ws >>= λ r. Ok (signatures.Bcast r.0.0 r.0.1 r.0.2, r.1)
+plain_at kinds.Gather ws = rooted_at ws >>= λ r. Ok (signatures.Gather r.0.0 r.0.1 r.0.2, r.1)
+plain_at kinds.Scatter ws = rooted_at ws >>= λ r. Ok (signatures.Scatter r.0.0 r.0.1 r.0.2, r.1)
+plain_at kinds.Allgather ws = block_at ws >>= λ r. Ok (signatures.Allgather r.0.0 r.0.1, r.1)
+plain_at kinds.Alltoall ws = block_at ws >>= λ r. Ok (signatures.Alltoall r.0.0 r.0.1, r.1)
+plain_at kinds.NeighborAllgather ws =
+    block_at ws >>= λ r. Ok (signatures.NeighborAllgather r.0.0 r.0.1, r.1)
+plain_at kinds.NeighborAlltoall ws =
+    block_at ws >>= λ r. Ok (signatures.NeighborAlltoall r.0.0 r.0.1, r.1)
+plain_at kinds.Reduce ws =
+    reduced_at ws >>= λ r. Ok (signatures.Reduce r.0.0 r.0.1 r.0.2 r.0.3, r.1)
+plain_at kinds.Allreduce ws =
+    folded_at ws >>= λ r. Ok (signatures.Allreduce r.0.0 r.0.1 r.0.2, r.1)
+plain_at kinds.ReduceScatterBlock ws =
+    folded_at ws >>= λ r. Ok (signatures.ReduceScatterBlock r.0.0 r.0.1 r.0.2, r.1)
+plain_at kinds.Scan ws = folded_at ws >>= λ r. Ok (signatures.Scan r.0.0 r.0.1 r.0.2, r.1)
+plain_at kinds.Exscan ws = folded_at ws >>= λ r. Ok (signatures.Exscan r.0.0 r.0.1 r.0.2, r.1)
+plain_at kinds.Gatherv ws = gathered_at ws >>= λ r. Ok (signatures.Gatherv r.0.0 r.0.1, r.1)
+plain_at kinds.Allgatherv ws = elem_type_at ws >>= λ ty. Ok (signatures.Allgatherv ty.0, ty.1)
+plain_at kinds.NeighborAllgatherv ws =
+    elem_type_at ws >>= λ ty. Ok (signatures.NeighborAllgatherv ty.0, ty.1)
+plain_at kinds.Dup ws = Ok (signatures.Dup, ws)
+plain_at _ ws = Err BadKind

@@ -1,17 +1,19 @@
 //! Reads a kind with its fields.
 ghost use Rattle.std.specs.Prelude.{◌≡◌, true, IfOk};
 ghost use Rattle.coll_text.specs.Reading.{Leaves, Takes};
-ghost use Rattle.coll_routes.specs.Signatures.{kind};
+ghost use Rattle.coll_routes.specs.Signatures.{kind, kind as kind_of_signature};
 ghost use Rattle.coll_text.specs.Table.{no_fields};
 ghost use Rattle.coll_routes.specs.Owns.{is_own_of};
-ghost use Rattle.coll_text.specs.Fields.{colour_of, with_field, fields_at, statement_at};
+ghost use Rattle.coll_text.specs.Fields.{colour_of, with_field, fields_at, statement_at, elem_type_at};
+ghost use Rattle.coll_text.specs.Fields.{op_at, block_at, folded_at, rooted_at, stated_at, is_plain};
+ghost use Rattle.coll_text.specs.Fields.{plain_at, reduced_at, gathered_at};
 
 use crate::fault::LineFault;
 use crate::lists::{flags_in, numbers_in};
 use crate::numbers::signed32;
 use crate::parts::Parts;
 use crate::table::{Fields, Form, forms, made_of};
-use crate::words::{next_word, number_in};
+use crate::words::{next_number32, next_word, number_in};
 use coll_routes::{Kind, Own, Signature};
 use mpi_elems::ElemType;
 use std::alloc::Global;
@@ -62,19 +64,223 @@ fn next_fields(alloc: Global, forms: &[Form], words: &mut Parts) -> Result<Field
     Ok(fields)
 }
 
+// Reads a type of elements.
+#[tactic(auto, unfolding(crate::specs::Fields::elem_type_at))]
+fn next_type(words: &mut Parts) -> Result<ElemType, LineFault>
+    ensures { Takes (λ ty. ty) result words.new (elem_type_at words.old) }
+{
+    let word = next_word(words)?;
+    ElemType::named(word).ok_or(LineFault::BadType)
+}
+
+// Reads an operation.
+#[tactic(auto, unfolding(crate::specs::Fields::op_at))]
+fn next_op(words: &mut Parts) -> Result<Op, LineFault>
+    ensures { Takes (λ op. op) result words.new (op_at words.old) }
+{
+    let word = next_word(words)?;
+    Op::named(word).ok_or(LineFault::UnknownOp)
+}
+
+// Reads a type of elements and their number.
+#[tactic(auto, unfolding(crate::specs::Fields::block_at))]
+fn next_block(words: &mut Parts) -> Result<(ElemType, u32), LineFault>
+    ensures { Takes (λ r. r) result words.new (block_at words.old) }
+{
+    let elem_type = next_type(words)?;
+    let count = next_number32(words)?;
+    Ok((elem_type, count))
+}
+
+// Reads an operation, a type of elements and their number.
+#[tactic(auto, unfolding(crate::specs::Fields::folded_at))]
+fn next_folded(words: &mut Parts) -> Result<(Op, ElemType, u32), LineFault>
+    ensures { Takes (λ r. r) result words.new (folded_at words.old) }
+{
+    let op = next_op(words)?;
+    let (elem_type, count) = next_block(words)?;
+    Ok((op, elem_type, count))
+}
+
+// Reads a rank, a type of elements and their number.
+#[tactic(auto, unfolding(crate::specs::Fields::rooted_at))]
+fn next_rooted(words: &mut Parts) -> Result<(u32, ElemType, u32), LineFault>
+    ensures { Takes (λ r. r) result words.new (rooted_at words.old) }
+{
+    let root = next_number32(words)?;
+    let (elem_type, count) = next_block(words)?;
+    Ok((root, elem_type, count))
+}
+
+// Reads a rank, an operation, a type of elements and their number.
+#[tactic(auto, unfolding(crate::specs::Fields::reduced_at))]
+fn next_reduced(words: &mut Parts) -> Result<(u32, Op, ElemType, u32), LineFault>
+    ensures { Takes (λ r. r) result words.new (reduced_at words.old) }
+{
+    let root = next_number32(words)?;
+    let (op, elem_type, count) = next_folded(words)?;
+    Ok((root, op, elem_type, count))
+}
+
+// Reads a rank and a type of elements.
+#[tactic(auto, unfolding(crate::specs::Fields::gathered_at))]
+fn next_gathered(words: &mut Parts) -> Result<(u32, ElemType), LineFault>
+    ensures { Takes (λ r. r) result words.new (gathered_at words.old) }
+{
+    let root = next_number32(words)?;
+    let elem_type = next_type(words)?;
+    Ok((root, elem_type))
+}
+
+// Whether the kind's fields are no lists, no colour and no key.
+fn is_plain(kind: Kind) -> bool
+    ensures { result ≡ is_plain kind }
+{
+    match kind {
+        Kind::Scatterv => false,
+        Kind::Alltoallv => false,
+        Kind::NeighborAlltoallv => false,
+        Kind::ReduceScatter => false,
+        Kind::Split => false,
+        Kind::Create => false,
+        Kind::CartCreate => false,
+        Kind::CartSub => false,
+        _ => true,
+    }
+}
+
+// Reads the fields of such a kind straight into what they make.
+#[tactic(auto, unfolding(crate::specs::Fields::plain_at, coll_routes::specs::Signatures::kind))]
+fn next_plain(kind: Kind, words: &mut Parts) -> Result<Signature, LineFault>
+    ensures statement { Takes (λ s. s) result words.new (plain_at kind words.old) }
+    ensures form { IfOk result (λ s. is_own_of (kind_of_signature s) Own.Plain ≡ true) }
+{
+    match kind {
+        Kind::Barrier => Ok(Signature::Barrier),
+        Kind::Bcast => {
+            let (root, elem_type, count) = next_rooted(words)?;
+            Ok(Signature::Bcast {
+                root,
+                elem_type,
+                count,
+            })
+        }
+        Kind::Gather => {
+            let (root, elem_type, count) = next_rooted(words)?;
+            Ok(Signature::Gather {
+                root,
+                elem_type,
+                count,
+            })
+        }
+        Kind::Scatter => {
+            let (root, elem_type, count) = next_rooted(words)?;
+            Ok(Signature::Scatter {
+                root,
+                elem_type,
+                count,
+            })
+        }
+        Kind::Allgather => {
+            let (elem_type, count) = next_block(words)?;
+            Ok(Signature::Allgather { elem_type, count })
+        }
+        Kind::Alltoall => {
+            let (elem_type, count) = next_block(words)?;
+            Ok(Signature::Alltoall { elem_type, count })
+        }
+        Kind::NeighborAllgather => {
+            let (elem_type, count) = next_block(words)?;
+            Ok(Signature::NeighborAllgather { elem_type, count })
+        }
+        Kind::NeighborAlltoall => {
+            let (elem_type, count) = next_block(words)?;
+            Ok(Signature::NeighborAlltoall { elem_type, count })
+        }
+        Kind::Allreduce => {
+            let (op, elem_type, count) = next_folded(words)?;
+            Ok(Signature::Allreduce {
+                op,
+                elem_type,
+                count,
+            })
+        }
+        Kind::ReduceScatterBlock => {
+            let (op, elem_type, count) = next_folded(words)?;
+            Ok(Signature::ReduceScatterBlock {
+                op,
+                elem_type,
+                count,
+            })
+        }
+        Kind::Scan => {
+            let (op, elem_type, count) = next_folded(words)?;
+            Ok(Signature::Scan {
+                op,
+                elem_type,
+                count,
+            })
+        }
+        Kind::Exscan => {
+            let (op, elem_type, count) = next_folded(words)?;
+            Ok(Signature::Exscan {
+                op,
+                elem_type,
+                count,
+            })
+        }
+        Kind::Reduce => {
+            let (root, op, elem_type, count) = next_reduced(words)?;
+            Ok(Signature::Reduce {
+                root,
+                op,
+                elem_type,
+                count,
+            })
+        }
+        Kind::Gatherv => {
+            let (root, elem_type) = next_gathered(words)?;
+            Ok(Signature::Gatherv { root, elem_type })
+        }
+        Kind::Allgatherv => {
+            let elem_type = next_type(words)?;
+            Ok(Signature::Allgatherv { elem_type })
+        }
+        Kind::NeighborAllgatherv => {
+            let elem_type = next_type(words)?;
+            Ok(Signature::NeighborAllgatherv { elem_type })
+        }
+        Kind::Dup => Ok(Signature::Dup),
+        _ => Err(LineFault::BadKind),
+    }
+}
+
+// Reads the fields of this kind.
+#[tactic(auto, unfolding(crate::specs::Fields::stated_at))]
+fn next_stated(alloc: Global, kind: Kind, words: &mut Parts) -> Result<(Signature, Own), LineFault>
+    ensures statement { Takes (λ s. s) result words.new (stated_at kind words.old) }
+    ensures form { IfOk result (λ s. is_own_of (kind_of_signature s.0) s.1 ≡ true) }
+{
+    if is_plain(kind) {
+        let sig = next_plain(kind, words)?;
+        return Ok((sig, Own::Plain));
+    }
+    let fields = next_fields(alloc, forms(kind), words)?;
+    Ok(made_of(kind, fields))
+}
+
 /// Reads a kind and its fields: what the members of an instance state alike, and what the poster
 /// states for itself.
 ///
 /// The words behind them are left to be read. Takes memory only for fields that are lists.
 /// `BadShape` where a field is empty or missing, `BadKind`, `BadType` and `UnknownOp` for a word
 /// that is none, `BadField` for any other field out of its form or range.
-#[tactic(auto, unfolding(crate::specs::Fields::statement_at))]
+#[tactic(auto, unfolding(crate::specs::Fields::statement_at, crate::specs::Fields::stated_at))]
 pub fn next_statement(alloc: Global, words: &mut Parts) -> Result<(Signature, Own), LineFault>
     ensures statement { Takes (λ s. s) result words.new (statement_at words.old) }
     ensures form { IfOk result (λ s. is_own_of (kind s.0) s.1 ≡ true) }
 {
     let word = next_word(words)?;
     let kind = Kind::named(word).ok_or(LineFault::BadKind)?;
-    let fields = next_fields(alloc, forms(kind), words)?;
-    Ok(made_of(kind, fields))
+    next_stated(alloc, kind, words)
 }
