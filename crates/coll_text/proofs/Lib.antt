@@ -1,5 +1,6 @@
 pub mod CutLemmas
 pub mod FrontLemmas
+pub mod StepLemmas
 pub mod DigitLemmas
 pub mod EachLemmas
 pub mod FieldLemmas
@@ -14,5 +15,4 @@ pub mod SpellableRowProofs
 pub mod BatchLemmas
 pub mod SendLemmas
 pub mod WordLemmas
-pub mod StepLemmas
 pub mod CollTextLemmas

@@ -1,11 +1,7 @@
 use Rattle.std.proofs.Common.{◌≡◌, ◌≤◌, ◌<◌, length, true, get_or, arith, sym, ◌∙◌, refl}
 use Rattle.coll_text.specs.Numbers.{is_digit}
 use Rattle.coll_text.proofs.FrontLemmas.{value_more, digits_more, digit_range, fits, fits_more}
-<<<<<<<< HEAD:crates/coll_text/proofs/eights/one_by_one/Answers.antt
 use Rattle.coll_text.proofs.eights.one_by_one.Goals as goal
-========
-use Rattle.coll_text.proofs.front.more_digits.Goals as goal
->>>>>>>> cf93af1 (Numbers that are mostly short are read digit by digit):crates/coll_text/proofs/front/more_digits/Answers.antt
 
 pub overflow_mul-value : goal.overflow_mul-value
 overflow_mul-value c =
