@@ -10,7 +10,7 @@ pub returns-clause-solid : goal.returns-clause-solid
 returns-clause-solid c =
     let some : 1 ≤ length c.args.text.now = search rules in
     let d : list_all is_digit (take c.front_digits-n.result.1
-        (drop c.from-signs.result c.args.text.now)) ≡ true
+    (drop c.from-signs.result c.args.text.now)) ≡ true
     = rw (← c.split_at.ensures.back) c.front_digits-n.ensures.digits in
     signed_solid (eqb (get_or c.args.text.now 0 0) 45) c.front_digits-n.result.1 c.from-signs.result
     c.args.text.now refl c.from-signs.ensures some d
@@ -30,7 +30,7 @@ returns-clause-value c =
     n 18446744073709551615 e.within e.digits e.value (search rules) any (lead_is s len digits kept)
     in
     let v : number_within 18446744073709551615
-        (take len (drop c.from-signs.result c.args.text.now)) ≡ Some n = rw
+    (take len (drop c.from-signs.result c.args.text.now)) ≡ Some n = rw
     (← c.split_at.ensures.back) number in
     let fits : FitsSigned w64 c.with_sign.result = search rules in
     signed_is s 18446744073709551615 n len c.from-signs.result c.args.text.now refl
