@@ -1,6 +1,5 @@
 -- The number at the front of a text.
-use Rattle.std.proofs.Common.{◌≡◌, ℕ, zero, suc, ◌+◌, ◌-◌, ◌*◌, ◌^◌, ◌<◌, ◌≤◌, true, ◌&&◌, ◌||◌, leb, ltb}
-use Rattle.std.proofs.Common.{eq-eqb}
+use Rattle.std.proofs.Common.{◌≡◌, ℕ, zero, suc, ◌+◌, ◌-◌, ◌*◌, ◌^◌, ◌<◌, ◌≤◌, true, ◌&&◌, leb, ltb}
 use Rattle.std.proofs.Common.{[], ◌∷◌, ◌++◌, length, get_or, add-one, ◌-ℤ◌}
 use Rattle.std.proofs.Common.{rules, take, drop, Some, None, option_map, option_and_then, ℤ, pos}
 use Rattle.std.proofs.Common.{negsuc, refl, sym, ap, ◌∙◌, arith, eqb, false, List, Ok, Err}
@@ -8,7 +7,7 @@ use Rattle.std.proofs.Common.{Bool, cond}
 use mir.Val.{bool_byte}
 use Rattle.std.specs.List.{list_all}
 use Rattle.std.proofs.lemmas.Bool.{leb-true, le-leb, and_parts, and_from, lt-ltb, lt-leb, ne_eqb}
-use Rattle.std.proofs.lemmas.Bool.{eqb-true, eqb-false, ltb-false}
+use Rattle.std.proofs.lemmas.Bool.{eqb-true, eqb-false}
 use Rattle.std.proofs.lemmas.List.{take_more, get_or-take, length-take-le, take_all}
 use Rattle.std.proofs.lemmas.List.Folds.{list_all_more}
 use Rattle.std.proofs.lemmas.Nat.{pow-add}
@@ -87,18 +86,6 @@ minus_is most least (suc n) i (b ∷ w) some first e h = ap (signed_within most 
     (taken_cons b i w ∙ ap (λ (c : ℕ). c ∷ take i w) first) ∙ minus_cons most least n i w e
     ∙ ap (λ (z : ℤ). Some z) (below_zero n)
 
--- digits begin with a zero that stands alone, or with none
-zero_parts : (z s m : Bool) → (z && (s || m)) ≡ false → z ≡ true → (s ≡ false) × (m ≡ false)
-zero_parts true false false h e = (refl, refl)
-zero_parts true false true h e = absurd cc
-zero_parts true true m h e = absurd cc
-zero_parts false s m h e = absurd cc
-
-pub lead_is : (s : Bool) (i : ℕ) (w : Word) →
-    (eqb (get_or w 0 0) 48 && (s || ltb 1 i)) ≡ false → get_or w 0 0 ≡ 48 → i ≤ 1
-lead_is s i w h e = ltb-false 1 i
-    (zero_parts (eqb (get_or w 0 0) 48) s (ltb 1 i) h (eq-eqb (get_or w 0 0) 48 e)).1
-
 value_grows : (n : ℕ) (w : Word) → n ≤ value_after n w
 value_grows n [] = omega arith
 value_grows n (b ∷ bs) = let h = value_grows (n * 10 + (b - 48)) bs in omega (arith, h)
@@ -112,14 +99,26 @@ first_zero (b ∷ bs) (suc i) lt some d e =
     let range = digit_range b (and_parts (is_digit b) (list_all is_digit (take i bs)) d).0 in
     omega (arith, grows, e, range.0, range.1)
 
+-- what begins with another digit is not 0
 pub nonzero_is : (s : Bool) (i n : ℕ) (w : Word) → i ≤ length w → 0 < i →
     list_all is_digit (take i w) ≡ true → n ≡ value_after 0 (take i w) →
-    (eqb (get_or w 0 0) 48 && (s || ltb 1 i)) ≡ false → (s && eqb n 0) ≡ false
+    (get_or w 0 0 ≡ 48 → ⊥) → (s && eqb n 0) ≡ false
 nonzero_is false i n w le some d v h = refl
-nonzero_is true i n w le some d v h = ne_eqb n 0 (λ z.
-    let first : get_or w 0 0 ≡ 48 = first_zero w i some (omega arith) d (sym v ∙ z) in
-    let none = zero_parts (eqb (get_or w 0 0) 48) true (ltb 1 i) h
-    (eq-eqb (get_or w 0 0) 48 first) in absurd (let t : true ≡ false = none.0 in cc))
+nonzero_is true i n w le some d v h =
+    ne_eqb n 0 (λ z. h (first_zero w i some (omega arith) d (sym v ∙ z)))
+
+-- where there is no sign, all of the text are digits
+pub first_kept : (s : Bool) (k : ℕ) (w d : Word) → s ≡ false → k ≡ bool_byte s → d ≡ drop k w →
+    get_or d 0 0 ≡ get_or w 0 0
+first_kept s k w d none e back =
+    let none_dropped : k ≡ 0 = e ∙ ap bool_byte none in
+    ap (λ v. get_or v 0 0) (back ∙ ap (λ j. drop j w) none_dropped)
+
+pub zero_read : (most : ℕ) (w : Word) → 1 ≤ length w → get_or w 0 0 ≡ 48 →
+    signed_within most most (take 1 w) ≡ Some (pos 0)
+unfolding signed_within number_within
+zero_read most [] some e = absurd (omega arith)
+zero_read most (b ∷ bs) some e = rw (e, le-leb 0 most (omega arith)) refl
 
 digit_solid : (b : ℕ) → is_digit b ≡ true → ltb 44 b ≡ true
 digit_solid b h = let far : 48 ≤ b = leb-true 48 b (and_parts (leb 48 b) (leb b 57) h).0 in

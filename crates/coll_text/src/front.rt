@@ -1,6 +1,6 @@
 //! The number at the front of a text, of at most 19 digits.
 ghost use Rattle.std.specs.Prelude.{◌≡◌, ◌≤◌, ◌<◌, length, take, get_or, Some, IfSome, true, nat_lt};
-ghost use Rattle.std.specs.Prelude.{◌==◌, ◌&&◌, ◌||◌, ◌-ℤ◌, pos, if◌then◌else◌};
+ghost use Rattle.std.specs.Prelude.{◌-ℤ◌, pos, if◌then◌else◌};
 ghost use Rattle.std.specs.List.{list_all};
 ghost use Rattle.coll_text.specs.Numbers.{is_digit, value_after, number_within, signed_within};
 
@@ -63,15 +63,6 @@ fn with_sign(is_negative: bool, n: u64) -> i64
     if is_negative { -(n as i64) } else { n as i64 }
 }
 
-// Whether digits begin with a zero that others follow, or that a minus sign precedes.
-#[inline(always)]
-fn is_needless(digits: &[u8], is_negative: bool, len: usize) -> bool
-    requires { 0 < length digits.now }
-    ensures { result ≡ (get_or digits.now 0 0 == 48 && (is_negative || nat_lt 1 len)) }
-{
-    digits[0] == b'0' && (is_negative || len > 1)
-}
-
 /// The signed number at the front, of 19 digits at most and within 63 bits behind its sign, and how
 /// many bytes it has; none where the text begins with no number, or with another.
 // Its sign is as good as random, so no step of this waits for a branch on it.
@@ -92,8 +83,12 @@ pub(crate) fn front_signed(text: &[u8]) -> Option<(i64, usize)>
     if len == 0 {
         return None;
     }
-    if is_needless(digits, is_negative, len) {
-        return None;
+    // A number that begins with a zero is that zero, without a sign.
+    if digits[0] == b'0' {
+        if is_negative || len > 1 {
+            return None;
+        }
+        return Some((0, 1));
     }
     if n > i64::MAX as u64 {
         return None;

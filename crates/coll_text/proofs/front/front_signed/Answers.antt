@@ -1,9 +1,11 @@
 use Rattle.std.proofs.Common.{◌≡◌, ◌≤◌, ◌<◌, length, take, drop, true, false, Some, ap, sym, ◌∙◌, eqb}
-use Rattle.std.proofs.Common.{ltb, ◌&&◌, ◌||◌, get_or, rules, arith, FitsSigned, w64, refl}
+use Rattle.std.proofs.Common.{get_or, rules, arith, FitsSigned, w64, refl}
 use Rattle.std.specs.List.{list_all}
 use Rattle.std.proofs.lemmas.Int.{to_z-of_z}
 use Rattle.coll_text.specs.Numbers.{is_digit, number_within}
-use Rattle.coll_text.proofs.FrontLemmas.{front_is, lead_is, nonzero_is, signed_is, signed_solid}
+use Rattle.coll_text.proofs.FrontLemmas.{first_kept, front_is, nonzero_is, signed_is}
+use Rattle.coll_text.proofs.FrontLemmas.{signed_solid, zero_read}
+use Rattle.std.proofs.lemmas.Bool.{ne_eqb}
 use Rattle.coll_text.proofs.front.front_signed.Goals as goal
 
 pub returns-clause-solid : goal.returns-clause-solid
@@ -24,15 +26,24 @@ returns-clause-value c =
     let s = eqb (get_or c.args.text.now 0 0) 45 in
     let e = c.front_digits-n.ensures in
     let any : 0 < len = omega (arith, c.if-len-eq0.false) in
-    let kept : (eqb (get_or digits 0 0) 48 && (s || ltb 1 len)) ≡ false =
-    sym c.is_needless.ensures ∙ c.if-is_needless.false in
     let number : number_within 18446744073709551615 (take len digits) ≡ Some n = front_is digits len
-    n 18446744073709551615 e.within e.digits e.value (search rules) any (lead_is s len digits kept)
-    in
+    n 18446744073709551615 e.within e.digits e.value (search rules) any
+    (λ h. absurd (c.if-digits-eq48.false h)) in
     let v : number_within 18446744073709551615
     (take len (drop c.from-signs.result c.args.text.now)) ≡ Some n = rw
     (← c.split_at.ensures.back) number in
     let fits : FitsSigned w64 c.with_sign.result = search rules in
     signed_is s 18446744073709551615 n len c.from-signs.result c.args.text.now refl
-    c.from-signs.ensures some v (nonzero_is s len n digits e.within any e.digits e.value kept)
+    c.from-signs.ensures some v
+    (nonzero_is s len n digits e.within any e.digits e.value c.if-digits-eq48.false)
     ∙ ap (λ z. Some z) (sym c.with_sign.ensures ∙ sym (to_z-of_z w64 c.with_sign.result fits))
+
+pub returns-then-digits-eq48-clause-value : goal.returns-then-digits-eq48-clause-value
+returns-then-digits-eq48-clause-value c =
+    let some : 1 ≤ length c.args.text.now = search rules in
+    let positive : eqb (get_or c.args.text.now 0 0) 45 ≡ false = ne_eqb _ _ c.if-is_negative.false in
+    let first : get_or c.args.text.now 0 0 ≡ 48 = sym
+    (first_kept (eqb (get_or c.args.text.now 0 0) 45) c.from-signs.result c.args.text.now
+    c.split_at.result.1.now positive c.from-signs.ensures c.split_at.ensures.back)
+    ∙ c.if-digits-eq48.true in
+    zero_read 18446744073709551615 c.args.text.now some first
