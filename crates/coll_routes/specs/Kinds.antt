@@ -1,5 +1,5 @@
 -- The kinds of collectives and of constructors, and their names.
-use Rattle.std.specs.Prelude.{ℕ, ◌==◌, List, [], ◌∷◌, length, Option, find, codes}
+use Rattle.std.specs.Prelude.{ℕ, nat_le, ◌&&◌, List, [], ◌∷◌, length, Option, find, codes}
 use Rattle.std.specs.List.{filter}
 use Rattle.std.specs.Str.{bytes_eq}
 use Rattle.coll_routes.specs.declared.kind.Kind.{Kind}
@@ -50,9 +50,16 @@ all_kinds = Barrier ∷ Bcast ∷ Gather ∷ Gatherv ∷ Scatter ∷ Scatterv �
 unfoldable pub kind_of : List ℕ → Option Kind
 kind_of name = find (λ kind. bytes_eq (kind_name kind) name) all_kinds
 
--- the kinds whose names have so many bytes
-abbrev pub kinds_of_length : ℕ → List Kind
-kinds_of_length n = filter (λ kind. length (kind_name kind) == n) all_kinds
+-- ---- words of private contracts
+
+-- the kinds whose names have from least to most bytes
+abbrev pub kinds_between : ℕ → ℕ → List Kind
+kinds_between least most = filter (λ kind. nat_le least (length (kind_name kind))
+    && nat_le (length (kind_name kind)) most) all_kinds
+
+-- the kinds whose names have 20 or more
+abbrev pub longest_kinds : List Kind
+longest_kinds = filter (λ kind. nat_le 20 (length (kind_name kind))) all_kinds
 
 -- the place of a kind in the list above, from 0: no two kinds have one place
 abbrev pub kind_number : Kind → ℕ

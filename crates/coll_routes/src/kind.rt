@@ -2,7 +2,7 @@
 ghost use Rattle.std.specs.Prelude.{◌≡◌};
 ghost use Rattle.std.specs.List.{find};
 ghost use Rattle.std.specs.Str.{bytes_eq};
-ghost use Rattle.coll_routes.specs.Kinds.{kind_name, kinds_of_length};
+ghost use Rattle.coll_routes.specs.Kinds.{kind_name, kinds_between, longest_kinds};
 
 /// Twenty collectives (MPI 4.1, chapter 6 and section 8.6) and five constructors of communicators
 /// (7.4.2, 8.5.1, 8.5.7).
@@ -72,43 +72,86 @@ impl Kind {
     }
 
     /// The kind of that name, if there is one.
-    // Few kinds have names of one length, and only those are compared.
+    // Few kinds have names of about one length, and only those are compared.
     pub fn named(name: &[u8]) -> Option<Kind>
         ensures { result ≡ kind_of name.now }
     {
-        named_in(of_length(name.len()), name)
+        match name.len() {
+            0..=6 => short_named(name),
+            7..=9 => middle_named(name),
+            10..=16 => long_named(name),
+            17..=19 => neighbour_named(name),
+            _ => longest_named(name),
+        }
     }
 }
 
-// The kinds whose names have so many bytes.
-fn of_length(len: usize) -> &'static [Kind]
-    ensures { result.now ≡ kinds_of_length len }
+// The kind of that name, among those whose names have at most 6 bytes.
+fn short_named(name: &[u8]) -> Option<Kind>
+    ensures { result ≡ find (λ kind. bytes_eq (kind_name kind) name.now) (kinds_between 0 6) }
 {
-    match len {
-        3 => &[Kind::Dup],
-        4 => &[Kind::Scan],
-        5 => &[Kind::Bcast, Kind::Split],
-        6 => &[Kind::Gather, Kind::Reduce, Kind::Exscan, Kind::Create],
-        7 => &[Kind::Barrier, Kind::Gatherv, Kind::Scatter],
-        8 => &[Kind::Scatterv, Kind::Alltoall, Kind::CartSub],
-        9 => &[Kind::Allgather, Kind::Alltoallv, Kind::Allreduce],
-        10 => &[Kind::Allgatherv],
-        11 => &[Kind::CartCreate],
-        14 => &[Kind::ReduceScatter],
-        17 => &[Kind::NeighborAlltoall],
-        18 => &[Kind::NeighborAllgather, Kind::NeighborAlltoallv],
-        19 => &[Kind::NeighborAllgatherv],
-        20 => &[Kind::ReduceScatterBlock],
-        _ => &[],
+    match name {
+        b"bcast" => Some(Kind::Bcast),
+        b"gather" => Some(Kind::Gather),
+        b"reduce" => Some(Kind::Reduce),
+        b"scan" => Some(Kind::Scan),
+        b"exscan" => Some(Kind::Exscan),
+        b"dup" => Some(Kind::Dup),
+        b"split" => Some(Kind::Split),
+        b"create" => Some(Kind::Create),
+        _ => None,
     }
 }
 
-// The first of the kinds that has the name.
-fn named_in(kinds: &[Kind], name: &[u8]) -> Option<Kind>
-    ensures { result ≡ find (λ kind. bytes_eq (kind_name kind) name.now) kinds.now }
+// The same among those whose names have 7 to 9 bytes.
+fn middle_named(name: &[u8]) -> Option<Kind>
+    ensures { result ≡ find (λ kind. bytes_eq (kind_name kind) name.now) (kinds_between 7 9) }
 {
-    kinds
-        .iter()
-        .copied()
-        .find(|kind| kind.name().as_bytes() == name)
+    match name {
+        b"barrier" => Some(Kind::Barrier),
+        b"gatherv" => Some(Kind::Gatherv),
+        b"scatter" => Some(Kind::Scatter),
+        b"scatterv" => Some(Kind::Scatterv),
+        b"allgather" => Some(Kind::Allgather),
+        b"alltoall" => Some(Kind::Alltoall),
+        b"alltoallv" => Some(Kind::Alltoallv),
+        b"allreduce" => Some(Kind::Allreduce),
+        b"cart_sub" => Some(Kind::CartSub),
+        _ => None,
+    }
+}
+
+// The same among those whose names have 10 to 16 bytes.
+fn long_named(name: &[u8]) -> Option<Kind>
+    ensures { result ≡ find (λ kind. bytes_eq (kind_name kind) name.now) (kinds_between 10 16) }
+{
+    match name {
+        b"allgatherv" => Some(Kind::Allgatherv),
+        b"reduce_scatter" => Some(Kind::ReduceScatter),
+        b"cart_create" => Some(Kind::CartCreate),
+        _ => None,
+    }
+}
+
+// The same among those whose names have 17 to 19 bytes.
+fn neighbour_named(name: &[u8]) -> Option<Kind>
+    ensures { result ≡ find (λ kind. bytes_eq (kind_name kind) name.now) (kinds_between 17 19) }
+{
+    match name {
+        b"neighbor_allgather" => Some(Kind::NeighborAllgather),
+        b"neighbor_allgatherv" => Some(Kind::NeighborAllgatherv),
+        b"neighbor_alltoall" => Some(Kind::NeighborAlltoall),
+        b"neighbor_alltoallv" => Some(Kind::NeighborAlltoallv),
+        _ => None,
+    }
+}
+
+// The same among those whose names are longer.
+fn longest_named(name: &[u8]) -> Option<Kind>
+    ensures { result ≡ find (λ kind. bytes_eq (kind_name kind) name.now) longest_kinds }
+{
+    match name {
+        b"reduce_scatter_block" => Some(Kind::ReduceScatterBlock),
+        _ => None,
+    }
 }
