@@ -202,6 +202,10 @@ fn enter(
 {
     let stated = stated.copy(alloc)?;
     let _ = post_state.len();
+    if post_state.joins(policy, process, comm, &stated) {
+        post_state.join(policy, process, comm, stated, ());
+        return Ok(None);
+    }
     match post_state.enter(policy, process, comm, stated, ()) {
         Ok(entered) => Ok(due_after(comm, &entered)),
         Err(_) => Err(NoMemory),

@@ -13,22 +13,23 @@ use Rattle.coll_routes.specs.declared.signature.Signature.{Signature}
 use Rattle.coll_routes.specs.declared.statement.Stated.{Stated}
 use Rattle.coll_pending.specs.declared.arrival.Arrived.{Arrived}
 use Rattle.coll_pending.specs.declared.arrival.Arrived.TheVariants.{Waiting, Full}
-use Rattle.coll_pending.specs.declared.arrival.Next.TheVariants.{Mismatch}
+use Rattle.coll_pending.specs.declared.arrival.Next.TheVariants.{Joins, Mismatch}
 use Rattle.coll_pending.specs.Instances.{Instance, Communicator, is_full, joined, roll_in, IsAgreed}
+use Rattle.coll_pending.specs.Instances.{next_by, is_full_but_for}
 use Rattle.coll_pending.specs.declared.slot.Slot.{Slot}
 use Rattle.coll_pending.specs.Queues.{Queue, Queues, communicator, count, counted, popped, key_at}
 use Rattle.coll_pending.specs.Queues.{queue_at, key_in, known_in, count_in, slot_in, key_of}
 use Rattle.coll_pending.specs.Queues.{slot_of, instance_of, instance_in, IsFree}
 use Rattle.coll_pending.specs.Queues.{IsOf, IsOfIn, IsQueues, CanTell, CanPost, Posts, PostsTo}
-use Rattle.coll_pending.specs.Queues.{posted, has_posted, lacks_one}
+use Rattle.coll_pending.specs.Queues.{posted, has_posted, lacks_one, WaitsOn}
 use Rattle.coll_pending.specs.Waiting.{updated_at, PendingView, seen, next, before, after}
-use Rattle.coll_pending.specs.Waiting.{HasArrived, CanArrive}
+use Rattle.coll_pending.specs.Waiting.{HasArrived, CanArrive, IsKnownAs}
 use Rattle.coll_pending.proofs.KeyLemmas.{key_within, key_there, popped_here, popped_other}
 use Rattle.coll_pending.proofs.KeyLemmas.{length_drop_one, less_is, not_less}
 use Rattle.coll_pending.proofs.TableLemmas.{updated_at_is}
 use Rattle.coll_pending.proofs.RowLemmas.{posted_all, all_posted, full_counted}
 use Rattle.coll_pending.proofs.SlotLemmas.{full_told, agreed_still, slot_still, posted_now}
-use Rattle.coll_pending.proofs.SlotLemmas.{posted_else, same_sig}
+use Rattle.coll_pending.proofs.SlotLemmas.{posted_else, same_sig, lacks_told, joins_but}
 use Rattle.coll_pending.proofs.ChangeLemmas.{Stands, there, Changes, changed_sound, pending_changed}
 use Rattle.coll_pending.proofs.ChangeLemmas.{known_changed, counts_here, counts_else}
 
@@ -140,6 +141,12 @@ module _ {X : Type 0} (s : Queues X) (is : IsQueues s) (c : ℕ) (q : Queue)
   same = same_sig o.roll rank stated.sig
       (subst (λ w. Rattle.coll_pending.specs.Instances.next_by (roll_in w) rank
       stated.sig ≢ Mismatch) met agrees)
+
+  -- who joins leaves another to come
+  pub leaves_one : next (seen s) c rank stated.sig ≡ Joins → lacks_one o ≡ false
+  leaves_one joins = sym (lacks_told o rank free.slot free.member free.free)
+      ∙ joins_but o.roll rank stated.sig
+      (subst (λ w. next_by (roll_in w) rank stated.sig ≡ Joins) met joins)
 
   after_is : after (seen s) c rank (communicator q) stated part ≡ instance_of
       (posted rank stated part o)
@@ -560,3 +567,70 @@ can_post_at {X} s now view is c rank stated part row read known can few =
     (met_by now c rank stated.sig known can) in
     can_post s is c rank stated part row read was
     (subst (λ (v : Queues X). count_in (queue_at v.queues c) rank < 2 ^ 62) (sym view) few)
+
+pub waits_on_at : {X : Type 0} (s now : Queues X) (view : s ≡ now) (is : IsQueues s) (c rank : ℕ)
+    (stated : Stated) (part : X) (row : Option Queue) → row ≡ get_or s.queues c row →
+    IsSome (known_in (queue_at now.queues c)) →
+    ((of : Communicator) → known_in (queue_at now.queues c) ≡ Some of →
+    CanArrive now c rank of stated.sig) → next (seen now) c rank stated.sig ≡ Joins →
+    (q : Queue) → row ≡ Some q → WaitsOn q s.slots rank
+waits_on_at {X} s now view is c rank stated part row read known can joins q at =
+    let met = subst (λ (v : Queues X). Met v c rank stated.sig) (sym view)
+    (met_by now c rank stated.sig known can) in
+    let here : row ≡ Some met.queue =
+    sym (get_or_default s.queues c None row met.row ∙ sym read) ∙ met.at in
+    let same : met.queue ≡ q = (let both = sym here ∙ at in cc) in
+    let more : lacks_one met.slot ≡ false = leaves_one s is c met.queue met.at rank met.member met.key
+    met.slot met.leads met.found stated part met.agrees met.row
+    (subst (λ (v : Queues X). next (seen v) c rank stated.sig ≡ Joins) (sym view) joins) in
+    subst (λ p. WaitsOn p s.slots rank) same (λ key o leads found.
+    let its : met.key ≡ key = (let both = sym met.leads ∙ leads in cc) in
+    let there' : get s.slots met.key ≡ Some o = subst (λ n. get s.slots n ≡ Some o) (sym its) found
+    in
+    let it : met.slot ≡ o = (let both = sym met.found ∙ there' in cc) in
+    subst (λ z. lacks_one z ≡ false) it more)
+
+-- who joins meets an instance that waits
+waits_by : {X : Type 0} (w : Option (Slot X)) (rank : ℕ) (sig : Signature) →
+    next_by (roll_in (instance_in w)) rank sig ≡ Joins → IsSome w
+waits_by None rank sig e = absurd (cc)
+waits_by (Some o) rank sig e = refl
+
+-- and its communicator is known
+known_row : {X : Type 0} (slots : Slab (Slot X)) (w : Option Queue) (k : ℕ) →
+    IsSome (slot_in slots (key_in w k)) → IsSome (known_in w)
+known_row slots None k some = absurd (false≢true some)
+known_row slots (Some q) k some = refl
+
+if_known : (w : Option Communicator) (P : Communicator → Type 0) → IfSome w P →
+    (comm : Communicator) → w ≡ Some comm → P comm
+if_known None P all comm e = absurd (cc)
+if_known (Some first) P all comm e = (let same : first ≡ comm = cc in subst P same all)
+
+is_known : (w : Option Communicator) (comm : Communicator) → IsSome w → IsKnownAs comm w →
+    w ≡ Some comm
+is_known None comm some known = absurd (false≢true some)
+is_known (Some first) comm some known = ap (λ m. Some m) known
+
+module _ {X : Type 0} (s : Queues X) (c rank : ℕ) (sig : Signature)
+    (joins : next (seen s) c rank sig ≡ Joins) where
+  waits : IsSome (slot_of s c (count_in (queue_at s.queues c) rank))
+  waits = waits_by (slot_of s c (count_in (queue_at s.queues c) rank)) rank sig joins
+
+  pub joins_known : IsSome (known_in (queue_at s.queues c))
+  joins_known =
+      known_row s.slots (queue_at s.queues c) (count_in (queue_at s.queues c) rank) waits
+
+  pub joins_can : IfSome (known_in (queue_at s.queues c)) (λ of. rank < length of.members) →
+      (comm : Communicator) → known_in (queue_at s.queues c) ≡ Some comm →
+      CanArrive s c rank comm sig
+  joins_can member comm e = record {
+    meets = (e, waits);
+    member =
+        if_known (known_in (queue_at s.queues c)) (λ m. rank < length m.members) member comm e;
+    agrees = λ bad. (let both = sym joins ∙ bad in absurd (cc));
+  }
+
+  pub joins_as : (comm : Communicator) → IsKnownAs comm (known_in (queue_at s.queues c)) →
+      known_in (queue_at s.queues c) ≡ Some comm
+  joins_as comm known = is_known (known_in (queue_at s.queues c)) comm joins_known known

@@ -2,7 +2,8 @@
 use Rattle.std.proofs.Common.{◌≡◌, ◌≢◌, ℕ, zero, suc, ◌+◌, ◌<◌, ◌≤◌, true, false, List, [], ◌∷◌}
 use Rattle.std.proofs.Common.{length, set, replicate, Option, Some, None, slice_get, refl}
 use Rattle.std.proofs.Common.{sym, ap, ◌∙◌, subst, arith, eqb, count_by, is_some, ⊎_elim}
-use Rattle.std.proofs.Common.{◌⊎◌, inl, inr, length-set}
+use Rattle.std.proofs.Common.{◌⊎◌, inl, inr, length-set, Bool}
+use Rattle.std.specs.Prelude.{if◌then◌else◌}
 use Rattle.std.proofs.lemmas.Bool.{cases_Bool}
 use Rattle.std.proofs.lemmas.Bool.Decides.{nat_tests}
 use Rattle.std.proofs.lemmas.List.{get_or-set_other, length-replicate}
@@ -12,7 +13,7 @@ use Rattle.coll_routes.specs.declared.roll.Roll.{Roll}
 use Rattle.coll_routes.specs.Signatures.{same_signature}
 use Rattle.coll_routes.specs.Rolls.{stated_in}
 use Rattle.coll_routes.proofs.CollRoutesLemmas.{same_signatures_are_equal}
-use Rattle.coll_pending.specs.declared.arrival.Next.TheVariants.{Mismatch}
+use Rattle.coll_pending.specs.declared.arrival.Next.TheVariants.{Joins, Fills, Mismatch}
 use Rattle.coll_pending.specs.declared.slot.Slot.{Slot}
 use Rattle.coll_pending.specs.Instances.{Communicator, is_full, is_full_but_for, next_by, IsAgreed}
 use Rattle.coll_pending.specs.Queues.{IsSlot, IsFree, IsVacant, posted, lacks_one, has_posted}
@@ -126,3 +127,15 @@ same_sig roll rank sig agrees = ⊎_elim
     ((same_signatures_are_equal roll.sig sig).0 same))
     (λ (other : same_signature roll.sig sig ≡ false). absurd (agrees (rw other refl)))
     (cases_Bool (same_signature roll.sig sig))
+
+-- who joins leaves another row empty
+joins_by : (same full : Bool) → (if same then (if full then Fills else Joins) else Mismatch) ≡ Joins →
+    full ≡ false
+joins_by true true e = absurd (cc)
+joins_by true false e = refl
+joins_by false full e = absurd (cc)
+
+pub joins_but : (roll : Roll) (rank : ℕ) (sig : Signature) →
+    next_by (Some roll) rank sig ≡ Joins → is_full_but_for roll.stated rank ≡ false
+joins_but roll rank sig joins =
+    joins_by (same_signature roll.sig sig) (is_full_but_for roll.stated rank) joins

@@ -168,6 +168,11 @@ pub record CanPost {X : Type 0} (q : Queue) (slots : Slab (Slot X)) (rank : ℕ)
   pub low : q.first < 2 ^ 62
   pub waits : IsSomeAnd (slot_in slots (key_at q (count q rank))) (IsFree rank)
 
+-- the instance that this rank meets waits on after its post
+abbrev pub WaitsOn : {X : Type 0} → Queue → Slab (Slot X) → (rank : ℕ) → Type 0
+WaitsOn {X} q slots rank = (key : ℕ) (o : Slot X) → key_at q (count q rank) ≡ Some key →
+    get slots key ≡ Some o → lacks_one o ≡ false
+
 -- what a post makes of a queue and of the slots, where the instance has this key and this slot
 abbrev pub Posts : {X : Type 0} → (old new : Queue) → (slots slots' : Slab (Slot X)) →
     (key rank : ℕ) → Stated → X → Slot X → Arrived X → Type 0

@@ -1,8 +1,9 @@
 //! The instances of all communicators that wait for members.
 ghost use Rattle.std.specs.Prelude.{◌≡◌, ◌≢◌, ◌<◌, ◌^◌, ℕ, length, true, IfOk, IfErr, OnOk, OnErr};
-ghost use Rattle.std.specs.Prelude.{None, Some};
+ghost use Rattle.std.specs.Prelude.{None, Some, IfSome};
 ghost use Rattle.std.specs.Option.{option_copied};
-ghost use Rattle.coll_pending.specs.declared.arrival.Next.TheVariants.{Opens, Mismatch};
+ghost use Rattle.coll_pending.specs.declared.arrival.Arrived.TheVariants.{Waiting};
+ghost use Rattle.coll_pending.specs.declared.arrival.Next.TheVariants.{Opens, Joins, Mismatch};
 ghost use Rattle.coll_pending.specs.Instances.{made_of};
 
 use crate::arrival::{ArrivalFault, Arrived, Next, Unarrived};
@@ -39,7 +40,7 @@ impl<X> Model for Pending<X> {
 }
 
 impl<X: Drop> Pending<X> {
-    ghost use Rattle.coll_pending.specs.Instances.{made_of, roll_in};
+    ghost use Rattle.coll_pending.specs.Instances.{Communicator, made_of, roll_in};
     ghost use Rattle.coll_pending.specs.Lists.{fits, room_by};
     ghost use Rattle.coll_pending.specs.Waiting.{view_of_pending, next, HasRoom, HasArrived};
     ghost use Rattle.coll_pending.specs.Waiting.{IsKnownAs, IsOpened, CanArrive, fault_at};
@@ -184,6 +185,20 @@ impl<X: Drop> Pending<X> {
     {
         self.meet_ready(comm, rank, group, shape, &stated.sig);
         self.queues.arrive(comm, rank, stated, part)
+    }
+
+    /// A member arrives with its statement and its part at an instance that waits for others too,
+    /// as `next` tells; it waits on. Compares no signatures, and takes no memory.
+    pub fn join(&mut self, comm: u32, rank: u32, stated: Stated, part: X)
+        requires rank { IfSome ((view_of_pending self.old).known comm)
+            (λ of. rank < length of.members) }
+        requires few { (view_of_pending self.old).arrivals comm rank < 2 ^ 62 }
+        requires joins { next (view_of_pending self.old) comm rank stated.sig ≡ Joins }
+        ensures { (of : Communicator) → IsKnownAs of ((view_of_pending self.old).known comm) →
+            HasArrived (view_of_pending self.old) (view_of_pending self.new) comm rank of stated
+            part Waiting }
+    {
+        self.queues.join(comm, rank, stated, part);
     }
 
     // Sees to it that the instance which an arrival of a rank meets waits, for which there is room.

@@ -7,9 +7,11 @@ ghost use Rattle.coll_pending.specs.Instances.{Communicator, next_by, roll_in};
 ghost use Rattle.coll_pending.specs.Queues.{Queue, instance_in, count};
 ghost use Rattle.coll_pending.specs.Queues.{queue_at, slot_in, or_fresh, pushed, CanTell, CanPost};
 ghost use Rattle.coll_pending.specs.Queues.{IsFree, IsRoomier, PostsTo, posted, lacks_one};
+ghost use Rattle.coll_pending.specs.Queues.{WaitsOn};
+ghost use Rattle.coll_pending.specs.declared.arrival.Arrived.TheVariants.{Waiting};
 ghost use Rattle.coll_pending.specs.Waiting.{HasPlaceIn};
 ghost use Rattle.coll_pending.specs.declared.slot.Slot.{Slot};
-ghost use Rattle.coll_pending.specs.declared.arrival.Next.TheVariants.{Mismatch};
+ghost use Rattle.coll_pending.specs.declared.arrival.Next.TheVariants.{Mismatch, Joins};
 
 use crate::arrival::{Arrived, Next};
 use crate::queue::Queue;
@@ -159,6 +161,25 @@ impl<X: Drop> Queues<X> {
             stated,
             part,
         )
+    }
+
+    /// A member arrives at an instance that waits, and waits on.
+    pub fn join(&mut self, comm: u32, rank: u32, stated: Stated, part: X)
+        requires known { IsSome (known_in (queue_at self.old.queues comm)) }
+        requires ready { (of : Communicator) → known_in (queue_at self.old.queues comm) ≡ Some of →
+            CanArrive self.old comm rank of stated.sig }
+        requires joins { next (seen self.old) comm rank stated.sig ≡ Joins }
+        requires few { count_in (queue_at self.old.queues comm) rank < 2 ^ 62 }
+        ensures { (of : Communicator) → known_in (queue_at self.old.queues comm) ≡ Some of →
+            HasArrived (seen self.old) (seen self.new) comm rank of stated part Waiting }
+    {
+        join_in(
+            &mut self.by_comm[comm as usize],
+            &mut self.slots,
+            rank,
+            stated,
+            part,
+        );
     }
 }
 
@@ -316,6 +337,39 @@ fn post<X: Drop>(
             }
             queue.pop();
             Arrived::Full(slots.remove(key).into_full())
+        }
+        None => unreachable!(),
+    }
+}
+
+// A member posts to the instance that it meets, which waits on.
+fn join_in<X: Drop>(
+    row: &mut Option<Queue>,
+    slots: &mut Slab<Slot<X>>,
+    rank: u32,
+    stated: Stated,
+    part: X,
+)
+    requires can { IsSomeAnd row.old (λ q. CanPost q slots.old rank) }
+    requires more { (q : Queue) → row.old ≡ Some q → WaitsOn q slots.old rank }
+    ensures { (q : Queue) → row.old ≡ Some q → (new : Queue) × (row.new ≡ Some new)
+        × PostsTo q new slots.old slots.new rank stated part Waiting }
+{
+    match row {
+        Some(queue) => join(queue, slots, rank, stated, part),
+        None => unreachable!(),
+    }
+}
+
+fn join<X: Drop>(queue: &mut Queue, slots: &mut Slab<Slot<X>>, rank: u32, stated: Stated, part: X)
+    requires can { CanPost queue.old slots.old rank }
+    requires more { WaitsOn queue.old slots.old rank }
+    ensures { PostsTo queue.old queue.new slots.old slots.new rank stated part Waiting }
+{
+    match queue.key(queue.count(rank)) {
+        Some(key) => {
+            queue.arrive(rank);
+            let _ = enter(slots, key, rank, stated, part);
         }
         None => unreachable!(),
     }

@@ -385,6 +385,12 @@ impl Records {
             drop(part);
             return false;
         };
+        if self.post_state.joins(&self.policy, member, comm, &stated) {
+            self.post_state
+                .join(&self.policy, member, comm, stated, part);
+            self.note(member, comm, k, copy);
+            return true;
+        }
         match self
             .post_state
             .enter(&self.policy, member, comm, stated, part)

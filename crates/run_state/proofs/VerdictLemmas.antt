@@ -39,10 +39,11 @@ use Rattle.run_state.specs.declared.entered.Entered.TheVariants.{Settled}
 use Rattle.run_model.specs.Contributions.{Contribution}
 use Rattle.run_model.specs.declared.refusal.Refusal.TheVariants as refusals
 use Rattle.run_state.specs.Views.{PostStateView, communicator_of, fault_after, fault_as, fault_on}
-use Rattle.run_state.specs.Views.{fault_among, place_as, place_on}
+use Rattle.run_state.specs.Views.{fault_among, place_as, place_on, JoinsAs, JoinsOn}
 use Rattle.run_state.specs.Entering.{Answers, after, written}
 use Rattle.run_state.specs.Upcoming.{IsNext, roll_next, constructed}
-use Rattle.run_state.proofs.SeenLemmas.{roll_is, fit_next}
+use Rattle.run_state.proofs.RowLemmas.{some_same}
+use Rattle.run_state.proofs.SeenLemmas.{roll_is, fit_next, accepted}
 
 -- ## verdicts
 
@@ -193,3 +194,26 @@ module _ {X : Type 0} (number : ℕ) (table : List Comm) (waiting : PendingView 
   pub place_none : None ≡ rank_in members p → 0 ≡ place_on waiting p c (slice_get table c)
   place_none at = ap (λ o. place_as waiting c o) (sym (rank_here None at))
       ∙ ap (λ o. place_on waiting p c o) (sym here.1)
+
+  pub joins_some : (rank : ℕ) (sig : Signature) → Some rank ≡ rank_in members p →
+      next waiting c rank sig ≡ Joins → JoinsOn waiting p c (slice_get table c) sig
+  joins_some rank sig at joins =
+      subst (λ o. JoinsOn waiting p c o sig) (sym here.1)
+      (subst (λ o. JoinsAs waiting c o sig) (sym (rank_here (Some rank) at)) joins)
+
+  pub joins_told : (rank : ℕ) (sig : Signature) → Some rank ≡ rank_in members p →
+      JoinsOn waiting p c (slice_get table c) sig → next waiting c rank sig ≡ Joins
+  joins_told rank sig at joins =
+      subst (λ o. JoinsAs waiting c o sig) (rank_here (Some rank) at)
+      (subst (λ o. JoinsOn waiting p c o sig) here.1 joins)
+
+  pub agrees_told : (rank : ℕ) (sig : Signature) (own : Own) (ty : ElemType) (given : ℕ) →
+      Some rank ≡ rank_in members p →
+      fault_among number table waiting p c sig own ty given ≡ None →
+      next waiting c rank sig ≢ Mismatch
+  agrees_told rank sig own ty given at none =
+      let a = accepted table waiting p c sig own ty given number none in
+      let same : a.comm ≡ here.0 = some_same a.comm here.0 (sym a.there ∙ here.1) in
+      let at_same : a.rank ≡ rank = some_same a.rank rank
+      (sym a.at ∙ (ap (λ (k : Comm). rank_in k.members p) same ∙ rank_here (Some rank) at)) in
+      subst (λ r. next waiting c r sig ≢ Mismatch) at_same a.agrees

@@ -93,6 +93,18 @@ abbrev pub fault_of : {X : Type 0} → ChineseWall → PostStateView X → (p c 
 fault_of wall seen p c sig own ty given =
     fault_among (processes wall) seen.comms seen.waiting p c sig own ty given
 
+-- it meets an instance that waits for others too
+abbrev pub JoinsAs : {X : Type 0} → PendingView X → (c : ℕ) → Option ℕ → Signature → Type 0
+JoinsAs waiting c (Some rank) sig = next waiting c rank sig ≡ nexts.Joins
+JoinsAs waiting c None sig = ⊥
+
+abbrev pub JoinsOn : {X : Type 0} → PendingView X → (p c : ℕ) → Option Comm → Signature → Type 0
+JoinsOn waiting p c (Some comm) sig = JoinsAs waiting c (rank_in comm.members p) sig
+JoinsOn waiting p c None sig = ⊥
+
+abbrev pub JoinsOthers : {X : Type 0} → PostStateView X → (p c : ℕ) → Signature → Type 0
+JoinsOthers seen p c sig = JoinsOn seen.waiting p c (slice_get seen.comms c) sig
+
 -- ## what is so of every state
 
 -- an instance of a communicator, whose statements it may have

@@ -1,6 +1,6 @@
 //! The counted posts so far, in the parts that go on from them.
 ghost use Rattle.std.specs.Prelude.{◌≡◌, ◌<◌, ◌≤◌, ◌^◌, ◌∷◌, [], List, not, length, slice_get};
-ghost use Rattle.std.specs.Prelude.{IfOk, IfErr, OnErr, IsSome, Some, None};
+ghost use Rattle.std.specs.Prelude.{IfOk, IfErr, OnErr, IsSome, IsTrue, Some, None};
 ghost use Rattle.wall_policy.specs.Policy.{ChineseWall};
 ghost use Rattle.wall_rules.specs.Histories.{has};
 ghost use Rattle.mpi_group.specs.Groups.{rank_in};
@@ -9,11 +9,13 @@ ghost use Rattle.wall_verdict.specs.Star.{star};
 ghost use Rattle.run_model.specs.Comms.{Comm, shape_of};
 ghost use Rattle.run_model.specs.Posts.{histories, posts_on};
 ghost use Rattle.run_model.specs.Refusals.{fault};
+ghost use Rattle.coll_pending.specs.declared.arrival.Next.TheVariants.{Joins};
+ghost use Rattle.run_state.specs.declared.entered.Entered.TheVariants.{Waiting};
 
 use crate::communicators::Communicators;
 use crate::entered::{Entered, Unentered};
 use crate::steps::{self, MemberPost, Terms};
-use coll_pending::Pending;
+use coll_pending::{Next, Pending};
 use coll_routes::{Own, Shape, Signature, Stated};
 use mpi_elems::ElemType;
 use mpi_group::Group;
@@ -23,7 +25,7 @@ use std::marker::Model;
 use wall_labels::{Label, NoMemory, ProcessId};
 use wall_policy::Policy;
 use wall_rules::Histories;
-use wall_verdict::passes_star;
+use wall_verdict::{enter_label, passes_star};
 
 /// The communicators with their grids, the instances that wait for members, each with what its
 /// members have brought so far, and who has had access to what.
@@ -70,6 +72,7 @@ impl<X> Model for PostState<X> {
 impl<X: Drop> PostState<X> {
     ghost use Rattle.run_model.specs.Contributions.{Contribution, contribution, posts_of};
     ghost use Rattle.run_state.specs.Views.{IsPostState, view_of, fault_of, place_of};
+    ghost use Rattle.run_state.specs.Views.{JoinsOthers};
     ghost use Rattle.run_state.specs.Stands.{StandsForPosts, Tells};
 
     /// A state that stands for no post: the world alone, and each process with access to its home.
@@ -190,6 +193,42 @@ impl<X: Drop> PostState<X> {
         )
     }
 
+    /// Whether the next post of a process on a communicator, which meets no refusal, meets an
+    /// instance that waits for others too: see `join`. Compares no signatures, and takes no memory.
+    pub fn joins(&self, _policy: &Policy, process: ProcessId, comm: u32, stated: &Stated) -> bool
+        requires { fault_of _policy.now (view_of self.now) process comm stated.now.sig
+            stated.now.own (stated_type stated.now.sig) stated.now.given ≡ None }
+        ensures { IsTrue result → JoinsOthers (view_of self.now) process comm stated.now.sig }
+    {
+        let Some(rank) = self.comms.group(comm).rank_of(process) else {
+            unreachable!()
+        };
+        is_joining(self.pending.next_agreed(comm, rank, &stated.sig))
+    }
+
+    /// Enters a post that meets no refusal, of an instance that waits for others too: it waits on.
+    /// Takes no memory. The same as `enter` at such a post.
+    pub fn join(&mut self, _policy: &Policy, process: ProcessId, comm: u32, stated: Stated, part: X)
+        requires accepted { fault_of _policy.now (view_of self.old) process comm stated.sig
+            stated.own (stated_type stated.sig) stated.given ≡ None }
+        requires word { stated.barred ≡ not (star (has self.old.accesses) process stated.label) }
+        requires few { place_of (view_of self.old) process comm < 2 ^ 62 }
+        requires joins { JoinsOthers (view_of self.old) process comm stated.sig }
+        ensures entered { (past : List (Contribution X)) →
+            StandsForPosts _policy.now (view_of self.old) past →
+            StandsForPosts _policy.now (view_of self.new)
+            (contribution process comm stated part ∷ past)
+            × Tells _policy.now (contribution process comm stated part) past
+            (Waiting (place_of (view_of self.old) process comm)) }
+        ensures classes { self.new.accesses.classes ≡ self.old.accesses.classes }
+    {
+        let Some(rank) = self.comms.group(comm).rank_of(process) else {
+            unreachable!()
+        };
+        let _ = enter_label(&mut self.histories, process, &stated.label);
+        self.pending.join(comm, rank, stated, part);
+    }
+
     /// Enters a post that meets no refusal, and says by its word whether the star rule barred it.
     /// Where it is the last of its instance, it tells the outcome of the instance, and hands it out
     /// with all parts; a constructor whose communicators do not fit makes none.
@@ -244,5 +283,14 @@ impl<X: Drop> PostState<X> {
                 made,
             )),
         }
+    }
+}
+
+fn is_joining(next: Next) -> bool
+    ensures { IsTrue result → next ≡ Joins }
+{
+    match next {
+        Next::Joins => true,
+        _ => false,
     }
 }

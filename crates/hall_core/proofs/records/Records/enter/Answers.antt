@@ -4,6 +4,8 @@ use Rattle.mpi_elems.specs.Contents.{Contents}
 use Rattle.coll_routes.specs.Faults.{stated_type}
 use Rattle.run_model.specs.Posts.{posts_on}
 use Rattle.run_model.specs.Contributions.{Contribution, contribution}
+use Rattle.run_state.specs.declared.entered.Entered.{Entered}
+use Rattle.run_state.specs.declared.entered.Entered.TheVariants.{Waiting}
 use Rattle.run_state.specs.Views.{PostStateValue, view_of as seen, place_of}
 use Rattle.run_state.specs.Stands.{StandsForPosts, Tells}
 use Rattle.run_model.specs.Replies.{posts_in}
@@ -11,7 +13,7 @@ use Rattle.run_model.proofs.RunModelLemmas.{posts_within}
 use Rattle.hall_core.specs.Asking.{requests_of}
 use Rattle.hall_core.specs.Halls.{HallView}
 use Rattle.hall_core.specs.Invariant.{view_in}
-use Rattle.hall_core.specs.Moves.{HasRoom, number_in}
+use Rattle.hall_core.specs.Moves.{HasRoom, IsRecorded, number_in}
 use Rattle.run_model.specs.Comms.{processes}
 use Rattle.run_model.specs.Posts.{place}
 use Rattle.hall_core.proofs.PlaceLemmas.{asked_few, few_processes, none_there, unsettled}
@@ -146,3 +148,88 @@ returns-in-Ok-enter-clause-entered c = λ done m stands counts.
     c.make_room.ensures.policy (ap (λ (h : HallView). h.asked) same)
     (ap (λ (h : HallView). h.settled) same) (ap (λ (h : HallView). h.book) same)
     c.in-Ok.ensures.made c.record.ensures.recorded)
+
+pub join-requires-clause-few : goal.join-requires-clause-few
+join-requires-clause-few c =
+    let hall = c.requires.hall in
+    let s = spot c.args.self.now.policy (seen c.args.self.now.post_state) c.args.member c.args.comm
+    c.args.stated.sig c.args.stated.own c.args.stated.given (stated_type c.args.stated.sig)
+    c.requires.free in
+    let number : c.place-k.result ≡ length
+    (posts_on c.args.comm c.args.member (posts_in hall.effects)) =
+    c.place-k.ensures.posts c.args.self.now.policy hall.effects.contributions s.comm
+    hall.stands.post_state s.at
+    (subst (λ o. Rattle.std.specs.Prelude.IsSome o) (sym s.is_member) refl) in
+    let few = posts_within c.args.comm c.args.member (posts_in hall.effects) in
+    let asked = hall.stands.given c.args.member in
+    let limit : length (requests_of c.args.self.now.requests.items c.args.member) <
+    4611686018427387904 = c.requires.few in
+    let low : c.place-k.result < 4611686018427387904 = omega (arith, number, few, asked, limit) in
+    subst (λ n. n < 4611686018427387904) (c.place-k.ensures.value
+    ∙ ap (λ (k : PostStateValue Contents). place_of (seen k) c.args.member c.args.comm)
+    (sym c.make_room.ensures.post_state)) low
+
+pub note-requires-clause-room : goal.note-requires-clause-room
+note-requires-clause-room c =
+    let at : HasRoom c.make_room.new.self c.args.member c.args.comm c.place-k.result = (subst
+    (λ (n : ℕ). HasRoom c.make_room.new.self n c.args.comm c.place-k.result)
+    c.number.ensures.value c.in-Ok-make_room.ensures.room) in
+    record {
+      request = at.request;
+      entries = at.entries;
+      place = at.place;
+      few = at.few;
+      few_open = at.few_open;
+    }
+
+pub returns-then-joins-clause-entered : goal.returns-then-joins-clause-entered
+returns-then-joins-clause-entered c = λ done m stands counts.
+    let old : HallView = view_in c.args.self.now in
+    let same : view_in c.make_room.new.self ≡ view_in c.args.self.now = c.make_room.ensures.same in
+    let stood : StandsForPosts c.make_room.new.self.policy (seen c.make_room.new.self.post_state)
+    m.contributions =
+    subst (λ (w : ChineseWall).
+    StandsForPosts w (seen c.make_room.new.self.post_state) m.contributions)
+    (sym c.make_room.ensures.policy)
+    (subst (λ (k : PostStateValue Contents).
+    StandsForPosts c.args.self.now.policy (seen k) m.contributions)
+    (sym c.make_room.ensures.post_state) stands.post_state) in
+    let moved = c.join.ensures.entered m.contributions stood in
+    let g : Contribution Contents = contribution c.args.member c.args.comm c.args.stated c.args.part
+    in
+    let entered : Entered Contents = Waiting c.place-k.result in
+    let number : place_of (seen c.make_room.new.self.post_state) c.args.member c.args.comm
+    ≡ c.place-k.result =
+    ap (λ (k : PostStateValue Contents). place_of (seen k) c.args.member c.args.comm)
+    c.make_room.ensures.post_state ∙ sym c.place-k.ensures.value in
+    let post_state : StandsForPosts c.args.self.now.policy (seen c.note.new.self.post_state)
+    (g ∷ m.contributions) =
+    subst (λ (w : ChineseWall).
+    StandsForPosts w (seen c.note.new.self.post_state) (g ∷ m.contributions))
+    c.make_room.ensures.policy
+    (subst (λ (k : PostStateValue Contents).
+    StandsForPosts c.make_room.new.self.policy (seen k) (g ∷ m.contributions))
+    (sym c.note.ensures.post_state) moved.0) in
+    let tells : Tells c.args.self.now.policy g m.contributions entered = subst
+    (λ (w : ChineseWall). Tells w g m.contributions entered) c.make_room.ensures.policy
+    (subst (λ (n : ℕ). Tells c.make_room.new.self.policy g m.contributions (Waiting n)) number
+    moved.1) in
+    let none = none_there (view_in c.args.self.now) m (length c.args.self.now.requests.items)
+    c.args.self.now.settled stands c.requires.counted refl c.args.comm
+    (place g.post (posts_in m)) (unsettled c.args.self.now.policy g.post (posts_in m) counts) in
+    let recorded : IsRecorded
+    (view_in (record c.make_room.new.self { post_state = c.join.new.self }))
+    (view_in c.note.new.self) c.args.member c.args.comm c.in-Ok.copy entered = record {
+      policy = c.note.ensures.policy;
+      asked = c.note.ensures.requests;
+      settled = c.note.ensures.settled;
+      book = c.note.ensures.book;
+    } in
+    stands_recorded (view_in c.args.self.now) (view_in c.note.new.self) m g entered
+    stands counts none post_state tells
+    (recorded_from (view_in c.args.self.now)
+    (view_in (record c.make_room.new.self { post_state = c.join.new.self }))
+    (view_in c.note.new.self) c.args.member c.args.comm c.in-Ok.copy c.args.stated entered
+    c.make_room.ensures.policy (ap (λ (h : HallView). h.asked) same)
+    (ap (λ (h : HallView). h.settled) same) (ap (λ (h : HallView). h.book) same)
+    c.in-Ok.ensures.made recorded)
