@@ -139,11 +139,8 @@ impl Operation<(i32, i32)> for ByMaxloc {
     fn combine(first: (i32, i32), second: (i32, i32)) -> (i32, i32) {
         let (a, i) = first;
         let (b, j) = second;
-        if b < a || (a == b && i <= j) {
-            (a, i)
-        } else {
-            (b, j)
-        }
+        let wins = (b < a) | ((a == b) & (i <= j));
+        if wins { first } else { second }
     }
 }
 
@@ -155,11 +152,8 @@ impl Operation<(i32, i32)> for ByMinloc {
     fn combine(first: (i32, i32), second: (i32, i32)) -> (i32, i32) {
         let (a, i) = first;
         let (b, j) = second;
-        if a < b || (a == b && i <= j) {
-            (a, i)
-        } else {
-            (b, j)
-        }
+        let wins = (a < b) | ((a == b) & (i <= j));
+        if wins { first } else { second }
     }
 }
 
