@@ -1,5 +1,6 @@
 //! What all members of an instance state alike.
-ghost use Rattle.std.specs.Prelude.{◌≡◌, ◌==◌, ◌↔◌, ◌<◌, ◌+◌, length, IsTrue, false, IsErr, IfOk};
+ghost use Rattle.std.specs.Prelude.{◌≡◌, ◌==◌, ◌&&◌, ◌↔◌, ◌<◌, ◌+◌, length, IsTrue, false, IsErr};
+ghost use Rattle.std.specs.Prelude.{IfOk};
 ghost use Rattle.wall_labels.specs.Ops.{op_number};
 ghost use Rattle.coll_routes.specs.Kinds.{kind_number};
 ghost use Rattle.coll_routes.specs.Signatures.{same_by, same_flags};
@@ -319,7 +320,173 @@ impl Signature {
         ensures equal { IsTrue result ↔ (self.now ≡ other.now) }
         ensures test { result ≡ same_signature self.now other.now }
     {
-        self.has_fields_of(other)
+        self.is_alike(other)
+    }
+
+    // The same: where neither has a list, by one look at each.
+    #[tactic(auto, unfolding(crate::specs::Signatures::same_signature, crate::specs::Signatures::kind, crate::specs::Signatures::root, crate::specs::Signatures::reduction, crate::specs::Signatures::elem_type, crate::specs::Signatures::count, crate::specs::Signatures::numbers, crate::specs::Signatures::flags))]
+    fn is_alike(&self, other: &Signature) -> bool
+        ensures { result ≡ same_signature self.now other.now }
+    {
+        match self {
+            Signature::Bcast {
+                root,
+                elem_type,
+                count,
+            } => match other {
+                Signature::Bcast {
+                    root: r,
+                    elem_type: t,
+                    count: n,
+                } => *root == *r && are_same_blocks(*elem_type, *count, *t, *n),
+                _ => self.has_fields_of(other),
+            },
+            Signature::Gather {
+                root,
+                elem_type,
+                count,
+            } => match other {
+                Signature::Gather {
+                    root: r,
+                    elem_type: t,
+                    count: n,
+                } => *root == *r && are_same_blocks(*elem_type, *count, *t, *n),
+                _ => self.has_fields_of(other),
+            },
+            Signature::Gatherv { root, elem_type } => match other {
+                Signature::Gatherv {
+                    root: r,
+                    elem_type: t,
+                } => *root == *r && *elem_type == *t,
+                _ => self.has_fields_of(other),
+            },
+            Signature::Scatter {
+                root,
+                elem_type,
+                count,
+            } => match other {
+                Signature::Scatter {
+                    root: r,
+                    elem_type: t,
+                    count: n,
+                } => *root == *r && are_same_blocks(*elem_type, *count, *t, *n),
+                _ => self.has_fields_of(other),
+            },
+            Signature::Scatterv { root, elem_type } => match other {
+                Signature::Scatterv {
+                    root: r,
+                    elem_type: t,
+                } => *root == *r && *elem_type == *t,
+                _ => self.has_fields_of(other),
+            },
+            Signature::Allgather { elem_type, count } => match other {
+                Signature::Allgather {
+                    elem_type: t,
+                    count: n,
+                } => are_same_blocks(*elem_type, *count, *t, *n),
+                _ => self.has_fields_of(other),
+            },
+            Signature::Allgatherv { elem_type } => match other {
+                Signature::Allgatherv { elem_type: t } => *elem_type == *t,
+                _ => self.has_fields_of(other),
+            },
+            Signature::Alltoall { elem_type, count } => match other {
+                Signature::Alltoall {
+                    elem_type: t,
+                    count: n,
+                } => are_same_blocks(*elem_type, *count, *t, *n),
+                _ => self.has_fields_of(other),
+            },
+            Signature::Alltoallv { elem_type } => match other {
+                Signature::Alltoallv { elem_type: t } => *elem_type == *t,
+                _ => self.has_fields_of(other),
+            },
+            Signature::Reduce {
+                root,
+                op,
+                elem_type,
+                count,
+            } => match other {
+                Signature::Reduce {
+                    root: r,
+                    op: o,
+                    elem_type: t,
+                    count: n,
+                } => *root == *r && are_same_folds(*op, *elem_type, *count, *o, *t, *n),
+                _ => self.has_fields_of(other),
+            },
+            Signature::Allreduce {
+                op,
+                elem_type,
+                count,
+            } => match other {
+                Signature::Allreduce {
+                    op: o,
+                    elem_type: t,
+                    count: n,
+                } => are_same_folds(*op, *elem_type, *count, *o, *t, *n),
+                _ => self.has_fields_of(other),
+            },
+            Signature::ReduceScatterBlock {
+                op,
+                elem_type,
+                count,
+            } => match other {
+                Signature::ReduceScatterBlock {
+                    op: o,
+                    elem_type: t,
+                    count: n,
+                } => are_same_folds(*op, *elem_type, *count, *o, *t, *n),
+                _ => self.has_fields_of(other),
+            },
+            Signature::Scan {
+                op,
+                elem_type,
+                count,
+            } => match other {
+                Signature::Scan {
+                    op: o,
+                    elem_type: t,
+                    count: n,
+                } => are_same_folds(*op, *elem_type, *count, *o, *t, *n),
+                _ => self.has_fields_of(other),
+            },
+            Signature::Exscan {
+                op,
+                elem_type,
+                count,
+            } => match other {
+                Signature::Exscan {
+                    op: o,
+                    elem_type: t,
+                    count: n,
+                } => are_same_folds(*op, *elem_type, *count, *o, *t, *n),
+                _ => self.has_fields_of(other),
+            },
+            Signature::NeighborAllgather { elem_type, count } => match other {
+                Signature::NeighborAllgather {
+                    elem_type: t,
+                    count: n,
+                } => are_same_blocks(*elem_type, *count, *t, *n),
+                _ => self.has_fields_of(other),
+            },
+            Signature::NeighborAllgatherv { elem_type } => match other {
+                Signature::NeighborAllgatherv { elem_type: t } => *elem_type == *t,
+                _ => self.has_fields_of(other),
+            },
+            Signature::NeighborAlltoall { elem_type, count } => match other {
+                Signature::NeighborAlltoall {
+                    elem_type: t,
+                    count: n,
+                } => are_same_blocks(*elem_type, *count, *t, *n),
+                _ => self.has_fields_of(other),
+            },
+            Signature::NeighborAlltoallv { elem_type } => match other {
+                Signature::NeighborAlltoallv { elem_type: t } => *elem_type == *t,
+                _ => self.has_fields_of(other),
+            },
+            _ => self.has_fields_of(other),
+        }
     }
 
     #[tactic(auto, unfolding(crate::specs::Signatures::same_signature))]
@@ -488,6 +655,18 @@ impl Signature {
             _ => unreachable!(),
         }
     }
+}
+
+fn are_same_blocks(t: ElemType, n: u32, u: ElemType, m: u32) -> bool
+    ensures { result ≡ (type_number t == type_number u && n == m) }
+{
+    t == u && n == m
+}
+
+fn are_same_folds(o: Op, t: ElemType, n: u32, p: Op, u: ElemType, m: u32) -> bool
+    ensures { result ≡ (op_number o == op_number p && type_number t == type_number u && n == m) }
+{
+    o == p && t == u && n == m
 }
 
 fn is_same_kind(left: Kind, right: Kind) -> bool
