@@ -532,9 +532,23 @@ impl Signature {
         }
     }
 
+    // Whether some field is a list.
+    #[tactic(auto, unfolding(crate::specs::Signatures::has_list))]
+    pub(crate) fn has_list(&self) -> bool
+        ensures { result ≡ has_list self.now }
+    {
+        match self {
+            Signature::CartSub { .. }
+            | Signature::CartCreate { .. }
+            | Signature::Create { .. }
+            | Signature::ReduceScatter { .. } => true,
+            _ => false,
+        }
+    }
+
     // An equal signature, where no field is a list.
     #[tactic(auto, unfolding(crate::specs::Signatures::has_list))]
-    fn without_lists(&self) -> Signature
+    pub(crate) fn without_lists(&self) -> Signature
         requires { has_list self.now ≡ false }
         ensures { result ≡ self.now }
     {
