@@ -2,22 +2,32 @@
 use Rattle.std.proofs.Common.{◌≡◌, ℕ, zero, suc, ◌+◌, ◌-◌, ◌*◌, ◌<◌, ◌≤◌, List, [], ◌∷◌, length, map}
 use Rattle.std.proofs.Common.{take, drop, slice_range, ℤ, refl, sym, ap, ◌∙◌, arith, true, false}
 use Rattle.std.proofs.Common.{Some, None, slice_get, if◌then◌else◌, nat_le, nat_lt, ◌&&◌}
-use Rattle.std.proofs.Math.Seq.{take-nil, drop-nil}
+use Rattle.std.proofs.Common.{Bool, nat_eq, eq-eqb}
+use Rattle.std.proofs.lemmas.Bool.{and_left, and_from, lt-ltb, le-leb}
+use Rattle.std.proofs.Math.Seq.{take-nil, drop-nil, take-length}
 use Rattle.std.proofs.lemmas.List.{drop-take}
 use Rattle.std.specs.List.{range_with_len}
 use Rattle.mpi_elems.specs.Types.{is_pair}
 use Rattle.mpi_elems.specs.Elements.{Element, single, numbers_of, pairs_of, elements_of}
 use Rattle.mpi_elems.specs.Contents.{Contents, elements, IsFit}
-use Rattle.coll_routes.specs.Signatures.{reduction}
-use Rattle.coll_routes.specs.Rolls.{given, goes, places, is_missing}
+use Rattle.mpi_elems.proofs.LoopLemmas.{slice_range-all}
+use Rattle.coll_routes.specs.declared.signature.Signature.{Signature}
+use Rattle.coll_routes.specs.declared.signature.Signature.TheVariants.{Gather, Gatherv, Allgather}
+use Rattle.coll_routes.specs.declared.signature.Signature.TheVariants.{Allgatherv}
+use Rattle.coll_routes.specs.declared.roll.Shape.{Shape}
+use Rattle.coll_routes.specs.Signatures.{reduction, is_neighbourly}
+use Rattle.coll_routes.specs.Rolls.{given, goes, places, is_missing, goes_by, places_by}
+use Rattle.coll_routes.specs.Rolls.{own_counts_in, stated_by}
 use Rattle.coll_values.specs.declared.full.Full.{Full}
 use Rattle.coll_values.specs.declared.delivery.Block.TheVariants.{Missing, Numbers}
 use Rattle.coll_values.specs.declared.stretch.Stretch.{Stretch}
 use Rattle.coll_values.specs.Instances.{part, elements_in, IsWhole}
+use Rattle.coll_values.specs.Sources.{is_gathering, source_by}
 use Rattle.coll_values.specs.Stretches.{IsAlong, numbers_in, numbers_given, numbers_along}
 use Rattle.coll_values.specs.Values.{sent, copied, block_by, block_of, value}
 use Rattle.coll_values.proofs.RoomLemmas.{at_place, value_is}
 use Rattle.coll_values.proofs.SentLemmas.{part_has, its_part, sent_some, sent_none}
+use Rattle.coll_values.proofs.SourceLemmas.{from_source}
 
 -- ## single numbers
 
@@ -185,6 +195,24 @@ nothing_along F s es from to none =
     (λ k. drop (from k) (take (to k) (numbers_given F s.source)))
     ∙ ap numbers_of (sym none)
 
+-- all that a rank gave
+module _ (F : Full Contents) (i : ℕ) (p : Contents) (low : i < F.roll.shape.size)
+    (there : slice_get F.parts i ≡ Some p) (fit : IsFit p) (long : ℕ)
+    (is : long ≡ length p.numbers) where
+  all_numbers : numbers_given F i ≡ p.numbers
+  all_numbers = ap numbers_in there
+
+  pub all_is_along : IsAlong F (stretch i 0 long)
+  all_is_along =
+      let same = ap length all_numbers in
+      record { source = low; order = omega arith; within = omega arith }
+
+  pub all_along_is : numbers_along F (stretch i 0 long) ≡ numbers_of (part F i)
+  all_along_is =
+      (λ k. drop 0 (take (is k) (all_numbers k)))
+      ∙ (take-length p.numbers
+      ∙ (sym fit.whole ∙ ap (λ o. numbers_of (elements_in o)) (sym there)))
+
 -- ## the block at a place
 
 at_range : {X : Type 0} (f : ℕ → X) (a n k : ℕ) → k < n →
@@ -218,3 +246,77 @@ module _ (F : Full Contents) (j t : ℕ) (copies : reduction F.roll.sig ≡ None
       ∙ ((λ k. Some (block_of (if e k then None
       else Some (copied F.roll (λ i t. sent F i j t) t))))
       ∙ ap (λ ns. Some (Numbers ns)) (sym is)))
+
+-- ## gathers
+
+root_here : (b : Bool) (n i : ℕ) → i < (if b then n else 0) → (b && nat_eq i i) ≡ true
+root_here true n i low = eq-eqb i i refl
+root_here false n i low = absurd (omega (arith, low))
+
+place_here : (b : Bool) (n i : ℕ) → i < (if b then n else 0) → i < n
+place_here true n i low = low
+place_here false n i low = absurd (omega (arith, low))
+
+gathers_all : (sig : Signature) (shape : Shape) (counts : List ℕ) (i x j : ℕ) →
+    is_gathering sig ≡ true → i < places_by sig shape j → goes_by sig shape counts i x j i ≡ true
+unfolding is_gathering places_by goes_by
+gathers_all (Gather r ty n) shape counts i x j e low = root_here (nat_eq j r) shape.size i low
+gathers_all (Gatherv r ty) shape counts i x j e low = root_here (nat_eq j r) shape.size i low
+gathers_all (Allgather ty n) shape counts i x j e low = eq-eqb i i refl
+gathers_all (Allgatherv ty) shape counts i x j e low = eq-eqb i i refl
+gathers_all other shape counts i x j e low = absurd (cc)
+
+gathers_within : (sig : Signature) (shape : Shape) (i j : ℕ) → is_gathering sig ≡ true →
+    i < places_by sig shape j → i < shape.size
+unfolding is_gathering places_by
+gathers_within (Gather r ty n) shape i j e low = place_here (nat_eq j r) shape.size i low
+gathers_within (Gatherv r ty) shape i j e low = place_here (nat_eq j r) shape.size i low
+gathers_within (Allgather ty n) shape i j e low = low
+gathers_within (Allgatherv ty) shape i j e low = low
+gathers_within other shape i j e low = absurd (cc)
+
+gathers_from : (sig : Signature) (shape : Shape) (i j : ℕ) → is_gathering sig ≡ true →
+    source_by sig shape j i ≡ Some i
+unfolding is_gathering source_by
+gathers_from (Gather r ty n) shape i j e = refl
+gathers_from (Gatherv r ty) shape i j e = refl
+gathers_from (Allgather ty n) shape i j e = refl
+gathers_from (Allgatherv ty) shape i j e = refl
+gathers_from other shape i j e = absurd (cc)
+
+gathers_apart : (sig : Signature) → is_gathering sig ≡ true → is_neighbourly sig ≡ false
+unfolding is_gathering is_neighbourly
+gathers_apart (Gather r ty n) e = refl
+gathers_apart (Gatherv r ty) e = refl
+gathers_apart (Allgather ty n) e = refl
+gathers_apart (Allgatherv ty) e = refl
+gathers_apart other e = absurd (cc)
+
+module _ (F : Full Contents) (j t : ℕ) (whole : IsWhole F) (copies : reduction F.roll.sig ≡ None)
+    (gathers : is_gathering F.roll.sig ≡ true) (low : t < places F.roll j) where
+  pub source_low : t < F.roll.shape.size
+  source_low = gathers_within F.roll.sig F.roll.shape t j gathers low
+
+  none_missing : is_missing F.roll j t ≡ false
+  unfolding is_missing
+  none_missing = and_left (is_neighbourly F.roll.sig) _ (gathers_apart F.roll.sig gathers)
+
+  all_sent_there : part F t ≡ copied F.roll (λ i t. sent F i j t) t
+  all_sent_there =
+      let p = its_part F t j t whole source_low in
+      let has = part_has F t p.0 whole p.1 in
+      let long : given F.roll t ≡ length (part F t) =
+      sym has ∙ ap (λ o. length (elements_in o)) (sym p.1) in
+      sym (slice_range-all (part F t) (given F.roll t) long)
+      ∙ (all_sent F t j t whole source_low 0 (given F.roll t)
+      (λ x within. and_from (nat_le 0 x) (nat_lt x (0 + given F.roll t))
+      (le-leb 0 x (omega arith)) (lt-ltb x (0 + given F.roll t) (omega arith))
+      ∙ sym (gathers_all F.roll.sig F.roll.shape (own_counts_in (stated_by F.roll t)) t x j
+      gathers low))
+      ∙ sym (from_source F j t copies t (gathers_from F.roll.sig F.roll.shape t j gathers)
+      source_low))
+
+  pub gathered_there : (numbers : List ℤ) → numbers ≡ numbers_of (part F t) →
+      slice_get (value F j) t ≡ Some (Numbers numbers)
+  gathered_there numbers is =
+      copied_there F j t copies low numbers none_missing (is ∙ ap numbers_of all_sent_there)

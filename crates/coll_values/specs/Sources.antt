@@ -1,5 +1,5 @@
 -- Where the block at a place comes from, as the code has it.
-use Rattle.std.specs.Prelude.{ℕ, Option, Some, None}
+use Rattle.std.specs.Prelude.{ℕ, Bool, true, false, Option, Some, None}
 use Rattle.coll_routes.specs.declared.signature.Signature.{Signature}
 use Rattle.coll_routes.specs.declared.signature.Signature.TheVariants.{Bcast, Gather, Gatherv}
 use Rattle.coll_routes.specs.declared.signature.Signature.TheVariants.{Scatter, Scatterv, Allgather}
@@ -27,3 +27,11 @@ source_by (NeighborAllgatherv ty) shape j t = neighbour_in shape.grid j t
 source_by (NeighborAlltoall ty n) shape j t = neighbour_in shape.grid j t
 source_by (NeighborAlltoallv ty) shape j t = neighbour_in shape.grid j t
 source_by _ shape j t = None
+
+-- the block at place t of a rank is all that rank t gave
+unfoldable pub is_gathering : Signature → Bool
+is_gathering (Gather r ty n) = true
+is_gathering (Gatherv r ty) = true
+is_gathering (Allgather ty n) = true
+is_gathering (Allgatherv ty) = true
+is_gathering _ = false

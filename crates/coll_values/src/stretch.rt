@@ -4,12 +4,13 @@ ghost use Rattle.mpi_elems.specs.Elements.{numbers_of};
 ghost use Rattle.coll_routes.specs.Rolls.{given, places as places_of};
 ghost use Rattle.coll_routes.specs.Signatures.{reduction};
 ghost use Rattle.coll_values.specs.Instances.{part, IsWhole};
+ghost use Rattle.coll_values.specs.Sources.{is_gathering};
 ghost use Rattle.coll_values.specs.Stretches.{IsAlong, numbers_along, block_along};
 ghost use Rattle.coll_values.specs.Values.{sent, copied, value};
 
 use super::full::Full;
 use super::source::source_of;
-use coll_routes::{Piece, is_missing, piece};
+use coll_routes::{Piece, Signature, is_missing, piece};
 use mpi_elems::Buffer;
 
 /// Consecutive numbers of what a rank gave; a pair is two.
@@ -92,6 +93,37 @@ fn copied_along(full: &Full<Buffer>, to: u32, place: u32) -> Stretch
     }
 }
 
+// Whether the block at a place of a rank is all that the rank of that number gave.
+#[tactic(auto, unfolding(crate::specs::Sources::is_gathering))]
+fn is_gathering(sig: &Signature) -> bool
+    ensures { result ≡ is_gathering sig.now }
+{
+    match sig {
+        Signature::Gather { .. } => true,
+        Signature::Gatherv { .. } => true,
+        Signature::Allgather { .. } => true,
+        Signature::Allgatherv { .. } => true,
+        _ => false,
+    }
+}
+
+// The stretch of all that a rank gave.
+fn all_along(full: &Full<Buffer>, source: u32) -> Stretch
+    requires whole { IsWhole full.now }
+    requires source { source < full.now.roll.shape.size }
+    ensures along { IsAlong full.now result }
+    ensures numbers { numbers_along full.now result ≡ numbers_of (part full.now source) }
+{
+    let part = full.parts.get(source);
+    // For what it says of the part: that its numbers are those of its elements.
+    let _ = part.elem_type();
+    Stretch {
+        source,
+        from: 0,
+        to: part.len(),
+    }
+}
+
 /// Where the block at a place of a rank stands among what the ranks gave, in a kind that doesn't
 /// reduce; none where the slot has no neighbour. Takes no memory: who only reads the block needs no
 /// copy of it.
@@ -103,6 +135,9 @@ pub fn stretch_at(full: &Full<Buffer>, rank: u32, place: u32) -> Option<Stretch>
     ensures along { IfSome result (IsAlong full.now) }
     ensures block { slice_get (value full.now rank) place ≡ Some (block_along full.now result) }
 {
+    if is_gathering(&full.roll.sig) {
+        return Some(all_along(full, place));
+    }
     if is_missing(&full.roll, rank, place) {
         None
     } else {
