@@ -1,8 +1,9 @@
 //! Pieces of what a rank gave.
 ghost use Rattle.std.specs.Prelude.{◌≡◌, ℕ, ◌+◌, ◌<◌, ◌≤◌, ◌^◌, sum, take, replicate, get_or};
-ghost use Rattle.std.specs.Prelude.{IfSome, None, if◌then◌else◌};
+ghost use Rattle.std.specs.Prelude.{IfSome, None, true, if◌then◌else◌};
 ghost use Rattle.mpi_cart.specs.Grids.{opposite};
 ghost use Rattle.coll_routes.specs.Rolls.{goes_by, counts_in, slots, is_neighbour};
+ghost use Rattle.coll_routes.specs.Signatures.{is_neighbourly};
 ghost use Rattle.coll_routes.specs.Faults.{shape_fault, stated_type};
 ghost use Rattle.coll_routes.specs.Fit.{IsSized};
 ghost use Rattle.coll_routes.specs.Lanes.{lane_by, sizes_by, covers, sends_by};
@@ -194,6 +195,50 @@ fn block_size(sig: &Signature, shape: &Shape, counts: &[u32], b: u32) -> u32
     }
 }
 
+// What of the neighbour in a slot goes to it, in a kind that goes between neighbours.
+#[tactic(auto, unfolding(crate::specs::Lanes::lane_by, crate::specs::Signatures::is_neighbourly))]
+fn lane_near(sig: &Signature, _shape: &Shape, _from: u32, _to: u32, slot: u32) -> Lane
+    requires between { is_neighbourly sig.now ≡ true }
+    requires near { is_neighbour _shape.now _from _to slot ≡ true }
+    ensures { result ≡ lane_by sig.now _shape.now _from _to slot }
+{
+    match sig {
+        Signature::NeighborAllgather { .. } => Lane::Whole,
+        Signature::NeighborAllgatherv { .. } => Lane::Whole,
+        Signature::NeighborAlltoall { .. } => Lane::Block(opposite_of(slot)),
+        Signature::NeighborAlltoallv { .. } => Lane::Block(opposite_of(slot)),
+        _ => unreachable!(),
+    }
+}
+
+// The elements of the neighbour in a slot that go to it, where its post has no fault.
+pub(crate) fn cut_near(
+    roll: &Roll,
+    own: &Own,
+    given: u32,
+    from: u32,
+    to: u32,
+    slot: u32,
+) -> Option<Piece>
+    requires sound { shape_fault roll.now.shape from roll.now.sig own.now
+        (stated_type roll.now.sig) given ≡ None }
+    requires between { is_neighbourly roll.now.sig ≡ true }
+    requires near { is_neighbour roll.now.shape from to slot ≡ true }
+    ensures covers { (x : ℕ) → x < given → covers result x ≡
+        goes_by roll.now.sig roll.now.shape (counts_in own.now) from x to slot }
+    ensures within { IfSome result (λ p. p.start + p.len ≤ given) }
+{
+    cut_along(
+        roll,
+        own,
+        given,
+        from,
+        to,
+        slot,
+        lane_near(&roll.sig, &roll.shape, from, to, slot),
+    )
+}
+
 // The elements of a rank that go to a place, where its post has no fault.
 pub(crate) fn cut(
     roll: &Roll,
@@ -211,7 +256,35 @@ pub(crate) fn cut(
         goes_by roll.now.sig roll.now.shape (counts_in own.now) from x to place }
     ensures within { IfSome result (λ p. p.start + p.len ≤ given) }
 {
-    match lane_of(&roll.sig, &roll.shape, from, to, place) {
+    cut_along(
+        roll,
+        own,
+        given,
+        from,
+        to,
+        place,
+        lane_of(&roll.sig, &roll.shape, from, to, place),
+    )
+}
+
+// The same by the lane that leads there.
+fn cut_along(
+    roll: &Roll,
+    own: &Own,
+    given: u32,
+    _from: u32,
+    _to: u32,
+    _place: u32,
+    lane: Lane,
+) -> Option<Piece>
+    requires sound { shape_fault roll.now.shape _from roll.now.sig own.now
+        (stated_type roll.now.sig) given ≡ None }
+    requires lane { lane ≡ lane_by roll.now.sig roll.now.shape _from _to _place }
+    ensures covers { (x : ℕ) → x < given → covers result x ≡
+        goes_by roll.now.sig roll.now.shape (counts_in own.now) _from x _to _place }
+    ensures within { IfSome result (λ p. p.start + p.len ≤ given) }
+{
+    match lane {
         Lane::Nowhere => None,
         Lane::Whole => Some(Piece {
             start: 0,

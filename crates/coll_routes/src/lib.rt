@@ -22,6 +22,6 @@ pub use kind::Kind;
 pub use lane::Piece;
 pub use lists::{Flags, Numbers};
 pub use roll::{Roll, Shape, Statements};
-pub use route::{is_missing, piece, places, routed};
+pub use route::{is_missing, piece, piece_near, places, routed};
 pub use signature::Signature;
 pub use statement::{Own, Stated};

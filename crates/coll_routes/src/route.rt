@@ -4,12 +4,12 @@ ghost use Rattle.std.specs.List.{list_any};
 ghost use Rattle.mpi_cart.specs.Grids.{below};
 ghost use Rattle.coll_routes.specs.Rolls.{stated_by, given, goes, places as places_of};
 ghost use Rattle.coll_routes.specs.Rolls.{routed as is_routed, sends, slots};
-ghost use Rattle.coll_routes.specs.Rolls.{is_missing as is_missing_at};
+ghost use Rattle.coll_routes.specs.Rolls.{is_missing as is_missing_at, is_neighbour};
 ghost use Rattle.coll_routes.specs.Signatures.{is_neighbourly};
 ghost use Rattle.coll_routes.specs.Fit.{IsFit, IsSized};
 ghost use Rattle.coll_routes.specs.Lanes.{place_by, covers};
 
-use super::lane::{Piece, cut, has_element, has_neighbour};
+use super::lane::{Piece, cut, cut_near, has_element, has_neighbour};
 use super::roll::Roll;
 use super::signature::Signature;
 use super::statement::Stated;
@@ -40,6 +40,27 @@ pub fn piece(roll: &Roll, from: u32, to: u32, place: u32) -> Option<Piece>
     let sender = stated(roll, from);
     match cut(roll, &sender.own, sender.given, from, to, place) {
         Some(piece) => if piece.len > 0 { Some(piece) } else { None },
+        None => None,
+    }
+}
+
+/// `piece` between neighbours, where rank `from` is the neighbour of rank `to` in a slot. Looks for no
+/// neighbour.
+#[tactic(auto, using(crate::proofs::FitLemmas::of_roll))]
+pub fn piece_near(roll: &Roll, from: u32, to: u32, slot: u32) -> Option<Piece>
+    requires fit { IsFit roll.now }
+    requires from { from < roll.now.shape.size }
+    requires to { to < roll.now.shape.size }
+    requires between { is_neighbourly roll.now.sig ≡ true }
+    requires near { is_neighbour roll.now.shape from to slot ≡ true }
+    ensures covers { (x : ℕ) → x < given roll.now from →
+        covers result x ≡ goes roll.now from x to slot }
+    ensures within { IfSome result (λ p. p.start + p.len ≤ given roll.now from) }
+    ensures filled { IfSome result (λ p. 0 < p.len) }
+{
+    let neighbour = stated(roll, from);
+    match cut_near(roll, &neighbour.own, neighbour.given, from, to, slot) {
+        Some(part) => if part.len > 0 { Some(part) } else { None },
         None => None,
     }
 }

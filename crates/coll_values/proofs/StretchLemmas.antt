@@ -3,6 +3,7 @@ use Rattle.std.proofs.Common.{◌≡◌, ℕ, zero, suc, ◌+◌, ◌-◌, ◌*�
 use Rattle.std.proofs.Common.{take, drop, slice_range, ℤ, refl, sym, ap, ◌∙◌, arith, true, false}
 use Rattle.std.proofs.Common.{Some, None, slice_get, if◌then◌else◌, nat_le, nat_lt, ◌&&◌}
 use Rattle.std.proofs.Common.{Bool, nat_eq, eq-eqb}
+use Rattle.std.specs.Prelude.{is_none}
 use Rattle.std.proofs.lemmas.Bool.{and_left, and_from, lt-ltb, le-leb}
 use Rattle.std.proofs.Math.Seq.{take-nil, drop-nil, take-length}
 use Rattle.std.proofs.lemmas.List.{drop-take}
@@ -13,11 +14,14 @@ use Rattle.mpi_elems.specs.Contents.{Contents, elements, IsFit}
 use Rattle.mpi_elems.proofs.LoopLemmas.{slice_range-all}
 use Rattle.coll_routes.specs.declared.signature.Signature.{Signature}
 use Rattle.coll_routes.specs.declared.signature.Signature.TheVariants.{Gather, Gatherv, Allgather}
-use Rattle.coll_routes.specs.declared.signature.Signature.TheVariants.{Allgatherv}
+use Rattle.coll_routes.specs.declared.signature.Signature.TheVariants.{Allgatherv, NeighborAllgather}
+use Rattle.coll_routes.specs.declared.signature.Signature.TheVariants.{NeighborAllgatherv}
+use Rattle.coll_routes.specs.declared.signature.Signature.TheVariants.{NeighborAlltoall}
+use Rattle.coll_routes.specs.declared.signature.Signature.TheVariants.{NeighborAlltoallv}
 use Rattle.coll_routes.specs.declared.roll.Shape.{Shape}
 use Rattle.coll_routes.specs.Signatures.{reduction, is_neighbourly}
 use Rattle.coll_routes.specs.Rolls.{given, goes, places, is_missing, goes_by, places_by}
-use Rattle.coll_routes.specs.Rolls.{own_counts_in, stated_by}
+use Rattle.coll_routes.specs.Rolls.{own_counts_in, stated_by, neighbour_in, is_neighbour, is_it}
 use Rattle.coll_values.specs.declared.full.Full.{Full}
 use Rattle.coll_values.specs.declared.delivery.Block.TheVariants.{Missing, Numbers}
 use Rattle.coll_values.specs.declared.stretch.Stretch.{Stretch}
@@ -320,3 +324,41 @@ module _ (F : Full Contents) (j t : ℕ) (whole : IsWhole F) (copies : reduction
       slice_get (value F j) t ≡ Some (Numbers numbers)
   gathered_there numbers is =
       copied_there F j t copies low numbers none_missing (is ∙ ap numbers_of all_sent_there)
+
+-- ## between neighbours
+
+slot_from : (sig : Signature) (shape : Shape) (j t : ℕ) → is_neighbourly sig ≡ true →
+    source_by sig shape j t ≡ neighbour_in shape.grid j t
+unfolding is_neighbourly source_by
+slot_from (NeighborAllgather ty n) shape j t e = refl
+slot_from (NeighborAllgatherv ty) shape j t e = refl
+slot_from (NeighborAlltoall ty n) shape j t e = refl
+slot_from (NeighborAlltoallv ty) shape j t e = refl
+slot_from other shape j t e = absurd (cc)
+
+module _ (F : Full Contents) (j t : ℕ) (copies : reduction F.roll.sig ≡ None)
+    (between : is_neighbourly F.roll.sig ≡ true) (low : t < places F.roll j) where
+  pub empty_slot : None ≡ neighbour_in F.roll.shape.grid j t →
+      slice_get (value F j) t ≡ Some Missing
+  unfolding is_missing
+  empty_slot none = missing_there F j t copies low
+      (λ k. between k && is_none (sym none k))
+
+  pub slot_there : (s : ℕ) (numbers : List ℤ) → Some s ≡ neighbour_in F.roll.shape.grid j t →
+      s < F.roll.shape.size → numbers ≡ numbers_of (sent F s j t) →
+      slice_get (value F j) t ≡ Some (Numbers numbers)
+  unfolding is_missing
+  slot_there s numbers near within is = copied_there F j t copies low numbers
+      (λ k. between k && is_none (sym near k))
+      (is ∙ ap numbers_of (sym (from_source F j t copies s
+      (slot_from F.roll.sig F.roll.shape j t between ∙ sym near) within)))
+
+-- in a kind that is not between neighbours none is missing
+pub not_missing : (F : Full Contents) (j t : ℕ) → is_neighbourly F.roll.sig ≡ false →
+    is_missing F.roll j t ≡ false
+unfolding is_missing
+not_missing F j t apart = and_left (is_neighbourly F.roll.sig) _ apart
+
+pub is_near : (F : Full Contents) (s j t : ℕ) → Some s ≡ neighbour_in F.roll.shape.grid j t →
+    is_neighbour F.roll.shape s j t ≡ true
+is_near F s j t near = ap (λ o. is_it o s) (sym near) ∙ eq-eqb s s refl

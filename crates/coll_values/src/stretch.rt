@@ -1,8 +1,9 @@
 //! Where blocks stand among what the ranks gave, in a kind that doesn't reduce.
 ghost use Rattle.std.specs.Prelude.{◌≡◌, ◌<◌, ◌≤◌, ◌+◌, IfSome, Some, None, slice_get, slice_range};
+ghost use Rattle.std.specs.Prelude.{true};
 ghost use Rattle.mpi_elems.specs.Elements.{numbers_of};
-ghost use Rattle.coll_routes.specs.Rolls.{given, places as places_of};
-ghost use Rattle.coll_routes.specs.Signatures.{reduction};
+ghost use Rattle.coll_routes.specs.Rolls.{given, places as places_of, is_neighbour};
+ghost use Rattle.coll_routes.specs.Signatures.{reduction, is_neighbourly};
 ghost use Rattle.coll_values.specs.Instances.{part, IsWhole};
 ghost use Rattle.coll_values.specs.Sources.{is_gathering};
 ghost use Rattle.coll_values.specs.Stretches.{IsAlong, numbers_along, block_along};
@@ -10,7 +11,7 @@ ghost use Rattle.coll_values.specs.Values.{sent, copied, value};
 
 use super::full::Full;
 use super::source::source_of;
-use coll_routes::{Piece, Signature, is_missing, piece};
+use coll_routes::{Piece, Signature, piece, piece_near};
 use mpi_elems::Buffer;
 
 /// Consecutive numbers of what a rank gave; a pair is two.
@@ -71,6 +72,38 @@ fn sent_along(full: &Full<Buffer>, from: u32, to: u32, place: u32) -> Stretch
     match piece(&full.roll, from, to, place) {
         Some(piece) => along(full, from, piece),
         None => nowhere(from),
+    }
+}
+
+// The same of the neighbour in a slot.
+fn near_along(full: &Full<Buffer>, from: u32, to: u32, slot: u32) -> Stretch
+    requires whole { IsWhole full.now }
+    requires from { from < full.now.roll.shape.size }
+    requires to { to < full.now.roll.shape.size }
+    requires between { is_neighbourly full.now.roll.sig ≡ true }
+    requires near { is_neighbour full.now.roll.shape from to slot ≡ true }
+    ensures along { IsAlong full.now result }
+    ensures numbers { numbers_along full.now result ≡ numbers_of (sent full.now from to slot) }
+{
+    match piece_near(&full.roll, from, to, slot) {
+        Some(piece) => along(full, from, piece),
+        None => nowhere(from),
+    }
+}
+
+// The stretch of the block in a slot; none where the slot has no neighbour.
+fn slot_along(full: &Full<Buffer>, to: u32, slot: u32) -> Option<Stretch>
+    requires whole { IsWhole full.now }
+    requires rank { to < full.now.roll.shape.size }
+    requires between { is_neighbourly full.now.roll.sig ≡ true }
+    requires copies { reduction full.now.roll.sig ≡ None }
+    requires place { slot < places_of full.now.roll to }
+    ensures along { IfSome result (IsAlong full.now) }
+    ensures block { slice_get (value full.now to) slot ≡ Some (block_along full.now result) }
+{
+    match full.roll.shape.neighbour(to, slot) {
+        Some(from) => Some(near_along(full, from, to, slot)),
+        None => None,
     }
 }
 
@@ -138,9 +171,8 @@ pub fn stretch_at(full: &Full<Buffer>, rank: u32, place: u32) -> Option<Stretch>
     if is_gathering(&full.roll.sig) {
         return Some(all_along(full, place));
     }
-    if is_missing(&full.roll, rank, place) {
-        None
-    } else {
-        Some(copied_along(full, rank, place))
+    if full.roll.sig.is_neighbourly() {
+        return slot_along(full, rank, place);
     }
+    Some(copied_along(full, rank, place))
 }
