@@ -3,7 +3,7 @@ pub use Rattle.run_model.proofs.BookLemmas.{begins_given, book_is_sound, posts_i
 pub use Rattle.run_model.proofs.BookLemmas.{posts_in-book, sound_books_keep_the_wall}
 pub use Rattle.run_model.proofs.BufferLemmas.{after_but_for_room, instance_but_for_room}
 pub use Rattle.run_model.proofs.BufferLemmas.{posts_but_for_room, proper_but_for_room}
-pub use Rattle.run_model.proofs.BufferLemmas.{reply_but_for_room}
+pub use Rattle.run_model.proofs.BufferLemmas.{reply_but_for_room, same_value}
 pub use Rattle.run_model.proofs.CountLemmas.{fault_spared, taken}
 pub use Rattle.run_model.proofs.CountedLemmas.{accepted, comm_stays, comms_stay, no_fault_has}
 pub use Rattle.run_model.proofs.CountedLemmas.{taken_accepted, taken_at}
@@ -21,4 +21,5 @@ pub use Rattle.run_model.proofs.RunLemmas.{nobody_holds_two_rivals_in_runs}
 pub use Rattle.run_model.proofs.SettledLemmas.{IsSettled, comm_at_is, filled_at, instance_stays}
 pub use Rattle.run_model.proofs.SettledLemmas.{kth_later, settled_from, settled_none, settled_now}
 pub use Rattle.run_model.proofs.SettledLemmas.{not_full_before, settled_full, settled_other}
+pub use Rattle.run_model.proofs.SettledLemmas.{settled_stays}
 pub use Rattle.run_model.proofs.WholeLemmas.{granted_whole}
