@@ -1,5 +1,6 @@
 -- One call, from what a hall stands for to runs.
 use Rattle.std.proofs.Common.{◌≡◌, ℕ, List, [], ◌∷◌, refl, sym, ap, ◌∙◌, subst, All, length}
+use Rattle.std.proofs.Common.{Some, None, slice_get}
 use Rattle.wall_policy.specs.Policy.{ChineseWall, IsPolicy}
 use Rattle.wall_rules.specs.Histories.{History, NobodyHoldsRivals}
 use Rattle.run_model.specs.Posts.{histories}
@@ -13,16 +14,22 @@ use Rattle.run_model.proofs.RunModelLemmas.{proper_but_for_room, reply_but_for_r
 use Rattle.run_model.proofs.RunModelLemmas.{after_but_for_room}
 use Rattle.run_model.specs.Contributions.{posts_of}
 use Rattle.run_state.specs.Stands.{StandsForPosts}
+use Rattle.run_model.specs.declared.call.Act.TheVariants.{Take}
 use Rattle.run_model.specs.declared.call.Call.{Call}
+use Rattle.run_model.specs.declared.refusal.Refusal.TheVariants.{NoSuchRequest}
 use Rattle.run_model.specs.declared.reply.Reply.{Reply}
-use Rattle.run_model.specs.Runs.{Entry, effects, posts, entry, after_entry}
+use Rattle.run_model.specs.declared.reply.Reply.TheVariants.{Refused}
+use Rattle.run_model.specs.Runs.{Entry, effects, posts, entry, requests, after_entry}
 use Rattle.run_model.specs.Replies.{IsAnswer, Legal, posts_in, reply}
 use Rattle.hall_core.specs.declared.claims.Claim.{Claim}
 use Rattle.hall_core.specs.declared.claims.LeanClaim.{LeanClaim}
+use Rattle.hall_core.specs.declared.requests.Request.{Request}
 use Rattle.hall_core.specs.Claims.{HoldsWhatIsKept, Claims, LeanHoldsWhatIsKept, LeanClaims}
+use Rattle.hall_core.specs.Claims.{to_take}
+use Rattle.hall_core.proofs.TakeLemmas.{open_at, refused_due}
 use Rattle.hall_core.proofs.ClaimLemmas.{held_claims, lean_claims}
 use Rattle.hall_core.specs.Halls.{HallValue, StandsForEffects, StandsForRun, StandsFor, view_of}
-use Rattle.hall_core.specs.Asking.{requests_of}
+use Rattle.hall_core.specs.Asking.{opened, requests_of}
 use Rattle.hall_core.specs.Settling.{KeepsCount}
 use Rattle.hall_core.specs.Invariant.{IsHallValue}
 use Rattle.hall_core.specs.Moves.{Steps}
@@ -174,3 +181,25 @@ pub named : (hall : HallValue) → IsHallValue hall → All (IsKnownEntry hall.p
 named hall is = subst (All (IsKnownEntry hall.policy)) (sym is.stands.stands.book)
     (book_named hall.policy (posts_in is.stands.effects) is.policy is.stands.is_made.proper.posts
     is.stands.is_made.labels)
+
+-- ## requests
+
+-- what a request is for, of which the hall has the instance
+pub asked_in : (hall : HallValue) (run : List Entry) (p r : ℕ) (q : Request) →
+    StandsFor hall run → opened (requests_of hall.asked p) r ≡ Some q →
+    slice_get (requests p (posts run)) r ≡ Some (q.comm, q.k)
+asked_in hall run p r q stands waits =
+    let of = stands_for hall run stands in
+    ap (λ past. slice_get (requests p past) r)
+    (sym (posts_but_for_room hall.policy of.kept (effects run) of.same))
+    ∙ open_at (view_of hall) of.kept of.stands p r q waits
+
+-- a take of any other is refused
+pub refused_in : (hall : HallValue) (run : List Entry) (p r : ℕ) → StandsFor hall run →
+    opened (requests_of hall.asked p) r ≡ None →
+    reply hall.policy run (to_take p r) ≡ Refused NoSuchRequest
+unfolding reply
+refused_in hall run p r stands none =
+    let of = stands_for hall run stands in
+    sym (reply_but_for_room hall.policy of.kept (effects run) of.same p (Take r))
+    ∙ refused_due (view_of hall) of.kept of.stands p r none

@@ -1,8 +1,9 @@
 //! The hall: one call at a time.
-ghost use Rattle.std.specs.Prelude.{◌≡◌, List, [], ◌∷◌, All, IfOk};
+ghost use Rattle.std.specs.Prelude.{◌≡◌, List, [], ◌∷◌, All, IfOk, IfSome, IfNone, Some, slice_get};
 
 use crate::claims::{Claim, LeanClaim};
 use crate::records::Records;
+use crate::requests;
 use run_model::{Call, Reply};
 use run_state::Book;
 use std::alloc::Global;
@@ -46,10 +47,12 @@ impl Hall {
     ghost use Rattle.run_model.specs.Comms.{processes};
     ghost use Rattle.run_model.specs.Books.{book, posts_in, IsSound};
     ghost use Rattle.run_model.specs.PostLaws.{IsWhatIsHeld, NobodyHoldsBoth};
-    ghost use Rattle.run_model.specs.Runs.{Entry, posts, effects, entry, MakesNothing};
-    ghost use Rattle.run_model.specs.Replies.{Legal};
+    ghost use Rattle.run_model.specs.Runs.{Entry, posts, effects, entry, requests, MakesNothing};
+    ghost use Rattle.run_model.specs.Replies.{Legal, reply};
+    ghost use Rattle.run_model.specs.declared.reply.Reply.TheVariants.{Refused};
+    ghost use Rattle.run_model.specs.declared.refusal.Refusal.TheVariants.{NoSuchRequest};
     ghost use Rattle.hall_core.specs.Halls.{StandsFor, view_of};
-    ghost use Rattle.hall_core.specs.Claims.{claim_reply, claim_entry, Claims, CanFinish};
+    ghost use Rattle.hall_core.specs.Claims.{to_take, claim_reply, claim_entry, Claims, CanFinish};
     ghost use Rattle.hall_core.specs.Claims.{lean_reply, lean_entry, LeanClaims, CanTell};
     ghost use Rattle.run_model.specs.Known.{HasKnownLabel, IsKnownReply, IsKnownEntry};
 
@@ -128,6 +131,20 @@ impl Hall {
         ensures named { IsKnownReply self.new.policy (lean_reply result) }
     {
         self.records.claim_lean(process, request, true)
+    }
+
+    /// The instance that a request of a process is for: its communicator, and its number there.
+    /// None where a take of it is refused.
+    pub fn instance_of(&self, process: u32, request: u64) -> Option<(u32, u64)>
+        ensures asked { (run : List Entry) → StandsFor self.now run → IfSome result (λ at.
+            slice_get (requests process (posts run)) request ≡ Some at) }
+        ensures refused { (run : List Entry) → StandsFor self.now run → IfNone result
+            (reply self.now.policy run (to_take process request) ≡ Refused NoSuchRequest) }
+    {
+        match requests::opened_by(&self.records.requests, process, request as usize) {
+            Some(asked) => Some((asked.comm, asked.k)),
+            None => None,
+        }
     }
 
     /// The policy that the hall was opened with.
