@@ -9,3 +9,4 @@ pub mod AgainLemmas
 pub mod PlainLemmas
 pub mod LineLemmas
 pub mod SayableRowProofs
+pub mod TellingLemmas

@@ -23,7 +23,7 @@ use Rattle.hall_script.specs.Scripts.{calls_in, reply_lines, Answers, Stops, Sto
 use Rattle.hall_script.specs.Scripts.{IsReplayed, StopsWith, script_limit}
 use Rattle.hall_script.specs.Answering.{IsCall, AnswersLine, FailsLine, line_fault, behind, Told}
 use Rattle.hall_script.specs.Answering.{SoFar, no_more, fault_at, Ends, Finishes, HasFinished}
-use Rattle.hall_script.specs.Answering.{HasStopped}
+use Rattle.hall_script.specs.Answering.{HasStopped, stopped_by}
 
 module _ (wall : ChineseWall) (before now : Option (List ℕ)) (text : List ℕ) (whole rest : Script)
     (run : List Entry) (told : Told wall before now text whole rest run) where
@@ -111,20 +111,20 @@ module _ {M : Type 0} (stands : M → List Entry → Type 0) (wall : ChineseWall
     standing = subst (λ (m : M). stands m s.run) (sym a.0) s.standing;
   }
   after old new before now text later whole rest n (Ok (Some call)) x s a =
-      let c = a.1 s.run s.told.legal s.standing in
+      let c = a s.run s.told.legal s.standing in
       record {
-        run = entry call a.0 ∷ s.run;
+        run = entry call c.reply ∷ s.run;
         told = record {
-          legal = c.0;
+          legal = c.legal;
           sent = s.told.sent;
           written = s.told.written;
-          kept = ap (λ (t : List ℕ). s.told.sent ++ t) a.2
-              ∙ sym (append_assoc s.told.sent text (reply_line wall a.0))
-              ∙ ap (λ (t : List ℕ). t ++ reply_line wall a.0) s.told.kept;
+          kept = ap (λ (t : List ℕ). s.told.sent ++ t) c.text
+              ∙ sym (append_assoc s.told.sent text (reply_line wall c.reply))
+              ∙ ap (λ (t : List ℕ). t ++ reply_line wall c.reply) s.told.kept;
           left = ap (λ (cs : List Call). record { calls = cs; fault = rest.fault })
               (append_assoc (calls_in s.run) (call ∷ []) rest.calls) ∙ s.told.left;
         };
-        standing = c.1;
+        standing = c.standing;
       }
   after old new before now text later whole rest n (Err e) x s a = absurd a
 
@@ -419,3 +419,40 @@ module _ {R W M : Type 0} (stands : M → List Entry → Type 0) (wall_of : M �
       stopped stands policy source sink h.machine wall script bytes fault same is read h.went
       h.broke
       h.finishes
+
+-- ---- a machine that another is made of
+
+module _ {M N : Type 0} (part : M → N) (stands : M → List Entry → Type 0)
+    (part_stands : N → List Entry → Type 0)
+    (carries : (machine : M) (run : List Entry) → stands machine run →
+    part_stands (part machine) run)
+    (wall : ChineseWall) (before after : Option (List ℕ)) where
+  part_finishes : (machine : M) (script : Script) (r : Result (Unit {0}) ScriptFault) →
+      Finishes stands wall machine before after script r →
+      Finishes part_stands wall (part machine) before after script r
+  part_finishes machine script (Ok x) h = (h.0, h.1, carries machine h.0 h.2, h.3)
+  part_finishes machine script (Err Read) h = h
+  part_finishes machine script (Err (Line n fault)) h = h
+  part_finishes machine script (Err Write) h = h
+  part_finishes machine script (Err NoMemory) h = h
+
+  pub part_has_finished : (wall_of : N → ChineseWall) (fewer failures : ℕ) (script : Script)
+      (machine : M)
+      → HasFinished stands (λ (m : M). wall_of (part m)) wall before after fewer failures script
+      machine
+      → HasFinished part_stands wall_of wall before after fewer failures script (part machine)
+  part_has_finished wall_of fewer failures script machine h = record {
+    wall_is = h.wall_is;
+    went = h.went;
+    finishes = part_finishes machine script (Ok tt) h.finishes;
+  }
+
+  pub part_has_stopped : (fewer failures : ℕ) (script : Script) (fault : ScriptFault)
+      → HasStopped stands wall before after fewer failures script fault
+      → HasStopped part_stands wall before after fewer failures script fault
+  part_has_stopped fewer failures script fault h = record {
+    machine = part h.machine;
+    went = h.went;
+    broke = h.broke;
+    finishes = part_finishes h.machine script (stopped_by fault) h.finishes;
+  }

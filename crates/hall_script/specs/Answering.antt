@@ -21,11 +21,22 @@ Carries stands wall old new call reply =
     (run : List Entry) → Legal wall run → stands old run
     → Legal wall (entry call reply ∷ run) × stands new (entry call reply ∷ run)
 
--- a call was answered, and the line of its reply added to the text
+-- A call with this reply carries a machine from this run to that with the entry, and the line of
+-- the reply was added to the text.
+pub record IsAnswered {M : Type 0} (stands : M → List Entry → Type 0) (wall : ChineseWall)
+    (new : M) (before after : List ℕ) (call : Call) (run : List Entry) : Type 0 where
+  pub reply : Reply
+  pub legal : Legal wall (entry call reply ∷ run)
+  pub standing : stands new (entry call reply ∷ run)
+  pub text : after ≡ before ++ reply_line wall reply
+
+-- a call was answered, whatever run the machine stood for, and the line of its reply added to the
+-- text
 abbrev pub AnswersCall : {M : Type 0} → (M → List Entry → Type 0) → ChineseWall → M → M →
     (before after : List ℕ) → Call → Type 0
-AnswersCall stands wall old new before after call = (reply : Reply)
-    × Carries stands wall old new call reply × (after ≡ before ++ reply_line wall reply)
+AnswersCall stands wall old new before after call =
+    (run : List Entry) → Legal wall run → stands old run
+    → IsAnswered stands wall new before after call run
 
 -- the line says a call
 abbrev pub IsCall : Result (Option Call) LineFault → Type 0

@@ -7,3 +7,4 @@ pub mod Answering
 pub mod Filling
 pub mod Splitting
 pub mod Spellings
+pub mod Telling

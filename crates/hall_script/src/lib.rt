@@ -7,12 +7,14 @@ mod copies;
 mod device;
 mod elements;
 mod fault;
+mod kept;
 mod laws;
 mod line;
 mod machine;
 mod reply;
 mod script;
 mod split;
+mod teller;
 
 pub use coll_text::LineFault;
 pub use device::{DeviceFault, read_device};

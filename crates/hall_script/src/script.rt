@@ -5,38 +5,16 @@ ghost use Rattle.hall_core.specs.Halls.{StandsFor};
 ghost use Rattle.hall_script.specs.Devices.{used};
 ghost use Rattle.hall_script.specs.Scripts.{IsReplayed, StopsWith};
 
-use crate::answer::answered;
-use crate::copies::write_claim;
 use crate::device::{DeviceFault, read_device};
 use crate::fault::ScriptFault;
-use crate::machine::Machine;
+use crate::teller::answered_from;
 use hall_core::Hall;
-use run_model::{Call, Reply};
 use std::alloc::Global;
-use wall_labels::{NoMemory, Sink, Source};
+use wall_labels::{Sink, Source};
 use wall_policy::Policy;
 
 /// The most bytes that a script, or a policy, may have.
 pub const SCRIPT_LIMIT: usize = 16777216;
-
-impl Machine for Hall {
-    ghost stands = { StandsFor };
-
-    ghost wall = { λ h. h.policy };
-
-    fn policy(&self) -> &Policy {
-        Hall::policy(self)
-    }
-
-    fn apply(&mut self, call: Call) -> Reply {
-        Hall::apply(self, call)
-    }
-
-    fn take(&mut self, process: u32, request: u64, text: &mut Vec<u8>) -> Result<(), NoMemory> {
-        let claim = self.claim_lean(process, request);
-        write_claim(Hall::policy(self), claim, text)
-    }
-}
 
 /// Reads the whole script, and then reads, applies and answers it line by line.
 ///
@@ -64,7 +42,7 @@ pub fn replay<R: Source, W: Sink>(
         Err(DeviceFault::NoMemory) => return Err(ScriptFault::NoMemory),
     };
     match Hall::open(alloc, policy) {
-        Ok(hall) => answered(alloc, hall, &script, sink),
+        Ok(hall) => answered_from(alloc, hall, &script, sink),
         Err(_) => Err(ScriptFault::NoMemory),
     }
 }

@@ -23,28 +23,28 @@ pub returns-in-Ok-open-clause-fault : goal.returns-in-Ok-open-clause-fault
 returns-in-Ok-open-clause-fault g c =
     let source = used g.R.Source.failures g.R.Source.remaining c.args.source.now
     c.read_device.new.source in
-    let sink = used g.W.Sink.failures g.W.Sink.contents c.args.sink.now c.answered.new.sink in
+    let sink = used g.W.Sink.failures g.W.Sink.contents c.args.sink.now c.answered_from.new.sink in
     not_handed_back StandsFor (λ (h : HallValue). h.policy) c.args.policy source sink
     c.in-Ok-open.hall.policy c.in-Ok.script.items c.deref.result.now
-    c.in-Ok-open.ensures.policy c.deref.ensures.value c.in-Ok.ensures.whole c.answered.result
-    c.answered.ensures.stopped
+    c.in-Ok-open.ensures.policy c.deref.ensures.value c.in-Ok.ensures.whole c.answered_from.result
+    c.answered_from.ensures.stopped
 
 pub returns-in-Ok-open-clause-replayed : goal.returns-in-Ok-open-clause-replayed
 returns-in-Ok-open-clause-replayed g c =
     let source = used g.R.Source.failures g.R.Source.remaining c.args.source.now
     c.read_device.new.source in
-    let sink = used g.W.Sink.failures g.W.Sink.contents c.args.sink.now c.answered.new.sink in
+    let sink = used g.W.Sink.failures g.W.Sink.contents c.args.sink.now c.answered_from.new.sink in
     handed_back StandsFor (λ (h : HallValue). h.policy) c.args.policy source sink
     c.in-Ok-open.hall.policy c.in-Ok.script.items c.deref.result.now
-    c.in-Ok-open.ensures.policy c.deref.ensures.value c.in-Ok.ensures.whole c.answered.result
-    c.answered.ensures.finished
+    c.in-Ok-open.ensures.policy c.deref.ensures.value c.in-Ok.ensures.whole c.answered_from.result
+    c.answered_from.ensures.finished
 
 pub returns-in-Ok-open-clause-policy : goal.returns-in-Ok-open-clause-policy
 returns-in-Ok-open-clause-policy g c =
     let source = used g.R.Source.failures g.R.Source.remaining c.args.source.now
     c.read_device.new.source in
-    let sink = used g.W.Sink.failures g.W.Sink.contents c.args.sink.now c.answered.new.sink in
+    let sink = used g.W.Sink.failures g.W.Sink.contents c.args.sink.now c.answered_from.new.sink in
     same_policy StandsFor (λ (h : HallValue). h.policy) c.args.policy source sink
     c.in-Ok-open.hall.policy c.in-Ok.script.items c.deref.result.now
-    c.in-Ok-open.ensures.policy c.deref.ensures.value c.in-Ok.ensures.whole c.answered.result
-    c.answered.ensures.finished
+    c.in-Ok-open.ensures.policy c.deref.ensures.value c.in-Ok.ensures.whole c.answered_from.result
+    c.answered_from.ensures.finished

@@ -1,0 +1,256 @@
+-- Who is told the same.
+use Rattle.std.proofs.Common.{◌≡◌, ◌≢◌, ℕ, List, ◌∷◌, ◌++◌, Bool, true, false, cond, Option, Some}
+use Rattle.std.proofs.Common.{length, take, drop, ◌-◌, arith, slice_get, None, ◌&&◌, not, refl, sym, ap, ◌∙◌, subst, map, filter, filter_map, eqb}
+use Rattle.std.specs.Prelude.{IfSome, OnOk, Result, Ok, Err, slice_index_or}
+use Rattle.std.specs.Arc.{arc_value}
+use Rattle.std.specs.List.{cons_option, range_with_len}
+use Rattle.std.proofs.lemmas.Bool.{false≢true}
+use Rattle.std.proofs.lemmas.List.{length-append, take_all}
+use Rattle.std.proofs.Math.Seq.{drop-append_seam}
+use Rattle.wall_labels.specs.declared.op.Op.{Op}
+use Rattle.wall_policy.specs.Policy.{ChineseWall}
+use Rattle.mpi_elems.specs.Contents.{Contents}
+use Rattle.coll_routes.specs.declared.roll.Roll.{Roll}
+use Rattle.coll_routes.specs.declared.roll.Shape.{Shape}
+use Rattle.coll_routes.specs.declared.signature.Signature.{Signature}
+use Rattle.coll_routes.specs.declared.signature.Signature.TheVariants.{Bcast, Allgather, Allgatherv}
+use Rattle.coll_routes.specs.declared.signature.Signature.TheVariants.{Allreduce}
+use Rattle.coll_routes.specs.Signatures.{reduction, is_neighbourly}
+use Rattle.coll_routes.specs.Rolls.{given, goes, goes_by, places, places_by, is_missing}
+use Rattle.coll_values.specs.declared.full.Full.{Full}
+use Rattle.coll_values.specs.Instances.{element}
+use Rattle.coll_values.specs.Values.{sent, Sendings, copied, reduced, block_by, block_of, blocks}
+use Rattle.coll_values.specs.Values.{value}
+use Rattle.run_model.specs.declared.outcome.Outcome.TheVariants.{Granted}
+use Rattle.run_model.specs.Posts.{outcome_at}
+use Rattle.run_model.specs.Books.{AreCounted}
+use Rattle.run_model.specs.Contributions.{Contribution, posts_of}
+use Rattle.run_model.specs.Buffers.{SameInstanceButForRoom}
+use Rattle.run_model.specs.Runs.{Entry, contribution_in, contributions, effects, posts, requests}
+use Rattle.run_model.specs.Replies.{Legal}
+use Rattle.run_model.proofs.RunModelLemmas.{settled_stays, instance_stays, legal_proper, same_value}
+use Rattle.hall_core.specs.declared.claims.Claim.TheVariants.{Done, Ready}
+use Rattle.hall_core.specs.declared.claims.LeanClaim.{LeanClaim}
+use Rattle.hall_core.specs.declared.claims.LeanClaim.TheVariants.{Claimed, Copied}
+use Rattle.hall_core.specs.Claims.{to_take, lean_reply, lean_entry, IsClaimed, LeanClaims}
+use Rattle.hall_core.specs.Halls.{HallValue, StandsFor}
+use Rattle.hall_script.specs.declared.kept.KeptLines.{KeptLines}
+use Rattle.hall_script.specs.declared.teller.Teller.{Teller}
+use Rattle.hall_script.specs.Answering.{AnswersCall}
+use Rattle.hall_script.specs.Replies.{reply_line, reply_text}
+use Rattle.hall_script.specs.Telling.{tells_alike, IsToldAlike, told_line, instance_at, IsRight}
+use Rattle.hall_script.specs.Telling.{IsAlike, IsShown, IsClaimFor, IsClaimAt, AreRight, TellsRun}
+
+-- ## the kinds of the table
+
+abbrev unless_root : Bool → ℕ
+unless_root b = cond b 0 1
+
+not_root : (b : Bool) → unless_root b ≢ 0 → b ≡ false
+not_root false h = refl
+not_root true h = absurd (h refl)
+
+module _ (shape : Shape) (j l : ℕ) where
+  same_places : (sig : Signature) → tells_alike sig ≡ true → places_by sig shape j ≢ 0 →
+      places_by sig shape l ≢ 0 → places_by sig shape j ≡ places_by sig shape l
+  unfolding tells_alike places_by
+  same_places (Bcast r ty n) e here there =
+      ap unless_root (not_root (eqb j r) here ∙ sym (not_root (eqb l r) there))
+  same_places (Allgather ty n) e here there = refl
+  same_places (Allgatherv ty) e here there = refl
+  same_places (Allreduce op ty n) e here there = refl
+  same_places _ e here there = absurd (false≢true e)
+
+  same_journey : (sig : Signature) → tells_alike sig ≡ true → places_by sig shape j ≢ 0 →
+      places_by sig shape l ≢ 0 → (counts : List ℕ) (i x t : ℕ) →
+      goes_by sig shape counts i x j t ≡ goes_by sig shape counts i x l t
+  unfolding tells_alike places_by goes_by
+  same_journey (Bcast r ty n) e here there counts i x t =
+      ap (λ (b : Bool). eqb i r && not b && eqb t 0) (not_root (eqb j r) here ∙ sym (not_root (eqb l r) there))
+  same_journey (Allgather ty n) e here there counts i x t = refl
+  same_journey (Allgatherv ty) e here there counts i x t = refl
+  same_journey (Allreduce op ty n) e here there counts i x t = refl
+  same_journey _ e here there counts i x t = absurd (false≢true e)
+
+no_neighbours : (sig : Signature) → tells_alike sig ≡ true → is_neighbourly sig ≡ false
+unfolding tells_alike is_neighbourly
+no_neighbours (Bcast r ty n) e = refl
+no_neighbours (Allgather ty n) e = refl
+no_neighbours (Allgatherv ty) e = refl
+no_neighbours (Allreduce op ty n) e = refl
+no_neighbours _ e = absurd (false≢true e)
+
+-- ## blocks
+
+block_alike : (r : Option Op) (roll : Roll) (s u : Sendings) (j l t : ℕ) → s ≡ u →
+    is_missing roll j t ≡ is_missing roll l t → block_by r roll s j t ≡ block_by r roll u l t
+block_alike (Some op) roll s u j l t same missing = λ e. Some (reduced op roll (same e))
+block_alike None roll s u j l t same missing =
+    λ e. cond (missing e) None (Some (copied roll (same e) t))
+
+module _ (F : Full Contents) (j l : ℕ) (here : IsToldAlike F j)
+    (there : places F.roll l ≢ 0) where
+  same_sent : (i t : ℕ) → sent F i j t ≡ sent F i l t
+  unfolding sent
+  same_sent i t = λ e. filter_map (element F i)
+      (filter (λ x. same_journey F.roll.shape j l F.roll.sig here.alike here.has_place there
+      (Rattle.coll_routes.specs.Rolls.own_counts_in (Rattle.coll_routes.specs.Rolls.stated_by F.roll i)) i x t e)
+      (range_with_len 0 (given F.roll i)))
+
+  same_missing : (t : ℕ) → is_missing F.roll j t ≡ is_missing F.roll l t
+  unfolding is_missing
+  same_missing t =
+      let none = no_neighbours F.roll.sig here.alike in
+      rw none refl
+
+  same_blocks : blocks F j ≡ blocks F l
+  unfolding blocks
+  same_blocks = λ e. map
+      (λ t. block_alike (reduction F.roll.sig) F.roll (λ i t. sent F i j t) (λ i t. sent F i l t) j l t
+      (λ d i u. same_sent i u d) (same_missing t) e)
+      (range_with_len 0 (same_places F.roll.shape j l F.roll.sig here.alike here.has_place there e))
+
+  -- each that gets any gets the same
+  pub same_told : value F j ≡ value F l
+  unfolding value
+  same_told = ap (map block_of) same_blocks
+
+-- ## lines that stay right
+
+module _ (wall : ChineseWall) (c k : ℕ) (text : List ℕ) where
+  right_with : (o : Option (Contribution Contents)) (past : List (Contribution Contents)) →
+      AreCounted wall (posts_of (cons_option o past)) → IsRight wall past c k text →
+      IsRight wall (cons_option o past) c k text
+  right_with None past counted h = h
+  right_with (Some g) past counted h =
+      let same = instance_stays wall c k Granted g past h.granted in
+      record {
+        granted = settled_stays wall c k Granted g.post (posts_of past) counted.1 h.granted;
+        told = λ j place.
+            h.told j (λ none. place (ap (λ (F : Full Contents). places F.roll j) same ∙ none))
+            ∙ ap (λ (F : Full Contents). told_line (value F j)) (sym same);
+      }
+
+  -- a line stays right with one entry more
+  pub right_stays : (run : List Entry) (e : Entry) → Legal wall (e ∷ run) →
+      IsRight wall (contributions run) c k text → IsRight wall (contributions (e ∷ run)) c k text
+  right_stays run e legal h =
+      right_with (contribution_in e) (contributions run) (legal_proper wall (e ∷ run) legal).posts h
+
+-- ## instances in hand
+
+module _ (wall : ChineseWall) (past : List (Contribution Contents)) (c k : ℕ) (F : Full Contents)
+    (rank : ℕ) (same : SameInstanceButForRoom F (instance_at wall past c k)) where
+  -- a line that is right is what a rank is told that gets a block
+  pub is_told : (text : List ℕ) → places F.roll rank ≢ 0 → IsRight wall past c k text →
+      text ≡ told_line (value F rank)
+  is_told text place right =
+      right.told rank (λ none. place (ap (λ (r : Roll). places r rank) same.roll ∙ none))
+      ∙ ap told_line (sym (same_value F (instance_at wall past c k) rank same))
+
+  -- what one is told is right for all
+  pub is_right : (text : List ℕ) → IsToldAlike F rank → outcome_at wall c k (posts_of past) ≡ Some Granted →
+      text ≡ told_line (value F rank) → IsRight wall past c k text
+  is_right text alike granted e = record {
+    granted = granted;
+    told = λ j place.
+        e ∙ ap told_line (same_told F rank j alike
+        (λ none. place (ap (λ (r : Roll). places r j) (sym same.roll) ∙ none))
+        ∙ same_value F (instance_at wall past c k) j same);
+  }
+
+-- ## claims
+
+-- a line that is kept for an instance is that of each claim on it
+pub told_by_claim : (policy wall : ChineseWall) (past : List (Contribution Contents)) (c k : ℕ)
+    (claim : LeanClaim) (line : List ℕ) → IsAlike claim → IsClaimFor wall past (c, k) claim →
+    IsRight wall past c k line → line ≡ reply_line policy (lean_reply claim)
+unfolding reply_text
+told_by_claim policy wall past c k (Claimed (Done reply)) line alike for right = absurd alike
+told_by_claim policy wall past c k (Claimed (Ready full rank room)) line alike for right =
+    is_told wall past c k (arc_value full) rank for.same line alike.has_place right
+told_by_claim policy wall past c k (Copied full rank) line alike for right =
+    is_told wall past c k (arc_value full) rank for.same line alike.has_place right
+
+-- the line of a claim is right for its instance
+pub right_by_claim : (policy wall : ChineseWall) (past : List (Contribution Contents)) (c k : ℕ)
+    (claim : LeanClaim) (line : List ℕ) → IsAlike claim → IsClaimFor wall past (c, k) claim →
+    line ≡ reply_line policy (lean_reply claim) → IsRight wall past c k line
+unfolding reply_text
+right_by_claim policy wall past c k (Claimed (Done reply)) line alike for e = absurd alike
+right_by_claim policy wall past c k (Claimed (Ready full rank room)) line alike for e =
+    is_right wall past c k (arc_value full) rank for.same line alike for.granted e
+right_by_claim policy wall past c k (Copied full rank) line alike for e =
+    is_right wall past c k (arc_value full) rank for.same line alike for.granted e
+
+-- ## runs
+
+shown : (wall : ChineseWall) (run : List Entry) (p r : ℕ) (at : ℕ × ℕ) (full : Full Contents)
+    (rank : ℕ) → slice_get (requests p (posts run)) r ≡ Some at →
+    IsClaimed wall (effects run) p r full rank → IsShown wall (contributions run) at full
+shown wall run p r at full rank asked claimed =
+    let both : Some at ≡ Some (claimed.comm, claimed.k) = sym asked ∙ claimed.asked in
+    let same : (claimed.comm, claimed.k) ≡ at = cc in
+    record {
+      granted = subst (λ (it : ℕ × ℕ). outcome_at wall it.0 it.1 (posts run) ≡ Some Granted) same
+          claimed.granted;
+      same = subst (λ (it : ℕ × ℕ). SameInstanceButForRoom full
+          (instance_at wall (contributions run) it.0 it.1)) same claimed.is_full;
+    }
+
+-- a claim holds the instance that the request is for
+pub claim_at : (wall : ChineseWall) (run : List Entry) (p r : ℕ) (at : Option (ℕ × ℕ))
+    (claim : LeanClaim) →
+    IfSome at (λ it. slice_get (requests p (posts run)) r ≡ Some it) →
+    LeanClaims wall (effects run) p r claim → IsClaimAt wall (contributions run) at claim
+claim_at wall run p r None claim asked claims = tt
+claim_at wall run p r (Some at) (Claimed (Done reply)) asked claims = tt
+claim_at wall run p r (Some at) (Claimed (Ready full rank room)) asked claims =
+    shown wall run p r at (arc_value full) rank asked claims
+claim_at wall run p r (Some at) (Copied full rank) asked claims =
+    shown wall run p r at (arc_value full) rank asked claims
+
+-- lines stay right with one entry more
+pub all_stay : (wall : ChineseWall) (run : List Entry) (e : Entry) (lines : KeptLines) →
+    Legal wall (e ∷ run) → AreRight wall (contributions run) lines →
+    AreRight wall (contributions (e ∷ run)) lines
+all_stay wall run e lines legal right = λ n d low left.
+    let line = slice_index_or lines.places.items n d in
+    right_stays wall line.comm line.k line.text.items run e legal (right n d low left)
+
+-- ## tellers
+
+-- a hall that stands for an entry more, with lines that are right after it
+pub teller_after : (old new : HallValue) (lines : KeptLines) (run : List Entry) (e : Entry) →
+    new.policy ≡ old.policy → Legal new.policy (e ∷ run) × StandsFor new (e ∷ run) →
+    (Legal old.policy (e ∷ run) → AreRight old.policy (contributions (e ∷ run)) lines) →
+    Legal old.policy (e ∷ run) × TellsRun (record { hall = new; lines = lines }) (e ∷ run)
+teller_after old new lines run e same after right =
+    let legal = subst (λ (wall : ChineseWall). Legal wall (e ∷ run)) same after.0 in (
+      legal,
+      record {
+        stands = after.1;
+        right = subst (λ (wall : ChineseWall). AreRight wall (contributions (e ∷ run)) lines)
+            (sym same) (right legal);
+      },
+    )
+
+-- a take is answered, if it is for each run
+pub take_answered : {X E : Type 0} (r : Result X E) (wall : ChineseWall) (old new : Teller)
+    (before after : List ℕ) (p request : ℕ) (claim : LeanClaim) →
+    ((run : List Entry) → Legal wall run → TellsRun old run →
+    (Legal wall (lean_entry p request claim ∷ run)
+    × TellsRun new (lean_entry p request claim ∷ run))
+    × OnOk r (after ≡ before ++ reply_line wall (lean_reply claim)))
+    → OnOk r (AnswersCall TellsRun wall old new before after (to_take p request))
+take_answered (Ok x) wall old new before after p request claim h = λ run legal tells.
+    let it = h run legal tells in
+    record { reply = lean_reply claim; legal = it.0.0; standing = it.0.1; text = it.1 }
+take_answered (Err e) wall old new before after p request claim h = tt
+
+-- what stands behind a text
+pub behind : (before line now : List ℕ) (n : ℕ) → n ≡ length before → now ≡ before ++ line →
+    take (length now - n) (drop n now) ≡ line
+behind before line now n at is =
+    rw (is, at, drop-append_seam before line) (take_all (length (before ++ line) - length before)
+    line (omega (arith, length-append before line)))

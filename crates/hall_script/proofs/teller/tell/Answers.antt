@@ -1,0 +1,8 @@
+use Rattle.std.proofs.Common.{ℕ, Option, subst}
+use Rattle.hall_script.specs.Telling.{IsClaimAt}
+use Rattle.hall_script.proofs.teller.tell.Goals as goal
+
+pub returns-in-Some-clause-right : goal.returns-in-Some-clause-right
+returns-in-Some-clause-right c = λ wall past right at.
+    c.tell_alike.ensures.right wall past right
+    (subst (λ (o : Option (ℕ × ℕ)). IsClaimAt wall past o c.args.claim) c.in-Some.is at)

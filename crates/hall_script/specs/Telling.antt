@@ -1,0 +1,111 @@
+-- Lines that were told, and are told again.
+use Rattle.std.specs.Prelude.{◌≡◌, ◌≢◌, ℕ, List, ◌++◌, codes, Bool, true, false, Option, Some, All}
+use Rattle.std.specs.Prelude.{IfSome}
+use Rattle.std.specs.Arc.{arc_value}
+use Rattle.wall_policy.specs.Policy.{ChineseWall}
+use Rattle.mpi_elems.specs.Contents.{Contents}
+use Rattle.coll_routes.specs.declared.signature.Signature.{Signature}
+use Rattle.coll_routes.specs.declared.signature.Signature.TheVariants.{Bcast, Allgather, Allgatherv}
+use Rattle.coll_routes.specs.declared.signature.Signature.TheVariants.{Allreduce}
+use Rattle.coll_routes.specs.Rolls.{places}
+use Rattle.coll_values.specs.declared.full.Full.{Full}
+use Rattle.coll_values.specs.declared.delivery.Block.{Block}
+use Rattle.coll_values.specs.Values.{value}
+use Rattle.run_model.specs.declared.outcome.Outcome.TheVariants.{Granted}
+use Rattle.run_model.specs.Posts.{outcome_at}
+use Rattle.run_model.specs.Contributions.{Contribution, posts_of, full_at}
+use Rattle.run_model.specs.Buffers.{SameInstanceButForRoom}
+use Rattle.run_model.specs.Runs.{Entry, contributions}
+use Rattle.run_model.specs.Replies.{comm_at}
+use Rattle.hall_core.specs.declared.claims.Claim.TheVariants.{Done, Ready}
+use Rattle.hall_core.specs.declared.claims.LeanClaim.{LeanClaim}
+use Rattle.hall_core.specs.declared.claims.LeanClaim.TheVariants.{Claimed, Copied}
+use Rattle.hall_core.specs.Halls.{StandsFor}
+use Rattle.hall_script.specs.declared.kept.KeptLine.{KeptLine}
+use Rattle.hall_script.specs.declared.kept.KeptLines.{KeptLines}
+use Rattle.hall_script.specs.declared.teller.Teller.{Teller}
+use Rattle.hall_script.specs.Replies.{delivery_text}
+
+-- ## kinds
+
+-- Kinds that deliver the same blocks to each rank that gets any. (MPI 4.1, 6.4, 6.7, 6.9.6.)
+unfoldable pub tells_alike : Signature → Bool
+tells_alike (Bcast r ty n) = true
+tells_alike (Allgather ty n) = true
+tells_alike (Allgatherv ty) = true
+tells_alike (Allreduce op ty n) = true
+tells_alike _ = false
+
+-- rank j gets what each gets that gets any
+pub record IsToldAlike (full : Full Contents) (j : ℕ) : Type 0 where
+  pub alike : tells_alike full.roll.sig ≡ true
+  pub has_place : places full.roll j ≢ 0
+
+-- ## lines
+
+-- the line of a delivery
+abbrev pub told_line : List Block → List ℕ
+told_line blocks = delivery_text blocks ++ codes "\n"
+
+-- instance (c, k) after these contributions
+abbrev pub instance_at : ChineseWall → List (Contribution Contents) → (c k : ℕ) → Full Contents
+instance_at wall past c k = full_at (comm_at wall (posts_of past) c) c k past
+
+-- instance (c, k) was granted, and this is the line of each of its ranks that gets a block
+pub record IsRight (wall : ChineseWall) (past : List (Contribution Contents)) (c k : ℕ)
+    (text : List ℕ) : Type 0 where
+  pub granted : outcome_at wall c k (posts_of past) ≡ Some Granted
+  pub told : (j : ℕ) → places (instance_at wall past c k).roll j ≢ 0 →
+      text ≡ told_line (value (instance_at wall past c k) j)
+
+-- ## lines that are kept
+
+-- this line is kept here, for someone who is still to be told it, as that of instance (c, k)
+pub record IsKeptAs (kept : KeptLine) (c k : ℕ) (line : List ℕ) : Type 0 where
+  pub left : kept.left ≢ 0
+  pub comm : kept.comm ≡ c
+  pub number : kept.k ≡ k
+  pub text : kept.text.items ≡ line
+
+-- no line is kept here
+abbrev pub IsNothing : KeptLine → Type 0
+IsNothing kept = kept.left ≡ 0
+
+-- what is kept here is right, if anything is
+abbrev pub IsRightLine : ChineseWall → List (Contribution Contents) → KeptLine → Type 0
+IsRightLine wall past kept = kept.left ≢ 0 → IsRight wall past kept.comm kept.k kept.text.items
+
+abbrev pub AreRight : ChineseWall → List (Contribution Contents) → KeptLines → Type 0
+AreRight wall past lines = All (IsRightLine wall past) lines.places.items
+
+-- ## claims
+
+-- the claim is of a delivery, of what each gets that gets any
+abbrev pub IsAlike : LeanClaim → Type 0
+IsAlike (Claimed (Done reply)) = ⊥
+IsAlike (Claimed (Ready full rank room)) = IsToldAlike (arc_value full) rank
+IsAlike (Copied full rank) = IsToldAlike (arc_value full) rank
+
+-- this is instance `at` but for the room of buffers, and it was granted
+pub record IsShown (wall : ChineseWall) (past : List (Contribution Contents)) (at : ℕ × ℕ)
+    (full : Full Contents) : Type 0 where
+  pub granted : outcome_at wall at.0 at.1 (posts_of past) ≡ Some Granted
+  pub same : SameInstanceButForRoom full (instance_at wall past at.0 at.1)
+
+-- the claim holds that instance, if it is of a delivery
+abbrev pub IsClaimFor : ChineseWall → List (Contribution Contents) → (at : ℕ × ℕ) → LeanClaim →
+    Type 0
+IsClaimFor wall past at (Claimed (Done reply)) = Unit {0}
+IsClaimFor wall past at (Claimed (Ready full rank room)) = IsShown wall past at (arc_value full)
+IsClaimFor wall past at (Copied full rank) = IsShown wall past at (arc_value full)
+
+abbrev pub IsClaimAt : ChineseWall → List (Contribution Contents) → Option (ℕ × ℕ) → LeanClaim →
+    Type 0
+IsClaimAt wall past at claim = IfSome at (λ it. IsClaimFor wall past it claim)
+
+-- ## tellers
+
+-- the hall of a teller stands for the run, and its lines are right after it
+pub record TellsRun (teller : Teller) (run : List Entry) : Type 0 where
+  pub stands : StandsFor teller.hall run
+  pub right : AreRight teller.hall.policy (contributions run) teller.lines

@@ -1,0 +1,230 @@
+//! Answers calls from a hall, and tells the members of an instance that get the same one line.
+ghost use Rattle.std.specs.Prelude.{◌≡◌, ◌≢◌, ◌++◌, ◌<◌, ◌≤◌, List, [], length, IfOk, IfErr, OnOk};
+ghost use Rattle.std.specs.Prelude.{OnErr};
+ghost use Rattle.wall_policy.specs.Policy.{ChineseWall};
+ghost use Rattle.mpi_elems.specs.Contents.{Contents};
+ghost use Rattle.run_model.specs.Contributions.{Contribution};
+ghost use Rattle.run_model.specs.Known.{IsKnownReply};
+ghost use Rattle.hall_core.specs.Halls.{HallValue, StandsFor};
+ghost use Rattle.hall_core.specs.Claims.{CanTell, lean_reply};
+ghost use Rattle.hall_script.specs.Answering.{HasFinished, HasStopped};
+ghost use Rattle.hall_script.specs.Replies.{reply_line};
+ghost use Rattle.hall_script.specs.Scripts.{script_of};
+ghost use Rattle.hall_script.specs.Telling.{tells_alike as alike, IsToldAlike, IsAlike, AreRight};
+ghost use Rattle.hall_script.specs.Telling.{IsClaimAt, IsClaimFor, TellsRun};
+
+use crate::answer::answered;
+use crate::copies::write_claim;
+use crate::fault::ScriptFault;
+use crate::kept::KeptLines;
+use crate::machine::Machine;
+use coll_routes::{Signature, places};
+use coll_values::Full;
+use hall_core::{Claim, Hall, LeanClaim};
+use mpi_elems::Buffer;
+use run_model::{Call, Reply};
+use std::alloc::Global;
+use wall_labels::{NoMemory, Sink};
+use wall_policy::Policy;
+
+// The fewest bytes of a line that is kept.
+const FEWEST_KEPT: usize = 24;
+
+/// A hall, with lines for the members of instances that are still to be told.
+pub(crate) struct Teller {
+    hall: Hall,
+    lines: KeptLines,
+}
+
+// By hand: a derived one would take the hall apart.
+impl Drop for Teller {
+    fn drop(self) {
+        let Teller { hall, lines } = self;
+        drop(hall);
+        drop(lines);
+    }
+}
+
+impl Teller {
+    /// One with no lines.
+    pub fn new(alloc: Global, hall: Hall) -> Teller
+        ensures hall { result.hall ≡ hall }
+        ensures begins { StandsFor hall [] → TellsRun result [] }
+    {
+        Teller {
+            hall,
+            lines: KeptLines::new(alloc),
+        }
+    }
+
+    /// Its hall.
+    pub fn into_hall(self) -> Hall
+        ensures { result ≡ self.hall }
+    {
+        let Teller { hall, lines } = self;
+        drop(lines);
+        hall
+    }
+}
+
+/// Answers the lines of a script from a hall, writes their replies, and gives the hall back.
+pub(crate) fn answered_from<W: Sink>(
+    alloc: Global,
+    hall: Hall,
+    script: &[u8],
+    sink: &mut W,
+) -> Result<Hall, ScriptFault>
+    requires bounded { length script.now ≤ 16777216 }
+    requires begins { StandsFor hall [] }
+    ensures finished { let wall = hall.policy in
+        IfOk result (HasFinished StandsFor (λ (h : HallValue). h.policy) wall
+        (W.contents sink.old) (W.contents sink.new) (W.failures sink.old) (W.failures sink.new)
+        (script_of wall.dataset_names script.now)) }
+    ensures stopped { let wall = hall.policy in
+        IfErr result (HasStopped StandsFor wall (W.contents sink.old) (W.contents sink.new)
+        (W.failures sink.old) (W.failures sink.new) (script_of wall.dataset_names script.now)) }
+{
+    match answered(alloc, Teller::new(alloc, hall), script, sink) {
+        Ok(teller) => Ok(teller.into_hall()),
+        Err(fault) => Err(fault),
+    }
+}
+
+impl Machine for Teller {
+    ghost stands = { TellsRun };
+
+    ghost wall = { λ t. t.hall.policy };
+
+    fn policy(&self) -> &Policy {
+        self.hall.policy()
+    }
+
+    fn apply(&mut self, call: Call) -> Reply {
+        self.hall.apply(call)
+    }
+
+    fn take(&mut self, process: u32, request: u64, text: &mut Vec<u8>) -> Result<(), NoMemory> {
+        let at = self.hall.instance_of(process, request);
+        let claim = self.hall.claim_lean(process, request);
+        tell(&mut self.lines, self.hall.policy(), at, claim, text)
+    }
+}
+
+// Whether each rank gets the same that gets any.
+#[tactic(auto, unfolding(crate::specs::Telling::tells_alike))]
+fn tells_alike(sig: &Signature) -> bool
+    ensures { result ≡ alike sig.now }
+{
+    match sig {
+        Signature::Bcast { .. } => true,
+        Signature::Allgather { .. } => true,
+        Signature::Allgatherv { .. } => true,
+        Signature::Allreduce { .. } => true,
+        _ => false,
+    }
+}
+
+// How many other ranks may be told the same as this one.
+fn others_in(full: &Full<Buffer>, rank: u32) -> u32
+    requires { rank < full.now.roll.shape.size }
+    ensures { result ≢ 0 → IsToldAlike full.now rank }
+{
+    if tells_alike(&full.roll.sig) && places(&full.roll, rank) != 0 {
+        full.roll.shape.size - 1
+    } else {
+        0
+    }
+}
+
+// How many others may be told the same as the one who made the claim.
+fn others(claim: &LeanClaim) -> u32
+    requires { CanTell claim.now }
+    ensures { result ≢ 0 → IsAlike claim.now }
+{
+    match claim {
+        LeanClaim::Claimed(claim) => match claim {
+            Claim::Done(_) => 0,
+            Claim::Ready { full, rank, .. } => others_in(full, *rank),
+        },
+        LeanClaim::Copied { full, rank } => others_in(full, *rank),
+    }
+}
+
+// Appends a line.
+fn put_line(line: &[u8], text: &mut Vec<u8>) -> Result<(), NoMemory>
+    ensures ok { OnOk result (text.new.items ≡ text.old.items ++ line.now) }
+    ensures err { OnErr result (text.new.items ≡ text.old.items) }
+{
+    match text.extend_from_slice(line) {
+        Ok(()) => Ok(()),
+        Err(_) => Err(NoMemory),
+    }
+}
+
+// Appends the line of the reply that a claim on this instance comes to: the one that is kept, where
+// one is. Else it keeps a copy of what it writes.
+fn tell(
+    lines: &mut KeptLines,
+    policy: &Policy,
+    at: Option<(u32, u64)>,
+    claim: LeanClaim,
+    text: &mut Vec<u8>,
+) -> Result<(), NoMemory>
+    requires can { CanTell claim }
+    requires known { IsKnownReply policy.now (lean_reply claim) }
+    ensures told { (wall : ChineseWall) (past : List (Contribution Contents)) →
+        AreRight wall past lines.old → IsClaimAt wall past at claim →
+        OnOk result (text.new.items ≡ text.old.items ++ reply_line policy.now (lean_reply claim)) }
+    ensures right { (wall : ChineseWall) (past : List (Contribution Contents)) →
+        AreRight wall past lines.old → IsClaimAt wall past at claim →
+        AreRight wall past lines.new }
+    ensures err { OnErr result (text.new.items ≡ text.old.items) }
+{
+    let others = others(&claim);
+    if others == 0 {
+        return write_claim(policy, claim, text);
+    }
+    match at {
+        Some((comm, k)) => tell_alike(lines, policy, comm, k, others, claim, text),
+        None => write_claim(policy, claim, text),
+    }
+}
+
+fn tell_alike(
+    lines: &mut KeptLines,
+    policy: &Policy,
+    comm: u32,
+    k: u64,
+    others: u32,
+    claim: LeanClaim,
+    text: &mut Vec<u8>,
+) -> Result<(), NoMemory>
+    requires can { CanTell claim }
+    requires alike { IsAlike claim }
+    requires known { IsKnownReply policy.now (lean_reply claim) }
+    ensures told { (wall : ChineseWall) (past : List (Contribution Contents)) →
+        AreRight wall past lines.old → IsClaimFor wall past (comm, k) claim →
+        OnOk result (text.new.items ≡ text.old.items ++ reply_line policy.now (lean_reply claim)) }
+    ensures right { (wall : ChineseWall) (past : List (Contribution Contents)) →
+        AreRight wall past lines.old → IsClaimFor wall past (comm, k) claim →
+        AreRight wall past lines.new }
+    ensures err { OnErr result (text.new.items ≡ text.old.items) }
+{
+    match lines.find(comm, k) {
+        Some(line) => {
+            let put = put_line(line, text);
+            drop(claim);
+            lines.told(comm, k);
+            put
+        }
+        None => {
+            let len = text.len();
+            write_claim(policy, claim, text)?;
+            let line = &text[len..];
+            if FEWEST_KEPT <= line.len() {
+                lines.keep(comm, k, others, line);
+            }
+            Ok(())
+        }
+    }
+}
