@@ -1,7 +1,8 @@
 -- Digits that are read eight at a time.
-use Rattle.std.proofs.Common.{◌≡◌, ℕ, zero, suc, ◌+◌, ◌-◌, ◌*◌, ◌/◌, ◌%◌, ◌^◌, ◌<◌, ◌≤◌, true, false, [], ◌∷◌}
-use Rattle.std.proofs.Common.{◌++◌, length, get_or, take, drop, map, replicate, sym, ap, ◌∙◌, refl, take-add}
-use Rattle.std.proofs.Common.{length-drop, arith, not, ltb, eqb, cond, Fits, w8, List, Bool, subst}
+use Rattle.std.proofs.Common.{◌≡◌, ℕ, zero, suc, ◌+◌, ◌-◌, ◌*◌, ◌/◌, ◌%◌, ◌^◌, ◌<◌, ◌≤◌, Bool, true}
+use Rattle.std.proofs.Common.{false, not, ltb, eqb, cond, List, [], ◌∷◌, ◌++◌, length, get_or, take}
+use Rattle.std.proofs.Common.{drop, map, replicate, take-add, length-drop, sym, ap, ◌∙◌, refl}
+use Rattle.std.proofs.Common.{subst, arith, Fits, w8}
 use Rattle.std.specs.List.{list_all, prefix_len}
 use Rattle.std.specs.Int.Digits.{AllBelowBase, number_from_digits, number_from_digits_after}
 use Rattle.std.specs.Simd.Lanes.{number_l, digits_l, mask_l, top, zip2}
@@ -15,9 +16,10 @@ use Rattle.std.proofs.lemmas.Int.Digits.{number_lt}
 use Rattle.std.proofs.lemmas.List.Sums.{prefix_len-le-length}
 use lib.Count.{count_trailing_zeros}
 use Rattle.std.proofs.Math.Arith.{digits_lt}
-use Rattle.std.proofs.Math.Nat.{mul_assoc, pow-succ', pow-le-pow_right, mod-eq_of_lt, mul-lt-mul_of_pos_right, add-mul-mod_self_right}
+use Rattle.std.proofs.Math.Nat.{mul_assoc, pow-succ', pow-le-pow_right, mod-eq_of_lt}
+use Rattle.std.proofs.Math.Nat.{mul-lt-mul_of_pos_right, add-mul-mod_self_right}
 use Rattle.coll_text.specs.Numbers.{Word, is_digit, value_after}
-use Rattle.coll_text.specs.Eights.{less_zero, IsFront}
+use Rattle.coll_text.specs.Eights.{less_zero, IsFrontValue}
 use Rattle.coll_text.proofs.FrontLemmas.{value_after-append, digit_range}
 
 -- a value before digits counts for each of them tenfold
@@ -58,8 +60,8 @@ module _ (w : Word) (i n v e : ℕ) (near : i + n ≤ length w) where
       ∙ list_all-append is_digit (take i w) (take n (drop i w))
       ∙ and_from (list_all is_digit (take i w)) (list_all is_digit (take n (drop i w))) h k
 
-  pub front_more : IsFront w v i → list_all is_digit (take n (drop i w)) ≡ true →
-      e ≡ value_after 0 (take n (drop i w)) → e < 10 ^ n → IsFront w (e + v * 10 ^ n) (i + n)
+  pub front_more : IsFrontValue w v i → list_all is_digit (take n (drop i w)) ≡ true →
+      e ≡ value_after 0 (take n (drop i w)) → e < 10 ^ n → IsFrontValue w (e + v * 10 ^ n) (i + n)
   front_more f d k lt = record {
     within = near;
     digits = digits_on f.digits d;
@@ -67,15 +69,31 @@ module _ (w : Word) (i n v e : ℕ) (near : i + n ≤ length w) where
     small = omega (arith, small_on i n v e f.small lt);
   }
 
-pub front_fits : (v i : ℕ) → v < 10 ^ i → i ≤ 19 → v < 2 ^ 64
+front_fits : (v i : ℕ) → v < 10 ^ i → i ≤ 19 → v < 2 ^ 64
 front_fits v i lt le =
     let e : 10 ^ i ≤ 10 ^ 19 = pow-le-pow_right (omega arith) le in omega (arith, e)
 
--- ---- eight bytes less the digit 0
-eight_front : (c : ℕ) (w : Word) → c ≤ 8 →
-    take c (map less_zero (take 8 w)) ≡ map less_zero (take c w)
-eight_front c w le =
-    take-map less_zero c (take 8 w) ∙ ap (map less_zero) (take-take c 8 w le)
+module _ (i c : ℕ) (w : Word) (le : i ≤ c) (digits : list_all is_digit (take c w) ≡ true) where
+  digits_parts : (list_all is_digit (take i w) ≡ true)
+      × (list_all is_digit (take (c - i) (drop i w)) ≡ true)
+  digits_parts =
+      let all : c ≡ i + (c - i) = omega arith in
+      let e = ap (λ n. take n w) all ∙ take-add i (c - i) w in
+      and_parts (list_all is_digit (take i w)) (list_all is_digit (take (c - i) (drop i w)))
+      (sym (list_all-append is_digit (take i w) (take (c - i) (drop i w)))
+      ∙ sym (ap (list_all is_digit) e) ∙ digits)
+
+  pub digits_before : list_all is_digit (take i w) ≡ true
+  digits_before = digits_parts.0
+
+  pub digits_behind : list_all is_digit (take (c - i) (drop i w)) ≡ true
+  digits_behind = digits_parts.1
+
+-- ---- bytes less the digit 0
+less_front : (c n : ℕ) (w : Word) → c ≤ n →
+    take c (map less_zero (take n w)) ≡ map less_zero (take c w)
+less_front c n w le =
+    take-map less_zero c (take n w) ∙ ap (map less_zero) (take-take c n w le)
 
 digit_low : (b : ℕ) → b < 256 → less_zero b < 10 → is_digit b ≡ true
 digit_low b fits lt =
@@ -107,15 +125,16 @@ value_low n (b ∷ bs) h =
     ∙ value_low (n * 10 + (b - 48)) bs p.1
 
 -- ---- the first that is no digit
-abbrev pub marks_of : List ℕ → ℕ
-marks_of ys = mask_l
-    (map (top 7) (zip2 (λ a b. cond (ltb a b) 255 0) (replicate 8 9) ys)) % 2 ^ 64
+abbrev pub marks_of : ℕ → List ℕ → ℕ
+marks_of n ys = mask_l
+    (map (top 7) (zip2 (λ a b. cond (ltb a b) 255 0) (replicate n 9) ys)) % 2 ^ 64
 
-marks_are : (ys : List ℕ) → length ys ≡ 8 → marks_of ys ≡ mask_l (map (ltb 9) ys)
-marks_are ys size =
+marks_are : (n : ℕ) (ys : List ℕ) → length ys ≡ n → n ≤ 64 →
+    marks_of n ys ≡ mask_l (map (ltb 9) ys)
+marks_are n ys size le =
     let long : length (map (ltb 9) ys) ≤ 64 = omega (arith, length-map ys (ltb 9), size) in
-    ap (λ m. mask_l m % 2 ^ 64) (tops_compared w8 ltb (replicate 8 9) ys
-    ∙ zip2_splat_left ltb 9 8 ys size) ∙ mask_l-mod (map (ltb 9) ys) 64 long
+    ap (λ m. mask_l m % 2 ^ 64) (tops_compared w8 ltb (replicate n 9) ys
+    ∙ zip2_splat_left ltb 9 n ys size) ∙ mask_l-mod (map (ltb 9) ys) 64 long
 
 front_step : (s : Bool) (y : ℕ) (ys : List ℕ) → ltb 9 y ≡ s →
     AllBelowBase 10 (take (prefix_len (λ x. not (ltb 9 x)) ys) ys) →
@@ -131,36 +150,34 @@ low_front : (ys : List ℕ) → AllBelowBase 10 (take (prefix_len (λ x. not (lt
 low_front [] = tt
 low_front (y ∷ ys) = front_step (ltb 9 y) y ys refl (low_front ys)
 
-module _ (w : Word) (long : 8 ≤ length w) where
-  abbrev eight : List ℕ
-  eight = map less_zero (take 8 w)
+module _ (n : ℕ) (w : Word) (long : n ≤ length w) (lanes : n ≤ 64)
+    (fits : (k : ℕ) → Fits w8 (get_or w k 0)) where
+  abbrev less : List ℕ
+  less = map less_zero (take n w)
 
-  size : length eight ≡ 8
-  size = length-map (take 8 w) less_zero ∙ length-take-le 8 w long
+  size : length less ≡ n
+  size = length-map (take n w) less_zero ∙ length-take-le n w long
 
-  before_stop : (c : ℕ) → ((k : ℕ) → Fits w8 (get_or w k 0)) →
-      c ≡ prefix_len (λ x. not (ltb 9 x)) eight →
-      (c ≤ 8) × (list_all is_digit (take c w) ≡ true)
-  before_stop c fits e =
-      let le : c ≤ 8 = omega (arith, e, size, prefix_len-le-length (λ x. not (ltb 9 x)) eight) in
-      let low : AllBelowBase 10 (take c eight) = subst (λ k. AllBelowBase 10 (take k eight)) (sym e)
-      (low_front eight) in
-      (le, digits_low c w fits (subst (AllBelowBase 10) (eight_front c w le) low))
+  before_stop : (c : ℕ) → c ≡ prefix_len (λ x. not (ltb 9 x)) less →
+      (c ≤ n) × (list_all is_digit (take c w) ≡ true)
+  before_stop c e =
+      let le : c ≤ n = omega (arith, e, size, prefix_len-le-length (λ x. not (ltb 9 x)) less) in
+      let low : AllBelowBase 10 (take c less) = subst (λ k. AllBelowBase 10 (take k less)) (sym e)
+      (low_front less) in
+      (le, digits_low c w fits (subst (AllBelowBase 10) (less_front c n w le) low))
 
-  pub none_stops : ((k : ℕ) → Fits w8 (get_or w k 0)) → marks_of eight ≡ 0 →
-      list_all is_digit (take 8 w) ≡ true
-  none_stops fits none =
-      let e = leading_from_mask_l (ltb 9) eight (sym (marks_are eight size) ∙ none) in
-      (before_stop 8 fits (sym (e ∙ size))).1
+  pub none_stops : marks_of n less ≡ 0 → list_all is_digit (take n w) ≡ true
+  none_stops none =
+      let e = leading_from_mask_l (ltb 9) less (sym (marks_are n less size lanes) ∙ none) in
+      (before_stop n (sym (e ∙ size))).1
 
-  pub one_stops : ((k : ℕ) → Fits w8 (get_or w k 0)) → (marks_of eight ≡ 0 → ⊥) →
-      (count_trailing_zeros 64 (marks_of eight) ≤ 8)
-      × (list_all is_digit (take (count_trailing_zeros 64 (marks_of eight)) w) ≡ true)
-  one_stops fits some =
-      let m = marks_are eight size in
-      let e = trailing_mask_l (ltb 9) 64 eight (omega (arith, size)) (omega (arith, m, some)) in
-      before_stop (count_trailing_zeros 64 (marks_of eight)) fits
-      (ap (count_trailing_zeros 64) m ∙ e)
+  pub one_stops : (marks_of n less ≡ 0 → ⊥) →
+      (count_trailing_zeros 64 (marks_of n less) ≤ n)
+      × (list_all is_digit (take (count_trailing_zeros 64 (marks_of n less)) w) ≡ true)
+  one_stops some =
+      let m = marks_are n less size lanes in
+      let e = trailing_mask_l (ltb 9) 64 less (omega (arith, size)) (omega (arith, m, some)) in
+      before_stop (count_trailing_zeros 64 (marks_of n less)) (ap (count_trailing_zeros 64) m ∙ e)
 
 -- ---- a word, and its first bytes moved to its end
 word_parts : (c : ℕ) (xs : List ℕ) →
@@ -184,8 +201,8 @@ moved x low high p q m whole e lt product some same =
     ∙ ap (λ k. (x % whole * k) % whole) same ∙ sym (mul-mod x q whole) in
     let parts : x * q ≡ low * q + high * whole = ap (λ k. k * q) e
     ∙ omega (arith, ap (λ k. high * k) product) in
-    let below : low * q < whole = omega (arith, mul-lt-mul_of_pos_right {m = low} {n = p} {k = q} lt some, product)
-    in
+    let less : low * q < p * q = mul-lt-mul_of_pos_right lt some in
+    let below : low * q < whole = omega (arith, less, product) in
     other ∙ ap (λ k. k % whole) parts ∙ add-mul-mod_self_right (low * q) high whole
     ∙ mod-eq_of_lt below
 
@@ -261,14 +278,14 @@ module _ (w : Word) (c : ℕ) (room : 8 ≤ length w) (few : c ≤ 8)
       let ds = map less_zero (take 8 w) in
       let n = number_l 256 (map less_zero (take c w)) in
       let parts : number_l 256 ds ≡ n + 256 ^ c * number_l 256 (drop c ds) = word_parts c ds
-      ∙ ap (λ r. number_l 256 r + 256 ^ c * number_l 256 (drop c ds)) (eight_front c w few) in
+      ∙ ap (λ r. number_l 256 r + 256 ^ c * number_l 256 (drop c ds)) (less_front c 8 w few) in
       let below : n < 256 ^ c = subst (λ k. n < 256 ^ k) count
       (word_below (map less_zero (take c w)) low) in
       let all : c + (8 - c) ≡ 8 = omega arith in
       let whole : 256 ^ c * 256 ^ (8 - c) ≡ 2 ^ 64 = sym (pow-add 256 c (8 - c))
       ∙ ap (λ k. 256 ^ k) all in
-      let some : 256 ^ 0 ≤ 256 ^ (8 - c) = pow-le-pow_right {n = 256} (omega arith) {i = 0} {j = 8 - c}
-      (omega arith) in
+      let some : 256 ^ 0 ≤ 256 ^ (8 - c) = pow-le-pow_right {n = 256} (omega arith)
+      {i = 0} {j = 8 - c} (omega arith) in
       let at : moved_word ≡ n * 256 ^ (8 - c) = moved (number_l 256 ds) n (number_l 256 (drop c ds))
       (256 ^ c) (256 ^ (8 - c)) (get_or ups c 0) (2 ^ 64) parts below whole (omega (arith, some))
       (ups_are c few) in

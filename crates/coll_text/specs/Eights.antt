@@ -8,7 +8,7 @@ abbrev pub less_zero : ℕ → ℕ
 less_zero b = (b + 208) % 256
 
 -- the first len bytes are digits, and v is their value
-pub record IsFront (w : Word) (v len : ℕ) : Type 0 where
+pub record IsFrontValue (w : Word) (v len : ℕ) : Type 0 where
   pub within : len ≤ length w
   pub digits : list_all is_digit (take len w) ≡ true
   pub value : v ≡ value_after 0 (take len w)

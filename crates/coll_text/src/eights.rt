@@ -5,7 +5,7 @@ ghost use Rattle.std.specs.List.{list_all};
 ghost use Rattle.std.specs.Int.Digits.{number_from_digits, AllBelowBase};
 ghost use Rattle.std.specs.Simd.Lanes.{number_l, digits_l};
 ghost use Rattle.coll_text.specs.Numbers.{is_digit, value_after};
-ghost use Rattle.coll_text.specs.Eights.{less_zero, IsFront};
+ghost use Rattle.coll_text.specs.Eights.{less_zero, IsFrontValue};
 
 use crate::numbers::is_digit_byte;
 use std::simd::prelude::*;
@@ -51,7 +51,16 @@ fn eight_of(text: &[u8]) -> u8x8
     u8x8::from_slice(text) - u8x8::splat(b'0')
 }
 
-// The place of the first of them that is no digit.
+// The same of twice as many.
+#[inline(always)]
+fn sixteen_of(text: &[u8]) -> u8x16
+    requires { 16 ≤ length text.now }
+    ensures { result ≡ map less_zero (take 16 text.now) }
+{
+    u8x16::from_slice(text) - u8x16::splat(b'0')
+}
+
+// The place of the first of eight bytes that is no digit.
 #[inline(always)]
 fn stop_of(text: &[u8]) -> Option<usize>
     requires { 8 ≤ length text.now }
@@ -66,7 +75,7 @@ fn stop_of(text: &[u8]) -> Option<usize>
     Some(marks.trailing_zeros() as usize)
 }
 
-// These bytes as the digits of a number in base 256, the first the lowest.
+// The first eight bytes as the digits of a number in base 256, the first the lowest.
 #[inline(always)]
 fn word_of(text: &[u8]) -> u64
     requires { 8 ≤ length text.now }
@@ -108,22 +117,52 @@ fn value_of_few(text: &[u8], count: usize) -> u64
 // The value with so many digits more, from the eight bytes behind those that were read.
 #[inline(always)]
 fn with_more(text: &[u8], value: u64, len: usize, count: usize) -> u64
-    requires front { IsFront text.now value len }
+    requires front { IsFrontValue text.now value len }
     requires within { len + 8 ≤ length text.now }
     requires few { (count ≤ 8) × (len + count ≤ 19) }
     requires digits { list_all is_digit (take count (drop len text.now)) ≡ true }
-    ensures { IsFront text.now result (len + count) }
+    ensures { IsFrontValue text.now result (len + count) }
 {
     let (_, rest) = text.split_at(len);
     value_of_few(rest, count) + value * TENS[count]
 }
 
+// How many of the first sixteen bytes are digits, before one that is none.
+#[inline(always)]
+fn digits_in(text: &[u8]) -> usize
+    requires { 16 ≤ length text.now }
+    ensures few { result ≤ 16 }
+    ensures digits { list_all is_digit (take result text.now) ≡ true }
+{
+    let marks = sixteen_of(text).simd_gt(u8x16::splat(9)).to_bitmask();
+    if marks == 0 {
+        return 2 * STEP;
+    }
+    marks.trailing_zeros() as usize
+}
+
+// The digits among the first sixteen bytes. One branch depends on how many they are: whether they
+// are eight or more.
+#[inline(always)]
+fn front_sixteen(text: &[u8]) -> (u64, usize)
+    requires { 16 ≤ length text.now }
+    ensures front { IsFrontValue text.now result.0 result.1 }
+    ensures few { result.1 ≤ 16 }
+{
+    let count = digits_in(text);
+    if count < STEP {
+        return (with_more(text, 0, 0, count), count);
+    }
+    let eight = with_more(text, 0, 0, STEP);
+    (with_more(text, eight, STEP, count - STEP), count)
+}
+
 /// Goes on digit by digit.
 #[inline(always)]
 pub(crate) fn one_by_one(text: &[u8], value: u64, len: usize) -> (u64, usize)
-    requires front { IsFront text.now value len }
+    requires front { IsFrontValue text.now value len }
     requires few { len ≤ 19 }
-    ensures { IsFront text.now result.0 result.1 }
+    ensures { IsFrontValue text.now result.0 result.1 }
 {
     let most = text.len().min(DIGITS);
     let mut value = value;
@@ -148,6 +187,14 @@ pub(crate) fn front_digits(text: &[u8]) -> (u64, usize)
 {
     let mut value = 0;
     let mut len = 0;
+    if text.len() >= 2 * STEP {
+        let front = front_sixteen(text);
+        if front.1 < 2 * STEP {
+            return front;
+        }
+        value = front.0;
+        len = front.1;
+    }
     while text.len() - len >= STEP {
         let (_, rest) = text.split_at(len);
         if let Some(count) = stop_of(rest) {

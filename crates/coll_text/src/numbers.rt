@@ -12,7 +12,7 @@ pub(crate) fn is_digit_byte(byte: u8) -> bool
     byte.is_ascii_digit()
 }
 
-pub(crate) fn are_digits(bytes: &[u8]) -> bool
+fn are_digits(bytes: &[u8]) -> bool
     ensures { result ≡ list_all is_digit bytes.now }
 {
     let mut are_all = true;

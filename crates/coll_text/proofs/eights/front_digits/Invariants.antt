@@ -1,10 +1,10 @@
 use Rattle.std.proofs.Common.{◌≤◌, ◌-◌, length}
-use Rattle.coll_text.specs.Eights.{IsFront}
+use Rattle.coll_text.specs.Eights.{IsFrontValue}
 use Rattle.coll_text.proofs.eights.front_digits.Given as goal
 
 abbrev pub invariant-loop-len : goal.invariant-loop-len
 invariant-loop-len l = record {
-  front : IsFront l.text l.value l.len;
+  front : IsFrontValue l.text l.value l.len;
   few : l.len ≤ 16;
 }
 

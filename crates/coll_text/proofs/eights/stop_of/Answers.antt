@@ -1,17 +1,20 @@
+use Rattle.std.proofs.Common.{arith}
 use Rattle.coll_text.proofs.StepLemmas.{none_stops, one_stops}
 use Rattle.coll_text.proofs.eights.stop_of.Goals as goal
 
 pub returns-then-marks-eq0-clause-digits : goal.returns-then-marks-eq0-clause-digits
 returns-then-marks-eq0-clause-digits c =
     let none = rw c.eight_of.ensures at c.if-marks-eq0.true in
-    none_stops c.args.text.now c.requires c.type_inv.text none
+    none_stops 8 c.args.text.now c.requires (omega arith) c.type_inv.text none
 
 pub returns-clause-few : goal.returns-clause-few
 returns-clause-few c =
     let some = rw c.eight_of.ensures at c.if-marks-eq0.false in
-    rw c.eight_of.ensures (one_stops c.args.text.now c.requires c.type_inv.text some).0
+    let stop = one_stops 8 c.args.text.now c.requires (omega arith) c.type_inv.text some in
+    rw c.eight_of.ensures stop.0
 
 pub returns-clause-digits : goal.returns-clause-digits
 returns-clause-digits c =
     let some = rw c.eight_of.ensures at c.if-marks-eq0.false in
-    rw c.eight_of.ensures (one_stops c.args.text.now c.requires c.type_inv.text some).1
+    let stop = one_stops 8 c.args.text.now c.requires (omega arith) c.type_inv.text some in
+    rw c.eight_of.ensures stop.1

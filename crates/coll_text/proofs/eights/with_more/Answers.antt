@@ -1,6 +1,6 @@
 use Rattle.std.proofs.Common.{◌≡◌, ℕ, ◌+◌, ◌*◌, take, drop, arith, subst, sym}
 use Rattle.coll_text.specs.Numbers.{value_after}
-use Rattle.coll_text.specs.Eights.{IsFront}
+use Rattle.coll_text.specs.Eights.{IsFrontValue}
 use Rattle.coll_text.proofs.StepLemmas.{front_more, table_fits, tens_is}
 use Rattle.coll_text.proofs.eights.with_more.Goals as goal
 
@@ -23,5 +23,5 @@ returns c =
     rw (← c.split_at.ensures.back) c.value_of_few.ensures.value in
     let front = front_more text c.args.len c.args.count c.args.value c.value_of_few.result
     (omega arith) c.requires.front c.requires.digits value c.value_of_few.ensures.small in
-    subst (λ (k : ℕ). IsFront text (c.value_of_few.result + c.args.value * k)
+    subst (λ (k : ℕ). IsFrontValue text (c.value_of_few.result + c.args.value * k)
     (c.args.len + c.args.count)) (sym (tens_is c.args.count c.requires.few.0)) front
