@@ -1,5 +1,6 @@
 -- What a claim holds, from the hall to its runs.
-use Rattle.std.proofs.Common.{◌≡◌, ℕ, List, Some, slice_get, ap, ◌∙◌, subst}
+use Rattle.std.proofs.Common.{◌≡◌, ℕ, List, Some, slice_get, sym, ap, ◌∙◌, subst}
+use Rattle.std.specs.Prelude.{unwrap_or}
 use Rattle.std.specs.Arc.{arc_value}
 use Rattle.mpi_elems.specs.Contents.{Contents}
 use Rattle.coll_values.specs.declared.full.Full.{Full}
@@ -8,7 +9,9 @@ use Rattle.run_model.specs.Posts.{Post, outcome_at}
 use Rattle.run_model.specs.Contributions.{full_at}
 use Rattle.run_model.specs.Runs.{Effects, requests}
 use Rattle.run_model.specs.Buffers.{SameInstanceButForRoom, SameButForRoom}
-use Rattle.run_model.specs.Replies.{posts_in, comm_at}
+use Rattle.coll_values.specs.Values.{value}
+use Rattle.run_model.specs.declared.reply.Reply.TheVariants.{Delivered}
+use Rattle.run_model.specs.Replies.{posts_in, comm_at, reply_by_outcome}
 use Rattle.run_model.proofs.RunModelLemmas.{posts_but_for_room, instance_but_for_room}
 use Rattle.hall_core.specs.declared.claims.Claim.{Claim}
 use Rattle.hall_core.specs.declared.claims.Claim.TheVariants.{Done, Ready}
@@ -19,10 +22,11 @@ use Rattle.hall_core.specs.Halls.{HallView, StandsForEffects, settlement}
 use Rattle.hall_core.specs.declared.claims.LeanClaim.{LeanClaim}
 use Rattle.hall_core.specs.declared.claims.LeanClaim.TheVariants.{Claimed, Copied}
 use Rattle.hall_core.specs.Claims.{IsClaimOn, HoldsWhatIsKept, Claims, IsClaimed, IsHeld, IsShare}
-use Rattle.hall_core.specs.Claims.{IsLeanClaimOn, LeanHoldsWhatIsKept, LeanClaims}
-use Rattle.hall_core.proofs.TakeLemmas.{open_at, known_as}
+use Rattle.hall_core.specs.Claims.{IsLeanClaimOn, LeanHoldsWhatIsKept, LeanClaims, IsServed}
+use Rattle.hall_core.specs.Moves.{Closes, TakesUnread}
+use Rattle.hall_core.proofs.TakeLemmas.{open_at, known_as, taken_steps}
 
-share_held : (hall : HallView) (p r : ℕ) (q : Request) (s : Settlement) (full : Full Contents)
+pub share_held : (hall : HallView) (p r : ℕ) (q : Request) (s : Settlement) (full : Full Contents)
     (rank : ℕ) → opened (hall.asked p) r ≡ Some q → hall.settled q.comm q.k ≡ Some s
     → IsShare s p full rank → IsHeld hall p r full rank
 share_held hall p r q s full rank waits there of = record {
@@ -47,7 +51,7 @@ lean_held hall p r q s (Copied full rank) waits there of =
     share_held hall p r q s (arc_value full) rank waits there of
 
 -- what stands in the hall is what the run has made, but for the room of buffers
-share_claimed : (hall : HallView) (kept m : Effects) → StandsForEffects hall kept →
+pub share_claimed : (hall : HallView) (kept m : Effects) → StandsForEffects hall kept →
     SameButForRoom kept m → (p r : ℕ) (full : Full Contents) (rank : ℕ) →
     IsHeld hall p r full rank → IsClaimed hall.policy m p r full rank
 share_claimed hall kept m stands same p r full rank held =
@@ -83,3 +87,17 @@ lean_claims hall kept m stands same p r (Claimed claim) held =
     held_claims hall kept m stands same p r claim held
 lean_claims hall kept m stands same p r (Copied full rank) held =
     share_claimed hall kept m stands same p r (arc_value full) rank held
+
+-- ## takes of what is known
+
+pub served : (old new : HallView) (p r rank : ℕ) (q : Request) (s : Settlement) →
+    opened (old.asked p) r ≡ Some q → old.settled q.comm q.k ≡ Some s → IsServed s p rank →
+    Closes old new p r → TakesUnread old new p r rank
+served old new p r rank q s waits there is closes = record {
+  full = s.full;
+  held = share_held old p r q s s.full rank waits there is.share;
+  place = is.place;
+  steps = taken_steps old new p r q s (Delivered (value s.full rank)) waits there
+      (sym (ap (λ (t : Settlement). reply_by_outcome p s.full (Some t.outcome)) is.share.granted
+      ∙ ap (λ o. Delivered (value s.full (unwrap_or o 0))) is.share.is_member)) closes;
+}

@@ -1,9 +1,10 @@
 -- Claims: takes that leave the filling to their caller.
-use Rattle.std.specs.Prelude.{◌≡◌, ℕ, ◌<◌, Some, None, slice_get}
+use Rattle.std.specs.Prelude.{◌≡◌, ◌≢◌, ℕ, ◌<◌, List, ◌∷◌, Some, None, slice_get}
 use Rattle.std.specs.Arc.{arc_value}
 use Rattle.wall_policy.specs.Policy.{ChineseWall}
 use Rattle.mpi_elems.specs.Contents.{Contents}
 use Rattle.mpi_group.specs.Groups.{rank_in}
+use Rattle.coll_routes.specs.Rolls.{places}
 use Rattle.coll_routes.specs.Signatures.{reduction}
 use Rattle.coll_values.specs.declared.full.Full.{Full}
 use Rattle.coll_values.specs.Instances.{IsWhole}
@@ -19,9 +20,9 @@ use Rattle.run_model.specs.declared.reply.Reply.{Reply}
 use Rattle.run_model.specs.declared.reply.Reply.TheVariants.{Posted, Barred, Pending, Delivered}
 use Rattle.run_model.specs.declared.reply.Reply.TheVariants.{NewComm, NullComm, Denied, NoRoom}
 use Rattle.run_model.specs.declared.reply.Reply.TheVariants.{Info, Refused}
-use Rattle.run_model.specs.Runs.{Entry, Effects, requests, entry}
+use Rattle.run_model.specs.Runs.{Entry, Effects, effects, requests, entry}
 use Rattle.run_model.specs.Buffers.{SameInstanceButForRoom}
-use Rattle.run_model.specs.Replies.{posts_in, comm_at}
+use Rattle.run_model.specs.Replies.{posts_in, comm_at, Legal}
 use Rattle.hall_core.specs.declared.claims.Claim.{Claim}
 use Rattle.hall_core.specs.declared.claims.Claim.TheVariants.{Done, Ready}
 use Rattle.hall_core.specs.declared.claims.LeanClaim.{LeanClaim}
@@ -29,7 +30,7 @@ use Rattle.hall_core.specs.declared.claims.LeanClaim.TheVariants.{Claimed, Copie
 use Rattle.hall_core.specs.declared.requests.Request.{Request}
 use Rattle.hall_core.specs.declared.settled.Settlement.{Settlement}
 use Rattle.hall_core.specs.Asking.{opened}
-use Rattle.hall_core.specs.Halls.{HallView, settlement}
+use Rattle.hall_core.specs.Halls.{HallValue, HallView, StandsFor, settlement}
 
 -- the call of a take
 abbrev pub to_take : (p request : ℕ) → Call
@@ -155,3 +156,21 @@ abbrev pub LeanHoldsWhatIsKept : HallView → (p request : ℕ) → LeanClaim �
 LeanHoldsWhatIsKept hall p request (Claimed claim) = HoldsWhatIsKept hall p request claim
 LeanHoldsWhatIsKept hall p request (Copied shared rank) =
     IsHeld hall p request (arc_value shared) rank
+
+-- ## takes of what is known
+
+-- the instance was granted, p has this rank in it and gets a block
+pub record IsServed (s : Settlement) (p rank : ℕ) : Type 0 where
+  pub share : IsShare s p s.full rank
+  pub place : places s.full.roll rank ≢ 0
+
+-- The request of p is for an instance that was granted, as the run has it, in which p has this rank
+-- and gets a block. The run goes on legally with a take that is delivered that, and the hall then
+-- stands for it.
+pub record IsTakenUnread (old new : HallValue) (p request rank : ℕ) (run : List Entry) : Type 0
+  where
+    pub full : Full Contents
+    pub claimed : IsClaimed old.policy (effects run) p request full rank
+    pub place : places full.roll rank ≢ 0
+    pub legal : Legal new.policy (entry (to_take p request) (Delivered (value full rank)) ∷ run)
+    pub stands : StandsFor new (entry (to_take p request) (Delivered (value full rank)) ∷ run)

@@ -1,9 +1,12 @@
 -- What a call makes of a hall, by what callers can tell. (The contracts of the hall's own steps.)
-use Rattle.std.specs.Prelude.{◌≡◌, ◌==◌, ◌&&◌, ◌+◌, ◌≤◌, ◌<◌, ◌^◌, ℕ, List, [], ◌∷◌, ◌++◌, Option}
+use Rattle.std.specs.Prelude.{◌≡◌, ◌≢◌, ◌==◌, ◌&&◌, ◌+◌, ◌≤◌, ◌<◌, ◌^◌, ℕ, List, [], ◌∷◌, ◌++◌, Option}
 use Rattle.std.specs.Prelude.{Some, length, slice_get, take, drop, nat_lt, if◌then◌else◌}
 use Rattle.mpi_elems.specs.Contents.{Contents}
 use Rattle.coll_routes.specs.declared.statement.Stated.{Stated}
+use Rattle.coll_routes.specs.Rolls.{places}
+use Rattle.coll_values.specs.declared.full.Full.{Full}
 use Rattle.coll_values.specs.Instances.{IsWhole}
+use Rattle.coll_values.specs.Values.{value}
 use Rattle.run_model.specs.declared.outcome.Outcome.TheVariants.{Granted, Made}
 use Rattle.run_model.specs.declared.entry.Entry.{Entry as BookEntry}
 use Rattle.run_model.specs.declared.entry.Entry.TheVariants.{Posted as EntryPosted}
@@ -13,13 +16,15 @@ use Rattle.run_model.specs.Comms.{Comm, processes, new_comms}
 use Rattle.run_state.specs.declared.entered.Entered.{Entered}
 use Rattle.run_state.specs.declared.entered.Entered.TheVariants.{Waiting, Settled}
 use Rattle.run_model.specs.declared.call.Act.{Act}
+use Rattle.run_model.specs.declared.call.Act.TheVariants.{Take}
 use Rattle.run_model.specs.declared.reply.Reply.{Reply}
-use Rattle.run_model.specs.declared.reply.Reply.TheVariants.{Refused}
+use Rattle.run_model.specs.declared.reply.Reply.TheVariants.{Delivered, Refused}
 use Rattle.run_model.specs.Runs.{after_entry, with_contribution, Effects}
 use Rattle.run_model.specs.Replies.{info_on, reply_by, IsAnswer, posts_in}
 use Rattle.hall_core.specs.declared.settled.Settlement.{Settlement}
 use Rattle.hall_core.specs.declared.requests.Request.{Request}
 use Rattle.hall_core.specs.Asking.{opened, room_of, requests_of, with_request, with_closed}
+use Rattle.hall_core.specs.Claims.{IsHeld}
 use Rattle.hall_core.specs.Halls.{HallView, StandsForEffects, settlement}
 use Rattle.run_model.specs.Proper.{IsProper}
 use Rattle.run_model.specs.Books.{IsCounted}
@@ -108,3 +113,10 @@ Steps old new p act got = (m : Effects) → IsProper old.policy m → StandsForE
     IsAnswer (reply_by old.policy m p act) got
     × StandsForEffects new
     (after_entry m (record { call = record { process = p; act = act }; reply = got }))
+
+-- a take of p that is delivered what it gets at this rank of an instance that stands in the hall
+pub record TakesUnread (old new : HallView) (p request rank : ℕ) : Type 0 where
+  pub full : Full Contents
+  pub held : IsHeld old p request full rank
+  pub place : places full.roll rank ≢ 0
+  pub steps : Steps old new p (Take request) (Delivered (value full rank))

@@ -54,6 +54,7 @@ impl Hall {
     ghost use Rattle.hall_core.specs.Halls.{StandsFor, view_of};
     ghost use Rattle.hall_core.specs.Claims.{to_take, claim_reply, claim_entry, Claims, CanFinish};
     ghost use Rattle.hall_core.specs.Claims.{lean_reply, lean_entry, LeanClaims, CanTell};
+    ghost use Rattle.hall_core.specs.Claims.{IsTakenUnread};
     ghost use Rattle.run_model.specs.Known.{HasKnownLabel, IsKnownReply, IsKnownEntry};
 
     /// A hall that stands for the empty run. `NoMemory` is answered only where a growth was
@@ -131,6 +132,18 @@ impl Hall {
         ensures named { IsKnownReply self.new.policy (lean_reply result) }
     {
         self.records.claim_lean(process, request, true)
+    }
+
+    /// A take for who knows already what is delivered: where the instance was granted and the
+    /// process gets a block of it, the request is marked as taken, and the process's rank there is
+    /// the answer. Else nothing changes. Takes no memory.
+    pub fn take_unread(&mut self, process: u32, request: u64) -> Option<u32>
+        ensures policy { self.new.policy ≡ self.old.policy }
+        ensures taken { IfSome result (λ rank. (run : List Entry) → Legal self.old.policy run →
+            StandsFor self.old run → IsTakenUnread self.old self.new process request rank run) }
+        ensures unchanged { IfNone result (self.new ≡ self.old) }
+    {
+        self.records.take_unread(process, request)
     }
 
     /// The instance that a request of a process is for: its communicator, and its number there.

@@ -1,7 +1,7 @@
 //! All that a hall keeps.
 ghost use Rattle.std.specs.Prelude.{◌≡◌, ◌<◌, ◌+◌, ◌^◌, ◌++◌, ◌==◌, ◌&&◌, if◌then◌else◌, [], ◌∷◌};
 ghost use Rattle.std.specs.Prelude.{ℕ, length, not, IfOk, OnOk, IfNone, IsTrue, IsFalse, Some};
-ghost use Rattle.std.specs.Prelude.{None};
+ghost use Rattle.std.specs.Prelude.{None, IfSome};
 ghost use Rattle.std.specs.Option.{is_some, option_map};
 ghost use Rattle.wall_policy.specs.Policy.{IsPolicy};
 ghost use Rattle.wall_rules.specs.Histories.{has};
@@ -25,13 +25,13 @@ ghost use Rattle.hall_core.specs.Settling.{HasPlace, open_at, settlement_at};
 ghost use Rattle.hall_core.specs.Halls.{StandsForEffects};
 ghost use Rattle.hall_core.specs.Invariant.{AreCounted, IsHallView, view_in};
 ghost use Rattle.hall_core.specs.Moves.{info_of, number_in, IsRecorded, HasRoom, Counts, Closes};
-ghost use Rattle.hall_core.specs.Moves.{Steps};
+ghost use Rattle.hall_core.specs.Moves.{Steps, TakesUnread};
 
 use crate::claims::{Claim, LeanClaim, finish};
 use crate::instance::Instance;
 use crate::requests::{Request, Requests};
 use crate::settled::{Settlement, Settlements};
-use crate::takes::claimed;
+use crate::takes::{claimed, rank_served};
 use crate::{posts, requests};
 use coll_routes::{Shape, Stated};
 use mpi_elems::Buffer;
@@ -197,6 +197,36 @@ impl Records {
             return LeanClaim::Claimed(Claim::Done(Reply::Pending));
         }
         self.claim_of(process, request, asked, lean)
+    }
+
+    /// Takes an open request without a look at what is delivered, where its instance was granted
+    /// and the process gets a block of it.
+    pub fn take_unread(&mut self, process: u32, request: u64) -> Option<u32>
+        requires policy { IsPolicy self.old.policy }
+        requires each { length self.old.requests.items ≡ processes self.old.policy }
+        requires counted { AreCounted self.old }
+        ensures policy { self.new.policy ≡ self.old.policy }
+        ensures each { length self.new.requests.items ≡ length self.old.requests.items }
+        ensures counted { AreCounted self.new }
+        ensures taken { IfSome result (λ rank.
+            TakesUnread (view_in self.old) (view_in self.new) process request rank) }
+        ensures unchanged { IfNone result (self.new ≡ self.old) }
+    {
+        let number = request as usize;
+        let Some(asked) = requests::opened_by(&self.requests, process, number) else {
+            return None;
+        };
+        let Some(settlement) = self.settled.get(asked.comm, asked.k) else {
+            return None;
+        };
+        let member = posts::member(process);
+        match rank_served(settlement, member) {
+            Some(rank) => {
+                self.close(process, number, asked);
+                Some(rank)
+            }
+            None => None,
+        }
     }
 
     // Shares an instance, where it was granted and there is memory, and says whether it was filled

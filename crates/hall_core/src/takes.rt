@@ -1,16 +1,20 @@
 //! What claims on instances that were filled come to.
 ghost use Rattle.std.specs.Prelude.{◌≡◌, ◌≢◌, ◌≤◌, ◌+◌, length, IfOk, IsErr, IsFalse, Some, None};
+ghost use Rattle.std.specs.Prelude.{IfSome};
+ghost use Rattle.coll_routes.specs.Rolls.{places as places_of};
 ghost use Rattle.coll_values.specs.Instances.{IsWhole};
 ghost use Rattle.mpi_group.specs.Groups.{rank_in};
 ghost use Rattle.run_model.specs.declared.outcome.Outcome.TheVariants.{Granted, Made};
 ghost use Rattle.run_model.specs.Replies.{joined, reply_by_outcome};
 ghost use Rattle.hall_core.specs.Claims.{lean_reply, CanTell, IsNoDelivery, IsLeanClaimOn};
-ghost use Rattle.hall_core.specs.Claims.{IsUsual};
+ghost use Rattle.hall_core.specs.Claims.{IsUsual, IsServed};
 ghost use Rattle.hall_core.specs.Moves.{IsTellable, row_at};
 
 use crate::claims::{Claim, LeanClaim};
+use crate::instance::Form;
 use crate::settled::Settlement;
-use coll_values::room;
+use coll_routes::places;
+use coll_values::{Full, room};
 use mpi_elems::Buffer;
 use run_model::{Outcome, Reply};
 use run_state::PostState;
@@ -85,6 +89,46 @@ fn ready(
     }
     let room = room(alloc, &full, rank)?;
     Ok(LeanClaim::Claimed(Claim::Ready { full, rank, room }))
+}
+
+/// The rank of a member in an instance that was filled, where that was granted and the member gets a
+/// block of it.
+pub fn rank_served(settlement: &Settlement, member: ProcessId) -> Option<u32>
+    ensures { IfSome result (λ rank. IsServed settlement.now member rank) }
+{
+    if matches!(&settlement.outcome, Outcome::Granted) {
+        rank_granted(settlement, member)
+    } else {
+        None
+    }
+}
+
+// The same of one that was granted.
+fn rank_granted(settlement: &Settlement, member: ProcessId) -> Option<u32>
+    requires { settlement.now.outcome ≡ Granted }
+    ensures { IfSome result (λ rank. IsServed settlement.now member rank) }
+{
+    match settlement.full.form() {
+        Form::Plain(full) => rank_with_place(full, member),
+        Form::Shared(shared) => rank_with_place(shared, member),
+    }
+}
+
+// The rank of a member, where it gets a block.
+fn rank_with_place(full: &Full<Buffer>, member: ProcessId) -> Option<u32>
+    ensures member { IfSome result (λ rank. rank_in full.now.roll.members member ≡ Some rank) }
+    ensures place { IfSome result (λ rank. places_of full.now.roll rank ≢ 0) }
+{
+    match full.roll.members.rank_of(member) {
+        Some(rank) => {
+            if places(&full.roll, rank) == 0 {
+                None
+            } else {
+                Some(rank)
+            }
+        }
+        None => None,
+    }
 }
 
 // The new communicator that the process is in, of so many from this number on.

@@ -26,17 +26,19 @@ use Rattle.run_model.specs.Posts.{outcome_at}
 use Rattle.run_model.specs.Books.{AreCounted}
 use Rattle.run_model.specs.Contributions.{Contribution, posts_of}
 use Rattle.run_model.specs.Buffers.{SameInstanceButForRoom}
-use Rattle.run_model.specs.Runs.{Entry, contribution_in, contributions, effects, posts, requests}
+use Rattle.run_model.specs.Runs.{Entry, contribution_in, contributions, effects, entry, posts, requests}
+use Rattle.run_model.specs.declared.reply.Reply.TheVariants.{Delivered}
 use Rattle.run_model.specs.Replies.{Legal}
 use Rattle.run_model.proofs.RunModelLemmas.{settled_stays, instance_stays, legal_proper, same_value}
 use Rattle.hall_core.specs.declared.claims.Claim.TheVariants.{Done, Ready}
 use Rattle.hall_core.specs.declared.claims.LeanClaim.{LeanClaim}
 use Rattle.hall_core.specs.declared.claims.LeanClaim.TheVariants.{Claimed, Copied}
 use Rattle.hall_core.specs.Claims.{to_take, lean_reply, lean_entry, IsClaimed, LeanClaims}
+use Rattle.hall_core.specs.Claims.{IsTakenUnread}
 use Rattle.hall_core.specs.Halls.{HallValue, StandsFor}
 use Rattle.hall_script.specs.declared.kept.KeptLines.{KeptLines}
 use Rattle.hall_script.specs.declared.teller.Teller.{Teller}
-use Rattle.hall_script.specs.Answering.{AnswersCall}
+use Rattle.hall_script.specs.Answering.{AnswersCall, IsAnswered}
 use Rattle.hall_script.specs.Replies.{reply_line, reply_text}
 use Rattle.hall_script.specs.Telling.{tells_alike, IsToldAlike, told_line, instance_at, IsRight}
 use Rattle.hall_script.specs.Telling.{IsAlike, IsShown, IsClaimFor, IsClaimAt, AreRight, TellsRun}
@@ -161,17 +163,6 @@ module _ (wall : ChineseWall) (past : List (Contribution Contents)) (c k : ℕ) 
 
 -- ## claims
 
--- a line that is kept for an instance is that of each claim on it
-pub told_by_claim : (policy wall : ChineseWall) (past : List (Contribution Contents)) (c k : ℕ)
-    (claim : LeanClaim) (line : List ℕ) → IsAlike claim → IsClaimFor wall past (c, k) claim →
-    IsRight wall past c k line → line ≡ reply_line policy (lean_reply claim)
-unfolding reply_text
-told_by_claim policy wall past c k (Claimed (Done reply)) line alike for right = absurd alike
-told_by_claim policy wall past c k (Claimed (Ready full rank room)) line alike for right =
-    is_told wall past c k (arc_value full) rank for.same line alike.has_place right
-told_by_claim policy wall past c k (Copied full rank) line alike for right =
-    is_told wall past c k (arc_value full) rank for.same line alike.has_place right
-
 -- the line of a claim is right for its instance
 pub right_by_claim : (policy wall : ChineseWall) (past : List (Contribution Contents)) (c k : ℕ)
     (claim : LeanClaim) (line : List ℕ) → IsAlike claim → IsClaimFor wall past (c, k) claim →
@@ -235,18 +226,56 @@ teller_after old new lines run e same after right =
       },
     )
 
--- a take is answered, if it is for each run
+-- a take is answered whose line was written
 pub take_answered : {X E : Type 0} (r : Result X E) (wall : ChineseWall) (old new : Teller)
     (before after : List ℕ) (p request : ℕ) (claim : LeanClaim) →
     ((run : List Entry) → Legal wall run → TellsRun old run →
-    (Legal wall (lean_entry p request claim ∷ run)
+    Legal wall (lean_entry p request claim ∷ run)
     × TellsRun new (lean_entry p request claim ∷ run))
-    × OnOk r (after ≡ before ++ reply_line wall (lean_reply claim)))
+    → OnOk r (after ≡ before ++ reply_line wall (lean_reply claim))
     → OnOk r (AnswersCall TellsRun wall old new before after (to_take p request))
-take_answered (Ok x) wall old new before after p request claim h = λ run legal tells.
+take_answered (Ok x) wall old new before after p request claim h e = λ run legal tells.
     let it = h run legal tells in
-    record { reply = lean_reply claim; legal = it.0.0; standing = it.0.1; text = it.1 }
-take_answered (Err e) wall old new before after p request claim h = tt
+    record { reply = lean_reply claim; legal = it.0; standing = it.1; text = e }
+take_answered (Err f) wall old new before after p request claim h e = tt
+
+-- so is one that is told a line which is kept
+module _ (old new : Teller) (before after line : List ℕ) (p r c k rank : ℕ)
+    (same : new.hall.policy ≡ old.hall.policy)
+    (asked : (run : List Entry) → StandsFor old.hall run →
+    slice_get (requests p (posts run)) r ≡ Some (c, k))
+    (right : (wall : ChineseWall) (past : List (Contribution Contents)) →
+    AreRight wall past old.lines → IsRight wall past c k line)
+    (takes : (run : List Entry) → Legal old.hall.policy run → StandsFor old.hall run →
+    IsTakenUnread old.hall new.hall p r rank run)
+    (stay : (wall : ChineseWall) (past : List (Contribution Contents)) →
+    AreRight wall past old.lines → AreRight wall past new.lines) where
+  again : after ≡ before ++ line → (run : List Entry) → Legal old.hall.policy run →
+      TellsRun old run →
+      IsAnswered TellsRun old.hall.policy new before after (to_take p r) run
+  unfolding reply_text
+  again e run legal tells =
+      let wall = old.hall.policy in
+      let past = contributions run in
+      let t = takes run legal tells.stands in
+      let at = shown wall run p r (c, k) t.full rank (asked run tells.stands) t.claimed in
+      let reply = Delivered (value t.full rank) in
+      record {
+        reply = reply;
+        legal = subst (λ (w : ChineseWall). Legal w (entry (to_take p r) reply ∷ run)) same t.legal;
+        standing = record {
+          stands = t.stands;
+          right = subst (λ (w : ChineseWall). AreRight w past new.lines) (sym same)
+              (stay wall past tells.right);
+        };
+        text = e ∙ ap (λ (l : List ℕ). before ++ l) (is_told wall past c k t.full rank at.same line
+            t.place (right wall past tells.right));
+      }
+
+  pub again_answered : {X E : Type 0} (done : Result X E) → OnOk done (after ≡ before ++ line) →
+      OnOk done (AnswersCall TellsRun old.hall.policy old new before after (to_take p r))
+  again_answered (Ok x) e = again e
+  again_answered (Err f) e = tt
 
 -- what stands behind a text
 pub behind : (before line now : List ℕ) (n : ℕ) → n ≡ length before → now ≡ before ++ line →

@@ -1,13 +1,14 @@
 //! Answers calls from a hall, and tells the members of an instance that get the same one line.
 ghost use Rattle.std.specs.Prelude.{◌≡◌, ◌≢◌, ◌++◌, ◌<◌, ◌≤◌, List, [], length, IfOk, IfErr, OnOk};
-ghost use Rattle.std.specs.Prelude.{OnErr};
+ghost use Rattle.std.specs.Prelude.{OnErr, IfSome, IfNone, Some, slice_get};
 ghost use Rattle.wall_policy.specs.Policy.{ChineseWall};
 ghost use Rattle.mpi_elems.specs.Contents.{Contents};
 ghost use Rattle.run_model.specs.Contributions.{Contribution};
 ghost use Rattle.run_model.specs.Known.{IsKnownReply};
+ghost use Rattle.run_model.specs.Runs.{Entry, posts, requests};
 ghost use Rattle.hall_core.specs.Halls.{HallValue, StandsFor};
-ghost use Rattle.hall_core.specs.Claims.{CanTell, lean_reply};
-ghost use Rattle.hall_script.specs.Answering.{HasFinished, HasStopped};
+ghost use Rattle.hall_core.specs.Claims.{CanTell, lean_reply, to_take};
+ghost use Rattle.hall_script.specs.Answering.{AnswersCall, HasFinished, HasStopped};
 ghost use Rattle.hall_script.specs.Replies.{reply_line};
 ghost use Rattle.hall_script.specs.Scripts.{script_of};
 ghost use Rattle.hall_script.specs.Telling.{tells_alike as alike, IsToldAlike, IsAlike, AreRight};
@@ -26,9 +27,6 @@ use run_model::{Call, Reply};
 use std::alloc::Global;
 use wall_labels::{NoMemory, Sink};
 use wall_policy::Policy;
-
-// The fewest bytes of a line that is kept.
-const FEWEST_KEPT: usize = 24;
 
 /// A hall, with lines for the members of instances that are still to be told.
 pub(crate) struct Teller {
@@ -90,6 +88,62 @@ pub(crate) fn answered_from<W: Sink>(
     }
 }
 
+impl Teller {
+    // Takes a request for an instance whose line is kept, and appends that line. Nothing changes
+    // where no line is kept, or the process gets nothing.
+    fn take_again(
+        &mut self,
+        process: u32,
+        request: u64,
+        at: Option<(u32, u64)>,
+        text: &mut Vec<u8>,
+    ) -> Option<Result<(), NoMemory>>
+        requires asked { (run : List Entry) → StandsFor self.old.hall run → IfSome at (λ it.
+            slice_get (requests process (posts run)) request ≡ Some it) }
+        ensures wall { self.new.hall.policy ≡ self.old.hall.policy }
+        ensures answered { IfSome result (λ done. OnOk done (AnswersCall TellsRun
+            self.old.hall.policy self.old self.new text.old.items text.new.items
+            (to_take process request))) }
+        ensures err { IfSome result (λ done. OnErr done (text.new.items ≡ text.old.items)) }
+        ensures unchanged { IfNone result (self.new ≡ self.old) }
+        ensures text { IfNone result (text.new.items ≡ text.old.items) }
+    {
+        let Some((comm, k)) = at else {
+            return None;
+        };
+        let Some(line) = self.lines.find(comm, k) else {
+            return None;
+        };
+        match self.hall.take_unread(process, request) {
+            Some(_) => {
+                let done = put_line(line, text);
+                self.lines.told(comm, k);
+                Some(done)
+            }
+            None => None,
+        }
+    }
+
+    // Takes a request, and appends the line of its reply. A line that others are told too is kept.
+    fn take_first(
+        &mut self,
+        process: u32,
+        request: u64,
+        at: Option<(u32, u64)>,
+        text: &mut Vec<u8>,
+    ) -> Result<(), NoMemory>
+        requires asked { (run : List Entry) → StandsFor self.old.hall run → IfSome at (λ it.
+            slice_get (requests process (posts run)) request ≡ Some it) }
+        ensures wall { self.new.hall.policy ≡ self.old.hall.policy }
+        ensures answered { OnOk result (AnswersCall TellsRun self.old.hall.policy self.old self.new
+            text.old.items text.new.items (to_take process request)) }
+        ensures err { OnErr result (text.new.items ≡ text.old.items) }
+    {
+        let claim = self.hall.claim_lean(process, request);
+        tell(&mut self.lines, self.hall.policy(), at, claim, text)
+    }
+}
+
 impl Machine for Teller {
     ghost stands = { TellsRun };
 
@@ -105,8 +159,10 @@ impl Machine for Teller {
 
     fn take(&mut self, process: u32, request: u64, text: &mut Vec<u8>) -> Result<(), NoMemory> {
         let at = self.hall.instance_of(process, request);
-        let claim = self.hall.claim_lean(process, request);
-        tell(&mut self.lines, self.hall.policy(), at, claim, text)
+        match self.take_again(process, request, at, text) {
+            Some(done) => done,
+            None => self.take_first(process, request, at, text),
+        }
     }
 }
 
@@ -124,13 +180,21 @@ fn tells_alike(sig: &Signature) -> bool
     }
 }
 
+// How many ranks of such an instance get nothing: the root of a broadcast.
+fn idle_ranks(sig: &Signature) -> u32 {
+    match sig.root() {
+        Some(_) => 1,
+        None => 0,
+    }
+}
+
 // How many other ranks may be told the same as this one.
 fn others_in(full: &Full<Buffer>, rank: u32) -> u32
     requires { rank < full.now.roll.shape.size }
     ensures { result ≢ 0 → IsToldAlike full.now rank }
 {
     if tells_alike(&full.roll.sig) && places(&full.roll, rank) != 0 {
-        full.roll.shape.size - 1
+        (full.roll.shape.size - 1).saturating_sub(idle_ranks(&full.roll.sig))
     } else {
         0
     }
@@ -161,8 +225,8 @@ fn put_line(line: &[u8], text: &mut Vec<u8>) -> Result<(), NoMemory>
     }
 }
 
-// Appends the line of the reply that a claim on this instance comes to: the one that is kept, where
-// one is. Else it keeps a copy of what it writes.
+// Appends the line of the reply that a claim on this instance comes to, and keeps a copy for others
+// who are told the same.
 fn tell(
     lines: &mut KeptLines,
     policy: &Policy,
@@ -172,9 +236,8 @@ fn tell(
 ) -> Result<(), NoMemory>
     requires can { CanTell claim }
     requires known { IsKnownReply policy.now (lean_reply claim) }
-    ensures told { (wall : ChineseWall) (past : List (Contribution Contents)) →
-        AreRight wall past lines.old → IsClaimAt wall past at claim →
-        OnOk result (text.new.items ≡ text.old.items ++ reply_line policy.now (lean_reply claim)) }
+    ensures told { OnOk result
+        (text.new.items ≡ text.old.items ++ reply_line policy.now (lean_reply claim)) }
     ensures right { (wall : ChineseWall) (past : List (Contribution Contents)) →
         AreRight wall past lines.old → IsClaimAt wall past at claim →
         AreRight wall past lines.new }
@@ -185,12 +248,12 @@ fn tell(
         return write_claim(policy, claim, text);
     }
     match at {
-        Some((comm, k)) => tell_alike(lines, policy, comm, k, others, claim, text),
+        Some((comm, k)) => tell_first(lines, policy, comm, k, others, claim, text),
         None => write_claim(policy, claim, text),
     }
 }
 
-fn tell_alike(
+fn tell_first(
     lines: &mut KeptLines,
     policy: &Policy,
     comm: u32,
@@ -202,29 +265,16 @@ fn tell_alike(
     requires can { CanTell claim }
     requires alike { IsAlike claim }
     requires known { IsKnownReply policy.now (lean_reply claim) }
-    ensures told { (wall : ChineseWall) (past : List (Contribution Contents)) →
-        AreRight wall past lines.old → IsClaimFor wall past (comm, k) claim →
-        OnOk result (text.new.items ≡ text.old.items ++ reply_line policy.now (lean_reply claim)) }
+    ensures told { OnOk result
+        (text.new.items ≡ text.old.items ++ reply_line policy.now (lean_reply claim)) }
     ensures right { (wall : ChineseWall) (past : List (Contribution Contents)) →
         AreRight wall past lines.old → IsClaimFor wall past (comm, k) claim →
         AreRight wall past lines.new }
     ensures err { OnErr result (text.new.items ≡ text.old.items) }
 {
-    match lines.find(comm, k) {
-        Some(line) => {
-            let put = put_line(line, text);
-            drop(claim);
-            lines.told(comm, k);
-            put
-        }
-        None => {
-            let len = text.len();
-            write_claim(policy, claim, text)?;
-            let line = &text[len..];
-            if FEWEST_KEPT <= line.len() {
-                lines.keep(comm, k, others, line);
-            }
-            Ok(())
-        }
-    }
+    let len = text.len();
+    write_claim(policy, claim, text)?;
+    let line = &text[len..];
+    lines.keep(comm, k, others, line);
+    Ok(())
 }

@@ -4,5 +4,5 @@ use Rattle.hall_script.proofs.teller.tell.Goals as goal
 
 pub returns-in-Some-clause-right : goal.returns-in-Some-clause-right
 returns-in-Some-clause-right c = λ wall past right at.
-    c.tell_alike.ensures.right wall past right
+    c.tell_first.ensures.right wall past right
     (subst (λ (o : Option (ℕ × ℕ)). IsClaimAt wall past o c.args.claim) c.in-Some.is at)

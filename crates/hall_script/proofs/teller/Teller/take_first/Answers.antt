@@ -5,7 +5,7 @@ use Rattle.run_model.specs.Runs.{contributions}
 use Rattle.hall_core.specs.Claims.{lean_reply, lean_entry}
 use Rattle.hall_script.specs.Replies.{reply_line}
 use Rattle.hall_script.proofs.TellingLemmas.{claim_at, teller_after, take_answered}
-use Rattle.hall_script.proofs.teller.TellerMachine.take.Goals as goal
+use Rattle.hall_script.proofs.teller.Teller.take_first.Goals as goal
 
 pub returns-clause-answered : goal.returns-clause-answered
 returns-clause-answered c =
@@ -18,14 +18,11 @@ returns-clause-answered c =
     take_answered c.tell.result wall old (record { hall = hall; lines = lines })
     c.args.text.now.items c.tell.new.text.items c.args.process c.args.request claim
     (λ run legal tells.
-    let at = claim_at wall run c.args.process c.args.request c.instance_of-at.result claim
-    (c.instance_of-at.ensures.asked run tells.stands)
-    (c.claim_lean-claim.ensures.claims run legal tells.stands) in (
-      teller_after old.hall hall lines run e c.claim_lean-claim.ensures.policy
-          (c.claim_lean-claim.ensures.runs run legal tells.stands)
-          (λ longer. c.tell.ensures.right wall (contributions run) tells.right at),
-      subst (λ (w : ChineseWall). OnOk c.tell.result (c.tell.new.text.items
-          ≡ c.args.text.now.items ++ reply_line w (lean_reply claim)))
-          (c.policy.ensures ∙ c.claim_lean-claim.ensures.policy)
-          (c.tell.ensures.told wall (contributions run) tells.right at),
-    ))
+    let at = claim_at wall run c.args.process c.args.request c.args.at claim
+    (c.requires.asked run tells.stands) (c.claim_lean-claim.ensures.claims run legal tells.stands) in
+    teller_after old.hall hall lines run e c.claim_lean-claim.ensures.policy
+    (c.claim_lean-claim.ensures.runs run legal tells.stands)
+    (λ longer. c.tell.ensures.right wall (contributions run) tells.right at))
+    (subst (λ (w : ChineseWall). OnOk c.tell.result (c.tell.new.text.items
+    ≡ c.args.text.now.items ++ reply_line w (lean_reply claim)))
+    (c.policy.ensures ∙ c.claim_lean-claim.ensures.policy) c.tell.ensures.told)
