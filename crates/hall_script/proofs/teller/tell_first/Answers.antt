@@ -1,4 +1,4 @@
-use Rattle.std.proofs.Common.{rules, ◌≡◌, ◌++◌, ◌∙◌, List, ℕ, length}
+use Rattle.std.proofs.Common.{rules, ◌≡◌, ◌∙◌, length}
 use Rattle.hall_core.specs.Claims.{lean_reply}
 use Rattle.hall_script.specs.Replies.{reply_line}
 use Rattle.hall_script.proofs.TellingLemmas.{right_by_claim, behind}
