@@ -16,6 +16,7 @@ use Rattle.coll_text.proofs.NumberLemmas.{form_of, plain, behind_minus, chosen}
 use Rattle.coll_text.specs.Numbers.{Word, is_digit, is_number, value_after, number_within, negative}
 use Rattle.coll_text.specs.Numbers.{signed_within}
 use Rattle.coll_text.specs.Reading.{number_at}
+use Rattle.coll_text.specs.Fields.{number_of}
 use Rattle.coll_text.specs.declared.fault.LineFault.TheVariants.{BadField}
 
 pub value_after-append : (n : ℕ) (xs ys : Word) →
@@ -208,3 +209,18 @@ read_above limit most n w ws vs front e lt =
     let v : None ≡ number_within most w = whole_above n (length w) limit most w (omega arith)
     (of_all limit n w e) lt in
     rw (front, some_digits limit n w e, ← v) refl
+
+-- a part of a list, likewise
+pub listed_below : (limit n : ℕ) (w : Word) → number_within limit w ≡ Some n → n ≤ 4294967295 →
+    number_of w ≡ Ok n
+listed_below limit n w e le =
+    let v : Some n ≡ number_within 4294967295 w = whole_below n (length w) limit 4294967295 w
+    (omega arith) (of_all limit n w e) le in
+    rw (← v) refl
+
+pub listed_above : (limit n : ℕ) (w : Word) → number_within limit w ≡ Some n → 4294967295 < n →
+    number_of w ≡ Err BadField
+listed_above limit n w e lt =
+    let v : None ≡ number_within 4294967295 w = whole_above n (length w) limit 4294967295 w
+    (omega arith) (of_all limit n w e) lt in
+    rw (← v) refl

@@ -1,5 +1,5 @@
 //! Lists of numbers and of flags between commas.
-ghost use Rattle.std.specs.Prelude.{◌≢◌, Err};
+ghost use Rattle.std.specs.Prelude.{◌≡◌, ◌≢◌, [], ◌∷◌, MatchOption, IfSome, Err};
 ghost use Rattle.coll_text.specs.Reading.{Gives, each_of, list_of, flag_of, parts as parts_of};
 ghost use Rattle.coll_text.specs.Fields.{number_of};
 
@@ -8,6 +8,9 @@ use crate::parts::Parts;
 use crate::words::number_in;
 use coll_routes::{Flags, Numbers};
 use std::alloc::Global;
+
+// Room is made at once for all numbers of a list, where they are no more.
+const ROOM: usize = 64;
 
 pub(crate) fn flag_in(word: &[u8]) -> Result<bool, LineFault>
     ensures flag { Gives result (flag_of word.now) }
@@ -20,13 +23,37 @@ pub(crate) fn flag_in(word: &[u8]) -> Result<bool, LineFault>
     }
 }
 
+// The next part of a list, and the number of 32 bits that it spells.
+#[inline(always)]
+fn next_listed<'a>(parts: &mut Parts<'a>) -> Option<(&'a [u8], Result<u32, LineFault>)>
+    ensures part { MatchOption result ((parts.old ≡ []) × (parts.new ≡ []))
+        (λ r. parts.old ≡ r.0.now ∷ parts.new) }
+    ensures number { IfSome result (λ r. Gives r.1 (number_of r.0.now)) }
+{
+    match parts.next_small() {
+        None => match parts.next() {
+            None => None,
+            Some(part) => Some((part, number_in(part))),
+        },
+        Some((part, n)) => {
+            if n > u64::from(u32::MAX) {
+                return Some((part, Err(LineFault::BadField)));
+            }
+            Some((part, Ok(n as u32)))
+        }
+    }
+}
+
 fn each_number(alloc: Global, word: &[u8]) -> Result<Numbers, LineFault>
     ensures { Gives result (each_of number_of (parts_of 44 word.now)) }
 {
     let mut parts = Parts::new(word, b',');
-    let mut numbers: Vec<u32> = Vec::new(alloc);
-    while let Some(part) = parts.next() {
-        numbers.push(number_in(part)?)?;
+    let room = parts.count().min(ROOM);
+    let mut numbers: Vec<u32> = Vec::with_capacity(alloc, room)?;
+    while let Some((part, number)) = next_listed(&mut parts) {
+        // The part says what the number is in the contract, and is not looked at again.
+        let _ = part;
+        numbers.push(number?)?;
     }
     Ok(Numbers::from(numbers))
 }
