@@ -76,7 +76,8 @@ impl Kind {
     pub fn named(name: &[u8]) -> Option<Kind>
         ensures { result ≡ kind_of name.now }
     {
-        match name.len() {
+        let len = name.len();
+        match len {
             0..=6 => short_named(name),
             7..=9 => middle_named(name),
             10..=16 => long_named(name),

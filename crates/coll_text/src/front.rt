@@ -85,10 +85,7 @@ pub(crate) fn front_signed(text: &[u8]) -> Option<(i64, usize)>
     }
     // A number that begins with a zero is that zero, without a sign.
     if digits[0] == b'0' {
-        if is_negative || len > 1 {
-            return None;
-        }
-        return Some((0, 1));
+        return if is_negative { None } else { Some((0, 1)) };
     }
     if n > i64::MAX as u64 {
         return None;

@@ -38,8 +38,8 @@ returns-clause-value c =
     (nonzero_is s len n digits e.within any e.digits e.value c.if-digits-eq48.false)
     ∙ ap (λ z. Some z) (sym c.with_sign.ensures ∙ sym (to_z-of_z w64 c.with_sign.result fits))
 
-pub returns-then-digits-eq48-clause-value : goal.returns-then-digits-eq48-clause-value
-returns-then-digits-eq48-clause-value c =
+pub returns-else-is_negative-clause-value : goal.returns-else-is_negative-clause-value
+returns-else-is_negative-clause-value c =
     let some : 1 ≤ length c.args.text.now = search rules in
     let positive : eqb (get_or c.args.text.now 0 0) 45 ≡ false = ne_eqb _ _ c.if-is_negative.false in
     let first : get_or c.args.text.now 0 0 ≡ 48 = sym
