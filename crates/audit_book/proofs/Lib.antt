@@ -14,3 +14,4 @@ pub mod FaultLemmas
 pub mod ScanLemmas
 pub mod SpelledRowProofs
 mod SameLemmas
+mod JudgeLemmas

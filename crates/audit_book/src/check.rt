@@ -77,11 +77,12 @@ fn follow_all(
     }
 }
 
-// Why the check goes no further.
+/// Why the check goes no further.
 #[derive(Clone, Copy)]
-enum Stopped {
-    // No sound book goes on like this.
+pub(crate) enum Stopped {
+    /// No sound book goes on like this.
     Wrong,
+    /// Memory ran out.
     NoMemory,
 }
 
@@ -156,8 +157,8 @@ fn count(
     }
 }
 
-// Why a post would be refused, for the posts so far.
-fn refusal(
+/// Why a post would be refused, for the posts so far.
+pub(crate) fn refusal(
     policy: &Policy,
     post_state: &PostState<()>,
     process: ProcessId,
@@ -179,8 +180,8 @@ fn refusal(
     )
 }
 
-// Whether the star rule lets the process post elements with this label.
-fn passes(post_state: &PostState<()>, process: ProcessId, label: &Option<Label>) -> bool
+/// Whether the star rule lets the process post elements with this label.
+pub(crate) fn passes(post_state: &PostState<()>, process: ProcessId, label: &Option<Label>) -> bool
     ensures { (wall : ChineseWall) (past : List Post) → Stands wall post_state.now past →
         result ≡ star (histories wall past) process label.now }
 {
@@ -212,8 +213,8 @@ fn enter(
     }
 }
 
-// The outcome of an instance of this communicator, if a post filled one.
-fn due_after(comm: u32, entered: &Entered<()>) -> Option<Due>
+/// The outcome of an instance of this communicator, if a post filled one.
+pub(crate) fn due_after(comm: u32, entered: &Entered<()>) -> Option<Due>
     ensures { result ≡ due_after comm entered.now }
 {
     match entered {

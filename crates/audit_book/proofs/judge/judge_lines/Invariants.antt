@@ -1,0 +1,14 @@
+use Rattle.std.proofs.Common.{◌+◌, ◌<◌, ◌^◌, ◌∷◌, length}
+use Rattle.audit_book.specs.Reading.{entries_in}
+use Rattle.audit_book.proofs.JudgeLemmas.{SoFar}
+use Rattle.audit_book.proofs.judge.judge_lines.Given as goal
+
+abbrev pub invariant-loop-next : goal.invariant-loop-next
+invariant-loop-next l = record {
+  few : l.entries + length l.lines < 2 ^ 62;
+  so_far : SoFar l.policy l.post_state l.due l.entries l.line l.lines
+      (entries_in l.policy 0 (l.first ∷ l.fn.lines));
+}
+
+abbrev pub decreases-loop-next : goal.decreases-loop-next
+decreases-loop-next l = length l.lines
