@@ -54,6 +54,10 @@ fn enter_post(
         IsCounted policy.now (post_of process comm stated) past) }
 {
     let _ = post_state.len();
+    if post_state.joins(policy, process, comm, &stated) {
+        post_state.join(policy, process, comm, stated, ());
+        return Ok(None);
+    }
     match post_state.enter(policy, process, comm, stated, ()) {
         Ok(entered) => Ok(due_after(comm, &entered)),
         Err(_) => Err(NoMemory),

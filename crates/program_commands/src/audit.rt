@@ -55,7 +55,7 @@ fn judge(alloc: Global, wall: &Policy, text: &[u8]) -> Result<Finding, Ending>
 {
     match judge_book(alloc, wall, text) {
         Ok(Judged::Sound(number)) => Ok(Finding::Sound(number)),
-        Ok(Judged::Unsound(number)) => Ok(Finding::Unsound(number.wrapping_add(1))),
+        Ok(Judged::Unsound(number)) => Ok(Finding::Unsound(number)),
         Err(fault) => Err(text_ending(fault)),
     }
 }
