@@ -178,6 +178,38 @@ fn what_one_has_not_taken_is_kept(rt: HostRuntime) -> Result<(), Fail> {
     Ok(())
 }
 
+/// Whether the request of that number is for that instance of the world.
+fn is_for(hall: &Hall, process: u32, request: u64, k: u64) -> bool {
+    match hall.instance_of(process, request) {
+        Some((comm, number)) => comm == 0 && number == k,
+        None => false,
+    }
+}
+
+/// Whether two take a broadcast unread, once each, and its root doesn't, which gets nothing.
+fn two_take_unread(hall: &mut Hall) -> bool {
+    let open = is_for(hall, 1, 0, 0) && is_for(hall, 3, 0, 0);
+    let taken = hall.take_unread(1, 0) == Some(1) && hall.take_unread(3, 0) == Some(3);
+    let again = hall.take_unread(1, 0).is_some() || is_for(hall, 1, 0, 0);
+    let root = hall.take_unread(0, 0).is_some();
+    open && taken && !again && !root && is_for(hall, 0, 0, 0)
+}
+
+/// Whether they do, and the others are told it still.
+fn some_take_unread(alloc: Global, hall: &mut Hall) -> Result<bool, NoMemory> {
+    asks_all(alloc, hall, BROADCAST)?;
+    let taken = two_take_unread(hall) && hall.kept_places(0) == 1;
+    let other = answers(alloc, hall, &(2, Take(0), "delivered [5]"))?;
+    let root = answers(alloc, hall, &(0, Take(0), "delivered none"))?;
+    Ok(taken && other && root && keeps(hall, 0))
+}
+
+#[test]
+fn a_known_delivery_is_taken_unread(rt: HostRuntime) -> Result<(), Fail> {
+    assert!(rt; at_a_hall(rt.alloc(), FRIENDS, some_take_unread)?);
+    Ok(())
+}
+
 /// Whether places that were dropped come back where they are asked for, as many as are needed, in
 /// room for a few more.
 fn come_back(settlements: &mut Settlements) -> Result<bool, NoMemory>
