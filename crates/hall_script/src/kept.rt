@@ -81,8 +81,9 @@ impl KeptLine {
 
 /// The lines that are kept: of each instance of which some members but not all have taken what they
 /// get alike, as far as there is a place for it. A line has its place by the number of its
-/// instance, from which it drives out another. So there are at most 256 of them, and each has at
-/// most 21 bytes for a number that the hall has of that instance.
+/// instance, from which it drives out another; one that comes back so may stay until it is driven
+/// out again. So there are at most 256 of them. A line has at most 21 bytes for each number that was
+/// posted to its instance, and a few for each member.
 #[derive(Drop)]
 pub struct KeptLines {
     alloc: Global,
