@@ -1,23 +1,29 @@
 //! Different names, numbered in the order in which they came.
 ghost use Rattle.std.specs.Prelude.{◌≡◌, ◌<◌, ◌++◌, ◌∷◌, [], not, length, IfOk};
 ghost use Rattle.std.specs.Prelude.{OnErr, IfSome, slice_get, Some};
-ghost use Rattle.std.specs.Prelude.{if◌then◌else◌};
-ghost use Rattle.wall_policy.specs.Names.{place_of, is_in};
+ghost use Rattle.std.specs.Prelude.{if◌then◌else◌, IsTrue, false};
+ghost use Rattle.wall_policy.specs.Names.{place_of, is_in, comes_twice};
 
 use indexmap::IndexSet;
 use std::alloc::{AllocError, Global};
 use std::marker::Model;
 
+// So many hints are kept, once there is a name.
+const HINTS: usize = 1024;
+
 /// Different names, seen as the list of them.
 pub(crate) struct NameTable {
     names: IndexSet<String>,
+    // For each slot the number of a name that may stand there: who asks compares it.
+    hints: Vec<u16>,
 }
 
 // By hand: a derived one is proved anew wherever one is dropped.
 impl Drop for NameTable {
     fn drop(self) {
-        let NameTable { names } = self;
+        let NameTable { names, hints } = self;
         drop(names);
+        drop(hints);
     }
 }
 
@@ -29,12 +35,38 @@ impl Model for NameTable {
     ghost view = { λ t. map string_bytes t.names.keys };
 }
 
+// A slot for a name, by all its bytes. What it is matters to nothing but the time.
+fn slot_of(name: &[u8]) -> usize {
+    let mut hash: u32 = 0;
+    for byte in name {
+        hash = hash.wrapping_mul(31).wrapping_add(u32::from(*byte));
+    }
+    hash as usize % HINTS
+}
+
+// Whether these are the same bytes. Names are short, so one after the other.
+#[tactic(auto, using(std::proofs::lemmas::List::ext_get_or))]
+fn are_same(left: &[u8], right: &[u8]) -> bool
+    ensures { IsTrue result → left.now ≡ right.now }
+{
+    if left.len() != right.len() {
+        return false;
+    }
+    for at in 0..left.len() {
+        if left[at] != right[at] {
+            return false;
+        }
+    }
+    true
+}
+
 impl NameTable {
     pub(crate) fn new(alloc: Global) -> NameTable
         ensures { result ≡ [] }
     {
         NameTable {
             names: IndexSet::new(alloc),
+            hints: Vec::new(alloc),
         }
     }
 
@@ -65,6 +97,23 @@ impl NameTable {
         }
     }
 
+    /// The number of the name that has these bytes, if that is what stands in its slot.
+    pub(crate) fn hinted(&self, name: &[u8]) -> Option<usize>
+        requires { comes_twice self.now ≡ false }
+        ensures place { IfSome result (λ number. place_of name.now self.now ≡ Some number) }
+        ensures within { IfSome result (λ number. number < length self.now) }
+    {
+        let hint = usize::from(*self.hints.get(slot_of(name))?);
+        if hint >= self.len() {
+            return None;
+        }
+        if are_same(self.name_at(hint).as_bytes(), name) {
+            Some(hint)
+        } else {
+            None
+        }
+    }
+
     /// Whether the name is there.
     pub(crate) fn has(&self, name: &str) -> bool
         ensures { result ≡ is_in self.now name.now }
@@ -88,7 +137,8 @@ impl NameTable {
         ensures { IfOk result (λ copy. copy ≡ self.now) }
     {
         let names = self.names.clone()?;
-        Ok(NameTable { names })
+        let hints = self.hints.clone()?;
+        Ok(NameTable { names, hints })
     }
 
     /// Adds a copy of a name, unless it is there.
@@ -98,8 +148,13 @@ impl NameTable {
             (λ added. self.new ≡ (if added then self.old ++ name.now ∷ [] else self.old)) }
         ensures err { OnErr result (self.new ≡ self.old) }
     {
+        let slot = slot_of(name.as_bytes());
         let name = String::from_str(alloc, name)?;
-        let (_, is_new) = self.names.insert_full(name)?;
+        self.hints.resize(HINTS, 0)?;
+        let (number, is_new) = self.names.insert_full(name)?;
+        if let Some(hint) = self.hints.get_mut(slot) {
+            *hint = number.min(u16::MAX as usize) as u16;
+        }
         Ok(is_new)
     }
 }

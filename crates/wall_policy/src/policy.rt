@@ -298,6 +298,9 @@ impl Policy {
         ensures number { result ≡ place_of name.now self.now.dataset_names }
         ensures known { IfSome result (λ d. d < length self.now.dataset_names) }
     {
+        if let Some(number) = self.dataset_names.hinted(name) {
+            return DatasetId::new(number as u32);
+        }
         match self.dataset_names.number_of_bytes(name) {
             Some(number) => DatasetId::new(number as u32),
             None => None,
@@ -309,6 +312,9 @@ impl Policy {
         ensures number { result ≡ place_of name.now self.now.process_names }
         ensures known { IfSome result (λ p. p < length self.now.process_names) }
     {
+        if let Some(number) = self.process_names.hinted(name) {
+            return ProcessId::new(number as u32);
+        }
         match self.process_names.number_of_bytes(name) {
             Some(number) => ProcessId::new(number as u32),
             None => None,
