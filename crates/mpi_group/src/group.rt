@@ -198,8 +198,9 @@ impl Group {
 }
 
 /// What is wrong with a list of ranks of a group of this size: the first fault that `incl` and
-/// `excl` would answer, out of memory aside. Looks at each rank twice. Where the size is above that
-/// of any group, it looks at each, and then, up to the first repeat, for each at those before it.
+/// `excl` would answer, out of memory aside. Looks at each rank twice. Where there are at most three,
+/// or the size is above that of any group, it looks at each, and then, up to the first repeat, for
+/// each at those before it.
 pub fn ranks_fault(size: u32, ranks: &[u32]) -> Option<GroupFault>
     ensures { result ≡ ranks_fault size ranks.now }
 {
@@ -218,12 +219,13 @@ fn are_ranks(size: u32, ranks: &[u32]) -> bool
     ranks.iter().all(|rank| *rank < size)
 }
 
-// Whether no rank stands there twice, each below this size.
+// Whether no rank stands there twice, each below this size. To compare two or three costs less than
+// to clear a table.
 fn is_without_repeat(size: u32, ranks: &[u32]) -> bool
     requires { All (λ rank. rank < size) ranks.now }
     ensures { result ≡ is_distinct ranks.now }
 {
-    if size <= PROCESS_LIMIT {
+    if size <= PROCESS_LIMIT && ranks.len() > 3 {
         are_marked_once(size, ranks)
     } else {
         are_distinct(ranks)
