@@ -1,7 +1,7 @@
 //! Buffers filled number by number.
 ghost use Rattle.std.specs.Prelude.{◌≡◌, ◌<◌, ◌*◌, ◌+◌, ◌++◌, [], ◌∷◌, length, IfOk};
 ghost use Rattle.std.specs.Prelude.{IfErr, IsOk, OnOk, OnErr, Some, None, true, false};
-ghost use Rattle.std.specs.Prelude.{option_to_list, vec_len, vec_capacity, if◌then◌else◌, Ok, Err};
+ghost use Rattle.std.specs.Prelude.{option_to_list, vec_len, vec_capacity, if◌then◌else◌};
 ghost use Rattle.mpi_elems.specs.Types.{is_pair, numbers_per_element};
 ghost use Rattle.mpi_elems.specs.Numbers.{is_number_of};
 ghost use Rattle.mpi_elems.specs.Elements.{numbers_of};
@@ -63,7 +63,11 @@ impl BufferBuilder {
             (λ f. (f ≡ BufferFault.BadNumber) × (is_number_of self.old.elem_type number ≡ false)) }
         ensures unchanged { OnErr result (self.new ≡ self.old) }
     {
-        outcome(push(&mut self.cells, &mut self.half, number))
+        if push(&mut self.cells, &mut self.half, number) {
+            Ok(())
+        } else {
+            Err(BufferFault::BadNumber)
+        }
     }
 
     /// The same of a number of 64 bits, at that width.
@@ -78,7 +82,9 @@ impl BufferBuilder {
             (λ f. (f ≡ BufferFault.BadNumber) × (is_number_of self.old.elem_type number ≡ false)) }
         ensures unchanged { OnErr result (self.new ≡ self.old) }
     {
-        outcome(push_small(&mut self.cells, &mut self.half, number))
+        push_small(&mut self.cells, &mut self.half, number)
+            .then_some(())
+            .ok_or(BufferFault::BadNumber)
     }
 
     /// The buffer of the numbers. `OddPair` where the last pair lacks its index. Takes no memory.
@@ -93,18 +99,6 @@ impl BufferBuilder {
             None => Ok(Buffer::of_cells(cells)),
             Some(_) => Err(BufferFault::OddPair),
         }
-    }
-}
-
-// What is answered for a number that the type has, or has not.
-#[inline(always)]
-fn outcome(is_added: bool) -> Result<(), BufferFault>
-    ensures { result ≡ (if is_added then Ok tt else Err BufferFault.BadNumber) }
-{
-    if is_added {
-        Ok(())
-    } else {
-        Err(BufferFault::BadNumber)
     }
 }
 
