@@ -12,6 +12,7 @@ ghost use Rattle.mpi_elems.specs.Shown.{kind_of, elements_in, room_of};
 ghost use Rattle.mpi_elems.specs.declared.elem_type.ElemType.TheVariants.{TwoInt};
 
 use crate::cells::{Cells, room_for};
+use crate::narrow::Narrow;
 use crate::native::Native;
 use crate::{Buffer, BufferFault, ElemType, NoMemory};
 use std::alloc::Global;
@@ -121,7 +122,7 @@ fn push_single<T: Native>(items: &mut Vec<T>, number: i128) -> bool
 
 // The same of a number of 64 bits.
 #[inline(always)]
-fn push_small_single<T: Native>(items: &mut Vec<T>, number: i64) -> bool
+fn push_small_single<T: Narrow>(items: &mut Vec<T>, number: i64) -> bool
     requires { vec_len items.old < vec_capacity items.old }
     ensures accepted { result ≡ is_number_of T.kind number }
     ensures numbers { numbers_of (singles T.number items.new.items)

@@ -10,6 +10,7 @@ mod builder;
 mod cells;
 mod elem_type;
 mod fault;
+mod narrow;
 mod native;
 mod operation;
 mod reading;

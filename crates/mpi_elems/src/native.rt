@@ -22,11 +22,6 @@ pub trait Native: Copy {
         ensures some { IfSome result (λ native. number native ≡ wanted) }
         ensures which { is_some result ≡ is_number_of kind wanted };
 
-    /// The same of a number of 64 bits.
-    fn from_narrow(wanted: i64) -> Option<Self>
-        ensures some { IfSome result (λ native. number native ≡ wanted) }
-        ensures which { is_some result ≡ is_number_of kind wanted };
-
     fn to_number(self) -> i128
         ensures same { result ≡ number self }
         ensures within { is_number_of kind result ≡ true };
@@ -62,10 +57,6 @@ impl Native for i8 {
     ghost number = { λ x. x };
 
     fn from_number(wanted: i128) -> Option<i8> {
-        i8::try_from(wanted).ok()
-    }
-
-    fn from_narrow(wanted: i64) -> Option<i8> {
         i8::try_from(wanted).ok()
     }
 
@@ -117,10 +108,6 @@ impl Native for i16 {
         i16::try_from(wanted).ok()
     }
 
-    fn from_narrow(wanted: i64) -> Option<i16> {
-        i16::try_from(wanted).ok()
-    }
-
     fn to_number(self) -> i128 {
         i128::from(self)
     }
@@ -166,10 +153,6 @@ impl Native for i32 {
     ghost number = { λ x. x };
 
     fn from_number(wanted: i128) -> Option<i32> {
-        i32::try_from(wanted).ok()
-    }
-
-    fn from_narrow(wanted: i64) -> Option<i32> {
         i32::try_from(wanted).ok()
     }
 
@@ -221,10 +204,6 @@ impl Native for i64 {
         i64::try_from(wanted).ok()
     }
 
-    fn from_narrow(wanted: i64) -> Option<i64> {
-        Some(wanted)
-    }
-
     fn to_number(self) -> i128 {
         i128::from(self)
     }
@@ -270,10 +249,6 @@ impl Native for u8 {
     ghost number = { λ x. pos x };
 
     fn from_number(wanted: i128) -> Option<u8> {
-        u8::try_from(wanted).ok()
-    }
-
-    fn from_narrow(wanted: i64) -> Option<u8> {
         u8::try_from(wanted).ok()
     }
 
@@ -323,10 +298,6 @@ impl Native for u16 {
         u16::try_from(wanted).ok()
     }
 
-    fn from_narrow(wanted: i64) -> Option<u16> {
-        u16::try_from(wanted).ok()
-    }
-
     fn to_number(self) -> i128 {
         i128::from(self)
     }
@@ -373,10 +344,6 @@ impl Native for u32 {
         u32::try_from(wanted).ok()
     }
 
-    fn from_narrow(wanted: i64) -> Option<u32> {
-        u32::try_from(wanted).ok()
-    }
-
     fn to_number(self) -> i128 {
         i128::from(self)
     }
@@ -420,10 +387,6 @@ impl Native for u64 {
     ghost number = { λ x. pos x };
 
     fn from_number(wanted: i128) -> Option<u64> {
-        u64::try_from(wanted).ok()
-    }
-
-    fn from_narrow(wanted: i64) -> Option<u64> {
         u64::try_from(wanted).ok()
     }
 
