@@ -168,6 +168,8 @@ fn lowest_shared(
 fn lowest_missing(words: &[u64; WORDS], used: usize, other: &[u64; WORDS]) -> Option<DatasetId>
     requires { IsClearFrom words.now used }
     ensures found { IfSome result (λ d. IsTrue (is_missing words.now other.now d)) }
+    ensures lowest { IfSome result (λ d. (k : ℕ) → k < d →
+        is_missing words.now other.now k ≡ false) }
     ensures none { IfNone result ((k : ℕ) → is_missing words.now other.now k ≡ false) }
 {
     for place in 0..used {
