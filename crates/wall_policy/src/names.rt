@@ -8,7 +8,7 @@ use indexmap::IndexSet;
 use std::alloc::{AllocError, Global};
 use std::marker::Model;
 
-// So many hints are kept, once there is a name.
+// So many hints a table has, or none.
 const HINTS: usize = 1024;
 
 /// Different names, seen as the list of them.
@@ -42,6 +42,20 @@ fn slot_of(name: &[u8]) -> usize {
         hash = hash.wrapping_mul(31).wrapping_add(u32::from(*byte));
     }
     hash as usize % HINTS
+}
+
+// The hints for these names, or none where no memory is left for them.
+fn hints_for(alloc: Global, names: &IndexSet<String>) -> Vec<u16> {
+    let mut hints = Vec::new(alloc);
+    if hints.resize(HINTS, 0).is_err() {
+        return hints;
+    }
+    for (number, name) in names.iter().enumerate() {
+        if let Some(hint) = hints.get_mut(slot_of(name.as_bytes())) {
+            *hint = number.min(u16::MAX as usize) as u16;
+        }
+    }
+    hints
 }
 
 // Whether these are the same bytes. Names are short, so one after the other.
@@ -103,6 +117,9 @@ impl NameTable {
         ensures place { IfSome result (λ number. place_of name.now self.now ≡ Some number) }
         ensures within { IfSome result (λ number. number < length self.now) }
     {
+        if self.hints.is_empty() {
+            return None;
+        }
         let hint = usize::from(*self.hints.get(slot_of(name))?);
         if hint >= self.len() {
             return None;
@@ -133,12 +150,21 @@ impl NameTable {
     }
 
     /// A table of the same names, with the same numbers.
-    pub(crate) fn copy(&self) -> Result<NameTable, AllocError>
+    pub(crate) fn copy(&self, alloc: Global) -> Result<NameTable, AllocError>
         ensures { IfOk result (λ copy. copy ≡ self.now) }
     {
         let names = self.names.clone()?;
-        let hints = self.hints.clone()?;
+        let hints = self.hints.clone().unwrap_or(Vec::new(alloc));
         Ok(NameTable { names, hints })
+    }
+
+    /// The same table, with hints for who asks by bytes.
+    pub(crate) fn with_hints(self, alloc: Global) -> NameTable
+        ensures { result ≡ self }
+    {
+        let NameTable { names, hints: _ } = self;
+        let hints = hints_for(alloc, &names);
+        NameTable { names, hints }
     }
 
     /// Adds a copy of a name, unless it is there.
@@ -148,13 +174,8 @@ impl NameTable {
             (λ added. self.new ≡ (if added then self.old ++ name.now ∷ [] else self.old)) }
         ensures err { OnErr result (self.new ≡ self.old) }
     {
-        let slot = slot_of(name.as_bytes());
         let name = String::from_str(alloc, name)?;
-        self.hints.resize(HINTS, 0)?;
-        let (number, is_new) = self.names.insert_full(name)?;
-        if let Some(hint) = self.hints.get_mut(slot) {
-            *hint = number.min(u16::MAX as usize) as u16;
-        }
+        let (_, is_new) = self.names.insert_full(name)?;
         Ok(is_new)
     }
 }

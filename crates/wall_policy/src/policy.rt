@@ -119,8 +119,8 @@ impl Policy {
         Ok(Policy {
             version: text.version(),
             class_names,
-            dataset_names,
-            process_names,
+            dataset_names: dataset_names.with_hints(alloc),
+            process_names: process_names.with_hints(alloc),
             classes,
             homes,
             leasts,
@@ -129,14 +129,14 @@ impl Policy {
     }
 
     // The tables of an equal policy.
-    fn copied_tables(&self) -> Result<Tables, AllocError>
+    fn copied_tables(&self, alloc: Global) -> Result<Tables, AllocError>
         ensures classes { IfOk result (λ t. t.class_names ≡ self.now.class_names) }
         ensures datasets { IfOk result (λ t. t.dataset_names ≡ self.now.dataset_names) }
         ensures processes { IfOk result (λ t. t.process_names ≡ self.now.process_names) }
     {
-        let class_names = self.class_names.copy()?;
-        let dataset_names = self.dataset_names.copy()?;
-        let process_names = self.process_names.copy()?;
+        let class_names = self.class_names.copy(alloc)?;
+        let dataset_names = self.dataset_names.copy(alloc)?;
+        let process_names = self.process_names.copy(alloc)?;
         Ok(Tables {
             class_names,
             dataset_names,
@@ -167,7 +167,7 @@ impl Policy {
     pub fn copy(&self, alloc: Global) -> Result<Policy, NoMemory>
         ensures { IfOk result (λ copy. copy ≡ self.now) }
     {
-        let tables = self.copied_tables()?;
+        let tables = self.copied_tables(alloc)?;
         let lists = self.copied_lists(alloc)?;
         let Tables {
             class_names,

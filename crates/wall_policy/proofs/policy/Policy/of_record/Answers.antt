@@ -1,4 +1,4 @@
-use Rattle.std.proofs.Common.{subst, sym}
+use Rattle.std.proofs.Common.{subst, sym, ◌∙◌}
 use Rattle.wall_policy.specs.Meaning.{wall_of}
 use Rattle.wall_policy.specs.Policy.{IsPolicy}
 use Rattle.wall_policy.proofs.PolicyLemmas.{wall_of-IsPolicy}
@@ -10,8 +10,8 @@ invariant_of-result c =
     subst IsPolicy (λ i. record {
       version = sym c.version.ensures i;
       class_names = sym c.requires.classes i;
-      dataset_names = sym c.requires.datasets i;
-      process_names = sym c.requires.processes i;
+      dataset_names = (sym c.requires.datasets ∙ sym c.with_hints.ensures) i;
+      process_names = (sym c.requires.processes ∙ sym c.with_hints-2.ensures) i;
       classes = sym c.in_ok-lists.ensures.classes i;
       homes = sym c.in_ok-lists.ensures.homes i;
       leasts = sym c.in_ok-lists.ensures.leasts i;
