@@ -4,6 +4,7 @@ ghost use Rattle.std.specs.Prelude.{OnErr, IfSome, slice_get, Some};
 ghost use Rattle.std.specs.Prelude.{if◌then◌else◌, IsTrue, false};
 ghost use Rattle.wall_policy.specs.Names.{place_of, is_in, comes_twice};
 
+use crate::checks::NAME_LIMIT;
 use indexmap::IndexSet;
 use std::alloc::{AllocError, Global};
 use std::marker::Model;
@@ -117,7 +118,7 @@ impl NameTable {
         ensures place { IfSome result (λ number. place_of name.now self.now ≡ Some number) }
         ensures within { IfSome result (λ number. number < length self.now) }
     {
-        if self.hints.is_empty() {
+        if self.hints.is_empty() || name.len() > NAME_LIMIT {
             return None;
         }
         let hint = usize::from(*self.hints.get(slot_of(name))?);
