@@ -1,5 +1,5 @@
 //! Lists of numbers and of flags between commas.
-ghost use Rattle.std.specs.Prelude.{◌≡◌, ◌≢◌, [], ◌∷◌, MatchOption, IfSome, Err};
+ghost use Rattle.std.specs.Prelude.{◌≡◌, ◌≢◌, ◌≤◌, [], ◌∷◌, MatchOption, IfSome, Err};
 ghost use Rattle.coll_text.specs.Reading.{Gives, each_of, list_of, flag_of, parts as parts_of};
 ghost use Rattle.coll_text.specs.Fields.{number_of};
 
@@ -7,10 +7,13 @@ use crate::fault::LineFault;
 use crate::parts::Parts;
 use crate::words::number_in;
 use coll_routes::{Flags, Numbers};
-use std::alloc::Global;
+use std::alloc::{AllocError, Global};
 
 // Room is made at once for all numbers of a list, where they are no more.
 const ROOM: usize = 64;
+
+// So many numbers of 32 bits, each with its comma, have no more bytes.
+const ROOM_BYTES: usize = 704;
 
 pub(crate) fn flag_in(word: &[u8]) -> Result<bool, LineFault>
     ensures flag { Gives result (flag_of word.now) }
@@ -44,16 +47,36 @@ fn next_listed<'a>(parts: &mut Parts<'a>) -> Option<(&'a [u8], Result<u32, LineF
     }
 }
 
+// How many numbers of the list room is made for. No more of a long list is looked at than these.
+fn room_for(word: &[u8]) -> usize
+    ensures { result ≤ ROOM }
+{
+    let (front, _) = word.split_at(word.len().min(ROOM_BYTES));
+    Parts::new(front, b',').count().min(ROOM)
+}
+
+// Makes that room, where no number was entered yet.
+#[inline(always)]
+fn make_room(numbers: &mut Vec<u32>, word: &[u8]) -> Result<(), AllocError>
+    ensures { numbers.new.items ≡ numbers.old.items }
+{
+    if !numbers.is_empty() {
+        return Ok(());
+    }
+    numbers.reserve_exact(room_for(word))
+}
+
 fn each_number(alloc: Global, word: &[u8]) -> Result<Numbers, LineFault>
     ensures { Gives result (each_of number_of (parts_of 44 word.now)) }
 {
     let mut parts = Parts::new(word, b',');
-    let room = parts.count().min(ROOM);
-    let mut numbers: Vec<u32> = Vec::with_capacity(alloc, room)?;
+    let mut numbers: Vec<u32> = Vec::new(alloc);
     while let Some((part, number)) = next_listed(&mut parts) {
         // The part says what the number is in the contract, and is not looked at again.
         let _ = part;
-        numbers.push(number?)?;
+        let number = number?;
+        make_room(&mut numbers, word)?;
+        numbers.push(number)?;
     }
     Ok(Numbers::from(numbers))
 }

@@ -7,8 +7,8 @@ use Rattle.coll_text.proofs.lists.each_number.Goals as goal
 
 pub returns-in_err-number : goal.returns-in_err-number
 returns-in_err-number c =
-    let p = err_from_is_err_and c.from_residual-in_err-number.result
-    c.from_residual-in_err-number.ensures.1 in
+    let p = err_from_is_err_and c.from_residual.result
+    c.from_residual.ensures.1 in
     let fault : Fails c.in_err-number.field-0.0 (number_of c.in-Some.part.now)
     = rw c.in_err-number.was at c.in-Some.ensures.number in
     rw (p.1, p.2) (ends c.in_err-number.field-0.0 number_of c.loop-part.numbers.items
@@ -18,11 +18,11 @@ returns-in_err-number c =
 
 pub loop-part-preserved : goal.loop-part-preserved
 loop-part-preserved c =
-    let number : number_of c.in-Some.part.now ≡ Ok c.in_ok-number.field-0
+    let number : number_of c.in-Some.part.now ≡ Ok c.in_ok-number.number
     = rw c.in_ok-number.was at c.in-Some.ensures.number in
-    rw c.in_ok-push.ensures.items
+    rw (c.in_ok-push.ensures.items, c.make_room.ensures)
     (goes_on number_of c.loop-part.numbers.items c.in-Some.part.now c.loop-part.parts
-    c.next_listed.new.parts c.in_ok-number.field-0 (each_of number_of (parts 44 c.args.word.now))
+    c.next_listed.new.parts c.in_ok-number.number (each_of number_of (parts 44 c.args.word.now))
     c.in-Some.ensures.part number c.loop-part.invariant)
 
 pub returns : goal.returns
