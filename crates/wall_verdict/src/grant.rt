@@ -49,8 +49,8 @@ pub fn settle(policy: &Policy, histories: &mut Histories, roll: &Roll) -> Verdic
     ensures classes { histories.new.classes ≡ histories.old.classes }
     ensures apart { NobodyHoldsRivals policy.now.classes (has histories.new) }
 {
-    let labels = Inflow::of_labels(histories, roll);
-    let verdict = decide_by(policy, histories, roll, &labels);
+    let mut labels = Inflow::before(0);
+    let verdict = decide_by(policy, histories, roll, &mut labels);
     match verdict {
         Verdict::Granted => grant(policy, histories, roll, &labels),
         Verdict::Denied { .. } => {}

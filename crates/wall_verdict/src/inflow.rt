@@ -50,15 +50,15 @@ impl Inflow {
         }
     }
 
-    /// What all ranks label their elements with, wherever these go. Nothing else comes to anybody.
-    pub fn of_labels(histories: &Histories, roll: &Roll) -> Inflow
-        ensures { IsLabelled histories.now.classes roll.now roll.now.shape.size result }
+    /// Takes what all ranks label their elements with, wherever these go, and nothing else. Nothing
+    /// else comes to anybody.
+    pub fn take_labels(&mut self, histories: &Histories, roll: &Roll)
+        ensures { IsLabelled histories.now.classes roll.now roll.now.shape.size self.new }
     {
-        let mut labels = Inflow::before(0);
+        *self = Inflow::before(0);
         for rank in 0..roll.shape.size {
-            labels.take_label(histories, roll, rank);
+            self.take_label(histories, roll, rank);
         }
-        labels
     }
 
     // Takes the label of the next rank.

@@ -183,12 +183,14 @@ fn told(roll: &Roll, rank: u32) -> Label
     label_of(roll, rank).unwrap_or(Label::Public)
 }
 
+/// Takes the labels of all ranks, where nobody was barred.
 #[tactic(auto, unfolding(crate::specs::Verdicts::verdict))]
-fn judge(policy: &Policy, histories: &Histories, roll: &Roll, labels: &Inflow) -> Verdict
+fn judge(policy: &Policy, histories: &Histories, roll: &Roll, labels: &mut Inflow) -> Verdict
     requires fit { IsFit roll.now }
     requires classes { histories.now.classes ≡ policy.now.classes }
-    requires labels { IsLabelled histories.now.classes roll.now roll.now.shape.size labels.now }
-    ensures { result ≡ verdict policy.now (has histories.now) roll.now }
+    ensures verdict { result ≡ verdict policy.now (has histories.now) roll.now }
+    ensures labels { result ≡ Granted →
+        IsLabelled histories.now.classes roll.now roll.now.shape.size labels.new }
 {
     if let Some(rank) = first_barred(roll) {
         return Verdict::Denied {
@@ -197,6 +199,7 @@ fn judge(policy: &Policy, histories: &Histories, roll: &Roll, labels: &Inflow) -
             label: told(roll, rank),
         };
     }
+    labels.take_labels(histories, roll);
     match first_offence(policy, histories, roll, labels) {
         Some((to, from)) => Verdict::Denied {
             rule: Rule::Simple,
@@ -213,12 +216,14 @@ fn judge(policy: &Policy, histories: &Histories, roll: &Roll, labels: &Inflow) -
 /// of a receiver and a contributor for which that is so the least is named, the lowest receiver
 /// first. Else it is granted.
 ///
-/// Where no label that is stated has a rival among what the members have had access to or among the
-/// labels, looks at each rank twice. Where all receivers get alike from the ranks that reach them,
-/// as in an allreduce, an allgather or a scan, looks at each rank once, at the masks of each
-/// receiver, and, where one offends, at each rank for it once more. Between neighbours looks at the
-/// neighbours of each rank, and, where one offends, at each rank for it too. In an alltoallv looks
-/// at each pair of ranks.
+/// Where a post was barred, looks at no rank above the lowest such. Else looks at each rank three
+/// times: whether its post was barred, at its label, and at the masks of its process and of all
+/// labels. That is all where no label has a rival among what the members have had access to or
+/// among the labels. Else, where all receivers get alike from the ranks that reach them, as in an
+/// allreduce, an allgather or a scan, looks at each rank once more, at the masks of each receiver
+/// once more, and, where one offends, at each rank for it once more. Between neighbours looks at
+/// the neighbours of each rank, and, where one offends, at each rank for it too. In an alltoallv
+/// looks at each pair of ranks.
 pub fn decide(policy: &Policy, histories: &Histories, roll: &Roll) -> Verdict
     requires fit { IsFit roll.now }
     requires classes { histories.now.classes ≡ policy.now.classes }
@@ -226,18 +231,23 @@ pub fn decide(policy: &Policy, histories: &Histories, roll: &Roll) -> Verdict
     ensures meaning { IsVerdict policy.now (has histories.now) roll.now result }
     ensures apart { result ≡ Granted → MembersStayApart policy.now (has histories.now) roll.now }
 {
-    let labels = Inflow::of_labels(histories, roll);
-    decide_by(policy, histories, roll, &labels)
+    decide_by(policy, histories, roll, &mut Inflow::before(0))
 }
 
-/// The same, where the labels of all ranks are at hand.
-pub fn decide_by(policy: &Policy, histories: &Histories, roll: &Roll, labels: &Inflow) -> Verdict
+/// The same. Where it grants, the labels of all ranks are at hand afterwards.
+pub fn decide_by(
+    policy: &Policy,
+    histories: &Histories,
+    roll: &Roll,
+    labels: &mut Inflow,
+) -> Verdict
     requires fit { IsFit roll.now }
     requires classes { histories.now.classes ≡ policy.now.classes }
-    requires labels { IsLabelled histories.now.classes roll.now roll.now.shape.size labels.now }
     ensures verdict { result ≡ verdict policy.now (has histories.now) roll.now }
     ensures meaning { IsVerdict policy.now (has histories.now) roll.now result }
     ensures apart { result ≡ Granted → MembersStayApart policy.now (has histories.now) roll.now }
+    ensures labels { result ≡ Granted →
+        IsLabelled histories.now.classes roll.now roll.now.shape.size labels.new }
 {
     keep_apart(histories);
     judge(policy, histories, roll, labels)

@@ -1,10 +1,11 @@
 use Rattle.std.proofs.Common.{◌≡◌, ◌+◌, length, ◌∙◌, sym, subst, refl, arith}
-use Rattle.std.proofs.lemmas.Bool.{and_parts, not-false}
+use Rattle.std.proofs.lemmas.Bool.{and_parts}
 use Rattle.std.specs.Prelude.{not}
 use Rattle.wall_rules.specs.Histories.{has}
 use Rattle.wall_verdict.specs.Charges.{sanitised, contributed}
 use Rattle.wall_verdict.specs.Inflows.{Serves}
-use Rattle.wall_verdict.proofs.GrantLemmas.{under_none, under_all, under_more, under_kept, may_enter}
+use Rattle.wall_verdict.proofs.GrantLemmas.{under_none, under_all, under_more, under_kept}
+use Rattle.wall_verdict.proofs.GrantLemmas.{may_enter}
 use Rattle.wall_verdict.proofs.InflowLemmas.{nothing_serves, serves_on, labels_have}
 use Rattle.wall_verdict.proofs.grant.grant.Goals.{then-not-has_all, else-not-has_all}
 use Rattle.wall_verdict.proofs.grant.grant.Goals as goal

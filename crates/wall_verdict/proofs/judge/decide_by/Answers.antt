@@ -7,11 +7,11 @@ use Rattle.wall_verdict.proofs.judge.decide_by.Goals as goal
 pub returns-clause-meaning : goal.returns-clause-meaning
 returns-clause-meaning c = subst
     (λ v. IsVerdict c.args.policy.now (has c.args.histories.now) c.args.roll.now v)
-    (sym c.judge.ensures) (verdicts_name_the_least c.args.policy.now (has c.args.histories.now)
-    c.args.roll.now c.requires.fit)
+    (sym c.judge.ensures.verdict) (verdicts_name_the_least c.args.policy.now
+    (has c.args.histories.now) c.args.roll.now c.requires.fit)
 
 pub returns-clause-apart : goal.returns-clause-apart
 returns-clause-apart c = λ granted. granted_apart c.args.policy.now (has c.args.histories.now)
     c.args.roll.now c.requires.fit (subst
     (λ classes. NobodyHoldsRivals classes (has c.args.histories.now)) c.requires.classes
-    c.keep_apart.ensures) (sym c.judge.ensures ∙ granted)
+    c.keep_apart.ensures) (sym c.judge.ensures.verdict ∙ granted)

@@ -28,8 +28,8 @@ pub returns-in-Some : goal.returns-in-Some
 returns-in-Some c =
     inflow_more c.args.histories.now.classes (λ (t : ℕ). dataset_in (label_of c.args.roll.now t))
     c.args.rank c.args.self.now c.add.new.self c.requires.inflow
-    c.in-Some.dataset (ap dataset_in (sym c.label_of.ensures) ∙ sym c.in-Some.ensures) c.add.ensures.number c.add.ensures.different
-    c.add.ensures.datasets c.add.ensures.rivals
+    c.in-Some.dataset (ap dataset_in (sym c.label_of.ensures) ∙ sym c.in-Some.ensures)
+    c.add.ensures.number c.add.ensures.different c.add.ensures.datasets c.add.ensures.rivals
 
 pub returns-in-None : goal.returns-in-None
 returns-in-None c =
