@@ -198,7 +198,8 @@ impl<X: Drop> PostState<X> {
     pub fn joins(&self, _policy: &Policy, process: ProcessId, comm: u32, stated: &Stated) -> bool
         requires { fault_of _policy.now (view_of self.now) process comm stated.now.sig
             stated.now.own (stated_type stated.now.sig) stated.now.given ≡ None }
-        ensures { IsTrue result → JoinsOthers (view_of self.now) process comm stated.now.sig }
+        ensures others { IsTrue result → JoinsOthers (view_of self.now) process comm stated.now.sig }
+        ensures all { JoinsOthers (view_of self.now) process comm stated.now.sig → IsTrue result }
     {
         let Some(rank) = self.comms.group(comm).rank_of(process) else {
             unreachable!()
@@ -287,7 +288,8 @@ impl<X: Drop> PostState<X> {
 }
 
 fn is_joining(next: Next) -> bool
-    ensures { IsTrue result → next ≡ Joins }
+    ensures others { IsTrue result → next ≡ Joins }
+    ensures all { next ≡ Joins → IsTrue result }
 {
     match next {
         Next::Joins => true,
