@@ -1,8 +1,10 @@
 -- What a take answers, and what it makes of a hall.
-use Rattle.std.proofs.Common.{◌≡◌, ◌≢◌, ℕ, ◌+◌, ◌<◌, true, ◌&&◌, ◌||◌, List, [], ◌∷◌, set, length}
+use Rattle.std.proofs.Common.{◌≡◌, ◌≢◌, ℕ, ◌+◌, ◌<◌, Bool, true, false, ◌&&◌, ◌||◌, List, []}
+use Rattle.std.proofs.Common.{◌∷◌, set, length}
 use Rattle.std.proofs.Common.{refl, sym, ap, ◌∙◌, subst, Option, Some, None, slice_get, option_map}
 use Rattle.std.proofs.Common.{⊎_elim, inl, inr, eq-eqb, ne_eqb}
 use Rattle.std.specs.Prelude.{◌==◌}
+use Rattle.std.specs.Option.{is_some}
 use Rattle.std.proofs.lemmas.Bool.{cond-true, cond-false, false≢true, and_left}
 use Rattle.std.proofs.lemmas.List.{length-set}
 use Rattle.wall_policy.specs.Policy.{ChineseWall}
@@ -54,6 +56,11 @@ quiet_steps old new p act got same nothing due = λ m is stands. (
 )
 
 -- ## the reply to a take
+
+-- where it is told that there is nothing, there is nothing
+pub none_of : {A : Type 0} (o : Option A) (b : Bool) → b ≡ is_some o → b ≡ false → o ≡ None
+none_of None b e h = refl
+none_of (Some x) b e h = absurd (false≢true (sym h ∙ e))
 
 module _ (hall : HallView) (m : Effects) (stands : StandsForEffects hall m) (p r : ℕ) where
   pub refused_due : opened (hall.asked p) r ≡ None →

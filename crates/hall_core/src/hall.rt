@@ -55,6 +55,7 @@ impl Hall {
     ghost use Rattle.hall_core.specs.Claims.{to_take, claim_reply, claim_entry, Claims, CanFinish};
     ghost use Rattle.hall_core.specs.Claims.{lean_reply, lean_entry, LeanClaims, CanTell};
     ghost use Rattle.hall_core.specs.Claims.{IsTakenUnread};
+    ghost use Rattle.hall_core.specs.Asking.{open_for};
     ghost use Rattle.run_model.specs.Known.{HasKnownLabel, IsKnownReply, IsKnownEntry};
 
     /// A hall that stands for the empty run. `NoMemory` is answered only where a growth was
@@ -158,6 +159,14 @@ impl Hall {
             Some(asked) => Some((asked.comm, asked.k)),
             None => None,
         }
+    }
+
+    /// How many requests for instance k of a communicator are open, of all processes. An instance
+    /// is let go with the last of them.
+    pub fn open_requests(&self, comm: u32, k: u64) -> u64
+        ensures { result ≡ open_for (view_of self.now).asked (processes self.now.policy) comm k }
+    {
+        self.records.settled.waiting(comm, k)
     }
 
     /// The policy that the hall was opened with.

@@ -166,7 +166,15 @@ impl Records {
         ensures can { CanFinish result }
         ensures holds { HoldsWhatIsKept (view_in self.old) process request result }
     {
-        match self.claim_lean(process, request, false) {
+        // As in `claim_lean`, and not by it: a rank that waits comes here at each of its tries.
+        let number = request as usize;
+        let Some(asked) = requests::opened_by(&self.requests, process, number) else {
+            return Claim::Done(Reply::Refused(Refusal::NoSuchRequest));
+        };
+        if !self.freeze(asked.comm, asked.k) {
+            return Claim::Done(Reply::Pending);
+        }
+        match self.claim_of(process, request, asked, false) {
             LeanClaim::Claimed(claim) => claim,
             LeanClaim::Copied { .. } => unreachable!(),
         }

@@ -204,6 +204,20 @@ impl Row {
         }
     }
 
+    // How many requests for the instance of that number are open.
+    #[tactic(auto, using(crate::proofs::SettlingLemmas::place_behind, crate::proofs::SettlingLemmas::place_ahead))]
+    fn waiting(&self, k: usize) -> u64
+        ensures { result ≡ (place_in self.now.list k).waiting }
+    {
+        if k < self.first {
+            return 0;
+        }
+        match self.places.get(k - self.first) {
+            Some(place) => place.waiting,
+            None => 0,
+        }
+    }
+
     // Makes a place for the instance of that number. Of those that were dropped it takes back only
     // those from that number on.
     fn ready(&mut self, k: usize) -> Result<(), NoMemory>
@@ -339,6 +353,13 @@ impl Settlements {
         settlement_of(&self.rows, comm as usize, k as usize)
     }
 
+    /// How many requests for instance k of a communicator are open.
+    pub fn waiting(&self, comm: u32, k: u64) -> u64
+        ensures { result ≡ open_at self.now comm k }
+    {
+        waiting_at(&self.rows, comm as usize, k as usize)
+    }
+
     /// Makes a place for instance k of a communicator.
     pub fn ready(&mut self, comm: u32, k: u64) -> Result<(), NoMemory>
         requires { k < 2 ^ 62 }
@@ -415,6 +436,17 @@ fn settlement_of(rows: &[Row], comm: usize, k: usize) -> Option<&Settlement>
         rows[comm].settlement(k)
     } else {
         None
+    }
+}
+
+#[tactic(auto, using(crate::proofs::SettlingLemmas::rows_read, crate::proofs::SettlingLemmas::rows_past))]
+fn waiting_at(rows: &[Row], comm: usize, k: usize) -> u64
+    ensures { result ≡ open_at rows.now comm k }
+{
+    if comm < rows.len() {
+        rows[comm].waiting(k)
+    } else {
+        0
     }
 }
 

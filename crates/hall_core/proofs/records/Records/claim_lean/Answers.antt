@@ -1,12 +1,10 @@
-use Rattle.std.proofs.Common.{◌≡◌, Bool, false, Option, Some, None, refl, sym, ap, ◌∙◌, inl}
-use Rattle.std.proofs.lemmas.Bool.{false≢true}
-use Rattle.std.specs.Option.{is_some}
+use Rattle.std.proofs.Common.{refl, sym, ap, ◌∙◌, inl}
 use Rattle.run_model.specs.declared.refusal.Refusal.TheVariants.{NoSuchRequest}
 use Rattle.run_model.specs.declared.call.Act.TheVariants.{Take as ToTake}
 use Rattle.run_model.specs.declared.reply.Reply.TheVariants.{Refused, Pending}
 use Rattle.hall_core.specs.Asking.{opened, requests_of}
 use Rattle.hall_core.specs.Invariant.{view_in}
-use Rattle.hall_core.proofs.TakeLemmas.{quiet_steps, refused_due, pending_due}
+use Rattle.hall_core.proofs.TakeLemmas.{quiet_steps, refused_due, pending_due, none_of}
 use Rattle.hall_core.proofs.records.Records.claim_lean.Goals as goal
 
 pub returns-in_default-clause-steps : goal.returns-in_default-clause-steps
@@ -16,10 +14,6 @@ returns-in_default-clause-steps c =
     (λ m is stands. inl (sym (refused_due hall m stands c.args.process c.args.request
     (ap (λ items. opened (requests_of items c.args.process) c.args.request)
     (sym c.deref.ensures.value) ∙ sym c.in_default.ensures.request))))
-
-none_of : {A : Type 0} (o : Option A) (b : Bool) → b ≡ is_some o → b ≡ false → o ≡ None
-none_of None b e h = refl
-none_of (Some x) b e h = absurd (false≢true (sym h ∙ e))
 
 pub returns-then-not-freeze-clause-steps : goal.returns-then-not-freeze-clause-steps
 returns-then-not-freeze-clause-steps c =
