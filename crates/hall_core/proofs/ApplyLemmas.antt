@@ -27,14 +27,14 @@ use Rattle.hall_core.specs.declared.claims.Claim.{Claim}
 use Rattle.hall_core.specs.declared.claims.LeanClaim.{LeanClaim}
 use Rattle.hall_core.specs.declared.requests.Request.{Request}
 use Rattle.hall_core.specs.Claims.{HoldsWhatIsKept, Claims, LeanHoldsWhatIsKept, LeanClaims}
-use Rattle.hall_core.specs.Claims.{to_take, IsTakenUnread}
+use Rattle.hall_core.specs.Claims.{to_take, IsTakenUnread, GetsNoBlock}
 use Rattle.hall_core.proofs.TakeLemmas.{open_at, refused_due}
-use Rattle.hall_core.proofs.ClaimLemmas.{held_claims, lean_claims, share_claimed}
+use Rattle.hall_core.proofs.ClaimLemmas.{held_claims, lean_claims, share_claimed, no_block}
 use Rattle.hall_core.specs.Halls.{HallValue, StandsForEffects, StandsForRun, StandsFor, view_of}
 use Rattle.hall_core.specs.Asking.{opened, requests_of}
 use Rattle.hall_core.specs.Settling.{KeepsCount}
 use Rattle.hall_core.specs.Invariant.{IsHallValue}
-use Rattle.hall_core.specs.Moves.{Steps, TakesUnread}
+use Rattle.hall_core.specs.Moves.{Steps, TakesUnread, HoldsNoBlock}
 use Rattle.run_model.specs.Known.{HasKnownLabel, IsKnownEntry}
 use Rattle.hall_core.proofs.NamedLemmas.{is_hall_after, book_named}
 
@@ -214,8 +214,8 @@ pub taken_unread : (old new : HallValue) (p r rank : ℕ) → new.policy ≡ old
     IsTakenUnread old new p r rank run
 taken_unread old new p r rank same takes run legal stands =
     let of = stands_for old run stands in
-    let after = applied old new (to_take p r) (Delivered (value takes.full rank)) same takes.steps run
-    legal stands in
+    let after = applied old new (to_take p r) (Delivered (value takes.full rank)) same takes.steps
+    run legal stands in
     record {
       full = takes.full;
       claimed = share_claimed (view_of old) of.kept (effects run) of.stands of.same p r takes.full
@@ -232,6 +232,14 @@ pub taken_by : (old new : HallValue) (p r : ℕ) (o : Option ℕ) → new.policy
     IsTakenUnread old new p r rank run)
 taken_by old new p r (Some rank) same takes = taken_unread old new p r rank same takes
 taken_by old new p r None same takes = tt
+
+pub none_by : (old : HallValue) (p r : ℕ) (o : Option ℕ) →
+    IfNone o (HoldsNoBlock (view_of old) p r) →
+    IfNone o ((run : List Entry) → StandsFor old run → GetsNoBlock old.policy (effects run) p r)
+none_by old p r (Some rank) none = tt
+none_by old p r None none = λ run stands.
+    let of = stands_for old run stands in
+    no_block (view_of old) of.kept (effects run) of.stands of.same p r none
 
 -- it is a hall in either case
 pub hall_by : (old new : HallValue) (p r : ℕ) (o : Option ℕ) → IsHallValue old →

@@ -1,5 +1,5 @@
 -- Claims: takes that leave the filling to their caller.
-use Rattle.std.specs.Prelude.{◌≡◌, ◌≢◌, ℕ, ◌<◌, List, ◌∷◌, Some, None, slice_get}
+use Rattle.std.specs.Prelude.{◌≡◌, ◌≢◌, ℕ, ◌<◌, false, List, ◌∷◌, Some, None, slice_get}
 use Rattle.std.specs.Arc.{arc_value}
 use Rattle.wall_policy.specs.Policy.{ChineseWall}
 use Rattle.mpi_elems.specs.Contents.{Contents}
@@ -174,3 +174,9 @@ pub record IsTakenUnread (old new : HallValue) (p request rank : ℕ) (run : Lis
     pub place : places full.roll rank ≢ 0
     pub legal : Legal new.policy (entry (to_take p request) (Delivered (value full rank)) ∷ run)
     pub stands : StandsFor new (entry (to_take p request) (Delivered (value full rank)) ∷ run)
+
+-- Of the instance that the request of p is for, if that was granted, as the run has it, p gets no
+-- block; or the request is taken.
+abbrev pub GetsNoBlock : ChineseWall → Effects → (p request : ℕ) → Type 0
+GetsNoBlock wall effects p request = effects.taken p request ≡ false → (full : Full Contents) →
+    (rank : ℕ) → IsClaimed wall effects p request full rank → places full.roll rank ≡ 0

@@ -120,3 +120,8 @@ pub record TakesUnread (old new : HallView) (p request rank : ℕ) : Type 0 wher
   pub held : IsHeld old p request full rank
   pub place : places full.roll rank ≢ 0
   pub steps : Steps old new p (Take request) (Delivered (value full rank))
+
+-- of the instance of this open request, if that was granted, p gets no block
+abbrev pub HoldsNoBlock : HallView → (p request : ℕ) → Type 0
+HoldsNoBlock hall p request = (full : Full Contents) → (rank : ℕ) →
+    IsHeld hall p request full rank → places full.roll rank ≡ 0

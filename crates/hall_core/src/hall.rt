@@ -54,7 +54,7 @@ impl Hall {
     ghost use Rattle.hall_core.specs.Halls.{StandsFor, view_of};
     ghost use Rattle.hall_core.specs.Claims.{to_take, claim_reply, claim_entry, Claims, CanFinish};
     ghost use Rattle.hall_core.specs.Claims.{lean_reply, lean_entry, LeanClaims, CanTell};
-    ghost use Rattle.hall_core.specs.Claims.{IsTakenUnread};
+    ghost use Rattle.hall_core.specs.Claims.{IsTakenUnread, GetsNoBlock};
     ghost use Rattle.hall_core.specs.Asking.{open_for};
     ghost use Rattle.run_model.specs.Known.{HasKnownLabel, IsKnownReply, IsKnownEntry};
 
@@ -142,6 +142,8 @@ impl Hall {
         ensures policy { self.new.policy ≡ self.old.policy }
         ensures taken { IfSome result (λ rank. (run : List Entry) → Legal self.old.policy run →
             StandsFor self.old run → IsTakenUnread self.old self.new process request rank run) }
+        ensures none { IfNone result ((run : List Entry) → StandsFor self.old run →
+            GetsNoBlock self.old.policy (effects run) process request) }
         ensures unchanged { IfNone result (self.new ≡ self.old) }
     {
         self.records.take_unread(process, request)

@@ -25,7 +25,7 @@ ghost use Rattle.hall_core.specs.Settling.{HasPlace, open_at, settlement_at};
 ghost use Rattle.hall_core.specs.Halls.{StandsForEffects};
 ghost use Rattle.hall_core.specs.Invariant.{AreCounted, IsHallView, view_in};
 ghost use Rattle.hall_core.specs.Moves.{info_of, number_in, IsRecorded, HasRoom, Counts, Closes};
-ghost use Rattle.hall_core.specs.Moves.{Steps, TakesUnread};
+ghost use Rattle.hall_core.specs.Moves.{Steps, TakesUnread, HoldsNoBlock};
 
 use crate::claims::{Claim, LeanClaim, finish};
 use crate::instance::Instance;
@@ -218,6 +218,7 @@ impl Records {
         ensures counted { AreCounted self.new }
         ensures taken { IfSome result (λ rank.
             TakesUnread (view_in self.old) (view_in self.new) process request rank) }
+        ensures none { IfNone result (HoldsNoBlock (view_in self.old) process request) }
         ensures unchanged { IfNone result (self.new ≡ self.old) }
     {
         let number = request as usize;

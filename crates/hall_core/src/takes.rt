@@ -1,6 +1,6 @@
 //! What claims on instances that were filled come to.
 ghost use Rattle.std.specs.Prelude.{◌≡◌, ◌≢◌, ◌≤◌, ◌+◌, length, IfOk, IsErr, IsFalse, Some, None};
-ghost use Rattle.std.specs.Prelude.{IfSome};
+ghost use Rattle.std.specs.Prelude.{ℕ, IfSome, IfNone};
 ghost use Rattle.coll_routes.specs.Rolls.{places as places_of};
 ghost use Rattle.coll_values.specs.Instances.{IsWhole};
 ghost use Rattle.mpi_group.specs.Groups.{rank_in};
@@ -91,10 +91,13 @@ fn ready(
     Ok(LeanClaim::Claimed(Claim::Ready { full, rank, room }))
 }
 
-/// The rank of a member in an instance that was filled, where that was granted and the member gets a
-/// block of it.
+/// The rank of a member in an instance that was filled, where that was granted and the member gets
+/// a block of it.
 pub fn rank_served(settlement: &Settlement, member: ProcessId) -> Option<u32>
-    ensures { IfSome result (λ rank. IsServed settlement.now member rank) }
+    ensures served { IfSome result (λ rank. IsServed settlement.now member rank) }
+    ensures none { IfNone result (settlement.now.outcome ≡ Granted → (rank : ℕ) →
+        rank_in settlement.now.full.roll.members member ≡ Some rank →
+        places_of settlement.now.full.roll rank ≡ 0) }
 {
     if matches!(&settlement.outcome, Outcome::Granted) {
         rank_granted(settlement, member)
@@ -106,7 +109,10 @@ pub fn rank_served(settlement: &Settlement, member: ProcessId) -> Option<u32>
 // The same of one that was granted.
 fn rank_granted(settlement: &Settlement, member: ProcessId) -> Option<u32>
     requires { settlement.now.outcome ≡ Granted }
-    ensures { IfSome result (λ rank. IsServed settlement.now member rank) }
+    ensures served { IfSome result (λ rank. IsServed settlement.now member rank) }
+    ensures none { IfNone result ((rank : ℕ) →
+        rank_in settlement.now.full.roll.members member ≡ Some rank →
+        places_of settlement.now.full.roll rank ≡ 0) }
 {
     match settlement.full.form() {
         Form::Plain(full) => rank_with_place(full, member),
@@ -118,6 +124,8 @@ fn rank_granted(settlement: &Settlement, member: ProcessId) -> Option<u32>
 fn rank_with_place(full: &Full<Buffer>, member: ProcessId) -> Option<u32>
     ensures member { IfSome result (λ rank. rank_in full.now.roll.members member ≡ Some rank) }
     ensures place { IfSome result (λ rank. places_of full.now.roll rank ≢ 0) }
+    ensures none { IfNone result ((rank : ℕ) → rank_in full.now.roll.members member ≡ Some rank →
+        places_of full.now.roll rank ≡ 0) }
 {
     match full.roll.members.rank_of(member) {
         Some(rank) => {

@@ -1,8 +1,5 @@
-use Rattle.std.proofs.Common.{◌≡◌, Option, Some, None, ap, ◌∙◌}
-use Rattle.std.specs.Prelude.{IfNone}
-use Rattle.hall_core.specs.declared.records.Records.{Records}
 use Rattle.hall_core.specs.Invariant.{value_in}
-use Rattle.hall_core.proofs.ApplyLemmas.{taken_by, hall_by, same_by}
+use Rattle.hall_core.proofs.ApplyLemmas.{taken_by, none_by, hall_by, same_by}
 use Rattle.hall_core.proofs.hall.Hall.take_unread.Goals as goal
 
 pub invariant_of-self : goal.invariant_of-self
@@ -15,9 +12,14 @@ invariant_of-self c =
 
 pub returns-clause-taken : goal.returns-clause-taken
 returns-clause-taken c =
-    rw (← c.self.view_is) (taken_by (value_in c.self.inside.records) (value_in c.take_unread.new.self)
-    c.args.process c.args.request c.take_unread.result c.take_unread.ensures.policy
-    c.take_unread.ensures.taken)
+    rw (← c.self.view_is) (taken_by (value_in c.self.inside.records)
+    (value_in c.take_unread.new.self) c.args.process c.args.request c.take_unread.result
+    c.take_unread.ensures.policy c.take_unread.ensures.taken)
+
+pub returns-clause-none : goal.returns-clause-none
+returns-clause-none c =
+    rw (← c.self.view_is) (none_by (value_in c.self.inside.records) c.args.process c.args.request
+    c.take_unread.result c.take_unread.ensures.none)
 
 pub returns-clause-unchanged : goal.returns-clause-unchanged
 returns-clause-unchanged c =
