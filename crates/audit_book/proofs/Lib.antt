@@ -14,4 +14,3 @@ pub mod FaultLemmas
 pub mod ScanLemmas
 pub mod SpelledRowProofs
 mod SameLemmas
-mod JudgeLemmas

@@ -142,7 +142,7 @@ by_fault n f (Ok (Said e)) others ended h = absurd cc
 by_fault n f (Ok (End j)) others ended h = absurd cc
 by_fault n f (Err g) others ended h = refl
 
-pub fails_is : {A : Type 0} (f : LineFault) (said : Result A LineFault) → Fails f said →
+fails_is : {A : Type 0} (f : LineFault) (said : Result A LineFault) → Fails f said →
     (f ≡ lines.NoMemory → ⊥) → said ≡ Err f
 fails_is lines.NoMemory said h never = absurd (never refl)
 fails_is lines.BadVerb said h never = h

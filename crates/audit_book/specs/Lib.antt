@@ -12,8 +12,6 @@ pub mod Laws
 pub mod Writing
 -- how far the check of a book has come, and what its fault says
 pub mod Checks
--- what is found of a text that is read and checked in one go
-pub mod Judging
 -- how lines are read and written one after the other (of private contracts)
 pub mod LineSteps
 -- how a text is gone through where memory ran out (of private contracts)

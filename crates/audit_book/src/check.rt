@@ -77,12 +77,11 @@ fn follow_all(
     }
 }
 
-/// Why the check goes no further.
+// Why the check goes no further.
 #[derive(Clone, Copy)]
-pub(crate) enum Stopped {
-    /// No sound book goes on like this.
+enum Stopped {
+    // No sound book goes on like this.
     Wrong,
-    /// Memory ran out.
     NoMemory,
 }
 
@@ -157,8 +156,8 @@ fn count(
     }
 }
 
-/// Why a post would be refused, for the posts so far.
-pub(crate) fn refusal(
+// Why a post would be refused, for the posts so far.
+fn refusal(
     policy: &Policy,
     post_state: &PostState<()>,
     process: ProcessId,
@@ -180,8 +179,8 @@ pub(crate) fn refusal(
     )
 }
 
-/// Whether the star rule lets the process post elements with this label.
-pub(crate) fn passes(post_state: &PostState<()>, process: ProcessId, label: &Option<Label>) -> bool
+// Whether the star rule lets the process post elements with this label.
+fn passes(post_state: &PostState<()>, process: ProcessId, label: &Option<Label>) -> bool
     ensures { (wall : ChineseWall) (past : List Post) → Stands wall post_state.now past →
         result ≡ star (histories wall past) process label.now }
 {
@@ -213,8 +212,8 @@ fn enter(
     }
 }
 
-/// The outcome of an instance of this communicator, if a post filled one.
-pub(crate) fn due_after(comm: u32, entered: &Entered<()>) -> Option<Due>
+// The outcome of an instance of this communicator, if a post filled one.
+fn due_after(comm: u32, entered: &Entered<()>) -> Option<Due>
     ensures { result ≡ due_after comm entered.now }
 {
     match entered {

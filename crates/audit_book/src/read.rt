@@ -111,7 +111,7 @@ pub fn read_book(alloc: Global, policy: &Policy, text: &[u8]) -> Result<Book, Re
     match take_lines(alloc, policy, first, &mut lines, &mut book) {
         Ok(()) => Ok(book),
         Err(ReadFault::NoMemory) => {
-            check_lines(policy, 0, first, &mut again)?;
+            check_lines(policy, first, &mut again)?;
             Err(ReadFault::NoMemory)
         }
         Err(fault) => Err(fault),

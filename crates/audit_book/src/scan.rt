@@ -2,7 +2,7 @@
 //!
 //! Where a text found no memory, it is gone through here: a fault of it is told before out of
 //! memory. Nothing here takes memory.
-ghost use Rattle.std.specs.Prelude.{◌≡◌, ◌≢◌, ◌≤◌, ◌+◌, ◌∷◌, length, Err};
+ghost use Rattle.std.specs.Prelude.{◌≡◌, ◌≢◌, ◌≤◌, ◌∷◌, length, Err};
 ghost use Rattle.coll_text.specs.Reading.{Gives, parts as parts_of};
 ghost use Rattle.audit_book.specs.Reading.{entries_in};
 ghost use Rattle.audit_book.specs.LineChecks.{post_told, behind_told, line_told, text_told};
@@ -70,20 +70,15 @@ fn check_line(policy: &Policy, line: &[u8]) -> Result<Option<u64>, LineFault>
     check_words(policy, &mut words)
 }
 
-/// Goes through the lines behind the header and so many entries, of which the first is here: the
-/// fault of the text, if it has one.
-pub(crate) fn check_lines(
-    policy: &Policy,
-    before: u64,
-    first: &[u8],
-    lines: &mut Parts,
-) -> Result<(), ReadFault>
-    requires { before + length lines.old ≤ 9223372036854775808 }
-    ensures text { result ≡ text_told (entries_in policy.now before (first.now ∷ lines.old)) }
+/// Goes through the lines behind the header, of which the first is here: the fault of the text, if
+/// it has one.
+pub(crate) fn check_lines(policy: &Policy, first: &[u8], lines: &mut Parts) -> Result<(), ReadFault>
+    requires { length lines.old ≤ 9223372036854775808 }
+    ensures text { result ≡ text_told (entries_in policy.now 0 (first.now ∷ lines.old)) }
     ensures memory { result ≢ Err ReadFault.NoMemory }
 {
     let mut line = first;
-    let mut entries = before;
+    let mut entries: u64 = 0;
     while let Some(next) = lines.next() {
         match check_line(policy, line) {
             Ok(None) => {}

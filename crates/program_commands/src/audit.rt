@@ -1,19 +1,18 @@
 //! Audits a book under a policy, over any devices.
-ghost use Rattle.std.specs.Prelude.{◌≡◌, ◌≤◌, List, length, Ok, IfOk, IfErr, OnOk, OnErr};
-ghost use Rattle.run_model.specs.declared.entry.Entry.{Entry};
+ghost use Rattle.std.specs.Prelude.{◌≡◌, Ok, IfOk, IfErr, OnOk, OnErr};
 ghost use Rattle.audit_book.specs.Reading.{book_in};
 ghost use Rattle.hall_script.specs.Devices.{used, IsWritten, BrokeOff};
 ghost use Rattle.program_commands.specs.Endings.{EndsSo};
 ghost use Rattle.program_commands.specs.Auditing.{text_ending, finding_ending, finding_line};
-ghost use Rattle.program_commands.specs.Auditing.{IsBookOf, GivesNoBook, book_limit};
+ghost use Rattle.program_commands.specs.Auditing.{IsBookOf, GivesNoBook};
 ghost use Rattle.program_commands.specs.Auditing.{IsNoBook, IsFound, Announces, Audits, AuditEnds};
 
 use crate::ending::{Ending, end, write_numbered};
 use crate::wall::read_wall;
-use audit_book::{Judged, ReadFault, judge_book};
+use audit_book::{Book, BookFault, ReadFault, check_book, read_book};
 use hall_script::{DeviceFault, read_device};
 use std::alloc::Global;
-use wall_labels::{Failed, Sink, Source};
+use wall_labels::{Failed, NoMemory, Sink, Source};
 use wall_policy::Policy;
 
 /// The most bytes that a book may have.
@@ -46,32 +45,39 @@ fn finding_ending(finding: Finding) -> Ending
     }
 }
 
-// Judges the text of a book. Out of memory comes only in place of a finding.
-fn judge(alloc: Global, wall: &Policy, text: &[u8]) -> Result<Finding, Ending>
-    requires { length text.now ≤ book_limit }
-    ensures found { IfOk result (λ finding. (entries : List Entry)
-        × (book_in wall.now text.now ≡ Ok entries) × IsFound wall.now entries finding) }
+// Reads the text of a book. Out of memory comes only in place of a book.
+fn book_of(alloc: Global, wall: &Policy, text: &[u8]) -> Result<Book, Ending>
+    ensures book { IfOk result (λ book. book_in wall.now text.now ≡ Ok book.list) }
     ensures ending { IfErr result (GivesNoBook wall.now text.now) }
 {
-    match judge_book(alloc, wall, text) {
-        Ok(Judged::Sound(number)) => Ok(Finding::Sound(number)),
-        Ok(Judged::Unsound(number)) => Ok(Finding::Unsound(number)),
+    match read_book(alloc, wall, text) {
+        Ok(book) => Ok(book),
         Err(fault) => Err(text_ending(fault)),
     }
 }
 
-// Reads a book whole, and judges it.
-fn find<B: Source>(alloc: Global, wall: &Policy, source: &mut B) -> Result<Finding, Ending>
-    ensures found { let device = used B.failures B.remaining source.old source.new in
-        IfOk result (λ finding. (entries : List Entry) × IsBookOf wall.now device entries
-        × IsFound wall.now entries finding) }
+// Reads a book whole.
+fn read_entries<B: Source>(alloc: Global, wall: &Policy, source: &mut B) -> Result<Book, Ending>
+    ensures book { let device = used B.failures B.remaining source.old source.new in
+        IfOk result (λ book. IsBookOf wall.now device book.list) }
     ensures ending { let device = used B.failures B.remaining source.old source.new in
         IfErr result (IsNoBook wall.now device) }
 {
     match read_device(alloc, source, BOOK_LIMIT) {
-        Ok(bytes) => judge(alloc, wall, &bytes),
+        Ok(bytes) => book_of(alloc, wall, &bytes),
         Err(DeviceFault::Read) => Err(Ending::ReadFault),
         Err(DeviceFault::NoMemory) => Err(Ending::NoMemory),
+    }
+}
+
+// Checks a book.
+fn judge(alloc: Global, wall: &Policy, book: &Book) -> Result<Finding, NoMemory>
+    ensures { IfOk result (IsFound wall.now book.now.list) }
+{
+    match check_book(alloc, wall, book) {
+        Ok(()) => Ok(Finding::Sound(book.len() as u64)),
+        Err(BookFault::BadEntry(number)) => Ok(Finding::Unsound(number)),
+        Err(BookFault::NoMemory) => Err(NoMemory),
     }
 }
 
@@ -110,9 +116,15 @@ fn audit_under<B: Source, O: Sink>(
         (used O.failures O.contents out.old out.new)
         result }
 {
-    match find(alloc, wall, book) {
+    let entries = match read_entries(alloc, wall, book) {
+        Ok(entries) => entries,
+        Err(ending) => return ending,
+    };
+    let judged = judge(alloc, wall, &entries);
+    drop(entries);
+    match judged {
         Ok(finding) => tell(out, finding),
-        Err(ending) => ending,
+        Err(_) => Ending::NoMemory,
     }
 }
 

@@ -3,7 +3,7 @@ ghost use Rattle.std.specs.Prelude.{◌<◌};
 
 use crate::books::under;
 use crate::walls::WALL;
-use audit_book::{BookFault, Judged, ReadFault, check_book, judge_book, read_book};
+use audit_book::{BookFault, check_book, read_book};
 use coll_routes::{Own, Signature, Stated};
 use mpi_elems::ElemType;
 use run_model::{Entry, Outcome};
@@ -273,64 +273,4 @@ fn expect_of_texts(rt: &(impl AllocGlobal + Abort), policy: &Policy) -> Result<(
 #[test]
 fn what_no_post_gives_is_the_first_bad_entry(rt: HostRuntime) -> Result<(), Fail> {
     under(&rt, WALL, |policy| expect_of_texts(&rt, policy))
-}
-
-// Texts, and what is found of them in one go: the fault of a text stands before an entry that the
-// posts before it don't give.
-const TEXTS: &[(&str, Result<Judged, ReadFault>)] = &[
-    ("book 1\nend 0\n", Ok(Judged::Sound(0))),
-    ("book 2\nend 0\n", Err(ReadFault::BadLine(1))),
-    (
-        r#"book 1
-post 0 0 bcast 0 int32 2 gives 2 as alpha passed
-post 1 0 bcast 0 int32 2 gives 0 as none passed
-post 2 0 bcast 0 int32 2 gives 0 as none passed
-post 3 0 bcast 0 int32 2 gives 0 as none passed
-verdict 0 0 denied simple b0 alpha
-end 5
-"#,
-        Ok(Judged::Sound(5)),
-    ),
-    (
-        r#"book 1
-post 0 0 bcast 0 int32 2 gives 2 as alpha passed
-post 1 0 bcast 0 int32 2 gives 0 as none passed
-post 2 0 bcast 0 int32 2 gives 0 as none passed
-post 3 0 bcast 0 int32 2 gives 0 as none passed
-end 4
-"#,
-        Ok(Judged::Unsound(5)),
-    ),
-    (
-        "book 1\npost 0 7 barrier gives 0 as none passed\nend 1\n",
-        Ok(Judged::Unsound(1)),
-    ),
-    (
-        "book 1\npost 0 7 barrier gives 0 as none passed\nend 2\n",
-        Err(ReadFault::BadLine(3)),
-    ),
-    (
-        "book 1\npost 0 7 barrier gives 0 as none passed\nx\nend 1\n",
-        Err(ReadFault::BadLine(3)),
-    ),
-    (
-        "book 1\npost 0 7 barrier gives 0 as none passed\n",
-        Err(ReadFault::Cut),
-    ),
-];
-
-fn expect_in_one_go(rt: &(impl AllocGlobal + Abort), policy: &Policy) -> Result<(), Fail> {
-    for (text, answer) in TEXTS {
-        assert!(rt; text.len() < 1000);
-        assert!(rt;
-            judge_book(rt.alloc(), policy, text.as_bytes()) == *answer,
-            "{text}"
-        );
-    }
-    Ok(())
-}
-
-#[test]
-fn a_fault_of_a_text_is_told_before_a_bad_entry(rt: HostRuntime) -> Result<(), Fail> {
-    under(&rt, WALL, |policy| expect_in_one_go(&rt, policy))
 }

@@ -7,7 +7,7 @@ abbrev pub invariant-loop-next : goal.invariant-loop-next
 invariant-loop-next l = record {
   bound : l.entries + length l.lines ≤ 9223372036854775808;
   so_far : text_told (entries_in l.policy l.entries (l.line ∷ l.lines))
-      ≡ text_told (entries_in l.policy l.before (l.first ∷ l.fn.lines));
+      ≡ text_told (entries_in l.policy 0 (l.first ∷ l.fn.lines));
 }
 
 abbrev pub decreases-loop-next : goal.decreases-loop-next
