@@ -1,10 +1,10 @@
 //! The number at the front of a text, of at most 19 digits.
 ghost use Rattle.std.specs.Prelude.{◌≡◌, ◌≤◌, ◌<◌, length, take, get_or, Some, IfSome, true, nat_lt};
-ghost use Rattle.std.specs.Prelude.{◌-ℤ◌, pos, if◌then◌else◌};
 ghost use Rattle.std.specs.List.{list_all};
 ghost use Rattle.coll_text.specs.Numbers.{is_digit, value_after, number_within, signed_within};
 
 use crate::eights::{front_digits, one_by_one};
+use crate::short::ShortNumber;
 
 // The digits at the front as a number: none where there is no digit, or a needless zero.
 #[inline(always)]
@@ -54,20 +54,11 @@ pub(crate) fn front_short(text: &[u8]) -> Option<(u64, usize)>
     as_number(text, value, len)
 }
 
-// The number with its sign.
-#[inline(always)]
-fn with_sign(is_negative: bool, n: u64) -> i64
-    requires { n ≤ 9223372036854775807 }
-    ensures { result ≡ (if is_negative then pos 0 -ℤ pos n else pos n) }
-{
-    if is_negative { -(n as i64) } else { n as i64 }
-}
-
-/// The signed number at the front, of 19 digits at most and within 63 bits behind its sign, and how
-/// many bytes it has; none where the text begins with no number, or with another.
+/// The signed number at the front, of 19 digits at most, and how many bytes it has; none where the
+/// text begins with no number.
 // Its sign is as good as random, so no step of this waits for a branch on it.
 #[inline(always)]
-pub(crate) fn front_signed(text: &[u8]) -> Option<(i64, usize)>
+pub(crate) fn front_signed(text: &[u8]) -> Option<(ShortNumber, usize)>
     ensures within { IfSome result (λ r. r.1 ≤ length text.now) }
     ensures solid { IfSome result (λ r. list_all (λ b. nat_lt 44 b) (take r.1 text.now) ≡ true) }
     ensures value { IfSome result
@@ -85,10 +76,8 @@ pub(crate) fn front_signed(text: &[u8]) -> Option<(i64, usize)>
     }
     // A number that begins with a zero is that zero, without a sign.
     if digits[0] == b'0' {
-        return if is_negative { None } else { Some((0, 1)) };
+        let zero = ShortNumber::with_sign(false, 0);
+        return if is_negative { None } else { Some((zero, 1)) };
     }
-    if n > i64::MAX as u64 {
-        return None;
-    }
-    Some((with_sign(is_negative, n), len + signs))
+    Some((ShortNumber::with_sign(is_negative, n), len + signs))
 }

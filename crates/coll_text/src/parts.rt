@@ -4,6 +4,7 @@ ghost use Rattle.std.specs.Prelude.{length, ◌≤◌, ◌<◌, take, nat_lt, tr
 ghost use Rattle.std.specs.List.{slice_split, position, count_by, list_all};
 ghost use Rattle.coll_text.specs.Numbers.{number_within, signed_within};
 
+use crate::ShortNumber;
 use crate::front::{front_short, front_signed};
 use crate::numbers::signed;
 use memchr::memchr;
@@ -216,10 +217,10 @@ impl<'a> Parts<'a> {
         }
     }
 
-    /// The next part where a signed number of 64 bits and at most 19 digits is the whole of it,
-    /// with the number; else none, and nothing is taken.
+    /// The next part where a signed number of at most 19 digits is the whole of it, with the number;
+    /// else none, and nothing is taken.
     #[inline(always)]
-    pub fn next_narrow(&mut self) -> Option<(&'a [u8], i64)>
+    pub fn next_plain(&mut self) -> Option<(&'a [u8], ShortNumber)>
         ensures none { result ≡ None → self.new ≡ self.old }
         ensures part { IfSome result (λ r. self.old ≡ r.0.now ∷ self.new) }
         ensures number { IfSome result (λ r. signed_within u64.MAX u64.MAX r.0.now ≡ Some r.1) }
@@ -234,8 +235,8 @@ impl<'a> Parts<'a> {
                 self.is_done = true;
                 Some((part, number))
             }
-            Some((part, Some(rest))) => {
-                self.rest = rest;
+            Some((part, Some(behind))) => {
+                self.rest = behind;
                 Some((part, number))
             }
         }
@@ -247,8 +248,8 @@ impl<'a> Parts<'a> {
             (λ r. self.old ≡ r.0.now ∷ self.new) }
         ensures number { IfSome result (λ r. r.1 ≡ signed_within u64.MAX u64.MAX r.0.now) }
     {
-        match self.next_narrow() {
-            Some((part, number)) => Some((part, Some(i128::from(number)))),
+        match self.next_plain() {
+            Some((part, number)) => Some((part, Some(number.wide()))),
             None => match self.next() {
                 None => None,
                 Some(part) => Some((part, signed(part, u64::MAX, u64::MAX))),

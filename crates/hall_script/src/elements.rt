@@ -7,7 +7,7 @@ ghost use Rattle.coll_text.specs.Reading.{Gives, Leaves, Fails};
 ghost use Rattle.hall_script.specs.Lines.{buffer_of, values_of};
 ghost use Rattle.hall_script.specs.Filling.{room_for, with_word, with_words};
 
-use coll_text::{LineFault, Parts};
+use coll_text::{LineFault, Parts, signed};
 use mpi_elems::{Buffer, BufferBuilder, ElemType};
 use std::alloc::Global;
 
@@ -52,13 +52,24 @@ fn push_plain(builder: &mut BufferBuilder, word: &[u8], number: i64) -> Result<(
     }
 }
 
+// The same of any number.
+#[inline(never)]
+#[tactic(auto, using(crate::proofs::FillLemmas::some_word))]
+fn push_wide(builder: &mut BufferBuilder, word: &[u8], number: i128) -> Result<(), LineFault>
+    requires spelled { signed_within u64.MAX u64.MAX word.now ≡ Some number }
+    requires room { length builder.old.numbers
+        < numbers_per_element builder.old.elem_type * builder.old.room }
+    ensures { Leaves result builder.new (with_word builder.old word.now) }
+{
+    let _ = word;
+    match builder.push_number(number) {
+        Ok(()) => Ok(()),
+        Err(_) => Err(LineFault::BadNumber),
+    }
+}
+
 // Takes the number that an element's word spells.
-fn push_value(
-    builder: &mut BufferBuilder,
-    word: &[u8],
-    number: Option<i128>,
-) -> Result<(), LineFault>
-    requires spelled { number ≡ signed_within u64.MAX u64.MAX word.now }
+fn push_word(builder: &mut BufferBuilder, word: &[u8]) -> Result<(), LineFault>
     requires room { length builder.old.numbers
         < numbers_per_element builder.old.elem_type * builder.old.room }
     ensures { Leaves result builder.new (with_word builder.old word.now) }
@@ -66,17 +77,14 @@ fn push_value(
     if word.is_empty() {
         return Err(LineFault::BadShape);
     }
-    match number {
+    match signed(word, u64::MAX, u64::MAX) {
         None => Err(LineFault::BadNumber),
-        Some(n) => match builder.push_number(n) {
-            Ok(()) => Ok(()),
-            Err(_) => Err(LineFault::BadNumber),
-        },
+        Some(number) => push_wide(builder, word, number),
     }
 }
 
-// Reads the numbers up to one that is not as plain as most are, or to the end of the line, and
-// answers the words from there on. It stands alone so that its loop has the registers for itself.
+// Reads the numbers up to one of more than 19 digits, or to the end of the line, and answers the
+// words from there on. It stands alone so that its loop has the registers for itself.
 #[inline(never)]
 fn fill_plain<'a>(builder: &mut BufferBuilder, line: Parts<'a>) -> Result<Parts<'a>, LineFault>
     requires { length builder.old.numbers + length line
@@ -91,8 +99,12 @@ fn fill_plain<'a>(builder: &mut BufferBuilder, line: Parts<'a>) -> Result<Parts<
     ensures fewer { IfOk result (λ rest. length rest ≤ length line.entry) }
 {
     let mut words = line;
-    while let Some((word, number)) = words.next_narrow() {
-        push_plain(builder, word, number)?;
+    while let Some((word, number)) = words.next_plain() {
+        let Some(n) = number.narrow() else {
+            push_wide(builder, word, number.wide())?;
+            continue;
+        };
+        push_plain(builder, word, n)?;
     }
     Ok(words)
 }
@@ -108,8 +120,8 @@ fn fill(builder: &mut BufferBuilder, line: Parts) -> Result<(), LineFault>
         (length builder.new.numbers ≡ length builder.old.numbers + length line.entry) }
 {
     let mut words = fill_plain(builder, line)?;
-    while let Some((word, number)) = words.next_signed() {
-        push_value(builder, word, number)?;
+    while let Some(word) = words.next() {
+        push_word(builder, word)?;
         words = fill_plain(builder, words)?;
     }
     Ok(())

@@ -192,6 +192,8 @@ const CALLS: &[&str] = &[
     "post 0 0 allgather 2int 2 as beta 5 0 -5 1",
     "post 0 0 allgatherv uint32 as alpha 4294967295",
     "post 0 0 alltoall uint64 1 as alpha 18446744073709551615",
+    "post 0 0 alltoall uint64 2 as alpha 1 9999999999999999999 18446744073709551615 2",
+    "post 0 0 gather 0 int64 3 as alpha -9223372036854775808 5 9223372036854775807",
     "post 0 0 alltoallv uint16 1,1 as alpha 65535 1",
     "post 0 0 reduce 0 max int32 1",
     "post 0 0 allreduce sum int32 1 as alpha 5",

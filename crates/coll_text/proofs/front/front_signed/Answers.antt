@@ -1,7 +1,6 @@
 use Rattle.std.proofs.Common.{◌≡◌, ◌≤◌, ◌<◌, length, take, drop, true, false, Some, ap, sym, ◌∙◌, eqb}
-use Rattle.std.proofs.Common.{get_or, rules, arith, FitsSigned, w64, refl}
+use Rattle.std.proofs.Common.{get_or, rules, arith, refl}
 use Rattle.std.specs.List.{list_all}
-use Rattle.std.proofs.lemmas.Int.{to_z-of_z}
 use Rattle.coll_text.specs.Numbers.{is_digit, number_within}
 use Rattle.coll_text.proofs.FrontLemmas.{first_kept, front_is, nonzero_is, signed_is}
 use Rattle.coll_text.proofs.FrontLemmas.{signed_solid, zero_read}
@@ -32,11 +31,10 @@ returns-clause-value c =
     let v : number_within 18446744073709551615
     (take len (drop c.from-signs.result c.args.text.now)) ≡ Some n = rw
     (← c.split_at.ensures.back) number in
-    let fits : FitsSigned w64 c.with_sign.result = search rules in
     signed_is s 18446744073709551615 n len c.from-signs.result c.args.text.now refl
     c.from-signs.ensures some v
     (nonzero_is s len n digits e.within any e.digits e.value c.if-digits-eq48.false)
-    ∙ ap (λ z. Some z) (sym c.with_sign.ensures ∙ sym (to_z-of_z w64 c.with_sign.result fits))
+    ∙ ap (λ z. Some z) (sym c.with_sign.ensures)
 
 pub returns-else-is_negative-clause-value : goal.returns-else-is_negative-clause-value
 returns-else-is_negative-clause-value c =
@@ -47,3 +45,4 @@ returns-else-is_negative-clause-value c =
     c.split_at.result.1.now positive c.from-signs.ensures c.split_at.ensures.back)
     ∙ c.if-digits-eq48.true in
     zero_read 18446744073709551615 c.args.text.now some first
+    ∙ ap (λ z. Some z) (sym c.with_sign-zero.ensures)
