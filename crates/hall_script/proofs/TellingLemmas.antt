@@ -36,12 +36,14 @@ use Rattle.hall_core.specs.declared.claims.LeanClaim.TheVariants.{Claimed, Copie
 use Rattle.hall_core.specs.Claims.{to_take, lean_reply, lean_entry, IsClaimed, LeanClaims}
 use Rattle.hall_core.specs.Claims.{IsTakenUnread}
 use Rattle.hall_core.specs.Halls.{HallValue, StandsFor}
+use Rattle.hall_script.specs.declared.kept.KeptLine.{KeptLine}
 use Rattle.hall_script.specs.declared.kept.KeptLines.{KeptLines}
 use Rattle.hall_script.specs.declared.teller.Teller.{Teller}
 use Rattle.hall_script.specs.Answering.{AnswersCall, IsAnswered}
 use Rattle.hall_script.specs.Replies.{reply_line, reply_text}
 use Rattle.hall_script.specs.Telling.{tells_alike, IsToldAlike, told_line, instance_at, IsRight}
 use Rattle.hall_script.specs.Telling.{IsAlike, IsShown, IsClaimFor, IsClaimAt, AreRight, TellsRun}
+use Rattle.hall_script.specs.Telling.{IsRightLine}
 
 -- ## the kinds of the table
 
@@ -201,13 +203,19 @@ claim_at wall run p r (Some at) (Claimed (Ready full rank room)) asked claims =
 claim_at wall run p r (Some at) (Copied full rank) asked claims =
     shown wall run p r at (arc_value full) rank asked claims
 
--- lines stay right with one entry more
+-- what is kept stays right with one entry more
+line_stays : (wall : ChineseWall) (run : List Entry) (e : Entry) (place : Option KeptLine) →
+    Legal wall (e ∷ run) → IsRightLine wall (contributions run) place →
+    IsRightLine wall (contributions (e ∷ run)) place
+line_stays wall run e None legal right = tt
+line_stays wall run e (Some kept) legal right =
+    right_stays wall kept.comm kept.k kept.text.items run e legal right
+
 pub all_stay : (wall : ChineseWall) (run : List Entry) (e : Entry) (lines : KeptLines) →
     Legal wall (e ∷ run) → AreRight wall (contributions run) lines →
     AreRight wall (contributions (e ∷ run)) lines
-all_stay wall run e lines legal right = λ n d low left.
-    let line = slice_index_or lines.places.items n d in
-    right_stays wall line.comm line.k line.text.items run e legal (right n d low left)
+all_stay wall run e lines legal right = λ n d low.
+    line_stays wall run e (slice_index_or lines.places.items n d) legal (right n d low)
 
 -- ## tellers
 

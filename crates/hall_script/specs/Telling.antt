@@ -1,6 +1,6 @@
 -- Lines that were told, and are told again.
-use Rattle.std.specs.Prelude.{◌≡◌, ◌≢◌, ℕ, List, ◌++◌, codes, Bool, true, false, Option, Some, All}
-use Rattle.std.specs.Prelude.{IfSome}
+use Rattle.std.specs.Prelude.{◌≡◌, ◌≢◌, ℕ, List, ◌++◌, codes, Bool, true, false, Option, Some, None}
+use Rattle.std.specs.Prelude.{All, IfSome}
 use Rattle.std.specs.Arc.{arc_value}
 use Rattle.wall_policy.specs.Policy.{ChineseWall}
 use Rattle.mpi_elems.specs.Contents.{Contents}
@@ -60,20 +60,19 @@ pub record IsRight (wall : ChineseWall) (past : List (Contribution Contents)) (c
 
 -- ## lines that are kept
 
--- this line is kept here, for someone who is still to be told it, as that of instance (c, k)
+-- this line is kept here, as that of instance (c, k)
 pub record IsKeptAs (kept : KeptLine) (c k : ℕ) (line : List ℕ) : Type 0 where
-  pub left : kept.left ≢ 0
   pub comm : kept.comm ≡ c
   pub number : kept.k ≡ k
   pub text : kept.text.items ≡ line
 
 -- no line is kept here
-abbrev pub IsNothing : KeptLine → Type 0
-IsNothing kept = kept.left ≡ 0
+abbrev pub IsNothing : Option KeptLine → Type 0
+IsNothing place = place ≡ None
 
 -- what is kept here is right, if anything is
-abbrev pub IsRightLine : ChineseWall → List (Contribution Contents) → KeptLine → Type 0
-IsRightLine wall past kept = kept.left ≢ 0 → IsRight wall past kept.comm kept.k kept.text.items
+abbrev pub IsRightLine : ChineseWall → List (Contribution Contents) → Option KeptLine → Type 0
+IsRightLine wall past place = IfSome place (λ kept. IsRight wall past kept.comm kept.k kept.text.items)
 
 abbrev pub AreRight : ChineseWall → List (Contribution Contents) → KeptLines → Type 0
 AreRight wall past lines = All (IsRightLine wall past) lines.places.items

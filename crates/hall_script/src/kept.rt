@@ -1,5 +1,5 @@
 //! Lines of deliveries, kept for the members that are told the same.
-ghost use Rattle.std.specs.Prelude.{◌≡◌, ◌≢◌, ◌≤◌, ◌*◌, List, All, IfSome};
+ghost use Rattle.std.specs.Prelude.{◌≡◌, List, All, IfSome, IsTrue};
 ghost use Rattle.wall_policy.specs.Policy.{ChineseWall};
 ghost use Rattle.mpi_elems.specs.Contents.{Contents};
 ghost use Rattle.run_model.specs.Contributions.{Contribution};
@@ -10,84 +10,44 @@ use std::alloc::Global;
 // The most lines that are kept at a time. (A power of two.)
 const MOST_KEPT: u64 = 256;
 
-// The most bytes that stay reserved where no line is kept any more.
-const MOST_RESERVED: usize = 1024;
-
-/// The line that the first member of an instance was told, for those who are still to be told; for
-/// nobody where there is no line.
+/// The line that a member of an instance was told, for those who are still to be told.
 #[derive(Drop)]
 pub struct KeptLine {
     comm: u32,
     k: u64,
-    left: u32,
     text: Vec<u8>,
 }
 
 impl KeptLine {
-    // No line.
-    fn nothing(alloc: Global) -> KeptLine
-        ensures { IsNothing result }
+    // A copy of a line, in room of its length; none where there is no memory for it.
+    fn of(alloc: Global, comm: u32, k: u64, line: &[u8]) -> Option<KeptLine>
+        ensures { IfSome result (λ kept. IsKeptAs kept comm k line.now) }
     {
-        KeptLine {
-            comm: 0,
-            k: 0,
-            left: 0,
-            text: Vec::new(alloc),
+        let mut text = Vec::new(alloc);
+        match text.extend_from_slice(line) {
+            Ok(()) => Some(KeptLine { comm, k, text }),
+            Err(_) => None,
         }
     }
 
-    // The line, if it is kept for that instance.
-    fn line_of(&self, comm: u32, k: u64) -> Option<&[u8]>
-        ensures { IfSome result (λ line. IsKeptAs self.now comm k line.now) }
+    // Whether it is the line of that instance.
+    fn is_of(&self, comm: u32, k: u64) -> bool
+        ensures comm { IsTrue result → self.now.comm ≡ comm }
+        ensures number { IsTrue result → self.now.k ≡ k }
     {
-        if self.left != 0 && self.comm == comm && self.k == k {
-            Some(&self.text)
-        } else {
-            None
-        }
-    }
-
-    // Keeps a line in place of the one that is kept, for so many; none where memory runs out.
-    fn put(&mut self, comm: u32, k: u64, left: u32, line: &[u8])
-        ensures { self.new.left ≢ 0 → IsKeptAs self.new comm k line.now }
-    {
-        self.left = 0;
-        self.text.clear();
-        match self.text.extend_from_slice(line) {
-            Ok(()) => {
-                self.comm = comm;
-                self.k = k;
-                self.left = left;
-            }
-            Err(_) => {}
-        }
-    }
-
-    // One more was told. Behind the last the line is let go.
-    fn told(&mut self, alloc: Global)
-        ensures left { self.new.left ≤ self.old.left }
-        ensures same { self.new.left ≢ 0 →
-            IsKeptAs self.new self.old.comm self.old.k self.old.text.items }
-    {
-        if self.left == 0 {
-            return;
-        }
-        self.left -= 1;
-        if self.left == 0 && MOST_RESERVED < self.text.capacity() {
-            self.text = Vec::new(alloc);
-        }
+        self.comm == comm && self.k == k
     }
 }
 
 /// The lines that are kept: of each instance of which some members but not all have taken what they
 /// get alike, as far as there is a place for it. A line has its place by the number of its
-/// instance, from which it drives out another; one that comes back so may stay until it is driven
-/// out again. So there are at most 256 of them. A line has at most 21 bytes for each number that was
-/// posted to its instance, and a few for each member.
+/// instance, from which it drives out another, so there are at most 256 of them. It goes with its
+/// instance: the teller lets it go when no request for that is open any more. A line has at most 21
+/// bytes for each number that was posted to its instance, and a few for each member.
 #[derive(Drop)]
 pub struct KeptLines {
     alloc: Global,
-    places: Vec<KeptLine>,
+    places: Vec<Option<KeptLine>>,
 }
 
 // The place of the line of instance k of a communicator.
@@ -96,12 +56,15 @@ fn place_of(comm: u32, k: u64) -> usize {
 }
 
 // Places without a line; none where there is no memory for them.
-fn no_lines(alloc: Global) -> Vec<KeptLine>
+fn no_lines(alloc: Global) -> Vec<Option<KeptLine>>
     ensures { All IsNothing result.items }
 {
     let mut lines = Vec::new(alloc);
+    if lines.reserve_exact(MOST_KEPT as usize).is_err() {
+        return lines;
+    }
     for _ in 0..MOST_KEPT {
-        match lines.push(KeptLine::nothing(alloc)) {
+        match lines.push(None) {
             Ok(()) => {}
             Err(_) => return lines,
         }
@@ -127,32 +90,66 @@ impl KeptLines {
             AreRight wall past self.now → IfSome result (λ line. IsRight wall past comm k line.now) }
     {
         match self.places.get(place_of(comm, k)) {
-            Some(line) => line.line_of(comm, k),
+            Some(place) => text_in(place, comm, k),
             None => None,
         }
     }
 
-    /// One more was told the line of instance k of a communicator.
-    pub fn told(&mut self, comm: u32, k: u64)
+    /// The line of instance k of a communicator is let go, if it is kept, with its room.
+    pub fn let_go(&mut self, comm: u32, k: u64)
         ensures { (wall : ChineseWall) (past : List (Contribution Contents)) →
             AreRight wall past self.old → AreRight wall past self.new }
     {
-        told_at(self.alloc, &mut self.places, place_of(comm, k));
+        let_go_in(&mut self.places, comm, k);
     }
 
-    /// Keeps the line of instance k of a communicator for so many; where memory runs out it doesn't.
-    pub fn keep(&mut self, comm: u32, k: u64, left: u32, line: &[u8])
+    /// Keeps the line of instance k of a communicator; where memory runs out it doesn't.
+    pub fn keep(&mut self, comm: u32, k: u64, line: &[u8])
         ensures { (wall : ChineseWall) (past : List (Contribution Contents)) →
             AreRight wall past self.old → IsRight wall past comm k line.now →
             AreRight wall past self.new }
     {
         make_places(self.alloc, &mut self.places);
-        put_at(&mut self.places, comm, k, left, line);
+        put_in(self.alloc, &mut self.places, comm, k, line);
+    }
+}
+
+#[cfg(test)]
+impl KeptLines {
+    /// How many are kept.
+    pub fn number(&self) -> usize {
+        self.places.iter().filter(|place| place.is_some()).count()
+    }
+}
+
+// The line at a place, if it is that of instance k of a communicator.
+fn text_in(place: &Option<KeptLine>, comm: u32, k: u64) -> Option<&[u8]>
+    ensures { (wall : ChineseWall) (past : List (Contribution Contents)) →
+        IsRightLine wall past place.now →
+        IfSome result (λ line. IsRight wall past comm k line.now) }
+{
+    match place {
+        Some(kept) => {
+            if kept.is_of(comm, k) {
+                Some(&kept.text)
+            } else {
+                None
+            }
+        }
+        None => None,
+    }
+}
+
+// Whether the line at a place is that of instance k of a communicator.
+fn is_kept_in(place: &Option<KeptLine>, comm: u32, k: u64) -> bool {
+    match place {
+        Some(kept) => kept.is_of(comm, k),
+        None => false,
     }
 }
 
 // Makes the places, if there are none and there is memory.
-fn make_places(alloc: Global, places: &mut Vec<KeptLine>)
+fn make_places(alloc: Global, places: &mut Vec<Option<KeptLine>>)
     ensures { (wall : ChineseWall) (past : List (Contribution Contents)) →
         All (IsRightLine wall past) places.old.items →
         All (IsRightLine wall past) places.new.items }
@@ -162,23 +159,24 @@ fn make_places(alloc: Global, places: &mut Vec<KeptLine>)
     }
 }
 
-fn told_at(alloc: Global, places: &mut Vec<KeptLine>, at: usize)
+fn let_go_in(places: &mut Vec<Option<KeptLine>>, comm: u32, k: u64)
     ensures { (wall : ChineseWall) (past : List (Contribution Contents)) →
         All (IsRightLine wall past) places.old.items →
         All (IsRightLine wall past) places.new.items }
 {
-    if at < places.len() {
-        places[at].told(alloc);
+    let at = place_of(comm, k);
+    if at < places.len() && is_kept_in(&places[at], comm, k) {
+        places[at] = None;
     }
 }
 
-fn put_at(places: &mut Vec<KeptLine>, comm: u32, k: u64, left: u32, line: &[u8])
+fn put_in(alloc: Global, places: &mut Vec<Option<KeptLine>>, comm: u32, k: u64, line: &[u8])
     ensures { (wall : ChineseWall) (past : List (Contribution Contents)) →
         All (IsRightLine wall past) places.old.items → IsRight wall past comm k line.now →
         All (IsRightLine wall past) places.new.items }
 {
     let at = place_of(comm, k);
     if at < places.len() {
-        places[at].put(comm, k, left, line);
+        places[at] = KeptLine::of(alloc, comm, k, line);
     }
 }

@@ -8,6 +8,8 @@ mod device;
 mod elements;
 mod fault;
 mod kept;
+#[cfg(test)]
+mod kept_tests;
 mod laws;
 mod line;
 mod machine;

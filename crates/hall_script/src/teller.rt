@@ -1,6 +1,6 @@
 //! Answers calls from a hall, and tells the members of an instance that get the same one line.
-ghost use Rattle.std.specs.Prelude.{◌≡◌, ◌≢◌, ◌++◌, ◌<◌, ◌≤◌, List, [], length, IfOk, IfErr, OnOk};
-ghost use Rattle.std.specs.Prelude.{OnErr, IfSome, IfNone, Some, slice_get};
+ghost use Rattle.std.specs.Prelude.{◌≡◌, ◌++◌, ◌<◌, ◌≤◌, List, [], length, IfOk, IfErr, OnOk};
+ghost use Rattle.std.specs.Prelude.{OnErr, IfSome, IfNone, IsTrue, Some, slice_get};
 ghost use Rattle.wall_policy.specs.Policy.{ChineseWall};
 ghost use Rattle.mpi_elems.specs.Contents.{Contents};
 ghost use Rattle.run_model.specs.Contributions.{Contribution};
@@ -65,6 +65,14 @@ impl Teller {
     }
 }
 
+#[cfg(test)]
+impl Teller {
+    /// How many lines are kept.
+    pub fn kept(&self) -> usize {
+        self.lines.number()
+    }
+}
+
 /// Answers the lines of a script from a hall, writes their replies, and gives the hall back.
 pub(crate) fn answered_from<W: Sink>(
     alloc: Global,
@@ -117,7 +125,7 @@ impl Teller {
         match self.hall.take_unread(process, request) {
             Some(_) => {
                 let done = put_line(line, text);
-                self.lines.told(comm, k);
+                keep_while_open(&mut self.lines, &self.hall, comm, k);
                 Some(done)
             }
             None => None,
@@ -140,7 +148,8 @@ impl Teller {
         ensures err { OnErr result (text.new.items ≡ text.old.items) }
     {
         let claim = self.hall.claim_lean(process, request);
-        tell(&mut self.lines, self.hall.policy(), at, claim, text)
+        let others = is_open_at(&self.hall, at);
+        tell(&mut self.lines, self.hall.policy(), at, others, claim, text)
     }
 }
 
@@ -180,37 +189,47 @@ fn tells_alike(sig: &Signature) -> bool
     }
 }
 
-// How many ranks of such an instance get nothing: the root of a broadcast.
-fn idle_ranks(sig: &Signature) -> u32 {
-    match sig.root() {
-        Some(_) => 1,
-        None => 0,
-    }
-}
-
-// How many other ranks may be told the same as this one.
-fn others_in(full: &Full<Buffer>, rank: u32) -> u32
+// Whether each rank that gets any gets the same as this one.
+fn is_alike_in(full: &Full<Buffer>, rank: u32) -> bool
     requires { rank < full.now.roll.shape.size }
-    ensures { result ≢ 0 → IsToldAlike full.now rank }
+    ensures { IsTrue result → IsToldAlike full.now rank }
 {
-    if tells_alike(&full.roll.sig) && places(&full.roll, rank) != 0 {
-        (full.roll.shape.size - 1).saturating_sub(idle_ranks(&full.roll.sig))
-    } else {
-        0
-    }
+    tells_alike(&full.roll.sig) && places(&full.roll, rank) != 0
 }
 
-// How many others may be told the same as the one who made the claim.
-fn others(claim: &LeanClaim) -> u32
+// Whether others may be told the same as the one who made the claim.
+fn is_alike(claim: &LeanClaim) -> bool
     requires { CanTell claim.now }
-    ensures { result ≢ 0 → IsAlike claim.now }
+    ensures { IsTrue result → IsAlike claim.now }
 {
     match claim {
         LeanClaim::Claimed(claim) => match claim {
-            Claim::Done(_) => 0,
-            Claim::Ready { full, rank, .. } => others_in(full, *rank),
+            Claim::Done(_) => false,
+            Claim::Ready { full, rank, .. } => is_alike_in(full, *rank),
         },
-        LeanClaim::Copied { full, rank } => others_in(full, *rank),
+        LeanClaim::Copied { full, rank } => is_alike_in(full, *rank),
+    }
+}
+
+// Whether a request for an instance is open, so that the hall has it still.
+fn is_open(hall: &Hall, comm: u32, k: u64) -> bool {
+    hall.open_requests(comm, k) != 0
+}
+
+fn is_open_at(hall: &Hall, at: Option<(u32, u64)>) -> bool {
+    match at {
+        Some((comm, k)) => is_open(hall, comm, k),
+        None => false,
+    }
+}
+
+// The line of an instance goes when no request for that is open any more.
+fn keep_while_open(lines: &mut KeptLines, hall: &Hall, comm: u32, k: u64)
+    ensures { (wall : ChineseWall) (past : List (Contribution Contents)) →
+        AreRight wall past lines.old → AreRight wall past lines.new }
+{
+    if !is_open(hall, comm, k) {
+        lines.let_go(comm, k);
     }
 }
 
@@ -225,12 +244,13 @@ fn put_line(line: &[u8], text: &mut Vec<u8>) -> Result<(), NoMemory>
     }
 }
 
-// Appends the line of the reply that a claim on this instance comes to, and keeps a copy for others
-// who are told the same.
+// Appends the line of the reply that a claim on this instance comes to. Where others have open
+// requests for it and are told the same, a copy is kept; where nobody has, none is.
 fn tell(
     lines: &mut KeptLines,
     policy: &Policy,
     at: Option<(u32, u64)>,
+    others: bool,
     claim: LeanClaim,
     text: &mut Vec<u8>,
 ) -> Result<(), NoMemory>
@@ -243,22 +263,26 @@ fn tell(
         AreRight wall past lines.new }
     ensures err { OnErr result (text.new.items ≡ text.old.items) }
 {
-    let others = others(&claim);
-    if others == 0 {
+    let Some((comm, k)) = at else {
+        return write_claim(policy, claim, text);
+    };
+    if !others {
+        lines.let_go(comm, k);
         return write_claim(policy, claim, text);
     }
-    match at {
-        Some((comm, k)) => tell_first(lines, policy, comm, k, others, claim, text),
-        None => write_claim(policy, claim, text),
+    if is_alike(&claim) {
+        tell_first(lines, policy, comm, k, claim, text)
+    } else {
+        write_claim(policy, claim, text)
     }
 }
 
+// The same where others are told the same.
 fn tell_first(
     lines: &mut KeptLines,
     policy: &Policy,
     comm: u32,
     k: u64,
-    others: u32,
     claim: LeanClaim,
     text: &mut Vec<u8>,
 ) -> Result<(), NoMemory>
@@ -275,6 +299,6 @@ fn tell_first(
     let len = text.len();
     write_claim(policy, claim, text)?;
     let line = &text[len..];
-    lines.keep(comm, k, others, line);
+    lines.keep(comm, k, line);
     Ok(())
 }
