@@ -9,6 +9,12 @@ mod books;
 #[cfg(test)]
 mod checks;
 #[cfg(test)]
+mod dice;
+#[cfg(test)]
+mod digits;
+#[cfg(test)]
+mod made;
+#[cfg(test)]
 mod replays;
 pub mod rows;
 #[cfg(test)]

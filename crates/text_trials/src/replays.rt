@@ -70,21 +70,25 @@ refused NoSuchRequest
 
 // How a script is replayed over devices that fail so.
 #[derive(Clone, Copy)]
-struct Case<'a> {
-    script: &'a [u8],
-    replies: &'a [u8],
-    reads: Fuse,
-    writes: Fuse,
-    fault: Option<ScriptFault>,
+pub(crate) struct Case<'a> {
+    pub script: &'a [u8],
+    pub replies: &'a [u8],
+    pub reads: Fuse,
+    pub writes: Fuse,
+    pub fault: Option<ScriptFault>,
 }
 
 // Whether these replies are written, and the replay ends so, under the policy of most tests.
-fn is_replayed(rt: &(impl AllocGlobal + Abort), case: &Case) -> bool {
+pub(crate) fn is_replayed(rt: &(impl AllocGlobal + Abort), case: &Case) -> bool {
     is_replayed_under(rt, wall(rt), case)
 }
 
 // The same under this policy.
-fn is_replayed_under(rt: &(impl AllocGlobal + Abort), policy: Policy, case: &Case) -> bool {
+pub(crate) fn is_replayed_under(
+    rt: &(impl AllocGlobal + Abort),
+    policy: Policy,
+    case: &Case,
+) -> bool {
     let mut source = MemorySource {
         rest: case.script,
         fuse: case.reads,
