@@ -25,6 +25,7 @@ const INSTANCES: u64 = 600;
 /// A sum of two, and a broadcast by process 0.
 const SUM: &str = "post 0 0 allreduce sum int32 1 as alpha 5\n\
 post 1 0 allreduce sum int32 1 as alpha 6\n";
+
 const BROADCAST: &str = "post 0 0 bcast 0 int32 1 as alpha 5\npost 1 0 bcast 0 int32 1\n";
 
 /// Puts these posts so often.
