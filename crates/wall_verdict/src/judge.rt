@@ -1,12 +1,12 @@
 //! The verdict on a full instance.
-ghost use Rattle.std.specs.Prelude.{◌≡◌, ◌<◌, ◌+◌, find, IfSome, IsTrue};
+ghost use Rattle.std.specs.Prelude.{◌≡◌, ◌<◌, ◌≤◌, ◌+◌, find, IfSome, IsTrue, None};
 ghost use Rattle.wall_labels.specs.Rows.{Meet};
 ghost use Rattle.wall_rules.specs.Histories.{has, HoldsOneOf, NobodyHoldsRivals};
 ghost use Rattle.wall_rules.specs.Rules.{HoldsNoRivals, joined, clashes};
 ghost use Rattle.coll_routes.specs.Fit.{IsFit};
 ghost use Rattle.coll_routes.specs.Rolls.{ranks, label_of, is_barred};
 ghost use Rattle.wall_verdict.specs.Verdicts.{meets, offends, first_barred, first_offence, told};
-ghost use Rattle.wall_verdict.specs.Verdicts.{verdict};
+ghost use Rattle.wall_verdict.specs.Verdicts.{offence_below, verdict};
 ghost use Rattle.wall_verdict.specs.Inflows.{IsWhole, IsLabelled, Serves};
 ghost use Rattle.wall_verdict.specs.Meanings.{IsVerdict, MembersStayApart};
 ghost use Rattle.wall_verdict.specs.declared.verdict.Verdict.TheVariants.{Granted};
@@ -14,7 +14,7 @@ ghost use Rattle.wall_verdict.specs.declared.verdict.Verdict.TheVariants.{Grante
 use super::charge::{contribution, is_enough, label_of};
 use super::inflow::Inflow;
 use super::verdict::{Rule, Verdict};
-use coll_routes::Roll;
+use coll_routes::{Roll, Signature};
 use wall_labels::{DatasetId, Label, LabelSet, ProcessId};
 use wall_policy::Policy;
 use wall_rules::Histories;
@@ -130,7 +130,7 @@ fn offender(
     first_offender(policy, histories, roll, to, inflow)
 }
 
-/// The least pair of a receiver and a rank that offends.
+/// The same of all receivers, passing over whom no label can harm.
 fn first_offence(
     policy: &Policy,
     histories: &Histories,
@@ -151,6 +151,88 @@ fn first_offence(
         }
     }
     None
+}
+
+/// The least pair of a receiver and a rank that offends, of the receivers below this number.
+fn offence_below(
+    policy: &Policy,
+    histories: &Histories,
+    roll: &Roll,
+    number: u32,
+) -> Option<(u32, u32)>
+    requires fit { IsFit roll.now }
+    requires classes { histories.now.classes ≡ policy.now.classes }
+    requires number { number ≤ roll.now.shape.size }
+    ensures least { result ≡ offence_below policy.now (has histories.now) roll.now number }
+    ensures within { IfSome result (λ pair. pair.0 < roll.now.shape.size) }
+{
+    let mut inflow = Inflow::before(0);
+    for to in 0..number {
+        inflow.turn_to(histories, roll, to);
+        match first_offender(policy, histories, roll, to, &inflow) {
+            Some(from) => return Some((to, from)),
+            None => {}
+        }
+    }
+    None
+}
+
+/// How many receivers are looked at before the labels of all ranks are collected: so many that they
+/// cost no more than to go over the ranks. All, where each gets something of one rank alone, or of
+/// one more than the receiver before it; between neighbours as many as have no more neighbours
+/// together than there are ranks; else none.
+fn early_receivers(roll: &Roll) -> u32
+    ensures { result ≤ roll.now.shape.size }
+{
+    match &roll.sig {
+        Signature::Bcast { .. } => roll.shape.size,
+        Signature::Scatter { .. } => roll.shape.size,
+        Signature::Scatterv { .. } => roll.shape.size,
+        Signature::Scan { .. } => roll.shape.size,
+        Signature::Exscan { .. } => roll.shape.size,
+        sig => if sig.is_neighbourly() {
+            with_few_neighbours(roll)
+        } else {
+            0
+        },
+    }
+}
+
+fn with_few_neighbours(roll: &Roll) -> u32
+    ensures { result ≤ roll.now.shape.size }
+{
+    let slots = roll.shape.slots();
+    if slots == 0 {
+        roll.shape.size
+    } else {
+        roll.shape.size / slots
+    }
+}
+
+/// The least pair of a receiver and a rank that offends. Where none does, the labels of all ranks
+/// are at hand afterwards.
+fn least_offence(
+    policy: &Policy,
+    histories: &Histories,
+    roll: &Roll,
+    labels: &mut Inflow,
+) -> Option<(u32, u32)>
+    requires fit { IsFit roll.now }
+    requires classes { histories.now.classes ≡ policy.now.classes }
+    ensures least { result ≡ first_offence policy.now (has histories.now) roll.now }
+    ensures within { IfSome result (λ pair. pair.0 < roll.now.shape.size) }
+    ensures labels { result ≡ None →
+        IsLabelled histories.now.classes roll.now roll.now.shape.size labels.new }
+{
+    let early = early_receivers(roll);
+    if let Some(pair) = offence_below(policy, histories, roll, early) {
+        return Some(pair);
+    }
+    labels.take_labels(histories, roll);
+    if early == roll.shape.size {
+        return None;
+    }
+    first_offence(policy, histories, roll, labels)
 }
 
 /// The lowest rank whose post was barred.
@@ -183,7 +265,7 @@ fn told(roll: &Roll, rank: u32) -> Label
     label_of(roll, rank).unwrap_or(Label::Public)
 }
 
-/// Takes the labels of all ranks, where nobody was barred.
+/// Collects the labels of all ranks where it grants.
 #[tactic(auto, unfolding(crate::specs::Verdicts::verdict))]
 fn judge(policy: &Policy, histories: &Histories, roll: &Roll, labels: &mut Inflow) -> Verdict
     requires fit { IsFit roll.now }
@@ -199,8 +281,7 @@ fn judge(policy: &Policy, histories: &Histories, roll: &Roll, labels: &mut Inflo
             label: told(roll, rank),
         };
     }
-    labels.take_labels(histories, roll);
-    match first_offence(policy, histories, roll, labels) {
+    match least_offence(policy, histories, roll, labels) {
         Some((to, from)) => Verdict::Denied {
             rule: Rule::Simple,
             process: roll.members.at(to),
@@ -216,14 +297,16 @@ fn judge(policy: &Policy, histories: &Histories, roll: &Roll, labels: &mut Inflo
 /// of a receiver and a contributor for which that is so the least is named, the lowest receiver
 /// first. Else it is granted.
 ///
-/// Where a post was barred, looks at no rank above the lowest such. Else looks at each rank three
-/// times: whether its post was barred, at its label, and at the masks of its process and of all
-/// labels. That is all where no label has a rival among what the members have had access to or
-/// among the labels. Else, where all receivers get alike from the ranks that reach them, as in an
-/// allreduce, an allgather or a scan, looks at each rank once more, at the masks of each receiver
-/// once more, and, where one offends, at each rank for it once more. Between neighbours looks at
-/// the neighbours of each rank, and, where one offends, at each rank for it too. In an alltoallv
-/// looks at each pair of ranks.
+/// Where a post was barred, looks at no rank above the lowest such. Else looks at each rank for that,
+/// and then at the receivers up to the first that offends, for which it goes over the ranks once more.
+/// Where each gets something of one rank alone, or of one more than the receiver before it, as in a
+/// broadcast, a scatter or a scan, it looks at one rank for each. Between neighbours it looks at the
+/// neighbours of the first receivers, as many as have no more neighbours together than there are
+/// ranks; then at the label of each rank, and behind that at the neighbours of those receivers alone
+/// that some label can harm: one that has a rival in the receiver's history or among the labels. In
+/// the other kinds it looks at the label of each rank first, and then, where some can harm a
+/// receiver, at each rank once more: once for all receivers where these get alike from the ranks
+/// that reach them, as in an allreduce or an allgather; else once for each such receiver.
 pub fn decide(policy: &Policy, histories: &Histories, roll: &Roll) -> Verdict
     requires fit { IsFit roll.now }
     requires classes { histories.now.classes ≡ policy.now.classes }
