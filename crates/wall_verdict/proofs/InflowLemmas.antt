@@ -211,6 +211,11 @@ nothing_serves classes roll v at number different datasets alike k le lt reach =
     subst (λ n. IsInflow classes (λ i. contribution roll i k) n v) (sym at)
     (inflow_none classes (λ i. contribution roll i k) v number different datasets)
 
+-- what serves for all receivers serves for those behind the first ones
+pub serves_from : (classes : List ℕ) (roll : Roll) (j : ℕ) (v : Inflow) →
+    Serves classes roll 0 v → Serves classes roll j v
+serves_from classes roll j v serves alike k le lt reach = serves alike k (omega arith) lt reach
+
 -- the next receiver gets it too
 pub inflow_kept : (classes : List ℕ) (roll : Roll) (j : ℕ) (v : Inflow) → Serves classes roll j v →
     is_alike roll.sig ≡ true → j < roll.shape.size

@@ -130,21 +130,25 @@ fn offender(
     first_offender(policy, histories, roll, to, inflow)
 }
 
-/// The same of all receivers, passing over whom no label can harm.
+/// The least pair of a receiver and a rank that offends, where none does whose receiver is one of the
+/// early ones. Passes over receivers that no label can harm.
 fn first_offence(
     policy: &Policy,
     histories: &Histories,
     roll: &Roll,
+    early: u32,
     labels: &Inflow,
 ) -> Option<(u32, u32)>
     requires fit { IsFit roll.now }
     requires classes { histories.now.classes ≡ policy.now.classes }
+    requires early { early ≤ roll.now.shape.size }
+    requires none { None ≡ offence_below policy.now (has histories.now) roll.now early }
     requires labels { IsLabelled histories.now.classes roll.now roll.now.shape.size labels.now }
     ensures least { result ≡ first_offence policy.now (has histories.now) roll.now }
     ensures within { IfSome result (λ pair. pair.0 < roll.now.shape.size) }
 {
     let mut inflow = Inflow::before(0);
-    for to in 0..roll.shape.size {
+    for to in early..roll.shape.size {
         match offender(policy, histories, roll, labels, to, &mut inflow) {
             Some(from) => return Some((to, from)),
             None => {}
@@ -178,9 +182,9 @@ fn offence_below(
 }
 
 /// How many receivers are looked at before the labels of all ranks are collected: so many that they
-/// cost no more than to go over the ranks. All, where each gets something of one rank alone, or of
-/// one more than the receiver before it; between neighbours as many as have no more neighbours
-/// together than there are ranks; else none.
+/// cost about as much as that. All, where each gets something of one rank alone, or of one more than
+/// the receiver before it; between neighbours as many as have a quarter as many neighbours together
+/// as there are ranks; else none.
 fn early_receivers(roll: &Roll) -> u32
     ensures { result ≤ roll.now.shape.size }
 {
@@ -205,7 +209,7 @@ fn with_few_neighbours(roll: &Roll) -> u32
     if slots == 0 {
         roll.shape.size
     } else {
-        roll.shape.size / slots
+        roll.shape.size / slots / 4
     }
 }
 
@@ -229,10 +233,7 @@ fn least_offence(
         return Some(pair);
     }
     labels.take_labels(histories, roll);
-    if early == roll.shape.size {
-        return None;
-    }
-    first_offence(policy, histories, roll, labels)
+    first_offence(policy, histories, roll, early, labels)
 }
 
 /// The lowest rank whose post was barred.
@@ -301,8 +302,8 @@ fn judge(policy: &Policy, histories: &Histories, roll: &Roll, labels: &mut Inflo
 /// and then at the receivers up to the first that offends, for which it goes over the ranks once more.
 /// Where each gets something of one rank alone, or of one more than the receiver before it, as in a
 /// broadcast, a scatter or a scan, it looks at one rank for each. Between neighbours it looks at the
-/// neighbours of the first receivers, as many as have no more neighbours together than there are
-/// ranks; then at the label of each rank, and behind that at the neighbours of those receivers alone
+/// neighbours of the first receivers, a quarter as many neighbours as there are ranks; then at the
+/// label of each rank, and behind that at the neighbours of those receivers alone
 /// that some label can harm: one that has a rival in the receiver's history or among the labels. In
 /// the other kinds it looks at the label of each rank first, and then, where some can harm a
 /// receiver, at each rank once more: once for all receivers where these get alike from the ranks

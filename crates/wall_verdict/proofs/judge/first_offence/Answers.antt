@@ -1,16 +1,17 @@
-use Rattle.std.proofs.Common.{sym, refl}
+use Rattle.std.proofs.Common.{sym}
 use Rattle.wall_rules.specs.Histories.{has}
 use Rattle.wall_verdict.specs.Verdicts.{offends}
-use Rattle.wall_verdict.proofs.InflowLemmas.{nothing_serves}
+use Rattle.wall_verdict.proofs.InflowLemmas.{nothing_serves, serves_from}
 use Rattle.wall_verdict.proofs.PairLemmas.{pairs_none, pairs_found}
 use Rattle.wall_verdict.proofs.judge.first_offence.Goals as goal
 
 pub loop-to-init : goal.loop-to-init
 loop-to-init c = record {
-  none = refl;
-  serves = nothing_serves c.args.histories.now.classes c.args.roll.now c.before-inflow.result
-      c.before-inflow.ensures.ranks c.before-inflow.ensures.number c.before-inflow.ensures.different
-      c.before-inflow.ensures.datasets;
+  none = sym c.requires.none;
+  serves = serves_from c.args.histories.now.classes c.args.roll.now c.args.early
+      c.before-inflow.result (nothing_serves c.args.histories.now.classes c.args.roll.now
+      c.before-inflow.result c.before-inflow.ensures.ranks c.before-inflow.ensures.number
+      c.before-inflow.ensures.different c.before-inflow.ensures.datasets);
 }
 
 pub loop-to-preserved : goal.loop-to-preserved
