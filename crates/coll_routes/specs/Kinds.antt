@@ -61,7 +61,7 @@ kinds_between least most = filter (λ kind. nat_le least (length (kind_name kind
 abbrev pub longest_kinds : List Kind
 longest_kinds = filter (λ kind. nat_le 20 (length (kind_name kind))) all_kinds
 
--- the place of a kind in the list above, from 0: no two kinds have one place
+-- the place of a kind in `all_kinds`, from 0: no two kinds have one place
 abbrev pub kind_number : Kind → ℕ
 kind_number Barrier = 0
 kind_number Bcast = 1

@@ -11,7 +11,7 @@ use Rattle.std.specs.List.{range_with_len}
 use Rattle.mpi_elems.specs.Types.{is_pair}
 use Rattle.mpi_elems.specs.Elements.{Element, single, numbers_of, pairs_of, elements_of}
 use Rattle.mpi_elems.specs.Contents.{Contents, elements, IsFit}
-use Rattle.mpi_elems.proofs.LoopLemmas.{slice_range-all}
+use Rattle.mpi_elems.proofs.MpiElemsLemmas.{slice_range-all}
 use Rattle.coll_routes.specs.declared.signature.Signature.{Signature}
 use Rattle.coll_routes.specs.declared.signature.Signature.TheVariants.{Gather, Gatherv, Allgather}
 use Rattle.coll_routes.specs.declared.signature.Signature.TheVariants.{Allgatherv, NeighborAllgather}

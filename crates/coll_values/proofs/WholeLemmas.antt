@@ -6,21 +6,9 @@ use Rattle.mpi_elems.specs.Types.{is_pair}
 use Rattle.mpi_elems.specs.Elements.{Element, single, pair, pairs_of, elements_of}
 use Rattle.mpi_elems.specs.Contents.{Contents, elements}
 use Rattle.mpi_cart.specs.Grids.{below}
-use Rattle.coll_routes.specs.declared.signature.Signature.{Signature}
-use Rattle.coll_routes.specs.declared.signature.Signature.TheVariants.{Bcast, Gather, Gatherv}
-use Rattle.coll_routes.specs.declared.signature.Signature.TheVariants.{Scatter, Scatterv, Allgather}
-use Rattle.coll_routes.specs.declared.signature.Signature.TheVariants.{Allgatherv, Alltoall}
-use Rattle.coll_routes.specs.declared.signature.Signature.TheVariants.{Alltoallv, Reduce, Allreduce}
-use Rattle.coll_routes.specs.declared.signature.Signature.TheVariants.{ReduceScatter}
-use Rattle.coll_routes.specs.declared.signature.Signature.TheVariants.{ReduceScatterBlock, Scan}
-use Rattle.coll_routes.specs.declared.signature.Signature.TheVariants.{Exscan, NeighborAllgather}
-use Rattle.coll_routes.specs.declared.signature.Signature.TheVariants.{NeighborAllgatherv}
-use Rattle.coll_routes.specs.declared.signature.Signature.TheVariants.{NeighborAlltoall}
-use Rattle.coll_routes.specs.declared.signature.Signature.TheVariants.{NeighborAlltoallv}
 use Rattle.coll_routes.specs.declared.roll.Roll.{Roll}
-use Rattle.coll_routes.specs.declared.roll.Shape.{Shape}
 use Rattle.coll_routes.specs.Signatures.{elem_type, reduction}
-use Rattle.coll_routes.specs.Rolls.{given, places_by, places}
+use Rattle.coll_routes.specs.Rolls.{given, places}
 use Rattle.coll_values.specs.declared.full.Full.{Full}
 use Rattle.coll_values.specs.Instances.{elements_in, IsWhole}
 use Rattle.coll_values.specs.Values.{sent, block_by, block_of, blocks, value}

@@ -38,7 +38,6 @@ use Rattle.run_model.proofs.CountedLemmas.{taken_at, taken_accepted}
 use Rattle.run_model.proofs.CountedLemmas.{comm_later}
 use Rattle.run_model.proofs.HoldingLemmas.{label_held, part_barred, part_within}
 use Rattle.run_model.proofs.FitLemmas.{filled_is_fit}
-use Rattle.run_model.specs.declared.reply.Reply.TheVariants.{Denied}
 use Rattle.run_model.specs.Runs.{Entry, posts, contributions}
 use Rattle.run_model.specs.Replies.{Legal}
 use Rattle.run_model.specs.RunLaws as laws

@@ -1,14 +1,14 @@
 -- Two worlds that are alike outside a dataset look the same to who doesn't hold it.
 use Rattle.std.proofs.Common.{◌≡◌, ℕ, ◌<◌, ◌≤◌, List, [], ◌∷◌, length, refl, sym, ap, ◌∙◌, subst}
 use Rattle.std.proofs.Common.{arith, Bool, true, false, not, cond, ⊎_elim, ◌⊎◌, inl, inr, Option}
-use Rattle.std.proofs.Common.{Some, None, slice_get, option_map, eqb-true, eq-eqb}
+use Rattle.std.proofs.Common.{Some, None, slice_get, option_map, eqb-true}
 use Rattle.std.specs.Prelude.{◌==◌}
 use Rattle.std.proofs.lemmas.Bool.{cases_Bool, cond-true, cond-false, false≢true, and_from}
 use Rattle.std.proofs.lemmas.Bool.{or_right}
 use Rattle.std.proofs.lemmas.Option.{slice_get-map}
 use Rattle.wall_labels.specs.declared.ids.TheConstants.{DATASET_LIMIT}
 use Rattle.wall_labels.specs.declared.label.Label.{Label}
-use Rattle.wall_labels.specs.declared.label.Label.TheVariants.{Public, Of}
+use Rattle.wall_labels.specs.declared.label.Label.TheVariants.{Of}
 use Rattle.wall_policy.specs.Policy.{ChineseWall}
 use Rattle.wall_policy.specs.Rivals.{AreRivals}
 use Rattle.wall_rules.specs.Histories.{History}
@@ -33,7 +33,7 @@ use Rattle.run_model.specs.Comms.{Comm}
 use Rattle.run_model.specs.Posts.{Post, kth_posts, instance, is_full, comms, labelled}
 use Rattle.run_model.specs.Posts.{with_delivery, is_granted, histories, outcome_of, outcome_at}
 use Rattle.run_model.specs.Holding.{Holds, at_home}
-use Rattle.run_model.proofs.HoldingLemmas.{label_of_holder, rival_within, labelled_d, is_labelled_d}
+use Rattle.run_model.proofs.HoldingLemmas.{label_of_holder, rival_within, is_labelled_d}
 use Rattle.run_model.proofs.PostLawLemmas.{grow}
 use Rattle.run_model.specs.Contributions.{Contribution, posts_of, full_at}
 use Rattle.run_model.specs.declared.call.Posting.{Posting}

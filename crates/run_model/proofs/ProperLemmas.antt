@@ -16,9 +16,7 @@ use Rattle.coll_routes.specs.Signatures.{elem_type, count}
 use Rattle.coll_routes.specs.Faults.{bad_count, is_of_type, is_above_limit, is_asked_above_limit}
 use Rattle.coll_routes.specs.Faults.{asked, gives, is_listed, is_met}
 use Rattle.coll_routes.proofs.CollRoutesLemmas.{type_is}
-use Rattle.run_model.specs.declared.refusal.Refusal.{Refusal}
 use Rattle.run_model.specs.Comms.{shape_of}
-use Rattle.run_model.specs.Refusals.{or_else}
 use Rattle.run_model.specs.Books.{IsCounted}
 use Rattle.run_model.proofs.CountedLemmas.{accepted, no_fault_has}
 use Rattle.run_model.specs.Contributions.{Contribution}

@@ -1,6 +1,6 @@
 -- In a granted instance each rank gave what it stated.
 use Rattle.std.proofs.Common.{◌≡◌, ℕ, zero, suc, ◌<◌, List, [], ◌∷◌, ◌++◌, length, refl, sym}
-use Rattle.std.proofs.Common.{ap, ◌∙◌, subst, arith, true, false, ◌&&◌, ⊎_elim, ◌⊎◌, Option, Some}
+use Rattle.std.proofs.Common.{ap, ◌∙◌, subst, arith, true, false, ◌&&◌, ⊎_elim, Option, Some}
 use Rattle.std.proofs.Common.{None, slice_get, option_map}
 use Rattle.std.specs.Prelude.{◌==◌, is_some}
 use Rattle.std.specs.List.{list_all}

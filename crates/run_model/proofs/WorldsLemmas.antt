@@ -8,7 +8,7 @@ use Rattle.std.proofs.lemmas.Option.{slice_get-map}
 use Rattle.wall_labels.specs.declared.label.Label.{Label}
 use Rattle.wall_policy.specs.Policy.{ChineseWall}
 use Rattle.mpi_elems.specs.Elements.{Element}
-use Rattle.mpi_elems.specs.Contents.{Contents, contents, elements}
+use Rattle.mpi_elems.specs.Contents.{Contents, contents}
 use Rattle.mpi_group.specs.Groups.{rank_in}
 use Rattle.mpi_cart.specs.Grids.{below}
 use Rattle.coll_routes.specs.declared.roll.Roll.{Roll}

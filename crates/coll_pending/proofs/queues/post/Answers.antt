@@ -1,7 +1,7 @@
 use Rattle.std.proofs.Common.{◌≡◌, ◌∙◌, sym, ap}
 use Rattle.coll_pending.specs.declared.slot.Slot.{Slot}
 use Rattle.coll_pending.specs.Instances.{is_full}
-use Rattle.coll_pending.specs.Queues.{key_at, count, posted}
+use Rattle.coll_pending.specs.Queues.{key_at, posted}
 use Rattle.coll_pending.proofs.SlotLemmas.{full_parts}
 use Rattle.coll_pending.proofs.ArriveLemmas.{led, stands_there, taken_out}
 use Rattle.coll_pending.proofs.queues.post.Goals as goal

@@ -1,5 +1,5 @@
-use Rattle.std.proofs.Common.{◌≡◌, ℕ, ◌+◌, ◌<◌, false, get_or, take, length, refl, sym, ap, ◌∙◌}
-use Rattle.std.proofs.Common.{length-set, arith, ◌++◌, ◌∷◌, []}
+use Rattle.std.proofs.Common.{ℕ, ◌<◌, get_or, take, refl, sym, ap, ◌∙◌}
+use Rattle.std.proofs.Common.{length-set, arith}
 use Rattle.std.proofs.lemmas.List.{get_or_default}
 use Rattle.wall_labels.specs.declared.ids.TheConstants.{PROCESS_LIMIT}
 use Rattle.mpi_group.specs.Groups.{is_member}

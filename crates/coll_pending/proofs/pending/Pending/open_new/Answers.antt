@@ -1,4 +1,4 @@
-use Rattle.std.proofs.Common.{◌≡◌, ◌∙◌, ◌<◌, sym, ap, subst, length, IsSome, None}
+use Rattle.std.proofs.Common.{◌≡◌, ◌∙◌, ◌<◌, sym, ap, subst, length, None}
 use Rattle.coll_pending.specs.Instances.{Communicator}
 use Rattle.coll_pending.specs.Queues.{queue_at, count_in, slot_of}
 use Rattle.coll_pending.specs.Waiting.{State, view_of_pending, HasRoom}

@@ -1,4 +1,4 @@
-use Rattle.std.proofs.Common.{ap, ◌∙◌, ◌+◌, sym, eqb, subst, ◌<◌, ◌≤◌, false}
+use Rattle.std.proofs.Common.{ap, ◌∙◌, ◌+◌, sym, eqb, subst, ◌<◌, ◌≤◌}
 use Rattle.coll_pending.proofs.KeyLemmas.{not_less}
 use Rattle.coll_pending.proofs.SlotLemmas.{lacks_told, past_told}
 use Rattle.coll_pending.proofs.slot.Slot.lacks_only.Goals as goal
