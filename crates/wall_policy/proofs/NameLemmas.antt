@@ -1,13 +1,13 @@
 -- The names of a table, over the keys of the set that keeps them.
-use Rattle.std.proofs.Common.{◌≡◌, ℕ, ◌+◌, cond, ◌||◌, List, [], ◌∷◌, map, Some, None, String}
+use Rattle.std.proofs.Common.{◌≡◌, ℕ, ◌+◌, false, cond, ◌||◌, List, [], ◌∷◌, map, Some, None, String}
 use Rattle.std.proofs.Common.{string_bytes, refl, sym, ap, ◌∙◌, subst, inl, inr}
 use Rattle.std.proofs.lemmas.Bool.{cases_Bool}
 use Rattle.std.proofs.lemmas.Slice.Eq.{bytes_eq-Decides}
 use Rattle.std.proofs.lemmas.Str.{IsUtf8-string_bytes}
-use Rattle.std.specs.List.{list_any, position_from, AllZip}
+use Rattle.std.specs.List.{list_any, position_from, AllZip, AllByRecursion, IsDistinct}
 use Rattle.std.specs.Str.{bytes_eq, IsUtf8}
 use Rattle.std.specs.String.{string_eq}
-use Rattle.wall_policy.specs.Names.{Name, place_of, is_in}
+use Rattle.wall_policy.specs.Names.{Name, place_of, is_in, comes_twice}
 
 module _ {Z : Type 0} where
   place_from : (name : Name) (i : ℕ) (ks : List (String Z)) →
@@ -30,6 +30,20 @@ module _ {Z : Type 0} where
       string_bytes key ≡ name → map string_bytes ks ≡ names →
       list_any (string_eq key) ks ≡ is_in names name
   has-view key name ks names e f = is_in-view (string_bytes key) ks ∙ (λ i. is_in (f i) (e i))
+
+  -- texts of which no two are equal are names of which none comes twice
+  none_later : (name : Name) (ks : List (String Z)) →
+      AllByRecursion (λ k. bytes_eq name (string_bytes k) ≡ false) ks →
+      is_in (map string_bytes ks) name ≡ false
+  none_later name [] other = refl
+  none_later name (k ∷ ks) other = rw other.0 (none_later name ks other.1)
+
+  pub distinct-view : (ks : List (String Z)) → IsDistinct string_eq ks →
+      comes_twice (map string_bytes ks) ≡ false
+  unfolding IsDistinct
+  distinct-view [] distinct = refl
+  distinct-view (k ∷ ks) distinct =
+      rw (none_later (string_bytes k) ks distinct.0) (distinct-view ks distinct.1)
 
   -- bytes that are no text are no name
   none_from : (name : Name) (i : ℕ) (ks : List (String Z)) → ¬ IsUtf8 name →

@@ -36,13 +36,14 @@ impl Model for NameTable {
     ghost view = { λ t. map string_bytes t.names.keys };
 }
 
-// A slot for a name, by all its bytes. What it is matters to nothing but the time.
+// A slot for a name, by all its bytes: the highest ten bits of a product, since the lowest bits of
+// the hash are alike in many names that only count up. It matters to nothing but the time.
 fn slot_of(name: &[u8]) -> usize {
     let mut hash: u32 = 0;
     for byte in name {
         hash = hash.wrapping_mul(31).wrapping_add(u32::from(*byte));
     }
-    hash as usize % HINTS
+    (hash.wrapping_mul(0x9E37_79B1) >> 22) as usize
 }
 
 // The hints for these names, or none where no memory is left for them.
@@ -57,6 +58,14 @@ fn hints_for(alloc: Global, names: &IndexSet<String>) -> Vec<u16> {
         }
     }
     hints
+}
+
+// The same hints, or none where no memory is left for them.
+fn copy_of(alloc: Global, hints: &[u16]) -> Vec<u16> {
+    match Vec::from_slice(alloc, hints) {
+        Ok(copy) => copy,
+        Err(_) => Vec::new(alloc),
+    }
 }
 
 // Whether these are the same bytes. Names are short, so one after the other.
@@ -87,7 +96,8 @@ impl NameTable {
 
     /// How many names there are.
     pub(crate) fn len(&self) -> usize
-        ensures { result ≡ length self.now }
+        ensures number { result ≡ length self.now }
+        ensures distinct { comes_twice self.now ≡ false }
     {
         self.names.len()
     }
@@ -100,8 +110,8 @@ impl NameTable {
         self.names.get_index_of(name)
     }
 
-    /// The number of the name that has these bytes.
-    pub(crate) fn number_of_bytes(&self, name: &[u8]) -> Option<usize>
+    // The number of the name that has these bytes, by the index.
+    fn indexed(&self, name: &[u8]) -> Option<usize>
         ensures number { result ≡ place_of name.now self.now }
         ensures within { IfSome result (λ number. number < length self.now) }
     {
@@ -112,9 +122,8 @@ impl NameTable {
         }
     }
 
-    /// The number of the name that has these bytes, if that is what stands in its slot.
-    pub(crate) fn hinted(&self, name: &[u8]) -> Option<usize>
-        requires { comes_twice self.now ≡ false }
+    // The number of the name that has these bytes, if that is what stands in its slot.
+    fn hinted(&self, name: &[u8]) -> Option<usize>
         ensures place { IfSome result (λ number. place_of name.now self.now ≡ Some number) }
         ensures within { IfSome result (λ number. number < length self.now) }
     {
@@ -129,6 +138,17 @@ impl NameTable {
             Some(hint)
         } else {
             None
+        }
+    }
+
+    /// The number of the name that has these bytes.
+    pub(crate) fn number_of_bytes(&self, name: &[u8]) -> Option<usize>
+        ensures number { result ≡ place_of name.now self.now }
+        ensures within { IfSome result (λ number. number < length self.now) }
+    {
+        match self.hinted(name) {
+            Some(number) => Some(number),
+            None => self.indexed(name),
         }
     }
 
@@ -150,13 +170,15 @@ impl NameTable {
         }
     }
 
-    /// A table of the same names, with the same numbers.
+    /// A table of the same names, with the same numbers, and without hints.
     pub(crate) fn copy(&self, alloc: Global) -> Result<NameTable, AllocError>
         ensures { IfOk result (λ copy. copy ≡ self.now) }
     {
         let names = self.names.clone()?;
-        let hints = self.hints.clone().unwrap_or(Vec::new(alloc));
-        Ok(NameTable { names, hints })
+        Ok(NameTable {
+            names,
+            hints: Vec::new(alloc),
+        })
     }
 
     /// The same table, with hints for who asks by bytes.
@@ -165,6 +187,15 @@ impl NameTable {
     {
         let NameTable { names, hints: _ } = self;
         let hints = hints_for(alloc, &names);
+        NameTable { names, hints }
+    }
+
+    /// The same table, with the hints of one that it is a copy of.
+    pub(crate) fn with_hints_of(self, alloc: Global, first: &NameTable) -> NameTable
+        ensures { result ≡ self }
+    {
+        let NameTable { names, hints: _ } = self;
+        let hints = copy_of(alloc, &first.hints);
         NameTable { names, hints }
     }
 

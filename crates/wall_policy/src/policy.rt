@@ -183,8 +183,8 @@ impl Policy {
         Ok(Policy {
             version: self.version,
             class_names,
-            dataset_names,
-            process_names,
+            dataset_names: dataset_names.with_hints_of(alloc, &self.dataset_names),
+            process_names: process_names.with_hints_of(alloc, &self.process_names),
             classes,
             homes,
             leasts,
@@ -298,9 +298,6 @@ impl Policy {
         ensures number { result ≡ place_of name.now self.now.dataset_names }
         ensures known { IfSome result (λ d. d < length self.now.dataset_names) }
     {
-        if let Some(number) = self.dataset_names.hinted(name) {
-            return DatasetId::new(number as u32);
-        }
         match self.dataset_names.number_of_bytes(name) {
             Some(number) => DatasetId::new(number as u32),
             None => None,
@@ -312,9 +309,6 @@ impl Policy {
         ensures number { result ≡ place_of name.now self.now.process_names }
         ensures known { IfSome result (λ p. p < length self.now.process_names) }
     {
-        if let Some(number) = self.process_names.hinted(name) {
-            return ProcessId::new(number as u32);
-        }
         match self.process_names.number_of_bytes(name) {
             Some(number) => ProcessId::new(number as u32),
             None => None,

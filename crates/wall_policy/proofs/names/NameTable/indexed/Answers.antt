@@ -2,7 +2,7 @@ use Rattle.std.proofs.Common.{sym, ap, ◌∙◌}
 use Rattle.std.proofs.lemmas.Iterator.Adapters.{position_from-zero}
 use Rattle.wall_policy.specs.Names.{place_of}
 use Rattle.wall_policy.proofs.NameLemmas.{place_of-view, place_of-not_text}
-use Rattle.wall_policy.proofs.names.NameTable.number_of_bytes.Goals as goal
+use Rattle.wall_policy.proofs.names.NameTable.indexed.Goals as goal
 
 pub returns-in-Err-clause-number : goal.returns-in-Err-clause-number
 returns-in-Err-clause-number c =
