@@ -149,9 +149,9 @@ fn is_plain(kind: Kind) -> bool
     }
 }
 
-// Reads the fields of such a kind straight into what they make.
+// Reads the fields of such a kind straight into its signature.
 #[tactic(auto, unfolding(crate::specs::Fields::plain_at, coll_routes::specs::Signatures::kind))]
-fn next_plain(kind: Kind, words: &mut Parts) -> Result<Signature, LineFault>
+fn next_signature(kind: Kind, words: &mut Parts) -> Result<Signature, LineFault>
     ensures statement { Takes (λ s. s) result words.new (plain_at kind words.old) }
     ensures form { IfOk result (λ s. is_own_of (kind_of_signature s) Own.Plain ≡ true) }
 {
@@ -262,7 +262,7 @@ fn next_stated(alloc: Global, kind: Kind, words: &mut Parts) -> Result<(Signatur
     ensures form { IfOk result (λ s. is_own_of (kind_of_signature s.0) s.1 ≡ true) }
 {
     if is_plain(kind) {
-        let sig = next_plain(kind, words)?;
+        let sig = next_signature(kind, words)?;
         return Ok((sig, Own::Plain));
     }
     let fields = next_fields(alloc, forms(kind), words)?;

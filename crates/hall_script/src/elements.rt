@@ -83,8 +83,9 @@ fn push_word(builder: &mut BufferBuilder, word: &[u8]) -> Result<(), LineFault>
     }
 }
 
-// Reads the numbers up to one of more than 19 digits, or to the end of the line, and answers the
-// words from there on. It stands alone so that its loop has the registers for itself.
+// Reads the numbers up to the first word that is none of at most 19 digits, or to the end of the
+// line, and answers the words from there on. It stands alone so that its loop has the registers for
+// itself.
 #[inline(never)]
 fn fill_plain<'a>(builder: &mut BufferBuilder, line: Parts<'a>) -> Result<Parts<'a>, LineFault>
     requires { length builder.old.numbers + length line
