@@ -213,7 +213,7 @@ fn is_alike(claim: &LeanClaim) -> bool
 
 // Whether a request for an instance is open, so that the hall has it still.
 fn is_open(hall: &Hall, comm: u32, k: u64) -> bool {
-    hall.open_requests(comm, k) != 0
+    hall.open_for(comm, k) != 0
 }
 
 fn is_open_at(hall: &Hall, at: Option<(u32, u64)>) -> bool {
