@@ -173,9 +173,9 @@ fn search(
 }
 
 /// How many receivers are looked at before the labels of all ranks are collected. All of them, but
-/// where each has its own ranks to look at: then one at least; in an alltoallv one more for every 64
-/// ranks, and between neighbours as many more as have a quarter as many neighbours together as there
-/// are ranks.
+/// where each has its own ranks to look at: then at least one; in an alltoallv one more for every
+/// 64 ranks, and between neighbours as many more as have a quarter as many neighbours together as
+/// there are ranks.
 fn early_receivers(roll: &Roll) -> u32
     ensures { result ≤ roll.now.shape.size }
 {
