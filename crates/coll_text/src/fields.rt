@@ -4,9 +4,9 @@ ghost use Rattle.coll_text.specs.Reading.{Leaves, Takes};
 ghost use Rattle.coll_routes.specs.Signatures.{kind, kind as kind_of_signature};
 ghost use Rattle.coll_text.specs.Table.{no_fields};
 ghost use Rattle.coll_routes.specs.Owns.{is_own_of};
-ghost use Rattle.coll_text.specs.Fields.{colour_of, with_field, fields_at, statement_at, elem_type_at};
-ghost use Rattle.coll_text.specs.Fields.{op_at, block_at, folded_at, rooted_at, stated_at, is_plain};
-ghost use Rattle.coll_text.specs.Fields.{plain_at, reduced_at, gathered_at};
+ghost use Rattle.coll_text.specs.Fields.{colour_of, with_field, fields_at, statement_at};
+ghost use Rattle.coll_text.specs.Fields.{elem_type_at, op_at, block_at, folded_at, rooted_at};
+ghost use Rattle.coll_text.specs.Fields.{stated_at, is_plain, plain_at, reduced_at, gathered_at};
 
 use crate::fault::LineFault;
 use crate::lists::{flags_in, numbers_in};

@@ -111,33 +111,35 @@ fn cut_at(text: &[u8], separator: u8, len: usize) -> Option<(&[u8], Option<&[u8]
     Some((part, Some(rest)))
 }
 
-// Takes the first bytes of what is left as the next part, with the separator behind them; none, and
-// nothing is taken, where the part does not end there.
+// Takes as the next part, with the separator behind it, so many bytes as were read as a number, and
+// answers both; none, and nothing is taken, where the part does not end there.
 #[inline(always)]
-fn take_front<'a>(
+fn take_front<'a, N: Drop>(
     rest: &mut &'a [u8],
     is_done: &mut bool,
     separator: u8,
-    len: usize,
-) -> Option<&'a [u8]>
+    read: (N, usize),
+) -> Option<(&'a [u8], N)>
     requires left { is_done.old ≡ false }
     requires below { separator < 45 }
-    requires within { len ≤ length rest.old.now }
-    requires solid { list_all (λ b. nat_lt 44 b) (take len rest.old.now) ≡ true }
+    requires within { read.1 ≤ length rest.old.now }
+    requires solid { list_all (λ b. nat_lt 44 b) (take read.1 rest.old.now) ≡ true }
     ensures none { result ≡ None → (rest.new.now ≡ rest.old.now) × (is_done.new ≡ false) }
-    ensures front { IfSome result (λ part. part.now ≡ take len rest.old.now) }
-    ensures part { IfSome result (λ part. slice_split (λ b. b == separator) rest.old.now
-        ≡ part.now ∷ (if is_done.new then [] else slice_split (λ b. b == separator) rest.new.now)) }
+    ensures front { IfSome result (λ r. r.0.now ≡ take read.1 rest.old.now) }
+    ensures number { IfSome result (λ r. r.1 ≡ read.0) }
+    ensures part { IfSome result (λ r. slice_split (λ b. b == separator) rest.old.now
+        ≡ r.0.now ∷ (if is_done.new then [] else slice_split (λ b. b == separator) rest.new.now)) }
 {
+    let (number, len) = read;
     match cut_at(*rest, separator, len) {
         None => None,
         Some((part, None)) => {
             *is_done = true;
-            Some(part)
+            Some((part, number))
         }
         Some((part, Some(behind))) => {
             *rest = behind;
-            Some(part)
+            Some((part, number))
         }
     }
 }
@@ -234,9 +236,8 @@ impl<'a> Parts<'a> {
         if self.is_done || self.separator >= b'-' {
             return None;
         }
-        let (number, len) = front_short(self.rest)?;
-        let part = take_front(&mut self.rest, &mut self.is_done, self.separator, len)?;
-        Some((part, number))
+        let read = front_short(self.rest)?;
+        take_front(&mut self.rest, &mut self.is_done, self.separator, read)
     }
 
     /// The next part where a signed number of at most 19 digits is the whole of it, with the
@@ -250,9 +251,8 @@ impl<'a> Parts<'a> {
         if self.is_done || self.separator >= b'-' {
             return None;
         }
-        let (number, len) = front_signed(self.rest)?;
-        let part = take_front(&mut self.rest, &mut self.is_done, self.separator, len)?;
-        Some((part, number))
+        let read = front_signed(self.rest)?;
+        take_front(&mut self.rest, &mut self.is_done, self.separator, read)
     }
 
     /// The next part, and the signed number of 64 bits behind its sign that it spells.

@@ -1,5 +1,5 @@
-//! The forms of each kind's fields in their order, a line for each kind, and what fields with lists,
-//! or with a colour and a key, make.
+//! The forms of each kind's fields in their order, a line for each kind, and what fields make that
+//! have lists, or a colour and a key.
 ghost use Rattle.std.specs.Prelude.{◌≡◌, true, false};
 ghost use Rattle.coll_routes.specs.Signatures.{kind as kind_of_signature};
 ghost use Rattle.coll_text.specs.Table.{forms_of, signature_of, own_of, no_fields};
@@ -99,7 +99,7 @@ pub(crate) fn forms(kind: Kind) -> &'static [Form]
     }
 }
 
-/// What the fields of a kind make that has lists, or a colour and a key: what all members state
+/// What the fields of a kind with lists, or with a colour and a key, make: what all members state
 /// alike, and what the poster states for itself.
 #[tactic(auto, unfolding(crate::specs::Table::signature_of, crate::specs::Table::own_of, coll_routes::specs::Signatures::kind))]
 pub(crate) fn made_of(kind: Kind, fields: Fields) -> (Signature, Own)

@@ -4,4 +4,4 @@ use Rattle.coll_text.proofs.parts.Parts.next_small.Goals as goal
 
 pub take_front-requires-clause-solid : goal.take_front-requires-clause-solid
 take_front-requires-clause-solid c =
-    digits_solid (take c.in_ok-number.len c.self.inside.rest.now) c.in_ok-number.ensures.digits
+    digits_solid (take c.in_ok-read.read.1 c.self.inside.rest.now) c.in_ok-read.ensures.digits
