@@ -132,7 +132,7 @@ impl Teller {
         }
     }
 
-    // Takes a request, and appends the line of its reply, which is kept where others are still to be
+    // Takes a request, and appends the line of its reply. It is kept where others are still to be
     // told it.
     fn take_first(
         &mut self,
