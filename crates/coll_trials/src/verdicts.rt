@@ -607,8 +607,8 @@ fn roll_of_rivals(rt: &impl Abort, alloc: Global, kind: Kind, first: u32, second
     roll(rt, alloc, &members, sig, &gifts)
 }
 
-// The kinds of sums in which receivers get alike, and how many verdicts, or grants, take a second or
-// two. Nobody is clear of all that is given; but for the first ranks of a scan, what they get is
+// The kinds of sums in which receivers get alike, and how many verdicts, or grants, take a second
+// or two. Nobody is clear of all that is given; but for the first ranks of a scan, what they get is
 // sanitised.
 const SUMS: &[(Kind, u32)] = &[
     (Kind::Allreduce, 40_000),
