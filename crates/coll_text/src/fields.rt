@@ -4,9 +4,9 @@ ghost use Rattle.coll_text.specs.Reading.{Leaves, Takes};
 ghost use Rattle.coll_routes.specs.Signatures.{kind, kind as kind_of_signature};
 ghost use Rattle.coll_text.specs.Table.{no_fields};
 ghost use Rattle.coll_routes.specs.Owns.{is_own_of};
-ghost use Rattle.coll_text.specs.Fields.{colour_of, with_field, fields_at, statement_at, elem_type_at};
-ghost use Rattle.coll_text.specs.Fields.{op_at, block_at, folded_at, rooted_at, stated_at, is_plain};
-ghost use Rattle.coll_text.specs.Fields.{plain_at, reduced_at, gathered_at};
+ghost use Rattle.coll_text.specs.Fields.{colour_of, with_field, fields_at, statement_at};
+ghost use Rattle.coll_text.specs.Fields.{elem_type_at, op_at, block_at, folded_at, rooted_at};
+ghost use Rattle.coll_text.specs.Fields.{stated_at, is_plain, plain_at, reduced_at, gathered_at};
 
 use crate::fault::LineFault;
 use crate::lists::{flags_in, numbers_in};
@@ -149,9 +149,9 @@ fn is_plain(kind: Kind) -> bool
     }
 }
 
-// Reads the fields of such a kind straight into what they make.
+// Reads the fields of such a kind straight into its signature.
 #[tactic(auto, unfolding(crate::specs::Fields::plain_at, coll_routes::specs::Signatures::kind))]
-fn next_plain(kind: Kind, words: &mut Parts) -> Result<Signature, LineFault>
+fn next_signature(kind: Kind, words: &mut Parts) -> Result<Signature, LineFault>
     ensures statement { Takes (λ s. s) result words.new (plain_at kind words.old) }
     ensures form { IfOk result (λ s. is_own_of (kind_of_signature s) Own.Plain ≡ true) }
 {
@@ -262,7 +262,7 @@ fn next_stated(alloc: Global, kind: Kind, words: &mut Parts) -> Result<(Signatur
     ensures form { IfOk result (λ s. is_own_of (kind_of_signature s.0) s.1 ≡ true) }
 {
     if is_plain(kind) {
-        let sig = next_plain(kind, words)?;
+        let sig = next_signature(kind, words)?;
         return Ok((sig, Own::Plain));
     }
     let fields = next_fields(alloc, forms(kind), words)?;

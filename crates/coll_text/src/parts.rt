@@ -1,6 +1,6 @@
 //! The parts of a text between separators, from the left.
 ghost use Rattle.std.specs.Prelude.{◌≡◌, ◌==◌, List, ℕ, [], ◌∷◌, MatchOption, IfSome, Some, None};
-ghost use Rattle.std.specs.Prelude.{length, ◌≤◌, ◌<◌, take, nat_lt, true};
+ghost use Rattle.std.specs.Prelude.{length, ◌≤◌, ◌<◌, take, nat_lt, true, false, if◌then◌else◌};
 ghost use Rattle.std.specs.List.{slice_split, position, count_by, list_all};
 ghost use Rattle.coll_text.specs.Numbers.{number_within, signed_within};
 
@@ -111,6 +111,39 @@ fn cut_at(text: &[u8], separator: u8, len: usize) -> Option<(&[u8], Option<&[u8]
     Some((part, Some(rest)))
 }
 
+// Takes as the next part, with the separator behind it, so many bytes as were read as a number, and
+// answers both; none, and nothing is taken, where the part does not end there.
+#[inline(always)]
+fn take_front<'a, N: Drop>(
+    rest: &mut &'a [u8],
+    is_done: &mut bool,
+    separator: u8,
+    read: (N, usize),
+) -> Option<(&'a [u8], N)>
+    requires left { is_done.old ≡ false }
+    requires below { separator < 45 }
+    requires within { read.1 ≤ length rest.old.now }
+    requires solid { list_all (λ b. nat_lt 44 b) (take read.1 rest.old.now) ≡ true }
+    ensures none { result ≡ None → (rest.new.now ≡ rest.old.now) × (is_done.new ≡ false) }
+    ensures front { IfSome result (λ r. r.0.now ≡ take read.1 rest.old.now) }
+    ensures number { IfSome result (λ r. r.1 ≡ read.0) }
+    ensures part { IfSome result (λ r. slice_split (λ b. b == separator) rest.old.now
+        ≡ r.0.now ∷ (if is_done.new then [] else slice_split (λ b. b == separator) rest.new.now)) }
+{
+    let (number, len) = read;
+    match cut_at(*rest, separator, len) {
+        None => None,
+        Some((part, None)) => {
+            *is_done = true;
+            Some((part, number))
+        }
+        Some((part, Some(behind))) => {
+            *rest = behind;
+            Some((part, number))
+        }
+    }
+}
+
 impl<'a> Parts<'a> {
     pub fn new(text: &'a [u8], separator: u8) -> Parts<'a>
         ensures { result ≡ slice_split (λ b. b == separator) text.now }
@@ -193,9 +226,9 @@ impl<'a> Parts<'a> {
     }
 
     /// The next part where a number of 64 bits and at most 19 digits is the whole of it, with the
-    /// number; else none, and nothing is taken.
+    /// number; else none, and nothing is taken. Always none where the separator is `-` or above.
     #[inline]
-    pub fn next_small(&mut self) -> Option<(&'a [u8], u64)>
+    pub(crate) fn next_small(&mut self) -> Option<(&'a [u8], u64)>
         ensures none { result ≡ None → self.new ≡ self.old }
         ensures part { IfSome result (λ r. self.old ≡ r.0.now ∷ self.new) }
         ensures number { IfSome result (λ r. number_within u64.MAX r.0.now ≡ Some r.1) }
@@ -203,22 +236,12 @@ impl<'a> Parts<'a> {
         if self.is_done || self.separator >= b'-' {
             return None;
         }
-        let (number, len) = front_short(self.rest)?;
-        match cut_at(self.rest, self.separator, len) {
-            None => None,
-            Some((part, None)) => {
-                self.is_done = true;
-                Some((part, number))
-            }
-            Some((part, Some(rest))) => {
-                self.rest = rest;
-                Some((part, number))
-            }
-        }
+        let read = front_short(self.rest)?;
+        take_front(&mut self.rest, &mut self.is_done, self.separator, read)
     }
 
-    /// The next part where a signed number of at most 19 digits is the whole of it, with the number;
-    /// else none, and nothing is taken.
+    /// The next part where a signed number of at most 19 digits is the whole of it, with the
+    /// number; else none, and nothing is taken. Always none where the separator is `-` or above.
     #[inline(always)]
     pub fn next_plain(&mut self) -> Option<(&'a [u8], ShortNumber)>
         ensures none { result ≡ None → self.new ≡ self.old }
@@ -228,18 +251,8 @@ impl<'a> Parts<'a> {
         if self.is_done || self.separator >= b'-' {
             return None;
         }
-        let (number, len) = front_signed(self.rest)?;
-        match cut_at(self.rest, self.separator, len) {
-            None => None,
-            Some((part, None)) => {
-                self.is_done = true;
-                Some((part, number))
-            }
-            Some((part, Some(behind))) => {
-                self.rest = behind;
-                Some((part, number))
-            }
-        }
+        let read = front_signed(self.rest)?;
+        take_front(&mut self.rest, &mut self.is_done, self.separator, read)
     }
 
     /// The next part, and the signed number of 64 bits behind its sign that it spells.

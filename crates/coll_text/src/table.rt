@@ -1,8 +1,9 @@
-//! The forms of each kind's fields in their order, and what the fields make: a line for each kind
-//! in each table.
-ghost use Rattle.std.specs.Prelude.{◌≡◌, true};
+//! The forms of each kind's fields in their order, a line for each kind, and what fields make that
+//! have lists, or a colour and a key.
+ghost use Rattle.std.specs.Prelude.{◌≡◌, true, false};
 ghost use Rattle.coll_routes.specs.Signatures.{kind as kind_of_signature};
 ghost use Rattle.coll_text.specs.Table.{forms_of, signature_of, own_of, no_fields};
+ghost use Rattle.coll_text.specs.Fields.{is_plain};
 ghost use Rattle.coll_routes.specs.Owns.{is_own_of};
 
 use coll_routes::{Flags, Kind, Numbers, Own, Signature};
@@ -98,10 +99,11 @@ pub(crate) fn forms(kind: Kind) -> &'static [Form]
     }
 }
 
-/// What the fields of a kind make: what all members state alike, and what the poster states for
-/// itself.
+/// What the fields of a kind with lists, or with a colour and a key, make: what all members state
+/// alike, and what the poster states for itself.
 #[tactic(auto, unfolding(crate::specs::Table::signature_of, crate::specs::Table::own_of, coll_routes::specs::Signatures::kind))]
 pub(crate) fn made_of(kind: Kind, fields: Fields) -> (Signature, Own)
+    requires { is_plain kind ≡ false }
     ensures signature { result.0 ≡ signature_of kind fields }
     ensures own { result.1 ≡ own_of kind fields }
     ensures form { is_own_of (kind_of_signature result.0) result.1 ≡ true }
@@ -110,62 +112,16 @@ pub(crate) fn made_of(kind: Kind, fields: Fields) -> (Signature, Own)
         root,
         op,
         elem_type,
-        count,
         counts,
         list,
         flags,
         colour,
         key,
+        ..
     } = fields;
     match kind {
-        Kind::Barrier => (Signature::Barrier, Own::Plain),
-        Kind::Bcast => (
-            Signature::Bcast {
-                root,
-                elem_type,
-                count,
-            },
-            Own::Plain,
-        ),
-        Kind::Gather => (
-            Signature::Gather {
-                root,
-                elem_type,
-                count,
-            },
-            Own::Plain,
-        ),
-        Kind::Gatherv => (Signature::Gatherv { root, elem_type }, Own::Plain),
-        Kind::Scatter => (
-            Signature::Scatter {
-                root,
-                elem_type,
-                count,
-            },
-            Own::Plain,
-        ),
         Kind::Scatterv => (Signature::Scatterv { root, elem_type }, Own::Counts(counts)),
-        Kind::Allgather => (Signature::Allgather { elem_type, count }, Own::Plain),
-        Kind::Allgatherv => (Signature::Allgatherv { elem_type }, Own::Plain),
-        Kind::Alltoall => (Signature::Alltoall { elem_type, count }, Own::Plain),
         Kind::Alltoallv => (Signature::Alltoallv { elem_type }, Own::Counts(counts)),
-        Kind::Reduce => (
-            Signature::Reduce {
-                root,
-                op,
-                elem_type,
-                count,
-            },
-            Own::Plain,
-        ),
-        Kind::Allreduce => (
-            Signature::Allreduce {
-                op,
-                elem_type,
-                count,
-            },
-            Own::Plain,
-        ),
         Kind::ReduceScatter => (
             Signature::ReduceScatter {
                 op,
@@ -174,41 +130,10 @@ pub(crate) fn made_of(kind: Kind, fields: Fields) -> (Signature, Own)
             },
             Own::Plain,
         ),
-        Kind::ReduceScatterBlock => (
-            Signature::ReduceScatterBlock {
-                op,
-                elem_type,
-                count,
-            },
-            Own::Plain,
-        ),
-        Kind::Scan => (
-            Signature::Scan {
-                op,
-                elem_type,
-                count,
-            },
-            Own::Plain,
-        ),
-        Kind::Exscan => (
-            Signature::Exscan {
-                op,
-                elem_type,
-                count,
-            },
-            Own::Plain,
-        ),
-        Kind::NeighborAllgather => (
-            Signature::NeighborAllgather { elem_type, count },
-            Own::Plain,
-        ),
-        Kind::NeighborAllgatherv => (Signature::NeighborAllgatherv { elem_type }, Own::Plain),
-        Kind::NeighborAlltoall => (Signature::NeighborAlltoall { elem_type, count }, Own::Plain),
         Kind::NeighborAlltoallv => (
             Signature::NeighborAlltoallv { elem_type },
             Own::Counts(counts),
         ),
-        Kind::Dup => (Signature::Dup, Own::Plain),
         Kind::Split => (Signature::Split, Own::Split { colour, key }),
         Kind::Create => (Signature::Create { ranks: list }, Own::Plain),
         Kind::CartCreate => (
@@ -219,5 +144,6 @@ pub(crate) fn made_of(kind: Kind, fields: Fields) -> (Signature, Own)
             Own::Plain,
         ),
         Kind::CartSub => (Signature::CartSub { keep: flags }, Own::Plain),
+        _ => unreachable!(),
     }
 }

@@ -2,8 +2,9 @@
 //! go.
 
 use crate::parties::{BANKS_AND_OIL, grid, opening, wall};
-use crate::pending::{Table, at_a_table, line_of_two};
+use crate::pending::{Calls, Table, at_a_table, line_of_two};
 use crate::policies::{fault_of, many};
+use coll_routes::Signature;
 use run_model::{Act, Acts};
 use std::alloc::{AllocError, Global};
 use std::fs;
@@ -152,38 +153,129 @@ fn pages_of_waiting<R: Files + AllocGlobal + Abort>(
 fn expect_little_waiting<R: Files + AllocGlobal + Abort>(
     rt: &R,
     members: u32,
+    calls: Calls,
     comms: u32,
     limit: u64,
 ) -> Result<(), Fail> {
-    at_a_table(rt, members, |table| {
+    at_a_table(rt, members, calls, |table| {
         let more = pages_of_waiting(rt, table, comms)?;
         assert!(rt; more < limit, "{more} pages more");
         Ok(())
     })
 }
 
-// An instance of 256 members that waits takes some ten pages. One of two members takes less than
-// half a page, with its lists and what is kept of its communicator.
+// An instance of 256 members that waits takes some ten pages.
+#[test]
+fn instances_of_many_that_wait_ask_for_little(rt: HostRuntime) -> Result<(), Fail> {
+    expect_little_waiting(&rt, 256, Calls::OfHall, 64, 780)
+}
+
+// One of two members takes less than half a page, with its lists and what is kept of its
+// communicator.
+#[test]
+fn instances_of_two_that_wait_ask_for_little(rt: HostRuntime) -> Result<(), Fail> {
+    expect_little_waiting(&rt, 2, Calls::OfHall, 1000, 750)
+}
+
+// The same by `arrive`.
 #[test]
 fn instances_that_wait_ask_for_little(rt: HostRuntime) -> Result<(), Fail> {
-    expect_little_waiting(&rt, 256, 64, 780)?;
-    expect_little_waiting(&rt, 2, 1000, 750)
+    expect_little_waiting(&rt, 256, Calls::Arrive, 64, 780)?;
+    expect_little_waiting(&rt, 2, Calls::Arrive, 1000, 750)
 }
 
 // A leak of the room for the parts of the instances would be more than a hundred pages each time.
-#[test]
-fn instances_that_wait_are_let_go(rt: HostRuntime) -> Result<(), Fail> {
-    expect_little_waiting(&rt, 256, 64, 780)?;
-    let before = pages(&rt, 0)?;
+fn expect_all_let_go<R: Files + AllocGlobal + Abort>(rt: &R, calls: Calls) -> Result<(), Fail> {
+    expect_little_waiting(rt, 256, calls, 64, 780)?;
+    let before = pages(rt, 0)?;
     for _ in 0..20 {
-        expect_little_waiting(&rt, 256, 64, 780)?;
+        expect_little_waiting(rt, 256, calls, 64, 780)?;
     }
-    let after = pages(&rt, 0)?;
-    assert!(&rt;
+    let after = pages(rt, 0)?;
+    assert!(rt;
         after < before.saturating_add(256),
         "{before} pages, then {after}"
     );
     Ok(())
+}
+
+#[test]
+fn instances_that_wait_are_let_go(rt: HostRuntime) -> Result<(), Fail> {
+    expect_all_let_go(&rt, Calls::Arrive)?;
+    expect_all_let_go(&rt, Calls::OfHall)
+}
+
+// All members but the first and the last join the instance of a communicator.
+fn join_all(rt: &impl Abort, table: &mut Table, comm: u32) -> Result<(), NoMemory> {
+    for rank in 1..255 {
+        table.join(rt, comm, rank, Signature::Barrier)?;
+    }
+    Ok(())
+}
+
+// The first member opens a barrier on each of so many communicators.
+fn open_barriers(rt: &impl Abort, table: &mut Table, comms: u32) -> Result<(), NoMemory> {
+    for comm in 0..comms {
+        table.open(rt, comm, Signature::Barrier)?;
+    }
+    Ok(())
+}
+
+// How many more pages were asked for when all others but the last have joined these.
+fn pages_of_joining<R: Files + AllocGlobal + Abort>(
+    rt: &R,
+    table: &mut Table,
+    comms: u32,
+) -> Result<u64, Fail> {
+    open_barriers(rt, table, comms)?;
+    let before = pages(rt, 0)?;
+    for comm in 0..comms {
+        join_all(rt, table, comm)?;
+    }
+    let after = pages(rt, 0)?;
+    Ok(after.saturating_sub(before))
+}
+
+// More than four bytes for each of the sixteen thousand that join would be seen.
+#[test]
+fn members_that_join_ask_for_nothing(rt: HostRuntime) -> Result<(), Fail> {
+    at_a_table(&rt, 256, Calls::OfHall, |table| {
+        let more = pages_of_joining(&rt, table, 64)?;
+        assert!(&rt; more < 16, "{more} pages more");
+        Ok(())
+    })
+}
+
+// So many barriers on a communicator, one after the other.
+fn fill_often(rt: &impl Abort, table: &mut Table, times: u32) -> Result<(), NoMemory> {
+    for _ in 0..times {
+        table.open(rt, 0, Signature::Barrier)?;
+        join_all(rt, table, 0)?;
+        table.fill(rt, 0, 255, Signature::Barrier, &[1; 256])?;
+    }
+    Ok(())
+}
+
+// How many more pages were asked for by two thousand of them, behind the first.
+fn pages_of_filling<R: Files + AllocGlobal + Abort>(
+    rt: &R,
+    table: &mut Table,
+) -> Result<u64, Fail> {
+    fill_often(rt, table, 10)?;
+    let before = pages(rt, 0)?;
+    fill_often(rt, table, 2000)?;
+    let after = pages(rt, 0)?;
+    Ok(after.saturating_sub(before))
+}
+
+// A leak of seventy bytes of each would be seen.
+#[test]
+fn instances_that_are_full_are_let_go(rt: HostRuntime) -> Result<(), Fail> {
+    at_a_table(&rt, 256, Calls::OfHall, |table| {
+        let more = pages_of_filling(&rt, table)?;
+        assert!(&rt; more < 32, "{more} pages more");
+        Ok(())
+    })
 }
 
 // Three acts have room for a few.

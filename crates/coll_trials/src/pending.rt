@@ -1,8 +1,13 @@
-//! Arrivals on small communicators, worked by hand: the k-th arrivals of the members meet.
+//! Arrivals on small communicators, worked by hand: the k-th arrivals of the members meet. Members
+//! arrive by `arrive`, and by the calls that a hall makes in its place.
+ghost use Rattle.std.specs.Prelude.{◌≡◌, ◌≢◌, IsTrue, true};
+ghost use Rattle.coll_pending.specs.declared.arrival.Next.TheVariants.{Joins, Mismatch};
+ghost use Rattle.coll_pending.specs.Lists.{fits, room_by};
 
 use crate::parties::{flags, lowest, numbers, plain};
+use coll_pending::laws::faultless_signatures_fit;
 use coll_pending::{ArrivalFault, Arrived, Next, NoMemory, Pending, Unarrived};
-use coll_routes::{Numbers, Own, Roll, Shape, Signature, Stated};
+use coll_routes::{Numbers, Own, Roll, Shape, Signature, Stated, shape_fault};
 use coll_values::Full;
 use mpi_elems::ElemType;
 use mpi_group::Group;
@@ -12,8 +17,18 @@ use std::process::Abort;
 use std::test::Fail;
 use wall_labels::{Label, Op};
 
+/// By which calls members arrive.
+#[derive(Clone, Copy)]
+pub(crate) enum Calls {
+    Arrive,
+    /// A post that has no fault by itself, and that meets no mismatch, joins an instance that waits
+    /// for others too, or else has room made for it and then arrives.
+    OfHall,
+}
+
 /// Instances that wait on communicators of the same members.
 pub(crate) struct Table {
+    calls: Calls,
     group: Group,
     shape: Shape,
     pending: Pending<u64>,
@@ -23,6 +38,7 @@ pub(crate) struct Table {
 impl Drop for Table {
     fn drop(self) {
         let Table {
+            calls: _,
             group,
             shape,
             pending,
@@ -47,8 +63,11 @@ impl Model for Table {
 }
 
 impl Table {
-    fn new(rt: &impl Abort, alloc: Global, size: u32) -> Table {
+    ghost use Rattle.coll_pending.specs.Waiting.{view_of_pending, next};
+
+    fn new(rt: &impl Abort, alloc: Global, size: u32, calls: Calls) -> Table {
         Table {
+            calls,
             group: lowest(rt, alloc, size),
             shape: plain(size),
             pending: Pending::new(alloc),
@@ -70,7 +89,47 @@ impl Table {
         comm: u32,
         sig: Signature,
     ) -> Result<(), NoMemory> {
-        self.arrive(rt, (comm, 0), sig, 1, Next::Opens, &[])
+        self.meet(rt, (comm, 0), sig, 1, Next::Opens, &[])
+    }
+
+    /// Another rank joins an instance, which then waits for more.
+    pub(crate) fn join(
+        &mut self,
+        rt: &impl Abort,
+        comm: u32,
+        rank: u32,
+        sig: Signature,
+    ) -> Result<(), NoMemory> {
+        self.meet(rt, (comm, rank), sig, 1, Next::Joins, &[])
+    }
+
+    /// The last rank arrives, where each other brought part 1 too.
+    pub(crate) fn fill(
+        &mut self,
+        rt: &impl Abort,
+        comm: u32,
+        rank: u32,
+        sig: Signature,
+        parts: &[u64],
+    ) -> Result<(), NoMemory> {
+        self.meet(rt, (comm, rank), sig, 1, Next::Fills, parts)
+    }
+
+    // A rank arrives: `next` says before what it does, and if it is the last one the instance has
+    // these parts.
+    fn meet(
+        &mut self,
+        rt: &impl Abort,
+        place: (u32, u32),
+        sig: Signature,
+        part: u64,
+        next: Next,
+        parts: &[u64],
+    ) -> Result<(), NoMemory> {
+        match self.calls {
+            Calls::Arrive => self.arrive(rt, place, sig, part, next, parts),
+            Calls::OfHall => self.post(rt, place, sig, part, next, parts),
+        }
     }
 
     fn ready(&mut self, rt: &impl Abort, comm: u32, rank: u32) -> Result<(), NoMemory> {
@@ -78,8 +137,15 @@ impl Table {
         self.pending.ready(comm, rank, &self.group, &self.shape)
     }
 
-    // A rank arrives: `next` says before what it does, and if it is the last one the instance has
-    // these parts. A mismatch gives its part back.
+    // Makes room for an arrival, but where the calls of a hall do so where it is needed.
+    fn make_room(&mut self, rt: &impl Abort, comm: u32, rank: u32) -> Result<(), NoMemory> {
+        match self.calls {
+            Calls::Arrive => self.ready(rt, comm, rank),
+            Calls::OfHall => Ok(()),
+        }
+    }
+
+    // By one call. A mismatch gives its part back.
     fn arrive(
         &mut self,
         rt: &impl Abort,
@@ -90,7 +156,7 @@ impl Table {
         parts: &[u64],
     ) -> Result<(), NoMemory> {
         let (comm, rank) = place;
-        assert!(rt; rank < self.group.size() && self.pending.arrivals(comm, rank) < 100);
+        assert!(rt; rank < self.group.size() && self.pending.arrivals(comm, rank) < 100_000);
         assert_eq!(rt; self.pending.next(comm, rank, &sig), next);
         let stated = stated_for(sig);
         let answer = self
@@ -100,6 +166,83 @@ impl Table {
         expect_little_room(rt, answer);
         ended
     }
+
+    // By the calls of a hall, in its order. A mismatch goes no further.
+    fn post(
+        &mut self,
+        rt: &impl Abort,
+        place: (u32, u32),
+        sig: Signature,
+        part: u64,
+        next: Next,
+        parts: &[u64],
+    ) -> Result<(), NoMemory> {
+        let (comm, rank) = place;
+        let found = self.pending.next(comm, rank, &sig);
+        assert_eq!(rt; found, next);
+        if found == Next::Mismatch {
+            drop(sig);
+            return Ok(());
+        }
+        let agreed = self.pending.next_agreed(comm, rank, &sig);
+        assert_eq!(rt; agreed, next);
+        let stated = stated_for(sig);
+        if agreed == Next::Joins {
+            assert!(rt; parts.is_empty());
+            self.join_others(rt, place, stated, part);
+            return Ok(());
+        }
+        let answer = self.enter(rt, place, stated, part);
+        let ended = expect_answer(rt, &answer, part, next, parts);
+        expect_little_room(rt, answer);
+        ended
+    }
+
+    // A post to an instance that waits for others too.
+    #[tactic(auto, using(crate::proofs::KnownLemmas::member_known))]
+    fn join_others(&mut self, rt: &impl Abort, place: (u32, u32), stated: Stated, part: u64)
+        requires { next (view_of_pending self.old) place.0 place.1 stated.sig ≡ Joins }
+    {
+        let (comm, rank) = place;
+        assert!(rt; rank < self.group.size() && self.pending.arrivals(comm, rank) < 100_000);
+        self.pending.join(comm, rank, stated, part);
+    }
+
+    // A post that opens an instance, or fills one.
+    fn enter(
+        &mut self,
+        rt: &impl Abort,
+        place: (u32, u32),
+        stated: Stated,
+        part: u64,
+    ) -> Result<Arrived<u64>, Unarrived<u64>>
+        requires { next (view_of_pending self.old) place.0 place.1 stated.sig ≢ Mismatch }
+    {
+        let (comm, rank) = place;
+        assert!(rt; rank < self.group.size() && self.pending.arrivals(comm, rank) < 100_000);
+        assert!(rt; is_faultless(&self.shape, rank, &stated));
+        match self.pending.ready(comm, rank, &self.group, &self.shape) {
+            Ok(()) => Ok(
+                self.pending
+                    .arrive_ready(comm, rank, &self.group, &self.shape, stated, part),
+            ),
+            Err(_) => Err(Unarrived {
+                fault: ArrivalFault::NoMemory,
+                stated,
+                part,
+            }),
+        }
+    }
+}
+
+// Whether a post has no fault by itself: then there is room for its signature.
+fn is_faultless(shape: &Shape, rank: u32, stated: &Stated) -> bool
+    ensures { IsTrue result → fits (room_by shape.now) stated.now.sig ≡ true }
+{
+    faultless_signatures_fit();
+    let elem_type = stated.sig.elem_type().unwrap_or(ElemType::Int8);
+    let given = stated.given as usize;
+    shape_fault(shape, rank, &stated.sig, &stated.own, elem_type, given).is_none()
 }
 
 // The answer to an arrival that does this, with this part.
@@ -158,18 +301,36 @@ fn expect_little_room(rt: &impl Abort, answer: Result<Arrived<u64>, Unarrived<u6
     }
 }
 
-/// Lends a table of so many members to the steps of a test. One that goes out of scope is taken
-/// apart in the function that owns it, which costs the prover half a minute; `drop` is one call.
+/// Lends a table of so many members, who arrive so, to the steps of a test. One that goes out of
+/// scope is taken apart in the function that owns it, which costs the prover half a minute; `drop`
+/// is one call.
 pub(crate) fn at_a_table<F>(
     rt: &(impl AllocGlobal + Abort),
     size: u32,
+    calls: Calls,
     steps: F,
 ) -> Result<(), Fail>
 where
     F: FnOnce(&mut Table) -> Result<(), Fail>,
     requires { F.IsAlwaysCallable steps }
 {
-    let mut table = Table::new(rt, rt.alloc(), size);
+    let mut table = Table::new(rt, rt.alloc(), size, calls);
+    let ended = steps(&mut table);
+    drop(table);
+    ended
+}
+
+// The same for a table by each kind of calls, one after the other.
+fn at_each_table<F>(rt: &(impl AllocGlobal + Abort), size: u32, steps: F) -> Result<(), Fail>
+where
+    F: Fn(&mut Table) -> Result<(), Fail>,
+    requires { F.IsAlwaysCallable steps }
+{
+    let mut table = Table::new(rt, rt.alloc(), size, Calls::Arrive);
+    let ended = steps(&mut table);
+    drop(table);
+    ended?;
+    let mut table = Table::new(rt, rt.alloc(), size, Calls::OfHall);
     let ended = steps(&mut table);
     drop(table);
     ended
@@ -184,7 +345,7 @@ type Bar<'a> = (u32, u32, u64, Next, &'a [u64]);
 // Reductions of one number start on communicator 0, in the order of the rows.
 fn reduce_all(rt: &impl Abort, table: &mut Table, rows: &[Reduction]) -> Result<(), NoMemory> {
     for (rank, op, part, next, parts) in rows {
-        table.arrive(rt, (0, *rank), allreduce(*op), *part, *next, parts)?;
+        table.meet(rt, (0, *rank), allreduce(*op), *part, *next, parts)?;
     }
     Ok(())
 }
@@ -192,8 +353,8 @@ fn reduce_all(rt: &impl Abort, table: &mut Table, rows: &[Reduction]) -> Result<
 // Barriers start, in the order of the rows; room is made for each before.
 fn bar_all(rt: &impl Abort, table: &mut Table, rows: &[Bar]) -> Result<(), NoMemory> {
     for (comm, rank, part, next, parts) in rows {
-        table.ready(rt, *comm, *rank)?;
-        table.arrive(rt, (*comm, *rank), Signature::Barrier, *part, *next, parts)?;
+        table.make_room(rt, *comm, *rank)?;
+        table.meet(rt, (*comm, *rank), Signature::Barrier, *part, *next, parts)?;
     }
     Ok(())
 }
@@ -207,7 +368,7 @@ fn bar_often(
     parts: &[u64],
 ) -> Result<(), NoMemory> {
     for _ in 0..64 {
-        table.arrive(rt, (0, rank), Signature::Barrier, rank as u64, next, parts)?;
+        table.meet(rt, (0, rank), Signature::Barrier, rank as u64, next, parts)?;
     }
     Ok(())
 }
@@ -222,12 +383,14 @@ fn scatter(
 ) -> Result<(), Fail> {
     let (rank, part, next) = row;
     let sig = listed(rt.alloc(), counts)?;
-    table.arrive(rt, (5, rank), sig, part, next, parts)?;
+    table.meet(rt, (5, rank), sig, part, next, parts)?;
     Ok(())
 }
 
 // A statement that gives one element, or none where the kind has no type.
-fn stated_for(sig: Signature) -> Stated {
+fn stated_for(sig: Signature) -> Stated
+    ensures { result.sig ≡ sig }
+{
     let gives = sig.elem_type().is_some();
     Stated {
         sig,
@@ -272,7 +435,7 @@ const MET: &[Reduction] = &[
 
 #[test]
 fn two_members_meet(rt: HostRuntime) -> Result<(), Fail> {
-    at_a_table(&rt, 2, |table| {
+    at_each_table(&rt, 2, |table| {
         table.ready(&rt, 0, 0)?;
         assert!(&rt; table.pending.arrivals(0, 0) == 0 && !table.waits(0, 0));
         reduce_all(&rt, table, MET)?;
@@ -296,7 +459,7 @@ const CROSSED: &[Reduction] = &[
 
 #[test]
 fn two_reductions_cross(rt: HostRuntime) -> Result<(), Fail> {
-    at_a_table(&rt, 4, |table| {
+    at_each_table(&rt, 4, |table| {
         reduce_all(&rt, table, CROSSED)?;
         Ok(())
     })
@@ -304,7 +467,7 @@ fn two_reductions_cross(rt: HostRuntime) -> Result<(), Fail> {
 
 #[test]
 fn parts_stand_by_rank(rt: HostRuntime) -> Result<(), Fail> {
-    at_a_table(&rt, 3, |table| {
+    at_each_table(&rt, 3, |table| {
         scatter(&rt, table, (2, 30, Next::Opens), &[1, 0, 0], &[])?;
         scatter(&rt, table, (0, 10, Next::Joins), &[1, 0, 0], &[])?;
         scatter(&rt, table, (1, 20, Next::Mismatch), &[0, 1, 0], &[])?;
@@ -314,10 +477,10 @@ fn parts_stand_by_rank(rt: HostRuntime) -> Result<(), Fail> {
     })
 }
 
-// More counts than room is made for before.
+// More counts than room is made for before: a hall would refuse them.
 #[test]
 fn long_lists_meet(rt: HostRuntime) -> Result<(), Fail> {
-    at_a_table(&rt, 3, |table| {
+    at_a_table(&rt, 3, Calls::Arrive, |table| {
         scatter(&rt, table, (0, 10, Next::Opens), &[0; 40], &[])?;
         scatter(&rt, table, (1, 20, Next::Joins), &[0; 40], &[])?;
         Ok(())
@@ -326,9 +489,9 @@ fn long_lists_meet(rt: HostRuntime) -> Result<(), Fail> {
 
 #[test]
 fn sole_member_opens_and_fills(rt: HostRuntime) -> Result<(), Fail> {
-    at_a_table(&rt, 1, |table| {
-        table.arrive(&rt, (1, 0), allreduce(Op::Sum), 4, Next::Opens, &[4])?;
-        table.arrive(&rt, (1, 0), allreduce(Op::Sum), 5, Next::Opens, &[5])?;
+    at_each_table(&rt, 1, |table| {
+        table.meet(&rt, (1, 0), allreduce(Op::Sum), 4, Next::Opens, &[4])?;
+        table.meet(&rt, (1, 0), allreduce(Op::Sum), 5, Next::Opens, &[5])?;
         Ok(())
     })
 }
@@ -351,7 +514,7 @@ const BARS: &[Bar] = &[
 
 #[test]
 fn instances_fill_out_of_order(rt: HostRuntime) -> Result<(), Fail> {
-    at_a_table(&rt, 2, |table| {
+    at_each_table(&rt, 2, |table| {
         bar_all(&rt, table, BARS)?;
         assert!(&rt; !table.waits(2, 1) && table.waits(2, 2));
         assert!(&rt; !table.waits(0, 0) && !table.waits(1, 0));
@@ -379,7 +542,7 @@ fn many_barriers_of_many_members(rt: HostRuntime) -> Result<(), Fail> {
     for rank in 0..64 {
         ranks.push(rank)?;
     }
-    at_a_table(&rt, 64, |table| {
+    at_each_table(&rt, 64, |table| {
         bar_each(&rt, table, &ranks)?;
         assert!(&rt; !table.waits(0, 63) && table.pending.arrivals(0, 63) == 64);
         Ok(())

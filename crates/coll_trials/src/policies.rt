@@ -504,12 +504,39 @@ fn look_up_often(rt: &impl Abort, policy: &Policy, times: u32) {
     assert_eq!(rt; last, 999);
 }
 
+// Looks up each name in turn by its bytes, the next by what was found last, and after each a word
+// that only looks like a name. Some of the names share their slot, and in the slot of such a word
+// there can be but another: for these the index is asked.
+fn look_up_each(rt: &impl Abort, policy: &Policy, times: u32) {
+    assert!(rt; policy.datasets() == 1024);
+    let mut next = 0;
+    for _ in 0..times {
+        let name = policy.dataset_name(dataset(next % 1024)).as_bytes();
+        match policy.dataset_named_bytes(name) {
+            Some(id) => next = id.number().wrapping_add(1),
+            None => panic!(rt; "no dataset"),
+        }
+        let stray: &[u8] = if next % 2 == 0 { b"d0_99x" } else { b"d0_99y" };
+        assert!(rt; policy.dataset_named_bytes(stray).is_none());
+    }
+    assert_eq!(rt; next % 1024, times % 1024);
+}
+
 // A look at each of the thousand names before these two would take minutes.
 #[test]
 fn names_are_looked_up_in_a_table(rt: HostRuntime) {
     let text = many(&rt, rt.alloc(), 1, 1, 1024);
     let policy = wall(&rt, rt.alloc(), text.as_str());
     look_up_often(&rt, &policy, 50_000_000);
+    drop(policy);
+}
+
+// Here too, and where the index is asked for those alone that their slots do not answer.
+#[test]
+fn bytes_are_looked_up_in_a_table(rt: HostRuntime) {
+    let text = many(&rt, rt.alloc(), 1, 1, 1024);
+    let policy = wall(&rt, rt.alloc(), text.as_str());
+    look_up_each(&rt, &policy, 50_000_000);
     drop(policy);
 }
 

@@ -579,6 +579,144 @@ fn a_grant_looks_at_each_rank_once(rt: HostRuntime) {
     drop(policy);
 }
 
+// The same processes and banks, where a sum of two contributors is sanitised.
+fn policy_of_sums(rt: &impl Abort, alloc: Global) -> Policy {
+    let mut text = many(rt, alloc, 256, 1, 2);
+    let is_put = text
+        .push_str("[[sanitise]]\nop = \"sum\"\nleast = 2\n")
+        .is_ok();
+    assert!(rt; is_put, "no memory");
+    wall(rt, alloc, text.as_str())
+}
+
+// What 256 ranks give that give of the two banks by turns.
+fn gifts_by_turns(rt: &impl Abort, alloc: Global, first: u32, second: u32) -> Vec<Gift> {
+    let mut gifts = Vec::new(alloc);
+    for rank in 0u32..256 {
+        let bank = if rank % 2 == 0 { first } else { second };
+        assert!(rt; gifts.push(Of(bank)).is_ok(), "no memory");
+    }
+    gifts
+}
+
+// An instance of a kind, of ranks that give of the two banks by turns: in a sanitised sum.
+fn roll_of_rivals(rt: &impl Abort, alloc: Global, kind: Kind, first: u32, second: u32) -> Roll {
+    let members = upward(rt, alloc, 0, 256);
+    let gifts = gifts_by_turns(rt, alloc, first, second);
+    let sig = alike(rt, alloc, kind);
+    roll(rt, alloc, &members, sig, &gifts)
+}
+
+// The kinds of sums in which receivers get alike, and how many verdicts, or grants, take a second
+// or two. Nobody is clear of all that is given; but for the first ranks of a scan, what they get is
+// sanitised.
+const SUMS: &[(Kind, u32)] = &[
+    (Kind::Allreduce, 40_000),
+    (Kind::ReduceScatter, 40_000),
+    (Kind::ReduceScatterBlock, 40_000),
+    (Kind::Scan, 80_000),
+    (Kind::Exscan, 80_000),
+];
+
+// So many verdicts on sums of rivals.
+fn decide_on_sums(rt: &impl Abort, alloc: Global, policy: &Policy, kind: Kind, times: u32) {
+    let histories = opening(rt, alloc, policy);
+    let even = roll_of_rivals(rt, alloc, kind, 0, 1);
+    let odd = roll_of_rivals(rt, alloc, kind, 1, 0);
+    decide_often(rt, policy, &histories, &even, &odd, times);
+    drop(odd);
+    drop(even);
+    drop(histories);
+}
+
+// So many grants of one. What is sanitised enters nothing, so that nobody ever has all that is
+// given.
+fn settle_sums(rt: &impl Abort, alloc: Global, policy: &Policy, kind: Kind, times: u32) {
+    let mut histories = opening(rt, alloc, policy);
+    let roll = roll_of_rivals(rt, alloc, kind, 0, 1);
+    settle_often(rt, policy, &mut histories, &roll, times);
+    drop(roll);
+    drop(histories);
+}
+
+// To collect for each receiver anew what comes to it would take more than a minute in a single one
+// of the kinds.
+#[test]
+fn a_verdict_on_a_sum_of_rivals_looks_at_each_rank_once(rt: HostRuntime) {
+    let alloc = rt.alloc();
+    let policy = policy_of_sums(&rt, alloc);
+    for (kind, times) in SUMS {
+        decide_on_sums(&rt, alloc, &policy, *kind, *times);
+    }
+    drop(policy);
+}
+
+#[test]
+fn a_grant_of_a_sum_of_rivals_looks_at_each_rank_once(rt: HostRuntime) {
+    let alloc = rt.alloc();
+    let policy = policy_of_sums(&rt, alloc);
+    for (kind, times) in SUMS {
+        settle_sums(&rt, alloc, &policy, *kind, *times);
+    }
+    drop(policy);
+}
+
+// What a rank of a half gives, the last two public elements.
+fn gift_in_half(rank: u32, bank: u32) -> Gift {
+    if rank % 128 < 126 { Of(bank) } else { Public }
+}
+
+// What 256 ranks on a ring give: one half of this bank, and the other of its rival.
+fn gifts_of_halves(rt: &impl Abort, alloc: Global, first: u32, second: u32) -> Vec<Gift> {
+    let mut gifts = Vec::new(alloc);
+    for rank in 0u32..256 {
+        let bank = if rank < 128 { first } else { second };
+        let gift = gift_in_half(rank, bank);
+        assert!(rt; gifts.push(gift).is_ok(), "no memory");
+    }
+    gifts
+}
+
+// Each gets of one bank alone from its neighbours, if of any: it is granted, though the labels of
+// all can harm each of them.
+fn ring_of_halves(rt: &impl Abort, alloc: Global, first: u32, second: u32) -> Roll {
+    let members = upward(rt, alloc, 0, 256);
+    let Ok(ring) = Grid::new(alloc, &[256], &[true], 256) else {
+        panic!(rt; "no grid")
+    };
+    let gifts = gifts_of_halves(rt, alloc, first, second);
+    let (elem_type, count) = (INT, 1);
+    let sig = Signature::NeighborAllgather { elem_type, count };
+    roll_in(rt, alloc, &members, Some(ring), sig, &gifts)
+}
+
+#[test]
+fn a_verdict_between_rivals_looks_at_neighbours(rt: HostRuntime) {
+    let alloc = rt.alloc();
+    let policy = policy_of_256(&rt, alloc);
+    let histories = opening(&rt, alloc, &policy);
+    let even = ring_of_halves(&rt, alloc, 0, 1);
+    let odd = ring_of_halves(&rt, alloc, 1, 0);
+    decide_often(&rt, &policy, &histories, &even, &odd, 60_000);
+    drop(odd);
+    drop(even);
+    drop(histories);
+    drop(policy);
+}
+
+// Nobody ever has all that is given here too.
+#[test]
+fn a_grant_between_rivals_looks_at_neighbours(rt: HostRuntime) {
+    let alloc = rt.alloc();
+    let policy = policy_of_256(&rt, alloc);
+    let mut histories = opening(&rt, alloc, &policy);
+    let roll = ring_of_halves(&rt, alloc, 0, 1);
+    settle_often(&rt, &policy, &mut histories, &roll, 40_000);
+    drop(roll);
+    drop(histories);
+    drop(policy);
+}
+
 // Public data passes for n0 until it has posted of crude; for a0 neither passes.
 fn posts(rt: &impl Abort, histories: &mut Histories) {
     let (public, crude) = (Some(Label::Public), Some(Label::Of(dataset(2))));

@@ -132,7 +132,7 @@ impl Hall {
             view_of self.new ≡ view_of self.old }
         ensures named { IsKnownReply self.new.policy (lean_reply result) }
     {
-        self.records.claim_lean(process, request, true)
+        self.records.claim_lean(process, request)
     }
 
     /// A take for who knows already what is delivered: where the instance was granted and the
@@ -150,7 +150,7 @@ impl Hall {
     }
 
     /// The instance that a request of a process is for: its communicator, and its number there.
-    /// None where a take of it is refused.
+    /// None only where a take of it is refused. Of a request that was taken no clause says that.
     pub fn instance_of(&self, process: u32, request: u64) -> Option<(u32, u64)>
         ensures asked { (run : List Entry) → StandsFor self.now run → IfSome result (λ at.
             slice_get (requests process (posts run)) request ≡ Some at) }
@@ -165,7 +165,7 @@ impl Hall {
 
     /// How many requests for instance k of a communicator are open, of all processes. An instance
     /// is let go with the last of them.
-    pub fn open_requests(&self, comm: u32, k: u64) -> u64
+    pub fn open_for(&self, comm: u32, k: u64) -> u64
         ensures { result ≡ open_for (view_of self.now).asked (processes self.now.policy) comm k }
     {
         self.records.settled.waiting(comm, k)

@@ -180,8 +180,8 @@ impl Records {
         }
     }
 
-    /// The same, without room for copies where the claim is lean.
-    pub fn claim_lean(&mut self, process: u32, request: u64, lean: bool) -> LeanClaim
+    /// The same, without room for copies.
+    pub fn claim_lean(&mut self, process: u32, request: u64) -> LeanClaim
         requires policy { IsPolicy self.old.policy }
         requires each { length self.old.requests.items ≡ processes self.old.policy }
         requires counted { AreCounted self.old }
@@ -195,7 +195,6 @@ impl Records {
             view_in self.new ≡ view_in self.old }
         ensures can { CanTell result }
         ensures holds { LeanHoldsWhatIsKept (view_in self.old) process request result }
-        ensures usual { IsFalse lean → IsUsual result }
     {
         let number = request as usize;
         let Some(asked) = requests::opened_by(&self.requests, process, number) else {
@@ -204,7 +203,7 @@ impl Records {
         if !self.freeze(asked.comm, asked.k) {
             return LeanClaim::Claimed(Claim::Done(Reply::Pending));
         }
-        self.claim_of(process, request, asked, lean)
+        self.claim_of(process, request, asked, true)
     }
 
     /// Takes an open request without a look at what is delivered, where its instance was granted
@@ -252,7 +251,7 @@ impl Records {
         self.settled.freeze(comm, k)
     }
 
-    // A claim for an open request of this instance.
+    // A claim for an open request of this instance. A lean one makes no room for copies.
     fn claim_of(&mut self, process: u32, request: u64, asked: Request, lean: bool) -> LeanClaim
         requires policy { IsPolicy self.old.policy }
         requires each { length self.old.requests.items ≡ processes self.old.policy }

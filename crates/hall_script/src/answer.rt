@@ -56,7 +56,7 @@ pub(crate) fn read_line(
     Ok(Some(call))
 }
 
-// The request that a call takes, if it takes one.
+// The request that a call takes, if it is a take: its line may be known without its reply.
 fn take_of(call: &Call) -> Option<u64>
     ensures { IfSome result (λ request. call.now ≡ to_take call.now.process request) }
 {
@@ -66,6 +66,8 @@ fn take_of(call: &Call) -> Option<u64>
     }
 }
 
+// Answers a call, and appends the line of its reply. Where there is no memory for that line the
+// text is as it was; the call is answered nevertheless.
 fn answer_call<M: Machine>(machine: &mut M, call: Call, text: &mut Vec<u8>) -> Result<(), NoMemory>
     requires { HasKnownLabel (M.wall machine.old) call.act }
     ensures wall { M.wall machine.new ≡ M.wall machine.old }
@@ -185,7 +187,8 @@ pub(crate) fn answer_script<M: Machine, W: Sink>(
 }
 
 /// Answers the lines of a script, writes their replies, and gives the machine back.
-// For every machine, not for a hall alone: the proof would take a hall apart where it is let go.
+// For every machine, not for a teller alone: the proof would take the hall apart where that is let
+// go.
 pub(crate) fn answered<M: Machine + Drop, W: Sink>(
     alloc: Global,
     machine: M,

@@ -35,7 +35,7 @@ fn builder(alloc: Global, elem_type: ElemType, numbers: usize) -> Result<BufferB
     }
 }
 
-// Takes the number of 64 bits that an element's word spells.
+// Takes the number that an element's word spells, which is below 2^63 without its sign.
 #[inline(always)]
 #[tactic(auto, using(crate::proofs::FillLemmas::some_word))]
 fn push_plain(builder: &mut BufferBuilder, word: &[u8], number: i64) -> Result<(), LineFault>
@@ -52,7 +52,7 @@ fn push_plain(builder: &mut BufferBuilder, word: &[u8], number: i64) -> Result<(
     }
 }
 
-// The same of any number.
+// The same of any number of 64 bits behind its sign.
 #[inline(never)]
 #[tactic(auto, using(crate::proofs::FillLemmas::some_word))]
 fn push_wide(builder: &mut BufferBuilder, word: &[u8], number: i128) -> Result<(), LineFault>
@@ -68,7 +68,7 @@ fn push_wide(builder: &mut BufferBuilder, word: &[u8], number: i128) -> Result<(
     }
 }
 
-// Takes the number that an element's word spells.
+// The same of any word, also of one that spells no such number.
 fn push_word(builder: &mut BufferBuilder, word: &[u8]) -> Result<(), LineFault>
     requires room { length builder.old.numbers
         < numbers_per_element builder.old.elem_type * builder.old.room }
@@ -83,8 +83,9 @@ fn push_word(builder: &mut BufferBuilder, word: &[u8]) -> Result<(), LineFault>
     }
 }
 
-// Reads the numbers up to one of more than 19 digits, or to the end of the line, and answers the
-// words from there on. It stands alone so that its loop has the registers for itself.
+// Reads the numbers up to the first word that is none of at most 19 digits, or to the end of the
+// line, and answers the words from there on. It stands alone so that its loop has the registers for
+// itself.
 #[inline(never)]
 fn fill_plain<'a>(builder: &mut BufferBuilder, line: Parts<'a>) -> Result<Parts<'a>, LineFault>
     requires { length builder.old.numbers + length line

@@ -1,4 +1,5 @@
-//! Lines that are kept go with their instances, in whatever order members take.
+//! Lines that are kept go with their instances, in whatever order members take, and earlier where
+//! none but the root of a broadcast is left.
 ghost use Rattle.std.specs.Prelude.{[]};
 ghost use Rattle.hall_core.specs.Halls.{StandsFor};
 
@@ -7,104 +8,231 @@ use crate::script::SCRIPT_LIMIT;
 use crate::teller::Teller;
 use coll_text::{put, put_decimal};
 use hall_core::Hall;
-use std::alloc::AllocError;
+use std::alloc::{AllocError, Global};
 use std::process::Abort;
 use std::test::Fail;
 use wall_labels::memory::{ExpectingSink, Fuse};
 use wall_policy::read_policy;
 
-/// Two processes, both at home with alpha.
-const WALL: &str = "version = 1\n\
-[[class]]\nname = \"banks\"\ndatasets = [\"alpha\", \"beta\"]\n\
-[[process]]\nname = \"p0\"\nhome = \"alpha\"\n\
-[[process]]\nname = \"p1\"\nhome = \"alpha\"\n";
-
-/// How many instances are filled: more than there are places for lines.
+/// How many instances are filled: more than twice as many as there are places for lines.
 const INSTANCES: u64 = 600;
 
-/// A sum of two, and a broadcast by process 0.
-const SUM: &str = "post 0 0 allreduce sum int32 1 as alpha 5\n\
-post 1 0 allreduce sum int32 1 as alpha 6\n";
+/// How many places there are. Instances whose numbers are so far apart meet in one.
+const PLACES: u64 = 256;
 
-const BROADCAST: &str = "post 0 0 bcast 0 int32 1 as alpha 5\npost 1 0 bcast 0 int32 1\n";
+/// What all post: a sum, or a broadcast by process 0.
+#[derive(Clone, Copy)]
+enum Kind {
+    Sum,
+    Broadcast,
+}
 
-/// Puts these posts so often.
-fn put_posts(script: &mut Vec<u8>, posts: &str) -> Result<(), AllocError> {
-    for _ in 0..INSTANCES {
-        put(script, posts)?;
+/// Each process posts to an instance, then each takes its outcome, in this order, before the next
+/// is filled. But the last takes those that meet in the first place when all are filled.
+struct Case {
+    kind: Kind,
+    order: &'static [u32],
+    /// How many lines are kept when all are filled. None are at the end.
+    kept: usize,
+}
+
+/// All orders that differ for two, and some for three. The newest line waits for the last where
+/// another was told the same: not for a broadcast's root, nor for its one receiver.
+const CASES: &[Case] = &[
+    Case {
+        kind: Kind::Sum,
+        order: &[0, 1],
+        kept: 1,
+    },
+    Case {
+        kind: Kind::Sum,
+        order: &[0, 1, 2],
+        kept: 1,
+    },
+    Case {
+        kind: Kind::Broadcast,
+        order: &[0, 1],
+        kept: 0,
+    },
+    Case {
+        kind: Kind::Broadcast,
+        order: &[1, 0],
+        kept: 0,
+    },
+    Case {
+        kind: Kind::Broadcast,
+        order: &[1, 2, 0],
+        kept: 0,
+    },
+    Case {
+        kind: Kind::Broadcast,
+        order: &[1, 0, 2],
+        kept: 1,
+    },
+];
+
+/// The lines of a script, and those of the replies that are due.
+#[derive(Drop)]
+struct Play {
+    script: Vec<u8>,
+    replies: Vec<u8>,
+}
+
+/// Puts a number and the end of a line behind these words.
+fn put_ending(text: &mut Vec<u8>, words: &str, number: u64) -> Result<(), AllocError> {
+    put(text, words)?;
+    put_decimal(text, number)?;
+    put(text, "\n")
+}
+
+/// The number of the instance is what is posted to it.
+fn put_post(play: &mut Play, kind: Kind, process: u32, k: u64) -> Result<(), AllocError> {
+    put(&mut play.script, "post ")?;
+    put_decimal(&mut play.script, u64::from(process))?;
+    match kind {
+        Kind::Sum => put_ending(&mut play.script, " 0 allreduce sum int32 1 as alpha ", k)?,
+        Kind::Broadcast => {
+            if process == 0 {
+                put_ending(&mut play.script, " 0 bcast 0 int32 1 as alpha ", k)?;
+            } else {
+                put(&mut play.script, " 0 bcast 0 int32 1\n")?;
+            }
+        }
+    }
+    put_ending(&mut play.replies, "posted ", k)
+}
+
+fn put_delivery(replies: &mut Vec<u8>, number: u64) -> Result<(), AllocError> {
+    put(replies, "delivered [")?;
+    put_decimal(replies, number)?;
+    put(replies, "]\n")
+}
+
+fn put_take(play: &mut Play, case: &Case, process: u32, k: u64) -> Result<(), AllocError> {
+    put(&mut play.script, "take ")?;
+    put_decimal(&mut play.script, u64::from(process))?;
+    put_ending(&mut play.script, " ", k)?;
+    let members = case.order.len() as u64;
+    match case.kind {
+        Kind::Sum => put_delivery(&mut play.replies, members.saturating_mul(k)),
+        Kind::Broadcast => {
+            if process == 0 {
+                put(&mut play.replies, "delivered none\n")
+            } else {
+                put_delivery(&mut play.replies, k)
+            }
+        }
+    }
+}
+
+/// One instance: all post, and all take but maybe the last.
+fn put_round(
+    play: &mut Play,
+    case: &Case,
+    others: &[u32],
+    last: u32,
+    k: u64,
+) -> Result<(), AllocError> {
+    for process in case.order {
+        put_post(play, case.kind, *process, k)?;
+    }
+    for process in others {
+        put_take(play, case, *process, k)?;
+    }
+    if k % PLACES != 0 {
+        put_take(play, case, last, k)?;
     }
     Ok(())
 }
 
-/// Puts the takes of a process, in the order of its requests.
-fn put_takes(script: &mut Vec<u8>, take: &str) -> Result<(), AllocError> {
-    for request in 0..INSTANCES {
-        put(script, take)?;
-        put_decimal(script, request)?;
-        put(script, "\n")?;
+/// All instances, and maybe the takes that are left.
+fn played(alloc: Global, case: &Case, to_end: bool) -> Result<Play, AllocError> {
+    let mut play = Play {
+        script: Vec::new(alloc),
+        replies: Vec::new(alloc),
+    };
+    let Some((last, others)) = case.order.split_last() else {
+        return Ok(play);
+    };
+    for k in 0..INSTANCES {
+        put_round(&mut play, case, others, *last, k)?;
     }
-    Ok(())
+    if to_end {
+        for k in 0..INSTANCES {
+            if k % PLACES == 0 {
+                put_take(&mut play, case, *last, k)?;
+            }
+        }
+    }
+    Ok(play)
 }
 
-/// How many lines are kept after a script that is answered from the hall.
-fn kept_by<R: AllocGlobal + Abort>(rt: &R, hall: Hall, script: &[u8]) -> Result<usize, Fail>
+/// A policy with so many processes, all at home with alpha.
+fn wall_of(alloc: Global, processes: usize) -> Result<Vec<u8>, AllocError> {
+    let mut wall = Vec::new(alloc);
+    put(&mut wall, "version = 1\n[[class]]\nname = \"banks\"\n")?;
+    put(&mut wall, "datasets = [\"alpha\", \"beta\"]\n")?;
+    for process in 0..processes {
+        put(&mut wall, "[[process]]\nname = \"p")?;
+        put_decimal(&mut wall, process as u64)?;
+        put(&mut wall, "\"\nhome = \"alpha\"\n")?;
+    }
+    Ok(wall)
+}
+
+/// How many lines are kept after a play in the hall, in which each reply was as due.
+fn kept_by<R: AllocGlobal + Abort>(rt: &R, hall: Hall, play: &Play) -> Result<usize, Fail>
     requires { StandsFor hall [] }
 {
-    if SCRIPT_LIMIT < script.len() {
+    if SCRIPT_LIMIT < play.script.len() {
         drop(hall);
         return Err(Fail::from("the script is too long"));
     }
     let mut sink = ExpectingSink {
-        rest: b"",
+        rest: &play.replies,
         is_same: true,
         fuse: Fuse::Whole,
     };
-    match answered(rt.alloc(), Teller::new(rt.alloc(), hall), script, &mut sink) {
+    match answered(
+        rt.alloc(),
+        Teller::new(rt.alloc(), hall),
+        &play.script,
+        &mut sink,
+    ) {
         Ok(teller) => {
             let number = teller.kept();
             drop(teller);
-            Ok(number)
+            if sink.is_same && sink.rest.is_empty() {
+                Ok(number)
+            } else {
+                Err(Fail::from("a post is refused, or another reply is not as due"))
+            }
         }
         Err(_) => Err(Fail::from("the script is not answered")),
     }
 }
 
-/// The same from a hall of the two.
-fn kept_after<R: AllocGlobal + Abort>(rt: &R, script: &[u8]) -> Result<usize, Fail> {
-    let Ok(policy) = read_policy(rt.alloc(), WALL.as_bytes()) else {
+/// How many are kept in a case when all are filled, or at the end.
+fn kept_of<R: AllocGlobal + Abort>(rt: &R, case: &Case, to_end: bool) -> Result<usize, Fail> {
+    let play = played(rt.alloc(), case, to_end)?;
+    let wall = wall_of(rt.alloc(), case.order.len())?;
+    let Ok(policy) = read_policy(rt.alloc(), &wall) else {
         return Err(Fail::from("the policy is not read"));
     };
     match Hall::open(rt.alloc(), policy) {
-        Ok(hall) => kept_by(rt, hall, script),
+        Ok(hall) => kept_by(rt, hall, &play),
         Err(_) => Err(Fail::from("no memory")),
     }
 }
 
-/// How many lines are kept when one of two has taken all, and when both have.
-fn kept_of<R: AllocGlobal + Abort>(
-    rt: &R,
-    posts: &str,
-    first: &str,
-    second: &str,
-) -> Result<(usize, usize), Fail> {
-    let mut script = Vec::new(rt.alloc());
-    put_posts(&mut script, posts)?;
-    put_takes(&mut script, first)?;
-    let some = kept_after(rt, &script)?;
-    put_takes(&mut script, second)?;
-    let none = kept_after(rt, &script)?;
-    Ok((some, none))
-}
-
-/// Each place has a line when one has taken all; the second finds it driven out of most, and what
-/// is kept anew for nobody goes as well. The root of a broadcast is told none.
+/// Of the three instances that meet in the first place each drives out the line of the one before,
+/// and what is kept anew goes too.
 #[test]
 fn lines_go_with_their_instances(rt: HostRuntime) -> Result<(), Fail> {
-    let (some, none) = kept_of(&rt, SUM, "take 0 ", "take 1 ")?;
-    assert!(&rt; some == 256 && none == 0, "{some} lines, then {none}");
-    let (some, none) = kept_of(&rt, BROADCAST, "take 1 ", "take 0 ")?;
-    assert!(&rt; some == 256 && none == 0, "{some} lines, then {none}");
-    let (some, none) = kept_of(&rt, BROADCAST, "take 0 ", "take 1 ")?;
-    assert!(&rt; some == 0 && none == 0, "{some} lines, then {none}");
+    for case in CASES {
+        let some = kept_of(&rt, case, false)?;
+        let none = kept_of(&rt, case, true)?;
+        assert!(&rt; some == case.kept && none == 0, "{some} lines, then {none}");
+    }
     Ok(())
 }

@@ -148,7 +148,7 @@ fn put_info(line: &mut Vec<u8>, size: u32, rank: u32, dims: Option<u32>) -> Resu
 
 // The reply without the end of its line.
 #[tactic(auto, unfolding(crate::specs::Replies::reply_text))]
-fn put_reply(policy: &Policy, reply: &Reply, line: &mut Vec<u8>) -> Result<(), AllocError>
+fn put_reply(line: &mut Vec<u8>, policy: &Policy, reply: &Reply) -> Result<(), AllocError>
     requires { IsKnownReply policy.now reply.now }
     ensures ok { OnOk result (line.new.items ≡ line.old.items ++ reply_text policy.now reply.now) }
     ensures front { IsFront line.old.items line.new.items }
@@ -188,12 +188,12 @@ fn put_reply(policy: &Policy, reply: &Reply, line: &mut Vec<u8>) -> Result<(), A
     }
 }
 
-fn put_line(policy: &Policy, reply: &Reply, line: &mut Vec<u8>) -> Result<(), AllocError>
+fn put_reply_line(line: &mut Vec<u8>, policy: &Policy, reply: &Reply) -> Result<(), AllocError>
     requires { IsKnownReply policy.now reply.now }
     ensures ok { OnOk result (line.new.items ≡ line.old.items ++ reply_line policy.now reply.now) }
     ensures front { IsFront line.old.items line.new.items }
 {
-    put_reply(policy, reply, line)?;
+    put_reply(line, policy, reply)?;
     put(line, "\n")
 }
 
@@ -206,7 +206,7 @@ pub fn write_reply(policy: &Policy, reply: &Reply, bytes: &mut Vec<u8>) -> Resul
     ensures err { OnErr result (bytes.new.items ≡ bytes.old.items) }
 {
     let len = bytes.len();
-    match put_line(policy, reply, bytes) {
+    match put_reply_line(bytes, policy, reply) {
         Ok(()) => Ok(()),
         Err(_) => {
             bytes.truncate(len);

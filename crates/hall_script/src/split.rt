@@ -55,12 +55,12 @@ fn push_act(rows: &mut Vec<Acts>, process: u32, act: Act) -> Result<(), AllocErr
     row.push(act)
 }
 
-// Adds what a line says.
-fn put_line(
+// Adds the act that a line says, if it says one.
+fn push_act_of(
+    rows: &mut Vec<Acts>,
     alloc: Global,
     policy: &Policy,
     line: &[u8],
-    rows: &mut Vec<Acts>,
 ) -> Result<(), LineFault>
     requires { length rows.old.items ≡ length policy.now.process_names }
     ensures put { Leaves result rows.new.items (with_line_of policy.now line.now rows.old.items) }
@@ -94,7 +94,7 @@ pub fn split_script(alloc: Global, policy: &Policy, script: &[u8]) -> Result<Scr
     let mut lines = Parts::new(script, b'\n');
     let mut number = 1;
     while let Some(line) = lines.next_long() {
-        match put_line(alloc, policy, line, &mut rows) {
+        match push_act_of(&mut rows, alloc, policy, line) {
             Ok(()) => {}
             Err(fault) => return Err(fault_of(number, fault)),
         }

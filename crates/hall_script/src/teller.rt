@@ -1,6 +1,6 @@
 //! Answers calls from a hall, and tells the members of an instance that get the same one line.
-ghost use Rattle.std.specs.Prelude.{◌≡◌, ◌++◌, ◌<◌, ◌≤◌, List, [], length, IfOk, IfErr, OnOk};
-ghost use Rattle.std.specs.Prelude.{OnErr, IfSome, IfNone, IsTrue, Some, slice_get};
+ghost use Rattle.std.specs.Prelude.{◌≡◌, ◌≢◌, ◌++◌, ◌<◌, ◌≤◌, List, [], length, IfOk, IfErr, OnOk};
+ghost use Rattle.std.specs.Prelude.{OnErr, IfSome, IfNone, Some, slice_get};
 ghost use Rattle.wall_policy.specs.Policy.{ChineseWall};
 ghost use Rattle.mpi_elems.specs.Contents.{Contents};
 ghost use Rattle.run_model.specs.Contributions.{Contribution};
@@ -124,15 +124,16 @@ impl Teller {
         };
         match self.hall.take_unread(process, request) {
             Some(_) => {
-                let done = put_line(line, text);
-                keep_while_open(&mut self.lines, &self.hall, comm, k);
+                let done = put_told(text, line);
+                told(&mut self.lines, &self.hall, comm, k);
                 Some(done)
             }
             None => None,
         }
     }
 
-    // Takes a request, and appends the line of its reply. A line that others are told too is kept.
+    // Takes a request, and appends the line of its reply. It is kept where others are still to be
+    // told it.
     fn take_first(
         &mut self,
         process: u32,
@@ -148,8 +149,8 @@ impl Teller {
         ensures err { OnErr result (text.new.items ≡ text.old.items) }
     {
         let claim = self.hall.claim_lean(process, request);
-        let others = is_open_at(&self.hall, at);
-        tell(&mut self.lines, self.hall.policy(), at, others, claim, text)
+        let open = open_at(&self.hall, at);
+        tell(&mut self.lines, self.hall.policy(), at, open, claim, text)
     }
 }
 
@@ -189,52 +190,62 @@ fn tells_alike(sig: &Signature) -> bool
     }
 }
 
-// Whether each rank that gets any gets the same as this one.
-fn is_alike_in(full: &Full<Buffer>, rank: u32) -> bool
-    requires { rank < full.now.roll.shape.size }
-    ensures { IsTrue result → IsToldAlike full.now rank }
-{
-    tells_alike(&full.roll.sig) && places(&full.roll, rank) != 0
+// How many ranks of such an instance get nothing: the root of a broadcast.
+fn idle_ranks(sig: &Signature) -> u32 {
+    match sig.root() {
+        Some(_) => 1,
+        None => 0,
+    }
 }
 
-// Whether others may be told the same as the one who made the claim.
-fn is_alike(claim: &LeanClaim) -> bool
+// How many other ranks get the same as this one; none where they may get something else.
+fn others_in(full: &Full<Buffer>, rank: u32) -> u32
+    requires { rank < full.now.roll.shape.size }
+    ensures { result ≢ 0 → IsToldAlike full.now rank }
+{
+    if tells_alike(&full.roll.sig) && places(&full.roll, rank) != 0 {
+        (full.roll.shape.size - 1).saturating_sub(idle_ranks(&full.roll.sig))
+    } else {
+        0
+    }
+}
+
+// How many others get the same as the one who made the claim.
+fn others(claim: &LeanClaim) -> u32
     requires { CanTell claim.now }
-    ensures { IsTrue result → IsAlike claim.now }
+    ensures { result ≢ 0 → IsAlike claim.now }
 {
     match claim {
         LeanClaim::Claimed(claim) => match claim {
-            Claim::Done(_) => false,
-            Claim::Ready { full, rank, .. } => is_alike_in(full, *rank),
+            Claim::Done(_) => 0,
+            Claim::Ready { full, rank, .. } => others_in(full, *rank),
         },
-        LeanClaim::Copied { full, rank } => is_alike_in(full, *rank),
+        LeanClaim::Copied { full, rank } => others_in(full, *rank),
     }
 }
 
-// Whether a request for an instance is open, so that the hall has it still.
-fn is_open(hall: &Hall, comm: u32, k: u64) -> bool {
-    hall.open_requests(comm, k) != 0
-}
-
-fn is_open_at(hall: &Hall, at: Option<(u32, u64)>) -> bool {
+fn open_at(hall: &Hall, at: Option<(u32, u64)>) -> u64 {
     match at {
-        Some((comm, k)) => is_open(hall, comm, k),
-        None => false,
+        Some((comm, k)) => hall.open_for(comm, k),
+        None => 0,
     }
 }
 
-// The line of an instance goes when no request for that is open any more.
-fn keep_while_open(lines: &mut KeptLines, hall: &Hall, comm: u32, k: u64)
+// One more was told the line of an instance. It goes with the last, at the latest when no request
+// for the instance is open any more.
+fn told(lines: &mut KeptLines, hall: &Hall, comm: u32, k: u64)
     ensures { (wall : ChineseWall) (past : List (Contribution Contents)) →
         AreRight wall past lines.old → AreRight wall past lines.new }
 {
-    if !is_open(hall, comm, k) {
+    if hall.open_for(comm, k) == 0 {
         lines.let_go(comm, k);
+    } else {
+        lines.told(comm, k);
     }
 }
 
 // Appends a line.
-fn put_line(line: &[u8], text: &mut Vec<u8>) -> Result<(), NoMemory>
+fn put_told(text: &mut Vec<u8>, line: &[u8]) -> Result<(), NoMemory>
     ensures ok { OnOk result (text.new.items ≡ text.old.items ++ line.now) }
     ensures err { OnErr result (text.new.items ≡ text.old.items) }
 {
@@ -244,13 +255,14 @@ fn put_line(line: &[u8], text: &mut Vec<u8>) -> Result<(), NoMemory>
     }
 }
 
-// Appends the line of the reply that a claim on this instance comes to. Where others have open
-// requests for it and are told the same, a copy is kept; where nobody has, none is.
+// Appends the line of the reply that a claim on this instance comes to, for which so many requests
+// are open. Where others are still to be told the same, a copy is kept; where no request is open,
+// none is.
 fn tell(
     lines: &mut KeptLines,
     policy: &Policy,
     at: Option<(u32, u64)>,
-    others: bool,
+    open: u64,
     claim: LeanClaim,
     text: &mut Vec<u8>,
 ) -> Result<(), NoMemory>
@@ -266,23 +278,26 @@ fn tell(
     let Some((comm, k)) = at else {
         return write_claim(policy, claim, text);
     };
-    if !others {
+    if open == 0 {
         lines.let_go(comm, k);
         return write_claim(policy, claim, text);
     }
-    if is_alike(&claim) {
-        tell_first(lines, policy, comm, k, claim, text)
-    } else {
-        write_claim(policy, claim, text)
+    let others = others(&claim);
+    if others == 0 {
+        return write_claim(policy, claim, text);
     }
+    // Whose requests are open is not known: that of one who gets nothing may be among them.
+    let left = open.min(u64::from(others));
+    tell_first(lines, policy, comm, k, left, claim, text)
 }
 
-// The same where others are told the same.
+// The same where at most so many others are still to be told the same.
 fn tell_first(
     lines: &mut KeptLines,
     policy: &Policy,
     comm: u32,
     k: u64,
+    left: u64,
     claim: LeanClaim,
     text: &mut Vec<u8>,
 ) -> Result<(), NoMemory>
@@ -299,6 +314,6 @@ fn tell_first(
     let len = text.len();
     write_claim(policy, claim, text)?;
     let line = &text[len..];
-    lines.keep(comm, k, line);
+    lines.keep(comm, k, left, line);
     Ok(())
 }

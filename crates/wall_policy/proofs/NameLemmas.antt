@@ -1,6 +1,6 @@
 -- The names of a table, over the keys of the set that keeps them.
-use Rattle.std.proofs.Common.{◌≡◌, ℕ, ◌+◌, false, cond, ◌||◌, List, [], ◌∷◌, map, Some, None, String}
-use Rattle.std.proofs.Common.{string_bytes, refl, sym, ap, ◌∙◌, subst, inl, inr}
+use Rattle.std.proofs.Common.{◌≡◌, ℕ, ◌+◌, false, cond, ◌||◌, List, [], ◌∷◌, map, Some, None}
+use Rattle.std.proofs.Common.{String, string_bytes, refl, sym, ap, ◌∙◌, subst, inl, inr}
 use Rattle.std.proofs.lemmas.Bool.{cases_Bool}
 use Rattle.std.proofs.lemmas.Slice.Eq.{bytes_eq-Decides}
 use Rattle.std.proofs.lemmas.Str.{IsUtf8-string_bytes}

@@ -1,16 +1,16 @@
 -- What ranks bring, rank by rank and from one receiver to the next.
 use Rattle.std.proofs.Common.{◌≡◌, ℕ, zero, suc, ◌+◌, ◌-◌, ◌<◌, ◌≤◌, Bool, true, false, ◌||◌, ◌&&◌}
 use Rattle.std.proofs.Common.{List, Option, Some, None, find, slice_get, cond, refl, sym, ap, ◌∙◌}
-use Rattle.std.proofs.Common.{subst, arith, add-one, inl, inr, ⊎_elim, eqb-true, eq-eqb, nat_eq}
+use Rattle.std.proofs.Common.{subst, arith, add-one, inl, inr, ◌⊎◌, ⊎_elim, eqb-true, eq-eqb}
+use Rattle.std.proofs.Common.{nat_lt, ltb-true}
 use Rattle.std.specs.Prelude.{is_some, unwrap_or, count_by}
 use Rattle.std.specs.List.{list_any}
 use Rattle.std.specs.Option.{option_and_then}
 use Rattle.std.specs.Ordering.{nat_cmp}
-use Rattle.std.specs.Cmp.{nat_cmp_total}
-use Rattle.std.specs.FinSet.{FinSet, empty, insert, contains, contains-empty, same_set}
-use Rattle.std.specs.FinSet.{nat_cmp-IsAntisymmetric}
+use Rattle.std.specs.FinSet.{FinSet, empty, insert, contains, contains-empty}
 use Rattle.std.proofs.Math.Bool.{or-false}
 use Rattle.std.proofs.lemmas.Bool.{false≢true, cases_Bool, or_cases, or_left, or_right}
+use Rattle.std.proofs.lemmas.Bool.{ltb-false}
 use Rattle.wall_labels.specs.Rows.{Meet}
 use Rattle.wall_policy.specs.Policy.{ChineseWall, least_of}
 use Rattle.wall_policy.specs.Rivals.{are_rivals}
@@ -182,8 +182,8 @@ inflow_whole classes roll j v h at is =
 pub inflow_serves : (classes : List ℕ) (roll : Roll) (j : ℕ) (v : Inflow) → IsFit roll →
     j < roll.shape.size
     → v.ranks ≡ end_of roll.sig roll.shape.size j → IsInflowOf classes roll j v →
-    Serves classes roll (j + 1) v
-inflow_serves classes roll j v fit h at is alike k next hk reach =
+    Serves classes roll v
+inflow_serves classes roll j v fit h at is alike k hk reach =
     let le : v.ranks ≤ roll.shape.size = omega (arith, end_within roll.sig roll.shape.size j h) in
     inflow_alike classes (λ i. contribution roll i j) (λ i. contribution roll i k) v.ranks v (
     λ i lt. comes_alike roll i j k fit alike (omega arith) h hk (omega arith) (omega arith)
@@ -200,27 +200,21 @@ slots_whole classes roll j v fit near is = record {
   rivals = is.rivals;
 }
 
-pub slots_serve : (classes : List ℕ) (roll : Roll) (j : ℕ) (v : Inflow) →
-    is_neighbourly roll.sig ≡ true → Serves classes roll j v
-slots_serve classes roll j v near alike =
+pub slots_serve : (classes : List ℕ) (roll : Roll) (v : Inflow) →
+    is_neighbourly roll.sig ≡ true → Serves classes roll v
+slots_serve classes roll v near alike =
     absurd (false≢true (sym (alike_is_plain roll.sig alike) ∙ near))
 
 pub nothing_serves : (classes : List ℕ) (roll : Roll) (v : Inflow) → v.ranks ≡ 0 → v.number ≡ 0 →
-    v.different ≡ 0 → v.datasets ≡ empty → Serves classes roll 0 v
-nothing_serves classes roll v at number different datasets alike k le lt reach =
+    v.different ≡ 0 → v.datasets ≡ empty → Serves classes roll v
+nothing_serves classes roll v at number different datasets alike k lt reach =
     subst (λ n. IsInflow classes (λ i. contribution roll i k) n v) (sym at)
     (inflow_none classes (λ i. contribution roll i k) v number different datasets)
 
--- what serves for all receivers serves for those behind the first ones
-pub serves_from : (classes : List ℕ) (roll : Roll) (j : ℕ) (v : Inflow) →
-    Serves classes roll 0 v → Serves classes roll j v
-serves_from classes roll j v serves alike k le lt reach = serves alike k (omega arith) lt reach
-
--- the next receiver gets it too
-pub inflow_kept : (classes : List ℕ) (roll : Roll) (j : ℕ) (v : Inflow) → Serves classes roll j v →
+pub inflow_kept : (classes : List ℕ) (roll : Roll) (j : ℕ) (v : Inflow) → Serves classes roll v →
     is_alike roll.sig ≡ true → j < roll.shape.size
     → v.ranks ≤ end_of roll.sig roll.shape.size j → IsInflowOf classes roll j v
-inflow_kept classes roll j v serves alike h reach = serves alike j (omega arith) h reach
+inflow_kept classes roll j v serves alike h reach = serves alike j h reach
 
 -- so many of the ranks below n bring something
 pub few_bring : (classes : List ℕ) (f : ℕ → Option ℕ) (n : ℕ) (v : Inflow) →
@@ -308,10 +302,30 @@ pub labels_spare : (classes : List ℕ) (has : History) (roll : Roll) (j p : ℕ
 labels_spare classes has roll j p v at is unheld apart =
     spared_all classes has roll j p v at (labels_have classes roll j v is) is.rivals unheld apart
 
--- a receiver that is passed over
-pub serves_on : (classes : List ℕ) (roll : Roll) (j : ℕ) (v : Inflow) →
-    Serves classes roll j v → Serves classes roll (j + 1) v
-serves_on classes roll j v serves alike k le lt reach = serves alike k (omega arith) lt reach
+---- A receiver that no rank reaches.
+
+lt_or_le : (i n : ℕ) → (i < n) ⊎ (n ≤ i)
+lt_or_le i n = ⊎_elim (λ t. inl (ltb-true i n t)) (λ f. inr (ltb-false i n f))
+    (cases_Bool (nat_lt i n))
+
+module _ (roll : Roll) (j : ℕ)
+    (end : end_of roll.sig roll.shape.size j ≤ start_of roll.sig roll.shape.size) where
+  nothing_comes : (i : ℕ) → i < roll.shape.size → contribution roll i j ≡ None
+  nothing_comes i lt = nothing_outside roll i j lt (⊎_elim (λ low. inl low)
+      (λ high. inr (omega (arith, end, high))) (lt_or_le i (start_of roll.sig roll.shape.size)))
+
+  pub unreached_meets : (classes : List ℕ) (has : History) →
+      find (meets classes has roll j) (ranks roll) ≡ None
+  unreached_meets classes has = none_below (meets classes has roll j) roll.shape.size
+      (λ i lt. meets_none classes has roll j i (nothing_comes i lt))
+
+  pub unreached_gets : (d : ℕ) → contributed roll j d ≡ true → ⊥
+  unreached_gets d h =
+      let found = any_found (λ i. is_that (contribution roll i j) d) 0 roll.shape.size h in
+      false≢true (sym (ap (λ o. is_that o d) (nothing_comes found.0 (omega (arith, found.1))))
+      ∙ found.2)
+
+---- A receiver that nothing offends.
 
 -- where nothing meets a rival, nothing offends
 pub clear_offends : (wall : ChineseWall) (has : History) (roll : Roll) (j : ℕ) →
@@ -345,14 +359,6 @@ enough_is wall roll j n m number different = ⊎_elim
 or_true : (b : Bool) → (b || true) ≡ true
 or_true true = refl
 or_true false = refl
-
-pub again : (s : FinSet nat_cmp) (d : ℕ) → contains s d ≡ true → s ≡ insert s d
-again s d is = same_set nat_cmp_total nat_cmp-IsAntisymmetric s (insert s d) (λ q.
-    sym (contains_inserted s d q ∙ ⊎_elim
-    (λ t. ap (λ b. contains s q || b) t ∙ or_true (contains s q)
-    ∙ sym (ap (λ n. contains s n) (sym (eqb-true d q t)) ∙ is))
-    (λ f. ap (λ b. contains s q || b) f ∙ or-false (contains s q))
-    (cases_Bool (nat_eq d q))))
 
 pub rivals_again : (classes : List ℕ) (s r : FinSet nat_cmp) (d : ℕ) → contains s d ≡ true →
     ((d e : ℕ) → contains s d ≡ true → are_rivals classes d e ≡ true → contains r e ≡ true) →

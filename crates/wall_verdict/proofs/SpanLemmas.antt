@@ -3,6 +3,7 @@ use Rattle.std.proofs.Common.{◌≡◌, ℕ, ◌+◌, ◌*◌, ◌<◌, ◌≤�
 use Rattle.std.proofs.Common.{Option, Some, None, get_or, take, sum, replicate, refl, sym, ap, ◌∙◌}
 use Rattle.std.proofs.Common.{subst, arith, inl, inr, ◌⊎◌, ⊎_elim, nat_eq, nat_lt, nat_le, ne_eqb}
 use Rattle.std.proofs.Common.{eq-eqb, eqb-true, ltb-true, lt-ltb, IsSome}
+use Rattle.std.specs.Prelude.{not, ◌==◌}
 use Rattle.std.specs.List.{list_any}
 use Rattle.std.proofs.lemmas.Bool.{cases_Bool, false≢true, ltb-false, le-leb, leb-true, and_from}
 use Rattle.mpi_cart.specs.Grids.{below}
@@ -88,12 +89,23 @@ and_no : (a b : Bool) → b ≡ false → (a && b) ≡ false
 and_no true b h = h
 and_no false b h = refl
 
+no_own : (a b c : Bool) → b ≡ true → (a && not b && c) ≡ false
+no_own true b c own = ap (λ o. true && not o && c) own
+no_own false b c own = refl
+
 goes_outside : (sig : Signature) (shape : Shape) (counts : List ℕ) (i x j t : ℕ) → i < shape.size
     → IsOutside (start_of sig shape.size) (end_of sig shape.size j) i →
     goes_by sig shape counts i x j t ≡ false
 unfolding goes_by start_of end_of
 goes_outside Barrier shape counts i x j t h out = refl
-goes_outside (Bcast r ty n) shape counts i x j t h out = rw (not_root r shape.size i h out) refl
+goes_outside (Bcast r ty n) shape counts i x j t h out = ⊎_elim
+    (λ own. no_own (nat_eq i r) (nat_eq j r) (nat_eq t 0) own)
+    (λ other.
+    let away : IsOutside (from_root r shape.size) (past_root r shape.size) i =
+    subst (λ b. IsOutside (from_root r shape.size)
+    (cond b (from_root r shape.size) (past_root r shape.size)) i) other out in
+    rw (not_root r shape.size i h away) refl)
+    (cases_Bool (nat_eq j r))
 goes_outside (Gather r ty n) shape counts i x j t h out =
     rw (not_to_root j r shape.size i h out) refl
 goes_outside (Gatherv r ty) shape counts i x j t h out =
@@ -175,6 +187,16 @@ module _ (shape : Shape) (i given : ℕ) where
   to_each ty n (Counts counts) h = absurd (false≢true h)
   to_each ty n (SplitBy colour key) h = absurd (false≢true h)
 
+  from_the_root : (r : ℕ) (ty : ElemType) (n : ℕ) (own : Own) → (i == r) ≡ true →
+      is_met (asked shape (Scatter r ty n)) (gives (Scatter r ty n) i) own given ≡ true →
+      shape.size * n ≡ given
+  unfolding asked gives
+  from_the_root r ty n Plain root h =
+      sym (eqb-true given (cond (i == r) (shape.size * n) 0) h
+      ∙ ap (λ b. cond b (shape.size * n) 0) root)
+  from_the_root r ty n (Counts counts) root h = absurd (false≢true h)
+  from_the_root r ty n (SplitBy colour key) root h = absurd (false≢true h)
+
   to_fold : (op : Op) (ty : ElemType) (n : ℕ) (own : Own) →
       is_met (asked shape (ReduceScatterBlock op ty n)) (gives (ReduceScatterBlock op ty n) i) own
       given ≡ true → shape.size * n ≡ given
@@ -231,6 +253,28 @@ filled_below sizes j size i low = ⊎_elim
     (λ f. let none : i < 0 = subst (λ b. i < cond b size 0) f low in absurd (omega arith))
     (cases_Bool (nat_lt 0 (get_or sizes j 0)))
 
+-- who gets what the root gives is another rank
+other_root : (r j size i : ℕ) → (i == r) ≡ true →
+    i < cond (j == r) (from_root r size) (past_root r size) → (j == r) ≡ false
+other_root r j size i root low = ⊎_elim
+    (λ t.
+    let is : i ≡ r = eqb-true i r root in
+    let below_root : i < from_root r size =
+    subst (λ b. i < cond b (from_root r size) (past_root r size)) t low in
+    absurd (omega (arith, is, below_root, at_most (nat_lt r size) r)))
+    (λ f. f)
+    (cases_Bool (j == r))
+  where
+    at_most : (b : Bool) (n : ℕ) → cond b n 0 ≤ n
+    at_most true n = omega arith
+    at_most false n = omega arith
+
+is_root : (r j size i : ℕ) → i < all_at r size j → j ≡ r
+is_root r j size i low = ⊎_elim
+    (λ t. eqb-true j r t)
+    (λ f. let none : i < 0 = subst (λ b. i < cond b size 0) f low in absurd (omega arith))
+    (cases_Bool (nat_eq j r))
+
 module _ (shape : Shape) (own : Own) (counts : List ℕ) (given i j k : ℕ) (hj : j < shape.size)
     (hk : k < shape.size) where
   even : (n : ℕ) → shape.size * n ≡ given →
@@ -240,6 +284,9 @@ module _ (shape : Shape) (own : Own) (counts : List ℕ) (given i j k : ℕ) (hj
       let all : sum (replicate shape.size n) ≡ given = even_whole shape.size n ∙ whole in
       block_sends (replicate shape.size n) given j all ∙ even_alike shape.size n j k hj hk
       ∙ sym (block_sends (replicate shape.size n) given k all)
+
+  one_root : (r : ℕ) → i < all_at r shape.size j → i < all_at r shape.size k → j ≡ k
+  one_root r low high = is_root r j shape.size i low ∙ sym (is_root r k shape.size i high)
 
   sends_alike : (sig : Signature) → is_met (asked shape sig) (gives sig i) own given ≡ true →
       is_alike sig ≡ true
@@ -270,13 +317,34 @@ module _ (shape : Shape) (own : Own) (counts : List ℕ) (given i j k : ℕ) (hj
       ap (λ b. list_any (λ (x : ℕ). b && true) (below given))
       (lt-ltb i j low ∙ sym (lt-ltb i k high))
   sends_alike Barrier m e low high = absurd (false≢true e)
-  sends_alike (Bcast r ty n) m e low high = absurd (false≢true e)
-  sends_alike (Gather r ty n) m e low high = absurd (false≢true e)
-  sends_alike (Gatherv r ty) m e low high = absurd (false≢true e)
-  sends_alike (Scatter r ty n) m e low high = absurd (false≢true e)
+  sends_alike (Bcast r ty n) m e low high = ⊎_elim
+      (λ root.
+      let one = other_root r j shape.size i root low in
+      let two = other_root r k shape.size i root high in
+      ap (λ b. list_any (λ (x : ℕ). (i == r) && not b && true) (below given)) (one ∙ sym two))
+      (λ other. ap (λ b. list_any (λ (x : ℕ). b && not (j == r) && true) (below given)) other
+      ∙ sym (ap (λ b. list_any (λ (x : ℕ). b && not (k == r) && true) (below given)) other))
+      (cases_Bool (i == r))
+  sends_alike (Gather r ty n) m e low high =
+      ap (λ (t : ℕ). sends_by (Gather r ty n) shape counts given i t (place_by (Gather r ty n) i))
+      (one_root r low high)
+  sends_alike (Gatherv r ty) m e low high =
+      ap (λ (t : ℕ). sends_by (Gatherv r ty) shape counts given i t (place_by (Gatherv r ty) i))
+      (one_root r low high)
+  sends_alike (Scatter r ty n) m e low high =
+      let into : ℕ → ℕ → Bool = (λ l x. in_block (replicate shape.size n) l x) in ⊎_elim
+      (λ root. ap (λ b. list_any (λ x. b && true && into j x) (below given)) root
+      ∙ even n (from_the_root shape i given r ty n own root m)
+      ∙ sym (ap (λ b. list_any (λ x. b && true && into k x) (below given)) root))
+      (λ other. ap (λ b. list_any (λ x. b && true && into j x) (below given)) other
+      ∙ sym (ap (λ b. list_any (λ x. b && true && into k x) (below given)) other))
+      (cases_Bool (i == r))
   sends_alike (Scatterv r ty) m e low high = absurd (false≢true e)
   sends_alike (Alltoallv ty) m e low high = absurd (false≢true e)
-  sends_alike (Reduce r op ty n) m e low high = absurd (false≢true e)
+  sends_alike (Reduce r op ty n) m e low high =
+      ap (λ (t : ℕ).
+      sends_by (Reduce r op ty n) shape counts given i t (place_by (Reduce r op ty n) i))
+      (one_root r low high)
   sends_alike (NeighborAllgather ty n) m e low high = absurd (false≢true e)
   sends_alike (NeighborAllgatherv ty) m e low high = absurd (false≢true e)
   sends_alike (NeighborAlltoall ty n) m e low high = absurd (false≢true e)
@@ -341,10 +409,19 @@ root_within r size = at (nat_lt r size)
     at true = omega arith
     at false = omega arith
 
+other_within : (b : Bool) (r size : ℕ) → cond b (from_root r size) (past_root r size) ≤ size
+other_within true r size = omega (arith, root_within r size, past_within r size)
+other_within false r size = past_within r size
+
+from_within : (b : Bool) (r size : ℕ) →
+    from_root r size ≤ cond b (from_root r size) (past_root r size)
+from_within true r size = omega arith
+from_within false r size = root_within r size
+
 pub end_within : (sig : Signature) (size j : ℕ) → j < size → end_of sig size j ≤ size
 unfolding end_of
 end_within Barrier size j h = omega arith
-end_within (Bcast r ty n) size j h = past_within r size
+end_within (Bcast r ty n) size j h = other_within (nat_eq j r) r size
 end_within (Gather r ty n) size j h = all_within r size j
 end_within (Gatherv r ty) size j h = all_within r size j
 end_within (Scatter r ty n) size j h = past_within r size
@@ -372,7 +449,7 @@ end_within (CartSub keep) size j h = omega arith
 pub start_within : (sig : Signature) (size j : ℕ) → start_of sig size ≤ end_of sig size j
 unfolding start_of end_of
 start_within Barrier size j = omega arith
-start_within (Bcast r ty n) size j = root_within r size
+start_within (Bcast r ty n) size j = from_within (nat_eq j r) r size
 start_within (Gather r ty n) size j = omega arith
 start_within (Gatherv r ty) size j = omega arith
 start_within (Scatter r ty n) size j = root_within r size

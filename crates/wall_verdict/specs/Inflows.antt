@@ -1,7 +1,7 @@
 -- What comes to the receivers of an instance, one receiver after the other: which ranks can reach
 -- a receiver, and for which kinds what has come to one receiver comes to the next too.
 use Rattle.std.specs.Prelude.{◌≡◌, ℕ, ◌+◌, ◌<◌, ◌≤◌, ◌==◌, nat_lt, Bool, true, false, List}
-use Rattle.std.specs.Prelude.{slice_index_or, Option, count_by, is_some, if◌then◌else◌}
+use Rattle.std.specs.Prelude.{slice_index_or, Option, IfSome, count_by, is_some, if◌then◌else◌}
 use Rattle.std.specs.Option.{option_and_then}
 use Rattle.std.specs.List.{list_any}
 use Rattle.std.specs.FinSet.{contains}
@@ -20,6 +20,7 @@ use Rattle.coll_routes.specs.declared.signature.Signature.TheVariants.{NeighborA
 use Rattle.coll_routes.specs.declared.signature.Signature.TheVariants.{NeighborAlltoallv}
 use Rattle.coll_routes.specs.declared.roll.Roll.{Roll}
 use Rattle.wall_verdict.specs.declared.inflow.Inflow.{Inflow}
+use Rattle.wall_verdict.specs.declared.collected.Collected.{Collected}
 use Rattle.coll_routes.specs.Rolls.{neighbour_in, label_of}
 use Rattle.coll_routes.specs.Signatures.{is_neighbourly}
 use Rattle.wall_verdict.specs.Charges.{contribution, contributors, contributed, different_datasets}
@@ -30,6 +31,10 @@ from_root root size = if nat_lt root size then root else 0
 
 abbrev pub past_root : (root size : ℕ) → ℕ
 past_root root size = if nat_lt root size then root + 1 else 0
+
+-- the root itself gets nothing from the root
+abbrev pub past_other_root : (root size j : ℕ) → ℕ
+past_other_root root size j = if j == root then from_root root size else past_root root size
 
 abbrev pub all_at : (root size j : ℕ) → ℕ
 all_at root size j = if j == root then size else 0
@@ -43,7 +48,7 @@ start_of _ size = 0
 
 -- neither this rank nor any above it reaches receiver j
 unfoldable pub end_of : Signature → (size j : ℕ) → ℕ
-end_of (Bcast r ty n) size j = past_root r size
+end_of (Bcast r ty n) size j = past_other_root r size j
 end_of (Scatter r ty n) size j = past_root r size
 end_of (Scatterv r ty) size j = past_root r size
 end_of (Gather r ty n) size j = all_at r size j
@@ -74,6 +79,11 @@ is_alike (ReduceScatter op ty sizes) = true
 is_alike (ReduceScatterBlock op ty n) = true
 is_alike (Scan op ty n) = true
 is_alike (Exscan op ty n) = true
+is_alike (Bcast r ty n) = true
+is_alike (Scatter r ty n) = true
+is_alike (Gather r ty n) = true
+is_alike (Gatherv r ty) = true
+is_alike (Reduce r op ty n) = true
 is_alike _ = false
 
 -- some rank below n brings d, where rank i brings f i
@@ -119,8 +129,13 @@ pub record IsWhole (classes : List ℕ) (roll : Roll) (j : ℕ) (v : Inflow) : T
   pub rivals : (d e : ℕ) → contains v.datasets d ≡ true → are_rivals classes d e ≡ true
       → contains v.rivals e ≡ true
 
--- it serves for each receiver from j on that its ranks can reach
-abbrev pub Serves : List ℕ → Roll → (j : ℕ) → Inflow → Type 0
-Serves classes roll j v =
-    is_alike roll.sig ≡ true → (k : ℕ) → j ≤ k → k < roll.shape.size
+-- where ranks reach receivers alike, it serves each receiver whose end its ranks don't pass
+abbrev pub Serves : List ℕ → Roll → Inflow → Type 0
+Serves classes roll v =
+    is_alike roll.sig ≡ true → (k : ℕ) → k < roll.shape.size
     → v.ranks ≤ end_of roll.sig roll.shape.size k → IsInflowOf classes roll k v
+
+-- an inflow that serves, and the labels of all ranks where they are at hand
+pub record IsCollected (classes : List ℕ) (roll : Roll) (c : Collected) : Type 0 where
+  pub serves : Serves classes roll c.inflow
+  pub labels : IfSome c.labels (IsLabelled classes roll roll.shape.size)

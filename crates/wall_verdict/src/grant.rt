@@ -1,38 +1,56 @@
 //! The verdict that enters what a grant charges.
-ghost use Rattle.std.specs.Prelude.{◌≡◌};
+ghost use Rattle.std.specs.Prelude.{◌≡◌, ℕ, ◌<◌, true, IsTrue};
 ghost use Rattle.wall_rules.specs.Histories.{has, NobodyHoldsRivals};
 ghost use Rattle.coll_routes.specs.Fit.{IsFit};
-ghost use Rattle.wall_verdict.specs.Verdicts.{verdict};
+ghost use Rattle.wall_verdict.specs.Charges.{contributed};
+ghost use Rattle.wall_verdict.specs.Verdicts.{member, verdict};
 ghost use Rattle.wall_verdict.specs.Grants.{with_charges, settled};
 ghost use Rattle.wall_verdict.specs.Meanings.{MembersStayApart};
-ghost use Rattle.wall_verdict.specs.Inflows.{IsLabelled};
+ghost use Rattle.wall_verdict.specs.Inflows.{IsCollected};
 
-use super::inflow::{Inflow, charges};
-use super::judge::{decide_by, keep_apart};
+use super::collected::Collected;
+use super::inflow::{charges, is_out_of_reach};
+use super::judge::{judge, keep_apart};
 use super::verdict::Verdict;
 use coll_routes::Roll;
 use wall_policy::Policy;
 use wall_rules::Histories;
 
-/// Enters in each member's history what is charged to it. One that has all labels gets nothing new.
+/// Whether it is known beforehand that the receiver has had access to all that comes to it: by the
+/// labels, where these are at hand; else since no rank reaches it.
+fn has_all(histories: &Histories, roll: &Roll, to: u32, collected: &Collected) -> bool
+    requires fit { IsFit roll.now }
+    requires to { to < roll.now.shape.size }
+    requires collected { IsCollected histories.now.classes roll.now collected.now }
+    ensures { IsTrue result → (d : ℕ) → contributed roll.now to d ≡ true →
+        has histories.now (member roll.now to) d ≡ true }
+{
+    match &collected.labels {
+        Some(labels) => histories.has_all(roll.members.at(to), &labels.datasets),
+        None => is_out_of_reach(roll, to),
+    }
+}
+
+/// Enters in each member's history what is charged to it.
 #[tactic(auto, using(crate::proofs::GrantLemmas::under_none))]
-fn grant(policy: &Policy, histories: &mut Histories, roll: &Roll, labels: &Inflow)
+fn grant(policy: &Policy, histories: &mut Histories, roll: &Roll, collected: &mut Collected)
     requires fit { IsFit roll.now }
     requires classes { histories.old.classes ≡ policy.now.classes }
-    requires labels { IsLabelled histories.old.classes roll.now roll.now.shape.size labels.now }
+    requires collected { IsCollected histories.old.classes roll.now collected.old }
     requires apart { MembersStayApart policy.now (has histories.old) roll.now }
     ensures pairs { has histories.new ≡ with_charges policy.now (has histories.old) roll.now }
     ensures processes { histories.new.processes ≡ histories.old.processes }
     ensures classes { histories.new.classes ≡ histories.old.classes }
 {
     let _ = roll.members.size();
-    let mut inflow = Inflow::before(0);
     for to in 0..roll.shape.size {
         let member = roll.members.at(to);
-        if !histories.has_all(member, &labels.datasets) {
-            inflow.turn_to(histories, roll, to);
-            let charged = charges(policy, roll, to, &inflow);
-            histories.enter(member, &charged);
+        if !has_all(histories, roll, to, collected) {
+            collected.inflow.turn_to(histories, roll, to);
+            match charges(policy, roll, to, &collected.inflow) {
+                Some(datasets) => histories.enter(member, datasets),
+                None => {}
+            }
         }
     }
 }
@@ -49,10 +67,11 @@ pub fn settle(policy: &Policy, histories: &mut Histories, roll: &Roll) -> Verdic
     ensures classes { histories.new.classes ≡ histories.old.classes }
     ensures apart { NobodyHoldsRivals policy.now.classes (has histories.new) }
 {
-    let mut labels = Inflow::before(0);
-    let verdict = decide_by(policy, histories, roll, &mut labels);
+    keep_apart(histories);
+    let mut collected = Collected::nothing();
+    let verdict = judge(policy, histories, roll, &mut collected);
     match verdict {
-        Verdict::Granted => grant(policy, histories, roll, &labels),
+        Verdict::Granted => grant(policy, histories, roll, &mut collected),
         Verdict::Denied { .. } => {}
     }
     keep_apart(histories);

@@ -1,6 +1,6 @@
 //! What comes to the receivers of an instance, kept from one to the next where it is the same.
 ghost use Rattle.std.specs.Prelude.{◌≡◌, ℕ, ◌+◌, ◌<◌, ◌≤◌, ◌^◌, ◌-◌, slice_index_or, if◌then◌else◌};
-ghost use Rattle.std.specs.Prelude.{true, false};
+ghost use Rattle.std.specs.Prelude.{true, false, IsTrue, IfSome, None};
 ghost use Rattle.std.specs.FinSet as sets;
 ghost use Rattle.coll_routes.specs.Fit.{IsFit};
 ghost use Rattle.coll_routes.specs.Rolls.{places as places_of};
@@ -9,11 +9,12 @@ ghost use Rattle.wall_rules.specs.Histories.{AddsRivals};
 ghost use Rattle.wall_verdict.specs.Charges.{contributors, different_datasets, contributed};
 ghost use Rattle.wall_verdict.specs.Charges.{charged};
 ghost use Rattle.wall_verdict.specs.Inflows.{start_of, end_of, is_alike, from_root, past_root};
+ghost use Rattle.wall_verdict.specs.Inflows.{past_other_root};
 ghost use Rattle.wall_verdict.specs.Inflows.{all_at, from_slot, IsTaken, IsTakenFromSlots};
 ghost use Rattle.wall_verdict.specs.Inflows.{IsInflowOf, IsLabelled, IsWhole, Serves};
 ghost use Rattle.wall_policy.specs.Rivals.{are_rivals};
 
-use super::charge::{contribution, dataset_in, is_enough, label_of};
+use super::charge::{add_another, contribution, dataset_in, is_enough, label_of};
 use coll_routes::{Roll, Signature, places};
 use wall_labels::{DatasetId, LabelSet};
 use wall_policy::Policy;
@@ -50,15 +51,15 @@ impl Inflow {
         }
     }
 
-    /// Takes what all ranks label their elements with, wherever these go, and nothing else. Nothing
-    /// else comes to anybody.
-    pub fn take_labels(&mut self, histories: &Histories, roll: &Roll)
-        ensures { IsLabelled histories.now.classes roll.now roll.now.shape.size self.new }
+    /// What all ranks label their elements with, wherever these go. Nothing else comes to anybody.
+    pub fn of_labels(histories: &Histories, roll: &Roll) -> Inflow
+        ensures { IsLabelled histories.now.classes roll.now roll.now.shape.size result }
     {
-        *self = Inflow::before(0);
+        let mut labels = Inflow::before(0);
         for rank in 0..roll.shape.size {
-            self.take_label(histories, roll, rank);
+            labels.take_label(histories, roll, rank);
         }
+        labels
     }
 
     // Takes the label of the next rank.
@@ -73,15 +74,15 @@ impl Inflow {
         }
     }
 
-    /// Takes what comes to the next receiver, keeping what comes to it as to the one before.
-    /// Between neighbours asks its neighbours alone, and keeps nothing.
+    /// Takes what comes to this receiver, keeping what comes to it as to the one before. Between
+    /// neighbours asks its neighbours alone, and keeps nothing.
     #[tactic(auto, using(crate::proofs::SpanLemmas::end_within))]
     pub fn turn_to(&mut self, histories: &Histories, roll: &Roll, to: u32)
         requires fit { IsFit roll.now }
         requires to { to < roll.now.shape.size }
-        requires serves { Serves histories.now.classes roll.now to self.old }
+        requires serves { Serves histories.now.classes roll.now self.old }
         ensures whole { IsWhole histories.now.classes roll.now to self.new }
-        ensures serves { Serves histories.now.classes roll.now (to + 1) self.new }
+        ensures serves { Serves histories.now.classes roll.now self.new }
     {
         if roll.sig.is_neighbourly() {
             self.take_slots(histories, roll, to);
@@ -97,15 +98,18 @@ impl Inflow {
     fn drop_others(&mut self, _histories: &Histories, roll: &Roll, to: u32, end: u32)
         requires to { to < roll.now.shape.size }
         requires end { end ≡ end_of roll.now.sig roll.now.shape.size to }
-        requires serves { Serves _histories.now.classes roll.now to self.old }
+        requires serves { Serves _histories.now.classes roll.now self.old }
         ensures ranks { self.new.ranks ≤ end }
         ensures inflow { IsInflowOf _histories.now.classes roll.now to self.new }
-        ensures kept { is_alike roll.now.sig ≡ true → self.old.ranks ≤ end → self.new ≡ self.old }
+        ensures kept { is_alike roll.now.sig ≡ true →
+            start_of roll.now.sig roll.now.shape.size ≤ self.old.ranks → self.old.ranks ≤ end →
+            self.new ≡ self.old }
     {
-        if is_alike(&roll.sig) && self.ranks <= end {
+        let start = start_of(&roll.sig, roll.shape.size);
+        if is_alike(&roll.sig) && start <= self.ranks && self.ranks <= end {
             return;
         }
-        *self = Inflow::before(start_of(&roll.sig, roll.shape.size));
+        *self = Inflow::before(start);
     }
 
     // Takes what comes to the receiver from the next ranks, up to this one.
@@ -179,30 +183,46 @@ impl Inflow {
         ensures rivals { AddsRivals histories.now.classes dataset self.old.rivals self.new.rivals }
     {
         self.number += 1;
-        // Most often it is there already, and its rivals too.
-        if !self.datasets.contains(dataset) {
+        let more = add_another(&mut self.datasets, dataset);
+        // Most often it was there already, and its rivals too.
+        if more > 0 {
             histories.add_rivals(dataset, &mut self.rivals);
-            self.datasets.insert(dataset);
-            self.different += 1;
         }
+        self.different += more;
     }
 }
 
-/// The datasets that are charged to the receiver.
-pub fn charges(policy: &Policy, roll: &Roll, to: u32, inflow: &Inflow) -> LabelSet
+/// The datasets that are charged to the receiver: those that come to it, or no set where what it
+/// gets is sanitised.
+pub fn charges<'a>(
+    policy: &Policy,
+    roll: &Roll,
+    to: u32,
+    inflow: &'a Inflow,
+) -> Option<&'a LabelSet>
     requires number { is_neighbourly roll.now.sig ≡ false →
         inflow.now.number ≡ contributors roll.now to }
     requires different { is_neighbourly roll.now.sig ≡ false →
         inflow.now.different ≡ different_datasets roll.now to }
     requires datasets { (d : ℕ) → sets.contains inflow.now.datasets d ≡ contributed roll.now to d }
     requires to { to < roll.now.shape.size }
-    ensures { (d : ℕ) → sets.contains result d ≡ charged policy.now roll.now to d }
+    ensures some { IfSome result (λ s. (d : ℕ) →
+        sets.contains s.now d ≡ charged policy.now roll.now to d) }
+    ensures none { result ≡ None → (d : ℕ) → charged policy.now roll.now to d ≡ false }
 {
-    let mut datasets = LabelSet::empty();
-    if !is_enough(policy, roll, inflow.number, inflow.different) {
-        datasets.union_with(&inflow.datasets);
+    if is_enough(policy, roll, inflow.number, inflow.different) {
+        return None;
     }
-    datasets
+    Some(&inflow.datasets)
+}
+
+/// Whether no rank reaches the receiver at all.
+pub fn is_out_of_reach(roll: &Roll, to: u32) -> bool
+    requires { to < roll.now.shape.size }
+    ensures { IsTrue result → end_of roll.now.sig roll.now.shape.size to
+        ≤ start_of roll.now.sig roll.now.shape.size }
+{
+    end_of(&roll.sig, roll.shape.size, to) <= start_of(&roll.sig, roll.shape.size)
 }
 
 // What the neighbour of the receiver in a slot contributes to it.
@@ -241,6 +261,16 @@ fn past_root(root: u32, size: u32) -> u32
     if root < size { root + 1 } else { 0 }
 }
 
+fn past_other_root(root: u32, size: u32, to: u32) -> u32
+    ensures { result ≡ past_other_root root size to }
+{
+    if to == root {
+        from_root(root, size)
+    } else {
+        past_root(root, size)
+    }
+}
+
 fn all_at(root: u32, size: u32, to: u32) -> u32
     ensures { result ≡ all_at root size to }
 {
@@ -262,7 +292,7 @@ fn end_of(sig: &Signature, size: u32, to: u32) -> u32
     ensures { result ≡ end_of sig.now size to }
 {
     match sig {
-        Signature::Bcast { root, .. } => past_root(*root, size),
+        Signature::Bcast { root, .. } => past_other_root(*root, size, to),
         Signature::Scatter { root, .. } => past_root(*root, size),
         Signature::Scatterv { root, .. } => past_root(*root, size),
         Signature::Gather { root, .. } => all_at(*root, size, to),
@@ -304,6 +334,11 @@ fn is_alike(sig: &Signature) -> bool
         Signature::ReduceScatterBlock { .. } => true,
         Signature::Scan { .. } => true,
         Signature::Exscan { .. } => true,
+        Signature::Bcast { .. } => true,
+        Signature::Scatter { .. } => true,
+        Signature::Gather { .. } => true,
+        Signature::Gatherv { .. } => true,
+        Signature::Reduce { .. } => true,
         _ => false,
     }
 }

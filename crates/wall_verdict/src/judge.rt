@@ -7,12 +7,13 @@ ghost use Rattle.coll_routes.specs.Fit.{IsFit};
 ghost use Rattle.coll_routes.specs.Rolls.{ranks, label_of, is_barred};
 ghost use Rattle.wall_verdict.specs.Verdicts.{meets, offends, first_barred, first_offence, told};
 ghost use Rattle.wall_verdict.specs.Verdicts.{offence_below, verdict};
-ghost use Rattle.wall_verdict.specs.Inflows.{IsWhole, IsLabelled, Serves};
+ghost use Rattle.wall_verdict.specs.Inflows.{IsWhole, IsCollected};
 ghost use Rattle.wall_verdict.specs.Meanings.{IsVerdict, MembersStayApart};
 ghost use Rattle.wall_verdict.specs.declared.verdict.Verdict.TheVariants.{Granted};
 
 use super::charge::{contribution, is_enough, label_of};
-use super::inflow::Inflow;
+use super::collected::Collected;
+use super::inflow::{Inflow, is_out_of_reach};
 use super::verdict::{Rule, Verdict};
 use coll_routes::{Roll, Signature};
 use wall_labels::{DatasetId, Label, LabelSet, ProcessId};
@@ -103,77 +104,67 @@ fn first_offender(
     first_meeting(histories, roll, to)
 }
 
-/// The lowest rank for which a dataset is charged to this one that meets a rival. Where nothing
-/// that anybody states is a rival of what it has or of another, nothing that comes to it is.
+/// Whether it is known beforehand that nothing that comes to the receiver meets a rival: by the
+/// labels, where these are at hand; else since no rank reaches it.
+fn is_spared(histories: &Histories, roll: &Roll, to: u32, collected: &Collected) -> bool
+    requires fit { IsFit roll.now }
+    requires to { to < roll.now.shape.size }
+    requires collected { IsCollected histories.now.classes roll.now collected.now }
+    ensures { IsTrue result → find
+        (meets histories.now.classes (has histories.now) roll.now to) (ranks roll.now) ≡ None }
+{
+    match &collected.labels {
+        Some(labels) => is_clear(histories, roll.members.at(to), labels),
+        None => is_out_of_reach(roll, to),
+    }
+}
+
+/// The lowest rank for which a dataset is charged to this one that meets a rival.
 fn offender(
     policy: &Policy,
     histories: &Histories,
     roll: &Roll,
-    labels: &Inflow,
     to: u32,
-    inflow: &mut Inflow,
+    collected: &mut Collected,
 ) -> Option<u32>
     requires fit { IsFit roll.now }
     requires classes { histories.now.classes ≡ policy.now.classes }
-    requires labels { IsLabelled histories.now.classes roll.now roll.now.shape.size labels.now }
     requires to { to < roll.now.shape.size }
-    requires serves { Serves histories.now.classes roll.now to inflow.old }
+    requires collected { IsCollected histories.now.classes roll.now collected.old }
     ensures least { result
         ≡ find (offends policy.now (has histories.now) roll.now to) (ranks roll.now) }
     ensures within { IfSome result (λ i. i < roll.now.shape.size) }
-    ensures serves { Serves histories.now.classes roll.now (to + 1) inflow.new }
+    ensures collected { IsCollected histories.now.classes roll.now collected.new }
 {
-    if is_clear(histories, roll.members.at(to), labels) {
+    if is_spared(histories, roll, to, collected) {
         return None;
     }
-    inflow.turn_to(histories, roll, to);
-    first_offender(policy, histories, roll, to, inflow)
+    collected.inflow.turn_to(histories, roll, to);
+    first_offender(policy, histories, roll, to, &collected.inflow)
 }
 
-/// The least pair of a receiver and a rank that offends, where none does whose receiver is one of the
-/// early ones. Passes over receivers that no label can harm.
-fn first_offence(
+/// The least pair of a receiver and a rank that offends, of the receivers below this number. None
+/// offends whose receiver is below the first that is looked at.
+fn search(
     policy: &Policy,
     histories: &Histories,
     roll: &Roll,
-    early: u32,
-    labels: &Inflow,
-) -> Option<(u32, u32)>
-    requires fit { IsFit roll.now }
-    requires classes { histories.now.classes ≡ policy.now.classes }
-    requires early { early ≤ roll.now.shape.size }
-    requires none { None ≡ offence_below policy.now (has histories.now) roll.now early }
-    requires labels { IsLabelled histories.now.classes roll.now roll.now.shape.size labels.now }
-    ensures least { result ≡ first_offence policy.now (has histories.now) roll.now }
-    ensures within { IfSome result (λ pair. pair.0 < roll.now.shape.size) }
-{
-    let mut inflow = Inflow::before(0);
-    for to in early..roll.shape.size {
-        match offender(policy, histories, roll, labels, to, &mut inflow) {
-            Some(from) => return Some((to, from)),
-            None => {}
-        }
-    }
-    None
-}
-
-/// The least pair of a receiver and a rank that offends, of the receivers below this number.
-fn offence_below(
-    policy: &Policy,
-    histories: &Histories,
-    roll: &Roll,
+    first: u32,
     number: u32,
+    collected: &mut Collected,
 ) -> Option<(u32, u32)>
     requires fit { IsFit roll.now }
     requires classes { histories.now.classes ≡ policy.now.classes }
+    requires first { first ≤ number }
     requires number { number ≤ roll.now.shape.size }
+    requires none { None ≡ offence_below policy.now (has histories.now) roll.now first }
+    requires collected { IsCollected histories.now.classes roll.now collected.old }
     ensures least { result ≡ offence_below policy.now (has histories.now) roll.now number }
     ensures within { IfSome result (λ pair. pair.0 < roll.now.shape.size) }
+    ensures collected { IsCollected histories.now.classes roll.now collected.new }
 {
-    let mut inflow = Inflow::before(0);
-    for to in 0..number {
-        inflow.turn_to(histories, roll, to);
-        match first_offender(policy, histories, roll, to, &inflow) {
+    for to in first..number {
+        match offender(policy, histories, roll, to, collected) {
             Some(from) => return Some((to, from)),
             None => {}
         }
@@ -181,23 +172,19 @@ fn offence_below(
     None
 }
 
-/// How many receivers are looked at before the labels of all ranks are collected: so many that they
-/// cost about as much as that. All, where each gets something of one rank alone, or of one more than
-/// the receiver before it; between neighbours as many as have a quarter as many neighbours together
-/// as there are ranks; else none.
+/// How many receivers are looked at before the labels of all ranks are collected. All of them, but
+/// where each has its own ranks to look at: then at least one; in an alltoallv one more for every
+/// 64 ranks, and between neighbours as many more as have a quarter as many neighbours together as
+/// there are ranks.
 fn early_receivers(roll: &Roll) -> u32
     ensures { result ≤ roll.now.shape.size }
 {
     match &roll.sig {
-        Signature::Bcast { .. } => roll.shape.size,
-        Signature::Scatter { .. } => roll.shape.size,
-        Signature::Scatterv { .. } => roll.shape.size,
-        Signature::Scan { .. } => roll.shape.size,
-        Signature::Exscan { .. } => roll.shape.size,
+        Signature::Alltoallv { .. } => (roll.shape.size / 64 + 1).min(roll.shape.size),
         sig => if sig.is_neighbourly() {
             with_few_neighbours(roll)
         } else {
-            0
+            roll.shape.size
         },
     }
 }
@@ -209,31 +196,30 @@ fn with_few_neighbours(roll: &Roll) -> u32
     if slots == 0 {
         roll.shape.size
     } else {
-        roll.shape.size / slots / 4
+        (roll.shape.size / slots / 4 + 1).min(roll.shape.size)
     }
 }
 
-/// The least pair of a receiver and a rank that offends. Where none does, the labels of all ranks
-/// are at hand afterwards.
+/// The least pair of a receiver and a rank that offends.
 fn least_offence(
     policy: &Policy,
     histories: &Histories,
     roll: &Roll,
-    labels: &mut Inflow,
+    collected: &mut Collected,
 ) -> Option<(u32, u32)>
     requires fit { IsFit roll.now }
     requires classes { histories.now.classes ≡ policy.now.classes }
+    requires collected { IsCollected histories.now.classes roll.now collected.old }
     ensures least { result ≡ first_offence policy.now (has histories.now) roll.now }
     ensures within { IfSome result (λ pair. pair.0 < roll.now.shape.size) }
-    ensures labels { result ≡ None →
-        IsLabelled histories.now.classes roll.now roll.now.shape.size labels.new }
+    ensures collected { IsCollected histories.now.classes roll.now collected.new }
 {
     let early = early_receivers(roll);
-    if let Some(pair) = offence_below(policy, histories, roll, early) {
+    if let Some(pair) = search(policy, histories, roll, 0, early, collected) {
         return Some(pair);
     }
-    labels.take_labels(histories, roll);
-    first_offence(policy, histories, roll, early, labels)
+    collected.take_labels(histories, roll, early);
+    search(policy, histories, roll, early, roll.shape.size, collected)
 }
 
 /// The lowest rank whose post was barred.
@@ -266,14 +252,19 @@ fn told(roll: &Roll, rank: u32) -> Label
     label_of(roll, rank).unwrap_or(Label::Public)
 }
 
-/// Collects the labels of all ranks where it grants.
+/// The verdict. What was collected on the way is at hand afterwards.
 #[tactic(auto, unfolding(crate::specs::Verdicts::verdict))]
-fn judge(policy: &Policy, histories: &Histories, roll: &Roll, labels: &mut Inflow) -> Verdict
+pub fn judge(
+    policy: &Policy,
+    histories: &Histories,
+    roll: &Roll,
+    collected: &mut Collected,
+) -> Verdict
     requires fit { IsFit roll.now }
     requires classes { histories.now.classes ≡ policy.now.classes }
+    requires collected { IsCollected histories.now.classes roll.now collected.old }
     ensures verdict { result ≡ verdict policy.now (has histories.now) roll.now }
-    ensures labels { result ≡ Granted →
-        IsLabelled histories.now.classes roll.now roll.now.shape.size labels.new }
+    ensures collected { IsCollected histories.now.classes roll.now collected.new }
 {
     if let Some(rank) = first_barred(roll) {
         return Verdict::Denied {
@@ -282,7 +273,7 @@ fn judge(policy: &Policy, histories: &Histories, roll: &Roll, labels: &mut Inflo
             label: told(roll, rank),
         };
     }
-    match least_offence(policy, histories, roll, labels) {
+    match least_offence(policy, histories, roll, collected) {
         Some((to, from)) => Verdict::Denied {
             rule: Rule::Simple,
             process: roll.members.at(to),
@@ -298,16 +289,12 @@ fn judge(policy: &Policy, histories: &Histories, roll: &Roll, labels: &mut Inflo
 /// of a receiver and a contributor for which that is so the least is named, the lowest receiver
 /// first. Else it is granted.
 ///
-/// Where a post was barred, looks at no rank above the lowest such. Else looks at each rank for that,
-/// and then at the receivers up to the first that offends, for which it goes over the ranks once more.
-/// Where each gets something of one rank alone, or of one more than the receiver before it, as in a
-/// broadcast, a scatter or a scan, it looks at one rank for each. Between neighbours it looks at the
-/// neighbours of the first receivers, a quarter as many neighbours as there are ranks; then at the
-/// label of each rank, and behind that at the neighbours of those receivers alone
-/// that some label can harm: one that has a rival in the receiver's history or among the labels. In
-/// the other kinds it looks at the label of each rank first, and then, where some can harm a
-/// receiver, at each rank once more: once for all receivers where these get alike from the ranks
-/// that reach them, as in an allreduce or an allgather; else once for each such receiver.
+/// Looks at each rank for a barred post, up to the first. Then looks at each rank that gives
+/// something once, for all receivers together, and at the masks of each receiver; in a scatterv at
+/// the root for each receiver. In an alltoallv, and between neighbours, looks at what comes to some
+/// early receivers, one by one; then at the label of each rank; and then at what comes to those
+/// other receivers alone that some label can harm, by a rival in the receiver's history or among
+/// the labels. For the first receiver that offends looks at the ranks once more.
 pub fn decide(policy: &Policy, histories: &Histories, roll: &Roll) -> Verdict
     requires fit { IsFit roll.now }
     requires classes { histories.now.classes ≡ policy.now.classes }
@@ -315,24 +302,6 @@ pub fn decide(policy: &Policy, histories: &Histories, roll: &Roll) -> Verdict
     ensures meaning { IsVerdict policy.now (has histories.now) roll.now result }
     ensures apart { result ≡ Granted → MembersStayApart policy.now (has histories.now) roll.now }
 {
-    decide_by(policy, histories, roll, &mut Inflow::before(0))
-}
-
-/// The same. Where it grants, the labels of all ranks are at hand afterwards.
-pub fn decide_by(
-    policy: &Policy,
-    histories: &Histories,
-    roll: &Roll,
-    labels: &mut Inflow,
-) -> Verdict
-    requires fit { IsFit roll.now }
-    requires classes { histories.now.classes ≡ policy.now.classes }
-    ensures verdict { result ≡ verdict policy.now (has histories.now) roll.now }
-    ensures meaning { IsVerdict policy.now (has histories.now) roll.now result }
-    ensures apart { result ≡ Granted → MembersStayApart policy.now (has histories.now) roll.now }
-    ensures labels { result ≡ Granted →
-        IsLabelled histories.now.classes roll.now roll.now.shape.size labels.new }
-{
     keep_apart(histories);
-    judge(policy, histories, roll, labels)
+    judge(policy, histories, roll, &mut Collected::nothing())
 }

@@ -5,6 +5,7 @@
 #![tactic(auto)]
 
 mod charge;
+mod collected;
 mod grant;
 mod inflow;
 mod judge;

@@ -14,5 +14,5 @@ returns-in_err-sig-clause-statement c =
 pub returns-then-is_plain-clause-statement : goal.returns-then-is_plain-clause-statement
 returns-then-is_plain-clause-statement c =
     let plain : is_plain c.args.kind ≡ true = sym c.is_plain.ensures ∙ c.if-is_plain.true in
-    plain_read c.args.kind c.args.words.now c.next_plain.new.words c.in_ok-sig.sig plain
+    plain_read c.args.kind c.args.words.now c.next_signature.new.words c.in_ok-sig.sig plain
     c.in_ok-sig.ensures.statement

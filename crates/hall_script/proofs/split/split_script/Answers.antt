@@ -33,7 +33,7 @@ loop-line-preserved c =
     record {
       bound = omega (arith, ap length c.in-Some.ensures, c.loop-line.invariant.bound);
       so_far = goes_on wall (members_script wall c.args.script.now) c.loop-line.rows.items
-          c.put_line.new.rows.items c.loop-line.number c.in-Some.line.now c.loop-line.lines
+          c.push_act_of.new.rows.items c.loop-line.number c.in-Some.line.now c.loop-line.lines
           c.next_long.new.self c.in-Some.ensures c.loop-line.invariant.so_far c.in-Ok.ensures.put;
       known = c.in-Ok.ensures.known c.loop-line.invariant.known;
     }

@@ -1,6 +1,6 @@
 use Rattle.std.proofs.Common.{◌≡◌}
 use Rattle.wall_rules.specs.Histories.{has}
-use Rattle.wall_verdict.specs.Inflows.{Serves}
+use Rattle.wall_verdict.specs.Inflows.{IsCollected}
 use Rattle.wall_verdict.proofs.GrantLemmas.{under}
 use Rattle.wall_verdict.proofs.grant.grant.Given as goal
 
@@ -9,5 +9,5 @@ invariant-loop-to l = record {
   pairs : has l.histories ≡ under l.policy (has l.fn.histories) l.roll l.to;
   processes : l.histories.processes ≡ l.fn.histories.processes;
   classes : l.histories.classes ≡ l.fn.histories.classes;
-  serves : Serves l.histories.classes l.roll l.to l.inflow;
+  collected : IsCollected l.histories.classes l.roll l.collected;
 }

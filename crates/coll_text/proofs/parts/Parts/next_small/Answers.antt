@@ -2,6 +2,6 @@ use Rattle.std.proofs.Common.{take}
 use Rattle.coll_text.proofs.FrontLemmas.{digits_solid}
 use Rattle.coll_text.proofs.parts.Parts.next_small.Goals as goal
 
-pub cut_at-requires-clause-solid : goal.cut_at-requires-clause-solid
-cut_at-requires-clause-solid c =
-    digits_solid (take c.in_ok-number.len c.self.inside.rest.now) c.in_ok-number.ensures.digits
+pub take_front-requires-clause-solid : goal.take_front-requires-clause-solid
+take_front-requires-clause-solid c =
+    digits_solid (take c.in_ok-read.read.1 c.self.inside.rest.now) c.in_ok-read.ensures.digits

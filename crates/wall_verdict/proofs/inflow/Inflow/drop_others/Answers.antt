@@ -9,5 +9,5 @@ returns-clause-inflow c =
     let size = c.args.roll.now.shape.size in
     inflow_starts c.args._histories.now.classes c.args.roll.now c.args.to c.before-2.result
     (omega (arith, start_within sig size c.args.to, end_within sig size c.args.to c.requires.to))
-    (c.before-2.ensures.ranks ∙ c.start_of.ensures) c.before-2.ensures.number
+    (c.before-2.ensures.ranks ∙ c.start_of-start.ensures) c.before-2.ensures.number
     c.before-2.ensures.different c.before-2.ensures.datasets

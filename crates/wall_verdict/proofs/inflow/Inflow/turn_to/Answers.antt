@@ -1,4 +1,4 @@
-use Rattle.std.proofs.Common.{sym, ◌∙◌, ◌+◌}
+use Rattle.std.proofs.Common.{sym, ◌∙◌}
 use Rattle.wall_verdict.proofs.InflowLemmas.{inflow_whole, inflow_serves, slots_whole, slots_serve}
 use Rattle.wall_verdict.proofs.inflow.Inflow.turn_to.Goals as goal
 
@@ -11,8 +11,7 @@ returns-then-is_neighbourly-clause-whole c =
 pub returns-then-is_neighbourly-clause-serves : goal.returns-then-is_neighbourly-clause-serves
 returns-then-is_neighbourly-clause-serves c =
     let near = sym c.is_neighbourly.ensures ∙ c.if-is_neighbourly.true in
-    slots_serve c.args.histories.now.classes c.args.roll.now (c.args.to + 1) c.take_slots.new.self
-    near
+    slots_serve c.args.histories.now.classes c.args.roll.now c.take_slots.new.self near
 
 pub returns : goal.returns
 returns c =

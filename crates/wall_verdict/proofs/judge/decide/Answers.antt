@@ -2,7 +2,7 @@ use Rattle.std.proofs.Common.{sym, subst, ◌∙◌}
 use Rattle.wall_rules.specs.Histories.{has, NobodyHoldsRivals}
 use Rattle.wall_verdict.specs.Meanings.{IsVerdict}
 use Rattle.wall_verdict.proofs.LawLemmas.{verdicts_name_the_least, granted_apart}
-use Rattle.wall_verdict.proofs.judge.decide_by.Goals as goal
+use Rattle.wall_verdict.proofs.judge.decide.Goals as goal
 
 pub returns-clause-meaning : goal.returns-clause-meaning
 returns-clause-meaning c = subst
@@ -15,3 +15,7 @@ returns-clause-apart c = λ granted. granted_apart c.args.policy.now (has c.args
     c.args.roll.now c.requires.fit (subst
     (λ classes. NobodyHoldsRivals classes (has c.args.histories.now)) c.requires.classes
     c.keep_apart.ensures) (sym c.judge.ensures.verdict ∙ granted)
+
+pub judge-requires-clause-collected : goal.judge-requires-clause-collected
+judge-requires-clause-collected c =
+    c.nothing.ensures c.args.histories.now.classes c.args.roll.now

@@ -1,5 +1,0 @@
-use Rattle.wall_verdict.specs.Inflows.{IsLabelled}
-use Rattle.wall_verdict.proofs.inflow.Inflow.take_labels.Given as goal
-
-abbrev pub invariant-loop-rank : goal.invariant-loop-rank
-invariant-loop-rank l = IsLabelled l.histories.classes l.roll l.rank l.self
