@@ -13,6 +13,9 @@ it is wanted that
 - its book audits as sound, with as many entries as it has lines;
 - each reply is the one that is due: the calls, put into the order of the book, each take just before
   its rank's next counted post, are replayed, and give the same replies.
+
+The scripts follow from the seed, which is told of a run that is wrong. The last line is
+`N passed, M failed`.
 """
 import argparse
 import os
@@ -258,7 +261,7 @@ def main():
             if found:
                 wrong += 1
                 print(f"seed {seed}: {found}", flush=True)
-    print(f"{a.runs} runs, {wrong} wrong")
+    print(f"{a.runs - wrong} passed, {wrong} failed")
     return 1 if wrong else 0
 
 
