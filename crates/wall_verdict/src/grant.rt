@@ -67,7 +67,6 @@ pub fn settle(policy: &Policy, histories: &mut Histories, roll: &Roll) -> Verdic
     ensures classes { histories.new.classes ≡ histories.old.classes }
     ensures apart { NobodyHoldsRivals policy.now.classes (has histories.new) }
 {
-    keep_apart(histories);
     let mut collected = Collected::nothing();
     let verdict = judge(policy, histories, roll, &mut collected);
     match verdict {

@@ -264,8 +264,10 @@ pub fn judge(
     requires classes { histories.now.classes ≡ policy.now.classes }
     requires collected { IsCollected histories.now.classes roll.now collected.old }
     ensures verdict { result ≡ verdict policy.now (has histories.now) roll.now }
+    ensures apart { result ≡ Granted → MembersStayApart policy.now (has histories.now) roll.now }
     ensures collected { IsCollected histories.now.classes roll.now collected.new }
 {
+    keep_apart(histories);
     if let Some(rank) = first_barred(roll) {
         return Verdict::Denied {
             rule: Rule::Star,
@@ -302,6 +304,5 @@ pub fn decide(policy: &Policy, histories: &Histories, roll: &Roll) -> Verdict
     ensures meaning { IsVerdict policy.now (has histories.now) roll.now result }
     ensures apart { result ≡ Granted → MembersStayApart policy.now (has histories.now) roll.now }
 {
-    keep_apart(histories);
     judge(policy, histories, roll, &mut Collected::nothing())
 }
