@@ -1,5 +1,5 @@
 -- Communicators as they are known.
-use Rattle.std.proofs.Common.{◌≡◌, ◌<◌, ℕ, length, sym, subst, Option, Some, None}
+use Rattle.std.proofs.Common.{◌<◌, ℕ, length, sym, subst, Option, Some, None}
 use Rattle.std.specs.Prelude.{IfSome}
 use Rattle.coll_pending.specs.Instances.{Communicator}
 use Rattle.coll_pending.specs.Waiting.{IsKnownAs}
