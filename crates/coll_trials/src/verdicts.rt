@@ -639,8 +639,8 @@ fn settle_sums(rt: &impl Abort, alloc: Global, policy: &Policy, kind: Kind, time
     drop(histories);
 }
 
-// To collect for each receiver anew what comes to it takes some fifty times as long: minutes for all
-// kinds together.
+// To collect for each receiver anew what comes to it takes some fifty times as long: minutes for
+// all kinds together.
 #[test]
 fn a_verdict_on_a_sum_of_rivals_looks_at_each_rank_once(rt: HostRuntime) {
     let alloc = rt.alloc();
