@@ -1,0 +1,284 @@
+-- Jobs that are handed out and served.
+use Rattle.std.proofs.Common.{◌≡◌, ◌∙◌, ℕ, zero, suc, ◌<◌, ◌≤◌, get_or, true, false, List, [], ◌∷◌, ◌++◌, length, Option, Some}
+use Rattle.std.proofs.Common.{Result, Ok, Err, IfOk, refl, sym, ap, subst, subst₂, append-nil, append_assoc, arith}
+use Rattle.std.specs.Global.{Vec}
+use Rattle.std.specs.List.{All}
+use Rattle.std.proofs.lemmas.List.{map-append, get_or-map, length-map}
+use Rattle.std.proofs.lemmas.List.FromFn.{get_or-map-range_with_len}
+use Rattle.std.specs.declared.thread.PromisedHandle.{PromisedHandle}
+use Rattle.live_session.specs.declared.peer.Job.{Job}
+use Rattle.live_session.specs.declared.peer.Played.{Played}
+use Rattle.live_session.specs.declared.peer.Serving.{Serving}
+use Rattle.live_session.specs.Joining.{HasServed, AllServed, handed, passes_of, peers_of}
+use Rattle.live_session.specs.Joining.{passes_in, ends_of, ends_in, IsFresh, ArePrepared, HaveEnded}
+use Rattle.live_session.specs.Sessions.{Serves, ServesIfBegun}
+use Rattle.live_session.specs.declared.ending.SessionEnd.{SessionEnd}
+use Rattle.live_session.specs.Served.{SessionOf, ServedAll}
+use Rattle.hall_script.specs.Devices.{used}
+use Rattle.live_session.specs.declared.peer.Peer.{Peer}
+use Rattle.live_session.specs.declared.peer.Session.{Session}
+use Rattle.live_session.specs.declared.run.Ended.{Ended}
+use Rattle.wall_policy.specs.Policy.{ChineseWall}
+use Rattle.run_model.specs.Comms.{processes}
+use Rattle.run_model.specs.Replies.{Legal}
+use Rattle.hall_core.specs.Halls.{HallValue}
+use Rattle.hall_turn.specs.Runs.{calls_of}
+use Rattle.hall_turn.specs.Known.{Known, Doorway}
+use Rattle.hall_turn.specs.Answers.{new_pass, new_passes}
+use Rattle.hall_turn.specs.Ending.{HasMade, Closed}
+use Rattle.hall_turn.proofs.HallTurnLemmas.{passes_length}
+
+module _ {S O : Type 0} (fails : S → ℕ) (left : S → Option (List ℕ)) (failures : O → ℕ)
+    (contents : O → Option (List ℕ)) where
+  abbrev Served : Job S O → Played S O → Type 0
+  Served job played = HasServed fails left failures contents job played
+
+  abbrev Each : List (Job S O) → List (Played S O) → Type 0
+  Each jobs all = AllServed fails left failures contents jobs all
+
+  push_served : (jobs : List (Job S O)) (all : List (Played S O)) (job : Job S O)
+      (played : Played S O) → Each jobs all → Served job played →
+      Each (jobs ++ job ∷ []) (all ++ played ∷ [])
+  push_served [] [] job played h new = (new, tt)
+  push_served (j ∷ jobs) (x ∷ all) job played h new =
+      (h.0, push_served jobs all job played h.1 new)
+  push_served [] (x ∷ all) job played h new = absurd h
+  push_served (j ∷ jobs) [] job played h new = absurd h
+
+  pub none_served : (all : List (Played S O)) → all ≡ [] → Each [] all
+  none_served [] e = tt
+  none_served (x ∷ all) e = absurd cc
+
+  pub more_served : (handles : List (PromisedHandle (Played S O) (Serving S O)))
+      (handle : PromisedHandle (Played S O) (Serving S O)) (before after : List (Played S O))
+      (played : Played S O) → Each (handed handles) before →
+      Served handle.promise.0.value played → after ≡ before ++ played ∷ [] →
+      Each (handed (handles ++ handle ∷ [])) after
+  more_served handles handle before after played h new pushed =
+      subst₂ (λ (l : List (Job S O)) (m : List (Played S O)). Each l m)
+      (sym (map-append (λ (x : PromisedHandle (Played S O) (Serving S O)). x.promise.0.value)
+      handles (handle ∷ [])))
+      (sym pushed)
+      (push_served (handed handles) before handle.promise.0.value played h new)
+
+  none_left : (left_over : List (Job S O)) → length left_over ≡ 0 → left_over ≡ []
+  none_left [] e = refl
+  none_left (j ∷ left_over) e = absurd (omega arith)
+
+  -- all jobs were handed out
+  pub all_handed : {E : Type 0} (r : Result (Vec (Played S O)) E)
+      (jobs done left_over : List (Job S O))
+      (handles : List (PromisedHandle (Played S O) (Serving S O))) → handed handles ≡ done →
+      done ++ left_over ≡ jobs → length left_over ≡ 0 →
+      IfOk r (λ all. Each (handed handles) all.items) → IfOk r (λ all. Each jobs all.items)
+  all_handed (Ok all) jobs done left_over handles are whole none h =
+      subst (λ (l : List (Job S O)). Each l all.items)
+      (are ∙ sym (append-nil done) ∙ ap (λ (l : List (Job S O)). done ++ l)
+      (sym (none_left left_over none)) ∙ whole) h
+  all_handed (Err e) jobs done left_over handles are whole none h = tt
+
+-- nothing comes of it where it cannot be so
+pub refused : {A E : Type 0} (r : Result A E) (P : A → Type 0) → IfOk r (λ _. false ≡ true) →
+    IfOk r P
+refused (Ok x) P h = absurd cc
+refused (Err e) P h = tt
+
+same_append : {A : Type 0} (xs ys : List A) (x y : A) → xs ≡ ys → x ≡ y →
+    xs ++ x ∷ [] ≡ ys ++ y ∷ []
+same_append xs ys x y e f = cc
+
+same_pair : {A B : Type 0} {a c : A} {b d : B} → a ≡ c → b ≡ d → (a, b) ≡ (c, d)
+same_pair e f = cc
+
+module _ {S O : Type 0} where
+  pub shared_passes : (jobs : List (Job S O)) (job : Job S O) (rest : List Known) →
+      passes_of (jobs ++ job ∷ []) ++ rest ≡ passes_of jobs ++ job.pass ∷ rest
+  shared_passes jobs job rest =
+      ap (λ (l : List Known). l ++ rest) (map-append (λ (j : Job S O). j.pass) jobs (job ∷ []))
+      ∙ append_assoc (passes_of jobs) (job.pass ∷ []) rest
+
+  pub shared_peers : (jobs : List (Job S O)) (job : Job S O) →
+      peers_of (jobs ++ job ∷ []) ≡ peers_of jobs ++ job.peer ∷ []
+  shared_peers jobs job = map-append (λ (j : Job S O). j.peer) jobs (job ∷ [])
+
+  pub one_pass_more : (done : List (Played S O)) (played : Played S O) →
+      passes_in done ++ played.pass ∷ [] ≡ passes_in (done ++ played ∷ [])
+  one_pass_more done played = sym (map-append (λ (p : Played S O). p.pass) done (played ∷ []))
+
+  pub one_end_more : (sessions : List (Session S O)) (done : List (Played S O))
+      (session : Session S O) (played : Played S O) → ends_of sessions ≡ ends_in done →
+      session.peer ≡ played.peer → played.ended ≡ Some session.end →
+      ends_of (sessions ++ session ∷ []) ≡ ends_in (done ++ played ∷ [])
+  one_end_more sessions done session played are peer ended =
+      map-append (λ (s : Session S O). (s.peer, Some s.end)) sessions (session ∷ [])
+      ∙ same_append (ends_of sessions) (ends_in done) (session.peer, Some session.end)
+      (played.peer, played.ended) are (same_pair peer (sym ended))
+      ∙ sym (map-append (λ (p : Played S O). (p.peer, p.ended)) done (played ∷ []))
+
+  -- the jobs of a new door
+  jobs_long : (door : Doorway) (n : ℕ) (jobs : List (Job S O)) →
+      passes_of jobs ≡ new_passes door n → length jobs ≡ n
+  jobs_long door n jobs are =
+      sym (length-map jobs (λ (j : Job S O). j.pass)) ∙ passes_length door n (passes_of jobs) are
+
+  pass_at : (door : Doorway) (n : ℕ) (jobs : List (Job S O)) (i : ℕ) (d : Job S O) →
+      passes_of jobs ≡ new_passes door n → i < length jobs →
+      (get_or jobs i d).pass ≡ new_pass door i
+  pass_at door n jobs i d are lt =
+      let long = jobs_long door n jobs are in
+      sym (get_or-map (λ (j : Job S O). j.pass) jobs i d d.pass lt)
+      ∙ ap (λ (l : List Known). get_or l i d.pass) are
+      ∙ get_or-map-range_with_len (new_pass door) 0 n i i d.pass (omega arith) (omega arith)
+
+  pub all_fresh : (wall : ChineseWall) (peers : List (Peer S O)) (door : Doorway)
+      (jobs : List (Job S O)) → ArePrepared wall peers door jobs → All (IsFresh door) jobs
+  all_fresh wall peers door jobs p = λ k d lt.
+      let pass = pass_at door (processes wall) jobs k d p.passes lt in record {
+        door_is = ap (λ (x : Known). x.door) pass;
+        unseen = ap (λ (x : Known). x.seen) pass;
+      }
+
+module _ {S O : Type 0} (fails : S → ℕ) (left : S → Option (List ℕ)) (failures : O → ℕ)
+    (contents : O → Option (List ℕ)) where
+  -- the job at a place, with what became of it
+  record ServedAt (jobs : List (Job S O)) (all : List (Played S O)) (i : ℕ) : Type 0 where
+    pub job : Job S O
+    pub played : Played S O
+    pub job_is : (d : Job S O) → get_or jobs i d ≡ job
+    pub played_is : (d : Played S O) → get_or all i d ≡ played
+    pub has : HasServed fails left failures contents job played
+
+  served_at : (jobs : List (Job S O)) (all : List (Played S O)) (i : ℕ) → i < length jobs →
+      AllServed fails left failures contents jobs all → ServedAt jobs all i
+  served_at [] [] i lt h = absurd (omega arith)
+  served_at (j ∷ jobs) (x ∷ all) zero lt h =
+      record { job = j; played = x; job_is = (λ d. refl); played_is = (λ d. refl); has = h.0 }
+  served_at (j ∷ jobs) (x ∷ all) (suc i) lt h =
+      let at = served_at jobs all i (omega arith) h.1 in
+      record {
+        job = at.job;
+        played = at.played;
+        job_is = at.job_is;
+        played_is = at.played_is;
+        has = at.has;
+      }
+  served_at [] (x ∷ all) i lt h = absurd h
+  served_at (j ∷ jobs) [] i lt h = absurd h
+
+  pub served_long : (jobs : List (Job S O)) (all : List (Played S O)) →
+      AllServed fails left failures contents jobs all → length all ≡ length jobs
+  served_long [] [] h = refl
+  served_long (j ∷ jobs) (x ∷ all) h = ap suc (served_long jobs all h.1)
+  served_long [] (x ∷ all) h = absurd h
+  served_long (j ∷ jobs) [] h = absurd h
+
+  module _ (wall : ChineseWall) (peers : List (Peer S O)) (door : Doorway)
+      (jobs : List (Job S O)) (ended : Ended S O) (p : ArePrepared wall peers door jobs)
+      (h : HaveEnded fails left failures contents jobs ended) where
+    many_jobs : length jobs ≡ processes wall
+    many_jobs = jobs_long door (processes wall) jobs p.passes
+
+    many_served : length h.all ≡ processes wall
+    many_served = served_long jobs h.all h.served ∙ many_jobs
+
+    many_sessions : length ended.sessions.items ≡ processes wall
+    many_sessions =
+        sym (length-map ended.sessions.items (λ (y : Session S O). (y.peer, Some y.end)))
+        ∙ ap length h.sessions ∙ length-map h.all (λ (y : Played S O). (y.peer, y.ended))
+        ∙ many_served
+
+    pub all_come : processes door.policy ≤ length ended.passes.items
+    all_come =
+        let back = many_served in
+        let many = ap length h.passes ∙ length-map h.all (λ (x : Played S O). x.pass) in
+        let same = ap (λ (w : ChineseWall). processes w) p.policy in omega arith
+
+    pass_in : (i : ℕ) (d : Known) (x : Played S O) → i < length h.all →
+        get_or ended.passes.items i d ≡ (get_or h.all i x).pass
+    pass_in i d x lt = ap (λ (l : List Known). get_or l i d) h.passes
+        ∙ get_or-map (λ (y : Played S O). y.pass) h.all i x d lt
+
+    pub come_back : All (λ pass. pass.door ≡ door) ended.passes.items
+    come_back = λ k d lt.
+        let back = many_served in
+        let jobs_are = many_jobs in
+        let many = ap length h.passes ∙ length-map h.all (λ (x : Played S O). x.pass) in
+        let in_all : k < length h.all = omega arith in
+        let low : k < length jobs = omega arith in
+        let at = served_at jobs h.all k low h.served in
+        ap (λ (x : Known). x.door)
+        (pass_in k d at.played in_all ∙ ap (λ (x : Played S O). x.pass) (at.played_is at.played))
+        ∙ at.has.same.0 ∙ sym (ap (λ (x : Job S O). x.pass.door) (at.job_is at.job))
+        ∙ ap (λ (x : Known). x.door)
+        (pass_at door (processes wall) jobs k at.job p.passes low)
+
+    session_of : (hall : HallValue) (closed : Closed door.policy hall ended.passes.items) (i : ℕ)
+        (d : Peer S O) (e : Session S O) → i < processes wall →
+        SessionOf fails left failures contents wall closed.run door i (get_or peers i d)
+        (get_or ended.sessions.items i e)
+    session_of hall closed i d e lt =
+        let back = many_served in
+        let jobs_are = many_jobs in
+        let run = closed.run in
+        let low : i < length jobs = omega arith in
+        let in_all : i < length h.all = omega arith in
+        let at = served_at jobs h.all i low h.served in
+        let j = at.job in
+        let x = at.played in
+        let k = x.pass in
+        let many = ap length h.passes ∙ length-map h.all (λ (y : Played S O). y.pass) in
+        let in_passes : i < length ended.passes.items = omega arith in
+        let pass_is : get_or ended.passes.items i k ≡ k =
+        pass_in i k x in_all ∙ ap (λ (y : Played S O). y.pass) (at.played_is x) in
+        let own : HasMade run k = subst (HasMade run) pass_is (closed.each i k in_passes) in
+        let pass : j.pass ≡ new_pass door i =
+        ap (λ (y : Job S O). y.pass) (sym (at.job_is j))
+        ∙ pass_at door (processes wall) jobs i j p.passes low in
+        let number : k.process ≡ i = at.has.same.1 ∙ ap (λ (y : Known). y.process) pass in
+        let peer_is : get_or peers i d ≡ j.peer =
+        ap (λ (l : List (Peer S O)). get_or l i d) (sym p.peers_are)
+        ∙ get_or-map (λ (y : Job S O). y.peer) jobs i j d low
+        ∙ ap (λ (y : Job S O). y.peer) (at.job_is j) in
+        let session = get_or ended.sessions.items i e in
+        let none = (x.peer, x.ended) in
+        let in_sessions = many_sessions in
+        let told : (session.peer, Some session.end) ≡ (x.peer, x.ended) =
+        sym (get_or-map (λ (y : Session S O). (y.peer, Some y.end)) ended.sessions.items i e none
+        (omega arith))
+        ∙ ap (λ (l : List (Peer S O × Option SessionEnd)). get_or l i none) h.sessions
+        ∙ get_or-map (λ (y : Played S O). (y.peer, y.ended)) h.all i x none in_all
+        ∙ ap (λ (y : Played S O). (y.peer, y.ended)) (at.played_is x) in
+        let wall_is : j.pass.door.policy ≡ wall =
+        ap (λ (y : Known). y.door.policy) pass ∙ p.policy in
+        record {
+          pass = k;
+          begins = own.begins;
+          own = subst (λ (q : ℕ). calls_of q run ≡ calls_of q k.seen) number own.own;
+          served =
+              subst (λ (y : Peer S O). Serves wall (used fails left y.source session.peer.source)
+              (used failures contents y.sink session.peer.sink) (new_pass door i) k session.end)
+              (sym peer_is)
+              (subst (λ (y : Peer S O × Option SessionEnd). ServesIfBegun wall
+              (used fails left j.peer.source y.0.source) (used failures contents j.peer.sink y.0.sink)
+              (new_pass door i) k y.1) (sym told)
+              (subst (λ (b : Known). ServesIfBegun wall (used fails left j.peer.source x.peer.source)
+              (used failures contents j.peer.sink x.peer.sink) b k x.ended) pass
+              (subst (λ (w : ChineseWall). ServesIfBegun w
+              (used fails left j.peer.source x.peer.source)
+              (used failures contents j.peer.sink x.peer.sink) j.pass k x.ended) wall_is at.has.so)));
+        }
+
+    pub served_all : (hall : HallValue) → Closed door.policy hall ended.passes.items →
+        ServedAll fails left failures contents wall peers ended.sessions.items hall
+    served_all hall closed = record {
+      door = door;
+      run = closed.run;
+      door_is = p.policy;
+      policy = closed.policy ∙ p.policy;
+      legal = subst (λ (w : ChineseWall). Legal w closed.run) p.policy closed.legal;
+      stands = closed.stands;
+      count = many_sessions;
+      each = λ i d e lt. session_of hall closed i d e lt;
+      others = λ i le. closed.others i
+          (subst (λ (w : ChineseWall). processes w ≤ i) (sym p.policy) le);
+    }

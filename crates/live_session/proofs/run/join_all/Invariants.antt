@@ -1,0 +1,13 @@
+use Rattle.std.proofs.Common.{◌≡◌, ◌++◌, ◌≤◌, length, vec_len, vec_capacity}
+use Rattle.std.specs.Vec.Iter.{into_iter_items}
+use Rattle.live_session.specs.Joining.{AllServed, handed}
+use Rattle.live_session.proofs.run.join_all.Given as goal
+
+abbrev pub invariant-loop-handle : goal.invariant-loop-handle
+invariant-loop-handle g l = record {
+  whole : l.yielded ++ into_iter_items l.handle-iterator ≡ l.fn.handles.items;
+  served : AllServed g.S.Source.failures g.S.Source.remaining g.O.Sink.failures g.O.Sink.contents
+      (handed l.yielded) l.ended.items;
+  count : vec_len l.ended ≡ length l.yielded;
+  fit : vec_len l.fn.handles ≤ vec_capacity l.ended;
+}

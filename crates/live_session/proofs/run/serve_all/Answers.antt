@@ -1,0 +1,33 @@
+use Rattle.std.proofs.Common.{sym, subst}
+use Rattle.live_session.specs.Served.{ServedAll}
+use Rattle.live_session.proofs.ServedLemmas.{all_fresh, all_come, come_back, served_all}
+use Rattle.live_session.proofs.run.serve_all.Goals as goal
+
+pub run_jobs-requires-clause-fresh : goal.run_jobs-requires-clause-fresh
+run_jobs-requires-clause-fresh g c κs within =
+    let r = c.in-Ok.ready in
+    all_fresh c.args.policy.now c.args.peers.items r.door r.jobs.items c.in-Ok.ensures.prepared
+
+pub close_up-requires-clause-of : goal.close_up-requires-clause-of
+close_up-requires-clause-of g c =
+    let r = c.in-Ok.ready in
+    come_back g.S.Source.failures g.S.Source.remaining g.O.Sink.failures g.O.Sink.contents
+    c.args.policy.now c.args.peers.items r.door r.jobs.items c.in-Some.ended
+    c.in-Ok.ensures.prepared c.in-Some.ensures
+
+pub close_up-requires-clause-all : goal.close_up-requires-clause-all
+close_up-requires-clause-all g c =
+    let r = c.in-Ok.ready in
+    all_come g.S.Source.failures g.S.Source.remaining g.O.Sink.failures g.O.Sink.contents
+    c.args.policy.now c.args.peers.items r.door r.jobs.items c.in-Some.ended
+    c.in-Ok.ensures.prepared c.in-Some.ensures
+
+pub returns-in-Some-clause-served : goal.returns-in-Some-clause-served
+returns-in-Some-clause-served g c =
+    let r = c.in-Ok.ready in
+    subst (λ v. ServedAll g.S.Source.failures g.S.Source.remaining g.O.Sink.failures
+    g.O.Sink.contents c.args.policy.now c.args.peers.items v.items c.close_up.result.hall)
+    (sym c.close_up.ensures.sessions)
+    (served_all g.S.Source.failures g.S.Source.remaining g.O.Sink.failures g.O.Sink.contents
+    c.args.policy.now c.args.peers.items r.door r.jobs.items c.in-Some.ended
+    c.in-Ok.ensures.prepared c.in-Some.ensures c.close_up.result.hall c.close_up.ensures.hall)

@@ -1,0 +1,47 @@
+use Rattle.std.proofs.Common.{◌≡◌, ◌∙◌, take, refl, ap, sym, subst}
+use Rattle.wall_policy.specs.Policy.{ChineseWall}
+use Rattle.run_model.specs.Replies.{Legal}
+use Rattle.hall_turn.specs.Known.{Doorway}
+use Rattle.live_session.proofs.SessionLemmas.{going_none, going_on, served_till_stop}
+use Rattle.live_session.proofs.session.hold.Goals as goal
+
+pub loop-init : goal.loop-init
+loop-init g c =
+    let wall = c.args.policy.now in
+    let pass = c.args.pass.now in
+    let is : wall ≡ pass.door.policy =
+    c.requires.policy ∙ ap (λ (d : Doorway). d.policy) (sym c.requires.door) in
+    record {
+      none = c.new-text.ensures.items;
+      same = (refl, refl);
+      legal = c.requires.legal;
+      going = going_none g.S.Source.failures g.S.Source.remaining g.O.Sink.failures
+          g.O.Sink.contents wall pass c.new-line.result c.args.source.now c.args.sink.now is
+          c.requires.legal c.new-line.ensures;
+    }
+
+pub loop-preserved : goal.loop-preserved
+loop-preserved g c =
+    let i = c.loop.invariant in
+    let e = c.in-Ok-take_in.ensures in
+    let t = e.takes i.going.line i.going.holds in
+    record {
+      none = e.none;
+      same = (e.same.0 ∙ i.same.0, e.same.1 ∙ i.same.1);
+      legal = e.legal;
+      going = going_on g.S.Source.failures g.S.Source.remaining g.O.Sink.failures g.O.Sink.contents
+          c.args.policy.now c.args.pass.now c.loop.pass c.take_in.new.pass c.loop.line
+          c.take_in.new.line c.args.source.now c.loop.source c.read.new.self c.args.sink.now
+          c.loop.sink c.take_in.new.sink (take c.in-Ok.n c.read.new.buffer) i.going
+          c.in-Ok.ensures.went c.in-Ok.ensures.bytes.0 t.0 t.1 t.2;
+    }
+
+pub returns-in-Err-take_in-clause-serves : goal.returns-in-Err-take_in-clause-serves
+returns-in-Err-take_in-clause-serves g c =
+    let i = c.loop.invariant in
+    served_till_stop g.S.Source.failures g.S.Source.remaining g.O.Sink.failures g.O.Sink.contents
+    c.args.policy.now c.args.pass.now c.loop.pass c.take_in.new.pass c.loop.line c.args.source.now
+    c.loop.source c.read.new.self c.args.sink.now c.loop.sink c.take_in.new.sink
+    (take c.in-Ok.n c.read.new.buffer) c.in-Err-take_in.end i.going c.in-Ok.ensures.went
+    c.in-Ok.ensures.bytes.0
+    (c.in-Err-take_in.ensures.takes i.going.line i.going.holds)

@@ -1,0 +1,15 @@
+use Rattle.std.proofs.Common.{◌≡◌, []}
+use Rattle.run_model.specs.Replies.{Legal}
+use Rattle.hall_turn.specs.Answers.{IsSamePass}
+use Rattle.hall_script.specs.Devices.{used}
+use Rattle.live_session.proofs.SessionLemmas.{Going}
+use Rattle.live_session.proofs.session.hold.Given as goal
+
+abbrev pub invariant-loop : goal.invariant-loop
+invariant-loop g l = record {
+  none : l.text.items ≡ [];
+  same : IsSamePass l.fn.pass l.pass;
+  legal : Legal l.policy l.pass.seen;
+  going : Going l.policy (used g.S.Source.failures g.S.Source.remaining l.fn.source l.source)
+      (used g.O.Sink.failures g.O.Sink.contents l.fn.sink l.sink) l.fn.pass l.line l.pass;
+}

@@ -1,0 +1,20 @@
+use Rattle.std.proofs.Common.{◌≡◌, ℕ, List, [], ◌∷◌, length}
+use Rattle.run_model.specs.Replies.{Legal}
+use Rattle.hall_turn.specs.Answers.{IsSamePass}
+use Rattle.hall_script.specs.Devices.{used}
+use Rattle.coll_text.specs.Reading.{parts}
+use Rattle.live_session.specs.Steps.{Holds, SoFar, behind}
+use Rattle.live_session.proofs.session.take_in.Given as goal
+
+abbrev pub invariant-loop-part : goal.invariant-loop-part
+invariant-loop-part g l = record {
+  none : l.text.items ≡ [];
+  same : IsSamePass l.fn.pass l.pass;
+  legal : Legal l.policy l.pass.seen;
+  so_far : (start : List ℕ) → Holds l.fn.line start → (line : List ℕ) × Holds l.line line
+      × SoFar l.policy l.fn.pass (behind start (parts 10 l.bytes)) (line ∷ l.parts)
+      (used g.O.Sink.failures g.O.Sink.contents l.fn.sink l.sink) l.pass;
+}
+
+abbrev pub decreases-loop-part : goal.decreases-loop-part
+decreases-loop-part g l = length l.parts

@@ -1,0 +1,5 @@
+pub mod Lines
+pub mod Sessions
+pub mod Served
+pub mod Steps
+pub mod Joining

@@ -1,0 +1,47 @@
+-- What a finished line of a live session says, and the lines that answer where no call was made.
+-- (Own format.)
+use Rattle.std.specs.Prelude.{ℕ, nat_lt, List, length, codes, Result, Ok, Err, if◌then◌else◌}
+use Rattle.coll_text.specs.declared.fault.LineFault.{LineFault}
+use Rattle.coll_text.specs.declared.fault.LineFault.TheVariants as faults
+use Rattle.coll_text.specs.Numbers.{Word}
+use Rattle.hall_script.specs.declared.ask.Ask.{Ask}
+use Rattle.hall_script.specs.Asks.{ask_said}
+use Rattle.hall_script.specs.Scripts.{trimmed}
+use Rattle.live_session.specs.declared.line.BadLine.{BadLine}
+use Rattle.live_session.specs.declared.line.BadLine.TheVariants.{TooLong, NoAsk}
+
+-- the most bytes of a line, without its LF
+abbrev pub line_limit : ℕ
+line_limit = 2097152
+
+abbrev pub ask_or_bad : Result Ask LineFault → Result Ask BadLine
+ask_or_bad (Ok ask) = Ok ask
+ask_or_bad (Err fault) = Err (NoAsk fault)
+
+-- What a line asks for, without one CR at its end; or why it asks for nothing. A line above the
+-- limit is not looked into.
+unfoldable pub said : (datasets : List Word) → Word → Result Ask BadLine
+said datasets line = if nat_lt line_limit (length line) then Err TooLong
+    else ask_or_bad (ask_said datasets (trimmed line))
+
+-- the answer to a line that asks for nothing
+abbrev pub bad_line : BadLine → List ℕ
+bad_line TooLong = codes "bad TooLong\n"
+bad_line (NoAsk faults.BadVerb) = codes "bad BadVerb\n"
+bad_line (NoAsk faults.BadShape) = codes "bad BadShape\n"
+bad_line (NoAsk faults.BadField) = codes "bad BadField\n"
+bad_line (NoAsk faults.BadKind) = codes "bad BadKind\n"
+bad_line (NoAsk faults.BadType) = codes "bad BadType\n"
+bad_line (NoAsk faults.UnknownOp) = codes "bad UnknownOp\n"
+bad_line (NoAsk faults.BadLabel) = codes "bad BadLabel\n"
+bad_line (NoAsk faults.BadNumber) = codes "bad BadNumber\n"
+bad_line (NoAsk faults.OddPair) = codes "bad OddPair\n"
+bad_line (NoAsk faults.NoMemory) = codes "bad NoMemory\n"
+
+-- the answer to `leave`
+abbrev pub left_line : List ℕ
+left_line = codes "left\n"
+
+-- the answer to a call that the door is too late for
+abbrev pub exhausted_line : List ℕ
+exhausted_line = codes "exhausted\n"

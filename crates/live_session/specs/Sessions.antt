@@ -1,0 +1,173 @@
+-- What a session of a process comes to. (Own rules.) Lines, what they came to, and runs have the
+-- newest first.
+use Rattle.std.specs.Prelude.{◌≡◌, ◌≢◌, ◌⊎◌, ℕ, ◌^◌, ◌≤◌, List, [], ◌∷◌, ◌++◌, length, map, reverse}
+use Rattle.std.specs.Prelude.{replicate, Option, Some, None, Result, Ok, Err}
+use Rattle.std.specs.Io.KnownBytes.{Appends, Consumes, IsAtEnd}
+use Rattle.wall_policy.specs.Policy.{ChineseWall}
+use Rattle.coll_text.specs.Numbers.{Word}
+use Rattle.coll_text.specs.Reading.{parts}
+use Rattle.run_model.specs.declared.call.Act.{Act}
+use Rattle.run_model.specs.declared.call.Act.TheVariants.{Take}
+use Rattle.run_model.specs.declared.reply.Reply.{Reply}
+use Rattle.run_model.specs.declared.reply.Reply.TheVariants.{Pending}
+use Rattle.run_model.specs.Runs.{Entry, entry}
+use Rattle.run_model.specs.Replies.{Legal}
+use Rattle.hall_script.specs.declared.ask.Ask.{Ask}
+use Rattle.hall_script.specs.declared.ask.Ask.TheVariants.{Act as ToAct, Wait, Leave}
+use Rattle.hall_script.specs.Devices.{Used, bytes_before, bytes_after, NeverFailed, FailedOnce}
+use Rattle.hall_script.specs.Devices.{IsUntouched, IsWritten}
+use Rattle.hall_script.specs.Replies.{reply_line}
+use Rattle.hall_turn.specs.Runs.{Continues, calls_of}
+use Rattle.hall_turn.specs.Known.{Known}
+use Rattle.hall_turn.specs.Answers.{IsSamePass}
+use Rattle.live_session.specs.declared.line.BadLine.{BadLine}
+use Rattle.live_session.specs.declared.ending.SessionEnd.{SessionEnd}
+use Rattle.live_session.specs.declared.ending.SessionEnd.TheVariants.{EndOfStream, Left}
+use Rattle.live_session.specs.declared.ending.SessionEnd.TheVariants.{ReadFailed, WriteFailed}
+use Rattle.live_session.specs.declared.ending.SessionEnd.TheVariants.{Exhausted, NoMemory}
+use Rattle.live_session.specs.Lines.{said, bad_line, left_line, exhausted_line}
+
+-- ---- lines and their answers
+
+-- What a line came to: its act was done, with this reply; or its request was taken again and again,
+-- so often answered Pending, and then with this reply; or it asks for nothing.
+pub data Told : Type 0 where
+  done : (act : Act) → (reply : Reply) → Told
+  waited : (request again : ℕ) → (reply : Reply) → Told
+  asked_nothing : (bad : BadLine) → Told
+
+-- what the line says
+abbrev pub said_by : Told → Result Ask BadLine
+said_by (done act reply) = Ok (ToAct act)
+said_by (waited request again reply) = Ok (Wait request)
+said_by (asked_nothing bad) = Err bad
+
+-- the entry of a call
+abbrev pub called : (process : ℕ) → Act → Reply → Entry
+called process act reply = entry (record { process = process; act = act }) reply
+
+-- the calls of the process that were made for the line
+abbrev pub calls_for : (process : ℕ) → Told → List Entry
+calls_for process (done act reply) = called process act reply ∷ []
+calls_for process (waited request again reply) = called process (Take request) reply
+    ∷ replicate again (called process (Take request) Pending)
+calls_for process (asked_nothing bad) = []
+
+-- the calls that were made for all lines
+abbrev pub made : (process : ℕ) → List Told → List Entry
+made process [] = []
+made process (told ∷ past) = calls_for process told ++ made process past
+
+-- the line that answers a line: that of the reply, or that of its fault
+abbrev pub answer : ChineseWall → Told → List ℕ
+answer wall (done act reply) = reply_line wall reply
+answer wall (waited request again reply) = reply_line wall reply
+answer wall (asked_nothing bad) = bad_line bad
+
+-- the answers, the first one first
+abbrev pub answers : ChineseWall → List Told → List ℕ
+answers wall [] = []
+answers wall (told ∷ past) = answers wall past ++ answer wall told
+
+-- ---- the pass
+
+-- The run that the pass has seen after begins with the one that it had seen, and is legal. Of its
+-- process it has these calls more, and no other.
+pub record SeesMore (before : Known) (calls : List Entry) (after : Known) : Type 0 where
+  pub same : IsSamePass before after
+  pub begins : Continues after.seen before.seen
+  pub legal : Legal before.door.policy after.seen
+  pub own : calls_of before.process after.seen ≡ calls ++ calls_of before.process before.seen
+
+-- Text, cut at each LF: first these finished lines, and then the rest. Each line came to what was
+-- told of it, and the calls of the process since are those that were made for the lines, in order.
+pub record Acted (wall : ChineseWall) (before : Known) (text lines rest : List Word)
+    (told : List Told) (after : Known) : Type 0 where
+  pub cut : text ≡ reverse lines ++ rest
+  pub says : map (said wall.dataset_names) lines ≡ map said_by told
+  pub sees : SeesMore before (made before.process told) after
+
+-- ---- how it ends
+
+-- no LF is in the rest: it is the line that is not finished, perhaps empty
+abbrev pub IsUnfinished : (rest : List Word) → Type 0
+IsUnfinished rest = length rest ≡ 1
+
+-- the rest begins with a finished line, which asks for something of this sort
+abbrev pub BeginsWith : ChineseWall → (IsSo : Ask → Type 0) → (rest : List Word) → Type 0
+BeginsWith wall IsSo rest = (line : Word) × (next : Word) × (later : List Word) × (ask : Ask)
+    × (rest ≡ line ∷ next ∷ later) × (said wall.dataset_names line ≡ Ok ask) × IsSo ask
+
+-- The next line ends the session so, and this text is its answer: it says `leave`, or it asks for
+-- a call after 2^62 turns. No call was made for it.
+abbrev pub EndsAt : ChineseWall → (rest : List Word) → (after : Known) → SessionEnd →
+    (text : List ℕ) → Type 0
+EndsAt wall rest after Left text = BeginsWith wall (λ ask. ask ≡ Leave) rest × (text ≡ left_line)
+EndsAt wall rest after Exhausted text = BeginsWith wall (λ ask. ask ≢ Leave) rest
+    × (2 ^ 62 ≤ length after.seen) × (text ≡ exhausted_line)
+EndsAt wall rest after EndOfStream text = ⊥
+EndsAt wall rest after ReadFailed text = ⊥
+EndsAt wall rest after WriteFailed text = ⊥
+EndsAt wall rest after NoMemory text = ⊥
+
+-- all answers were written, and that to the line which ends the session so
+abbrev pub SaysLast : {O : Type 0} → ChineseWall → Used O → (rest : List Word) → List Told →
+    (after : Known) → SessionEnd → Type 0
+SaysLast wall sink rest told after end = (text : List ℕ) × EndsAt wall rest after end text
+    × IsWritten sink (answers wall told ++ text)
+
+-- these bytes were written, and a prefix of the newest answer
+abbrev pub IsCutIn : {O : Type 0} → Used O → (whole newest : List ℕ) → Type 0
+IsCutIn sink whole newest = (front : List ℕ) × (back : List ℕ) × (front ++ back ≡ newest)
+    × Appends (bytes_before sink) (bytes_after sink) (whole ++ front)
+
+-- all answers but the newest were written, and a prefix of that: the newest line came to something,
+-- or it would have ended the session
+abbrev pub BreaksOff : {O : Type 0} → ChineseWall → Used O → (rest : List Word) → List Told →
+    (after : Known) → Type 0
+BreaksOff wall sink rest told after =
+    ((newest : Told) × (past : List Told) × (told ≡ newest ∷ past)
+    × IsCutIn sink (answers wall past) (answer wall newest))
+    ⊎ ((end : SessionEnd) × (text : List ℕ) × EndsAt wall rest after end text
+    × IsCutIn sink (answers wall told) text)
+
+-- all answers were written, or all but the newest
+abbrev pub IsWrittenButNewest : {O : Type 0} → ChineseWall → Used O → List Told → Type 0
+IsWrittenButNewest wall sink [] = IsWritten sink []
+IsWrittenButNewest wall sink (told ∷ past) =
+    IsWritten sink (answers wall (told ∷ past)) ⊎ IsWritten sink (answers wall past)
+
+-- what the devices, the rest and the run are like where the session ended so
+abbrev pub EndsSo : {S O : Type 0} → ChineseWall → Used S → Used O → (rest : List Word) →
+    List Told → (after : Known) → SessionEnd → Type 0
+EndsSo wall source sink rest told after EndOfStream = NeverFailed source
+    × IsAtEnd (bytes_after source) × IsUnfinished rest × IsWritten sink (answers wall told)
+EndsSo wall source sink rest told after Left =
+    NeverFailed source × SaysLast wall sink rest told after Left
+EndsSo wall source sink rest told after ReadFailed =
+    FailedOnce source × IsUnfinished rest × IsWritten sink (answers wall told)
+EndsSo wall source sink rest told after WriteFailed =
+    NeverFailed source × FailedOnce sink × BreaksOff wall sink rest told after
+EndsSo wall source sink rest told after Exhausted =
+    NeverFailed source × SaysLast wall sink rest told after Exhausted
+EndsSo wall source sink rest told after NoMemory =
+    NeverFailed source × IsWrittenButNewest wall sink told
+
+-- What a session came to: the bytes that it was handed, cut at each LF, are the lines that it acted
+-- on and a rest; what was written are the answers to these lines, in order.
+pub record Serves {S O : Type 0} (wall : ChineseWall) (source : Used S) (sink : Used O)
+    (before after : Known) (end : SessionEnd) : Type 0 where
+  pub bytes : List ℕ
+  pub read : Consumes (bytes_before source) (bytes_after source) bytes
+  pub lines : List Word
+  pub rest : List Word
+  pub told : List Told
+  pub acted : Acted wall before (parts 10 bytes) lines rest told after
+  pub ends : EndsSo wall source sink rest told after end
+
+-- The session ended so, or it did not begin, and nothing was done.
+abbrev pub ServesIfBegun : {S O : Type 0} → ChineseWall → Used S → Used O →
+    (before after : Known) → Option SessionEnd → Type 0
+ServesIfBegun wall source sink before after (Some end) = Serves wall source sink before after end
+ServesIfBegun wall source sink before after None =
+    IsUntouched source × IsUntouched sink × (after ≡ before)

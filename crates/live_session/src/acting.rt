@@ -1,0 +1,122 @@
+//! Does what a line asks for.
+ghost use Rattle.std.specs.Prelude.{◌≡◌, Ok};
+ghost use Rattle.run_model.specs.declared.call.Act.TheVariants.{Take};
+ghost use Rattle.run_model.specs.Known.{HasKnownLabel};
+ghost use Rattle.run_model.specs.Replies.{Legal};
+ghost use Rattle.hall_script.specs.Asks.{AsksWithKnownLabel};
+ghost use Rattle.hall_turn.specs.Answers.{Answered, IsSamePass, NamesKnown};
+ghost use Rattle.live_session.specs.Steps.{Waited, CameTo, CameNamesKnown, came_of};
+
+use crate::seat::Seat;
+use hall_core::Reply;
+use hall_script::Ask;
+use hall_turn::{Answer, Door, Pass};
+use run_model::Act;
+use std::sync::Wait;
+
+/// What a line came to that asks for something.
+#[derive(Drop)]
+pub(crate) enum Came {
+    /// Its call was made, the last one of those that it asks for, and this is its reply.
+    Reply(Reply),
+    /// It said `leave`.
+    Left,
+    /// The door was too late for its call, which was not made.
+    Exhausted,
+}
+
+// A take, at the pass's turn.
+fn take<R: Wait>(rt: &R, door: &Door, pass: &mut Pass, seat: &mut Seat, request: u64) -> Answer
+    requires door { pass.old.door ≡ door.now }
+    ensures same { IsSamePass pass.old pass.new }
+    ensures legal { Legal door.now.policy pass.new.seen }
+    ensures answered { Answered pass.old (Take request) result pass.new }
+    ensures named { NamesKnown door.now.policy result }
+{
+    let answer = door.take(rt, pass, request);
+    if let Answer::Reply(reply) = &answer {
+        seat.taken(request, reply);
+    }
+    answer
+}
+
+// Takes the outcome of a request as soon as its instance has settled, and sleeps before that. Where
+// nothing can settle it any more, the answer is `Pending`.
+fn wait<R: Wait>(rt: &R, door: &Door, pass: &mut Pass, seat: &mut Seat, request: u64) -> Answer
+    requires door { pass.old.door ≡ door.now }
+    ensures same { IsSamePass pass.old pass.new }
+    ensures legal { Legal door.now.policy pass.new.seen }
+    ensures waited { Waited pass.old request result pass.new }
+    ensures named { NamesKnown door.now.policy result }
+{
+    match take(rt, door, pass, seat, request) {
+        Answer::Reply(Reply::Pending) => {}
+        answer => return answer,
+    }
+    for _ in rt.forever() {
+        if !seat.sleep(rt, request) {
+            return Answer::Reply(Reply::Pending);
+        }
+        match take(rt, door, pass, seat, request) {
+            Answer::Reply(Reply::Pending) => {}
+            Answer::Exhausted => return Answer::Reply(Reply::Pending),
+            answer => return answer,
+        }
+    }
+    unreachable!()
+}
+
+// The call of an act, at the pass's turn.
+fn make<R: Wait>(rt: &R, door: &Door, pass: &mut Pass, seat: &mut Seat, act: Act) -> Answer
+    requires door { pass.old.door ≡ door.now }
+    requires label { HasKnownLabel door.now.policy act }
+    ensures same { IsSamePass pass.old pass.new }
+    ensures legal { Legal door.now.policy pass.new.seen }
+    ensures answered { Answered pass.old act result pass.new }
+    ensures named { NamesKnown door.now.policy result }
+{
+    match act {
+        Act::Post(posting) => {
+            let comm = posting.comm;
+            let answer = door.post(rt, pass, posting);
+            if let Answer::Reply(reply) = &answer {
+                seat.posted(rt, comm, reply, pass.settled());
+            }
+            answer
+        }
+        Act::Take(request) => take(rt, door, pass, seat, request),
+        Act::Info(comm) => door.info(rt, pass, comm),
+    }
+}
+
+fn came_of(answer: Answer) -> Came
+    ensures { result ≡ came_of answer }
+{
+    match answer {
+        Answer::Reply(reply) => Came::Reply(reply),
+        Answer::Exhausted => Came::Exhausted,
+    }
+}
+
+/// Does what a line asks for.
+pub(crate) fn act_on<R: Wait>(
+    rt: &R,
+    door: &Door,
+    pass: &mut Pass,
+    seat: &mut Seat,
+    ask: Ask,
+) -> Came
+    requires door { pass.old.door ≡ door.now }
+    requires legal { Legal door.now.policy pass.old.seen }
+    requires label { AsksWithKnownLabel door.now.policy ask }
+    ensures same { IsSamePass pass.old pass.new }
+    ensures legal { Legal door.now.policy pass.new.seen }
+    ensures came { CameTo pass.old ask result pass.new }
+    ensures named { CameNamesKnown door.now.policy result }
+{
+    match ask {
+        Ask::Act(act) => came_of(make(rt, door, pass, seat, act)),
+        Ask::Wait(request) => came_of(wait(rt, door, pass, seat, request)),
+        Ask::Leave => Came::Left,
+    }
+}

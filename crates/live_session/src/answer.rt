@@ -1,0 +1,125 @@
+//! Acts on one line, and answers it.
+ghost use Rattle.std.specs.Prelude.{◌≡◌, List, ℕ, [], OnOk, IfOk};
+ghost use Rattle.run_model.specs.Replies.{Legal};
+ghost use Rattle.hall_turn.specs.Answers.{IsSamePass};
+ghost use Rattle.hall_script.specs.Devices.{used};
+ghost use Rattle.live_session.specs.Lines.{said};
+ghost use Rattle.live_session.specs.Steps.{Holds, CameNamesKnown, line_to, next_after, PutsAnswer};
+ghost use Rattle.live_session.specs.Steps.{AnswersLine};
+
+use crate::acting::{Came, act_on};
+use crate::ending::SessionEnd;
+use crate::line::{Unfinished, bad_line};
+use crate::seat::Seat;
+use coll_text::{put, send};
+use hall_script::write_reply;
+use hall_turn::{Door, Pass};
+use std::alloc::Global;
+use std::sync::Wait;
+use wall_labels::{NoMemory, Sink};
+use wall_policy::Policy;
+
+/// How a session goes on after a line.
+#[derive(Clone, Copy)]
+pub(crate) enum Next {
+    /// It acts on the next line.
+    GoesOn,
+    /// It ends: the line said `leave`.
+    Left,
+    /// It ends: the door was too late for the line's call.
+    Exhausted,
+}
+
+// Puts the line that answers what came of a line, and says how the session goes on.
+fn put_came(policy: &Policy, came: &Came, text: &mut Vec<u8>) -> Result<Next, NoMemory>
+    requires known { CameNamesKnown policy.now came.now }
+    requires none { text.old.items ≡ [] }
+    ensures text { IfOk result (λ next. text.new.items ≡ line_to policy.now came.now) }
+    ensures next { IfOk result (λ next. next ≡ next_after came.now) }
+{
+    match came {
+        Came::Reply(reply) => match write_reply(policy, reply, text) {
+            Ok(()) => Ok(Next::GoesOn),
+            Err(_) => Err(NoMemory),
+        },
+        Came::Left => match put(text, "left\n") {
+            Ok(()) => Ok(Next::Left),
+            Err(_) => Err(NoMemory),
+        },
+        Came::Exhausted => match put(text, "exhausted\n") {
+            Ok(()) => Ok(Next::Exhausted),
+            Err(_) => Err(NoMemory),
+        },
+    }
+}
+
+// Acts on a finished line, and puts its answer.
+fn put_answer<R: Wait>(
+    rt: &R,
+    alloc: Global,
+    door: &Door,
+    policy: &Policy,
+    pass: &mut Pass,
+    seat: &mut Seat,
+    line: &Unfinished,
+    text: &mut Vec<u8>,
+) -> Result<Next, NoMemory>
+    requires door { pass.old.door ≡ door.now }
+    requires policy { policy.now ≡ door.now.policy }
+    requires legal { Legal policy.now pass.old.seen }
+    requires none { text.old.items ≡ [] }
+    ensures same { IsSamePass pass.old pass.new }
+    ensures legal { Legal policy.now pass.new.seen }
+    ensures puts { (bytes : List ℕ) → Holds line.now bytes →
+        PutsAnswer policy.now pass.old (said policy.now.dataset_names bytes) text.new.items
+        pass.new result }
+{
+    match line.read(alloc, policy) {
+        Ok(Ok(ask)) => {
+            let came = act_on(rt, door, pass, seat, ask);
+            put_came(policy, &came, text)
+        }
+        Ok(Err(bad)) => match put(text, bad_line(bad)) {
+            Ok(()) => Ok(Next::GoesOn),
+            Err(_) => Err(NoMemory),
+        },
+        Err(_) => Err(NoMemory),
+    }
+}
+
+/// Acts on a finished line, and writes its answer. The text is room for it.
+pub(crate) fn answer_line<R: Wait, O: Sink>(
+    rt: &R,
+    alloc: Global,
+    door: &Door,
+    policy: &Policy,
+    pass: &mut Pass,
+    seat: &mut Seat,
+    line: &Unfinished,
+    text: &mut Vec<u8>,
+    sink: &mut O,
+) -> Result<(), SessionEnd>
+    requires door { pass.old.door ≡ door.now }
+    requires policy { policy.now ≡ door.now.policy }
+    requires legal { Legal policy.now pass.old.seen }
+    requires none { text.old.items ≡ [] }
+    ensures none { OnOk result (text.new.items ≡ []) }
+    ensures same { IsSamePass pass.old pass.new }
+    ensures legal { Legal policy.now pass.new.seen }
+    ensures answers { (bytes : List ℕ) → Holds line.now bytes →
+        AnswersLine policy.now pass.old (said policy.now.dataset_names bytes)
+        (used O.failures O.contents sink.old sink.new) pass.new result }
+{
+    let next = match put_answer(rt, alloc, door, policy, pass, seat, line, text) {
+        Ok(next) => next,
+        Err(_) => return Err(SessionEnd::NoMemory),
+    };
+    match send(text, sink) {
+        Ok(()) => match next {
+            Next::GoesOn => Ok(()),
+            Next::Left => Err(SessionEnd::Left),
+            Next::Exhausted => Err(SessionEnd::Exhausted),
+        },
+        Err(_) => Err(SessionEnd::WriteFailed),
+    }
+}

@@ -1,0 +1,18 @@
+//! How a session ends.
+
+/// How a session of a process ended.
+#[derive(Clone, Copy, Debug, PartialEq, Eq)]
+pub enum SessionEnd {
+    /// The reader was at its end. A line that was not finished is dropped.
+    EndOfStream,
+    /// A line said `leave`, and was answered.
+    Left,
+    /// The reader failed.
+    ReadFailed,
+    /// The writer failed: the newest answer may be written in part.
+    WriteFailed,
+    /// The door had 2^62 turns. The call at hand was not made, and its line was answered so.
+    Exhausted,
+    /// A growth of memory was refused: for a line, before it was acted on, or for its answer.
+    NoMemory,
+}

@@ -1,0 +1,19 @@
+//! Live sessions: a process calls at a door line by line, and each line is answered by a line
+//! before the next is acted on. (The format is our own.)
+#![tactic(auto)]
+
+mod acting;
+mod answer;
+mod ending;
+mod line;
+mod peer;
+mod requests;
+mod run;
+mod seat;
+mod session;
+
+pub use ending::SessionEnd;
+pub use line::{BadLine, LINE_LIMIT};
+pub use peer::{Peer, Session};
+pub use run::{ServeFault, Served, serve_all};
+pub use session::serve;

@@ -1,0 +1,362 @@
+//! The sessions of all processes at the same time.
+ghost use Rattle.std.specs.Prelude.{◌≡◌, ◌≢◌, ◌↔◌, ◌≤◌, [], length, true, IfErr, IfOk, IfSome};
+ghost use Rattle.std.specs.Prelude.{vec_len, vec_capacity};
+ghost use Rattle.std.specs.List.{All};
+ghost use Rattle.run_model.specs.Comms.{processes};
+ghost use Rattle.hall_turn.specs.Ending.{Closed};
+ghost use Rattle.live_session.specs.Served.{ServedAll};
+ghost use Rattle.live_session.specs.Joining.{IsFresh, HasServed, AllServed, handed};
+ghost use Rattle.live_session.specs.Joining.{passes_of, peers_of, passes_in, ends_of, ends_in};
+ghost use Rattle.live_session.specs.Joining.{ArePrepared, HaveEnded, HasRoomFor};
+
+use crate::peer::{Job, Peer, Played, Serving, Session};
+use crate::session::serve;
+use hall_core::{Hall, NoMemory};
+use hall_turn::{Door, Passes};
+use mpi_comm::COMMUNICATOR_LIMIT;
+use rank_stage::{GivenUp, Stage};
+use std::alloc::{AllocError, Global};
+use std::snapshot::Snapshot;
+use std::sync::Wait;
+use std::thread;
+use std::thread::{PromisedHandle, Threads};
+use wall_labels::{Sink, Source};
+use wall_policy::Policy;
+
+// A session from its start to its end; or nothing of it, where the run is given up.
+fn play<R: Wait, S: Source + Drop, O: Sink + Drop>(
+    rt: &R,
+    alloc: Global,
+    door: &Door,
+    policy: &Policy,
+    stage: &Stage,
+    job: Job<S, O>,
+) -> Played<S, O>
+    requires fresh { IsFresh door.now job }
+    requires policy { policy.now ≡ door.now.policy }
+    ensures { HasServed S.failures S.remaining O.failures O.contents job result }
+{
+    let Job {
+        mut pass,
+        peer: Peer {
+            mut source,
+            mut sink,
+        },
+    } = job;
+    let ended = serve(
+        rt,
+        alloc,
+        door,
+        policy,
+        stage,
+        &mut pass,
+        &mut source,
+        &mut sink,
+    );
+    Played {
+        pass,
+        peer: Peer { source, sink },
+        ended,
+    }
+}
+
+// Joins all threads, and keeps what they gave.
+fn join_all<R: Threads, S: Source + Send + Drop, O: Sink + Send + Drop>(
+    rt: &R,
+    handles: Vec<PromisedHandle<Played<S, O>, Serving<S, O>>>,
+    mut ended: Vec<Played<S, O>>,
+) -> Vec<Played<S, O>>
+    requires { (ended.items ≡ []) × (vec_len handles ≤ vec_capacity ended) }
+    ensures served { AllServed S.failures S.remaining O.failures O.contents (handed handles.items)
+        result.items }
+    ensures len { vec_len result ≡ vec_len handles }
+{
+    for handle in handles {
+        ended.push_reserved(handle.join(rt));
+    }
+    ended
+}
+
+// The sessions begin if all have their threads, or go home. All have ended, and are joined, when it
+// returns.
+fn end_all<R: Threads + Wait, S: Source + Send + Drop, O: Sink + Send + Drop>(
+    rt: &R,
+    stage: &Stage,
+    all_started: bool,
+    handles: Vec<PromisedHandle<Played<S, O>, Serving<S, O>>>,
+    ended: Vec<Played<S, O>>,
+) -> Result<Vec<Played<S, O>>, GivenUp>
+    requires { (ended.items ≡ []) × (vec_len handles ≤ vec_capacity ended) }
+    ensures served { IfOk result (λ all.
+        AllServed S.failures S.remaining O.failures O.contents (handed handles.items) all.items) }
+    ensures started { IfOk result (λ _. all_started ≡ true) }
+{
+    let told = stage.release(rt, all_started);
+    let played = join_all(rt, handles, ended);
+    match told {
+        Ok(_) => Ok(played),
+        Err(given_up) => {
+            drop(played);
+            Err(given_up)
+        }
+    }
+}
+
+// A thread for each job, as far as none is refused.
+fn run_each<R: Threads + Wait + Sync, S: Source + Send + Drop, O: Sink + Send + Drop>(
+    rt: &R,
+    alloc: Global,
+    door: &Door,
+    policy: &Policy,
+    stage: &Stage,
+    jobs: Vec<Job<S, O>>,
+    mut handles: Vec<PromisedHandle<Played<S, O>, Serving<S, O>>>,
+    ended: Vec<Played<S, O>>,
+) -> Result<Vec<Played<S, O>>, GivenUp>
+    requires policy { policy.now ≡ door.now.policy }
+    requires fresh { All (IsFresh door.now) jobs.items }
+    requires handles { (handles.items ≡ []) × (vec_len jobs ≤ vec_capacity handles) }
+    requires ended { (ended.items ≡ []) × (vec_len jobs ≤ vec_capacity ended) }
+    ensures { IfOk result
+        (λ all. AllServed S.failures S.remaining O.failures O.contents jobs.items all.items) }
+{
+    thread::scope(
+        thread::scope_env(),
+        rt,
+        move |scope| -> Result<Vec<Played<S, O>>, GivenUp>
+            requires policy { policy.now ≡ door.now.policy }
+            requires fresh { All (IsFresh door.now) jobs.items }
+            requires handles { (handles.items ≡ []) × (vec_len jobs ≤ vec_capacity handles) }
+            requires ended { (ended.items ≡ []) × (vec_len jobs ≤ vec_capacity ended) }
+            ensures { IfOk result
+                (λ all. AllServed S.failures S.remaining O.failures O.contents jobs.items
+                all.items) }
+        {
+            for job in jobs {
+                let promise = Serving(Snapshot::of(&job));
+                let Ok(handle) = scope.spawn_with(
+                    promise,
+                    move || -> Played<S, O>
+                        requires policy { policy.now ≡ door.now.policy }
+                        requires fresh { IsFresh door.now job }
+                        ensures { HasServed S.failures S.remaining O.failures O.contents job
+                            result }
+                    { play(rt, alloc, door, policy, stage, job) },
+                ) else {
+                    return end_all(rt, stage, false, handles, ended);
+                };
+                handles.push_reserved(handle);
+            }
+            end_all(rt, stage, true, handles, ended)
+        },
+    )
+}
+
+/// What all sessions came to.
+#[derive(Drop)]
+pub struct Served<S, O> {
+    /// The session of each process, in order.
+    pub sessions: Vec<Session<S, O>>,
+    /// The hall after all calls.
+    pub hall: Hall,
+}
+
+/// Why no session began.
+#[derive(Clone, Copy, Debug, PartialEq, Eq)]
+pub enum ServeFault {
+    /// There are not devices for each process, and no others.
+    BadPeers,
+    /// A thread was refused.
+    NoThread,
+    /// A growth of memory was refused.
+    NoMemory,
+}
+
+// The start of the sessions, and room for what their threads give back.
+#[derive(Drop)]
+pub(crate) struct Room<S: Source + Drop, O: Sink + Drop> {
+    stage: Stage,
+    passes: Passes,
+    sessions: Vec<Session<S, O>>,
+    ended: Vec<Played<S, O>>,
+    handles: Vec<PromisedHandle<Played<S, O>, Serving<S, O>>>,
+}
+
+// A door, a job for each process there, and room for all of them.
+#[derive(Drop)]
+pub(crate) struct Ready<S: Source + Drop, O: Sink + Drop> {
+    door: Door,
+    jobs: Vec<Job<S, O>>,
+    room: Room<S, O>,
+}
+
+// What the threads gave back, sorted.
+#[derive(Drop)]
+pub(crate) struct Ended<S, O> {
+    passes: Passes,
+    sessions: Vec<Session<S, O>>,
+}
+
+// A pass and its devices for each process.
+fn share_out<S: Drop, O: Drop>(
+    alloc: Global,
+    passes: Passes,
+    peers: Vec<Peer<S, O>>,
+) -> Result<Vec<Job<S, O>>, NoMemory>
+    requires { vec_len passes ≡ vec_len peers }
+    ensures passes { IfOk result (λ jobs. passes_of jobs.items ≡ passes.items) }
+    ensures peers { IfOk result (λ jobs. peers_of jobs.items ≡ peers.items) }
+{
+    let mut jobs = Vec::with_capacity(alloc, passes.len())?;
+    let mut passes = passes.into_iter();
+    for peer in peers {
+        let Some(pass) = passes.next() else {
+            unreachable!()
+        };
+        jobs.push_reserved(Job { pass, peer });
+    }
+    Ok(jobs)
+}
+
+// Room for so many sessions.
+fn make_room<S: Source + Drop, O: Sink + Drop>(
+    alloc: Global,
+    count: usize,
+) -> Result<Room<S, O>, AllocError>
+    ensures { IfOk result (HasRoomFor count) }
+{
+    let passes = Vec::with_capacity(alloc, count)?;
+    let sessions = Vec::with_capacity(alloc, count)?;
+    let ended = Vec::with_capacity(alloc, count)?;
+    let handles = Vec::with_capacity(alloc, count)?;
+    let stage = Stage::new(alloc, count, COMMUNICATOR_LIMIT as usize, false)?;
+    Ok(Room {
+        stage,
+        passes,
+        sessions,
+        ended,
+        handles,
+    })
+}
+
+// A door, a job for each process there, and room for all of them.
+fn prepare<S: Source + Drop, O: Sink + Drop>(
+    alloc: Global,
+    policy: &Policy,
+    peers: Vec<Peer<S, O>>,
+) -> Result<Ready<S, O>, NoMemory>
+    requires { vec_len peers ≡ processes policy.now }
+    ensures prepared { IfOk result
+        (λ ready. ArePrepared policy.now peers.items ready.door ready.jobs.items) }
+    ensures room { IfOk result (λ ready. HasRoomFor (vec_len ready.jobs) ready.room) }
+{
+    let copy = policy.copy(alloc)?;
+    let (door, passes) = Door::open(alloc, copy)?;
+    let Ok(jobs) = share_out(alloc, passes, peers) else {
+        drop(door);
+        return Err(NoMemory);
+    };
+    let Ok(room) = make_room(alloc, jobs.len()) else {
+        drop(jobs);
+        drop(door);
+        return Err(NoMemory);
+    };
+    Ok(Ready { door, jobs, room })
+}
+
+// The passes, and the sessions; none where a session did not begin.
+fn sort_out<S: Drop, O: Drop>(
+    all: Vec<Played<S, O>>,
+    mut passes: Passes,
+    mut sessions: Vec<Session<S, O>>,
+) -> Option<Ended<S, O>>
+    requires passes { (passes.items ≡ []) × (vec_len all ≤ vec_capacity passes) }
+    requires sessions { (sessions.items ≡ []) × (vec_len all ≤ vec_capacity sessions) }
+    ensures passes { IfSome result (λ ended. ended.passes.items ≡ passes_in all.items) }
+    ensures sessions { IfSome result
+        (λ ended. ends_of ended.sessions.items ≡ ends_in all.items) }
+{
+    for played in all {
+        let Played { pass, peer, ended } = played;
+        passes.push_reserved(pass);
+        match ended {
+            Some(end) => sessions.push_reserved(Session { peer, end }),
+            None => return None,
+        }
+    }
+    Some(Ended { passes, sessions })
+}
+
+// All sessions at the same time, in the room that was made for them. None where none began.
+fn run_jobs<R: Threads + Wait + Sync, S: Source + Send + Drop, O: Sink + Send + Drop>(
+    rt: &R,
+    alloc: Global,
+    door: &Door,
+    policy: &Policy,
+    jobs: Vec<Job<S, O>>,
+    room: Room<S, O>,
+) -> Option<Ended<S, O>>
+    requires policy { policy.now ≡ door.now.policy }
+    requires fresh { All (IsFresh door.now) jobs.items }
+    requires room { HasRoomFor (vec_len jobs) room }
+    ensures { IfSome result
+        (HaveEnded S.failures S.remaining O.failures O.contents jobs.items) }
+{
+    let Room {
+        stage,
+        passes,
+        sessions,
+        ended,
+        handles,
+    } = room;
+    match run_each(rt, alloc, door, policy, &stage, jobs, handles, ended) {
+        Ok(all) => sort_out(all, passes, sessions),
+        Err(_) => None,
+    }
+}
+
+// Closes the door, to which all passes have come back.
+fn close_up<S: Drop, O: Drop>(door: Door, ended: Ended<S, O>) -> Served<S, O>
+    requires of { All (λ pass. pass.door ≡ door) ended.passes.items }
+    requires all { processes door.policy ≤ length ended.passes.items }
+    ensures sessions { result.sessions ≡ ended.sessions }
+    ensures hall { Closed door.policy result.hall ended.passes.items }
+{
+    let Ended { passes, sessions } = ended;
+    match door.close(passes) {
+        Ok(hall) => Served { sessions, hall },
+        Err(_unclosed) => unreachable!(),
+    }
+}
+
+/// Serves all processes at a new door, each in a thread of its own, until every session has ended.
+/// `peers` has the devices of each process, in order; they come back with how its session ended.
+/// No session begins before all threads have started, and every thread has ended when it returns.
+///
+/// `BadPeers` is answered exactly where there are not devices for each process, and no others. After
+/// a fault no call was made.
+pub fn serve_all<R: Threads + Wait + Sync, S: Source + Send + Drop, O: Sink + Send + Drop>(
+    rt: &R,
+    alloc: Global,
+    policy: &Policy,
+    peers: Vec<Peer<S, O>>,
+) -> Result<Served<S, O>, ServeFault>
+    ensures served { IfOk result (λ served.
+        ServedAll S.failures S.remaining O.failures O.contents policy.now peers.items
+        served.sessions.items served.hall) }
+    ensures bad_peers { IfErr result (λ fault.
+        (fault ≡ ServeFault.BadPeers) ↔ (vec_len peers ≢ processes policy.now)) }
+{
+    if peers.len() != policy.processes() as usize {
+        return Err(ServeFault::BadPeers);
+    }
+    let Ok(ready) = prepare(alloc, policy, peers) else {
+        return Err(ServeFault::NoMemory);
+    };
+    let Ready { door, jobs, room } = ready;
+    let Some(ended) = run_jobs(rt, alloc, &door, policy, jobs, room) else {
+        drop(door);
+        return Err(ServeFault::NoThread);
+    };
+    Ok(close_up(door, ended))
+}

@@ -1,0 +1,88 @@
+//! Where a session stands among the others. Nothing is proved of it: that a session sleeps, and is
+//! called, is tested.
+
+use crate::requests::Requests;
+use hall_core::Reply;
+use rank_stage::{Aside, Role, Stage};
+use std::sync::Wait;
+
+/// A session that has begun. It stands aside of the stage while it reads, calls and writes, so that
+/// it holds up nobody, and comes back to sleep alone. It has no `Drop`: it ends by [`Seat::end`].
+pub(crate) struct Seat<'s> {
+    stage: &'s Stage,
+    role: Role,
+    aside: Option<Aside>,
+    requests: Requests,
+}
+
+impl<'s> Seat<'s> {
+    /// The seat of a role.
+    pub(crate) fn new<R: Wait>(
+        rt: &R,
+        stage: &'s Stage,
+        role: Role,
+        requests: Requests,
+    ) -> Seat<'s> {
+        let aside = Some(stage.step_aside(rt, &role));
+        Seat {
+            stage,
+            role,
+            aside,
+            requests,
+        }
+    }
+
+    /// After a post on a communicator that got this reply, and whether it settled the instance:
+    /// then those who wait for that are called.
+    pub(crate) fn posted<R: Wait>(&mut self, rt: &R, comm: u32, reply: &Reply, settled: bool) {
+        self.requests.posted(comm, reply);
+        if settled {
+            self.stage.settle(rt, comm);
+        }
+    }
+
+    /// After a take of a request that got this reply.
+    pub(crate) fn taken(&mut self, request: u64, reply: &Reply) {
+        self.requests.taken(request, reply);
+    }
+
+    fn step_back<R: Wait>(&mut self, rt: &R) {
+        if let Some(aside) = self.aside.take() {
+            self.stage.step_back(rt, aside);
+        }
+    }
+
+    fn step_aside<R: Wait>(&mut self, rt: &R) {
+        let aside = self.stage.step_aside(rt, &self.role);
+        if let Some(spare) = self.aside.replace(aside) {
+            self.stage.step_back(rt, spare);
+        }
+    }
+
+    /// Sleeps until the instance of a request has settled. False where nothing can settle it before
+    /// this session goes on: every other one has ended or sleeps.
+    pub(crate) fn sleep<R: Wait>(&mut self, rt: &R, request: u64) -> bool {
+        let Some(instance) = self.requests.instance_of(request) else {
+            return false;
+        };
+        self.step_back(rt);
+        let has_settled = self.stage.sleep(rt, &self.role, instance);
+        self.step_aside(rt);
+        has_settled
+    }
+
+    /// The session has ended.
+    pub(crate) fn end<R: Wait>(self, rt: &R) {
+        let Seat {
+            stage,
+            role,
+            aside,
+            requests,
+        } = self;
+        drop(requests);
+        if let Some(aside) = aside {
+            stage.step_back(rt, aside);
+        }
+        stage.end(rt, role);
+    }
+}

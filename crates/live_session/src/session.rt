@@ -1,0 +1,164 @@
+//! The session of a process, from its first line to its end.
+ghost use Rattle.std.specs.Prelude.{◌≡◌, List, ℕ, [], OnOk};
+ghost use Rattle.run_model.specs.Replies.{Legal};
+ghost use Rattle.coll_text.specs.Reading.{parts};
+ghost use Rattle.hall_script.specs.Devices.{used};
+ghost use Rattle.hall_turn.specs.Answers.{IsSamePass};
+ghost use Rattle.live_session.specs.Sessions.{Serves, ServesIfBegun};
+ghost use Rattle.live_session.specs.Steps.{Holds, TakesIn, behind};
+
+use crate::answer::answer_line;
+use crate::ending::SessionEnd;
+use crate::line::Unfinished;
+use crate::requests::Requests;
+use crate::seat::Seat;
+use coll_text::Parts;
+use hall_turn::{Door, Pass};
+use rank_stage::Stage;
+use std::alloc::Global;
+use std::sync::Wait;
+use wall_labels::{Sink, Source};
+use wall_policy::Policy;
+
+// Acts on the lines that these bytes finish, and keeps the rest.
+fn take_in<R: Wait, O: Sink>(
+    rt: &R,
+    alloc: Global,
+    door: &Door,
+    policy: &Policy,
+    pass: &mut Pass,
+    seat: &mut Seat,
+    line: &mut Unfinished,
+    bytes: &[u8],
+    text: &mut Vec<u8>,
+    sink: &mut O,
+) -> Result<(), SessionEnd>
+    requires door { pass.old.door ≡ door.now }
+    requires policy { policy.now ≡ door.now.policy }
+    requires legal { Legal policy.now pass.old.seen }
+    requires none { text.old.items ≡ [] }
+    ensures none { OnOk result (text.new.items ≡ []) }
+    ensures same { IsSamePass pass.old pass.new }
+    ensures legal { Legal policy.now pass.new.seen }
+    ensures takes { (start : List ℕ) → Holds line.old start →
+        TakesIn policy.now pass.old (behind start (parts 10 bytes.now)) line.new
+        (used O.failures O.contents sink.old sink.new) pass.new result }
+{
+    let mut parts = Parts::new(bytes, b'\n');
+    let Some(first) = parts.next_long() else {
+        unreachable!()
+    };
+    match line.add(first) {
+        Ok(()) => {}
+        Err(_) => return Err(SessionEnd::NoMemory),
+    }
+    while let Some(part) = parts.next_long() {
+        match answer_line(rt, alloc, door, policy, pass, seat, line, text, sink) {
+            Ok(()) => {}
+            Err(end) => return Err(end),
+        }
+        match line.begin(part) {
+            Ok(()) => {}
+            Err(_) => return Err(SessionEnd::NoMemory),
+        }
+    }
+    Ok(())
+}
+
+// A session from its first line to its end.
+fn hold<R: Wait, S: Source, O: Sink>(
+    rt: &R,
+    alloc: Global,
+    door: &Door,
+    policy: &Policy,
+    pass: &mut Pass,
+    seat: &mut Seat,
+    source: &mut S,
+    sink: &mut O,
+) -> SessionEnd
+    requires door { pass.old.door ≡ door.now }
+    requires policy { policy.now ≡ door.now.policy }
+    requires legal { Legal policy.now pass.old.seen }
+    ensures same { IsSamePass pass.old pass.new }
+    ensures serves { Serves policy.now
+        (used S.failures S.remaining source.old source.new)
+        (used O.failures O.contents sink.old sink.new)
+        pass.old pass.new result }
+{
+    let mut line = Unfinished::new(alloc);
+    let mut text = Vec::new(alloc);
+    let mut buffer = [0u8; 4096];
+    for _ in rt.forever() {
+        let n = match source.read(&mut buffer) {
+            Ok(n) => n,
+            Err(_) => return SessionEnd::ReadFailed,
+        };
+        if n == 0 {
+            return SessionEnd::EndOfStream;
+        }
+        match take_in(
+            rt,
+            alloc,
+            door,
+            policy,
+            pass,
+            seat,
+            &mut line,
+            &buffer[..n],
+            &mut text,
+            sink,
+        ) {
+            Ok(()) => {}
+            Err(end) => return end,
+        }
+    }
+    unreachable!()
+}
+
+/// Serves a process until its session ends: reads its lines, and answers each finished line by one
+/// line before the next is acted on. `policy` is the door's, and `stage` that on which all sessions
+/// at the door stand, each by the number of its process. The session begins as soon as the stage
+/// says so; none where that sends it home, and then nothing was done.
+///
+/// A line is `post C KIND FIELDS`, with `as LABEL V ..` behind it, or `take REQUEST`, or `info C`,
+/// or `wait REQUEST`, or `leave`; it ends at LF, and one CR before that is dropped. A call is
+/// answered by the line of its reply. A wait takes the request, and again when its instance has
+/// settled, and is answered as the last of these takes was: `pending` where every other session has
+/// ended or waits too, so that nobody is left who could settle it. `leave` is answered by `left`,
+/// and ends the session, as does a call after 2^62 turns of the door, answered by `exhausted`. Any
+/// other line is answered by `bad NAME`: then nothing was done, and the session goes on.
+pub fn serve<R: Wait, S: Source, O: Sink>(
+    rt: &R,
+    alloc: Global,
+    door: &Door,
+    policy: &Policy,
+    stage: &Stage,
+    pass: &mut Pass,
+    source: &mut S,
+    sink: &mut O,
+) -> Option<SessionEnd>
+    requires door { pass.old.door ≡ door.now }
+    requires policy { policy.now ≡ door.now.policy }
+    ensures same { IsSamePass pass.old pass.new }
+    ensures serves { ServesIfBegun policy.now
+        (used S.failures S.remaining source.old source.new)
+        (used O.failures O.contents sink.old sink.new)
+        pass.old pass.new result }
+{
+    let requests = Requests::new(alloc);
+    let role = match stage.begin(rt, pass.process() as usize) {
+        Ok(role) => role,
+        Err(_) => return None,
+    };
+    let requests = match requests {
+        Ok(requests) => requests,
+        Err(_) => {
+            stage.end(rt, role);
+            return Some(SessionEnd::NoMemory);
+        }
+    };
+    let mut seat = Seat::new(rt, stage, role, requests);
+    let end = hold(rt, alloc, door, policy, pass, &mut seat, source, sink);
+    seat.end(rt);
+    Some(end)
+}
