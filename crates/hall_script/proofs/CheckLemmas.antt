@@ -125,7 +125,7 @@ post_told datasets ws =
     (λ comm. type_stated (statement_at comm.1) >>= λ ty. given_checked datasets ty.0 ty.1)
     (λ comm. statement_told datasets (posted comm.0) (statement_at comm.1))
 
-act_told : (datasets : List Word) (verb : Verb) (ws : List Word) →
+pub act_told : (datasets : List Word) (verb : Verb) (ws : List Word) →
     checked (act_of datasets verb ws) ≡ act_checked datasets verb ws
 unfolding act_of act_checked
 act_told datasets verbs.Post ws = post_told datasets ws

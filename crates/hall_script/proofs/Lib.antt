@@ -10,3 +10,4 @@ pub mod PlainLemmas
 pub mod LineLemmas
 pub mod SayableRowProofs
 pub mod TellingLemmas
+pub mod AskLemmas

@@ -8,3 +8,5 @@ pub mod Filling
 pub mod Splitting
 pub mod Spellings
 pub mod Telling
+pub mod Asks
+pub mod AskChecks

@@ -18,7 +18,8 @@ use std::alloc::Global;
 use wall_labels::{NoMemory, Sink};
 use wall_policy::Policy;
 
-fn trim(line: &[u8]) -> &[u8]
+/// A line without one CR at its end.
+pub fn trim(line: &[u8]) -> &[u8]
     ensures { result.now ≡ trimmed line.now }
 {
     match line {

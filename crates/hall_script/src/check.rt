@@ -102,7 +102,7 @@ fn check_post(policy: &Policy, words: &mut Parts) -> Result<(), LineFault>
 
 // Checks what stands behind the verb and the process.
 #[tactic(auto, unfolding(crate::specs::Checking::act_checked))]
-fn check_act(policy: &Policy, verb: Verb, words: &mut Parts) -> Result<(), LineFault>
+pub(crate) fn check_act(policy: &Policy, verb: Verb, words: &mut Parts) -> Result<(), LineFault>
     ensures act { Gives result (act_checked policy.now.dataset_names verb words.old) }
     ensures memory { result ≢ Err LineFault.NoMemory }
 {

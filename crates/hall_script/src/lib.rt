@@ -2,6 +2,7 @@
 #![tactic(auto)]
 
 mod answer;
+mod ask;
 mod check;
 mod copies;
 mod device;
@@ -18,6 +19,8 @@ mod script;
 mod split;
 mod teller;
 
+pub use answer::trim;
+pub use ask::{Ask, read_ask};
 pub use coll_text::LineFault;
 pub use device::{DeviceFault, read_device};
 pub use fault::ScriptFault;

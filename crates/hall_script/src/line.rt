@@ -114,7 +114,12 @@ pub(crate) fn verb_in(word: &[u8]) -> Option<Verb>
 
 // What stands behind the verb and the process.
 #[tactic(auto, unfolding(crate::specs::Lines::act_of))]
-fn next_act(alloc: Global, policy: &Policy, verb: Verb, words: &mut Parts) -> Result<Act, LineFault>
+pub(crate) fn next_act(
+    alloc: Global,
+    policy: &Policy,
+    verb: Verb,
+    words: &mut Parts,
+) -> Result<Act, LineFault>
     ensures act { Gives result (act_of policy.now.dataset_names verb words.old) }
     ensures known { IfOk result (HasKnownLabel policy.now) }
     ensures memory { result ≡ Err LineFault.NoMemory → verb ≡ Verb.Post }
