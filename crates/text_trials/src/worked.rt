@@ -132,8 +132,8 @@ const SENT: Run = Run {
     held: &[(0, ALPHA), (1, BETA), (2, ALPHA), (2, CRUDE), (3, ALPHA)],
 };
 
-// The lowest receiver that may not have it is named, which is not at home anywhere, and a denial
-// charges nobody: n0 may write as public afterwards.
+// n0 would get of two rivals at once: it is named, with the second of them. A denial charges nobody:
+// n0 may write as public afterwards.
 const GATHERED: Run = Run {
     wall: WALL,
     in_groups: true,
@@ -184,8 +184,8 @@ const ASKED_OF_BOTH: Run = Run {
     held: &[(0, ALPHA), (1, BETA), (2, CRUDE), (3, BETA)],
 };
 
-// n0 asks both before either has posted: the verdict goes by its history when the last member has
-// posted, and not when it posted itself.
+// n0 asks both before either has posted: the verdict goes by its history once the last member has
+// posted, and not by the one that it had at its own post.
 const ASKED_FIRST: Run = Run {
     wall: WALL,
     in_groups: true,
