@@ -23,3 +23,5 @@ mod scripts;
 mod statements;
 #[cfg(test)]
 mod walls;
+#[cfg(test)]
+mod worked;
