@@ -183,6 +183,21 @@ waited_still before mid after request (again, sees) same legal a = (
       (sees_late mid after (Take request) same legal a),
 )
 
+-- a wait of one take more, whatever that was answered but that it is too late
+pub waited_again : (before mid after : Known) (request : ℕ) (a : Answer) → (a ≡ Late → ⊥) →
+    Waited before request (Replied Pending) mid → IsSamePass mid after →
+    Legal mid.door.policy after.seen → Answered mid (Take request) a after →
+    Waited before request a after
+waited_again before mid after request (Replied reply) made w same legal a =
+    waited_more before mid after request reply w same legal a
+waited_again before mid after request Late made w same legal a = absurd (made refl)
+
+-- the policy of a door is that of its passes
+pub at_door : (door : Doorway) (pass : Known) (run : List Entry) → pass.door ≡ door →
+    Legal door.policy run → Legal pass.door.policy run
+at_door door pass run is legal =
+    subst (λ (d : Doorway). Legal d.policy run) (sym is) legal
+
 no_leave : (ask : Ask) (act : Act) → ask ≡ ToAct act → ask ≡ Leave → ⊥
 no_leave ask act e f = cc
 

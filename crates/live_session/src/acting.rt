@@ -89,11 +89,15 @@ fn make<R: Wait>(rt: &R, door: &Door, pass: &mut Pass, seat: &mut Seat, act: Act
     }
 }
 
-fn came_of(answer: Answer) -> Came
+// What a line came to whose last call was answered so. It counts as one call, if it was made.
+fn came_of(seat: &mut Seat, answer: Answer) -> Came
     ensures { result ≡ came_of answer }
 {
     match answer {
-        Answer::Reply(reply) => Came::Reply(reply),
+        Answer::Reply(reply) => {
+            seat.called();
+            Came::Reply(reply)
+        }
         Answer::Exhausted => Came::Exhausted,
     }
 }
@@ -115,8 +119,14 @@ pub(crate) fn act_on<R: Wait>(
     ensures named { CameNamesKnown door.now.policy result }
 {
     match ask {
-        Ask::Act(act) => came_of(make(rt, door, pass, seat, act)),
-        Ask::Wait(request) => came_of(wait(rt, door, pass, seat, request)),
+        Ask::Act(act) => {
+            let answer = make(rt, door, pass, seat, act);
+            came_of(seat, answer)
+        }
+        Ask::Wait(request) => {
+            let answer = wait(rt, door, pass, seat, request);
+            came_of(seat, answer)
+        }
         Ask::Leave => Came::Left,
     }
 }

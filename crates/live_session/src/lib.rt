@@ -4,6 +4,7 @@
 
 mod acting;
 mod answer;
+mod desk;
 mod ending;
 mod line;
 mod peer;
@@ -12,6 +13,7 @@ mod run;
 mod seat;
 mod session;
 
+pub use desk::Desk;
 pub use ending::SessionEnd;
 pub use line::{BadLine, LINE_LIMIT};
 pub use peer::{Peer, Session};

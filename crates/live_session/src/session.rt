@@ -8,6 +8,7 @@ ghost use Rattle.live_session.specs.Sessions.{Serves, ServesIfBegun};
 ghost use Rattle.live_session.specs.Steps.{Holds, TakesIn, behind};
 
 use crate::answer::answer_line;
+use crate::desk::Desk;
 use crate::ending::SessionEnd;
 use crate::line::Unfinished;
 use crate::requests::Requests;
@@ -127,7 +128,10 @@ fn hold<R: Wait, S: Source, O: Sink>(
 /// ended or waits too, so that nobody is left who could settle it. `leave` is answered by `left`,
 /// and ends the session, as does a call after 2^62 turns of the door, answered by `exhausted`. Any
 /// other line is answered by `bad NAME`: then nothing was done, and the session goes on.
-pub fn serve<R: Wait, S: Source, O: Sink>(
+///
+/// The source is told when the session begins, before its first line is read, and when it has
+/// ended; no turn and no place of the stage is held meanwhile.
+pub fn serve<R: Wait, S: Source + Desk, O: Sink>(
     rt: &R,
     alloc: Global,
     door: &Door,
@@ -154,11 +158,15 @@ pub fn serve<R: Wait, S: Source, O: Sink>(
         Ok(requests) => requests,
         Err(_) => {
             stage.end(rt, role);
+            source.open();
+            source.close(SessionEnd::NoMemory, 0);
             return Some(SessionEnd::NoMemory);
         }
     };
     let mut seat = Seat::new(rt, stage, role, requests);
+    source.open();
     let end = hold(rt, alloc, door, policy, pass, &mut seat, source, sink);
-    seat.end(rt);
+    let calls = seat.end(rt);
+    source.close(end, calls);
     Some(end)
 }
