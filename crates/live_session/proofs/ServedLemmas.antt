@@ -10,7 +10,8 @@ use Rattle.live_session.specs.declared.peer.Job.{Job}
 use Rattle.live_session.specs.declared.peer.Played.{Played}
 use Rattle.live_session.specs.declared.peer.Serving.{Serving}
 use Rattle.live_session.specs.Joining.{HasServed, AllServed, handed, passes_of, peers_of}
-use Rattle.live_session.specs.Joining.{passes_in, ends_of, ends_in, IsFresh, ArePrepared, HaveEnded}
+use Rattle.live_session.specs.Joining.{passes_in, end_of, ends_of, end_in, ends_in, IsFresh}
+use Rattle.live_session.specs.Joining.{ArePrepared, HaveEnded}
 use Rattle.live_session.specs.Sessions.{Serves, ServesIfBegun}
 use Rattle.live_session.specs.declared.ending.SessionEnd.{SessionEnd}
 use Rattle.live_session.specs.Served.{SessionOf, ServedAll}
@@ -27,6 +28,16 @@ use Rattle.hall_turn.specs.Known.{Known, Doorway}
 use Rattle.hall_turn.specs.Answers.{new_pass, new_passes}
 use Rattle.hall_turn.specs.Ending.{HasMade, Closed}
 use Rattle.hall_turn.proofs.HallTurnLemmas.{passes_length}
+
+none_left : {A : Type 0} (rest : List A) → length rest ≡ 0 → rest ≡ []
+none_left [] e = refl
+none_left (x ∷ rest) e = absurd (omega arith)
+
+-- nothing is left, so these were all
+pub all_yielded : {A : Type 0} (done rest all : List A) → done ++ rest ≡ all → length rest ≡ 0 →
+    done ≡ all
+all_yielded done rest all whole none = sym (append-nil done)
+    ∙ ap (λ l. done ++ l) (sym (none_left rest none)) ∙ whole
 
 module _ {S O : Type 0} (fails : S → ℕ) (left : S → Option (List ℕ)) (failures : O → ℕ)
     (contents : O → Option (List ℕ)) where
@@ -61,10 +72,6 @@ module _ {S O : Type 0} (fails : S → ℕ) (left : S → Option (List ℕ)) (fa
       (sym pushed)
       (push_served (handed handles) before handle.promise.0.value played h new)
 
-  none_left : (left_over : List (Job S O)) → length left_over ≡ 0 → left_over ≡ []
-  none_left [] e = refl
-  none_left (j ∷ left_over) e = absurd (omega arith)
-
   -- all jobs were handed out
   pub all_handed : {E : Type 0} (r : Result (Vec (Played S O)) E)
       (jobs done left_over : List (Job S O))
@@ -73,8 +80,7 @@ module _ {S O : Type 0} (fails : S → ℕ) (left : S → Option (List ℕ)) (fa
       IfOk r (λ all. Each (handed handles) all.items) → IfOk r (λ all. Each jobs all.items)
   all_handed (Ok all) jobs done left_over handles are whole none h =
       subst (λ (l : List (Job S O)). Each l all.items)
-      (are ∙ sym (append-nil done) ∙ ap (λ (l : List (Job S O)). done ++ l)
-      (sym (none_left left_over none)) ∙ whole) h
+      (are ∙ all_yielded done left_over jobs whole none) h
   all_handed (Err e) jobs done left_over handles are whole none h = tt
 
 -- nothing comes of it where it cannot be so
@@ -87,7 +93,8 @@ same_append : {A : Type 0} (xs ys : List A) (x y : A) → xs ≡ ys → x ≡ y 
     xs ++ x ∷ [] ≡ ys ++ y ∷ []
 same_append xs ys x y e f = cc
 
-same_pair : {A B : Type 0} {a c : A} {b d : B} → a ≡ c → b ≡ d → (a, b) ≡ (c, d)
+same_pair : {A B : Type 0} {a c : A} {b d : B} → a ≡ c → b ≡ d →
+    ◌≡◌ {A = A × B} (a, b) (c, d)
 same_pair e f = cc
 
 module _ {S O : Type 0} where
@@ -101,19 +108,23 @@ module _ {S O : Type 0} where
       peers_of (jobs ++ job ∷ []) ≡ peers_of jobs ++ job.peer ∷ []
   shared_peers jobs job = map-append (λ (j : Job S O). j.peer) jobs (job ∷ [])
 
-  pub one_pass_more : (done : List (Played S O)) (played : Played S O) →
-      passes_in done ++ played.pass ∷ [] ≡ passes_in (done ++ played ∷ [])
-  one_pass_more done played = sym (map-append (λ (p : Played S O). p.pass) done (played ∷ []))
+  pub one_pass_more : (done : List (Played S O)) (played : Played S O) (before after : List Known) →
+      before ≡ passes_in done → after ≡ before ++ played.pass ∷ [] →
+      after ≡ passes_in (done ++ played ∷ [])
+  one_pass_more done played before after are pushed = pushed
+      ∙ ap (λ (l : List Known). l ++ played.pass ∷ []) are
+      ∙ sym (map-append (λ (p : Played S O). p.pass) done (played ∷ []))
 
-  pub one_end_more : (sessions : List (Session S O)) (done : List (Played S O))
-      (session : Session S O) (played : Played S O) → ends_of sessions ≡ ends_in done →
-      session.peer ≡ played.peer → played.ended ≡ Some session.end →
-      ends_of (sessions ++ session ∷ []) ≡ ends_in (done ++ played ∷ [])
-  one_end_more sessions done session played are peer ended =
-      map-append (λ (s : Session S O). (s.peer, Some s.end)) sessions (session ∷ [])
-      ∙ same_append (ends_of sessions) (ends_in done) (session.peer, Some session.end)
-      (played.peer, played.ended) are (same_pair peer (sym ended))
-      ∙ sym (map-append (λ (p : Played S O). (p.peer, p.ended)) done (played ∷ []))
+  pub one_end_more : (done : List (Played S O)) (played : Played S O)
+      (before after : List (Session S O)) (session : Session S O) → ends_of before ≡ ends_in done →
+      after ≡ before ++ session ∷ [] → session.peer ≡ played.peer →
+      played.ended ≡ Some session.end → ends_of after ≡ ends_in (done ++ played ∷ [])
+  one_end_more done played before after session are pushed peer ended =
+      ap (ends_of {S = S} {O = O}) pushed
+      ∙ map-append (end_of {S = S} {O = O}) before (session ∷ [])
+      ∙ same_append (ends_of before) (ends_in done) (end_of session) (end_in played) are
+      (same_pair peer (sym ended))
+      ∙ sym (map-append (end_in {S = S} {O = O}) done (played ∷ []))
 
   -- the jobs of a new door
   jobs_long : (door : Doorway) (n : ℕ) (jobs : List (Job S O)) →
@@ -183,8 +194,8 @@ module _ {S O : Type 0} (fails : S → ℕ) (left : S → Option (List ℕ)) (fa
 
     many_sessions : length ended.sessions.items ≡ processes wall
     many_sessions =
-        sym (length-map ended.sessions.items (λ (y : Session S O). (y.peer, Some y.end)))
-        ∙ ap length h.sessions ∙ length-map h.all (λ (y : Played S O). (y.peer, y.ended))
+        sym (length-map ended.sessions.items (end_of {S = S} {O = O}))
+        ∙ ap length h.sessions ∙ length-map h.all (end_in {S = S} {O = O})
         ∙ many_served
 
     pub all_come : processes door.policy ≤ length ended.passes.items
@@ -240,14 +251,13 @@ module _ {S O : Type 0} (fails : S → ℕ) (left : S → Option (List ℕ)) (fa
         ∙ get_or-map (λ (y : Job S O). y.peer) jobs i j d low
         ∙ ap (λ (y : Job S O). y.peer) (at.job_is j) in
         let session = get_or ended.sessions.items i e in
-        let none = (x.peer, x.ended) in
+        let none = end_in x in
         let in_sessions = many_sessions in
-        let told : (session.peer, Some session.end) ≡ (x.peer, x.ended) =
-        sym (get_or-map (λ (y : Session S O). (y.peer, Some y.end)) ended.sessions.items i e none
-        (omega arith))
+        let told : end_of session ≡ end_in x =
+        sym (get_or-map (end_of {S = S} {O = O}) ended.sessions.items i e none (omega arith))
         ∙ ap (λ (l : List (Peer S O × Option SessionEnd)). get_or l i none) h.sessions
-        ∙ get_or-map (λ (y : Played S O). (y.peer, y.ended)) h.all i x none in_all
-        ∙ ap (λ (y : Played S O). (y.peer, y.ended)) (at.played_is x) in
+        ∙ get_or-map (end_in {S = S} {O = O}) h.all i x none in_all
+        ∙ ap (end_in {S = S} {O = O}) (at.played_is x) in
         let wall_is : j.pass.door.policy ≡ wall =
         ap (λ (y : Known). y.door.policy) pass ∙ p.policy in
         record {

@@ -18,26 +18,6 @@ use Rattle.live_session.specs.declared.run.Ended.{Ended}
 use Rattle.live_session.specs.declared.ending.SessionEnd.{SessionEnd}
 use Rattle.live_session.specs.Sessions.{ServesIfBegun}
 
-module _ {S O : Type 0} (fails : S → ℕ) (left : S → Option (List ℕ)) (failures : O → ℕ)
-    (contents : O → Option (List ℕ)) where
-  -- what became of a job
-  pub record HasServed (job : Job S O) (played : Played S O) : Type 0 where
-    pub so : ServesIfBegun job.pass.door.policy
-        (used fails left job.peer.source played.peer.source)
-        (used failures contents job.peer.sink played.peer.sink) job.pass played.pass played.ended
-    pub same : IsSamePass job.pass played.pass
-
-  abbrev pub AllServed : List (Job S O) → List (Played S O) → Type 0
-  AllServed jobs all = AllZip HasServed jobs all
-
-  -- what all threads gave back, sorted
-  pub record HaveEnded (jobs : List (Job S O)) (ended : Ended S O) : Type 0 where
-    pub all : List (Played S O)
-    pub served : AllServed jobs all
-    pub passes : ended.passes.items ≡ map (λ played. played.pass) all
-    pub sessions : map (λ session. (session.peer, Some session.end)) ended.sessions.items
-        ≡ map (λ played. (played.peer, played.ended)) all
-
 module _ {S O : Type 0} where
   -- a job at the door whose pass has seen nothing
   pub record IsFresh (door : Doorway) (job : Job S O) : Type 0 where
@@ -57,13 +37,19 @@ module _ {S O : Type 0} where
   abbrev pub passes_in : List (Played S O) → List Known
   passes_in all = map (λ played. played.pass) all
 
-  -- the devices of sessions, and how each ended
-  abbrev pub ends_of : List (Session S O) → List (Peer S O × Option SessionEnd)
-  ends_of sessions = map (λ session. (session.peer, Some session.end)) sessions
+  -- the devices of a session, and how it ended
+  abbrev pub end_of : Session S O → Peer S O × Option SessionEnd
+  end_of session = (session.peer, Some session.end)
 
-  -- the devices that came back, and how each session ended, if it began
+  abbrev pub ends_of : List (Session S O) → List (Peer S O × Option SessionEnd)
+  ends_of sessions = map end_of sessions
+
+  -- the devices that came back, and how their session ended, if it began
+  abbrev pub end_in : Played S O → Peer S O × Option SessionEnd
+  end_in played = (played.peer, played.ended)
+
   abbrev pub ends_in : List (Played S O) → List (Peer S O × Option SessionEnd)
-  ends_in all = map (λ played. (played.peer, played.ended)) all
+  ends_in all = map end_in all
 
   -- a door with the policy, and a job for each of its passes, with the devices, in order
   pub record ArePrepared (wall : ChineseWall) (peers : List (Peer S O)) (door : Doorway)
@@ -78,3 +64,22 @@ module _ {S O : Type 0} where
     pub sessions : (room.sessions.items ≡ []) × (count ≤ vec_capacity room.sessions)
     pub ended : (room.ended.items ≡ []) × (count ≤ vec_capacity room.ended)
     pub handles : (room.handles.items ≡ []) × (count ≤ vec_capacity room.handles)
+
+module _ {S O : Type 0} (fails : S → ℕ) (left : S → Option (List ℕ)) (failures : O → ℕ)
+    (contents : O → Option (List ℕ)) where
+  -- what became of a job
+  pub record HasServed (job : Job S O) (played : Played S O) : Type 0 where
+    pub so : ServesIfBegun job.pass.door.policy
+        (used fails left job.peer.source played.peer.source)
+        (used failures contents job.peer.sink played.peer.sink) job.pass played.pass played.ended
+    pub same : IsSamePass job.pass played.pass
+
+  abbrev pub AllServed : List (Job S O) → List (Played S O) → Type 0
+  AllServed jobs all = AllZip HasServed jobs all
+
+  -- what all threads gave back, sorted
+  pub record HaveEnded (jobs : List (Job S O)) (ended : Ended S O) : Type 0 where
+    pub all : List (Played S O)
+    pub served : AllServed jobs all
+    pub passes : ended.passes.items ≡ passes_in all
+    pub sessions : ends_of ended.sessions.items ≡ ends_in all

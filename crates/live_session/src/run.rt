@@ -9,6 +9,7 @@ ghost use Rattle.live_session.specs.Joining.{IsFresh, HasServed, AllServed, hand
 ghost use Rattle.live_session.specs.Joining.{passes_of, peers_of, passes_in, ends_of, ends_in};
 ghost use Rattle.live_session.specs.Joining.{ArePrepared, HaveEnded, HasRoomFor};
 
+use crate::desk::Desk;
 use crate::peer::{Job, Peer, Played, Serving, Session};
 use crate::session::serve;
 use hall_core::{Hall, NoMemory};
@@ -24,7 +25,7 @@ use wall_labels::{Sink, Source};
 use wall_policy::Policy;
 
 // A session from its start to its end; or nothing of it, where the run is given up.
-fn play<R: Wait, S: Source + Drop, O: Sink + Drop>(
+fn play<R: Wait, S: Source + Desk + Drop, O: Sink + Drop>(
     rt: &R,
     alloc: Global,
     door: &Door,
@@ -61,7 +62,7 @@ fn play<R: Wait, S: Source + Drop, O: Sink + Drop>(
 }
 
 // Joins all threads, and keeps what they gave.
-fn join_all<R: Threads, S: Source + Send + Drop, O: Sink + Send + Drop>(
+fn join_all<R: Threads, S: Source + Desk + Send + Drop, O: Sink + Send + Drop>(
     rt: &R,
     handles: Vec<PromisedHandle<Played<S, O>, Serving<S, O>>>,
     mut ended: Vec<Played<S, O>>,
@@ -79,7 +80,7 @@ fn join_all<R: Threads, S: Source + Send + Drop, O: Sink + Send + Drop>(
 
 // The sessions begin if all have their threads, or go home. All have ended, and are joined, when it
 // returns.
-fn end_all<R: Threads + Wait, S: Source + Send + Drop, O: Sink + Send + Drop>(
+fn end_all<R: Threads + Wait, S: Source + Desk + Send + Drop, O: Sink + Send + Drop>(
     rt: &R,
     stage: &Stage,
     all_started: bool,
@@ -103,7 +104,7 @@ fn end_all<R: Threads + Wait, S: Source + Send + Drop, O: Sink + Send + Drop>(
 }
 
 // A thread for each job, as far as none is refused.
-fn run_each<R: Threads + Wait + Sync, S: Source + Send + Drop, O: Sink + Send + Drop>(
+fn run_each<R: Threads + Wait + Sync, S: Source + Desk + Send + Drop, O: Sink + Send + Drop>(
     rt: &R,
     alloc: Global,
     door: &Door,
@@ -174,7 +175,7 @@ pub enum ServeFault {
 
 // The start of the sessions, and room for what their threads give back.
 #[derive(Drop)]
-pub(crate) struct Room<S: Source + Drop, O: Sink + Drop> {
+pub(crate) struct Room<S: Source + Desk + Drop, O: Sink + Drop> {
     stage: Stage,
     passes: Passes,
     sessions: Vec<Session<S, O>>,
@@ -184,7 +185,7 @@ pub(crate) struct Room<S: Source + Drop, O: Sink + Drop> {
 
 // A door, a job for each process there, and room for all of them.
 #[derive(Drop)]
-pub(crate) struct Ready<S: Source + Drop, O: Sink + Drop> {
+pub(crate) struct Ready<S: Source + Desk + Drop, O: Sink + Drop> {
     door: Door,
     jobs: Vec<Job<S, O>>,
     room: Room<S, O>,
@@ -219,7 +220,7 @@ fn share_out<S: Drop, O: Drop>(
 }
 
 // Room for so many sessions.
-fn make_room<S: Source + Drop, O: Sink + Drop>(
+fn make_room<S: Source + Desk + Drop, O: Sink + Drop>(
     alloc: Global,
     count: usize,
 ) -> Result<Room<S, O>, AllocError>
@@ -240,7 +241,7 @@ fn make_room<S: Source + Drop, O: Sink + Drop>(
 }
 
 // A door, a job for each process there, and room for all of them.
-fn prepare<S: Source + Drop, O: Sink + Drop>(
+fn prepare<S: Source + Desk + Drop, O: Sink + Drop>(
     alloc: Global,
     policy: &Policy,
     peers: Vec<Peer<S, O>>,
@@ -288,7 +289,7 @@ fn sort_out<S: Drop, O: Drop>(
 }
 
 // All sessions at the same time, in the room that was made for them. None where none began.
-fn run_jobs<R: Threads + Wait + Sync, S: Source + Send + Drop, O: Sink + Send + Drop>(
+fn run_jobs<R: Threads + Wait + Sync, S: Source + Desk + Send + Drop, O: Sink + Send + Drop>(
     rt: &R,
     alloc: Global,
     door: &Door,
@@ -335,7 +336,7 @@ fn close_up<S: Drop, O: Drop>(door: Door, ended: Ended<S, O>) -> Served<S, O>
 ///
 /// `BadPeers` is answered exactly where there are not devices for each process, and no others. After
 /// a fault no call was made.
-pub fn serve_all<R: Threads + Wait + Sync, S: Source + Send + Drop, O: Sink + Send + Drop>(
+pub fn serve_all<R: Threads + Wait + Sync, S: Source + Desk + Send + Drop, O: Sink + Send + Drop>(
     rt: &R,
     alloc: Global,
     policy: &Policy,

@@ -22,8 +22,8 @@ close_up-requires-clause-all g c =
     c.args.policy.now c.args.peers.items r.door r.jobs.items c.in-Some.ended
     c.in-Ok.ensures.prepared c.in-Some.ensures
 
-pub returns-in-Some-clause-served : goal.returns-in-Some-clause-served
-returns-in-Some-clause-served g c =
+pub returns-clause-served : goal.returns-clause-served
+returns-clause-served g c =
     let r = c.in-Ok.ready in
     subst (λ v. ServedAll g.S.Source.failures g.S.Source.remaining g.O.Sink.failures
     g.O.Sink.contents c.args.policy.now c.args.peers.items v.items c.close_up.result.hall)

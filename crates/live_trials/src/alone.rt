@@ -1,0 +1,283 @@
+//! The session of a process that is alone.
+ghost use Rattle.std.specs.Prelude.{◌≡◌};
+ghost use Rattle.std.specs.List.{All};
+
+use crate::devices::{Due, Heard, answers, client, nothing_heard};
+use crate::parties::{ALONE, wall};
+use hall_turn::{Door, Pass, Passes};
+use live_session::{SessionEnd, serve};
+use rank_stage::Stage;
+use std::alloc::Global;
+use std::process::Abort;
+use std::sync::Wait;
+use std::test::Fail;
+use wall_labels::memory::Fuse;
+use wall_policy::Policy;
+
+/// As many bytes as come at a time where nothing else is said.
+const WHOLE: usize = usize::MAX;
+
+/// A session: its lines, their answers, and how it is to end.
+#[derive(Clone, Copy)]
+struct Session<'a> {
+    lines: &'a [u8],
+    answers: &'a str,
+    due: Due,
+}
+
+fn ended(end: SessionEnd, calls: u64) -> Due {
+    Due { end, calls }
+}
+
+/// A door under the policy, and the pass of its only process.
+pub(crate) fn door_alone<R: Abort>(rt: &R, alloc: Global, policy: &Policy) -> (Door, Pass)
+    ensures policy { result.0.policy ≡ policy.now }
+    ensures pass { result.1.door ≡ result.0 }
+{
+    let copy = policy.copy(alloc).expect(rt, "no memory");
+    let (door, mut passes) = Door::open(alloc, copy).expect(rt, "no door");
+    let pass = last(rt, &door, &mut passes);
+    drop(passes);
+    (door, pass)
+}
+
+// The last of the passes.
+fn last<R: Abort>(rt: &R, door: &Door, passes: &mut Passes) -> Pass
+    requires { All (λ pass. pass.door ≡ door.now) passes.old.items }
+    ensures { result.door ≡ door.now }
+{
+    passes.pop().expect(rt, "no pass is left")
+}
+
+// Whether the session ends as it is to, with these answers; `begins` says whether its stage is
+// released or given up.
+fn is_served<R: Abort + Wait>(
+    rt: &R,
+    alloc: Global,
+    session: Session,
+    piece: usize,
+    reads: Fuse,
+    writes: Fuse,
+) -> bool {
+    let heard = nothing_heard();
+    let end = serve_alone(rt, alloc, session, piece, (reads, writes), true, &heard);
+    end == Some(session.due.end) && heard.is_whole()
+}
+
+// How the session ends. None where it does not begin, or its answers are not these.
+fn serve_alone<R: Abort + Wait>(
+    rt: &R,
+    alloc: Global,
+    session: Session,
+    piece: usize,
+    fuses: (Fuse, Fuse),
+    begins: bool,
+    heard: &Heard,
+) -> Option<SessionEnd> {
+    let (reads, writes) = fuses;
+    let policy = wall(rt, alloc, ALONE);
+    let (door, mut pass) = door_alone(rt, alloc, &policy);
+    let stage = Stage::new(alloc, 1, 1024, false).expect(rt, "no stage");
+    let _ = stage.release(rt, begins);
+    let mut source = client(session.lines, reads, piece, session.due, heard);
+    let mut sink = answers(session.answers, writes, heard);
+    let end = serve(
+        rt,
+        alloc,
+        &door,
+        &policy,
+        &stage,
+        &mut pass,
+        &mut source,
+        &mut sink,
+    );
+    let are_all = sink.are_all();
+    drop(stage);
+    drop(pass);
+    drop(door);
+    if are_all { end } else { None }
+}
+
+const LINES: &[u8] = b"info 0\nfoo\n\nposts 1\ntake 0\r\npost 0 allreduce sum int32 1 as alpha 7\n\
+take 0\ntake 0\n#\ninfo 0";
+
+const ANSWERS: &str = "info size 1 rank 0
+bad BadVerb
+bad BadShape
+bad BadVerb
+refused NoSuchRequest
+posted 0
+delivered [7]
+refused NoSuchRequest
+bad BadVerb
+";
+
+/// Each finished line gets one answer, wherever the bytes are cut, and the cut last line none. The
+/// desk hears of five calls.
+#[test]
+fn lines_are_answered(rt: HostRuntime) {
+    let session = Session {
+        lines: LINES,
+        answers: ANSWERS,
+        due: ended(SessionEnd::EndOfStream, 5),
+    };
+    for piece in [1, 2, 3, 7, 64, WHOLE] {
+        let is = is_served(&rt, rt.alloc(), session, piece, Fuse::Whole, Fuse::Whole);
+        assert!(&rt; is, "{piece} bytes at a time");
+    }
+}
+
+/// A read that fails ends the session: what came before is answered.
+#[test]
+fn readers_fail(rt: HostRuntime) {
+    let none = Session {
+        lines: LINES,
+        answers: "",
+        due: ended(SessionEnd::ReadFailed, 0),
+    };
+    let is = is_served(&rt, rt.alloc(), none, WHOLE, Fuse::After(0), Fuse::Whole);
+    assert!(&rt; is, "at once");
+    let three = Session {
+        lines: LINES,
+        answers: "info size 1 rank 0\nbad BadVerb\nbad BadShape\n",
+        due: ended(SessionEnd::ReadFailed, 1),
+    };
+    let is = is_served(&rt, rt.alloc(), three, 1, Fuse::After(15), Fuse::Whole);
+    assert!(&rt; is, "in the middle of a line");
+    let all = Session {
+        lines: LINES,
+        answers: ANSWERS,
+        due: ended(SessionEnd::ReadFailed, 5),
+    };
+    let is = is_served(&rt, rt.alloc(), all, WHOLE, Fuse::After(1), Fuse::Whole);
+    assert!(&rt; is, "at the end");
+}
+
+/// A write that fails ends the session: nothing behind its line is acted on.
+#[test]
+fn writers_fail(rt: HostRuntime) {
+    for (answers, calls) in [
+        ("", 1),
+        ("info size 1 rank 0\n", 1),
+        (
+            "info size 1 rank 0\nbad BadVerb\nbad BadShape\nbad BadVerb\n",
+            2,
+        ),
+    ] {
+        let session = Session {
+            lines: LINES,
+            answers,
+            due: ended(SessionEnd::WriteFailed, calls),
+        };
+        let writes = Fuse::After(answers.lines().count() as u64);
+        let is = is_served(&rt, rt.alloc(), session, WHOLE, Fuse::Whole, writes);
+        assert!(&rt; is, "after {calls} calls");
+    }
+}
+
+/// A line of 2,097,152 bytes is read, and one of a byte more is passed over.
+#[test]
+fn long_lines_are_passed_over(rt: HostRuntime) -> Result<(), Fail> {
+    let mut lines = Vec::new(rt.alloc());
+    for _ in 0..2097153 {
+        lines.push(b'x')?;
+    }
+    lines.extend_from_slice(b"\ninfo 0\n")?;
+    let due = ended(SessionEnd::EndOfStream, 1);
+    let long = Session {
+        lines: &lines,
+        answers: "bad TooLong\ninfo size 1 rank 0\n",
+        due,
+    };
+    let is = is_served(&rt, rt.alloc(), long, WHOLE, Fuse::Whole, Fuse::Whole);
+    assert!(&rt; is, "a byte more");
+    let short = Session {
+        lines: &lines[1..],
+        answers: "bad BadVerb\ninfo size 1 rank 0\n",
+        due,
+    };
+    let is = is_served(&rt, rt.alloc(), short, WHOLE, Fuse::Whole, Fuse::Whole);
+    assert!(&rt; is, "as many as there can be");
+    Ok(())
+}
+
+/// `leave` is answered, and nothing behind it is; with anything behind it on its line it is bad.
+#[test]
+fn leave_ends_a_session(rt: HostRuntime) {
+    let left = Session {
+        lines: b"leave now\nleave \nleave\r\ninfo 0\n",
+        answers: "bad BadShape\nbad BadShape\nleft\n",
+        due: ended(SessionEnd::Left, 0),
+    };
+    for piece in [1, WHOLE] {
+        let is = is_served(&rt, rt.alloc(), left, piece, Fuse::Whole, Fuse::Whole);
+        assert!(&rt; is, "{piece} bytes at a time");
+    }
+    let unheard = Session {
+        lines: b"leave\n",
+        answers: "",
+        due: ended(SessionEnd::WriteFailed, 0),
+    };
+    let is = is_served(&rt, rt.alloc(), unheard, WHOLE, Fuse::Whole, Fuse::After(0));
+    assert!(&rt; is, "nobody reads the answer");
+}
+
+/// A wait of a process that is alone: for what has settled, was taken, or was never given. It is
+/// one call, however often it takes.
+#[test]
+fn a_process_alone_waits_for_nobody(rt: HostRuntime) {
+    let session = Session {
+        lines: b"post 0 barrier\nwait 0\nwait 0\nwait 7\nwait\nwait 0 0\nwait -1\n",
+        answers: "posted 0
+delivered none
+refused NoSuchRequest
+refused NoSuchRequest
+bad BadShape
+bad BadShape
+bad BadField
+",
+        due: ended(SessionEnd::EndOfStream, 4),
+    };
+    let is = is_served(&rt, rt.alloc(), session, WHOLE, Fuse::Whole, Fuse::Whole);
+    assert!(&rt; is);
+}
+
+/// A session that is sent home does not begin: nothing is read or written, and its desk hears
+/// nothing.
+#[test]
+fn a_session_may_not_begin(rt: HostRuntime) {
+    let session = Session {
+        lines: LINES,
+        answers: "",
+        due: ended(SessionEnd::EndOfStream, 0),
+    };
+    let heard = nothing_heard();
+    let whole = (Fuse::Whole, Fuse::Whole);
+    let end = serve_alone(&rt, rt.alloc(), session, WHOLE, whole, false, &heard);
+    assert!(&rt; end.is_none());
+    assert!(&rt; heard.is_silent());
+}
+
+/// What these tests rest on notices what is not as expected: an answer, an end, and a number of
+/// calls.
+#[test]
+fn what_is_wrong_is_noticed(rt: HostRuntime) {
+    for (answers, due) in [
+        ("info size 1 rank 1\n", ended(SessionEnd::EndOfStream, 1)),
+        (
+            "info size 1 rank 0\nleft\n",
+            ended(SessionEnd::EndOfStream, 1),
+        ),
+        ("", ended(SessionEnd::EndOfStream, 1)),
+        ("info size 1 rank 0\n", ended(SessionEnd::Left, 1)),
+        ("info size 1 rank 0\n", ended(SessionEnd::EndOfStream, 2)),
+    ] {
+        let session = Session {
+            lines: b"info 0\n",
+            answers,
+            due,
+        };
+        let is = is_served(&rt, rt.alloc(), session, WHOLE, Fuse::Whole, Fuse::Whole);
+        assert!(&rt; !is);
+    }
+}

@@ -1,0 +1,206 @@
+//! A session that is held, by a client that does not go on, holds up nobody; and one that waits
+//! takes no processor.
+
+use crate::devices::{Answers, Client, Due, Hold, LOOKS, answers, client, hearers, nothing_heard};
+use crate::parties::{FRIENDS, many, wall};
+use live_session::{Desk, Peer, SessionEnd, serve_all};
+use std::alloc::Global;
+use std::process::Abort;
+use std::sync::Wait;
+use std::test::Fail;
+use std::thread;
+use std::thread::Threads;
+use std::time::{Clock, CpuClock, Duration};
+use wall_labels::memory::Fuse;
+use wall_labels::{Failed, Sink, Source};
+
+fn at_end(calls: u64) -> Due {
+    Due {
+        end: SessionEnd::EndOfStream,
+        calls,
+    }
+}
+
+// Whether both sessions end as they are to.
+fn both_end<R: Abort + Threads + Wait + Sync>(
+    rt: &R,
+    alloc: Global,
+    one: Peer<Client, Answers>,
+    other: Peer<Client, Answers>,
+) -> bool {
+    let policy = wall(rt, alloc, FRIENDS);
+    let peers = Vec::from_array(alloc, [one, other]).expect(rt, "no memory");
+    let served = serve_all(rt, alloc, &policy, peers).expect(rt, "not served");
+    let mut are_all = served.sessions.len() == 2;
+    for session in &served.sessions {
+        are_all = are_all && session.peer.sink.are_all();
+    }
+    drop(served);
+    are_all
+}
+
+/// While the reply of process 0 is being written, and its client does not read, process 1 begins,
+/// and its lines are answered: a post that settles an instance, a take, and a wait for it. What
+/// holds a lock while it writes is late.
+#[test]
+fn a_client_that_does_not_read_holds_up_nobody(rt: HostRuntime) {
+    let (first, second) = (nothing_heard(), nothing_heard());
+    let mut one = Peer {
+        source: client(
+            b"post 0 barrier\ntake 0\n",
+            Fuse::Whole,
+            64,
+            at_end(2),
+            &first,
+        ),
+        sink: answers("posted 0\ndelivered none\n", Fuse::Whole, &first),
+    };
+    let mut other = Peer {
+        source: client(
+            b"post 0 barrier\nwait 0\ntake 0\n",
+            Fuse::Whole,
+            64,
+            at_end(3),
+            &second,
+        ),
+        sink: answers(
+            "posted 0\ndelivered none\nrefused NoSuchRequest\n",
+            Fuse::Whole,
+            &second,
+        ),
+    };
+    one.sink.hold = Some(Hold {
+        call: 0,
+        count: &second.writes,
+        wanted: 3,
+        looks: LOOKS,
+    });
+    other.source.hold = Some(Hold {
+        call: 0,
+        count: &first.writes,
+        wanted: 1,
+        looks: LOOKS,
+    });
+    assert!(&rt; both_end(&rt, rt.alloc(), one, other));
+    assert!(&rt; first.is_whole() && second.is_whole());
+}
+
+/// While the client of process 0 has written half a line, and stops, process 1 begins, and its
+/// lines are answered.
+#[test]
+fn a_client_that_stops_in_a_line_holds_up_nobody(rt: HostRuntime) {
+    let (first, second) = (nothing_heard(), nothing_heard());
+    let mut one = Peer {
+        source: client(
+            b"post 0 barrier\ntake 0\n",
+            Fuse::Whole,
+            10,
+            at_end(2),
+            &first,
+        ),
+        sink: answers("posted 0\npending\n", Fuse::Whole, &first),
+    };
+    let mut other = Peer {
+        source: client(b"info 0\nfoo\n", Fuse::Whole, 64, at_end(1), &second),
+        sink: answers("info size 2 rank 1\nbad BadVerb\n", Fuse::Whole, &second),
+    };
+    one.source.hold = Some(Hold {
+        call: 1,
+        count: &second.writes,
+        wanted: 2,
+        looks: LOOKS,
+    });
+    other.source.hold = Some(Hold {
+        call: 0,
+        count: &first.reads,
+        wanted: 2,
+        looks: LOOKS,
+    });
+    assert!(&rt; both_end(&rt, rt.alloc(), one, other));
+    assert!(&rt; first.is_whole() && second.is_whole());
+}
+
+/// A device that waits in vain is noticed.
+#[test]
+fn who_is_held_is_noticed(rt: HostRuntime) {
+    let (first, second) = (nothing_heard(), nothing_heard());
+    let mut one = Peer {
+        source: client(b"info 0\n", Fuse::Whole, 64, at_end(1), &first),
+        sink: answers("info size 2 rank 0\n", Fuse::Whole, &first),
+    };
+    let other = Peer {
+        source: client(b"info 0\n", Fuse::Whole, 64, at_end(1), &second),
+        sink: answers("info size 2 rank 1\n", Fuse::Whole, &second),
+    };
+    one.sink.hold = Some(Hold {
+        call: 0,
+        count: &second.writes,
+        wanted: 2,
+        looks: 1000,
+    });
+    assert!(&rt; both_end(&rt, rt.alloc(), one, other));
+    assert!(&rt; !first.is_whole() && second.is_whole());
+}
+
+/// Lines of which the first come late.
+#[derive(Drop)]
+struct Late<'a, R> {
+    client: Client<'a>,
+    rt: &'a R,
+    delay: Duration,
+}
+
+impl<'a, R: Clock> Source for Late<'a, R> {
+    ghost use Rattle.wall_labels.specs.Fuses.{failures_of};
+
+    ghost failures = { λ s. failures_of s.client.lines.fuse };
+
+    fn read(&mut self, buffer: &mut [u8]) -> Result<usize, Failed> {
+        thread::sleep(self.rt, self.delay);
+        self.delay = Duration::from_millis(0);
+        self.client.read(buffer)
+    }
+}
+
+impl<'a, R> Desk for Late<'a, R> {
+    fn open(&self) {
+        self.client.open();
+    }
+
+    fn close(&self, end: SessionEnd, calls: u64) {
+        self.client.close(end, calls);
+    }
+}
+
+/// Sessions that wait take no processor: 31 wait for one that comes a second late, and all together
+/// use less than half a second of processor time. They are woken when it has come.
+#[test]
+fn sessions_that_wait_take_no_processor(rt: HostRuntime) -> Result<(), Fail> {
+    let text = many(rt.alloc(), 32)?;
+    let policy = wall(&rt, rt.alloc(), &text);
+    let hearers = hearers(rt.alloc(), 32)?;
+    let mut peers = Vec::new(rt.alloc());
+    for (process, heard) in hearers.iter().enumerate() {
+        let late = if process == 7 { 1000 } else { 0 };
+        let lines = b"post 0 barrier\nwait 0\n";
+        let source = Late {
+            client: client(lines, Fuse::Whole, 64, at_end(2), heard),
+            rt: &rt,
+            delay: Duration::from_millis(late),
+        };
+        let sink = answers("posted 0\ndelivered none\n", Fuse::Whole, heard);
+        peers.push(Peer { source, sink })?;
+    }
+    let before = rt.process_cpu_time()?;
+    let served = serve_all(&rt, rt.alloc(), &policy, peers).expect(&rt, "not served");
+    for session in &served.sessions {
+        assert!(&rt; session.peer.sink.are_all());
+    }
+    drop(served);
+    let used = rt.process_cpu_time()?.saturating_sub(before).as_millis();
+    assert!(&rt; used < 500, "{used} ms while sessions wait");
+    for heard in &hearers {
+        assert!(&rt; heard.is_whole());
+    }
+    Ok(())
+}

@@ -1,0 +1,62 @@
+//! The policies of these tests. Alpha and beta are rivals, and everybody is at home with alpha.
+
+use std::alloc::{AllocError, Global};
+use std::process::Abort;
+use wall_policy::{Policy, read_policy};
+
+/// One process.
+pub(crate) const ALONE: &str = r#"version = 1
+[[class]]
+name = "banks"
+datasets = ["alpha", "beta"]
+[[process]]
+name = "p0"
+home = "alpha"
+"#;
+
+/// Two processes.
+pub(crate) const FRIENDS: &str = r#"version = 1
+[[class]]
+name = "banks"
+datasets = ["alpha", "beta"]
+[[process]]
+name = "p0"
+home = "alpha"
+[[process]]
+name = "p1"
+home = "alpha"
+"#;
+
+/// Four processes.
+pub(crate) const FOUR: &str = r#"version = 1
+[[class]]
+name = "banks"
+datasets = ["alpha", "beta"]
+[[process]]
+name = "p0"
+home = "alpha"
+[[process]]
+name = "p1"
+home = "alpha"
+[[process]]
+name = "p2"
+home = "alpha"
+[[process]]
+name = "p3"
+home = "alpha"
+"#;
+
+/// A policy of so many processes, at home nowhere.
+pub(crate) fn many(alloc: Global, processes: u32) -> Result<String, AllocError> {
+    let mut text = String::new(alloc);
+    text.push_str("version = 1\n")?;
+    for process in 0..processes {
+        write!(&mut text, "[[process]]\nname = \"p{process}\"\n")?;
+    }
+    Ok(text)
+}
+
+/// The policy of this text.
+pub(crate) fn wall<R: Abort>(rt: &R, alloc: Global, text: &str) -> Policy {
+    read_policy(alloc, text.as_bytes()).expect(rt, "the policy is not read")
+}

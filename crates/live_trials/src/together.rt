@@ -1,0 +1,204 @@
+//! The sessions of several processes, each in a thread of its own.
+
+use crate::devices::{Answers, Client, Due, Heard, answers, client, hearers};
+use crate::parties::{FOUR, FRIENDS, many, wall};
+use live_session::{Peer, ServeFault, SessionEnd, serve_all};
+use std::alloc::{AllocError, Global};
+use std::process::Abort;
+use std::sync::Wait;
+use std::test::Fail;
+use std::thread::Threads;
+use wall_labels::memory::Fuse;
+
+/// A session: its lines, their answers, after how many writes the next fails, and how it is to end.
+#[derive(Clone, Copy)]
+pub(crate) struct Row<'a> {
+    lines: &'a str,
+    answers: &'a str,
+    writes: Fuse,
+    due: Due,
+}
+
+// A session whose devices do not fail.
+fn row<'a>(lines: &'a str, answers: &'a str, end: SessionEnd, calls: u64) -> Row<'a> {
+    Row {
+        lines,
+        answers,
+        writes: Fuse::Whole,
+        due: Due { end, calls },
+    }
+}
+
+// The devices of these sessions.
+fn peers<'a>(
+    alloc: Global,
+    rows: &'a [Row<'a>],
+    hearers: &'a [Heard],
+) -> Result<Vec<Peer<Client<'a>, Answers<'a>>>, AllocError> {
+    let mut peers = Vec::new(alloc);
+    for (row, heard) in rows.iter().zip(hearers) {
+        let lines = row.lines.as_bytes();
+        let source = client(lines, Fuse::Whole, usize::MAX, row.due, heard);
+        let sink = answers(row.answers, row.writes, heard);
+        peers.push(Peer { source, sink })?;
+    }
+    Ok(peers)
+}
+
+// How many of the sessions came to what they were to.
+fn served_so<R: Abort + Threads + Wait + Sync>(
+    rt: &R,
+    alloc: Global,
+    text: &str,
+    rows: &[Row],
+) -> usize {
+    let policy = wall(rt, alloc, text);
+    let hearers = hearers(alloc, rows.len()).expect(rt, "no memory");
+    let peers = peers(alloc, rows, hearers.as_slice()).expect(rt, "no memory");
+    let served = serve_all(rt, alloc, &policy, peers).expect(rt, "not served");
+    let mut count: usize = 0;
+    for (session, row) in served.sessions.iter().zip(rows) {
+        if session.end == row.due.end && session.peer.sink.are_all() {
+            count = count.saturating_add(1);
+        }
+    }
+    drop(served);
+    for heard in &hearers {
+        if !heard.is_whole() {
+            count = 0;
+        }
+    }
+    count
+}
+
+/// Each waits until the other has posted.
+#[test]
+fn two_wait_for_each_other(rt: HostRuntime) {
+    let row = row(
+        "post 0 allreduce sum int32 1 as alpha 7\nwait 0\npost 0 barrier\nwait 1\nleave\nfoo\n",
+        "posted 0\ndelivered [14]\nposted 1\ndelivered none\nleft\n",
+        SessionEnd::Left,
+        4,
+    );
+    assert!(&rt; served_so(&rt, rt.alloc(), FRIENDS, &[row, row]) == 2);
+}
+
+/// Nobody waits for what cannot come: the others have left, or wait too.
+#[test]
+fn waits_that_are_in_vain_are_pending(rt: HostRuntime) {
+    let waits = row(
+        "post 0 barrier\nwait 0\ntake 0\n",
+        "posted 0\npending\npending\n",
+        SessionEnd::EndOfStream,
+        3,
+    );
+    let leaves = row("leave\n", "left\n", SessionEnd::Left, 0);
+    let dies = row(
+        "info 0\npost 0 barr",
+        "info size 4 rank 3\n",
+        SessionEnd::EndOfStream,
+        1,
+    );
+    assert!(&rt; served_so(&rt, rt.alloc(), FRIENDS, &[waits, leaves]) == 2);
+    assert!(&rt; served_so(&rt, rt.alloc(), FRIENDS, &[leaves, waits]) == 2);
+    assert!(&rt; served_so(&rt, rt.alloc(), FOUR, &[waits, waits, leaves, waits]) == 4);
+    assert!(&rt; served_so(&rt, rt.alloc(), FOUR, &[waits, waits, waits, dies]) == 4);
+}
+
+/// Four wait for each other again and again, and each gets the sum.
+#[test]
+fn four_wait_a_thousand_times(rt: HostRuntime) -> Result<(), Fail> {
+    let mut lines = String::new(rt.alloc());
+    let mut answers = String::new(rt.alloc());
+    for number in 0..1000u32 {
+        write!(
+            &mut lines,
+            "post 0 allreduce sum int32 1 as alpha {number}\nwait {number}\n"
+        )?;
+        let sum = number * 4;
+        write!(&mut answers, "posted {number}\ndelivered [{sum}]\n")?;
+    }
+    let row = row(&lines, &answers, SessionEnd::EndOfStream, 2000);
+    assert!(&rt; served_so(&rt, rt.alloc(), FOUR, &[row, row, row, row]) == 4);
+    Ok(())
+}
+
+/// As many sessions as there can be processes post and wait.
+#[test]
+fn all_processes_wait_for_each_other(rt: HostRuntime) -> Result<(), Fail> {
+    let text = many(rt.alloc(), 256)?;
+    let row = row(
+        "post 0 barrier\nwait 0\n",
+        "posted 0\ndelivered none\n",
+        SessionEnd::EndOfStream,
+        2,
+    );
+    let rows = [row; 256];
+    assert!(&rt; served_so(&rt, rt.alloc(), &text, &rows) == 256);
+    Ok(())
+}
+
+/// A session whose writer fails has left, and the other goes on.
+#[test]
+fn a_failed_writer_harms_nobody(rt: HostRuntime) {
+    let goes_on = row(
+        "post 0 barrier\nwait 0\npost 0 barrier\nwait 1\nfoo\n",
+        "posted 0\ndelivered none\nposted 1\npending\nbad BadVerb\n",
+        SessionEnd::EndOfStream,
+        4,
+    );
+    let fails = Row {
+        lines: "post 0 barrier\ninfo 0\npost 0 barrier\n",
+        answers: "posted 0\n",
+        writes: Fuse::After(1),
+        due: Due {
+            end: SessionEnd::WriteFailed,
+            calls: 2,
+        },
+    };
+    assert!(&rt; served_so(&rt, rt.alloc(), FRIENDS, &[goes_on, fails]) == 2);
+    assert!(&rt; served_so(&rt, rt.alloc(), FRIENDS, &[fails, goes_on]) == 2);
+}
+
+// What the devices of these sessions are refused for.
+fn fault_of<R: Threads + Wait + Sync + Abort>(
+    rt: &R,
+    alloc: Global,
+    rows: &[Row],
+) -> Option<ServeFault> {
+    let policy = wall(rt, alloc, FRIENDS);
+    let hearers = hearers(alloc, rows.len()).expect(rt, "no memory");
+    let peers = peers(alloc, rows, hearers.as_slice()).expect(rt, "no memory");
+    let fault = match serve_all(rt, alloc, &policy, peers) {
+        Ok(served) => {
+            drop(served);
+            None
+        }
+        Err(fault) => Some(fault),
+    };
+    for heard in &hearers {
+        assert!(rt; heard.is_silent());
+    }
+    fault
+}
+
+/// There are devices for each process, and no others; else nothing is read or written.
+#[test]
+fn each_process_has_devices(rt: HostRuntime) {
+    let row = row("leave\n", "", SessionEnd::Left, 0);
+    for rows in [&[][..], &[row][..], &[row, row, row][..]] {
+        assert!(&rt; fault_of(&rt, rt.alloc(), rows) == Some(ServeFault::BadPeers));
+    }
+}
+
+/// What these tests rest on notices what is not as expected.
+#[test]
+fn what_is_wrong_is_noticed(rt: HostRuntime) {
+    let right = row("leave\n", "left\n", SessionEnd::Left, 0);
+    let wrong = row("leave\n", "lost\n", SessionEnd::Left, 0);
+    let end = row("leave\n", "left\n", SessionEnd::EndOfStream, 0);
+    let calls = row("leave\n", "left\n", SessionEnd::Left, 1);
+    for rows in [[right, wrong], [end, right], [calls, right]] {
+        assert!(&rt; served_so(&rt, rt.alloc(), FRIENDS, &rows) < 2);
+    }
+}
