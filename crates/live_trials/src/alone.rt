@@ -2,7 +2,7 @@
 ghost use Rattle.std.specs.Prelude.{◌≡◌};
 ghost use Rattle.std.specs.List.{All};
 
-use crate::devices::{Due, Heard, answers, client, nothing_heard};
+use crate::devices::{Due, Heard, new_answers, new_client, nothing_heard};
 use crate::parties::{ALONE, wall};
 use hall_turn::{Door, Pass, Passes};
 use live_session::{SessionEnd, serve};
@@ -79,8 +79,8 @@ fn serve_alone<R: Abort + Wait>(
     let (door, mut pass) = door_alone(rt, alloc, &policy);
     let stage = Stage::new(alloc, 1, 1024, false).expect(rt, "no stage");
     let _ = stage.release(rt, begins);
-    let mut source = client(session.lines, reads, piece, session.due, heard);
-    let mut sink = answers(session.answers, writes, heard);
+    let mut source = new_client(session.lines, reads, piece, session.due, heard);
+    let mut sink = new_answers(session.answers, writes, heard);
     let end = serve(
         rt,
         alloc,

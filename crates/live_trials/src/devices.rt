@@ -178,7 +178,7 @@ impl<'a> Sink for Answers<'a> {
 }
 
 /// Lines, of which so many bytes come at a time, and after which the session is to end so.
-pub(crate) fn client<'a>(
+pub(crate) fn new_client<'a>(
     lines: &'a [u8],
     fuse: Fuse,
     piece: usize,
@@ -197,7 +197,7 @@ pub(crate) fn client<'a>(
 }
 
 /// Answers that are to come.
-pub(crate) fn answers<'a>(lines: &'a str, fuse: Fuse, heard: &'a Heard) -> Answers<'a> {
+pub(crate) fn new_answers<'a>(lines: &'a str, fuse: Fuse, heard: &'a Heard) -> Answers<'a> {
     let expected = ExpectingSink {
         rest: lines.as_bytes(),
         is_same: true,

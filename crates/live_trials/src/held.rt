@@ -1,7 +1,9 @@
 //! A session that is held, by a client that does not go on, holds up nobody; and one that waits
 //! takes no processor.
 
-use crate::devices::{Answers, Client, Due, Hold, LOOKS, answers, client, hearers, nothing_heard};
+use crate::devices::{
+    Answers, Client, Due, Hold, LOOKS, hearers, new_answers, new_client, nothing_heard,
+};
 use crate::parties::{FRIENDS, many, wall};
 use live_session::{Desk, Peer, SessionEnd, serve_all};
 use std::alloc::Global;
@@ -46,24 +48,24 @@ fn both_end<R: Abort + Threads + Wait + Sync>(
 fn a_client_that_does_not_read_holds_up_nobody(rt: HostRuntime) {
     let (first, second) = (nothing_heard(), nothing_heard());
     let mut one = Peer {
-        source: client(
+        source: new_client(
             b"post 0 barrier\ntake 0\n",
             Fuse::Whole,
             64,
             at_end(2),
             &first,
         ),
-        sink: answers("posted 0\ndelivered none\n", Fuse::Whole, &first),
+        sink: new_answers("posted 0\ndelivered none\n", Fuse::Whole, &first),
     };
     let mut other = Peer {
-        source: client(
+        source: new_client(
             b"post 0 barrier\nwait 0\ntake 0\n",
             Fuse::Whole,
             64,
             at_end(3),
             &second,
         ),
-        sink: answers(
+        sink: new_answers(
             "posted 0\ndelivered none\nrefused NoSuchRequest\n",
             Fuse::Whole,
             &second,
@@ -91,18 +93,18 @@ fn a_client_that_does_not_read_holds_up_nobody(rt: HostRuntime) {
 fn a_client_that_stops_in_a_line_holds_up_nobody(rt: HostRuntime) {
     let (first, second) = (nothing_heard(), nothing_heard());
     let mut one = Peer {
-        source: client(
+        source: new_client(
             b"post 0 barrier\ntake 0\n",
             Fuse::Whole,
             10,
             at_end(2),
             &first,
         ),
-        sink: answers("posted 0\npending\n", Fuse::Whole, &first),
+        sink: new_answers("posted 0\npending\n", Fuse::Whole, &first),
     };
     let mut other = Peer {
-        source: client(b"info 0\nfoo\n", Fuse::Whole, 64, at_end(1), &second),
-        sink: answers("info size 2 rank 1\nbad BadVerb\n", Fuse::Whole, &second),
+        source: new_client(b"info 0\nfoo\n", Fuse::Whole, 64, at_end(1), &second),
+        sink: new_answers("info size 2 rank 1\nbad BadVerb\n", Fuse::Whole, &second),
     };
     one.source.hold = Some(Hold {
         call: 1,
@@ -125,12 +127,12 @@ fn a_client_that_stops_in_a_line_holds_up_nobody(rt: HostRuntime) {
 fn who_is_held_is_noticed(rt: HostRuntime) {
     let (first, second) = (nothing_heard(), nothing_heard());
     let mut one = Peer {
-        source: client(b"info 0\n", Fuse::Whole, 64, at_end(1), &first),
-        sink: answers("info size 2 rank 0\n", Fuse::Whole, &first),
+        source: new_client(b"info 0\n", Fuse::Whole, 64, at_end(1), &first),
+        sink: new_answers("info size 2 rank 0\n", Fuse::Whole, &first),
     };
     let other = Peer {
-        source: client(b"info 0\n", Fuse::Whole, 64, at_end(1), &second),
-        sink: answers("info size 2 rank 1\n", Fuse::Whole, &second),
+        source: new_client(b"info 0\n", Fuse::Whole, 64, at_end(1), &second),
+        sink: new_answers("info size 2 rank 1\n", Fuse::Whole, &second),
     };
     one.sink.hold = Some(Hold {
         call: 0,
@@ -184,11 +186,11 @@ fn sessions_that_wait_take_no_processor(rt: HostRuntime) -> Result<(), Fail> {
         let late = if process == 7 { 1000 } else { 0 };
         let lines = b"post 0 barrier\nwait 0\n";
         let source = Late {
-            client: client(lines, Fuse::Whole, 64, at_end(2), heard),
+            client: new_client(lines, Fuse::Whole, 64, at_end(2), heard),
             rt: &rt,
             delay: Duration::from_millis(late),
         };
-        let sink = answers("posted 0\ndelivered none\n", Fuse::Whole, heard);
+        let sink = new_answers("posted 0\ndelivered none\n", Fuse::Whole, heard);
         peers.push(Peer { source, sink })?;
     }
     let before = rt.process_cpu_time()?;

@@ -1,6 +1,6 @@
 //! The sessions of several processes, each in a thread of its own.
 
-use crate::devices::{Answers, Client, Due, Heard, answers, client, hearers};
+use crate::devices::{Answers, Client, Due, Heard, hearers, new_answers, new_client};
 use crate::parties::{FOUR, FRIENDS, many, wall};
 use live_session::{Peer, ServeFault, SessionEnd, serve_all};
 use std::alloc::{AllocError, Global};
@@ -20,7 +20,7 @@ pub(crate) struct Row<'a> {
 }
 
 // A session whose devices do not fail.
-fn row<'a>(lines: &'a str, answers: &'a str, end: SessionEnd, calls: u64) -> Row<'a> {
+fn sound_row<'a>(lines: &'a str, answers: &'a str, end: SessionEnd, calls: u64) -> Row<'a> {
     Row {
         lines,
         answers,
@@ -38,8 +38,8 @@ fn peers<'a>(
     let mut peers = Vec::new(alloc);
     for (row, heard) in rows.iter().zip(hearers) {
         let lines = row.lines.as_bytes();
-        let source = client(lines, Fuse::Whole, usize::MAX, row.due, heard);
-        let sink = answers(row.answers, row.writes, heard);
+        let source = new_client(lines, Fuse::Whole, usize::MAX, row.due, heard);
+        let sink = new_answers(row.answers, row.writes, heard);
         peers.push(Peer { source, sink })?;
     }
     Ok(peers)
@@ -74,7 +74,7 @@ fn served_so<R: Abort + Threads + Wait + Sync>(
 /// Each waits until the other has posted.
 #[test]
 fn two_wait_for_each_other(rt: HostRuntime) {
-    let row = row(
+    let row = sound_row(
         "post 0 allreduce sum int32 1 as alpha 7\nwait 0\npost 0 barrier\nwait 1\nleave\nfoo\n",
         "posted 0\ndelivered [14]\nposted 1\ndelivered none\nleft\n",
         SessionEnd::Left,
@@ -86,14 +86,14 @@ fn two_wait_for_each_other(rt: HostRuntime) {
 /// Nobody waits for what cannot come: the others have left, or wait too.
 #[test]
 fn waits_that_are_in_vain_are_pending(rt: HostRuntime) {
-    let waits = row(
+    let waits = sound_row(
         "post 0 barrier\nwait 0\ntake 0\n",
         "posted 0\npending\npending\n",
         SessionEnd::EndOfStream,
         3,
     );
-    let leaves = row("leave\n", "left\n", SessionEnd::Left, 0);
-    let dies = row(
+    let leaves = sound_row("leave\n", "left\n", SessionEnd::Left, 0);
+    let dies = sound_row(
         "info 0\npost 0 barr",
         "info size 4 rank 3\n",
         SessionEnd::EndOfStream,
@@ -107,10 +107,10 @@ fn waits_that_are_in_vain_are_pending(rt: HostRuntime) {
 
 /// Four wait for each other again and again, and each gets the sum.
 #[test]
-fn four_wait_a_thousand_times(rt: HostRuntime) -> Result<(), Fail> {
+fn four_wait_a_hundred_times(rt: HostRuntime) -> Result<(), Fail> {
     let mut lines = String::new(rt.alloc());
     let mut answers = String::new(rt.alloc());
-    for number in 0..1000u32 {
+    for number in 0..100u32 {
         write!(
             &mut lines,
             "post 0 allreduce sum int32 1 as alpha {number}\nwait {number}\n"
@@ -118,7 +118,7 @@ fn four_wait_a_thousand_times(rt: HostRuntime) -> Result<(), Fail> {
         let sum = number * 4;
         write!(&mut answers, "posted {number}\ndelivered [{sum}]\n")?;
     }
-    let row = row(&lines, &answers, SessionEnd::EndOfStream, 2000);
+    let row = sound_row(&lines, &answers, SessionEnd::EndOfStream, 200);
     assert!(&rt; served_so(&rt, rt.alloc(), FOUR, &[row, row, row, row]) == 4);
     Ok(())
 }
@@ -127,7 +127,7 @@ fn four_wait_a_thousand_times(rt: HostRuntime) -> Result<(), Fail> {
 #[test]
 fn all_processes_wait_for_each_other(rt: HostRuntime) -> Result<(), Fail> {
     let text = many(rt.alloc(), 256)?;
-    let row = row(
+    let row = sound_row(
         "post 0 barrier\nwait 0\n",
         "posted 0\ndelivered none\n",
         SessionEnd::EndOfStream,
@@ -141,7 +141,7 @@ fn all_processes_wait_for_each_other(rt: HostRuntime) -> Result<(), Fail> {
 /// A session whose writer fails has left, and the other goes on.
 #[test]
 fn a_failed_writer_harms_nobody(rt: HostRuntime) {
-    let goes_on = row(
+    let goes_on = sound_row(
         "post 0 barrier\nwait 0\npost 0 barrier\nwait 1\nfoo\n",
         "posted 0\ndelivered none\nposted 1\npending\nbad BadVerb\n",
         SessionEnd::EndOfStream,
@@ -185,7 +185,7 @@ fn fault_of<R: Threads + Wait + Sync + Abort>(
 /// There are devices for each process, and no others; else nothing is read or written.
 #[test]
 fn each_process_has_devices(rt: HostRuntime) {
-    let row = row("leave\n", "", SessionEnd::Left, 0);
+    let row = sound_row("leave\n", "", SessionEnd::Left, 0);
     for rows in [&[][..], &[row][..], &[row, row, row][..]] {
         assert!(&rt; fault_of(&rt, rt.alloc(), rows) == Some(ServeFault::BadPeers));
     }
@@ -194,10 +194,10 @@ fn each_process_has_devices(rt: HostRuntime) {
 /// What these tests rest on notices what is not as expected.
 #[test]
 fn what_is_wrong_is_noticed(rt: HostRuntime) {
-    let right = row("leave\n", "left\n", SessionEnd::Left, 0);
-    let wrong = row("leave\n", "lost\n", SessionEnd::Left, 0);
-    let end = row("leave\n", "left\n", SessionEnd::EndOfStream, 0);
-    let calls = row("leave\n", "left\n", SessionEnd::Left, 1);
+    let right = sound_row("leave\n", "left\n", SessionEnd::Left, 0);
+    let wrong = sound_row("leave\n", "lost\n", SessionEnd::Left, 0);
+    let end = sound_row("leave\n", "left\n", SessionEnd::EndOfStream, 0);
+    let calls = sound_row("leave\n", "left\n", SessionEnd::Left, 1);
     for rows in [[right, wrong], [end, right], [calls, right]] {
         assert!(&rt; served_so(&rt, rt.alloc(), FRIENDS, &rows) < 2);
     }
