@@ -23,5 +23,3 @@ mod scripts;
 mod statements;
 #[cfg(test)]
 mod walls;
-#[cfg(test)]
-mod worked;
