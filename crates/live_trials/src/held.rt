@@ -47,42 +47,46 @@ fn both_end<R: Abort + Threads + Wait + Sync>(
 #[test]
 fn a_client_that_does_not_read_holds_up_nobody(rt: HostRuntime) {
     let (first, second) = (nothing_heard(), nothing_heard());
-    let mut one = Peer {
-        source: new_client(
-            b"post 0 barrier\ntake 0\n",
-            Fuse::Whole,
-            64,
-            at_end(2),
-            &first,
-        ),
-        sink: new_answers("posted 0\ndelivered none\n", Fuse::Whole, &first),
-    };
-    let mut other = Peer {
-        source: new_client(
-            b"post 0 barrier\nwait 0\ntake 0\n",
-            Fuse::Whole,
-            64,
-            at_end(3),
-            &second,
-        ),
-        sink: new_answers(
-            "posted 0\ndelivered none\nrefused NoSuchRequest\n",
-            Fuse::Whole,
-            &second,
-        ),
-    };
-    one.sink.hold = Some(Hold {
+    let one_source = new_client(
+        b"post 0 barrier\ntake 0\n",
+        Fuse::Whole,
+        64,
+        at_end(2),
+        &first,
+    );
+    let mut one_sink = new_answers("posted 0\ndelivered none\n", Fuse::Whole, &first);
+    let mut other_source = new_client(
+        b"post 0 barrier\nwait 0\ntake 0\n",
+        Fuse::Whole,
+        64,
+        at_end(3),
+        &second,
+    );
+    let other_sink = new_answers(
+        "posted 0\ndelivered none\nrefused NoSuchRequest\n",
+        Fuse::Whole,
+        &second,
+    );
+    one_sink.hold = Some(Hold {
         call: 0,
         count: &second.writes,
         wanted: 3,
         looks: LOOKS,
     });
-    other.source.hold = Some(Hold {
+    other_source.hold = Some(Hold {
         call: 0,
         count: &first.writes,
         wanted: 1,
         looks: LOOKS,
     });
+    let one = Peer {
+        source: one_source,
+        sink: one_sink,
+    };
+    let other = Peer {
+        source: other_source,
+        sink: other_sink,
+    };
     assert!(&rt; both_end(&rt, rt.alloc(), one, other));
     assert!(&rt; first.is_whole() && second.is_whole());
 }
@@ -92,32 +96,36 @@ fn a_client_that_does_not_read_holds_up_nobody(rt: HostRuntime) {
 #[test]
 fn a_client_that_stops_in_a_line_holds_up_nobody(rt: HostRuntime) {
     let (first, second) = (nothing_heard(), nothing_heard());
-    let mut one = Peer {
-        source: new_client(
-            b"post 0 barrier\ntake 0\n",
-            Fuse::Whole,
-            10,
-            at_end(2),
-            &first,
-        ),
-        sink: new_answers("posted 0\npending\n", Fuse::Whole, &first),
-    };
-    let mut other = Peer {
-        source: new_client(b"info 0\nfoo\n", Fuse::Whole, 64, at_end(1), &second),
-        sink: new_answers("info size 2 rank 1\nbad BadVerb\n", Fuse::Whole, &second),
-    };
-    one.source.hold = Some(Hold {
+    let mut one_source = new_client(
+        b"post 0 barrier\ntake 0\n",
+        Fuse::Whole,
+        10,
+        at_end(2),
+        &first,
+    );
+    let one_sink = new_answers("posted 0\npending\n", Fuse::Whole, &first);
+    let mut other_source = new_client(b"info 0\nfoo\n", Fuse::Whole, 64, at_end(1), &second);
+    let other_sink = new_answers("info size 2 rank 1\nbad BadVerb\n", Fuse::Whole, &second);
+    one_source.hold = Some(Hold {
         call: 1,
         count: &second.writes,
         wanted: 2,
         looks: LOOKS,
     });
-    other.source.hold = Some(Hold {
+    other_source.hold = Some(Hold {
         call: 0,
         count: &first.reads,
         wanted: 2,
         looks: LOOKS,
     });
+    let one = Peer {
+        source: one_source,
+        sink: one_sink,
+    };
+    let other = Peer {
+        source: other_source,
+        sink: other_sink,
+    };
     assert!(&rt; both_end(&rt, rt.alloc(), one, other));
     assert!(&rt; first.is_whole() && second.is_whole());
 }
@@ -126,20 +134,22 @@ fn a_client_that_stops_in_a_line_holds_up_nobody(rt: HostRuntime) {
 #[test]
 fn who_is_held_is_noticed(rt: HostRuntime) {
     let (first, second) = (nothing_heard(), nothing_heard());
-    let mut one = Peer {
-        source: new_client(b"info 0\n", Fuse::Whole, 64, at_end(1), &first),
-        sink: new_answers("info size 2 rank 0\n", Fuse::Whole, &first),
-    };
+    let one_source = new_client(b"info 0\n", Fuse::Whole, 64, at_end(1), &first);
+    let mut one_sink = new_answers("info size 2 rank 0\n", Fuse::Whole, &first);
     let other = Peer {
         source: new_client(b"info 0\n", Fuse::Whole, 64, at_end(1), &second),
         sink: new_answers("info size 2 rank 1\n", Fuse::Whole, &second),
     };
-    one.sink.hold = Some(Hold {
+    one_sink.hold = Some(Hold {
         call: 0,
         count: &second.writes,
         wanted: 2,
         looks: 1000,
     });
+    let one = Peer {
+        source: one_source,
+        sink: one_sink,
+    };
     assert!(&rt; both_end(&rt, rt.alloc(), one, other));
     assert!(&rt; !first.is_whole() && second.is_whole());
 }
