@@ -1,8 +1,11 @@
 //! What each process holds, and the star rule.
+ghost use Rattle.wall_rules.specs.Histories.{opening, ArePairsOf};
+
 use crate::parties::{BANKS_AND_OIL, dataset, opening, process, wall};
 use std::alloc::{AllocError, Global};
 use std::process::Abort;
 use wall_labels::{DatasetId, Label, LabelSet, ProcessId};
+use wall_policy::Policy;
 use wall_rules::Histories;
 
 // The histories before any call under the policy of this text.
@@ -61,6 +64,66 @@ fn each_process_begins_with_its_home_alone(rt: HostRuntime) {
     assert_eq!(rt; histories.processes(), 4);
     for (number, held) in HELD {
         expect_held(&rt, &histories, holder(&rt, *number), held);
+    }
+    drop(histories);
+}
+
+// A list of pairs has these, and no others.
+fn expect_pairs(rt: &impl Abort, pairs: &[(ProcessId, DatasetId)], expected: &[(u32, u32)]) {
+    assert_eq!(rt; pairs.len(), expected.len());
+    for ((process, dataset), (number, of)) in pairs.iter().zip(expected) {
+        assert!(rt; process.number() == *number && dataset.number() == *of);
+    }
+}
+
+// The pairs of the histories before any call.
+fn opening_pairs(rt: &impl Abort, alloc: Global, policy: &Policy) -> Vec<(ProcessId, DatasetId)>
+    ensures { ArePairsOf (opening policy.now) result.items }
+{
+    let Ok(histories) = Histories::opening(alloc, policy) else {
+        panic!(rt; "no memory")
+    };
+    match histories.pairs(alloc) {
+        Ok(pairs) => pairs,
+        Err(_) => panic!(rt; "no memory"),
+    }
+}
+
+// The policy for what comes after no call at all: what was held before are the homes.
+fn after_nothing(rt: &impl Abort, alloc: Global, policy: Policy) -> Policy {
+    let processes = policy.processes();
+    assert!(rt; processes == 4 && policy.held().is_empty());
+    let pairs = opening_pairs(rt, alloc, &policy);
+    policy.after(pairs)
+}
+
+// In order, first by the process.
+const HOMES: &[(u32, u32)] = &[(0, 0), (1, 1), (2, 2)];
+
+const ENTERED: &[(u32, u32)] = &[(0, 0), (0, 2), (1, 1), (2, 2), (3, 3)];
+
+#[test]
+fn what_was_held_before_stays(rt: HostRuntime) {
+    let policy = after_nothing(&rt, rt.alloc(), wall(&rt, rt.alloc(), BANKS_AND_OIL));
+    expect_pairs(&rt, policy.held(), HOMES);
+    match policy.copy(rt.alloc()) {
+        Ok(copy) => {
+            expect_pairs(&rt, copy.held(), HOMES);
+            drop(copy);
+        }
+        Err(_) => panic!(&rt; "no memory"),
+    }
+    drop(policy);
+}
+
+#[test]
+fn pairs_are_what_was_entered(rt: HostRuntime) {
+    let mut histories = opened(&rt, rt.alloc());
+    assert!(rt; try_enter(&mut histories, process(3), dataset(3)));
+    assert!(rt; try_enter(&mut histories, process(0), dataset(2)));
+    match histories.pairs(rt.alloc()) {
+        Ok(pairs) => expect_pairs(&rt, &pairs, ENTERED),
+        Err(_) => panic!(&rt; "no memory"),
     }
     drop(histories);
 }

@@ -1,11 +1,10 @@
 -- What a hall keeps and answers names what the policy has.
-use Rattle.std.proofs.Common.{◌≡◌, ℕ, ◌+◌, ◌<◌, Bool, true, false, List, [], ◌∷◌, ◌++◌, length}
+use Rattle.std.proofs.Common.{◌≡◌, ℕ, ◌+◌, Bool, true, false, List, [], ◌∷◌, ◌++◌, length}
 use Rattle.std.proofs.Common.{refl, sym, ap, ◌∙◌, subst, Option, Some, None, slice_get, option_map}
 use Rattle.std.proofs.Common.{cond, inl, inr, append_assoc}
-use Rattle.std.specs.Prelude.{◌==◌, All, nat_lt, IsSome}
+use Rattle.std.specs.Prelude.{◌==◌, All, nat_lt}
 use Rattle.std.specs.Option.{option_to_list}
 use Rattle.std.proofs.lemmas.List.Elements.{All-nil, All-push}
-use Rattle.std.proofs.lemmas.Option.{slice_get_within}
 use Rattle.wall_labels.specs.declared.label.Label.{Label}
 use Rattle.wall_policy.specs.Policy.{ChineseWall, IsPolicy}
 use Rattle.wall_rules.specs.Histories.{History}
@@ -15,7 +14,7 @@ use Rattle.mpi_group.specs.Groups.{rank_in}
 use Rattle.coll_routes.specs.declared.roll.Roll.{Roll}
 use Rattle.coll_routes.specs.declared.statement.Stated.{Stated}
 use Rattle.coll_routes.specs.Signatures.{is_constructor}
-use Rattle.coll_routes.specs.Rolls.{stated_by, stated_in, label_of, label_in as label_stated}
+use Rattle.coll_routes.specs.Rolls.{stated_in, label_of, label_in as label_stated}
 use Rattle.coll_routes.specs.Fit.{IsFit}
 use Rattle.coll_values.specs.declared.full.Full.{Full}
 use Rattle.wall_verdict.specs.declared.verdict.Rule.TheVariants.{Star, Simple}
@@ -30,14 +29,13 @@ use Rattle.run_model.specs.declared.outcome.Outcome.TheVariants as outcomes
 use Rattle.run_model.specs.declared.entry.Entry.{Entry as BookEntry}
 use Rattle.run_model.specs.declared.entry.Entry.TheVariants.{Settled}
 use Rattle.run_model.specs.Comms.{Comm, processes, new_comms}
-use Rattle.run_model.specs.Posts.{Post, posts_on, place, filled, comms, outcome, outcome_of}
+use Rattle.run_model.specs.Posts.{Post, place, filled, comms, outcome, outcome_of}
 use Rattle.run_model.specs.Posts.{constructor_outcome as made_of, by_verdict, labelled, histories}
 use Rattle.run_model.specs.Posts.{outcome_at}
 use Rattle.run_model.specs.Books.{AreCounted, book, posted, outcome_entry}
-use Rattle.run_model.specs.Holding.{IsMoment}
-use Rattle.run_model.proofs.RunModelLemmas.{IsFilled, filled_is, stated_at, stated_by as stated_of}
-use Rattle.run_model.proofs.RunModelLemmas.{kth_from, taken_accepted, taken_at, filled_is_fit}
-use Rattle.run_model.proofs.RunModelLemmas.{entry_of, proper_step, settled_from}
+use Rattle.run_model.proofs.RunModelLemmas.{IsFilled, filled_is, stated_by as stated_of, kth_from}
+use Rattle.run_model.proofs.RunModelLemmas.{taken_accepted, taken_at, filled_is_fit, entry_of}
+use Rattle.run_model.proofs.RunModelLemmas.{proper_step, settled_from, labels_at, member_known}
 use Rattle.run_model.specs.declared.call.Posting.{Posting}
 use Rattle.run_model.specs.declared.call.Act.{Act}
 use Rattle.run_model.specs.declared.call.Act.TheVariants.{Post as ToPost, Take, Info as ToInfo}
@@ -54,18 +52,6 @@ use Rattle.hall_core.specs.Moves.{Steps}
 use Rattle.run_model.specs.Known.{IsKnownLabel, HasKnownLabel, IsKnownReply, IsKnownIfAny}
 use Rattle.run_model.specs.Known.{IsKnownOutcome, IsKnownEntry, PostsHaveKnownLabels}
 
--- ## labels of posts
-
-labels_older : (wall : ChineseWall) (later past : List Post) →
-    PostsHaveKnownLabels wall (later ++ past) → PostsHaveKnownLabels wall past
-labels_older wall [] past h = h
-labels_older wall (x ∷ later) past h = labels_older wall later past h.0
-
-labels_at : (wall : ChineseWall) (past : List Post) (y : Post) (then : List Post) →
-    IsMoment past y then → PostsHaveKnownLabels wall past → PostsHaveKnownLabels wall (y ∷ then)
-labels_at wall past y then moment h =
-    labels_older wall moment.0 (y ∷ then) (subst (PostsHaveKnownLabels wall) (sym moment.1) h)
-
 -- ## outcomes
 
 module _ (wall : ChineseWall) (x : Post) (past : List Post) (policy : IsPolicy wall)
@@ -76,24 +62,6 @@ module _ (wall : ChineseWall) (x : Post) (past : List Post) (policy : IsPolicy w
 
   fit : IsFit roll
   fit = filled_is_fit wall x past roll policy taken fills
-
-  -- each member has posted
-  member_named : (j q : ℕ) → slice_get roll.members j ≡ Some q → q < processes wall
-  member_named j q at = by_row (slice_get (posts_on x.comm q (x ∷ past)) (place x past)) refl
-    where
-      low : j < roll.shape.size
-      low = subst (λ n. j < n) fit.sound.members (slice_get_within roll.members j q at)
-
-      row : stated_by roll j ≡ slice_get (posts_on x.comm q (x ∷ past)) (place x past)
-      row = ap stated_in (stated_at (comms wall past) x past roll j filled_as q at)
-
-      by_row : (o : Option Stated) → slice_get (posts_on x.comm q (x ∷ past)) (place x past) ≡ o →
-          q < processes wall
-      by_row None e = let none = subst IsSome (row ∙ e) (fit.full j low) in absurd (cc)
-      by_row (Some s) e =
-          let y = kth_from x.comm q (place x past) s (x ∷ past) e in
-          subst (λ p. p < processes wall) y.by (taken_accepted wall y.y y.then
-          (taken_at wall (x ∷ past) y.y y.then y.moment taken).1).process
 
   stated_label : (i : ℕ) (label : Label) (o : Option (Option Stated)) →
       slice_get roll.stated i ≡ o → label_stated (stated_in o) ≡ Some label →
@@ -112,10 +80,14 @@ module _ (wall : ChineseWall) (x : Post) (past : List Post) (policy : IsPolicy w
   verdict_named : (has : History) (v : Verdict) → IsVerdict wall has roll v →
       IsKnownOutcome wall (by_verdict v)
   verdict_named has Granted h = tt
-  verdict_named has (Denied Star p label) h =
-      (member_named h.rank p h.is_member, label_named h.rank label h.is_label)
-  verdict_named has (Denied Simple p label) h =
-      (member_named h.1.receiver p h.1.is_member, label_named h.1.contributor label h.1.is_label)
+  verdict_named has (Denied Star p label) h = (
+    member_known wall x past policy taken roll fills h.rank p h.is_member,
+    label_named h.rank label h.is_label,
+  )
+  verdict_named has (Denied Simple p label) h = (
+    member_known wall x past policy taken roll fills h.1.receiver p h.1.is_member,
+    label_named h.1.contributor label h.1.is_label,
+  )
 
   made_named : (n : ℕ) (new : List Comm) (b : Bool) →
       IsKnownOutcome wall (cond b (outcomes.Made n (length new)) outcomes.NoRoom)

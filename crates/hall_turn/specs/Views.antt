@@ -40,6 +40,7 @@ no_wall = record {
   homes = [];
   leasts = [];
   distincts = [];
+  held = [];
 }
 
 -- no call's entry: what a declaration has where none is picked

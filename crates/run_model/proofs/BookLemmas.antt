@@ -254,7 +254,7 @@ words_are_of_the_star_rule wall entries i p c s sound at =
 ---- What was held.
 
 -- the posts of a book are those of its first entries, and then others
-older_posts : (entries : List Entry) (n : ℕ) →
+pub older_posts : (entries : List Entry) (n : ℕ) →
     posts_in (drop n entries) ++ posts_in (take n entries) ≡ posts_in entries
 older_posts entries n =
     sym (posts_in-append (take n entries) (drop n entries)) ∙ ap posts_in (split_at n entries)

@@ -10,7 +10,7 @@ use Rattle.std.proofs.lemmas.List.{append-nil}
 use Rattle.wall_labels.specs.declared.ids.TheConstants.{DATASET_LIMIT}
 use Rattle.wall_labels.specs.declared.label.Label.{Label}
 use Rattle.wall_labels.specs.declared.label.Label.TheVariants.{Public, Of}
-use Rattle.wall_policy.specs.Policy.{ChineseWall}
+use Rattle.wall_policy.specs.Policy.{ChineseWall, HasAtFirst}
 use Rattle.wall_policy.specs.Rivals.{AreRivals}
 use Rattle.wall_policy.proofs.WallPolicyLemmas.{are_rivals-Decides, are_rivals-symmetric}
 use Rattle.wall_rules.specs.Rules.{passes_star}
@@ -32,8 +32,8 @@ use Rattle.run_model.specs.declared.outcome.Outcome.TheVariants.{Granted}
 use Rattle.run_model.specs.Posts.{Post, posts_on, place, comms, filled, outcome_of, labelled}
 use Rattle.run_model.specs.Posts.{with_delivery, is_granted, histories}
 use Rattle.run_model.specs.Books.{AreCounted}
-use Rattle.run_model.specs.Holding.{Holds, at_home, wrote, received, passed_on, Reaches, IsGrant}
-use Rattle.run_model.specs.Holding.{IsPart, IsMoment}
+use Rattle.run_model.specs.Holding.{Holds, had_at_first, wrote, received, passed_on, Reaches}
+use Rattle.run_model.specs.Holding.{IsGrant, IsPart, IsMoment}
 use Rattle.run_model.specs.PostLaws.{IsWhatIsHeld, HoldingIsHistory, NobodyHoldsTwoRivals}
 use Rattle.run_model.proofs.PostLemmas.{posts_kth, IsKth, kth_from, IsFilled, filled_is, stated_at}
 use Rattle.run_model.proofs.PostLemmas.{stated_by}
@@ -201,11 +201,17 @@ unlabelled given None h e = ⊎_elim (λ t. eqb-true given 0 t)
     (cases_Bool (given == 0))
 unlabelled given (Some label) h e = absurd (cc)
 
+-- what a process begins with stands in its history ever after
+pub first_in_history : (wall : ChineseWall) (past : List Post) (p d : ℕ) → HasAtFirst wall p d →
+    histories wall past p d ≡ true
+first_in_history wall past p d begins =
+    subst (λ ps. histories wall ps p d ≡ true) (append-nil past)
+    (grow wall past [] p d ((opening-Decides wall p d).1 begins))
+
 held_in_history : (wall : ChineseWall) {past : List Post} {p d : ℕ} → d < DATASET_LIMIT →
     AreCounted wall past → Holds wall past p d → histories wall past p d ≡ true
-held_in_history wall {past = past} {p = p} {d = d} low taken (at_home e) =
-    subst (λ ps. histories wall ps p d ≡ true) (append-nil past)
-    (grow wall past [] p d ((opening-Decides wall p d).1 e))
+held_in_history wall {past = past} {p = p} {d = d} low taken (had_at_first e) =
+    first_in_history wall past p d e
 held_in_history wall {past = past} {p = p} {d = d} low taken (wrote x before m by unbarred label) =
     let has = histories wall before in
     let mine : (p == x.process && not x.stated.barred && is_that (dataset_in x.stated.label) d) ≡
@@ -251,9 +257,9 @@ reaches_later wall past z p y then r = record {
   whole = r.whole;
 }
 
-held_later : (wall : ChineseWall) {past : List Post} {p d : ℕ} (z : Post) → Holds wall past p d →
-    Holds wall (z ∷ past) p d
-held_later wall z (at_home e) = at_home e
+pub held_later : (wall : ChineseWall) {past : List Post} {p d : ℕ} (z : Post) →
+    Holds wall past p d → Holds wall (z ∷ past) p d
+held_later wall z (had_at_first e) = had_at_first e
 held_later wall {past = past} z (wrote x before m by passed label) =
     wrote x before (moment_later past z x before m) by passed label
 held_later wall {past = past} {p = p} z (received y then r label) =
@@ -353,9 +359,9 @@ delivery_is_held wall x before p d (Some roll) e old h = ⊎_elim old
     charged_to_is_held wall x before roll p d grant (rank_in roll.members p) refl parts.1)
     (or_cases (labelled (histories wall before) x p d) _ h)
 
-history_is_held : (wall : ChineseWall) (past : List Post) (p d : ℕ) →
+pub history_is_held : (wall : ChineseWall) (past : List Post) (p d : ℕ) →
     histories wall past p d ≡ true → Holds wall past p d
-history_is_held wall [] p d h = at_home ((opening-Decides wall p d).0 h)
+history_is_held wall [] p d h = had_at_first ((opening-Decides wall p d).0 h)
 history_is_held wall (x ∷ before) p d h =
     delivery_is_held wall x before p d (filled (comms wall before) x before) refl
     (label_is_held wall x before p d (history_is_held wall before p d)) h
@@ -376,7 +382,7 @@ pub rival_within : (classes : List ℕ) (d e : ℕ) → AreRivals classes d e �
 rival_within classes d e rivals =
     (rival_parts classes d e ((are_rivals-Decides classes d e).1 rivals)).1
 
-rival_first : (classes : List ℕ) (d e : ℕ) → AreRivals classes d e → d < length classes
+pub rival_first : (classes : List ℕ) (d e : ℕ) → AreRivals classes d e → d < length classes
 rival_first classes d e rivals = (rival_parts classes e d
     (are_rivals-symmetric classes e d ∙ (are_rivals-Decides classes d e).1 rivals)).1
 

@@ -6,7 +6,10 @@ pub mod CountedLemmas
 pub mod FitLemmas
 pub mod PostLawLemmas
 pub mod HoldingLemmas
+pub mod AfterLemmas
+pub mod ChainLemmas
 pub mod BookRowProofs
+pub mod ChainRowProofs
 pub mod CountLemmas
 pub mod RequestLemmas
 pub mod SettledLemmas

@@ -32,7 +32,7 @@ use Rattle.run_model.specs.declared.outcome.Outcome.TheVariants.{Granted}
 use Rattle.run_model.specs.Comms.{Comm}
 use Rattle.run_model.specs.Posts.{Post, kth_posts, instance, is_full, comms, labelled}
 use Rattle.run_model.specs.Posts.{with_delivery, is_granted, histories, outcome_of, outcome_at}
-use Rattle.run_model.specs.Holding.{Holds, at_home}
+use Rattle.run_model.specs.Holding.{Holds, had_at_first}
 use Rattle.run_model.proofs.HoldingLemmas.{label_of_holder, rival_within, is_labelled_d}
 use Rattle.run_model.proofs.PostLawLemmas.{grow}
 use Rattle.run_model.specs.Contributions.{Contribution, posts_of, full_at}
@@ -508,7 +508,7 @@ module _ (values : ValuesAreOfRoutedRanks) where
 
   pub homes_of_rivals_see_nothing : HomesOfRivalsSeeNothing
   homes_of_rivals_see_nothing wall run other own d p q policy rivals home_p home_q = (
-    λ alike. rivals_learn_nothing wall run other own d p policy rivals alike (at_home home_p),
+    λ alike. rivals_learn_nothing wall run other own d p policy rivals alike (had_at_first home_p),
     λ alike. rivals_learn_nothing wall run other d own q policy (swapped wall.classes own d rivals)
-        alike (at_home home_q),
+        alike (had_at_first home_q),
   )

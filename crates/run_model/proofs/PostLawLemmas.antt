@@ -242,7 +242,7 @@ passed wall x past taken unbarred = ⊎_elim (λ t. t)
     (cases_Bool (star (histories wall past) x.process x.stated.label))
 
 pub posts_keep_the_wall : PostsKeepTheWall
-posts_keep_the_wall wall [] policy taken = opening-apart wall.classes wall
+posts_keep_the_wall wall [] policy taken = opening-apart wall policy
 posts_keep_the_wall wall (x ∷ past) policy taken =
     delivery_apart wall (labelled (histories wall past) x) (length (comms wall past))
     (filled (comms wall past) x past)

@@ -7,12 +7,12 @@ use Rattle.run_model.specs.declared.refusal.Refusal.TheVariants.{NoSuchRequest}
 use Rattle.run_model.specs.declared.reply.Reply.TheVariants.{Posted, Barred, Pending, Delivered}
 use Rattle.run_model.specs.declared.reply.Reply.TheVariants.{Denied, Refused}
 use Rattle.run_model.specs.RunRows.{LegalList, banks_and_oil, banks_and_oil_in_version_2}
-use Rattle.run_model.specs.RunRows.{four_of_alpha, alpha, beta, crude}
+use Rattle.run_model.specs.RunRows.{banks_and_oil_after, four_of_alpha, alpha, beta, crude}
 use Rattle.run_model.specs.WallRows.{charged_before_it_is_taken, charged_in_the_other_order}
 use Rattle.run_model.specs.WallRows.{star_rule_at_the_post, label_enters_at_the_post}
 use Rattle.run_model.specs.WallRows.{sum_of_too_few, sum_of_two_datasets, written_after_a_sum}
 use Rattle.run_model.specs.WallRows.{prefix_of_too_few, lowest_barred_is_named}
-use Rattle.run_model.specs.WallRows.{barred_before_offences, several_outstanding}
+use Rattle.run_model.specs.WallRows.{barred_before_offences, several_outstanding, beta_for_n0}
 use Rattle.run_model.proofs.RunRowProofs.{opened, due_is_legal}
 
 pub charged_before_it_is_taken_is_legal :
@@ -270,3 +270,23 @@ pub written_after_a_sum_is_wrong_2 :
 unfolding opened
 written_after_a_sum_is_wrong_2 h =
     ⊎_elim (λ e. absurd (cc e)) (λ e. absurd (let no = e.1 in cc)) h.1
+
+pub held_before_is_denied : LegalList banks_and_oil_after (beta_for_n0 (Denied Simple 3 beta))
+unfolding opened
+held_before_is_denied =
+    due_is_legal banks_and_oil_after (beta_for_n0 (Denied Simple 3 beta)) refl
+
+pub held_before_is_wrong_1 :
+    LegalList banks_and_oil_after (beta_for_n0 (Delivered (Numbers (pos 20 ∷ []) ∷ []))) → ⊥
+unfolding opened
+held_before_is_wrong_1 h = ⊎_elim (λ e. absurd (cc e)) (λ e. absurd (let no = e.1 in cc)) h.1
+
+pub held_before_is_delivered :
+    LegalList banks_and_oil (beta_for_n0 (Delivered (Numbers (pos 20 ∷ []) ∷ [])))
+unfolding opened
+held_before_is_delivered =
+    due_is_legal banks_and_oil (beta_for_n0 (Delivered (Numbers (pos 20 ∷ []) ∷ []))) refl
+
+pub held_before_is_wrong_2 : LegalList banks_and_oil (beta_for_n0 (Denied Simple 3 beta)) → ⊥
+unfolding opened
+held_before_is_wrong_2 h = ⊎_elim (λ e. absurd (cc e)) (λ e. absurd (let no = e.1 in cc)) h.1

@@ -28,6 +28,7 @@ banks_and_oil = record {
   homes = Some 0 ∷ Some 1 ∷ Some 2 ∷ None ∷ [];
   leasts = (Sum, 3) ∷ [];
   distincts = (Sum, 1) ∷ [];
+  held = [];
 }
 
 -- one class, the banks, and four processes at home at alpha
@@ -41,6 +42,7 @@ four_of_a_bank = record {
   homes = Some 0 ∷ Some 0 ∷ Some 0 ∷ Some 0 ∷ [];
   leasts = [];
   distincts = [];
+  held = [];
 }
 
 abbrev pub alpha : Label

@@ -3,7 +3,7 @@
 -- first.
 use Rattle.std.specs.Prelude.{◌≡◌, ℕ, List, ◌∷◌, ◌++◌, true, false, slice_get, Some}
 use Rattle.wall_labels.specs.declared.label.Label.TheVariants.{Of}
-use Rattle.wall_policy.specs.Policy.{ChineseWall, home_of}
+use Rattle.wall_policy.specs.Policy.{ChineseWall, HasAtFirst}
 use Rattle.mpi_group.specs.Groups.{rank_in}
 use Rattle.coll_routes.specs.declared.roll.Roll.{Roll}
 use Rattle.coll_routes.specs.Rolls.{routed}
@@ -45,8 +45,8 @@ pub record Reaches (wall : ChineseWall) (past : List Post) (p : ℕ) (y : Post) 
 
 -- p holds data of d after these posts
 pub data Holds (wall : ChineseWall) : List Post → (p d : ℕ) → Type 0 where
-  -- its home
-  at_home : {past : List Post} {p d : ℕ} → home_of wall p ≡ Some d → Holds wall past p d
+  -- what it began with: its home, or what it held before
+  had_at_first : {past : List Post} {p d : ℕ} → HasAtFirst wall p d → Holds wall past p d
   -- what it wrote
   wrote : {past : List Post} {p d : ℕ} (x : Post) (before : List Post) → IsMoment past x before →
       x.process ≡ p → x.stated.barred ≡ false → x.stated.label ≡ Some (Of d) → Holds wall past p d

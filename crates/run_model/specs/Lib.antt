@@ -14,6 +14,8 @@ pub mod EntryForms
 pub mod Holding
 -- laws over all lists of posts that count, and over their books
 pub mod PostLaws
+-- chains of books, each read under the policy after those before it, and laws over them
+pub mod Chains
 -- calls with their replies, and what a run has made
 pub mod Runs
 -- what is the same but for the room of buffers
@@ -32,6 +34,8 @@ pub mod Headline
 pub mod Worlds
 -- worked books
 pub mod BookRows
+-- a worked chain of books
+pub mod ChainRows
 -- worked runs
 pub mod RunRows
 -- worked pairs of runs whose calls differ in values alone

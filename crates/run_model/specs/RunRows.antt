@@ -4,7 +4,7 @@ use Rattle.std.specs.Prelude.{true, false, codes}
 use Rattle.wall_labels.specs.declared.op.Op.TheVariants.{Sum, Prod, Land, Maxloc}
 use Rattle.wall_labels.specs.declared.label.Label.{Label}
 use Rattle.wall_labels.specs.declared.label.Label.TheVariants.{Public, Of}
-use Rattle.wall_policy.specs.Policy.{ChineseWall}
+use Rattle.wall_policy.specs.Policy.{ChineseWall, with_held}
 use Rattle.mpi_elems.specs.declared.elem_type.ElemType.TheVariants.{Int8, Int32, Uint8, TwoInt}
 use Rattle.mpi_elems.specs.Contents.{contents}
 use Rattle.coll_routes.specs.declared.signature.Signature.{Signature}
@@ -48,7 +48,12 @@ banks_and_oil = record {
   homes = Some 0 ∷ Some 1 ∷ Some 2 ∷ None ∷ [];
   leasts = (Sum, 3) ∷ [];
   distincts = (Sum, 1) ∷ [];
+  held = [];
 }
+
+-- the same after a book in which n0 came to hold alpha, and the others kept to their homes
+abbrev pub banks_and_oil_after : ChineseWall
+banks_and_oil_after = with_held banks_and_oil ((0, 0) ∷ (1, 1) ∷ (2, 2) ∷ (3, 0) ∷ [])
 
 -- the same in version 2, where a sum takes three different datasets too
 abbrev pub banks_and_oil_in_version_2 : ChineseWall
@@ -61,6 +66,7 @@ banks_and_oil_in_version_2 = record {
   homes = Some 0 ∷ Some 1 ∷ Some 2 ∷ None ∷ [];
   leasts = (Sum, 3) ∷ [];
   distincts = (Sum, 3) ∷ [];
+  held = [];
 }
 
 -- the banks alpha and beta, and four processes at home at alpha
@@ -74,6 +80,7 @@ four_of_alpha = record {
   homes = Some 0 ∷ Some 0 ∷ Some 0 ∷ Some 0 ∷ [];
   leasts = [];
   distincts = [];
+  held = [];
 }
 
 -- the same with two processes
@@ -87,6 +94,7 @@ two_of_alpha = record {
   homes = Some 0 ∷ Some 0 ∷ [];
   leasts = [];
   distincts = [];
+  held = [];
 }
 
 abbrev pub alpha : Label

@@ -58,6 +58,18 @@ charged_in_the_other_order reply =
     ∷ took 3 3 reply
     ∷ []
 
+-- b0 broadcasts beta to n0
+abbrev pub beta_for_n0 : Reply → List Entry
+beta_for_n0 reply =
+    stated 0 0 Split (SplitBy (Some (pos 1)) (pos 0)) (Posted 0)
+    ∷ stated 1 0 Split (SplitBy (Some (pos 0)) (pos 0)) (Posted 0)
+    ∷ stated 2 0 Split (SplitBy (Some (pos 1)) (pos 0)) (Posted 0)
+    ∷ stated 3 0 Split (SplitBy (Some (pos 0)) (pos 0)) (Posted 0)
+    ∷ gave 1 1 (Bcast 0 Int32 1) Plain beta (pos 20 ∷ []) (Posted 1)
+    ∷ came 3 1 (Bcast 0 Int32 1) (Posted 1)
+    ∷ took 3 1 reply
+    ∷ []
+
 -- n0 posts alpha, then is granted crude, and then its gather completes: it is granted
 abbrev pub star_rule_at_the_post : Reply → List Entry
 star_rule_at_the_post reply =

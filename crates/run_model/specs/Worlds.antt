@@ -6,7 +6,7 @@ use Rattle.std.specs.Prelude.{slice_get, Option, Some, None, if◌then◌else◌
 use Rattle.std.specs.List.{AllZip}
 use Rattle.wall_labels.specs.declared.ids.TheConstants.{DATASET_LIMIT}
 use Rattle.wall_labels.specs.declared.label.Label.TheVariants.{Of}
-use Rattle.wall_policy.specs.Policy.{ChineseWall, IsPolicy, home_of}
+use Rattle.wall_policy.specs.Policy.{ChineseWall, IsPolicy, HasAtFirst}
 use Rattle.wall_policy.specs.Rivals.{AreRivals}
 use Rattle.mpi_elems.specs.Contents.{elements}
 use Rattle.mpi_group.specs.Groups.{rank_in}
@@ -208,10 +208,11 @@ RivalsLearnNothing = (wall : ChineseWall) (run other : List Entry) (own d p : �
     IsPolicy wall → AreRivals wall.classes own d → AreAlikeOutside wall d run other →
     Holds wall (posts run) p own → CannotTell wall d p run other
 
--- So of two processes at home at rivals neither sees what the other's firm posts.
+-- So of two processes that have rivals at first, at home there or held before, neither sees what the
+-- other's firm posts.
 abbrev pub HomesOfRivalsSeeNothing : Type 0
 HomesOfRivalsSeeNothing = (wall : ChineseWall) (run other : List Entry) (own d p q : ℕ) →
     IsPolicy wall → AreRivals wall.classes own d →
-    home_of wall p ≡ Some own → home_of wall q ≡ Some d →
+    HasAtFirst wall p own → HasAtFirst wall q d →
     (AreAlikeOutside wall d run other → CannotTell wall d p run other)
     × (AreAlikeOutside wall own run other → CannotTell wall own q run other)

@@ -21,6 +21,7 @@
 
 pub mod book_rows;
 mod call;
+pub mod chain_rows;
 mod entry;
 pub mod headline;
 pub mod kind_rows;

@@ -4,6 +4,7 @@ ghost use Rattle.run_model.specs.PostLaws.{PostsKeepTheWall, HoldingIsHistory};
 ghost use Rattle.run_model.specs.PostLaws.{NobodyHoldsTwoRivals, BooksOfPostsAreSound};
 ghost use Rattle.run_model.specs.PostLaws.{WordsAreOfTheStarRule, SoundBooksHaveNoBadEntry};
 ghost use Rattle.run_model.specs.PostLaws.{SoundBooksKeepTheWall, FirstBadEntryIsOne};
+ghost use Rattle.run_model.specs.Chains.{WhatWasHeldIsKept, ChainsKeepTheWall, RivalsStay};
 
 /// A pair that stands in the histories stays there.
 #[tactic(auto, using(crate::proofs::PostLawLemmas::histories_grow))]
@@ -56,6 +57,23 @@ pub fn words_are_of_the_star_rule()
 /// through others, and what each held is what the book's histories say: an auditor needs no server.
 pub fn sound_books_keep_the_wall()
     ensures { SoundBooksKeepTheWall }
+{}
+
+/// What was ever held in a chain of books, each sound under the policy after those before it, is
+/// held from before under the policy after all of them.
+pub fn what_was_held_is_kept()
+    ensures { WhatWasHeldIsKept }
+{}
+
+/// Over a chain of sound books, and one that is sound under the policy after them, nobody ever held
+/// two rivals, directly or through others: the wall outlives the program.
+pub fn chains_keep_the_wall()
+    ensures { ChainsKeepTheWall }
+{}
+
+/// Who were rivals under the policy of one of the books are rivals under the one after all of them.
+pub fn rivals_stay()
+    ensures { RivalsStay }
 {}
 
 /// A sound book has no first bad entry.

@@ -8,13 +8,13 @@ ghost use Rattle.run_model.specs.declared.refusal.Refusal.TheVariants.{NoSuchReq
 ghost use Rattle.run_model.specs.declared.reply.Reply.TheVariants.{Posted, Barred, Pending};
 ghost use Rattle.run_model.specs.declared.reply.Reply.TheVariants.{Delivered, Denied, Refused};
 ghost use Rattle.run_model.specs.RunRows.{LegalList, banks_and_oil, banks_and_oil_in_version_2};
-ghost use Rattle.run_model.specs.RunRows.{four_of_alpha, alpha, beta, crude};
+ghost use Rattle.run_model.specs.RunRows.{banks_and_oil_after, four_of_alpha, alpha, beta, crude};
 ghost use Rattle.run_model.specs.WallRows.{charged_before_it_is_taken, charged_in_the_other_order};
 ghost use Rattle.run_model.specs.WallRows.{star_rule_at_the_post, label_enters_at_the_post};
 ghost use Rattle.run_model.specs.WallRows.{sum_of_too_few, sum_of_two_datasets};
 ghost use Rattle.run_model.specs.WallRows.{written_after_a_sum, prefix_of_too_few};
 ghost use Rattle.run_model.specs.WallRows.{lowest_barred_is_named, barred_before_offences};
-ghost use Rattle.run_model.specs.WallRows.{several_outstanding};
+ghost use Rattle.run_model.specs.WallRows.{several_outstanding, beta_for_n0};
 
 /// A grant is charged at once: what n0 may get of beta goes by what it was granted of alpha, taken
 /// or not.
@@ -38,6 +38,17 @@ pub fn charged_in_the_other_order()
     ensures legal { LegalList banks_and_oil (charged_in_the_other_order (Denied Simple 3 alpha)) }
     ensures wrong_1 { ¬ (LegalList banks_and_oil
         (charged_in_the_other_order (Delivered (Numbers (pos 10 ∷ []) ∷ [])))) }
+{}
+
+/// What was held before counts as what is granted in a run: who held alpha is denied beta, which
+/// else would be delivered.
+pub fn held_before()
+    ensures denied { LegalList banks_and_oil_after (beta_for_n0 (Denied Simple 3 beta)) }
+    ensures wrong_1 { ¬ (LegalList banks_and_oil_after
+        (beta_for_n0 (Delivered (Numbers (pos 20 ∷ []) ∷ [])))) }
+    ensures delivered { LegalList banks_and_oil
+        (beta_for_n0 (Delivered (Numbers (pos 20 ∷ []) ∷ []))) }
+    ensures wrong_2 { ¬ (LegalList banks_and_oil (beta_for_n0 (Denied Simple 3 beta))) }
 {}
 
 /// The star rule is tested at the post: a history that grows before the instance is complete

@@ -17,7 +17,9 @@ use Rattle.wall_policy.specs.Checks.{is_good_least, is_good_distinct, is_good_ru
 use Rattle.wall_policy.specs.Checks.{is_small}
 use Rattle.wall_policy.specs.Meaning.{class_numbers, home_in, with_rule, leasts_in, distincts_in}
 use Rattle.wall_policy.specs.Meaning.{wall_of}
-use Rattle.wall_policy.specs.Policy.{is_version, is_least, home_if_any, IsPair, IsPolicy}
+use Rattle.wall_policy.specs.Policy.{ChineseWall, is_version, is_least, home_if_any, IsPair}
+use Rattle.wall_policy.specs.Policy.{IsPolicy, with_held, CanBeHeld}
+use Rattle.wall_policy.specs.Rivals.{AreRivals}
 use Rattle.wall_policy.proofs.BuildLemmas.{length-class_numbers}
 use Rattle.wall_policy.proofs.RepeatLemmas.{distinct_names}
 
@@ -118,6 +120,16 @@ small_parts t h =
     let first = and_parts _ _ parts.0 in
     (leb-true _ _ first.0, leb-true _ _ first.1, leb-true _ _ parts.1)
 
+-- where nothing was held before a process begins with its home alone
+home_alone : (classes : List ℕ) (home : Option ℕ) (d e : ℕ) →
+    (home ≡ Some d) ⊎ (false ≡ true) → (home ≡ Some e) ⊎ (false ≡ true) →
+    ¬ (AreRivals classes d e)
+home_alone classes home d e (inl a) (inl b) rivals =
+    let is : Some d ≡ Some e = sym a ∙ b in
+    let same : d ≡ e = cc in rivals.0 same
+home_alone classes home d e (inr bad) b rivals = absurd cc
+home_alone classes home d e (inl a) (inr bad) rivals = absurd cc
+
 pub wall_of-IsPolicy : (t : PolicyText) → 1 ≤ length t.processes → has_good_names t ≡ true →
     has_repeats t ≡ false → has_good_leasts t ≡ true → is_small t ≡ true →
     is_version t.version ≡ true → IsPolicy (wall_of t)
@@ -150,4 +162,32 @@ wall_of-IsPolicy t some good once leasts small version =
       good_processes = list_all-map is_name (λ p. p.name) t.processes ∙ names.1;
       good_leasts = leasts_in-good t.rules leasts;
       good_distincts = distincts_in-good t.rules leasts;
+      known_held = λ p d bad. let no : false ≡ true = bad in absurd cc;
+      apart = λ p d e. home_alone (class_numbers 0 t.classes)
+          (home_if_any (slice_get (map (λ q. home_in (dataset_names t.classes) q.home) t.processes)
+          p)) d e;
     }
+
+pub with_held-IsPolicy : (w : ChineseWall) (pairs : List (ℕ × ℕ)) → IsPolicy w →
+    CanBeHeld w pairs → IsPolicy (with_held w pairs)
+with_held-IsPolicy w pairs policy can = record {
+  known_version = policy.known_version;
+  some_process = policy.some_process;
+  few_processes = policy.few_processes;
+  few_datasets = policy.few_datasets;
+  few_classes = policy.few_classes;
+  class_for_each = policy.class_for_each;
+  known_classes = policy.known_classes;
+  home_for_each = policy.home_for_each;
+  known_homes = policy.known_homes;
+  distinct_classes = policy.distinct_classes;
+  distinct_datasets = policy.distinct_datasets;
+  distinct_processes = policy.distinct_processes;
+  good_classes = policy.good_classes;
+  good_datasets = policy.good_datasets;
+  good_processes = policy.good_processes;
+  good_leasts = policy.good_leasts;
+  good_distincts = policy.good_distincts;
+  known_held = can.known;
+  apart = can.apart;
+}

@@ -1,7 +1,7 @@
 -- The test of rivals, and the relation: two different datasets of one class.
 use Rattle.std.proofs.Common.{◌≡◌, ◌≢◌, ℕ, zero, suc, ◌+◌, ◌<◌, true, false, not, ◌&&◌}
-use Rattle.std.proofs.Common.{nat_eq, List, [], ◌∷◌, length, Option, Some, None, refl, sym, ap, ◌∙◌}
-use Rattle.std.proofs.Common.{inl, inr, arith, slice_get}
+use Rattle.std.proofs.Common.{nat_eq, List, [], ◌∷◌, ◌++◌, length, Option, Some, None, refl, sym}
+use Rattle.std.proofs.Common.{ap, ◌∙◌, inl, inr, arith, slice_get}
 use Rattle.std.specs.Prelude.{Contains, slice_index_or}
 use Rattle.std.proofs.lemmas.Bool.{ne_eqb, eq-eqb, and_parts}
 use Rattle.std.proofs.lemmas.Bool.Decides.{eqb_tells}
@@ -114,3 +114,35 @@ pub are_rivals-symmetric : (classes : List ℕ) (d e : ℕ) →
 unfolding are_rivals
 are_rivals-symmetric classes d e = λ i.
     not (eq-symmetric d e i) && one_class-symmetric (slice_get classes d) (slice_get classes e) i
+
+---- More datasets behind those that are there.
+
+in_both : (n d : ℕ) (xs ys : List ℕ) (k : ℕ) → k < length (n ∷ xs) →
+    slice_index_or (n ∷ xs) k d ≡ d → (Contains xs d → Contains ys d) → Contains (n ∷ ys) d
+in_both n d xs ys zero lt is later = (0, omega arith, is)
+in_both n d xs ys (suc k) lt is later = behind n ys d (later (k, omega (arith, lt), is))
+
+-- a dataset of a class stays in it
+listed_in_front : (cs rest : List ℕ) (n class d : ℕ) → Contains (datasets_from n cs class) d →
+    Contains (datasets_from n (cs ++ rest) class) d
+listed_in_front [] rest n class d h = absurd (omega (arith, h.1))
+listed_in_front (c ∷ cs) rest n class d h = elim (eqb_tells c class) [
+  | inl e ↦
+      let here = rw e.0 at h in
+      rw e.0 (in_both n d (datasets_from (n + 1) cs class)
+      (datasets_from (n + 1) (cs ++ rest) class) here.0 here.1 here.2
+      (listed_in_front cs rest (n + 1) class d))
+  | inr e ↦ rw e.0 (listed_in_front cs rest (n + 1) class d (rw e.0 at h))
+]
+
+-- rivals stay rivals
+pub rivals_in_front : (front rest : List ℕ) (d e : ℕ) → AreRivals front d e →
+    AreRivals (front ++ rest) d e
+rivals_in_front front rest d e (apart, (class, one, other)) = (
+  apart,
+  (
+    class,
+    listed_in_front front rest 0 class d one,
+    listed_in_front front rest 0 class e other,
+  ),
+)

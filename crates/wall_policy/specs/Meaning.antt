@@ -47,4 +47,5 @@ wall_of t = record {
   homes = map (λ p. home_in (dataset_names t.classes) p.home) t.processes;
   leasts = leasts_in t.rules;
   distincts = distincts_in t.rules;
+  held = [];
 }

@@ -1,14 +1,15 @@
--- A policy of a Chinese Wall: which datasets are rivals, where each process is at home, and which
--- results count as sanitised. (Brewer and Nash 1989: company datasets, conflict of interest
--- classes, sanitised information. Homes and least numbers are own rules.)
+-- A policy of a Chinese Wall: which datasets are rivals, where each process is at home, what each
+-- held before, and which results count as sanitised. (Brewer and Nash 1989: company datasets,
+-- conflict of interest classes, sanitised information. Homes and least numbers are own rules.)
 use Rattle.std.specs.Prelude.{◌≡◌, ℕ, ◌<◌, ◌≤◌, nat_eq, nat_le, Bool, true, false, IsTrue, ◌&&◌}
-use Rattle.std.specs.Prelude.{◌||◌, List, length, find, Option, Some, None, option_map, slice_get}
-use Rattle.std.specs.List.{list_all, AllZip}
+use Rattle.std.specs.Prelude.{◌||◌, ◌⊎◌, List, length, find, Option, Some, None, option_map}
+use Rattle.std.specs.Prelude.{slice_get}
+use Rattle.std.specs.List.{list_all, list_any, AllZip}
 use Rattle.wall_labels.specs.Limits.{process_limit, dataset_limit, class_limit}
 use Rattle.wall_labels.specs.declared.op.Op.{Op}
 use Rattle.wall_labels.specs.Ops.{op_number}
 use Rattle.wall_policy.specs.Names.{Name, is_name, is_dataset_name, comes_twice}
-use Rattle.wall_policy.specs.Rivals.{are_rivals}
+use Rattle.wall_policy.specs.Rivals.{AreRivals, are_rivals}
 
 -- The versions of a policy file. (Own format: version 2 states how many different datasets a
 -- sanitised result takes.)
@@ -32,6 +33,8 @@ pub record ChineseWall : Type 0 where
   pub leasts : List (Op × ℕ)
   -- the same operations, each with the least number of different datasets among those contributors
   pub distincts : List (Op × ℕ)
+  -- what was held before, in pairs of process and dataset; nothing, where a file says the policy
+  pub held : List (ℕ × ℕ)
 
 -- the class of a dataset
 abbrev pub class_of : ChineseWall → ℕ → Option ℕ
@@ -48,6 +51,28 @@ home_if_any (Some home) = home
 -- the home of a process; none also for a number that is no process
 abbrev pub home_of : ChineseWall → ℕ → Option ℕ
 home_of w p = home_if_any (slice_get w.homes p)
+
+-- the pair of this process and this dataset stands in the list
+abbrev pub has_pair : List (ℕ × ℕ) → (p d : ℕ) → Bool
+has_pair pairs p d = list_any (λ pair. nat_eq pair.0 p && nat_eq pair.1 d) pairs
+
+-- p held d before: earlier books gave it (own rule)
+abbrev pub held_of : ChineseWall → (p d : ℕ) → Bool
+held_of w p d = has_pair w.held p d
+
+-- what a process holds at the beginning: its home, and what it held before
+abbrev pub HasAtFirst : ChineseWall → (p d : ℕ) → Type 0
+HasAtFirst w p d = (home_of w p ≡ Some d) ⊎ (held_of w p d ≡ true)
+
+-- no process begins with two rivals (Brewer and Nash 1989: what the simple security rule keeps)
+abbrev pub NobodyHasRivalsAtFirst : ChineseWall → Type 0
+NobodyHasRivalsAtFirst w =
+    (p d e : ℕ) → HasAtFirst w p d → HasAtFirst w p e → ¬ (AreRivals w.classes d e)
+
+-- the process and the dataset of each pair are those of the policy
+abbrev pub AreKnownPairs : ChineseWall → List (ℕ × ℕ) → Type 0
+AreKnownPairs w pairs = (p d : ℕ) → has_pair pairs p d ≡ true →
+    (p < length w.process_names) × (d < length w.dataset_names)
 
 -- the number stated for an operation, in a finite map from operations to numbers
 abbrev pub number_in : List (Op × ℕ) → Op → Option ℕ
@@ -73,7 +98,7 @@ is_distinct least n = nat_le 1 n && nat_le n least
 abbrev pub IsPair : Op × ℕ → Op × ℕ → Type 0
 IsPair least distinct = (least.0 ≡ distinct.0) × IsTrue (is_distinct least.1 distinct.1)
 
--- What is so of every policy that a file says.
+-- What is so of every policy.
 pub record IsPolicy (w : ChineseWall) : Type 0 where
   pub known_version : is_version w.version ≡ true
   pub some_process : 1 ≤ length w.process_names
@@ -96,3 +121,28 @@ pub record IsPolicy (w : ChineseWall) : Type 0 where
   pub good_leasts : list_all (λ r. is_least r.1) w.leasts ≡ true
   -- an operation has both numbers or none
   pub good_distincts : AllZip IsPair w.leasts w.distincts
+  pub known_held : AreKnownPairs w w.held
+  pub apart : NobodyHasRivalsAtFirst w
+
+-- ## what was held before
+
+-- the policy with these pairs as what was held before
+abbrev pub with_held : ChineseWall → List (ℕ × ℕ) → ChineseWall
+with_held w pairs = record {
+  version = w.version;
+  class_names = w.class_names;
+  dataset_names = w.dataset_names;
+  process_names = w.process_names;
+  classes = w.classes;
+  homes = w.homes;
+  leasts = w.leasts;
+  distincts = w.distincts;
+  held = pairs;
+}
+
+-- These pairs can be what was held before: they are of the policy's processes and datasets, none
+-- that was held before is missing, and with them nobody begins with two rivals.
+pub record CanBeHeld (w : ChineseWall) (pairs : List (ℕ × ℕ)) : Type 0 where
+  pub known : AreKnownPairs w pairs
+  pub kept : (p d : ℕ) → held_of w p d ≡ true → has_pair pairs p d ≡ true
+  pub apart : NobodyHasRivalsAtFirst (with_held w pairs)

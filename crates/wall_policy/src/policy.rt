@@ -4,7 +4,8 @@ ghost use Rattle.std.specs.Prelude.{slice_get};
 ghost use Rattle.wall_labels.specs.declared.ids.TheConstants.{PROCESS_LIMIT, DATASET_LIMIT};
 ghost use Rattle.wall_policy.specs.Names.{place_of, is_name, is_dataset_name};
 ghost use Rattle.wall_policy.specs.Rivals.{AreRivals, are_rivals};
-ghost use Rattle.wall_policy.specs.Policy.{home_if_any, number_in};
+ghost use Rattle.wall_policy.specs.Policy.{home_if_any, number_in, with_held, CanBeHeld};
+ghost use Rattle.wall_policy.specs.Policy.{AreKnownPairs};
 
 use crate::build::{Lists, lists_of};
 use crate::names::{NameTable, Tables};
@@ -13,7 +14,8 @@ use std::alloc::{AllocError, Global};
 use std::marker::Model;
 use wall_labels::{ClassId, DatasetId, NoMemory, Op, ProcessId};
 
-/// Which datasets are rivals, where each process is at home, and which results count as sanitised.
+/// Which datasets are rivals, where each process is at home, what each held before, and which
+/// results count as sanitised.
 ///
 /// No accessor takes memory.
 pub struct Policy {
@@ -25,6 +27,7 @@ pub struct Policy {
     homes: Vec<Option<DatasetId>>,
     leasts: Vec<(Op, u32)>,
     distincts: Vec<(Op, u32)>,
+    held: Vec<(ProcessId, DatasetId)>,
 }
 
 // By hand: a derived one is proved anew in each crate that drops one.
@@ -39,6 +42,7 @@ impl Drop for Policy {
             homes,
             leasts,
             distincts,
+            held,
         } = self;
         drop(class_names);
         drop(dataset_names);
@@ -47,6 +51,7 @@ impl Drop for Policy {
         drop(homes);
         drop(leasts);
         drop(distincts);
+        drop(held);
     }
 }
 
@@ -64,6 +69,7 @@ impl Model for Policy {
       homes = p.homes.items;
       leasts = p.leasts.items;
       distincts = p.distincts.items;
+      held = p.held.items;
     } };
 
     ghost invariant = { λ p. IsPolicy (record {
@@ -75,6 +81,7 @@ impl Model for Policy {
       homes = p.homes.items;
       leasts = p.leasts.items;
       distincts = p.distincts.items;
+      held = p.held.items;
     }) };
 }
 
@@ -125,6 +132,7 @@ impl Policy {
             homes,
             leasts,
             distincts,
+            held: Vec::new(alloc),
         })
     }
 
@@ -169,6 +177,7 @@ impl Policy {
     {
         let tables = self.copied_tables(alloc)?;
         let lists = self.copied_lists(alloc)?;
+        let held = Vec::from_slice(alloc, &self.held)?;
         let Tables {
             class_names,
             dataset_names,
@@ -189,7 +198,20 @@ impl Policy {
             homes,
             leasts,
             distincts,
+            held,
         })
+    }
+
+    /// The policy for what comes after: these pairs of process and dataset are what was held
+    /// before, and all else is as it was. Takes no memory.
+    ///
+    /// The pairs are those of the histories at the end of a book that is sound under this policy.
+    pub fn after(mut self, held: Vec<(ProcessId, DatasetId)>) -> Policy
+        requires { CanBeHeld self held.items }
+        ensures { result ≡ with_held self held.items }
+    {
+        self.held = held;
+        self
     }
 
     /// The version of the file that says the policy.
@@ -226,6 +248,15 @@ impl Policy {
         ensures known { IfSome result (λ d. d < length self.now.dataset_names) }
     {
         home_in(&self.homes, process)
+    }
+
+    /// What was held before, in pairs of process and dataset: nothing, where a file says the
+    /// policy.
+    pub fn held(&self) -> &[(ProcessId, DatasetId)]
+        ensures pairs { result.now ≡ self.now.held }
+        ensures known { AreKnownPairs self.now result.now }
+    {
+        &self.held
     }
 
     /// The class of the dataset.

@@ -13,18 +13,20 @@ use Rattle.std.specs.Cmp.{nat_cmp_total, unsigned_tied}
 use Rattle.std.specs.FinSet.{FinSet, empty, insert, union, contains, contains-empty}
 use Rattle.std.specs.FinSet.{contains-insert, contains-union}
 use Rattle.wall_labels.specs.Limits.{process_limit}
-use Rattle.wall_policy.specs.Policy.{ChineseWall, IsPolicy, home_if_any, home_of}
+use Rattle.wall_policy.specs.Policy.{ChineseWall, IsPolicy, home_if_any, home_of, held_of, has_pair}
+use Rattle.wall_policy.specs.Policy.{HasAtFirst}
 use Rattle.wall_rules.specs.Rules.{HoldsNoRivals, joined}
-use Rattle.wall_rules.specs.Histories.{History, entered, is_home, opening, NobodyHoldsRivals}
-use Rattle.wall_rules.specs.Histories.{Accesses, has_in, has, KeepsWall}
-use Rattle.wall_rules.proofs.RuleLemmas.{no_rivals-part, no_rivals-one, same_number}
+use Rattle.wall_rules.specs.Histories.{History, entered, is_home, at_home, opening}
+use Rattle.wall_rules.specs.Histories.{NobodyHoldsRivals, Accesses, has_in, has, KeepsWall}
+use Rattle.wall_rules.specs.Histories.{AddsPairs}
+use Rattle.wall_rules.proofs.RuleLemmas.{no_rivals-part, same_number}
 use Rattle.wall_rules.proofs.RuleLemmas.{or_parts, or_left, or_right}
 
-or_false : (a : Bool) → a ≡ (a || false)
+pub or_false : (a : Bool) → a ≡ (a || false)
 or_false true = refl
 or_false false = refl
 
-eq-symmetric : (a b : ℕ) → nat_eq a b ≡ nat_eq b a
+pub eq-symmetric : (a b : ℕ) → nat_eq a b ≡ nat_eq b a
 eq-symmetric a b = elim (eqb_tells a b) [
   | inl e ↦ e.0 ∙ sym (eq-eqb b a (sym e.1))
   | inr e ↦ let back : b ≢ a = λ h. e.1 (sym h) in e.0 ∙ sym (ne_eqb b a back)
@@ -37,9 +39,21 @@ home_is (Some own) d h = ap (λ (x : ℕ). Some x) (same_number own d h)
 is_home_of : (home : Option ℕ) (d : ℕ) → home ≡ Some d → is_home home d ≡ true
 is_home_of home d is = rw is (eq-eqb d d refl)
 
-pub opening-Decides : (w : ChineseWall) (p d : ℕ) → (IsTrue (opening w p d) → home_of w p ≡ Some d)
-    × (home_of w p ≡ Some d → IsTrue (opening w p d))
-opening-Decides w p d = (home_is (home_of w p) d, is_home_of (home_of w p) d)
+opening_first : (w : ChineseWall) (p d : ℕ) → IsTrue (opening w p d) → HasAtFirst w p d
+opening_first w p d h = elim (or_parts (held_of w p d) (at_home w p d) h) [
+  | inl before ↦ inr before
+  | inr home ↦ inl (home_is (home_of w p) d home)
+]
+
+first_opening : (w : ChineseWall) (p d : ℕ) → HasAtFirst w p d → IsTrue (opening w p d)
+first_opening w p d (inl home) =
+    or_right (held_of w p d) (at_home w p d) (is_home_of (home_of w p) d home)
+first_opening w p d (inr before) = or_left (held_of w p d) (at_home w p d) before
+
+-- at the start each process has had access to exactly what it begins with
+pub opening-Decides : (w : ChineseWall) (p d : ℕ) → (IsTrue (opening w p d) → HasAtFirst w p d)
+    × (HasAtFirst w p d → IsTrue (opening w p d))
+opening-Decides w p d = (opening_first w p d, first_opening w p d)
 
 -- the set of one home
 pub contains-home : (own d : ℕ) →
@@ -48,14 +62,10 @@ contains-home own d = contains-insert nat_cmp_total empty own d
     ∙ (λ i. unsigned_tied d own i || contains-empty nat_cmp d i) ∙ sym (or_false (nat_eq d own))
     ∙ eq-symmetric d own
 
-one_home : (classes : List ℕ) (home : Option ℕ) → HoldsNoRivals classes (is_home home)
-one_home classes None = λ d e hd he rivals. let bad : false ≡ true = hd in cc
-one_home classes (Some own) =
-    no_rivals-one classes (is_home (Some own)) own (λ e h. sym (same_number own e h))
-
--- at the start each process has had access to its home alone
-pub opening-apart : (classes : List ℕ) (w : ChineseWall) → NobodyHoldsRivals classes (opening w)
-opening-apart classes w p = one_home classes (home_of w p)
+-- at the start nobody has had access to two rivals
+pub opening-apart : (w : ChineseWall) → IsPolicy w → NobodyHoldsRivals w.classes (opening w)
+opening-apart w policy p d e has_d has_e =
+    policy.apart p d e (opening_first w p d has_d) (opening_first w p e has_e)
 
 -- an entry that fits the rule keeps rivals apart
 pub entered-apart : (classes : List ℕ) (history : History) (p : ℕ) (s : FinSet nat_cmp) →
@@ -120,7 +130,7 @@ no_home : (homes : List (Option ℕ)) (p d : ℕ) → length homes ≤ p →
 no_home homes p d past = rw (slice_get_past homes p past) refl
 
 past_homes : (w : ChineseWall) (sets : List (FinSet nat_cmp)) (p d : ℕ) → IsPolicy w →
-    length sets ≡ process_limit → process_limit ≤ p → has_in sets p d ≡ opening w p d
+    length sets ≡ process_limit → process_limit ≤ p → has_in sets p d ≡ at_home w p d
 past_homes w sets p d policy many past =
     let past_sets : length sets ≤ p = omega arith in
     let past_homes : length w.homes ≤ p = omega (arith, policy.home_for_each, policy.few_processes)
@@ -129,16 +139,29 @@ past_homes w sets p d policy many past =
     ∙ sym (no_home w.homes p d past_homes)
 
 pair_at : (w : ChineseWall) (sets : List (FinSet nat_cmp)) (p d : ℕ) → IsPolicy w →
-    length sets ≡ process_limit → (p < process_limit → has_in sets p d ≡ opening w p d) →
-    has_in sets p d ≡ opening w p d
+    length sets ≡ process_limit → (p < process_limit → has_in sets p d ≡ at_home w p d) →
+    has_in sets p d ≡ at_home w p d
 pair_at w sets p d policy many below = elim (leb_tells process_limit p)
     [ inl e ↦ past_homes w sets p d policy many e.1 | inr e ↦ below e.1 ]
 
 -- a row for each number that a process can have
-pub has_in-opening : (w : ChineseWall) (sets : List (FinSet nat_cmp)) → IsPolicy w →
+pub has_in-at_home : (w : ChineseWall) (sets : List (FinSet nat_cmp)) → IsPolicy w →
     length sets ≡ process_limit →
-    ((p d : ℕ) → p < process_limit → has_in sets p d ≡ opening w p d) → has_in sets ≡ opening w
-has_in-opening w sets policy many below = λ i p d. pair_at w sets p d policy many (below p d) i
+    ((p d : ℕ) → p < process_limit → has_in sets p d ≡ at_home w p d) → has_in sets ≡ at_home w
+has_in-at_home w sets policy many below = λ i p d. pair_at w sets p d policy many (below p d) i
+
+-- with what was held before, the homes are the opening
+pub opened : (w : ChineseWall) (homes sets : List (FinSet nat_cmp)) (pairs : List (ℕ × ℕ)) →
+    has_in homes ≡ at_home w → pairs ≡ w.held → AddsPairs pairs homes sets →
+    has_in sets ≡ opening w
+opened w homes sets pairs at same adds =
+    (λ i p d. adds p d i) ∙ (λ i p d. has_pair (same i) p d || at i p d)
+
+-- no row is there past the limit
+pub no_row_past : (sets : List (FinSet nat_cmp)) (p d : ℕ) → length sets ≤ p →
+    has_in sets p d ≡ false
+no_row_past sets p d past =
+    ap (λ s. contains s d) (get_or_past sets p empty past) ∙ contains-empty nat_cmp d
 
 -- what the fields keep, said of the value
 pub apart_in : (h v : Accesses) → h ≡ v → KeepsWall h → NobodyHoldsRivals v.classes (has v)

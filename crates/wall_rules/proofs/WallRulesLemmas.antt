@@ -1,4 +1,5 @@
 -- What crates above may cite of the lemmas of this crate. Everything else in proofs/ is its own.
+pub use Rattle.wall_rules.proofs.HeldLemmas.{first_is_known, opening_can_be_held}
 pub use Rattle.wall_rules.proofs.HistoryLemmas.{opening-Decides, opening-apart}
 pub use Rattle.wall_rules.proofs.LeastLemmas.{least-none, none-least}
 pub use Rattle.wall_rules.proofs.RuleLemmas.{first_other-none, first_other-some, first_rival-alike}

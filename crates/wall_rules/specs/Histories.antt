@@ -6,7 +6,7 @@ use Rattle.std.specs.Ordering.{nat_cmp}
 use Rattle.std.specs.FinSet.{FinSet, empty, contains, code as set_code}
 use Rattle.std.specs.Coded.{Coded, code_by, coded×, coded_ℕ, coded_list}
 use Rattle.wall_labels.specs.Limits.{process_limit, dataset_limit}
-use Rattle.wall_policy.specs.Policy.{ChineseWall, home_of}
+use Rattle.wall_policy.specs.Policy.{ChineseWall, home_of, held_of, has_pair}
 use Rattle.wall_policy.specs.Rivals.{are_rivals}
 use Rattle.wall_rules.specs.Rules.{HoldsNoRivals}
 
@@ -18,14 +18,18 @@ History = ℕ → ℕ → Bool
 abbrev pub entered : History → ℕ → FinSet nat_cmp → History
 entered history process s p d = history p d || (nat_eq p process && contains s d)
 
--- the pairs of each process and its home (own rule: each process begins with access to its home
--- alone)
+-- the pairs of each process and its home
 abbrev pub is_home : Option ℕ → ℕ → Bool
 is_home (Some home) d = nat_eq home d
 is_home None d = false
 
+abbrev pub at_home : ChineseWall → History
+at_home w p d = is_home (home_of w p) d
+
+-- the pairs of each process and what it begins with: what it held before, and its home (own rule:
+-- each process begins with access to these alone)
 abbrev pub opening : ChineseWall → History
-opening w p d = is_home (home_of w p) d
+opening w p d = held_of w p d || at_home w p d
 
 -- no process has had access to two rivals (Brewer and Nash 1989: what the simple security rule
 -- keeps)
@@ -66,6 +70,15 @@ HoldsOneOf held s = (d : ℕ) × IsTrue (held d) × IsTrue (contains s d)
 -- a process that has had access to these has had access to all of the set
 abbrev pub HoldsAllOf : (ℕ → Bool) → FinSet nat_cmp → Type 0
 HoldsAllOf held s = (d : ℕ) → IsTrue (contains s d) → IsTrue (held d)
+
+-- the rows with these pairs
+abbrev pub AddsPairs : List (ℕ × ℕ) → (old new : List (FinSet nat_cmp)) → Type 0
+AddsPairs pairs old new =
+    (p d : ℕ) → has_in new p d ≡ (has_pair pairs p d || has_in old p d)
+
+-- the list has the pairs of the set, and no others
+abbrev pub ArePairsOf : History → List (ℕ × ℕ) → Type 0
+ArePairsOf history pairs = (p d : ℕ) → has_pair pairs p d ≡ history p d
 
 -- the rows have for each dataset its rivals
 abbrev pub AreRivalRows : List ℕ → List (FinSet nat_cmp) → Type 0

@@ -1,20 +1,20 @@
 //! The histories of all processes, in a row of bits for each.
 ghost use Rattle.std.specs.Prelude.{◌≡◌, ℕ, ◌<◌, ◌≤◌, ◌↔◌, length, IfOk, IfErr, IfSome, IfNone};
-ghost use Rattle.std.specs.Prelude.{IsOk, IsTrue, Some, slice_get};
+ghost use Rattle.std.specs.Prelude.{IsOk, OnOk, IsTrue, Some, slice_get, List};
 ghost use Rattle.std.specs.FinSet as sets;
 ghost use Rattle.wall_labels.specs.Limits.{process_limit, dataset_limit};
 ghost use Rattle.wall_policy.specs.Rivals.{are_rivals};
-ghost use Rattle.wall_policy.specs.Policy.{IsPolicy};
+ghost use Rattle.wall_policy.specs.Policy.{IsPolicy, has_pair};
 ghost use Rattle.wall_rules.specs.Rules.{IsLowest, IsHeldRival, PassesSimple, HoldsNoRivals};
 ghost use Rattle.wall_rules.specs.Rules.{first_rival, IsHeldOther, PassesStar, joined};
-ghost use Rattle.wall_rules.specs.Histories.{entered, opening, is_home, has_in, HoldsOneOf};
-ghost use Rattle.wall_rules.specs.Histories.{HoldsAllOf};
+ghost use Rattle.wall_rules.specs.Histories.{entered, opening, at_home, is_home, has_in};
+ghost use Rattle.wall_rules.specs.Histories.{HoldsOneOf, HoldsAllOf, AddsPairs, ArePairsOf};
 ghost use Rattle.wall_rules.specs.Histories.{AddsRivals, AreRivalRows};
 
 use crate::NoMemory;
 use std::alloc::Global;
 use std::marker::Model;
-use wall_labels::{ClassId, DatasetId, Label, LabelSet, PROCESS_LIMIT, ProcessId};
+use wall_labels::{ClassId, DATASET_LIMIT, DatasetId, Label, LabelSet, PROCESS_LIMIT, ProcessId};
 use wall_policy::Policy;
 
 /// A set of pairs of process and dataset, in which no process has two rivals.
@@ -46,8 +46,8 @@ impl Model for Histories {
 impl Histories {
     ghost use Rattle.wall_rules.specs.Histories.{has, NobodyHoldsRivals};
 
-    /// The histories before any call: each process that has a home has had access to it, and to
-    /// nothing else.
+    /// The histories before any call: each process has had access to its home, if it has one, and
+    /// to what the policy says that it held before, and to nothing else.
     pub fn opening(alloc: Global, policy: &Policy) -> Result<Histories, NoMemory>
         ensures pairs { IfOk result (λ h. has h ≡ opening policy.now) }
         ensures processes { IfOk result (λ h. h.processes ≡ length policy.now.process_names) }
@@ -56,7 +56,8 @@ impl Histories {
         let processes = policy.processes();
         let classes = class_list(alloc, policy)?;
         let rivals = rival_rows(alloc, &classes)?;
-        let rows = home_rows(alloc, policy)?;
+        let mut rows = home_rows(alloc, policy)?;
+        add_pairs(&mut rows, policy.held());
         Ok(Histories {
             processes,
             classes,
@@ -78,6 +79,14 @@ impl Histories {
         ensures apart { NobodyHoldsRivals self.now.classes (has self.now) }
     {
         self.rows[process.number() as usize].contains(dataset)
+    }
+
+    /// The pairs of process and dataset, in order: what `Policy::after` takes. `NoMemory` is
+    /// answered only where a growth was refused.
+    pub fn pairs(&self, alloc: Global) -> Result<Vec<(ProcessId, DatasetId)>, NoMemory>
+        ensures { IfOk result (λ pairs. ArePairsOf (has self.now) pairs.items) }
+    {
+        pairs_of(alloc, &self.rows)
     }
 
     /// Whether the process may write with this label, and if not, the lowest dataset that forbids
@@ -169,7 +178,7 @@ fn class_list(alloc: Global, policy: &Policy) -> Result<Vec<ClassId>, NoMemory>
 // For each id that a process can have, the set of its home.
 fn home_rows(alloc: Global, policy: &Policy) -> Result<Vec<LabelSet>, NoMemory>
     requires { IsPolicy policy.now }
-    ensures pairs { IfOk result (λ v. has_in v.items ≡ opening policy.now) }
+    ensures pairs { IfOk result (λ v. has_in v.items ≡ at_home policy.now) }
     ensures rows { IfOk result (λ v. length v.items ≡ process_limit) }
 {
     let mut rows = Vec::with_capacity(alloc, PROCESS_LIMIT as usize)?;
@@ -191,6 +200,56 @@ fn home_row(home: Option<DatasetId>) -> LabelSet
         row.insert(dataset);
     }
     row
+}
+
+// Adds these pairs of process and dataset to the rows.
+fn add_pairs(rows: &mut Vec<LabelSet>, pairs: &[(ProcessId, DatasetId)])
+    requires { length rows.old.items ≡ process_limit }
+    ensures pairs { AddsPairs pairs.now rows.old.items rows.new.items }
+    ensures rows { length rows.new.items ≡ process_limit }
+{
+    for (process, dataset) in pairs {
+        let row = &mut rows[process.number() as usize];
+        row.insert(*dataset);
+    }
+}
+
+// The pairs of process and dataset of the rows.
+fn pairs_of(alloc: Global, rows: &[LabelSet]) -> Result<Vec<(ProcessId, DatasetId)>, NoMemory>
+    requires { length rows.now ≡ process_limit }
+    ensures { IfOk result (λ pairs. ArePairsOf (has_in rows.now) pairs.items) }
+{
+    let mut pairs = Vec::new(alloc);
+    for place in 0..PROCESS_LIMIT {
+        let Some(process) = ProcessId::new(place) else {
+            unreachable!()
+        };
+        push_row(&mut pairs, process, &rows[place as usize])?;
+    }
+    Ok(pairs)
+}
+
+// Adds the pairs of the process and each dataset of the row. Most rows of a policy have none.
+fn push_row(
+    pairs: &mut Vec<(ProcessId, DatasetId)>,
+    process: ProcessId,
+    row: &LabelSet,
+) -> Result<(), NoMemory>
+    ensures { OnOk result (ArePairsOf (entered (has_pair pairs.old.items) process row.now)
+        pairs.new.items) }
+{
+    if row.first_other_than(None).is_none() {
+        return Ok(());
+    }
+    for number in 0..DATASET_LIMIT {
+        let Some(dataset) = DatasetId::new(number) else {
+            unreachable!()
+        };
+        if row.contains(dataset) {
+            pairs.push((process, dataset))?;
+        }
+    }
+    Ok(())
 }
 
 // For each dataset of the list its rivals.

@@ -16,5 +16,6 @@ invariant_of-result c =
       homes = sym c.in_ok-lists.ensures.homes i;
       leasts = sym c.in_ok-lists.ensures.leasts i;
       distincts = sym c.in_ok-lists.ensures.distincts i;
+      held = sym c.new.ensures.items i;
     }) (wall_of-IsPolicy c.args.text.now c.requires.some_process c.requires.good_names
     c.requires.distinct c.requires.good_leasts c.requires.small c.requires.version)
