@@ -7,7 +7,7 @@ ghost use Rattle.run_model.specs.declared.entry.Entry.{Entry};
 ghost use Rattle.run_model.specs.Posts.{Post, histories};
 ghost use Rattle.run_model.specs.Refusals.{post_fault};
 ghost use Rattle.run_model.specs.PostLaws.{KeepsTheWall};
-ghost use Rattle.run_model.specs.Books.{IsSound, Begins, IsCounted, is_labelled};
+ghost use Rattle.run_model.specs.Books.{IsSound, Begins, IsCounted, is_labelled, posts_in};
 ghost use Rattle.run_model.specs.EntryForms.{HasForm};
 ghost use Rattle.audit_book.specs.declared.check.Stopped.TheVariants.{Wrong};
 ghost use Rattle.audit_book.specs.declared.check.Stopped.TheVariants.{NoMemory as WantsMemory};
@@ -52,8 +52,8 @@ pub fn check_book(alloc: Global, policy: &Policy, book: &Book) -> Result<(), Boo
     }
 }
 
-// Goes through a whole book, with a state that stands for no post.
-fn follow_all(
+// Goes through a whole book, with a state that stands for no post, and then for those of the book.
+pub(crate) fn follow_all(
     alloc: Global,
     policy: &Policy,
     post_state: &mut PostState<()>,
@@ -61,6 +61,7 @@ fn follow_all(
 ) -> Result<(), BookFault>
     requires { Stands policy.now post_state.old [] }
     ensures sound { OnOk result (IsSound policy.now book.now.list) }
+    ensures stands { OnOk result (Stands policy.now post_state.new (posts_in book.now.list)) }
     ensures fault { IfErr result (IsFaultOf policy.now book.now.list) }
 {
     let mut due: Option<Due> = None;

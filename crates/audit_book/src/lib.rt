@@ -3,7 +3,8 @@
 //! `write_book` writes exactly the text of a book, and `read_book` reads a text as a book exactly
 //! if it is that book's text, and tells of each other text where it goes wrong. `check_book`
 //! answers whether a book is what its own posts give under the policy, and else which entry is the
-//! first that they do not.
+//! first that they do not. `after_book` does the same, and gives the policy for what comes after
+//! the book.
 //!
 //! What a book must have is said by `run_model`; the book and the state that the check goes on from
 //! stand in `run_state`, the words of a kind in `coll_text`. The text is proved line by line, from
@@ -12,6 +13,7 @@
 //! (`specs/Checks.antt`). (The format is our own.)
 #![tactic(auto)]
 
+mod after;
 mod check;
 mod check_fault;
 mod due;
@@ -24,6 +26,7 @@ mod scan;
 mod words;
 mod write;
 
+pub use after::after_book;
 pub use check::check_book;
 pub use check_fault::BookFault;
 pub use fault::{ReadFault, WriteFault};

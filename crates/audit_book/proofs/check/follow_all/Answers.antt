@@ -1,6 +1,6 @@
 use Rattle.std.proofs.Common.{◌+◌, ◌≤◌, length, take, Some, sym, ap, subst, arith}
-use Rattle.run_model.specs.Books.{IsFirstBad}
-use Rattle.audit_book.specs.Checks.{IsRight}
+use Rattle.run_model.specs.Books.{IsFirstBad, posts_in}
+use Rattle.audit_book.specs.Checks.{IsRight, Stands}
 use Rattle.audit_book.proofs.StepLemmas.{right_begins, due_is_unsound, take_more, take_whole}
 use Rattle.audit_book.proofs.StepLemmas.{bad_at, bad_end, length_front}
 use Rattle.audit_book.proofs.check.follow_all.Goals as goal
@@ -48,3 +48,11 @@ returns-in-Some-clause-fault c =
     (Some c.in-Some.field-0) right)
     (λ sound. due_is_unsound c.args.policy.now c.loop-at.post_state c.args.book.now.list
     c.in-Some.field-0 right sound))
+
+pub returns-in-None-clause-stands : goal.returns-in-None-clause-stands
+returns-in-None-clause-stands c =
+    let over : length c.args.book.now.list ≤ c.loop-at.at =
+    (let past = c.loop-at-test.false in let value = c.len-at-end.ensures.value in omega arith)
+    in
+    subst (λ es. Stands c.args.policy.now c.loop-at.post_state (posts_in es))
+    (take_whole c.args.book.now.list c.loop-at.at over) c.loop-at.invariant.stood
