@@ -69,7 +69,7 @@ fn sum<R: Abort>(rt: &R, alloc: Global, label: Label, number: i128) -> Posting
 }
 
 /// The last of the passes.
-fn last<R: Abort>(rt: &R, door: &Door, passes: &mut Passes) -> Pass
+pub(crate) fn last<R: Abort>(rt: &R, door: &Door, passes: &mut Passes) -> Pass
     requires { All (λ pass. pass.door ≡ door.now) passes.old.items }
     ensures pass { result.door ≡ door.now }
     ensures rest { All (λ pass. pass.door ≡ door.now) passes.new.items }
@@ -78,7 +78,7 @@ fn last<R: Abort>(rt: &R, door: &Door, passes: &mut Passes) -> Pass
 }
 
 /// The pass is put back behind the others.
-fn put<R: Abort>(rt: &R, door: &Door, passes: &mut Passes, pass: Pass)
+pub(crate) fn put<R: Abort>(rt: &R, door: &Door, passes: &mut Passes, pass: Pass)
     requires passes { All (λ pass. pass.door ≡ door.now) passes.old.items }
     requires pass { pass.door ≡ door.now }
     ensures { All (λ pass. pass.door ≡ door.now) passes.new.items }
@@ -94,7 +94,7 @@ fn are(given: &Integers, numbers: &[i128]) -> bool {
     }
 }
 
-fn is_delivered(answer: &Answer, numbers: &[i128]) -> bool {
+pub(crate) fn is_delivered(answer: &Answer, numbers: &[i128]) -> bool {
     let Answer::Reply(Reply::Delivered(delivery)) = answer else {
         return false;
     };
@@ -105,14 +105,14 @@ fn is_delivered(answer: &Answer, numbers: &[i128]) -> bool {
     }
 }
 
-fn is_posted(answer: &Answer, request: u64) -> bool {
+pub(crate) fn is_posted(answer: &Answer, request: u64) -> bool {
     match answer {
         Answer::Reply(Reply::Posted(given)) => *given == request,
         _ => false,
     }
 }
 
-fn is_refused(answer: &Answer, why: Refusal) -> bool {
+pub(crate) fn is_refused(answer: &Answer, why: Refusal) -> bool {
     match answer {
         Answer::Reply(Reply::Refused(refusal)) => *refusal == why,
         _ => false,
@@ -140,7 +140,13 @@ fn post<R: Wait + Abort>(rt: &R, door: &Door, pass: &mut Pass, posting: Posting,
 }
 
 /// The take brings these numbers.
-fn take<R: Wait + Abort>(rt: &R, door: &Door, pass: &mut Pass, request: u64, numbers: &[i128])
+pub(crate) fn take<R: Wait + Abort>(
+    rt: &R,
+    door: &Door,
+    pass: &mut Pass,
+    request: u64,
+    numbers: &[i128],
+)
     requires { pass.old.door ≡ door.now }
     ensures { pass.new.door ≡ door.now }
 {
@@ -150,7 +156,7 @@ fn take<R: Wait + Abort>(rt: &R, door: &Door, pass: &mut Pass, request: u64, num
 }
 
 /// Whether the claim is ready, with this rank.
-fn is_ready(claimed: &Claimed, own: u32) -> bool {
+pub(crate) fn is_ready(claimed: &Claimed, own: u32) -> bool {
     match claimed {
         Claimed::Claim(Claim::Ready { rank, .. }) => *rank == own,
         _ => false,
@@ -158,7 +164,7 @@ fn is_ready(claimed: &Claimed, own: u32) -> bool {
 }
 
 /// What the claim comes to.
-fn finished(claimed: Claimed) -> Answer
+pub(crate) fn finished(claimed: Claimed) -> Answer
     requires { MayFinish claimed }
 {
     match claimed {
@@ -168,7 +174,13 @@ fn finished(claimed: Claimed) -> Answer
 }
 
 /// The claim of the first request is ready with this rank, and brings these numbers.
-fn claim<R: Wait + Abort>(rt: &R, door: &Door, pass: &mut Pass, own: u32, numbers: &[i128])
+pub(crate) fn claim<R: Wait + Abort>(
+    rt: &R,
+    door: &Door,
+    pass: &mut Pass,
+    own: u32,
+    numbers: &[i128],
+)
     requires { pass.old.door ≡ door.now }
     ensures { pass.new.door ≡ door.now }
 {
@@ -300,7 +312,7 @@ fn refuse<R: Abort>(rt: &R, door: Door, passes: Passes) -> (Door, Passes)
 }
 
 /// The hall of a door that is closed by all passes.
-fn close<R: Abort>(rt: &R, door: Door, passes: Passes) -> Hall
+pub(crate) fn close<R: Abort>(rt: &R, door: Door, passes: Passes) -> Hall
     requires { All (λ pass. pass.door ≡ door) passes.items }
 {
     door.close(passes).ok().expect(rt, "no pass is missing")

@@ -17,6 +17,8 @@ mod parties;
 #[cfg(test)]
 mod ranks;
 #[cfg(test)]
+mod refused;
+#[cfg(test)]
 mod stages;
 #[cfg(test)]
 mod stops;
