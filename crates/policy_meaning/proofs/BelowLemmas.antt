@@ -1,0 +1,64 @@
+-- Lists over the numbers below n, by one number more.
+use Rattle.std.proofs.Common.{◌≡◌, ℕ, zero, suc, ◌+◌, ◌<◌, ◌≤◌, Bool, true, false, List, [], ◌∷◌}
+use Rattle.std.proofs.Common.{◌++◌, length, sym, ap, ◌∙◌, subst, ◌||◌, cond, arith, add-one, inl}
+use Rattle.std.proofs.Common.{inr}
+use Rattle.std.proofs.Common.{refl}
+use Rattle.std.specs.Prelude.{count_by}
+use Rattle.std.specs.List.{range_with_len, list_any}
+use Rattle.std.proofs.Math.Bool.{or-false}
+use Rattle.std.proofs.lemmas.Bool.{cases_lt}
+use Rattle.std.proofs.lemmas.List.Folds.{list_any-append}
+use Rattle.std.proofs.lemmas.List.Sums.{sum_by-append}
+use Rattle.mpi_cart.specs.Grids.{below}
+
+range_more : (a n : ℕ) → range_with_len a (suc n) ≡ range_with_len a n ++ (a + n) ∷ []
+range_more a zero = let e : a ≡ a + zero = omega arith in ap (λ (k : ℕ). k ∷ []) e
+range_more a (suc n) = let e : (a + 1) + n ≡ a + suc n = omega arith in
+    ap (λ (r : List ℕ). a ∷ r)
+    (range_more (a + 1) n ∙ ap (λ (k : ℕ). range_with_len (a + 1) n ++ k ∷ []) e)
+
+below_more : (n : ℕ) → below (n + 1) ≡ below n ++ n ∷ []
+below_more n = let e : 0 + n ≡ n = omega arith in
+    subst (λ m. below m ≡ below n ++ n ∷ []) (sym (add-one n))
+    (range_more 0 n ∙ ap (λ (k : ℕ). below n ++ k ∷ []) e)
+
+any_more : (p : ℕ → Bool) (n : ℕ) → list_any p (below (n + 1)) ≡ (list_any p (below n) || p n)
+any_more p n = ap (λ xs. list_any p xs) (below_more n)
+    ∙ (list_any-append p (below n) (n ∷ []) ∙ ap (λ b. list_any p (below n) || b) (or-false (p n)))
+
+pub none_more : (p : ℕ → Bool) (n : ℕ) → list_any p (below n) ≡ false → p n ≡ false →
+    list_any p (below (n + 1)) ≡ false
+none_more p n before here = any_more p n ∙ (λ i. before i || here i)
+
+or_true : (b : Bool) → (b || true) ≡ true
+or_true true = refl
+or_true false = refl
+
+-- one that passes stays there
+pub some_later : (p : ℕ → Bool) (k n : ℕ) → k < n → p k ≡ true → list_any p (below n) ≡ true
+some_later p k zero lt here = absurd (omega arith)
+some_later p k (suc n) lt here = subst (λ m. list_any p (below m) ≡ true) (add-one n)
+    (any_more p n ∙ elim (cases_lt k n) [
+      | inl low ↦ ap (λ b. b || p n) (some_later p k n low here)
+      | inr high ↦ let same : k ≡ n = omega arith in
+          ap (λ b. list_any p (below n) || b) (sym (ap p same) ∙ here)
+          ∙ or_true (list_any p (below n))
+    ])
+
+pub count_more : (p : ℕ → Bool) (n : ℕ) →
+    count_by p (below (n + 1)) ≡ count_by p (below n) + cond (p n) 1 0
+count_more p n = ap (λ xs. count_by p xs) (below_more n)
+    ∙ (sum_by-append (λ x. cond (p x) 1 0) (below n) (n ∷ [])
+    ∙ (let e : 0 + cond (p n) 1 0 ≡ cond (p n) 1 0 = omega arith in
+    ap (λ (k : ℕ). count_by p (below n) + k) e))
+
+pub count_yes : (p : ℕ → Bool) (n c : ℕ) → c ≡ count_by p (below n) → p n ≡ true →
+    c + 1 ≡ count_by p (below (n + 1))
+count_yes p n c e here =
+    sym (count_more p n ∙ (λ i. sym e i + cond (here i) 1 0))
+
+pub count_no : (p : ℕ → Bool) (n c : ℕ) → c ≡ count_by p (below n) → p n ≡ false →
+    c ≡ count_by p (below (n + 1))
+count_no p n c e here =
+    let none : c + 0 ≡ c = omega arith in
+    sym none ∙ sym (count_more p n ∙ (λ i. sym e i + cond (here i) 1 0))

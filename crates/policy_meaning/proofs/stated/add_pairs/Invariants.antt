@@ -1,0 +1,8 @@
+use Rattle.std.proofs.Common.{◌+◌, ◌*◌}
+use Rattle.policy_meaning.specs.Facts.{IsFact, fact_place}
+use Rattle.policy_meaning.specs.Listed.{AreListed}
+use Rattle.policy_meaning.proofs.stated.add_pairs.Given as goal
+
+abbrev pub invariant-loop-number : goal.invariant-loop-number
+invariant-loop-number l =
+    AreListed (IsFact l.policy) fact_place l.list.items (1280 + 256 * l.number)
