@@ -1,0 +1,4 @@
+pub mod KnownLemmas
+pub mod HistoryLemmas
+pub mod GrantLemmas
+pub mod WalkLemmas

@@ -1,0 +1,16 @@
+//! What a book tells: who came to hold what, by which entry and how.
+//!
+//! [`held`] goes once through a sound book, and gives for each process and each dataset that it
+//! holds at the end the entry after which it first did, and how that came. What holding means is
+//! said by the histories that a book gives (`run_model`).
+#![tactic(auto)]
+
+mod enter;
+mod grant;
+mod known;
+mod row;
+mod walk;
+
+pub use audit_book::{Book, BookFault, NoMemory};
+pub use row::{Row, Way};
+pub use walk::held;
