@@ -1,4 +1,5 @@
 pub mod CutLemmas
 pub mod LineLemmas
+pub mod PromptLemmas
 pub mod SessionLemmas
 pub mod ServedLemmas

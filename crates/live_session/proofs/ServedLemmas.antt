@@ -12,6 +12,7 @@ use Rattle.live_session.specs.declared.peer.Serving.{Serving}
 use Rattle.live_session.specs.Joining.{HasServed, AllServed, handed, passes_of, peers_of}
 use Rattle.live_session.specs.Joining.{passes_in, end_of, ends_of, end_in, ends_in, IsFresh}
 use Rattle.live_session.specs.Joining.{ArePrepared, HaveEnded}
+use Rattle.live_session.specs.Hearing.{Heard}
 use Rattle.live_session.specs.Sessions.{Serves, ServesIfBegun}
 use Rattle.live_session.specs.declared.ending.SessionEnd.{SessionEnd}
 use Rattle.live_session.specs.Served.{SessionOf, ServedAll}
@@ -39,13 +40,13 @@ pub all_yielded : {A : Type 0} (done rest all : List A) → done ++ rest ≡ all
 all_yielded done rest all whole none = sym (append-nil done)
     ∙ ap (λ l. done ++ l) (sym (none_left rest none)) ∙ whole
 
-module _ {S O : Type 0} (fails : S → ℕ) (left : S → Option (List ℕ)) (failures : O → ℕ)
-    (contents : O → Option (List ℕ)) where
+module _ {S O : Type 0} (fails : S → ℕ) (left : S → Option (List ℕ))
+    (heard : S → Option (List Heard)) (failures : O → ℕ) (contents : O → Option (List ℕ)) where
   abbrev Served : Job S O → Played S O → Type 0
-  Served job played = HasServed fails left failures contents job played
+  Served job played = HasServed fails left heard failures contents job played
 
   abbrev Each : List (Job S O) → List (Played S O) → Type 0
-  Each jobs all = AllServed fails left failures contents jobs all
+  Each jobs all = AllServed fails left heard failures contents jobs all
 
   push_served : (jobs : List (Job S O)) (all : List (Played S O)) (job : Job S O)
       (played : Played S O) → Each jobs all → Served job played →
@@ -149,18 +150,18 @@ module _ {S O : Type 0} where
         unseen = ap (λ (x : Known). x.seen) pass;
       }
 
-module _ {S O : Type 0} (fails : S → ℕ) (left : S → Option (List ℕ)) (failures : O → ℕ)
-    (contents : O → Option (List ℕ)) where
+module _ {S O : Type 0} (fails : S → ℕ) (left : S → Option (List ℕ))
+    (heard : S → Option (List Heard)) (failures : O → ℕ) (contents : O → Option (List ℕ)) where
   -- the job at a place, with what became of it
   record ServedAt (jobs : List (Job S O)) (all : List (Played S O)) (i : ℕ) : Type 0 where
     pub job : Job S O
     pub played : Played S O
     pub job_is : (d : Job S O) → get_or jobs i d ≡ job
     pub played_is : (d : Played S O) → get_or all i d ≡ played
-    pub has : HasServed fails left failures contents job played
+    pub has : HasServed fails left heard failures contents job played
 
   served_at : (jobs : List (Job S O)) (all : List (Played S O)) (i : ℕ) → i < length jobs →
-      AllServed fails left failures contents jobs all → ServedAt jobs all i
+      AllServed fails left heard failures contents jobs all → ServedAt jobs all i
   served_at [] [] i lt h = absurd (omega arith)
   served_at (j ∷ jobs) (x ∷ all) zero lt h =
       record { job = j; played = x; job_is = (λ d. refl); played_is = (λ d. refl); has = h.0 }
@@ -177,7 +178,7 @@ module _ {S O : Type 0} (fails : S → ℕ) (left : S → Option (List ℕ)) (fa
   served_at (j ∷ jobs) [] i lt h = absurd h
 
   pub served_long : (jobs : List (Job S O)) (all : List (Played S O)) →
-      AllServed fails left failures contents jobs all → length all ≡ length jobs
+      AllServed fails left heard failures contents jobs all → length all ≡ length jobs
   served_long [] [] h = refl
   served_long (j ∷ jobs) (x ∷ all) h = ap suc (served_long jobs all h.1)
   served_long [] (x ∷ all) h = absurd h
@@ -185,7 +186,7 @@ module _ {S O : Type 0} (fails : S → ℕ) (left : S → Option (List ℕ)) (fa
 
   module _ (wall : ChineseWall) (peers : List (Peer S O)) (door : Doorway)
       (jobs : List (Job S O)) (ended : Ended S O) (p : ArePrepared wall peers door jobs)
-      (h : HaveEnded fails left failures contents jobs ended) where
+      (h : HaveEnded fails left heard failures contents jobs ended) where
     many_jobs : length jobs ≡ processes wall
     many_jobs = jobs_long door (processes wall) jobs p.passes
 
@@ -225,7 +226,7 @@ module _ {S O : Type 0} (fails : S → ℕ) (left : S → Option (List ℕ)) (fa
 
     session_of : (hall : HallValue) (closed : Closed door.policy hall ended.passes.items) (i : ℕ)
         (d : Peer S O) (e : Session S O) → i < processes wall →
-        SessionOf fails left failures contents wall closed.run door i (get_or peers i d)
+        SessionOf fails left heard failures contents wall closed.run door i (get_or peers i d)
         (get_or ended.sessions.items i e)
     session_of hall closed i d e lt =
         let back = many_served in
@@ -265,21 +266,23 @@ module _ {S O : Type 0} (fails : S → ℕ) (left : S → Option (List ℕ)) (fa
           begins = own.begins;
           own = subst (λ (q : ℕ). calls_of q run ≡ calls_of q k.seen) number own.own;
           served =
-              subst (λ (y : Peer S O). Serves wall (used fails left y.source session.peer.source)
+              subst (λ (y : Peer S O). Serves heard wall
+              (used fails left y.source session.peer.source)
               (used failures contents y.sink session.peer.sink) (new_pass door i) k session.end)
               (sym peer_is)
-              (subst (λ (y : Peer S O × Option SessionEnd). ServesIfBegun wall
+              (subst (λ (y : Peer S O × Option SessionEnd). ServesIfBegun heard wall
               (used fails left j.peer.source y.0.source) (used failures contents j.peer.sink y.0.sink)
               (new_pass door i) k y.1) (sym told)
-              (subst (λ (b : Known). ServesIfBegun wall (used fails left j.peer.source x.peer.source)
+              (subst (λ (b : Known). ServesIfBegun heard wall
+              (used fails left j.peer.source x.peer.source)
               (used failures contents j.peer.sink x.peer.sink) b k x.ended) pass
-              (subst (λ (w : ChineseWall). ServesIfBegun w
+              (subst (λ (w : ChineseWall). ServesIfBegun heard w
               (used fails left j.peer.source x.peer.source)
               (used failures contents j.peer.sink x.peer.sink) j.pass k x.ended) wall_is at.has.so)));
         }
 
     pub served_all : (hall : HallValue) → Closed door.policy hall ended.passes.items →
-        ServedAll fails left failures contents wall peers ended.sessions.items hall
+        ServedAll fails left heard failures contents wall peers ended.sessions.items hall
     served_all hall closed = record {
       door = door;
       run = closed.run;

@@ -1,7 +1,7 @@
 -- What sessions come to, line by line.
-use Rattle.std.proofs.Common.{◌≡◌, inl, inr, ℕ, suc, ◌+◌, List, [], ◌∷◌, ◌++◌, map, replicate}
+use Rattle.std.proofs.Common.{◌≡◌, inl, inr, ℕ, zero, suc, ◌+◌, List, [], ◌∷◌, ◌++◌, map}
 use Rattle.std.proofs.Common.{reverse, Option, Some, None, Result, Ok, Err, refl, sym, ap, subst}
-use Rattle.std.proofs.Common.{◌∙◌, append_assoc, append-nil, IfOk}
+use Rattle.std.proofs.Common.{◌∙◌, append_assoc, append-nil, IfOk, replicate, take, arith}
 use Rattle.wall_labels.specs.declared.no_memory.NoMemory.{NoMemory as OutOfMemory}
 use Rattle.wall_labels.specs.Known.{AppendsFront}
 use Rattle.std.specs.Io.KnownBytes.{Appends, Consumes, IsAtEnd, Keeps}
@@ -37,13 +37,15 @@ use Rattle.live_session.specs.Lines.{said, left_line, exhausted_line}
 use Rattle.live_session.specs.Sessions.{Told, done, waited, asked_nothing, said_by, called}
 use Rattle.live_session.specs.Sessions.{calls_for, made, answer, answers, SeesMore, Acted, EndsAt}
 use Rattle.live_session.specs.Sessions.{SaysLast, IsCutIn, BreaksOff, IsWrittenButNewest, EndsSo}
-use Rattle.live_session.specs.Sessions.{Serves}
+use Rattle.live_session.specs.Sessions.{Serves, IsPrompt}
+use Rattle.live_session.specs.Hearing.{Heard, Tells}
 use Rattle.live_session.specs.Steps.{ComesTo, MayHaveCome, ComesTooLate, reply_to, CameTo, Waited}
 use Rattle.live_session.specs.Steps.{came_of, line_to, next_after, AnswersSo, WritesAnswer}
 use Rattle.live_session.specs.Steps.{PutsAnswer, AnswersLine, SoFar, Stops, StopsSo, Holds}
 use Rattle.live_session.specs.Steps.{behind}
 use Rattle.live_session.specs.declared.line.Unfinished.{Unfinished}
 use Rattle.live_session.proofs.CutLemmas.{parts_behind}
+use Rattle.live_session.proofs.PromptLemmas.{prompt_none, prompt_more, prompt_still}
 use Rattle.live_session.specs.declared.ending.SessionEnd.{SessionEnd}
 use Rattle.live_session.specs.declared.ending.SessionEnd.TheVariants.{EndOfStream, Left}
 use Rattle.live_session.specs.declared.ending.SessionEnd.TheVariants.{ReadFailed, WriteFailed}
@@ -287,12 +289,12 @@ module _ {O : Type 0} (failures : O → ℕ) (contents : O → Option (List ℕ)
   abbrev Between : O → O → Used O
   Between old new = used failures contents old new
 
-  written_then : (a b c : O) (xs ys : List ℕ) → IsWritten (Between a b) xs →
+  pub written_then : (a b c : O) (xs ys : List ℕ) → IsWritten (Between a b) xs →
       IsWritten (Between b c) ys → IsWritten (Between a c) (xs ++ ys)
   written_then a b c xs ys p q =
       (q.0 ∙ p.0, Appends-trans (contents a) (contents b) (contents c) xs ys p.1 q.1)
 
-  pub so_far_none : (wall : ChineseWall) (before : Known) (text : List Word) (sink : O) →
+  unfoldable pub so_far_none : (wall : ChineseWall) (before : Known) (text : List Word) (sink : O) →
       wall ≡ before.door.policy → Legal wall before.seen →
       SoFar wall before text text (Between sink sink) before
   so_far_none wall before text sink is legal = record {
@@ -475,8 +477,8 @@ module _ {O : Type 0} (failures : O → ℕ) (contents : O → Option (List ℕ)
   -- ---- text by text
 
   -- a text was acted on, and then what it goes on with
-  pub so_far_then : (wall : ChineseWall) (a b d : Known) (bytes more : List ℕ) (line : Word)
-      (rest : List Word) (old mid new : O) →
+  unfoldable pub so_far_then : (wall : ChineseWall) (a b d : Known) (bytes more : List ℕ)
+      (line : Word) (rest : List Word) (old mid new : O) →
       SoFar wall a (parts 10 bytes) (line ∷ []) (Between old mid) b →
       SoFar wall b (behind line (parts 10 more)) rest (Between mid new) d →
       SoFar wall a (parts 10 (bytes ++ more)) rest (Between old new) d
@@ -554,8 +556,8 @@ module _ {O : Type 0} (failures : O → ℕ) (contents : O → Option (List ℕ)
   breaks_off_then wall old mid new rest past told after w (inr (end, text, at, cut)) =
       inr (end, text, at, cut_then wall old mid new past told text w cut)
 
-  stops_so_then : (wall : ChineseWall) (old mid new : O) (rest : List Word) (past told : List Told)
-      (after : Known) (end : SessionEnd) → IsWritten (Between old mid) (answers wall past) →
+  pub stops_so_then : (wall : ChineseWall) (old mid new : O) (rest : List Word)
+      (past told : List Told) (after : Known) (end : SessionEnd) → IsWritten (Between old mid) (answers wall past) →
       StopsSo wall (Between mid new) rest told after end →
       StopsSo wall (Between old new) rest (told ++ past) after end
   stops_so_then wall old mid new rest past told after WriteFailed w (once, b) =
@@ -570,8 +572,8 @@ module _ {O : Type 0} (failures : O → ℕ) (contents : O → Option (List ℕ)
   stops_so_then wall old mid new rest past told after EndOfStream w h = absurd h
 
   -- the text that it goes on with was not acted on to its end
-  pub stops_then : (wall : ChineseWall) (a b d : Known) (bytes more : List ℕ) (line : Word)
-      (old mid new : O) (end : SessionEnd) →
+  unfoldable pub stops_then : (wall : ChineseWall) (a b d : Known) (bytes more : List ℕ)
+      (line : Word) (old mid new : O) (end : SessionEnd) →
       SoFar wall a (parts 10 bytes) (line ∷ []) (Between old mid) b →
       Stops wall b (behind line (parts 10 more)) (Between mid new) d end →
       Stops wall a (parts 10 (bytes ++ more)) (Between old new) d end
@@ -587,18 +589,26 @@ module _ {O : Type 0} (failures : O → ℕ) (contents : O → Option (List ℕ)
 
 -- ---- the whole session
 
+-- a read of no bytes
+pub took_none : (n : ℕ) (buffer : List ℕ) → n ≡ 0 → take n buffer ≡ []
+took_none zero [] e = refl
+took_none zero (x ∷ buffer) e = refl
+took_none (suc n) buffer e = absurd (omega arith)
+
 -- the session goes on: all finished lines of what was read were answered
-pub record Going {S O : Type 0} (wall : ChineseWall) (source : Used S) (sink : Used O)
-    (before : Known) (kept : Unfinished) (now : Known) : Type 0 where
+pub record Going {S O : Type 0} (heard : S → Option (List Heard)) (wall : ChineseWall)
+    (source : Used S) (sink : Used O) (before : Known) (kept : Unfinished) (now : Known)
+    : Type 0 where
   pub bytes : List ℕ
   pub read : Consumes (bytes_before source) (bytes_after source) bytes
   pub went : NeverFailed source
   pub line : Word
   pub holds : Holds kept line
   pub so_far : SoFar wall before (parts 10 bytes) (line ∷ []) sink now
+  pub prompt : IsPrompt heard wall source sink bytes so_far.told
 
-module _ {S O : Type 0} (fails : S → ℕ) (left : S → Option (List ℕ)) (failures : O → ℕ)
-    (contents : O → Option (List ℕ)) where
+module _ {S O : Type 0} (fails : S → ℕ) (left : S → Option (List ℕ))
+    (heard : S → Option (List Heard)) (failures : O → ℕ) (contents : O → Option (List ℕ)) where
   abbrev Reading : S → S → Used S
   Reading old new = used fails left old new
 
@@ -607,7 +617,8 @@ module _ {S O : Type 0} (fails : S → ℕ) (left : S → Option (List ℕ)) (fa
 
   pub going_none : (wall : ChineseWall) (before : Known) (kept : Unfinished) (source : S)
       (sink : O) → wall ≡ before.door.policy → Legal wall before.seen → Holds kept [] →
-      Going wall (Reading source source) (Writing sink sink) before kept before
+      Going heard wall (Reading source source) (Writing sink sink) before kept before
+  unfolding so_far_none
   going_none wall before kept source sink is legal h = record {
     bytes = [];
     read = Consumes-nil (left source);
@@ -615,17 +626,20 @@ module _ {S O : Type 0} (fails : S → ℕ) (left : S → Option (List ℕ)) (fa
     line = [];
     holds = h;
     so_far = so_far_none failures contents wall before ([] ∷ []) sink is legal;
+    prompt = prompt_none fails left heard failures contents wall source sink;
   }
 
   -- more was read and acted on
   pub going_on : (wall : ChineseWall) (a b d : Known) (kept now : Unfinished) (first mid last : S)
       (old out new : O) (more : List ℕ) →
-      (g : Going wall (Reading first mid) (Writing old out) a kept b) →
+      (g : Going heard wall (Reading first mid) (Writing old out) a kept b) →
       fails last ≡ fails mid → Consumes (left mid) (left last) more →
+      Tells (heard mid) (heard last) (record { bytes = more; written = contents out } ∷ []) →
       (line : Word) → Holds now line →
       SoFar wall b (behind g.line (parts 10 more)) (line ∷ []) (Writing out new) d →
-      Going wall (Reading first last) (Writing old new) a now d
-  going_on wall a b d kept now first mid last old out new more g went read line h s = record {
+      Going heard wall (Reading first last) (Writing old new) a now d
+  unfolding so_far_then
+  going_on wall a b d kept now first mid last old out new more g went read tells line h s = record {
     bytes = g.bytes ++ more;
     read = Consumes-trans (left first) (left mid) (left last) g.bytes more g.read read;
     went = went ∙ g.went;
@@ -633,35 +647,46 @@ module _ {S O : Type 0} (fails : S → ℕ) (left : S → Option (List ℕ)) (fa
     holds = h;
     so_far = so_far_then failures contents wall a b d g.bytes more g.line (line ∷ []) old out new
         g.so_far s;
+    prompt = prompt_more fails left heard failures contents wall a b first mid last old out new
+        g.bytes more g.line g.so_far g.prompt tells s.told;
   }
 
   pub served_to_end : (wall : ChineseWall) (a b : Known) (kept : Unfinished) (first mid last : S)
-      (old new : O) → Going wall (Reading first mid) (Writing old new) a kept b →
-      fails last ≡ fails mid → Consumes (left mid) (left last) [] → IsAtEnd (left last) →
-      Serves wall (Reading first last) (Writing old new) a b EndOfStream
-  served_to_end wall a b kept first mid last old new g went read end = record {
-    bytes = g.bytes;
-    read = subst (Consumes (left first) (left last)) (append-nil g.bytes)
-        (Consumes-trans (left first) (left mid) (left last) g.bytes [] g.read read);
-    lines = g.so_far.lines;
-    rest = g.line ∷ [];
-    told = g.so_far.told;
-    acted = g.so_far.acted;
-    ends = (went ∙ g.went, end, refl, g.so_far.written);
-  }
+      (old new : O) (more : List ℕ) → more ≡ [] →
+      Going heard wall (Reading first mid) (Writing old new) a kept b → fails last ≡ fails mid →
+      Consumes (left mid) (left last) more → IsAtEnd (left last) →
+      Tells (heard mid) (heard last) (record { bytes = more; written = contents new } ∷ []) →
+      Serves heard wall (Reading first last) (Writing old new) a b EndOfStream
+  served_to_end wall a b kept first mid last old new more none g went read end tells =
+      let all = ap (λ l. g.bytes ++ l) none ∙ append-nil g.bytes in record {
+        bytes = g.bytes;
+        read = subst (Consumes (left first) (left last)) all
+            (Consumes-trans (left first) (left mid) (left last) g.bytes more g.read read);
+        lines = g.so_far.lines;
+        rest = g.line ∷ [];
+        told = g.so_far.told;
+        acted = g.so_far.acted;
+        prompt = subst (λ (l : List ℕ). IsPrompt heard wall (Reading first last) (Writing old new) l
+            g.so_far.told) all
+            (prompt_more fails left heard failures contents wall a b first mid last old new new
+            g.bytes more g.line g.so_far g.prompt tells []);
+        ends = (went ∙ g.went, end, refl, g.so_far.written);
+      }
 
   pub served_till_fault : (wall : ChineseWall) (a b : Known) (kept : Unfinished)
       (first mid last : S) (old new : O) →
-      Going wall (Reading first mid) (Writing old new) a kept b → fails last ≡ fails mid + 1 →
-      Keeps (left mid) (left last) →
-      Serves wall (Reading first last) (Writing old new) a b ReadFailed
-  served_till_fault wall a b kept first mid last old new g once keeps = record {
+      Going heard wall (Reading first mid) (Writing old new) a kept b → fails last ≡ fails mid + 1 →
+      Keeps (left mid) (left last) → Tells (heard mid) (heard last) [] →
+      Serves heard wall (Reading first last) (Writing old new) a b ReadFailed
+  served_till_fault wall a b kept first mid last old new g once keeps tells = record {
     bytes = g.bytes;
     read = Consumes-kept (left first) (left mid) (left last) g.bytes g.read keeps;
     lines = g.so_far.lines;
     rest = g.line ∷ [];
     told = g.so_far.told;
     acted = g.so_far.acted;
+    prompt = prompt_still fails left heard failures contents wall first mid last old new g.bytes
+        g.so_far.told g.prompt tells;
     ends = (once ∙ ap (λ (n : ℕ). n + 1) g.went, refl, g.so_far.written);
   }
 
@@ -678,11 +703,13 @@ module _ {S O : Type 0} (fails : S → ℕ) (left : S → Option (List ℕ)) (fa
 
   pub served_till_stop : (wall : ChineseWall) (a b d : Known) (kept : Unfinished)
       (first mid last : S) (old out new : O) (more : List ℕ) (end : SessionEnd) →
-      (g : Going wall (Reading first mid) (Writing old out) a kept b) →
+      (g : Going heard wall (Reading first mid) (Writing old out) a kept b) →
       fails last ≡ fails mid → Consumes (left mid) (left last) more →
+      Tells (heard mid) (heard last) (record { bytes = more; written = contents out } ∷ []) →
       Stops wall b (behind g.line (parts 10 more)) (Writing out new) d end →
-      Serves wall (Reading first last) (Writing old new) a d end
-  served_till_stop wall a b d kept first mid last old out new more end g went read stops =
+      Serves heard wall (Reading first last) (Writing old new) a d end
+  unfolding stops_then
+  served_till_stop wall a b d kept first mid last old out new more end g went read tells stops =
       let s = stops_then failures contents wall a b d g.bytes more g.line old out new end g.so_far
       stops in record {
         bytes = g.bytes ++ more;
@@ -691,13 +718,15 @@ module _ {S O : Type 0} (fails : S → ℕ) (left : S → Option (List ℕ)) (fa
         rest = s.rest;
         told = s.told;
         acted = s.acted;
+        prompt = prompt_more fails left heard failures contents wall a b first mid last old out new
+            g.bytes more g.line g.so_far g.prompt tells stops.told;
         ends = ends_so wall first last old new s.rest s.told d end (went ∙ g.went) s.stops;
       }
 
   -- memory ran out before the first read
   pub served_nothing : (wall : ChineseWall) (before : Known) (source : S) (sink : O) →
       wall ≡ before.door.policy → Legal wall before.seen →
-      Serves wall (Reading source source) (Writing sink sink) before before NoMemory
+      Serves heard wall (Reading source source) (Writing sink sink) before before NoMemory
   served_nothing wall before source sink is legal = record {
     bytes = [];
     read = Consumes-nil (left source);
@@ -706,5 +735,6 @@ module _ {S O : Type 0} (fails : S → ℕ) (left : S → Option (List ℕ)) (fa
     told = [];
     acted = acted_none wall before ([] ∷ [])
         (subst (λ (w : ChineseWall). Legal w before.seen) is legal);
+    prompt = prompt_none fails left heard failures contents wall source sink;
     ends = (refl, (refl, Appends-nil (contents sink)));
   }

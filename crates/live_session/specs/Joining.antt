@@ -16,6 +16,7 @@ use Rattle.live_session.specs.declared.peer.Serving.{Serving}
 use Rattle.live_session.specs.declared.run.Room.{Room}
 use Rattle.live_session.specs.declared.run.Ended.{Ended}
 use Rattle.live_session.specs.declared.ending.SessionEnd.{SessionEnd}
+use Rattle.live_session.specs.Hearing.{Heard}
 use Rattle.live_session.specs.Sessions.{ServesIfBegun}
 
 module _ {S O : Type 0} where
@@ -65,11 +66,11 @@ module _ {S O : Type 0} where
     pub ended : (room.ended.items ≡ []) × (count ≤ vec_capacity room.ended)
     pub handles : (room.handles.items ≡ []) × (count ≤ vec_capacity room.handles)
 
-module _ {S O : Type 0} (fails : S → ℕ) (left : S → Option (List ℕ)) (failures : O → ℕ)
-    (contents : O → Option (List ℕ)) where
+module _ {S O : Type 0} (fails : S → ℕ) (left : S → Option (List ℕ))
+    (heard : S → Option (List Heard)) (failures : O → ℕ) (contents : O → Option (List ℕ)) where
   -- what became of a job
   pub record HasServed (job : Job S O) (played : Played S O) : Type 0 where
-    pub so : ServesIfBegun job.pass.door.policy
+    pub so : ServesIfBegun heard job.pass.door.policy
         (used fails left job.peer.source played.peer.source)
         (used failures contents job.peer.sink played.peer.sink) job.pass played.pass played.ended
     pub same : IsSamePass job.pass played.pass

@@ -1,4 +1,5 @@
 pub mod Lines
+pub mod Hearing
 pub mod Sessions
 pub mod Served
 pub mod Steps

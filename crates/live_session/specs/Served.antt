@@ -12,10 +12,11 @@ use Rattle.hall_turn.specs.Known.{Doorway, Known}
 use Rattle.hall_turn.specs.Answers.{new_pass}
 use Rattle.live_session.specs.declared.peer.Peer.{Peer}
 use Rattle.live_session.specs.declared.peer.Session.{Session}
+use Rattle.live_session.specs.Hearing.{Heard}
 use Rattle.live_session.specs.Sessions.{Serves}
 
-module _ {S O : Type 0} (fails : S → ℕ) (left : S → Option (List ℕ)) (failures : O → ℕ)
-    (contents : O → Option (List ℕ)) where
+module _ {S O : Type 0} (fails : S → ℕ) (left : S → Option (List ℕ))
+    (heard : S → Option (List Heard)) (failures : O → ℕ) (contents : O → Option (List ℕ)) where
   -- What became of the session of process p, where this is the run of all calls: its pass has seen
   -- a beginning of the run, with all calls of p.
   pub record SessionOf (wall : ChineseWall) (run : List Entry) (door : Doorway) (p : ℕ)
@@ -23,7 +24,7 @@ module _ {S O : Type 0} (fails : S → ℕ) (left : S → Option (List ℕ)) (fa
     pub pass : Known
     pub begins : Continues run pass.seen
     pub own : calls_of p run ≡ calls_of p pass.seen
-    pub served : Serves wall (used fails left old.source new.peer.source)
+    pub served : Serves heard wall (used fails left old.source new.peer.source)
         (used failures contents old.sink new.peer.sink) (new_pass door p) pass new.end
 
   -- There is a legal run for which the hall stands. The calls of each process in it are those of

@@ -1,7 +1,7 @@
 -- What a session of a process comes to. (Own rules.) Lines, what they came to, and runs have the
 -- newest first.
-use Rattle.std.specs.Prelude.{◌≡◌, ◌≢◌, ◌⊎◌, ℕ, ◌^◌, ◌≤◌, List, [], ◌∷◌, ◌++◌, length, map, reverse}
-use Rattle.std.specs.Prelude.{replicate, Option, Some, None, Result, Ok, Err}
+use Rattle.std.specs.Prelude.{◌≡◌, ◌≢◌, ◌⊎◌, ℕ, ◌^◌, ◌≤◌, List, [], ◌∷◌, ◌++◌, ◌+◌, length, map}
+use Rattle.std.specs.Prelude.{reverse, replicate, Option, Some, None, Result, Ok, Err}
 use Rattle.std.specs.Io.KnownBytes.{Appends, Consumes, IsAtEnd}
 use Rattle.wall_policy.specs.Policy.{ChineseWall}
 use Rattle.coll_text.specs.Numbers.{Word}
@@ -26,6 +26,7 @@ use Rattle.live_session.specs.declared.ending.SessionEnd.TheVariants.{EndOfStrea
 use Rattle.live_session.specs.declared.ending.SessionEnd.TheVariants.{ReadFailed, WriteFailed}
 use Rattle.live_session.specs.declared.ending.SessionEnd.TheVariants.{Exhausted, NoMemory}
 use Rattle.live_session.specs.Lines.{said, bad_line, left_line, exhausted_line}
+use Rattle.live_session.specs.Hearing.{Heard, Tells, text_of}
 
 -- ---- lines and their answers
 
@@ -153,21 +154,49 @@ EndsSo wall source sink rest told after Exhausted =
 EndsSo wall source sink rest told after NoMemory =
     NeverFailed source × IsWrittenButNewest wall sink told
 
+-- ---- reads
+
+-- The lines that this text finishes, and no others, had been answered by then: the oldest part of
+-- what was told.
+pub record HadAnswered (wall : ChineseWall) (before now : Option (List ℕ)) (text : List ℕ)
+    (told : List Told) : Type 0 where
+  pub since : List Told
+  pub past : List Told
+  pub told_is : told ≡ since ++ past
+  pub finished : length (parts 10 text) ≡ length past + 1
+  pub written : Appends before now (answers wall past)
+
+-- No read comes between a line and its answer: these are the bytes that were read, and at each read
+-- the lines which earlier ones had finished were answered, all of them.
+pub record IsPrompt {S O : Type 0} (heard : S → Option (List Heard)) (wall : ChineseWall)
+    (source : Used S) (sink : Used O) (bytes : List ℕ) (told : List Told) : Type 0 where
+  pub reads : List Heard
+  pub tells : Tells (heard source.old) (heard source.new) reads
+  pub gave : text_of reads ≡ bytes
+  pub answered : (later : List Heard) (read : Heard) (past : List Heard) →
+      reads ≡ later ++ read ∷ past →
+      HadAnswered wall (bytes_before sink) read.written (text_of past) told
+
+-- ---- a session
+
 -- What a session came to: the bytes that it was handed, cut at each LF, are the lines that it acted
--- on and a rest; what was written are the answers to these lines, in order.
-pub record Serves {S O : Type 0} (wall : ChineseWall) (source : Used S) (sink : Used O)
-    (before after : Known) (end : SessionEnd) : Type 0 where
+-- on and a rest; what was written are the answers to these lines, in order, each before the next
+-- read.
+pub record Serves {S O : Type 0} (heard : S → Option (List Heard)) (wall : ChineseWall)
+    (source : Used S) (sink : Used O) (before after : Known) (end : SessionEnd) : Type 0 where
   pub bytes : List ℕ
   pub read : Consumes (bytes_before source) (bytes_after source) bytes
   pub lines : List Word
   pub rest : List Word
   pub told : List Told
   pub acted : Acted wall before (parts 10 bytes) lines rest told after
+  pub prompt : IsPrompt heard wall source sink bytes told
   pub ends : EndsSo wall source sink rest told after end
 
 -- The session ended so, or it did not begin, and nothing was done.
-abbrev pub ServesIfBegun : {S O : Type 0} → ChineseWall → Used S → Used O →
-    (before after : Known) → Option SessionEnd → Type 0
-ServesIfBegun wall source sink before after (Some end) = Serves wall source sink before after end
-ServesIfBegun wall source sink before after None =
+abbrev pub ServesIfBegun : {S O : Type 0} → (heard : S → Option (List Heard)) → ChineseWall →
+    Used S → Used O → (before after : Known) → Option SessionEnd → Type 0
+ServesIfBegun heard wall source sink before after (Some end) =
+    Serves heard wall source sink before after end
+ServesIfBegun heard wall source sink before after None =
     IsUntouched source × IsUntouched sink × (after ≡ before)

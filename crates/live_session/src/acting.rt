@@ -4,13 +4,14 @@ ghost use Rattle.run_model.specs.declared.call.Act.TheVariants.{Take};
 ghost use Rattle.run_model.specs.Known.{HasKnownLabel};
 ghost use Rattle.run_model.specs.Replies.{Legal};
 ghost use Rattle.hall_script.specs.Asks.{AsksWithKnownLabel};
-ghost use Rattle.hall_turn.specs.Answers.{Answered, IsSamePass, NamesKnown};
+ghost use Rattle.hall_turn.specs.Answers.{Answered, IsSamePass, NamesKnown, ClaimAnswered};
+ghost use Rattle.hall_turn.specs.Answers.{ClaimNamesKnown, MayFinish};
 ghost use Rattle.live_session.specs.Steps.{Waited, CameTo, CameNamesKnown, came_of};
 
 use crate::seat::Seat;
-use hall_core::Reply;
+use hall_core::{Reply, finish};
 use hall_script::Ask;
-use hall_turn::{Answer, Door, Pass};
+use hall_turn::{Answer, Claimed, Door, Pass};
 use run_model::Act;
 use std::sync::Wait;
 
@@ -25,7 +26,22 @@ pub(crate) enum Came {
     Exhausted,
 }
 
-// A take, at the pass's turn.
+// All of a take that needs the hall, at the pass's turn, while no other session calls.
+fn claim<R: Wait>(rt: &R, door: &Door, pass: &mut Pass, seat: &mut Seat, request: u64) -> Claimed
+    requires door { pass.old.door ≡ door.now }
+    ensures same { IsSamePass pass.old pass.new }
+    ensures legal { Legal door.now.policy pass.new.seen }
+    ensures answered { ClaimAnswered pass.old request result pass.new }
+    ensures may { MayFinish result }
+    ensures named { ClaimNamesKnown door.now.policy result }
+{
+    let turn = seat.turn.lock(rt);
+    let claimed = door.claim(rt, pass, request);
+    drop(turn);
+    claimed
+}
+
+// A take. What is left of it behind its turn holds up nobody.
 fn take<R: Wait>(rt: &R, door: &Door, pass: &mut Pass, seat: &mut Seat, request: u64) -> Answer
     requires door { pass.old.door ≡ door.now }
     ensures same { IsSamePass pass.old pass.new }
@@ -33,11 +49,14 @@ fn take<R: Wait>(rt: &R, door: &Door, pass: &mut Pass, seat: &mut Seat, request:
     ensures answered { Answered pass.old (Take request) result pass.new }
     ensures named { NamesKnown door.now.policy result }
 {
-    let answer = door.take(rt, pass, request);
-    if let Answer::Reply(reply) = &answer {
-        seat.taken(request, reply);
+    match claim(rt, door, pass, seat, request) {
+        Claimed::Claim(claim) => {
+            let reply = finish(claim);
+            seat.taken(request, &reply);
+            Answer::Reply(reply)
+        }
+        Claimed::Exhausted => Answer::Exhausted,
     }
-    answer
 }
 
 // Takes the outcome of a request as soon as its instance has settled, and sleeps before that. Where
@@ -78,14 +97,21 @@ fn make<R: Wait>(rt: &R, door: &Door, pass: &mut Pass, seat: &mut Seat, act: Act
     match act {
         Act::Post(posting) => {
             let comm = posting.comm;
+            let turn = seat.turn.lock(rt);
             let answer = door.post(rt, pass, posting);
+            drop(turn);
             if let Answer::Reply(reply) = &answer {
                 seat.posted(rt, comm, reply, pass.settled());
             }
             answer
         }
         Act::Take(request) => take(rt, door, pass, seat, request),
-        Act::Info(comm) => door.info(rt, pass, comm),
+        Act::Info(comm) => {
+            let turn = seat.turn.lock(rt);
+            let answer = door.info(rt, pass, comm);
+            drop(turn);
+            answer
+        }
     }
 }
 

@@ -1,10 +1,11 @@
 //! The devices of processes, and what their threads are given and give back.
 
+use crate::desk::Desk;
 use crate::ending::SessionEnd;
 use hall_turn::Pass;
 use std::snapshot::Snapshot;
 use std::thread::Promise;
-use wall_labels::{Sink, Source};
+use wall_labels::Sink;
 
 /// The devices of a process.
 #[derive(Drop)]
@@ -44,9 +45,9 @@ pub(crate) struct Played<S, O> {
 #[derive(Drop)]
 pub(crate) struct Serving<S, O>(pub(crate) Snapshot<Job<S, O>>);
 
-impl<S: Source + Drop, O: Sink + Drop> Promise<Played<S, O>> for Serving<S, O> {
+impl<S: Desk<O> + Drop, O: Sink + Drop> Promise<Played<S, O>> for Serving<S, O> {
     ghost use Rattle.live_session.specs.Joining.{HasServed};
 
     ghost kept_by = { λ p r.
-        HasServed S.failures S.remaining O.failures O.contents p.0.value r };
+        HasServed S.failures S.remaining S.heard O.failures O.contents p.0.value r };
 }

@@ -18,24 +18,25 @@ use mpi_comm::COMMUNICATOR_LIMIT;
 use rank_stage::{GivenUp, Stage};
 use std::alloc::{AllocError, Global};
 use std::snapshot::Snapshot;
-use std::sync::Wait;
+use std::sync::{Mutex, Wait};
 use std::thread;
 use std::thread::{PromisedHandle, Threads};
-use wall_labels::{Sink, Source};
+use wall_labels::Sink;
 use wall_policy::Policy;
 
 // A session from its start to its end; or nothing of it, where the run is given up.
-fn play<R: Wait, S: Source + Desk + Drop, O: Sink + Drop>(
+fn play<R: Wait, S: Desk<O> + Drop, O: Sink + Drop>(
     rt: &R,
     alloc: Global,
     door: &Door,
     policy: &Policy,
     stage: &Stage,
+    turn: &Mutex<()>,
     job: Job<S, O>,
 ) -> Played<S, O>
     requires fresh { IsFresh door.now job }
     requires policy { policy.now ≡ door.now.policy }
-    ensures { HasServed S.failures S.remaining O.failures O.contents job result }
+    ensures { HasServed S.failures S.remaining S.heard O.failures O.contents job result }
 {
     let Job {
         mut pass,
@@ -50,6 +51,7 @@ fn play<R: Wait, S: Source + Desk + Drop, O: Sink + Drop>(
         door,
         policy,
         stage,
+        turn,
         &mut pass,
         &mut source,
         &mut sink,
@@ -62,14 +64,14 @@ fn play<R: Wait, S: Source + Desk + Drop, O: Sink + Drop>(
 }
 
 // Joins all threads, and keeps what they gave.
-fn join_all<R: Threads, S: Source + Desk + Send + Drop, O: Sink + Send + Drop>(
+fn join_all<R: Threads, S: Desk<O> + Send + Drop, O: Sink + Send + Drop>(
     rt: &R,
     handles: Vec<PromisedHandle<Played<S, O>, Serving<S, O>>>,
     mut ended: Vec<Played<S, O>>,
 ) -> Vec<Played<S, O>>
     requires { (ended.items ≡ []) × (vec_len handles ≤ vec_capacity ended) }
-    ensures served { AllServed S.failures S.remaining O.failures O.contents (handed handles.items)
-        result.items }
+    ensures served { AllServed S.failures S.remaining S.heard O.failures O.contents
+        (handed handles.items) result.items }
     ensures len { vec_len result ≡ vec_len handles }
 {
     for handle in handles {
@@ -80,7 +82,7 @@ fn join_all<R: Threads, S: Source + Desk + Send + Drop, O: Sink + Send + Drop>(
 
 // The sessions begin if all have their threads, or go home. All have ended, and are joined, when it
 // returns.
-fn end_all<R: Threads + Wait, S: Source + Desk + Send + Drop, O: Sink + Send + Drop>(
+fn end_all<R: Threads + Wait, S: Desk<O> + Send + Drop, O: Sink + Send + Drop>(
     rt: &R,
     stage: &Stage,
     all_started: bool,
@@ -89,7 +91,8 @@ fn end_all<R: Threads + Wait, S: Source + Desk + Send + Drop, O: Sink + Send + D
 ) -> Result<Vec<Played<S, O>>, GivenUp>
     requires { (ended.items ≡ []) × (vec_len handles ≤ vec_capacity ended) }
     ensures served { IfOk result (λ all.
-        AllServed S.failures S.remaining O.failures O.contents (handed handles.items) all.items) }
+        AllServed S.failures S.remaining S.heard O.failures O.contents (handed handles.items)
+        all.items) }
     ensures started { IfOk result (λ _. all_started ≡ true) }
 {
     let told = stage.release(rt, all_started);
@@ -104,12 +107,13 @@ fn end_all<R: Threads + Wait, S: Source + Desk + Send + Drop, O: Sink + Send + D
 }
 
 // A thread for each job, as far as none is refused.
-fn run_each<R: Threads + Wait + Sync, S: Source + Desk + Send + Drop, O: Sink + Send + Drop>(
+fn run_each<R: Threads + Wait + Sync, S: Desk<O> + Send + Drop, O: Sink + Send + Drop>(
     rt: &R,
     alloc: Global,
     door: &Door,
     policy: &Policy,
     stage: &Stage,
+    turn: &Mutex<()>,
     jobs: Vec<Job<S, O>>,
     mut handles: Vec<PromisedHandle<Played<S, O>, Serving<S, O>>>,
     ended: Vec<Played<S, O>>,
@@ -119,7 +123,8 @@ fn run_each<R: Threads + Wait + Sync, S: Source + Desk + Send + Drop, O: Sink + 
     requires handles { (handles.items ≡ []) × (vec_len jobs ≤ vec_capacity handles) }
     requires ended { (ended.items ≡ []) × (vec_len jobs ≤ vec_capacity ended) }
     ensures { IfOk result
-        (λ all. AllServed S.failures S.remaining O.failures O.contents jobs.items all.items) }
+        (λ all. AllServed S.failures S.remaining S.heard O.failures O.contents jobs.items
+        all.items) }
 {
     thread::scope(
         thread::scope_env(),
@@ -130,7 +135,7 @@ fn run_each<R: Threads + Wait + Sync, S: Source + Desk + Send + Drop, O: Sink + 
             requires handles { (handles.items ≡ []) × (vec_len jobs ≤ vec_capacity handles) }
             requires ended { (ended.items ≡ []) × (vec_len jobs ≤ vec_capacity ended) }
             ensures { IfOk result
-                (λ all. AllServed S.failures S.remaining O.failures O.contents jobs.items
+                (λ all. AllServed S.failures S.remaining S.heard O.failures O.contents jobs.items
                 all.items) }
         {
             for job in jobs {
@@ -140,9 +145,9 @@ fn run_each<R: Threads + Wait + Sync, S: Source + Desk + Send + Drop, O: Sink + 
                     move || -> Played<S, O>
                         requires policy { policy.now ≡ door.now.policy }
                         requires fresh { IsFresh door.now job }
-                        ensures { HasServed S.failures S.remaining O.failures O.contents job
+                        ensures { HasServed S.failures S.remaining S.heard O.failures O.contents job
                             result }
-                    { play(rt, alloc, door, policy, stage, job) },
+                    { play(rt, alloc, door, policy, stage, turn, job) },
                 ) else {
                     return end_all(rt, stage, false, handles, ended);
                 };
@@ -175,7 +180,7 @@ pub enum ServeFault {
 
 // The start of the sessions, and room for what their threads give back.
 #[derive(Drop)]
-pub(crate) struct Room<S: Source + Desk + Drop, O: Sink + Drop> {
+pub(crate) struct Room<S: Desk<O> + Drop, O: Sink + Drop> {
     stage: Stage,
     passes: Passes,
     sessions: Vec<Session<S, O>>,
@@ -185,7 +190,7 @@ pub(crate) struct Room<S: Source + Desk + Drop, O: Sink + Drop> {
 
 // A door, a job for each process there, and room for all of them.
 #[derive(Drop)]
-pub(crate) struct Ready<S: Source + Desk + Drop, O: Sink + Drop> {
+pub(crate) struct Ready<S: Desk<O> + Drop, O: Sink + Drop> {
     door: Door,
     jobs: Vec<Job<S, O>>,
     room: Room<S, O>,
@@ -220,7 +225,7 @@ fn share_out<S: Drop, O: Drop>(
 }
 
 // Room for so many sessions.
-fn make_room<S: Source + Desk + Drop, O: Sink + Drop>(
+fn make_room<S: Desk<O> + Drop, O: Sink + Drop>(
     alloc: Global,
     count: usize,
 ) -> Result<Room<S, O>, AllocError>
@@ -241,7 +246,7 @@ fn make_room<S: Source + Desk + Drop, O: Sink + Drop>(
 }
 
 // A door, a job for each process there, and room for all of them.
-fn prepare<S: Source + Desk + Drop, O: Sink + Drop>(
+fn prepare<S: Desk<O> + Drop, O: Sink + Drop>(
     alloc: Global,
     policy: &Policy,
     peers: Vec<Peer<S, O>>,
@@ -289,7 +294,7 @@ fn sort_out<S: Drop, O: Drop>(
 }
 
 // All sessions at the same time, in the room that was made for them. None where none began.
-fn run_jobs<R: Threads + Wait + Sync, S: Source + Desk + Send + Drop, O: Sink + Send + Drop>(
+fn run_jobs<R: Threads + Wait + Sync, S: Desk<O> + Send + Drop, O: Sink + Send + Drop>(
     rt: &R,
     alloc: Global,
     door: &Door,
@@ -301,7 +306,7 @@ fn run_jobs<R: Threads + Wait + Sync, S: Source + Desk + Send + Drop, O: Sink + 
     requires fresh { All (IsFresh door.now) jobs.items }
     requires room { HasRoomFor (vec_len jobs) room }
     ensures { IfSome result
-        (HaveEnded S.failures S.remaining O.failures O.contents jobs.items) }
+        (HaveEnded S.failures S.remaining S.heard O.failures O.contents jobs.items) }
 {
     let Room {
         stage,
@@ -310,7 +315,8 @@ fn run_jobs<R: Threads + Wait + Sync, S: Source + Desk + Send + Drop, O: Sink + 
         ended,
         handles,
     } = room;
-    match run_each(rt, alloc, door, policy, &stage, jobs, handles, ended) {
+    let turn = Mutex::new(());
+    match run_each(rt, alloc, door, policy, &stage, &turn, jobs, handles, ended) {
         Ok(all) => sort_out(all, passes, sessions),
         Err(_) => None,
     }
@@ -336,14 +342,14 @@ fn close_up<S: Drop, O: Drop>(door: Door, ended: Ended<S, O>) -> Served<S, O>
 ///
 /// `BadPeers` is answered exactly where there are not devices for each process, and no others. After
 /// a fault no call was made.
-pub fn serve_all<R: Threads + Wait + Sync, S: Source + Desk + Send + Drop, O: Sink + Send + Drop>(
+pub fn serve_all<R: Threads + Wait + Sync, S: Desk<O> + Send + Drop, O: Sink + Send + Drop>(
     rt: &R,
     alloc: Global,
     policy: &Policy,
     peers: Vec<Peer<S, O>>,
 ) -> Result<Served<S, O>, ServeFault>
     ensures served { IfOk result (λ served.
-        ServedAll S.failures S.remaining O.failures O.contents policy.now peers.items
+        ServedAll S.failures S.remaining S.heard O.failures O.contents policy.now peers.items
         served.sessions.items served.hall) }
     ensures bad_peers { IfErr result (λ fault.
         (fault ≡ ServeFault.BadPeers) ↔ (vec_len peers ≢ processes policy.now)) }

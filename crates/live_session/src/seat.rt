@@ -4,7 +4,7 @@
 use crate::requests::Requests;
 use hall_core::Reply;
 use rank_stage::{Aside, Role, Stage};
-use std::sync::Wait;
+use std::sync::{Mutex, Wait};
 
 /// A session that has begun. It stands aside of the stage while it reads, calls and writes, so that
 /// it holds up nobody, and comes back to sleep alone. It has no `Drop`: it ends by [`Seat::end`].
@@ -12,6 +12,9 @@ pub(crate) struct Seat<'s> {
     stage: &'s Stage,
     role: Role,
     aside: Option<Aside>,
+    /// Held by the session that calls at the door: there is one turn at a time, and who waits for
+    /// it here sleeps, where at the door it would look again and again.
+    pub(crate) turn: &'s Mutex<()>,
     requests: Requests,
     // How many calls were made.
     calls: u64,
@@ -22,6 +25,7 @@ impl<'s> Seat<'s> {
     pub(crate) fn new<R: Wait>(
         rt: &R,
         stage: &'s Stage,
+        turn: &'s Mutex<()>,
         role: Role,
         requests: Requests,
     ) -> Seat<'s> {
@@ -30,6 +34,7 @@ impl<'s> Seat<'s> {
             stage,
             role,
             aside,
+            turn,
             requests,
             calls: 0,
         }
@@ -85,6 +90,7 @@ impl<'s> Seat<'s> {
             stage,
             role,
             aside,
+            turn: _,
             requests,
             calls,
         } = self;

@@ -17,8 +17,8 @@ use coll_text::Parts;
 use hall_turn::{Door, Pass};
 use rank_stage::Stage;
 use std::alloc::Global;
-use std::sync::Wait;
-use wall_labels::{Sink, Source};
+use std::sync::{Mutex, Wait};
+use wall_labels::Sink;
 use wall_policy::Policy;
 
 // Acts on the lines that these bytes finish, and keeps the rest.
@@ -67,7 +67,7 @@ fn take_in<R: Wait, O: Sink>(
 }
 
 // A session from its first line to its end.
-fn hold<R: Wait, S: Source, O: Sink>(
+fn hold<R: Wait, S: Desk<O>, O: Sink>(
     rt: &R,
     alloc: Global,
     door: &Door,
@@ -81,7 +81,7 @@ fn hold<R: Wait, S: Source, O: Sink>(
     requires policy { policy.now ≡ door.now.policy }
     requires legal { Legal policy.now pass.old.seen }
     ensures same { IsSamePass pass.old pass.new }
-    ensures serves { Serves policy.now
+    ensures serves { Serves S.heard policy.now
         (used S.failures S.remaining source.old source.new)
         (used O.failures O.contents sink.old sink.new)
         pass.old pass.new result }
@@ -90,7 +90,7 @@ fn hold<R: Wait, S: Source, O: Sink>(
     let mut text = Vec::new(alloc);
     let mut buffer = [0u8; 4096];
     for _ in rt.forever() {
-        let n = match source.read(&mut buffer) {
+        let n = match source.hear(sink, &mut buffer) {
             Ok(n) => n,
             Err(_) => return SessionEnd::ReadFailed,
         };
@@ -129,14 +129,18 @@ fn hold<R: Wait, S: Source, O: Sink>(
 /// and ends the session, as does a call after 2^62 turns of the door, answered by `exhausted`. Any
 /// other line is answered by `bad NAME`: then nothing was done, and the session goes on.
 ///
+/// `turn` is one for all sessions at the door: a session holds it while it calls there, and not
+/// while it reads, works out a delivery, writes or sleeps.
+///
 /// The source is told when the session begins, before its first line is read, and when it has
 /// ended; no turn and no place of the stage is held meanwhile.
-pub fn serve<R: Wait, S: Source + Desk, O: Sink>(
+pub fn serve<R: Wait, S: Desk<O>, O: Sink>(
     rt: &R,
     alloc: Global,
     door: &Door,
     policy: &Policy,
     stage: &Stage,
+    turn: &Mutex<()>,
     pass: &mut Pass,
     source: &mut S,
     sink: &mut O,
@@ -144,7 +148,7 @@ pub fn serve<R: Wait, S: Source + Desk, O: Sink>(
     requires door { pass.old.door ≡ door.now }
     requires policy { policy.now ≡ door.now.policy }
     ensures same { IsSamePass pass.old pass.new }
-    ensures serves { ServesIfBegun policy.now
+    ensures serves { ServesIfBegun S.heard policy.now
         (used S.failures S.remaining source.old source.new)
         (used O.failures O.contents sink.old sink.new)
         pass.old pass.new result }
@@ -163,7 +167,7 @@ pub fn serve<R: Wait, S: Source + Desk, O: Sink>(
             return Some(SessionEnd::NoMemory);
         }
     };
-    let mut seat = Seat::new(rt, stage, role, requests);
+    let mut seat = Seat::new(rt, stage, turn, role, requests);
     source.open();
     let end = hold(rt, alloc, door, policy, pass, &mut seat, source, sink);
     let calls = seat.end(rt);

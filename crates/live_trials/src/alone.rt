@@ -9,7 +9,7 @@ use live_session::{SessionEnd, serve};
 use rank_stage::Stage;
 use std::alloc::Global;
 use std::process::Abort;
-use std::sync::Wait;
+use std::sync::{Mutex, Wait};
 use std::test::Fail;
 use wall_labels::memory::Fuse;
 use wall_policy::Policy;
@@ -81,12 +81,14 @@ fn serve_alone<R: Abort + Wait>(
     let _ = stage.release(rt, begins);
     let mut source = new_client(session.lines, reads, piece, session.due, heard);
     let mut sink = new_answers(session.answers, writes, heard);
+    let turn = Mutex::new(());
     let end = serve(
         rt,
         alloc,
         &door,
         &policy,
         &stage,
+        &turn,
         &mut pass,
         &mut source,
         &mut sink,
@@ -98,10 +100,10 @@ fn serve_alone<R: Abort + Wait>(
     if are_all { end } else { None }
 }
 
-const LINES: &[u8] = b"info 0\nfoo\n\nposts 1\ntake 0\r\npost 0 allreduce sum int32 1 as alpha 7\n\
-take 0\ntake 0\n#\ninfo 0";
+pub(crate) const LINES: &[u8] = b"info 0\nfoo\n\nposts 1\ntake 0\r\n\
+post 0 allreduce sum int32 1 as alpha 7\ntake 0\ntake 0\n#\ninfo 0";
 
-const ANSWERS: &str = "info size 1 rank 0
+pub(crate) const ANSWERS: &str = "info size 1 rank 0
 bad BadVerb
 bad BadShape
 bad BadVerb

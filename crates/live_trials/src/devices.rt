@@ -123,24 +123,22 @@ pub(crate) struct Client<'a> {
     pub(crate) heard: &'a Heard,
 }
 
-impl<'a> Source for Client<'a> {
+impl<'a> Desk<Answers<'a>> for Client<'a> {
     ghost use Rattle.wall_labels.specs.Fuses.{failures_of};
 
     ghost failures = { λ s. failures_of s.lines.fuse };
 
-    fn read(&mut self, buffer: &mut [u8]) -> Result<usize, Failed> {
+    fn open(&self) {
+        let heard = self.heard;
+        heard.expect(raise(&heard.opened) == 0 && is_at(&heard.reads, 0));
+    }
+
+    fn hear(&mut self, _sink: &Answers<'a>, buffer: &mut [u8]) -> Result<usize, Failed> {
         let heard = self.heard;
         heard.expect(is_at(&heard.opened, 1) && is_at(&heard.closed, 0));
         heard.expect(may_go_on(&self.hold, raise(&heard.reads)));
         let count = self.piece.min(buffer.len());
         self.lines.read(&mut buffer[..count])
-    }
-}
-
-impl<'a> Desk for Client<'a> {
-    fn open(&self) {
-        let heard = self.heard;
-        heard.expect(raise(&heard.opened) == 0 && is_at(&heard.reads, 0));
     }
 
     fn close(&self, end: SessionEnd, calls: u64) {

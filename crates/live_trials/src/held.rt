@@ -13,8 +13,8 @@ use std::test::Fail;
 use std::thread;
 use std::thread::Threads;
 use std::time::{Clock, CpuClock, Duration};
+use wall_labels::Failed;
 use wall_labels::memory::Fuse;
-use wall_labels::{Failed, Sink, Source};
 
 fn at_end(calls: u64) -> Due {
     Due {
@@ -24,11 +24,11 @@ fn at_end(calls: u64) -> Due {
 }
 
 // Whether both sessions end as they are to.
-fn both_end<R: Abort + Threads + Wait + Sync>(
+fn both_end<'a, R: Abort + Threads + Wait + Sync>(
     rt: &R,
     alloc: Global,
-    one: Peer<Client, Answers>,
-    other: Peer<Client, Answers>,
+    one: Peer<Client<'a>, Answers<'a>>,
+    other: Peer<Client<'a>, Answers<'a>>,
 ) -> bool {
     let policy = wall(rt, alloc, FRIENDS);
     let peers = Vec::from_array(alloc, [one, other]).expect(rt, "no memory");
@@ -162,21 +162,19 @@ struct Late<'a, R> {
     delay: Duration,
 }
 
-impl<'a, R: Clock> Source for Late<'a, R> {
+impl<'a, R: Clock> Desk<Answers<'a>> for Late<'a, R> {
     ghost use Rattle.wall_labels.specs.Fuses.{failures_of};
 
     ghost failures = { λ s. failures_of s.client.lines.fuse };
 
-    fn read(&mut self, buffer: &mut [u8]) -> Result<usize, Failed> {
-        thread::sleep(self.rt, self.delay);
-        self.delay = Duration::from_millis(0);
-        self.client.read(buffer)
-    }
-}
-
-impl<'a, R> Desk for Late<'a, R> {
     fn open(&self) {
         self.client.open();
+    }
+
+    fn hear(&mut self, sink: &Answers<'a>, buffer: &mut [u8]) -> Result<usize, Failed> {
+        thread::sleep(self.rt, self.delay);
+        self.delay = Duration::from_millis(0);
+        self.client.hear(sink, buffer)
     }
 
     fn close(&self, end: SessionEnd, calls: u64) {

@@ -15,4 +15,6 @@ mod memory;
 #[cfg(test)]
 mod parties;
 #[cfg(test)]
+mod prompt;
+#[cfg(test)]
 mod together;

@@ -7,7 +7,7 @@ use rank_stage::Stage;
 use std::fs;
 use std::process::Abort;
 use std::rt::Files;
-use std::sync::Wait;
+use std::sync::{Mutex, Wait};
 use std::test::Fail;
 use wall_labels::memory::{ExpectingSink, Fuse, MemorySource};
 use wall_labels::{Failed, Source};
@@ -30,21 +30,19 @@ struct Measured<'a, R> {
     pages: Option<u64>,
 }
 
-impl<'a, R: Files + AllocGlobal> Source for Measured<'a, R> {
+impl<'a, R: Files + AllocGlobal> Desk<ExpectingSink<'a>> for Measured<'a, R> {
     ghost use Rattle.wall_labels.specs.Fuses.{failures_of};
 
     ghost failures = { λ s. failures_of s.lines.fuse };
 
-    fn read(&mut self, buffer: &mut [u8]) -> Result<usize, Failed> {
+    fn open(&self) {}
+
+    fn hear(&mut self, _sink: &ExpectingSink<'a>, buffer: &mut [u8]) -> Result<usize, Failed> {
         if self.lines.rest.is_empty() {
             self.pages = resident_pages(self.rt);
         }
         self.lines.read(buffer)
     }
-}
-
-impl<'a, R> Desk for Measured<'a, R> {
-    fn open(&self) {}
 
     fn close(&self, _end: SessionEnd, _calls: u64) {}
 }
@@ -73,12 +71,14 @@ where
         is_same: true,
         fuse: Fuse::Whole,
     };
+    let turn = Mutex::new(());
     let end = serve(
         rt,
         alloc,
         &door,
         &policy,
         &stage,
+        &turn,
         &mut pass,
         &mut source,
         &mut sink,

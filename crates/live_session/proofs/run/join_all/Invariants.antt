@@ -6,7 +6,8 @@ use Rattle.live_session.proofs.run.join_all.Given as goal
 abbrev pub invariant-loop-handle : goal.invariant-loop-handle
 invariant-loop-handle g l = record {
   whole : l.yielded ++ into_iter_items l.handle-iterator ≡ l.fn.handles.items;
-  served : AllServed g.S.Source.failures g.S.Source.remaining g.O.Sink.failures g.O.Sink.contents
+  served : AllServed g.S.Desk.failures g.S.Desk.remaining g.S.Desk.heard g.O.Sink.failures
+      g.O.Sink.contents
       (handed l.yielded) l.ended.items;
   count : vec_len l.ended ≡ length l.yielded;
   fit : vec_len l.fn.handles ≤ vec_capacity l.ended;

@@ -11,23 +11,25 @@ run_jobs-requires-clause-fresh g c κs within =
 pub close_up-requires-clause-of : goal.close_up-requires-clause-of
 close_up-requires-clause-of g c =
     let r = c.in-Ok.ready in
-    come_back g.S.Source.failures g.S.Source.remaining g.O.Sink.failures g.O.Sink.contents
+    come_back g.S.Desk.failures g.S.Desk.remaining g.S.Desk.heard g.O.Sink.failures
+    g.O.Sink.contents
     c.args.policy.now c.args.peers.items r.door r.jobs.items c.in-Some.ended
     c.in-Ok.ensures.prepared c.in-Some.ensures
 
 pub close_up-requires-clause-all : goal.close_up-requires-clause-all
 close_up-requires-clause-all g c =
     let r = c.in-Ok.ready in
-    all_come g.S.Source.failures g.S.Source.remaining g.O.Sink.failures g.O.Sink.contents
+    all_come g.S.Desk.failures g.S.Desk.remaining g.S.Desk.heard g.O.Sink.failures g.O.Sink.contents
     c.args.policy.now c.args.peers.items r.door r.jobs.items c.in-Some.ended
     c.in-Ok.ensures.prepared c.in-Some.ensures
 
 pub returns-clause-served : goal.returns-clause-served
 returns-clause-served g c =
     let r = c.in-Ok.ready in
-    subst (λ v. ServedAll g.S.Source.failures g.S.Source.remaining g.O.Sink.failures
+    subst (λ v. ServedAll g.S.Desk.failures g.S.Desk.remaining g.S.Desk.heard g.O.Sink.failures
     g.O.Sink.contents c.args.policy.now c.args.peers.items v.items c.close_up.result.hall)
     (sym c.close_up.ensures.sessions)
-    (served_all g.S.Source.failures g.S.Source.remaining g.O.Sink.failures g.O.Sink.contents
+    (served_all g.S.Desk.failures g.S.Desk.remaining g.S.Desk.heard g.O.Sink.failures
+    g.O.Sink.contents
     c.args.policy.now c.args.peers.items r.door r.jobs.items c.in-Some.ended
     c.in-Ok.ensures.prepared c.in-Some.ensures c.close_up.result.hall c.close_up.ensures.hall)

@@ -1,8 +1,9 @@
-use Rattle.std.proofs.Common.{◌≡◌, ◌∙◌, take, refl, ap, sym, subst}
+use Rattle.std.proofs.Common.{rules, ◌≡◌, ◌<◌, ◌∙◌, length, take, refl, ap, sym, subst}
 use Rattle.wall_policy.specs.Policy.{ChineseWall}
 use Rattle.run_model.specs.Replies.{Legal}
 use Rattle.hall_turn.specs.Known.{Doorway}
-use Rattle.live_session.proofs.SessionLemmas.{going_none, going_on, served_till_stop}
+use Rattle.live_session.proofs.SessionLemmas.{going_none, going_on, served_till_stop, served_to_end}
+use Rattle.live_session.proofs.SessionLemmas.{took_none}
 use Rattle.live_session.proofs.session.hold.Goals as goal
 
 pub loop-init : goal.loop-init
@@ -15,7 +16,7 @@ loop-init g c =
       none = c.new-text.ensures.items;
       same = (refl, refl);
       legal = c.requires.legal;
-      going = going_none g.S.Source.failures g.S.Source.remaining g.O.Sink.failures
+      going = going_none g.S.Desk.failures g.S.Desk.remaining g.S.Desk.heard g.O.Sink.failures
           g.O.Sink.contents wall pass c.new-line.result c.args.source.now c.args.sink.now is
           c.requires.legal c.new-line.ensures;
     }
@@ -29,19 +30,31 @@ loop-preserved g c =
       none = e.none;
       same = (e.same.0 ∙ i.same.0, e.same.1 ∙ i.same.1);
       legal = e.legal;
-      going = going_on g.S.Source.failures g.S.Source.remaining g.O.Sink.failures g.O.Sink.contents
+      going = going_on g.S.Desk.failures g.S.Desk.remaining g.S.Desk.heard g.O.Sink.failures
+          g.O.Sink.contents
           c.args.policy.now c.args.pass.now c.loop.pass c.take_in.new.pass c.loop.line
-          c.take_in.new.line c.args.source.now c.loop.source c.read.new.self c.args.sink.now
-          c.loop.sink c.take_in.new.sink (take c.in-Ok.n c.read.new.buffer) i.going
-          c.in-Ok.ensures.went c.in-Ok.ensures.bytes.0 t.0 t.1 t.2;
+          c.take_in.new.line c.args.source.now c.loop.source c.hear.new.self c.args.sink.now
+          c.loop.sink c.take_in.new.sink (take c.in-Ok.n c.hear.new.buffer) i.going
+          c.in-Ok.ensures.went c.in-Ok.ensures.bytes.0 c.in-Ok.ensures.tells t.0 t.1 t.2;
     }
+
+pub returns-then-n-eq0-clause-serves : goal.returns-then-n-eq0-clause-serves
+returns-then-n-eq0-clause-serves g c =
+    let zero : c.in-Ok.n ≡ 0 = search rules in
+    let room : 0 < length c.hear.new.buffer = search rules in
+    served_to_end g.S.Desk.failures g.S.Desk.remaining g.S.Desk.heard g.O.Sink.failures
+    g.O.Sink.contents c.args.policy.now c.args.pass.now c.loop.pass c.loop.line c.args.source.now
+    c.loop.source c.hear.new.self c.args.sink.now c.loop.sink (take c.in-Ok.n c.hear.new.buffer)
+    (took_none c.in-Ok.n c.hear.new.buffer zero) c.loop.invariant.going c.in-Ok.ensures.went
+    c.in-Ok.ensures.bytes.0 (c.in-Ok.ensures.bytes.1 zero room) c.in-Ok.ensures.tells
 
 pub returns-in-Err-take_in-clause-serves : goal.returns-in-Err-take_in-clause-serves
 returns-in-Err-take_in-clause-serves g c =
     let i = c.loop.invariant in
-    served_till_stop g.S.Source.failures g.S.Source.remaining g.O.Sink.failures g.O.Sink.contents
+    served_till_stop g.S.Desk.failures g.S.Desk.remaining g.S.Desk.heard g.O.Sink.failures
+    g.O.Sink.contents
     c.args.policy.now c.args.pass.now c.loop.pass c.take_in.new.pass c.loop.line c.args.source.now
-    c.loop.source c.read.new.self c.args.sink.now c.loop.sink c.take_in.new.sink
-    (take c.in-Ok.n c.read.new.buffer) c.in-Err-take_in.end i.going c.in-Ok.ensures.went
-    c.in-Ok.ensures.bytes.0
+    c.loop.source c.hear.new.self c.args.sink.now c.loop.sink c.take_in.new.sink
+    (take c.in-Ok.n c.hear.new.buffer) c.in-Err-take_in.end i.going c.in-Ok.ensures.went
+    c.in-Ok.ensures.bytes.0 c.in-Ok.ensures.tells
     (c.in-Err-take_in.ensures.takes i.going.line i.going.holds)

@@ -10,6 +10,7 @@ invariant-loop g l = record {
   none : l.text.items ≡ [];
   same : IsSamePass l.fn.pass l.pass;
   legal : Legal l.policy l.pass.seen;
-  going : Going l.policy (used g.S.Source.failures g.S.Source.remaining l.fn.source l.source)
+  going : Going g.S.Desk.heard l.policy
+      (used g.S.Desk.failures g.S.Desk.remaining l.fn.source l.source)
       (used g.O.Sink.failures g.O.Sink.contents l.fn.sink l.sink) l.fn.pass l.line l.pass;
 }

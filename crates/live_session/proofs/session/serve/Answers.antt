@@ -11,6 +11,7 @@ returns-in-Err-requests-clause-serves g c =
     let pass = c.args.pass.now in
     let is : wall ≡ pass.door.policy =
     c.requires.policy ∙ ap (λ (d : Doorway). d.policy) (sym c.requires.door) in
-    served_nothing g.S.Source.failures g.S.Source.remaining g.O.Sink.failures g.O.Sink.contents
+    served_nothing g.S.Desk.failures g.S.Desk.remaining g.S.Desk.heard g.O.Sink.failures
+    g.O.Sink.contents
     wall pass c.args.source.now c.args.sink.now is
     (subst (λ (w : ChineseWall). Legal w pass.seen) (sym is) c.process.ensures.legal)

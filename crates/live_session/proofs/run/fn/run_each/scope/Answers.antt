@@ -9,7 +9,8 @@ returns-in_default g c = refused c.end_all.result _ c.end_all.ensures.started
 pub returns : goal.returns
 returns g c =
     let i = c.loop-job.invariant in
-    all_handed g.S.Source.failures g.S.Source.remaining g.O.Sink.failures g.O.Sink.contents
+    all_handed g.S.Desk.failures g.S.Desk.remaining g.S.Desk.heard g.O.Sink.failures
+    g.O.Sink.contents
     c.end_all-2.result c.captures.jobs.items c.loop-job.yielded
     (into_iter_items c.loop-job.job-iterator) c.loop-job.handles.items i.handed
     (i.whole ∙ c.into_iter-job-iterator.ensures.into_iter_gives.0)
