@@ -1,5 +1,7 @@
 -- What a command does, by the files that its words name.
-use Rattle.std.specs.Prelude.{◌≡◌, ℕ, ◌⊎◌, List, Option, Some, None}
+use Rattle.std.specs.Prelude.{◌≡◌, ℕ, ◌⊎◌, List, Option, Some, None, option_map}
+use Rattle.std.specs.Prelude.{string_bytes, Result, Ok, Err}
+use Rattle.std.specs.Process.{exit_status}
 use Rattle.clap.specs.Words.{Text}
 use Rattle.hall_script.specs.Devices.{Used, used, IsUntouched}
 use Rattle.program_commands.specs.declared.ending.Ending.{Ending}
@@ -7,8 +9,13 @@ use Rattle.program_commands.specs.declared.ending.Ending.TheVariants.{BadArgumen
 use Rattle.program_commands.specs.Endings.{EndsSo}
 use Rattle.program_words.specs.declared.words.ArgFault.{ArgFault}
 use Rattle.program_words.specs.declared.words.ArgFault.TheVariants as refusals
-use Rattle.program_words.specs.Grammar.{Asked, to_replay, to_run, to_audit, ReplayFiles, RunFiles}
-use Rattle.program_words.specs.Grammar.{AuditFiles}
+use Rattle.program_words.specs.Grammar.{Asked, to_replay, to_run, to_audit, to_serve, ReplayFiles}
+use Rattle.program_words.specs.Grammar.{RunFiles, AuditFiles, ServeFiles}
+use Rattle.consortium.specs.declared.commands.LivePaths.{LivePaths}
+use Rattle.consortium.specs.declared.commands.Performed.{Performed}
+use Rattle.consortium.specs.declared.commands.Performed.TheVariants as performs
+use Rattle.consortium.specs.declared.serving.Outcome.{Outcome}
+use Rattle.consortium.specs.declared.serving.Outcome.TheVariants as outcomes
 use Rattle.program_commands.specs.Replaying.{ReplayEnds}
 use Rattle.program_commands.specs.Running.{RunEnds}
 use Rattle.program_commands.specs.Auditing.{AuditEnds}
@@ -87,15 +94,45 @@ AuditsFiles policies seconds files out err status =
 abbrev pub Declines : {O E : Type 0} → Ending → Used O → Used E → (status : ℕ) → Type 0
 Declines ending out err status = EndsSo (λ e. (e ≡ ending) × IsUntouched out) err status
 
+-- the files of a server, as they are kept
+abbrev pub live_files : LivePaths → ServeFiles
+live_files paths = record {
+  policy = string_bytes paths.policy;
+  pipes = string_bytes paths.pipes;
+  book = option_map (λ b. string_bytes b) paths.book;
+}
+
 -- What was asked for was done, over a device for each file that it names, or memory ran out
--- before. Where nothing was asked for, the words are bad, or memory ran out.
-abbrev pub Performs : {P S B O E : Type 0} → FileKind P → FileKind S → FileKind B
+-- before. Where nothing was asked for, the words are bad, or memory ran out. (To serve is not done
+-- here.)
+abbrev pub IsDone : {P S B O E : Type 0} → FileKind P → FileKind S → FileKind B
     → Option Asked → Used O → Used E → (status : ℕ) → Type 0
-Performs policies seconds books None out err status =
+IsDone policies seconds books None out err status =
     Declines BadArguments out err status ⊎ Declines NoMemory out err status
-Performs policies seconds books (Some (to_replay files)) out err status =
+IsDone policies seconds books (Some (to_replay files)) out err status =
     ReplaysFiles policies seconds books files out err status ⊎ Declines NoMemory out err status
-Performs policies seconds books (Some (to_run files)) out err status =
+IsDone policies seconds books (Some (to_run files)) out err status =
     RunsFiles policies seconds books files out err status ⊎ Declines NoMemory out err status
-Performs policies seconds books (Some (to_audit files)) out err status =
+IsDone policies seconds books (Some (to_audit files)) out err status =
     AuditsFiles policies seconds files out err status ⊎ Declines NoMemory out err status
+IsDone policies seconds books (Some (to_serve files)) out err status =
+    Declines NoMemory out err status
+
+-- It is done, with this status; or it is to serve live, by these files, and nothing is done yet.
+abbrev pub Performs : {P S B O E : Type 0} → FileKind P → FileKind S → FileKind B
+    → Option Asked → Used O → Used E → Performed → Type 0
+Performs policies seconds books asked out err (performs.Ended status) =
+    IsDone policies seconds books asked out err status
+Performs policies seconds books asked out err (performs.ToServe paths) =
+    (asked ≡ Some (to_serve (live_files paths))) × IsUntouched out × IsUntouched err
+
+-- What was performed, or refused, becomes of the command line: the status is that of what was done,
+-- or of the fault, whose line was written; paths are handed on as they are.
+abbrev pub Settles : {E : Type 0} → Result Performed ArgFault → Used E → Outcome → Type 0
+Settles (Ok (performs.Ended status)) err (outcomes.Ended served) =
+    (exit_status served.0 ≡ status) × IsUntouched err
+Settles (Ok (performs.ToServe paths)) err (outcomes.ToServe kept) =
+    (kept ≡ paths) × IsUntouched err
+Settles (Err fault) err (outcomes.Ended served) =
+    EndsSo (λ e. e ≡ refusal_ending fault) err (exit_status served.0)
+Settles outcome err settled = ⊥

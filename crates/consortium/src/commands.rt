@@ -1,17 +1,18 @@
 //! Does what the words of the command line ask for, over the files of a system.
-ghost use Rattle.std.specs.Prelude.{◌≡◌, Some, None, map};
+ghost use Rattle.std.specs.Prelude.{◌≡◌, Some, None, map, IfOk};
 ghost use Rattle.hall_script.specs.Devices.{used};
 ghost use Rattle.program_commands.specs.Endings.{EndsSo};
 ghost use Rattle.program_words.specs.Grammar.{asked, replay_files, run_files, audit_files};
+ghost use Rattle.program_words.specs.Grammar.{serve_files};
 ghost use Rattle.program_commands.specs.Replaying.{ReplayEnds};
 ghost use Rattle.program_commands.specs.Running.{RunEnds};
 ghost use Rattle.consortium.specs.Performing.{file_kind, path_unopened, ReplaysFiles, RunsFiles};
-ghost use Rattle.consortium.specs.Performing.{AuditsFiles, Performs, refusal_ending};
+ghost use Rattle.consortium.specs.Performing.{AuditsFiles, Performs, live_files, refusal_ending};
 
 use program_commands::{Ending, audit_on, end, replay_on, run_on};
 use program_files::{Count, FileSink, FileSource};
-use program_words::{ArgFault, AuditPaths, Command, ReplayPaths, RunPaths, read_words};
-use std::alloc::Global;
+use program_words::{ArgFault, AuditPaths, Command, ReplayPaths, RunPaths, ServePaths, read_words};
+use std::alloc::{AllocError, Global};
 use std::rt::Files;
 use std::sync::Wait;
 use std::sync::ledger::Ledger;
@@ -29,8 +30,28 @@ pub struct Counts<P: Ledger, S: Ledger, B: Ledger> {
     pub kept: Count<B>,
 }
 
+/// The files of a server, as the words have them.
+#[derive(Drop)]
+pub struct LivePaths {
+    pub policy: String,
+    /// The folder with the pipes.
+    pub pipes: String,
+    /// Where the book goes, if it is wanted.
+    pub book: Option<String>,
+}
+
+/// What became of what the words ask for.
+#[derive(Drop)]
+pub enum Performed {
+    /// It is done, or refused, with this status.
+    Ended(u8),
+    /// Nothing is done yet: the processes of a policy are to be served live.
+    ToServe(LivePaths),
+}
+
 /// Does what the words behind the program's name ask for, and gives the status. Each file is opened
-/// at its first use, and once.
+/// at its first use, and once. To serve live is left to the caller, whose system has pipes and
+/// threads that may wait for them.
 pub fn perform<'a, R, F: Files, P: Ledger, S: Ledger, B: Ledger, O: Sink, E: Sink>(
     rt: &R,
     files: &'a F,
@@ -38,7 +59,7 @@ pub fn perform<'a, R, F: Files, P: Ledger, S: Ledger, B: Ledger, O: Sink, E: Sin
     counts: Counts<P, S, B>,
     out: &mut O,
     err: &mut E,
-) -> u8
+) -> Performed
 where
     R: AllocGlobal + Threads + Wait + Sync,
     ensures { let policies = file_kind ⟦<FileSource<'a, F, P> as Source>⟧.failures
@@ -54,12 +75,40 @@ where
         let errs = used E.failures E.contents err.old err.new in
         Performs policies seconds books (asked (map (λ w. w.now) words.now)) outs errs result }
 {
-    match read_words(rt.alloc(), words) {
-        Ok(Command::Replay(paths)) => replay_files(rt.alloc(), files, paths, counts, out, err),
-        Ok(Command::Run(paths)) => run_files(rt, files, paths, counts, out, err),
-        Ok(Command::Audit(paths)) => audit_files(rt.alloc(), files, paths, counts, out, err),
-        Err(fault) => end(err, fault_ending(fault)),
+    let alloc = rt.alloc();
+    match read_words(alloc, words) {
+        Ok(Command::Replay(paths)) => {
+            Performed::Ended(replay_files(alloc, files, paths, counts, out, err))
+        }
+        Ok(Command::Run(paths)) => {
+            Performed::Ended(run_files(rt, files, paths, counts, out, err))
+        }
+        Ok(Command::Audit(paths)) => {
+            Performed::Ended(audit_files(alloc, files, paths, counts, out, err))
+        }
+        Ok(Command::Serve(paths)) => match kept_paths(alloc, paths) {
+            Ok(paths) => Performed::ToServe(paths),
+            Err(_) => Performed::Ended(end(err, Ending::NoMemory)),
+        },
+        Err(fault) => Performed::Ended(end(err, fault_ending(fault))),
     }
+}
+
+// The paths as they are, letter for letter.
+fn kept_paths(alloc: Global, paths: ServePaths) -> Result<LivePaths, AllocError>
+    ensures { IfOk result (λ live. live_files live ≡ serve_files paths.entry) }
+{
+    let policy = String::from_str(alloc, paths.policy)?;
+    let pipes = String::from_str(alloc, paths.pipes)?;
+    let book = match paths.book {
+        Some(path) => Some(String::from_str(alloc, path)?),
+        None => None,
+    };
+    Ok(LivePaths {
+        policy,
+        pipes,
+        book,
+    })
 }
 
 fn replay_files<'a, F: Files, P: Ledger, S: Ledger, B: Ledger, O: Sink, E: Sink>(

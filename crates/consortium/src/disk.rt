@@ -85,7 +85,7 @@ impl<'a> Disk<'a> {
         Ok(())
     }
 
-    fn note(&self, line: &str) -> io::Result<()> {
+    pub(crate) fn note(&self, line: &str) -> io::Result<()> {
         match self.opened.try_borrow_mut() {
             Ok(mut opened) => {
                 opened.extend_from_slice(line.as_bytes())?;

@@ -3,8 +3,9 @@
 ghost use Rattle.std.specs.Prelude.{◌≡◌};
 
 use super::*;
+use crate::commands::LivePaths;
 use crate::disk::{Disk, Name, Refusal, Stream, System};
-use crate::serving::Blanks;
+use crate::serving::{Blanks, Outcome};
 use program_files::{Count, FileSink, StreamSink};
 use std::alloc::Global;
 use std::cell::{Cell, RefCell};
@@ -156,10 +157,28 @@ where
         err: Blank::new(1),
     };
     let system = System { disk };
-    let served = serve::<R, System, Stream, Stream, Brand, Brand, Brand, Brand, Brand>(
+    let outcome = serve::<R, System, Stream, Stream, Brand, Brand, Brand, Brand, Brand>(
         rt, &system, out, err, blanks,
     );
-    served.report(rt)
+    match outcome {
+        Outcome::Ended(served) => served.report(rt),
+        Outcome::ToServe(paths) => told_to_serve(disk, &paths),
+    }
+}
+
+/// The status of a test where the program is to serve live, which no command gives.
+pub(crate) const TO_SERVE: u8 = 6;
+
+// The paths at which it is to serve are noted, as files that were asked for.
+fn told_to_serve(disk: &Disk, paths: &LivePaths) -> ExitCode {
+    let book = match &paths.book {
+        Some(path) => path.as_str(),
+        None => "none",
+    };
+    for line in [paths.policy.as_str(), paths.pipes.as_str(), book] {
+        let _ = disk.note(line);
+    }
+    ExitCode::from(TO_SERVE)
 }
 
 pub(crate) fn is_as_told(ended: &Ended, case: &Case) -> bool {

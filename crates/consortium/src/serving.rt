@@ -1,14 +1,13 @@
 //! Serves one command line of a system, over its files and streams.
-ghost use Rattle.std.specs.Prelude.{◌≡◌, IfOk, IfErr, OnErr, List, map, drop, string_bytes};
+ghost use Rattle.std.specs.Prelude.{◌≡◌, IfOk, OnErr, List, map, drop, string_bytes};
 ghost use Rattle.clap.specs.Words.{Text};
 ghost use Rattle.std.specs.Vec.Iter.{into_iter_items};
 ghost use Rattle.std.specs.Process.{exit_status};
 ghost use Rattle.hall_script.specs.Devices.{used};
-ghost use Rattle.program_commands.specs.Endings.{EndsSo};
 ghost use Rattle.program_words.specs.Grammar.{asked};
-ghost use Rattle.consortium.specs.Performing.{refusal_ending, file_kind, path_unopened, Performs};
+ghost use Rattle.consortium.specs.Performing.{file_kind, path_unopened, Performs, Settles};
 
-use crate::commands::{Counts, fault_ending, perform};
+use crate::commands::{Counts, LivePaths, Performed, fault_ending, perform};
 use program_commands::end;
 use program_files::{Count, FileSink, FileSource, StreamSink};
 use program_words::ArgFault;
@@ -48,6 +47,15 @@ impl Complaints for Stderr {}
 // it on: `main` ends with it, and with no status of its own.
 pub(crate) struct Served(ExitCode);
 
+impl Served {
+    /// One with this status.
+    pub(crate) fn with(status: u8) -> Served
+        ensures { exit_status result.0 ≡ status }
+    {
+        Served(ExitCode::from(status))
+    }
+}
+
 impl Termination for Served {
     fn report<R: Eprint>(self, _rt: &R) -> ExitCode
         ensures { result ≡ self.0 }
@@ -57,14 +65,21 @@ impl Termination for Served {
     }
 }
 
-// Does what the command line asks for, and gives the status.
+// What became of the command line: it was served; or the processes of a policy are to be served
+// live.
+pub(crate) enum Outcome {
+    Ended(Served),
+    ToServe(LivePaths),
+}
+
+// Does what the command line asks for, and gives the status; or hands on that it is to serve live.
 pub(crate) fn serve<R, F, W, V, P: Ledger, S: Ledger, B: Ledger, O: Ledger, E: Ledger>(
     rt: &R,
     system: &F,
     out: W,
     err: V,
     blanks: Blanks,
-) -> Served
+) -> Outcome
 where
     R: AllocGlobal + Threads + Wait + Sync,
     F: Files + Env,
@@ -114,7 +129,7 @@ fn answered<'a, R, F: Files + Env, P: Ledger, S: Ledger, B: Ledger, O: Sink, E: 
     counts: Counts<P, S, B>,
     out: &mut O,
     err: &mut E,
-) -> Result<u8, ArgFault>
+) -> Result<Performed, ArgFault>
 where
     R: AllocGlobal + Threads + Wait + Sync,
     ensures done { let policies = file_kind ⟦<FileSource<'a, F, P> as Source>⟧.failures
@@ -128,8 +143,8 @@ where
         (λ d. path_unopened d.path.now d.file) counts.kept in
         let outs = used O.failures O.contents out.old out.new in
         let errs = used E.failures E.contents err.old err.new in
-        IfOk result (λ status. (words : List Text)
-        × Performs policies seconds books (asked words) outs errs status) }
+        IfOk result (λ performed. (words : List Text)
+        × Performs policies seconds books (asked words) outs errs performed) }
     ensures refused { OnErr result ((out.new ≡ out.old) × (err.new ≡ err.old)) }
 {
     let words = given_words(rt.alloc(), system)?;
@@ -138,15 +153,17 @@ where
 }
 
 // The status of what was done; or the line of a fault, and its status.
-fn settle<E: Sink>(outcome: Result<u8, ArgFault>, err: &mut E) -> Served
-    ensures done { IfOk outcome (λ status. exit_status result.0 ≡ status) }
-    ensures told { let errs = used E.failures E.contents err.old err.new in
-        let status = exit_status result.0 in
-        IfErr outcome (λ fault. EndsSo (λ e. e ≡ refusal_ending fault) errs status) }
+fn settle<E: Sink>(outcome: Result<Performed, ArgFault>, err: &mut E) -> Outcome
+    ensures { let errs = used E.failures E.contents err.old err.new in
+        Settles outcome errs result }
 {
     match outcome {
-        Ok(status) => Served(ExitCode::from(status)),
-        Err(fault) => Served(ExitCode::from(end(err, fault_ending(fault)))),
+        Ok(Performed::Ended(status)) => Outcome::Ended(Served::with(status)),
+        Ok(Performed::ToServe(paths)) => Outcome::ToServe(paths),
+        Err(fault) => {
+            let status = end(err, fault_ending(fault));
+            Outcome::Ended(Served::with(status))
+        }
     }
 }
 

@@ -1,7 +1,7 @@
 //! What comes of the words of a command line: those that are refused, the names that are asked for,
 //! and the line on standard error.
 use super::*;
-use crate::files_tests::{ALONE, Case, Faults, NONE, is_as_told, used};
+use crate::files_tests::{ALONE, Case, Faults, NONE, TO_SERVE, is_as_told, used};
 use std::io::Eprint;
 use std::process::{Abort, ExitCode};
 use std::sync::Wait;
@@ -239,6 +239,19 @@ const REFUSED: &[(&[&[u8]], &str, &str, u8)] = &[
         "w\nw\n",
         2,
     ),
+    (&[b"consortium", b"serve", b"w"], "bad arguments\n", "", 5),
+    (
+        &[b"consortium", b"serve", b"w", b"d", b"s"],
+        "bad arguments\n",
+        "",
+        5,
+    ),
+    (
+        &[b"consortium", b"serve", b"w", b"d", b"--book"],
+        "bad arguments\n",
+        "",
+        5,
+    ),
     // a file of no bytes is a file, and its reading no fault
     (
         &[b"consortium", b"replay", b"e", b"s"],
@@ -280,6 +293,39 @@ fn faults_of_words_and_files_are_told(rt: HostRuntime) -> Result<(), Fail> {
         let case = refused(words, err.as_bytes(), opened.as_bytes(), *status);
         let ended = used(&rt, &case, NONE)?;
         assert!(&rt; is_as_told(&ended, &case), "{err} {opened}");
+    }
+    Ok(())
+}
+
+// Words that ask for a server, and the paths that it is asked for.
+const SERVED_AT: &[(&[&[u8]], &str)] = &[
+    (&[b"consortium", b"serve", b"w", b"d"], "w\nd\nnone\n"),
+    (
+        &[b"consortium", b"serve", b"w", b"d", b"--book", b"k"],
+        "w\nd\nk\n",
+    ),
+    (
+        &[b"consortium", b"serve", b"--book=k", b"w", b"d"],
+        "w\nd\nk\n",
+    ),
+    (
+        &[b"consortium", b"serve", b"d", b"w", b"--book= k"],
+        "d\nw\n k\n",
+    ),
+    (
+        &[b"consortium", b"serve", b"--", b"-w", b"--book"],
+        "-w\n--book\nnone\n",
+    ),
+];
+
+// To serve is handed on with the paths as the words have them: no file is opened, and nothing is
+// written.
+#[test]
+fn servers_are_handed_their_paths(rt: HostRuntime) -> Result<(), Fail> {
+    for (words, paths) in SERVED_AT {
+        let case = refused(words, b"", paths.as_bytes(), TO_SERVE);
+        let ended = used(&rt, &case, NONE)?;
+        assert!(&rt; is_as_told(&ended, &case), "{paths}");
     }
     Ok(())
 }

@@ -2,3 +2,4 @@ pub mod KnownLemmas
 pub mod RankLemmas
 pub mod ProgramCommandsLemmas
 pub mod AuditLemmas
+pub mod ServeLemmas

@@ -3,3 +3,4 @@ pub mod Walls
 pub mod Replaying
 pub mod Running
 pub mod Auditing
+pub mod Serving

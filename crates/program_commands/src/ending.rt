@@ -1,5 +1,5 @@
 //! How the program ends: its status, and its line on standard error. (Own format.)
-ghost use Rattle.std.specs.Prelude.{◌≡◌, ◌++◌, OnOk, OnErr};
+ghost use Rattle.std.specs.Prelude.{◌≡◌, ◌++◌, OnOk, OnErr, codes};
 ghost use Rattle.hall_script.specs.Devices.{used, IsWritten, BrokeOff};
 ghost use Rattle.program_commands.specs.Endings.{status_of, error_line, numbered_line};
 ghost use Rattle.program_commands.specs.Endings.{policy_fault_text};
@@ -108,6 +108,22 @@ fn write_two<W: Sink>(sink: &mut W, first: &[u8], second: &[u8]) -> Result<(), F
     }
 }
 
+// Writes the words, the text and the end of the line.
+pub(crate) fn write_worded<W: Sink>(sink: &mut W, words: &[u8], text: &[u8]) -> Result<(), Failed>
+    ensures written { let device = used W.failures W.contents sink.old sink.new in
+        OnOk result (IsWritten device (words.now ++ (text.now ++ codes "\n"))) }
+    ensures broken { let device = used W.failures W.contents sink.old sink.new in
+        OnErr result (BrokeOff device (words.now ++ (text.now ++ codes "\n"))) }
+{
+    match write_all(sink, words) {
+        Ok(()) => match write_two(sink, text, b"\n") {
+            Ok(()) => Ok(()),
+            Err(_) => Err(Failed),
+        },
+        Err(_) => Err(Failed),
+    }
+}
+
 // Writes the words, the number and the end of the line.
 pub(crate) fn write_numbered<W: Sink>(sink: &mut W, words: &[u8], number: u64) -> Result<(), Failed>
     ensures written { let device = used W.failures W.contents sink.old sink.new in
@@ -117,11 +133,8 @@ pub(crate) fn write_numbered<W: Sink>(sink: &mut W, words: &[u8], number: u64) -
 {
     let mut buffer = itoa::Buffer::new();
     let digits = buffer.format(number);
-    match write_all(sink, words) {
-        Ok(()) => match write_two(sink, digits.as_bytes(), b"\n") {
-            Ok(()) => Ok(()),
-            Err(_) => Err(Failed),
-        },
+    match write_worded(sink, words, digits.as_bytes()) {
+        Ok(()) => Ok(()),
         Err(_) => Err(Failed),
     }
 }

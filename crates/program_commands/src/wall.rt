@@ -18,8 +18,9 @@ fn policy_ending(fault: PolicyFault) -> Ending
     }
 }
 
-// Reads a policy file whole, and judges it.
-pub(crate) fn read_wall<P: Source>(alloc: Global, source: &mut P) -> Result<Policy, Ending>
+/// Reads a policy file whole, and judges it; or how the program ends where there is no policy. A
+/// file of more than `SCRIPT_LIMIT` bytes is a read fault.
+pub fn read_wall<P: Source>(alloc: Global, source: &mut P) -> Result<Policy, Ending>
     ensures policy { let device = used P.failures P.remaining source.old source.new in
         IfOk result (IsPolicyOf device) }
     ensures ending { let device = used P.failures P.remaining source.old source.new in

@@ -19,4 +19,6 @@ mod policies;
 #[cfg(test)]
 mod runs;
 #[cfg(test)]
+mod serves;
+#[cfg(test)]
 mod texts;

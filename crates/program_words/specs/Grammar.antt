@@ -7,8 +7,9 @@ use Rattle.clap.specs.Words.{subcommand_of, with_rule, with_subcommand}
 use Rattle.program_words.specs.declared.words.ReplayPaths.{ReplayPaths}
 use Rattle.program_words.specs.declared.words.RunPaths.{RunPaths}
 use Rattle.program_words.specs.declared.words.AuditPaths.{AuditPaths}
+use Rattle.program_words.specs.declared.words.ServePaths.{ServePaths}
 use Rattle.program_words.specs.declared.words.Command.{Command}
-use Rattle.program_words.specs.declared.words.Command.TheVariants.{Replay, Run, Audit}
+use Rattle.program_words.specs.declared.words.Command.TheVariants.{Replay, Run, Audit, Serve}
 use Rattle.program_words.specs.declared.words.ArgFault.{ArgFault}
 use Rattle.program_words.specs.declared.words.ArgFault.TheVariants.{BadArguments, NoMemory}
 
@@ -25,9 +26,9 @@ files_app name file =
     let with_policy = with_rule (new_app name) (required_rule (codes "policy")) in
     with_rule with_policy (required_rule file)
 
--- NAME POLICY SCRIPT [--book FILE]
-abbrev pub script_app : Text → App
-script_app name = with_rule (files_app name (codes "script")) (optional_rule (codes "book"))
+-- NAME POLICY PATH [--book FILE]
+abbrev pub keeping_app : Text → Text → App
+keeping_app name path = with_rule (files_app name path) (optional_rule (codes "book"))
 
 -- audit POLICY BOOK
 abbrev pub audit_app : App
@@ -41,9 +42,10 @@ bare_app =
 
 unfoldable pub program_app : App
 program_app =
-    let with_replay = with_subcommand bare_app (script_app (codes "replay")).top in
-    let with_run = with_subcommand with_replay (script_app (codes "run")).top in
-    with_subcommand with_run audit_app.top
+    let with_replay = with_subcommand bare_app (keeping_app (codes "replay") (codes "script")).top in
+    let with_run = with_subcommand with_replay (keeping_app (codes "run") (codes "script")).top in
+    let with_audit = with_subcommand with_run audit_app.top in
+    with_subcommand with_audit (keeping_app (codes "serve") (codes "pipes")).top
 
 -- the files of a replay, as text
 pub record ReplayFiles : Type 0 where
@@ -62,11 +64,18 @@ pub record AuditFiles : Type 0 where
   pub policy : Text
   pub book : Text
 
+-- the files of a server, as text: its pipes are in a folder
+pub record ServeFiles : Type 0 where
+  pub policy : Text
+  pub pipes : Text
+  pub book : Option Text
+
 -- a command and its files
 pub data Asked : Type 0 where
   to_replay : ReplayFiles → Asked
   to_run : RunFiles → Asked
   to_audit : AuditFiles → Asked
+  to_serve : ServeFiles → Asked
 
 abbrev pub replay_in : List Row → Option ReplayFiles
 replay_in rows =
@@ -85,12 +94,19 @@ audit_in rows =
     option_and_then (λ p. option_and_then (λ b. Some (record { policy = p; book = b }))
     (first_of (codes "book") rows)) (first_of (codes "policy") rows)
 
+abbrev pub serve_in : List Row → Option ServeFiles
+serve_in rows =
+    option_and_then (λ p. option_and_then (λ d.
+    Some (record { policy = p; pipes = d; book = first_of (codes "book") rows }))
+    (first_of (codes "pipes") rows)) (first_of (codes "policy") rows)
+
 -- the command of this name
 abbrev pub command_in : Text → List Row → Option Asked
 command_in name rows =
     if bytes_eq name (codes "replay") then option_map to_replay (replay_in rows)
     else if bytes_eq name (codes "run") then option_map to_run (run_in rows)
     else if bytes_eq name (codes "audit") then option_map to_audit (audit_in rows)
+    else if bytes_eq name (codes "serve") then option_map to_serve (serve_in rows)
     else None
 
 abbrev pub command_of : Option (Text × List Row) → Option Asked
@@ -117,10 +133,15 @@ run_files r =
 abbrev pub audit_files : AuditPaths → AuditFiles
 audit_files r = record { policy = r.policy.now; book = r.book.now }
 
+abbrev pub serve_files : ServePaths → ServeFiles
+serve_files r =
+    record { policy = r.policy.now; pipes = r.pipes.now; book = option_map (λ b. b.now) r.book }
+
 abbrev pub asked_by : Command → Asked
 asked_by (Replay r) = to_replay (replay_files r)
 asked_by (Run r) = to_run (run_files r)
 asked_by (Audit r) = to_audit (audit_files r)
+asked_by (Serve r) = to_serve (serve_files r)
 
 -- what was read is what the words ask for, unless memory ran out
 abbrev pub Refuses : ArgFault → Option Asked → Type 0

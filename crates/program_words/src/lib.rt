@@ -4,7 +4,7 @@
 mod refusal;
 mod words;
 
-pub use words::{ArgFault, AuditPaths, Command, ReplayPaths, RunPaths, read_words};
+pub use words::{ArgFault, AuditPaths, Command, ReplayPaths, RunPaths, ServePaths, read_words};
 
 #[cfg(test)]
 mod tests;

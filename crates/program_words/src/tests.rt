@@ -24,6 +24,11 @@ const ASKED: &[(&[&str], &str)] = &[
     (&["run", "w", "s", "--book", "b"], "run w s b"),
     (&["audit", "w", "b"], "audit w b"),
     (&["audit", "--", "-w", "-b"], "audit -w -b"),
+    (&["serve", "w", "d"], "serve w d none"),
+    (&["serve", "w", "d", "--book", "b"], "serve w d b"),
+    (&["serve", "--book=b", "w", "d"], "serve w d b"),
+    (&["serve", "w", "--book", "b", "d"], "serve w d b"),
+    (&["serve", "--", "-w", "-d"], "serve -w -d none"),
 ];
 
 // Words that ask for nothing that the program does.
@@ -53,6 +58,13 @@ const BAD: &[&[&str]] = &[
     &["audit", "w"],
     &["audit", "w", "b", "c"],
     &["audit", "w", "b", "--book", "c"],
+    &["serve"],
+    &["serve", "w"],
+    &["serve", "w", "d", "b"],
+    &["serve", "w", "d", "--book"],
+    &["serve", "w", "d", "--book", "b", "--book", "c"],
+    &["serve", "w", "d", "--script", "s"],
+    &["Serve", "w", "d"],
     &["help"],
     &["help", "replay"],
     &["-h"],
@@ -63,6 +75,7 @@ const BAD: &[&[&str]] = &[
     &["replay", "w", "s", "-h"],
     &["run", "--help"],
     &["audit", "--help"],
+    &["serve", "--help"],
     &["replay", "--version"],
 ];
 
@@ -78,6 +91,10 @@ fn told(alloc: Global, words: &[&str]) -> Result<String, Fail> {
             format!(in alloc; "run {} {} {book}", paths.policy, paths.script)?
         }
         Ok(Command::Audit(paths)) => format!(in alloc; "audit {} {}", paths.policy, paths.book)?,
+        Ok(Command::Serve(paths)) => {
+            let book = paths.book.unwrap_or("none");
+            format!(in alloc; "serve {} {} {book}", paths.policy, paths.pipes)?
+        }
         Err(fault) => format!(in alloc; "{fault}")?,
     };
     Ok(text)

@@ -3,10 +3,11 @@ ghost use Rattle.std.specs.Prelude.{◌≡◌, IfOk, IsOkAnd, map, false, option
 ghost use Rattle.clap.specs.Words.{app_of, rule_of, first_of, found_of, rows_of, fault_of};
 ghost use Rattle.clap.specs.Words.{subcommand_of, subcommand_rows_of, with_subcommand};
 ghost use Rattle.clap.specs.declared.builder.Command.TheViews.{out-Command as fields_of};
-ghost use Rattle.program_words.specs.Grammar.{required_rule, files_app, script_app};
-ghost use Rattle.program_words.specs.Grammar.{program_app, replay_in, run_in, audit_in};
-ghost use Rattle.program_words.specs.Grammar.{to_replay, to_run, to_audit, command_in, command_of};
-ghost use Rattle.program_words.specs.Grammar.{asked, asked_by, SaysCommand};
+ghost use Rattle.program_words.specs.Grammar.{required_rule, files_app, keeping_app};
+ghost use Rattle.program_words.specs.Grammar.{program_app, replay_in, run_in, audit_in, serve_in};
+ghost use Rattle.program_words.specs.Grammar.{to_replay, to_run, to_audit, to_serve};
+ghost use Rattle.program_words.specs.Grammar.{command_in, command_of, asked, asked_by};
+ghost use Rattle.program_words.specs.Grammar.{SaysCommand};
 
 use clap::error::ErrorKind;
 use clap::{Arg, ArgMatches};
@@ -38,12 +39,23 @@ pub struct AuditPaths<'a> {
     pub book: &'a str,
 }
 
+/// The files of a server.
+#[derive(Clone, Copy, Debug)]
+pub struct ServePaths<'a> {
+    pub policy: &'a str,
+    /// The folder with the pipes.
+    pub pipes: &'a str,
+    /// Where the book goes, if it is wanted.
+    pub book: Option<&'a str>,
+}
+
 /// What the program is asked to do.
 #[derive(Clone, Copy, Debug)]
 pub enum Command<'a> {
     Replay(ReplayPaths<'a>),
     Run(RunPaths<'a>),
     Audit(AuditPaths<'a>),
+    Serve(ServePaths<'a>),
 }
 
 /// Why the words are refused.
@@ -80,12 +92,16 @@ fn files_command<'a>(
     command.arg(required(alloc, file))
 }
 
-// The command `NAME POLICY SCRIPT [--book FILE]`.
-fn script_command<'a>(alloc: Global, name: &'a str) -> Result<clap::Command<'a>, AllocError>
-    ensures app { IfOk result (λ c. app_of c ≡ script_app name.now) }
+// The command `NAME POLICY PATH [--book FILE]`; its second argument has the name `path`.
+fn keeping_command<'a>(
+    alloc: Global,
+    name: &'a str,
+    path: &'a str,
+) -> Result<clap::Command<'a>, AllocError>
+    ensures app { IfOk result (λ c. app_of c ≡ keeping_app name.now path.now) }
     ensures globals { IfOk result (λ c. (fields_of c).has_globals ≡ false) }
 {
-    let Ok(command) = files_command(alloc, name, "script") else {
+    let Ok(command) = files_command(alloc, name, path) else {
         return Err(AllocError);
     };
     command.arg(Arg::new(alloc, "book").long("book"))
@@ -115,13 +131,16 @@ fn program_command<'a>(alloc: Global) -> Result<clap::Command<'a>, AllocError>
     let program = clap::Command::new(alloc, "consortium")
         .no_binary_name(true)
         .subcommand_required(true);
-    let Ok(program) = with_command(program, script_command(alloc, "replay")) else {
+    let Ok(program) = with_command(program, keeping_command(alloc, "replay", "script")) else {
         return Err(AllocError);
     };
-    let Ok(program) = with_command(program, script_command(alloc, "run")) else {
+    let Ok(program) = with_command(program, keeping_command(alloc, "run", "script")) else {
         return Err(AllocError);
     };
-    with_command(program, files_command(alloc, "audit", "book"))
+    let Ok(program) = with_command(program, files_command(alloc, "audit", "book")) else {
+        return Err(AllocError);
+    };
+    with_command(program, keeping_command(alloc, "serve", "pipes"))
 }
 
 // The value of an argument.
@@ -173,6 +192,22 @@ fn audit_asked<'a>(matches: &ArgMatches<'a>) -> Option<Command<'a>>
     Some(Command::Audit(AuditPaths { policy, book }))
 }
 
+// Serving at the pipes that its arguments name.
+fn serve_asked<'a>(matches: &ArgMatches<'a>) -> Option<Command<'a>>
+    ensures { option_map asked_by result
+        ≡ option_map to_serve (serve_in (rows_of (found_of matches.now))) }
+{
+    let policy = value_of(matches, "policy")?;
+    let pipes = value_of(matches, "pipes")?;
+    let file = value_of(matches, "book");
+    let paths = ServePaths {
+        policy,
+        pipes,
+        book: file,
+    };
+    Some(Command::Serve(paths))
+}
+
 // The command of this name, with its files.
 fn command_named<'a>(name: &str, matches: &ArgMatches<'a>) -> Option<Command<'a>>
     ensures { option_map asked_by result ≡ command_in name.now (rows_of (found_of matches.now)) }
@@ -181,6 +216,7 @@ fn command_named<'a>(name: &str, matches: &ArgMatches<'a>) -> Option<Command<'a>
         "replay" => replay_asked(matches),
         "run" => run_asked(matches),
         "audit" => audit_asked(matches),
+        "serve" => serve_asked(matches),
         _ => None,
     }
 }
@@ -223,8 +259,8 @@ fn matches_of<'a>(alloc: Global, words: &'a [&'a str]) -> Result<ArgMatches<'a>,
 }
 
 /// What the words after the program's name ask for: `replay POLICY SCRIPT [--book FILE]`, `run
-/// POLICY SCRIPT [--book FILE]` or `audit POLICY BOOK`. They are bad arguments exactly where `clap`
-/// refuses them for another cause than memory.
+/// POLICY SCRIPT [--book FILE]`, `audit POLICY BOOK` or `serve POLICY DIR [--book FILE]`. They are
+/// bad arguments exactly where `clap` refuses them for another cause than memory.
 #[tactic(auto, unfolding(crate::specs::Grammar::asked))]
 pub fn read_words<'a>(alloc: Global, words: &'a [&'a str]) -> Result<Command<'a>, ArgFault>
     ensures { SaysCommand result (asked (map (λ w. w.now) words.entry.now)) }

@@ -2,7 +2,7 @@ use Rattle.std.proofs.Common.{rules, ◌≡◌, IfOk, IsOkAnd, false, Result, Ok
 use Rattle.clap.specs.Words.{App, app_of, with_subcommand}
 use Rattle.clap.specs.declared.builder.Command.{Command}
 use Rattle.clap.specs.declared.builder.Command.TheViews.{out-Command as fields_of}
-use Rattle.program_words.specs.Grammar.{bare_app, script_app, audit_app, program_app}
+use Rattle.program_words.specs.Grammar.{bare_app, keeping_app, audit_app, program_app}
 use Rattle.program_words.proofs.words.program_command.Goals as goal
 
 -- where the command that was made is b, the command line a has b more
@@ -22,13 +22,18 @@ pub returns : goal.returns
 unfolding program_app
 returns c =
     let bare : app_of c.subcommand_required-program.result ≡ bare_app = search rules in
-    let replay = joined c.subcommand_required-program.result c.script_command.result
+    let replay = joined c.subcommand_required-program.result c.keeping_command.result
     (Ok c.in-Ok.program)
-    bare_app (script_app (codes "replay")) bare c.script_command.ensures.app
-    c.script_command.ensures.globals c.in-Ok.ensures in
-    let run = joined c.in-Ok.program c.script_command-2.result (Ok c.in-Ok-with_command.program)
-    _ (script_app (codes "run")) replay c.script_command-2.ensures.app
-    c.script_command-2.ensures.globals c.in-Ok-with_command.ensures in
-    joined c.in-Ok-with_command.program c.files_command.result c.with_command-3.result
+    bare_app (keeping_app (codes "replay") (codes "script")) bare c.keeping_command.ensures.app
+    c.keeping_command.ensures.globals c.in-Ok.ensures in
+    let run = joined c.in-Ok.program c.keeping_command-2.result
+    (Ok c.in-Ok-with_command.program)
+    _ (keeping_app (codes "run") (codes "script")) replay c.keeping_command-2.ensures.app
+    c.keeping_command-2.ensures.globals c.in-Ok-with_command.ensures in
+    let audit = joined c.in-Ok-with_command.program c.files_command.result
+    (Ok c.in-Ok-with_command-2.program)
     _ audit_app run c.files_command.ensures.app c.files_command.ensures.globals
-    c.with_command-3.ensures
+    c.in-Ok-with_command-2.ensures in
+    joined c.in-Ok-with_command-2.program c.keeping_command-3.result c.with_command-4.result
+    _ (keeping_app (codes "serve") (codes "pipes")) audit c.keeping_command-3.ensures.app
+    c.keeping_command-3.ensures.globals c.with_command-4.ensures

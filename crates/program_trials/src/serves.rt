@@ -1,0 +1,367 @@
+//! Processes served at the same time, each over lines at hand: what each is answered, the book that
+//! is kept, and how it ends.
+use crate::endings::{sink, source};
+use crate::runs::ALONE;
+use live_session::{Desk, Peer, Session, SessionEnd};
+use program_commands::{Ending, ServeEnd, Unready, read_wall, refuse, serve_on};
+use std::alloc::{AllocError, Global};
+use std::process::Abort;
+use std::sync::Wait;
+use std::test::Fail;
+use std::thread::Threads;
+use wall_labels::memory::{ExpectingSink, Fuse, MemorySource};
+use wall_labels::{Failed, Sink, Source};
+use wall_policy::Policy;
+
+// Two processes of one bank.
+const FRIENDS: &str = "version = 1
+[[class]]
+name = \"banks\"
+datasets = [\"alpha\", \"beta\"]
+[[process]]
+name = \"p0\"
+home = \"alpha\"
+[[process]]
+name = \"p1\"
+home = \"alpha\"
+";
+
+// The lines of a process, at a desk that has nothing to open.
+#[derive(Drop)]
+struct Lines<'a> {
+    lines: MemorySource<'a>,
+}
+
+impl<'a> Desk<ExpectingSink<'a>> for Lines<'a> {
+    ghost use Rattle.wall_labels.specs.Fuses.{failures_of};
+
+    ghost failures = { λ s. failures_of s.lines.fuse };
+
+    fn open(&self) {}
+
+    fn hear(&mut self, _sink: &ExpectingSink<'a>, buffer: &mut [u8]) -> Result<usize, Failed> {
+        self.lines.read(buffer)
+    }
+
+    fn close(&self, _end: SessionEnd, _calls: u64) {}
+}
+
+// A writer that keeps what it is given, as long as there is memory.
+#[derive(Drop)]
+struct Keeping {
+    bytes: Vec<u8>,
+}
+
+impl Sink for Keeping {
+    ghost failures = { λ _. 0 };
+
+    fn write(&mut self, bytes: &[u8]) -> Result<usize, Failed> {
+        if self.bytes.extend_from_slice(bytes).is_err() {
+            self.bytes.clear();
+        }
+        Ok(bytes.len())
+    }
+}
+
+// What a process says, what it is answered, and how its session ends.
+#[derive(Clone, Copy)]
+struct Talk<'a> {
+    lines: &'a str,
+    answers: &'a str,
+    end: SessionEnd,
+}
+
+type At<'a> = Peer<Lines<'a>, ExpectingSink<'a>>;
+
+fn peer<'a>(talk: &Talk<'a>, reads: Fuse, writes: Fuse) -> At<'a> {
+    Peer {
+        source: Lines {
+            lines: source(talk.lines.as_bytes(), reads),
+        },
+        sink: sink(talk.answers.as_bytes(), writes),
+    }
+}
+
+fn peers<'a>(alloc: Global, talks: &[Talk<'a>]) -> Result<Vec<At<'a>>, AllocError> {
+    let mut peers = Vec::new(alloc);
+    for talk in talks {
+        peers.push(peer(talk, Fuse::Whole, Fuse::Whole))?;
+    }
+    Ok(peers)
+}
+
+fn wall<R: AllocGlobal>(rt: &R, text: &str) -> Result<Policy, Ending> {
+    read_wall(rt.alloc(), &mut source(text.as_bytes(), Fuse::Whole))
+}
+
+// Whether a session ended so, all its answers written.
+fn has_ended_so(session: &Session<Lines, ExpectingSink>, talk: &Talk) -> bool {
+    let sink = &session.peer.sink;
+    session.end == talk.end && sink.is_same && sink.rest.is_empty()
+}
+
+fn have_ended_so(sessions: &[Session<Lines, ExpectingSink>], talks: &[Talk]) -> bool {
+    if sessions.len() != talks.len() {
+        return false;
+    }
+    for (session, talk) in sessions.iter().zip(talks) {
+        if !has_ended_so(session, talk) {
+            return false;
+        }
+    }
+    true
+}
+
+// Whether serving these processes ends so, with this line on standard error and this status, and
+// keeps this book.
+fn serves_so<R: AllocGlobal + Threads + Wait + Sync>(
+    rt: &R,
+    policy: &str,
+    talks: &[Talk],
+    book: &str,
+    line: &str,
+    status: u8,
+) -> Result<bool, Fail> {
+    let Ok(wall) = wall(rt, policy) else {
+        return Err(Fail::from("the policy is refused"));
+    };
+    let peers = peers(rt.alloc(), talks)?;
+    let mut err = sink(line.as_bytes(), Fuse::Whole);
+    let mut kept = sink(book.as_bytes(), Fuse::Whole);
+    let ended = serve_on(rt, rt.alloc(), &wall, peers, &mut err, Some(&mut kept));
+    let is_told = err.is_same && err.rest.is_empty();
+    let is_kept = kept.is_same && kept.rest.is_empty();
+    let is_so = have_ended_so(&ended.sessions, talks) && ended.status == status;
+    Ok(is_told && is_kept && is_so)
+}
+
+const BROADCAST: &[Talk] = &[
+    Talk {
+        lines: "post 0 bcast 0 int32 1 as alpha 5\nwait 0\nwait 0\nleave\ninfo 0\n",
+        answers: "posted 0\ndelivered none\nrefused NoSuchRequest\nleft\n",
+        end: SessionEnd::Left,
+    },
+    Talk {
+        lines: "\npost 0 bcast 0 int32 1\r\nwait 0\ninfo 0\ninfo 1",
+        answers: "bad BadShape\nposted 0\ndelivered [5]\ninfo size 2 rank 1\n",
+        end: SessionEnd::EndOfStream,
+    },
+];
+
+const BROADCAST_BOOKS: [&str; 2] = [
+    "book 1
+post 0 0 bcast 0 int32 1 gives 1 as alpha passed
+post 1 0 bcast 0 int32 1 gives 0 as none passed
+verdict 0 0 granted
+end 3
+",
+    "book 1
+post 1 0 bcast 0 int32 1 gives 0 as none passed
+post 0 0 bcast 0 int32 1 gives 1 as alpha passed
+verdict 0 0 granted
+end 3
+",
+];
+
+// Two processes of which one gives the other a number: each is answered as the other posts, and the
+// book is that of the run, whoever posted first.
+#[test]
+fn two_processes_talk(rt: HostRuntime) -> Result<(), Fail> {
+    for _ in 0..20 {
+        let wall = wall(&rt, FRIENDS).expect(&rt, "the policy is refused");
+        let mut kept = Keeping {
+            bytes: Vec::new(rt.alloc()),
+        };
+        let mut err = sink(b"", Fuse::Whole);
+        let peers = peers(rt.alloc(), BROADCAST)?;
+        let ended = serve_on(&rt, rt.alloc(), &wall, peers, &mut err, Some(&mut kept));
+        assert!(&rt; ended.status == 0 && err.is_same);
+        assert!(&rt; have_ended_so(&ended.sessions, BROADCAST));
+        let book = kept.bytes.as_slice();
+        assert!(&rt;
+            BROADCAST_BOOKS[0].as_bytes() == book || BROADCAST_BOOKS[1].as_bytes() == book
+        );
+    }
+    Ok(())
+}
+
+// One process alone, whose book is known whole.
+const ALONE_TALKS: &[Talk] = &[Talk {
+    lines: "post 0 bcast 0 int32 1 as alpha 5\nwait 0\ntake 0\n",
+    answers: "posted 0\ndelivered none\nrefused NoSuchRequest\n",
+    end: SessionEnd::EndOfStream,
+}];
+
+const ALONE_BOOK: &str =
+    "book 1\npost 0 0 bcast 0 int32 1 gives 1 as alpha passed\nverdict 0 0 granted\nend 2\n";
+
+// No process says a word.
+const SILENT: &[Talk] = &[Talk {
+    lines: "",
+    answers: "",
+    end: SessionEnd::EndOfStream,
+}];
+
+#[test]
+fn books_of_sessions_are_kept(rt: HostRuntime) -> Result<(), Fail> {
+    assert!(&rt; serves_so(&rt, ALONE, ALONE_TALKS, ALONE_BOOK, "", 0)?);
+    assert!(&rt; serves_so(&rt, ALONE, SILENT, "book 1\nend 0\n", "", 0)?);
+    Ok(())
+}
+
+// What the tests rest on notices other answers and another end, another book, another line and
+// another status.
+#[test]
+fn other_sessions_are_noticed(rt: HostRuntime) -> Result<(), Fail> {
+    let lines = "info 0\n";
+    let answers = "info size 1 rank 0\n";
+    let end = SessionEnd::EndOfStream;
+    let book = "book 1\nend 0\n";
+    let talk = Talk {
+        lines,
+        answers,
+        end,
+    };
+    assert!(&rt; serves_so(&rt, ALONE, &[talk], book, "", 0)?);
+    for other in [
+        Talk {
+            answers: "",
+            ..talk
+        },
+        Talk {
+            answers: "info size 2 rank 0\n",
+            ..talk
+        },
+        Talk {
+            answers: "info size 1 rank 0\nleft\n",
+            ..talk
+        },
+        Talk {
+            end: SessionEnd::Left,
+            ..talk
+        },
+    ] {
+        assert!(&rt; !serves_so(&rt, ALONE, &[other], book, "", 0)?);
+    }
+    assert!(&rt; !serves_so(&rt, ALONE, &[talk], "", "", 0)?);
+    assert!(&rt; !serves_so(&rt, ALONE, &[talk], "book 1\nend 1\n", "", 0)?);
+    assert!(&rt; !serves_so(&rt, ALONE, &[talk], book, "no thread\n", 0)?);
+    assert!(&rt; !serves_so(&rt, ALONE, &[talk], book, "", 3)?);
+    Ok(())
+}
+
+// There are to be devices for each process, and no others: else none is read or written.
+#[test]
+fn devices_are_those_of_each_process(rt: HostRuntime) -> Result<(), Fail> {
+    for count in [0, 1, 3] {
+        let wall = wall(&rt, FRIENDS).expect(&rt, "the policy is refused");
+        let mut peers = Vec::new(rt.alloc());
+        for _ in 0..count {
+            peers.push(peer(&ALONE_TALKS[0], Fuse::Whole, Fuse::Whole))?;
+        }
+        let mut err = sink(b"bad arguments\n", Fuse::Whole);
+        let mut kept = sink(b"", Fuse::Whole);
+        let ended = serve_on(&rt, rt.alloc(), &wall, peers, &mut err, Some(&mut kept));
+        assert!(&rt; ended.status == 5 && ended.sessions.is_empty());
+        assert!(&rt; err.is_same && err.rest.is_empty() && kept.is_same);
+    }
+    Ok(())
+}
+
+// A device that fails is the end of its session, and changes nothing for the other.
+#[test]
+fn devices_of_a_session_fail(rt: HostRuntime) -> Result<(), Fail> {
+    let first = Talk {
+        lines: "info 0\ninfo 0\n",
+        answers: "info size 2 rank 0\n",
+        end: SessionEnd::WriteFailed,
+    };
+    let unread = Talk {
+        answers: "",
+        end: SessionEnd::ReadFailed,
+        ..first
+    };
+    let other = Talk {
+        lines: "post 0 barrier\nwait 0\ninfo 0\nleave\n",
+        answers: "posted 0\npending\ninfo size 2 rank 1\nleft\n",
+        end: SessionEnd::Left,
+    };
+    for (talk, reads, writes) in [
+        (first, Fuse::Whole, Fuse::After(1)),
+        (unread, Fuse::After(0), Fuse::Whole),
+    ] {
+        let wall = wall(&rt, FRIENDS).expect(&rt, "the policy is refused");
+        let mut peers = Vec::new(rt.alloc());
+        peers.push(peer(&talk, reads, writes))?;
+        peers.push(peer(&other, Fuse::Whole, Fuse::Whole))?;
+        let mut err = sink(b"", Fuse::Whole);
+        let book = "book 1\npost 1 0 barrier gives 0 as none passed\nend 1\n";
+        let mut kept = sink(book.as_bytes(), Fuse::Whole);
+        let ended = serve_on(&rt, rt.alloc(), &wall, peers, &mut err, Some(&mut kept));
+        assert!(&rt; ended.status == 0 && err.is_same);
+        assert!(&rt; kept.is_same && kept.rest.is_empty());
+        assert!(&rt; have_ended_so(&ended.sessions, &[talk, other]));
+    }
+    Ok(())
+}
+
+#[test]
+fn writers_of_books_of_sessions_fail_at_each_write(rt: HostRuntime) -> Result<(), Fail> {
+    let mut writes: u64 = 0;
+    for k in 0..100u64 {
+        let wall = wall(&rt, ALONE).expect(&rt, "the policy is refused");
+        let peers = peers(rt.alloc(), ALONE_TALKS)?;
+        let mut err = sink(b"write fault\n", Fuse::Whole);
+        let mut kept = sink(ALONE_BOOK.as_bytes(), Fuse::After(k));
+        let ended = serve_on(&rt, rt.alloc(), &wall, peers, &mut err, Some(&mut kept));
+        assert!(&rt; kept.is_same && have_ended_so(&ended.sessions, ALONE_TALKS));
+        if ended.status != 3 {
+            assert!(&rt; ended.status == 0 && kept.rest.is_empty());
+            break;
+        }
+        assert!(&rt; err.is_same && err.rest.is_empty());
+        writes = k + 1;
+    }
+    assert!(&rt; 0 < writes && writes < 99);
+    Ok(())
+}
+
+// No book is asked for, and a standard error that fails changes no status.
+#[test]
+fn sessions_without_a_book_are_served(rt: HostRuntime) -> Result<(), Fail> {
+    let wall = wall(&rt, FRIENDS).expect(&rt, "the policy is refused");
+    let mut err = sink(b"", Fuse::Whole);
+    let all = peers(rt.alloc(), BROADCAST)?;
+    let ended = serve_on::<_, _, _, _, Keeping>(&rt, rt.alloc(), &wall, all, &mut err, None);
+    assert!(&rt; ended.status == 0 && err.is_same);
+    assert!(&rt; have_ended_so(&ended.sessions, BROADCAST));
+    let mut broken = sink(b"bad arguments\n", Fuse::After(0));
+    let none = peers(rt.alloc(), &[])?;
+    let ended = serve_on::<_, _, _, _, Keeping>(&rt, rt.alloc(), &wall, none, &mut broken, None);
+    assert!(&rt; ended.status == 5 && ended.sessions.is_empty());
+    Ok(())
+}
+
+// Why a server does not begin, and its line.
+const UNREADY: &[(Unready, &str)] = &[
+    (Unready::NoPipe("a0"), "no pipe: a0\n"),
+    (Unready::OpenToOthers("n0"), "open to others: n0\n"),
+    (
+        Unready::BookExists("/srv/book 1"),
+        "book exists: /srv/book 1\n",
+    ),
+];
+
+#[test]
+fn servers_that_do_not_begin_tell_why(rt: HostRuntime) {
+    for (unready, line) in UNREADY {
+        let mut err = sink(line.as_bytes(), Fuse::Whole);
+        assert_eq!(&rt; refuse(&mut err, *unready), 3, "{line}");
+        assert!(&rt; err.is_same && err.rest.is_empty(), "{line}");
+        for k in 0..3u64 {
+            let mut broken = sink(line.as_bytes(), Fuse::After(k));
+            assert_eq!(&rt; refuse(&mut broken, *unready), 3, "{line}");
+            assert!(&rt; broken.is_same, "{line}");
+        }
+    }
+}
