@@ -58,7 +58,7 @@ impl From<RunFault> for Ending {
     }
 }
 
-// Runs the scripts of all processes at the same time.
+// Runs the scripts of all processes, each in a thread of its own.
 fn run_scripts<R: Threads + Wait + Sync>(
     rt: &R,
     alloc: Global,

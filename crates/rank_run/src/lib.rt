@@ -1,9 +1,9 @@
 //! Ranks: one thread for each process, each running its script at a door.
 //!
 //! A take in a script is tried again while its answer is Pending ([`wait`]). [`run_ranks`] runs all
-//! scripts at the same time, and gives the replies of each process and the hall at the end. Under a
-//! gate that holds nobody a rank that waits for others sleeps; a large delivery it works out beside
-//! the others' calls.
+//! scripts, each in a thread of its own, and gives the replies of each process and the hall at the
+//! end. Under a gate that holds nobody one rank calls at a time, and one that waits for others
+//! sleeps; a large delivery is worked out beside the others' calls.
 #![tactic(auto)]
 
 mod fault;

@@ -1,4 +1,4 @@
-//! All scripts at the same time.
+//! All scripts, each in a thread of its own.
 ghost use Rattle.std.specs.Prelude.{◌≡◌, ◌≢◌, ◌↔◌, [], ◌≤◌, IfOk, IfErr, length, vec_len};
 ghost use Rattle.std.specs.Prelude.{vec_capacity, vec_items, map, true, false, Some};
 ghost use Rattle.std.specs.List.{All};
@@ -180,7 +180,7 @@ fn run_each<R: Threads + Wait + Sync, G: Gate + Sync>(
     )
 }
 
-// All jobs at the same time, in the room that was made for them. It takes no memory.
+// All jobs, each in a thread of its own, in the room that was made for them. It takes no memory.
 fn run_jobs<R: Threads + Wait + Sync, G: Gate + Sync>(
     rt: &R,
     door: &Door,
