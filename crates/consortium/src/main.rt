@@ -13,6 +13,8 @@ mod server;
 mod serving;
 
 pub use commands::{Counts, LivePaths, Performed, perform};
+pub use program_commands::{audit_on, replay_on, run_on, serve_on};
+pub use program_words::read_words;
 use server::serve_live;
 use serving::{Blanks, Outcome, Served, serve};
 use std::io::{Stderr, Stdout};
