@@ -7,6 +7,8 @@
 #[cfg(test)]
 mod books;
 #[cfg(test)]
+mod chains;
+#[cfg(test)]
 mod checks;
 #[cfg(test)]
 mod dice;
@@ -18,8 +20,12 @@ mod made;
 mod replays;
 pub mod rows;
 #[cfg(test)]
+mod runs;
+#[cfg(test)]
 mod scripts;
 #[cfg(test)]
 mod statements;
 #[cfg(test)]
 mod walls;
+#[cfg(test)]
+mod worked;

@@ -63,3 +63,32 @@ name = "p2"
 [[process]]
 name = "p3"
 "#;
+
+/// Four processes of one bank.
+pub(crate) const BANK: &str = r#"version = 1
+[[class]]
+name = "banks"
+datasets = ["alpha", "beta"]
+[[process]]
+name = "p0"
+home = "alpha"
+[[process]]
+name = "p1"
+home = "alpha"
+[[process]]
+name = "p2"
+home = "alpha"
+[[process]]
+name = "p3"
+home = "alpha"
+"#;
+
+/// The first of them alone.
+pub(crate) const ALONE: &str = r#"version = 1
+[[class]]
+name = "banks"
+datasets = ["alpha", "beta"]
+[[process]]
+name = "p0"
+home = "alpha"
+"#;
