@@ -1,8 +1,8 @@
 //! A door and a run of ranks where memory is refused: what is out of memory is asked for once more,
 //! and answered as it should be.
 //!
-//! They are made to be run with the first growth refused, in another run with the second, and so on.
-//! Each is to pass in each of these runs, since nothing is refused twice.
+//! tests/refused_calls runs each of these tests with its first growth refused, in another run with
+//! its second, and so on. Each passes in each of these runs, since nothing is refused twice.
 ghost use Rattle.std.specs.Prelude.{◌≡◌};
 ghost use Rattle.std.specs.List.{All};
 ghost use Rattle.run_model.specs.Known.{HasKnownLabel, IsKnownLabel, ScriptsHaveKnownLabels};

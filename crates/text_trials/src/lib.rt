@@ -17,6 +17,8 @@ mod digits;
 #[cfg(test)]
 mod made;
 #[cfg(test)]
+mod refused;
+#[cfg(test)]
 mod replays;
 pub mod rows;
 #[cfg(test)]
