@@ -85,7 +85,7 @@ pub taken_out : {X : Type 0} (q p r : Queue) (slots entered out : Slab (Slot X))
     ((o : Slot X) → get slots key ≡ Some o → true ≡ lacks_one o) →
     ((o : Slot X) → get slots key ≡ Some o →
     Updates slots entered key (Some (posted rank stated part o))) → p ≡ counted q rank →
-    r ≡ popped p → get entered key ≡ Some removed → Updates entered out key None →
+    r ≡ popped p r.room → get entered key ≡ Some removed → Updates entered out key None →
     full.roll ≡ removed.roll → map (λ x. Some x) full.parts ≡ removed.parts →
     PostsTo q r slots out rank stated part (Full full)
 taken_out {X} q p r slots entered out rank key stated part removed full leads last enters counts
@@ -98,7 +98,7 @@ taken_out {X} q p r slots entered out rank key stated part removed full leads la
       sym (last o found),
       roll ∙ ap (λ (z : Slot X). z.roll) it,
       parts ∙ ap (λ (z : Slot X). z.parts) it,
-      pops ∙ ap (λ z. popped z) counts,
+      pops ∙ ap (λ z. popped z r.room) counts,
       subst (λ n. Updates slots out n None) same (record {
         changed = empties.changed;
         others = λ other off. empties.others other off ∙ updates.others other off;
@@ -357,20 +357,20 @@ module _ {X : Type 0} (s : Queues X) (is : IsQueues s) (c : ℕ) (q : Queue)
         none_before early key' leads' =
             none_of early (get s.slots key') key' refl (is.stand c q.first key' leads') leads'
 
-    module _ (slots : Slab (Slot X)) (updates : Updates s.slots slots key None) where
+    module _ (room : ℕ) (slots : Slab (Slot X)) (updates : Updates s.slots slots key None) where
       abbrev gone : Queues X
-      gone = record { queues = set s.queues c (Some (popped (counted q rank))); slots = slots }
+      gone = record { queues = set s.queues c (Some (popped (counted q rank) room)); slots = slots }
 
-      nothing_here : key_at (popped (counted q rank)) k ≡ None
+      nothing_here : key_at (popped (counted q rank) room) k ≡ None
       nothing_here =
-          subst (λ n. key_at (popped (counted q rank)) n ≡ None) (sym is_first)
-          (popped_here (counted q rank))
+          subst (λ n. key_at (popped (counted q rank) room) n ≡ None) (sym is_first)
+          (popped_here (counted q rank) room)
 
-      change_out : Changes s c q (popped (counted q rank)) slots k key None
+      change_out : Changes s c q (popped (counted q rank) room) slots k key None
       change_out = record {
         row = row;
         updates = updates;
-        others = λ l off. popped_other (counted q rank) l (λ e. off (e ∙ sym is_first));
+        others = λ l off. popped_other (counted q rank) room l (λ e. off (e ∙ sym is_first));
         alone = alone;
         here = ap (λ w. slot_in slots w) nothing_here;
         only = λ other e. let none = sym nothing_here ∙ e in absurd (cc);
@@ -381,7 +381,7 @@ module _ {X : Type 0} (s : Queues X) (is : IsQueues s) (c : ℕ) (q : Queue)
 
       pub gone_sound : IsQueues gone
       gone_sound =
-          changed_sound s is c q (popped (counted q rank)) slots k key None stands change_out
+          changed_sound s is c q (popped (counted q rank) room) slots k key None stands change_out
           (record {
             sized = sized_still;
             low = λ r lt. let got = reached r lt in omega (arith, got, is_first);
@@ -401,14 +401,14 @@ module _ {X : Type 0} (s : Queues X) (is : IsQueues s) (c : ℕ) (q : Queue)
         subst IsAgreed (sym roll) (agreed_still o rank stated part free same),
         record {
           agrees = agrees;
-          arrivals = arrivals_now (popped (counted q rank)) refl (seen gone)
-              (counts_here s is c q (popped (counted q rank)) slots k key None stands change_out)
-              (counts_else s is c q (popped (counted q rank)) slots k key None stands change_out);
-          known = known_changed s is c q (popped (counted q rank)) slots k key None stands
+          arrivals = arrivals_now (popped (counted q rank) room) refl (seen gone)
+              (counts_here s is c q (popped (counted q rank) room) slots k key None stands change_out)
+              (counts_else s is c q (popped (counted q rank) room) slots k key None stands change_out);
+          known = known_changed s is c q (popped (counted q rank) room) slots k key None stands
               change_out;
           pending =
               subst (λ n. (seen gone).pending ≡ updated_at (seen s).pending c n None) (sym number)
-              (pending_changed s is c q (popped (counted q rank)) slots k key None stands
+              (pending_changed s is c q (popped (counted q rank) room) slots k key None stands
               change_out);
         },
       )
@@ -508,9 +508,9 @@ module _ {X : Type 0} (s : Queues X) (is : IsQueues s) (c rank : ℕ) (stated : 
   )
   after_post p (Full full) posts = subst (λ z. IsAfter (Some z) (Full full)) (sym posts.3) (
     gone_sound s is c met.queue met.at rank met.member met.key met.slot met.leads met.found
-        stated part met.agrees met.row posts.0 slots posts.4,
+        stated part met.agrees met.row posts.0 p.room slots posts.4,
     gone_seen s is c met.queue met.at rank met.member met.key met.slot met.leads met.found stated
-        part met.agrees met.row posts.0 slots posts.4 full posts.1 posts.2,
+        part met.agrees met.row posts.0 p.room slots posts.4 full posts.1 posts.2,
   )
 
   pub after_row : (row new : Option Queue) (arrived : Arrived X) → row ≡ get_or s.queues c row →

@@ -98,19 +98,20 @@ pushed_other q key k other = ⊎_elim
 
 -- ## one key less
 
-pub popped_here : (q : Queue) → key_at (popped q) q.first ≡ None
-popped_here q = key_before (popped q) q.first (omega arith)
+pub popped_here : (q : Queue) (room : ℕ) → key_at (popped q room) q.first ≡ None
+popped_here q room = key_before (popped q room) q.first (omega arith)
 
-pub popped_other : (q : Queue) (k : ℕ) → k ≢ q.first → key_at (popped q) k ≡ key_at q k
-popped_other q k other = ⊎_elim
+pub popped_other : (q : Queue) (room k : ℕ) → k ≢ q.first →
+    key_at (popped q room) k ≡ key_at q k
+popped_other q room k other = ⊎_elim
     (λ (t : nat_lt k q.first ≡ true).
     let lt : k < q.first = grind (arith, nat_tests) in
-    key_before (popped q) k (omega arith) ∙ sym (key_before q k lt))
+    key_before (popped q room) k (omega arith) ∙ sym (key_before q k lt))
     (λ (f : nat_lt k q.first ≡ false).
     let le : q.first ≤ k = grind (arith, nat_tests) in
     let more : q.first + 1 ≤ k = omega (arith, le, other) in
     let next : suc (k - (q.first + 1)) ≡ k - q.first = omega (arith, more) in
-    key_from (popped q) k more
+    key_from (popped q room) k more
     ∙ (at_drop q.keys (k - (q.first + 1))
     ∙ (ap (λ n. slice_get q.keys n) next ∙ sym (key_from q k le))))
     (cases_Bool (nat_lt k q.first))

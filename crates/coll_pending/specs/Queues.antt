@@ -140,9 +140,9 @@ counted q rank = record q { counts = slice_set q.counts rank (count q rank + 1) 
 abbrev pub pushed : Queue → ℕ → Queue
 pushed q key = record q { keys = q.keys ++ key ∷ [] }
 
--- the first instance no longer waits
-abbrev pub popped : Queue → Queue
-popped q = record q { first = q.first + 1; keys = drop 1 q.keys }
+-- the first instance no longer waits, and there is this room
+abbrev pub popped : Queue → (room : ℕ) → Queue
+popped q room = record q { first = q.first + 1; keys = drop 1 q.keys; room = room }
 
 -- the queue that is there, or else the one handed in
 abbrev pub or_fresh : Option Queue → Option Queue → Option Queue
@@ -184,7 +184,7 @@ Posts old new slots slots' key rank stated part o (Full full) =
     (lacks_one o ≡ true)
     × (full.roll ≡ (posted rank stated part o).roll)
     × (map (λ p. Some p) full.parts ≡ (posted rank stated part o).parts)
-    × (new ≡ popped (counted old rank))
+    × (new ≡ popped (counted old rank) new.room)
     × Updates slots slots' key None
 
 abbrev pub PostsTo : {X : Type 0} → (old new : Queue) → (slots slots' : Slab (Slot X)) →

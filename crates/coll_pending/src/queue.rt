@@ -1,6 +1,7 @@
 //! A communicator with the arrivals of its members and the queue of its instances.
 ghost use Rattle.std.specs.Prelude.{◌≡◌, ◌<◌, ◌+◌, ◌^◌, length, replicate, Some, None, IfOk, OnOk};
 ghost use Rattle.std.specs.Prelude.{OnErr, IsTrue};
+ghost use Rattle.std.specs.VecDeque.{deque_len};
 ghost use Rattle.coll_pending.specs.Instances.{made_of};
 
 use coll_routes::Shape;
@@ -119,13 +120,30 @@ impl Queue {
         self.counts[rank as usize] += 1;
     }
 
-    /// The first instance no longer waits.
+    /// The first instance no longer waits. Takes no memory.
     pub fn pop(&mut self)
         requires few { self.old.first < 2 ^ 62 }
-        ensures { self.new ≡ popped self.old }
+        ensures { self.new ≡ popped self.old self.new.room }
     {
         self.first += 1;
         let _ = self.keys.pop_front();
+        give_back(&mut self.keys);
+    }
+}
+
+/// So many keys have their room for good: as many instances may wait for one process. (Own rule.)
+const KEPT_KEYS: usize = 256;
+
+// Gives room back where less than a quarter of it is used. Half of what is left is free then, so
+// many calls come before it is too much again, or too little. Where the memory for the smaller room
+// is refused the larger one stays.
+fn give_back(keys: &mut VecDeque<usize>)
+    ensures items { keys.new.items ≡ keys.old.items }
+    ensures number { deque_len keys.new ≡ deque_len keys.old }
+{
+    let (used, room) = (keys.len(), keys.capacity());
+    if KEPT_KEYS < room && used < room / 4 {
+        keys.shrink_to(KEPT_KEYS.max(2 * used));
     }
 }
 

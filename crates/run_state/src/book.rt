@@ -78,6 +78,14 @@ impl Book {
         self.entries.push_reserved(entry);
     }
 
+    /// Lets go of all entries, and keeps the memory. Takes no memory.
+    pub fn clear(&mut self)
+        ensures list { self.new.list ≡ [] }
+        ensures room { self.new.room ≡ self.old.room + length self.old.list }
+    {
+        self.entries.clear();
+    }
+
     /// The number of entries.
     pub fn len(&self) -> usize
         ensures value { result ≡ length self.now.list }

@@ -73,11 +73,13 @@ pub fn make(
     }
 }
 
-// Makes room for the shapes of as many communicators as there can be.
+// Makes room for the shapes of as many communicators as there can be. Out of memory only where
+// there was none for some.
 fn make_room(table: &CommTable, shapes: &mut Vec<Shape>) -> Result<(), NoMemory>
     requires laid { AreLaid table.now shapes.old.items }
     ensures room { OnOk result (COMMUNICATOR_LIMIT ≤ vec_capacity shapes.new) }
     ensures same { shapes.new.items ≡ shapes.old.items }
+    ensures memory { OnErr result (vec_capacity shapes.old < COMMUNICATOR_LIMIT) }
 {
     let more = COMMUNICATOR_LIMIT - table.len();
     shapes.reserve(more as usize)?;
