@@ -5,6 +5,7 @@ use Rattle.std.proofs.Common.{arith}
 use Rattle.std.specs.List.{join_with_byte, flat_map}
 use Rattle.std.specs.Str.{bytes_eq}
 use Rattle.std.proofs.lemmas.Bool.{eqb-true}
+use Rattle.std.proofs.lemmas.Grind.{flat_map-append}
 use Rattle.std.proofs.lemmas.List.{append-nil}
 use Rattle.std.proofs.lemmas.List.Splits.{join_with_byte-slice_split}
 use Rattle.std.proofs.lemmas.Slice.Eq.{bytes_eq-Decides}
@@ -35,7 +36,7 @@ said_lines wall es = map (λ e. join_with_byte 32 (entry_words wall e)) es
 abbrev pub all_lines : ChineseWall → List Entry → ℕ → List Word
 all_lines wall es n = said_lines wall es ++ (join_with_byte 32 (end_words n) ∷ [])
 
-line_text : (wall : ChineseWall) (line : Word) (l : Line) → line_at wall line ≡ Ok l →
+pub line_text : (wall : ChineseWall) (line : Word) (l : Line) → line_at wall line ≡ Ok l →
     line ≡ join_with_byte 32 (line_words wall l)
 line_text wall line l h = sym (join_with_byte-slice_split 32 line)
     ∙ ap (join_with_byte 32) (line_found wall (parts 32 line) l h)
@@ -121,12 +122,25 @@ join_ended (l ∷ []) = sym (append-nil (l ++ (10 ∷ [])))
 join_ended (l ∷ m ∷ ls) = ap (λ t. l ++ (10 ∷ t)) (join_ended (m ∷ ls))
     ∙ sym (append_assoc l (10 ∷ []) (ended_lines (m ∷ ls)))
 
-lines_are : (wall : ChineseWall) (es : List Entry) (n : ℕ) →
+pub lines_are : (wall : ChineseWall) (es : List Entry) (n : ℕ) →
     ended_lines (all_lines wall es n) ≡ entry_lines wall es ++ line_of (end_words n)
 lines_are wall [] n = append-nil (line_of (end_words n))
 lines_are wall (e ∷ es) n = ap (λ t. line_of (entry_words wall e) ++ t) (lines_are wall es n)
     ∙ sym
     (append_assoc (line_of (entry_words wall e)) (entry_lines wall es) (line_of (end_words n)))
+
+-- the lines of one entry more are the lines before, and its own
+pub lines_more : (wall : ChineseWall) (es : List Entry) (e : Entry) →
+    entry_lines wall (es ++ (e ∷ [])) ≡ entry_lines wall es ++ line_of (entry_words wall e)
+lines_more wall es e = flat_map-append (λ (x : Entry). line_of (entry_words wall x)) es (e ∷ [])
+    ∙ ap (λ t. entry_lines wall es ++ t) (append-nil (line_of (entry_words wall e)))
+
+-- the text of a book is its header, its lines and its end
+pub text_in_lines : (wall : ChineseWall) (es : List Entry) →
+    book_text wall es ≡ line_of (header_words wall.version)
+    ++ (entry_lines wall es ++ line_of (end_words (length es)))
+unfolding book_text
+text_in_lines wall es = refl
 
 -- the text of a book is that of its lines
 pub text_is : (wall : ChineseWall) (es : List Entry) →

@@ -27,7 +27,7 @@ use Rattle.audit_book.proofs.AgainLemmas.{line_lacks, header_whole}
 use Rattle.audit_book.proofs.BookLemmas.{ended_lines}
 use Rattle.audit_book.proofs.TextAgainLemmas.{step_again, some_behind}
 
-abbrev AreLines : List Word → Type 0
+abbrev pub AreLines : List Word → Type 0
 AreLines ls = AllByRecursion IsLine ls
 
 -- ---- the parts of a text
@@ -42,12 +42,12 @@ parts_step : (b : ℕ) (ls : List Word) (t : Bool) → eqb b 10 ≡ t → AreLin
 parts_step b ls true e h = (All-nil (λ b. eqb b 10 ≡ false), h)
 parts_step b ls false e h = onto_lines b ls e h
 
-parts_lines : (text : List ℕ) → AreLines (parts 10 text)
+pub parts_lines : (text : List ℕ) → AreLines (parts 10 text)
 parts_lines [] = (All-nil (λ b. eqb b 10 ≡ false), tt)
 parts_lines (b ∷ bs) = parts_step b (parts 10 bs) (eqb b 10) refl (parts_lines bs)
 
 -- the first of a list and the others
-abbrev Parted : List Word → Type 0
+abbrev pub Parted : List Word → Type 0
 Parted ls = (next : Word) × (more : List Word) × (ls ≡ next ∷ more)
 
 some_onto : (b : ℕ) (ls : List Word) → Parted (onto_first b ls)
@@ -58,11 +58,11 @@ some_step : (b : ℕ) (ls : List Word) (t : Bool) → Parted (cond t ([] ∷ ls)
 some_step b ls true = ([], ls, refl)
 some_step b ls false = some_onto b ls
 
-some_parts : (text : List ℕ) → Parted (parts 10 text)
+pub some_parts : (text : List ℕ) → Parted (parts 10 text)
 some_parts [] = ([], [], refl)
 some_parts (b ∷ bs) = some_step b (parts 10 bs) (eqb b 10)
 
-parts_more : (ls : List Word) → AreLines ls → (rest : List ℕ) →
+pub parts_more : (ls : List Word) → AreLines ls → (rest : List ℕ) →
     parts 10 (ended_lines ls ++ rest) ≡ ls ++ parts 10 rest
 parts_more [] h rest = refl
 parts_more (l ∷ ls) h rest =

@@ -1,4 +1,5 @@
 pub mod StepLemmas
+pub mod DueLemmas
 pub mod CheckLemmas
 pub mod TextLemmas
 pub mod ReadLemmas
@@ -14,3 +15,4 @@ pub mod FaultLemmas
 pub mod ScanLemmas
 pub mod SpelledRowProofs
 mod SameLemmas
+pub mod AuditBookLemmas

@@ -23,10 +23,10 @@ use Rattle.audit_book.proofs.BookLemmas.{ended_lines, all_lines, text_is}
 use Rattle.audit_book.proofs.AgainLemmas.{is_line, line_lacks, header_whole, entry_line_again}
 use Rattle.audit_book.proofs.AgainLemmas.{end_line_again, entry_line_whole, end_line_whole}
 
-abbrev AreLines : List Word → Type 0
+abbrev pub AreLines : List Word → Type 0
 AreLines ls = AllByRecursion (λ l. is_line l ≡ true) ls
 
-parts_ended : (ls : List Word) → AreLines ls → parts 10 (ended_lines ls) ≡ ls ++ ([] ∷ [])
+pub parts_ended : (ls : List Word) → AreLines ls → parts 10 (ended_lines ls) ≡ ls ++ ([] ∷ [])
 parts_ended [] h = refl
 parts_ended (l ∷ ls) h =
     ap (parts 10) (append_assoc l (10 ∷ []) (ended_lines ls))
@@ -106,7 +106,7 @@ step_again wall k line (next ∷ more) e some said = ap (λ (r : Result Line _).
     by_line k r (entries_in wall (k + 1) (next ∷ more)) (ended_at (k + 3) (next ∷ more))) said
 
 module _ (wall : ChineseWall) (policy : IsPolicy wall) where
-  lines_whole : (es : List Entry) (n : ℕ) → AllByRecursion (IsSpelled wall) es →
+  pub lines_whole : (es : List Entry) (n : ℕ) → AllByRecursion (IsSpelled wall) es →
       n ≤ 18446744073709551615 → AreLines (all_lines wall es n)
   lines_whole [] n h small = (end_line_whole wall policy n small, tt)
   lines_whole (e ∷ es) n h small = (entry_line_whole wall policy e h.0, lines_whole es n h.1 small)
@@ -116,7 +116,7 @@ module _ (wall : ChineseWall) (policy : IsPolicy wall) where
   unfolding entries_in
   end_step k n small same = rw (end_line_again wall policy n small, eq-eqb n k same) refl
 
-  entries_again : (k n : ℕ) (es : List Entry) → AllByRecursion (IsSpelled wall) es →
+  pub entries_again : (k n : ℕ) (es : List Entry) → AllByRecursion (IsSpelled wall) es →
       n ≤ 18446744073709551615 → n ≡ k + length es →
       entries_in wall k (all_lines wall es n ++ ([] ∷ [])) ≡ Ok es
   entries_again k n [] h small sum = end_step k n small (omega (arith, sum))
@@ -125,7 +125,7 @@ module _ (wall : ChineseWall) (policy : IsPolicy wall) where
       e (some_behind (all_lines wall es n) []) (entry_line_again wall policy e h.0)
       ∙ ap (with_front (e ∷ [])) (entries_again (k + 1) n es h.1 small (omega (arith, sum)))
 
-  header_again : (ls : List Word) → 0 < length ls →
+  pub header_again : (ls : List Word) → 0 < length ls →
       lines_in wall (header_line wall.version ∷ ls) ≡ entries_in wall 0 ls
   header_again [] some = absurd (omega arith)
   header_again (next ∷ more) some = cond-true

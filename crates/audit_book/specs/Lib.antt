@@ -12,6 +12,8 @@ pub mod Laws
 pub mod Writing
 -- how far the check of a book has come, and what its fault says
 pub mod Checks
+-- what is due behind the entries of a book
+pub mod Dues
 -- how lines are read and written one after the other (of private contracts)
 pub mod LineSteps
 -- how a text is gone through where memory ran out (of private contracts)

@@ -14,6 +14,7 @@ ghost use Rattle.audit_book.specs.declared.check.Stopped.TheVariants.{NoMemory a
 ghost use Rattle.audit_book.specs.Checks.{post_of, due_after, Stands, MayEnter, HasEntered};
 ghost use Rattle.audit_book.specs.Checks.{HasCounted, IsRight, IsRightFor, IsFaultOf};
 ghost use Rattle.audit_book.specs.Checks.{IsPostThatCounts};
+ghost use Rattle.audit_book.specs.Dues.{IsFaultWithin};
 
 use crate::check_fault::BookFault;
 use crate::due::Due;
@@ -64,6 +65,25 @@ pub(crate) fn follow_all(
     ensures stands { OnOk result (Stands policy.now post_state.new (posts_in book.now.list)) }
     ensures fault { IfErr result (IsFaultOf policy.now book.now.list) }
 {
+    match follow_entries(alloc, policy, post_state, book) {
+        Ok(None) => Ok(()),
+        Ok(Some(_)) => Err(BookFault::BadEntry(book.len() as u64 + 1)),
+        Err(fault) => Err(fault),
+    }
+}
+
+// Goes through the entries of a book, with a state that stands for no post, and then for those of
+// the book, and tells which entry is due behind them.
+pub(crate) fn follow_entries(
+    alloc: Global,
+    policy: &Policy,
+    post_state: &mut PostState<()>,
+    book: &Book,
+) -> Result<Option<Due>, BookFault>
+    requires { Stands policy.now post_state.old [] }
+    ensures right { IfOk result (IsRight policy.now post_state.new book.now.list) }
+    ensures fault { IfErr result (IsFaultWithin policy.now book.now.list) }
+{
     let mut due: Option<Due> = None;
     for at in 0..book.len() {
         match follow(alloc, policy, post_state, due, book.get(at)) {
@@ -72,10 +92,7 @@ pub(crate) fn follow_all(
             Err(Stopped::NoMemory) => return Err(BookFault::NoMemory),
         }
     }
-    match due {
-        None => Ok(()),
-        Some(_) => Err(BookFault::BadEntry(book.len() as u64 + 1)),
-    }
+    Ok(due)
 }
 
 // Why the check goes no further.

@@ -26,4 +26,15 @@ impl Due {
             Entry::Posted { .. } => false,
         }
     }
+
+    /// The entry that is due.
+    pub fn entry(&self) -> Entry
+        ensures { result ≡ entry_of self.now }
+    {
+        Entry::Settled {
+            comm: self.comm,
+            k: self.k,
+            outcome: self.outcome,
+        }
+    }
 }

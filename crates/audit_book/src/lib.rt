@@ -4,7 +4,8 @@
 //! if it is that book's text, and tells of each other text where it goes wrong. `check_book`
 //! answers whether a book is what its own posts give under the policy, and else which entry is the
 //! first that they do not. `after_book` does the same, and gives the policy for what comes after
-//! the book.
+//! the book; `due_behind` tells which verdict is missing behind a book's entries. `put_header`,
+//! `put_entry` and `put_end` write a text line by line.
 //!
 //! What a book must have is said by `run_model`; the book and the state that the check goes on from
 //! stand in `run_state`, the words of a kind in `coll_text`. The text is proved line by line, from
@@ -17,6 +18,7 @@ mod after;
 mod check;
 mod check_fault;
 mod due;
+mod dues;
 mod fault;
 pub mod laws;
 mod line;
@@ -29,7 +31,10 @@ mod write;
 pub use after::after_book;
 pub use check::check_book;
 pub use check_fault::BookFault;
+pub use dues::due_behind;
 pub use fault::{ReadFault, WriteFault};
+pub use line::Line;
+pub use ranges::entry_is_spelled;
 pub use read::read_book;
 pub use run_state::{Book, Entry, NoMemory, Outcome, Rule};
-pub use write::write_book;
+pub use write::{put_end, put_entry, put_header, write_book};

@@ -17,7 +17,7 @@ use wall_policy::Policy;
 
 /// A finished line behind the header.
 #[derive(Drop)]
-pub(crate) enum Line {
+pub enum Line {
     /// An entry.
     Said(Entry),
     /// The end, with the number of entries that it states.

@@ -53,7 +53,7 @@ fn outcome_fits(outcome: Outcome)
 
 /// An entry that has its form, and names only processes and datasets of the policy, has a text of
 /// its own.
-pub(crate) fn entry_is_spelled(policy: &Policy, entry: &Entry)
+pub fn entry_is_spelled(policy: &Policy, entry: &Entry)
     requires known { IsKnownEntry policy.now entry.now }
     requires form { HasForm entry.now }
     ensures { IsSpelled policy.now entry.now }

@@ -152,7 +152,8 @@ fn put_verdict(
     put_outcome(policy, outcome, text)
 }
 
-fn put_entry(policy: &Policy, entry: &Entry, text: &mut Vec<u8>) -> Result<(), NoMemory>
+/// Appends the line of an entry, whose processes and datasets are the policy's.
+pub fn put_entry(policy: &Policy, entry: &Entry, text: &mut Vec<u8>) -> Result<(), NoMemory>
     requires { IsKnownEntry policy.now entry.now }
     ensures { OnOk result
         (text.new.items ≡ text.old.items ++ line_of (entry_words policy.now entry.now)) }
@@ -180,7 +181,8 @@ pub(crate) fn header_text(policy: &Policy) -> &'static str
     }
 }
 
-fn put_header(policy: &Policy, text: &mut Vec<u8>) -> Result<(), AllocError>
+/// Appends the first line of a book under the policy.
+pub fn put_header(policy: &Policy, text: &mut Vec<u8>) -> Result<(), AllocError>
     ensures { OnOk result
         (text.new.items ≡ text.old.items ++ line_of (header_words policy.now.version)) }
 {
@@ -188,7 +190,8 @@ fn put_header(policy: &Policy, text: &mut Vec<u8>) -> Result<(), AllocError>
     put(text, "\n")
 }
 
-fn put_end(entries: usize, text: &mut Vec<u8>) -> Result<(), AllocError>
+/// Appends the last line of a book of so many entries.
+pub fn put_end(entries: usize, text: &mut Vec<u8>) -> Result<(), AllocError>
     ensures { OnOk result (text.new.items ≡ text.old.items ++ line_of (end_words entries)) }
 {
     put(text, "end ")?;
