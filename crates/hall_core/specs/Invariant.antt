@@ -1,5 +1,5 @@
 -- What is so of every hall.
-use Rattle.std.specs.Prelude.{◌≡◌, length}
+use Rattle.std.specs.Prelude.{◌≡◌, [], length}
 use Rattle.wall_policy.specs.Policy.{ChineseWall, IsPolicy}
 use Rattle.run_model.specs.Comms.{processes}
 use Rattle.run_model.specs.Runs.{Effects}
@@ -23,14 +23,14 @@ pub record IsHallView (hall : HallView) : Type 0 where
   pub stands : StandsForEffects hall effects
   pub is_made : IsMade hall.policy effects
 
--- the value of these records
+-- the value of these records, with all entries of their book
 abbrev pub value_in : Records → HallValue
 value_in records = record {
   policy = records.policy;
   post_state = records.post_state;
   asked = records.requests.items;
   settled = records.settled;
-  book = records.book;
+  book = record { list = records.book.list; room = records.book.room };
 }
 
 abbrev pub view_in : Records → HallView
@@ -48,3 +48,8 @@ pub record IsHallValue (hall : HallValue) : Type 0 where
   pub each : length hall.asked ≡ processes hall.policy
   pub counted : KeepsCount (requests_of hall.asked) (length hall.asked) hall.settled
   pub stands : IsHallView (view_of hall)
+
+-- they are those of a hall that keeps its whole book
+pub record IsWhole (records : Records) : Type 0 where
+  pub hall : IsHallValue (value_in records)
+  pub none : records.book.gone ≡ []

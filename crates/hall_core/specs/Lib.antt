@@ -1,7 +1,9 @@
 pub mod Asking
+pub mod Briefs
 pub mod Claims
 pub mod Halls
 pub mod Invariant
+pub mod Ledgers
 pub mod Moves
 pub mod Settling
 pub mod Sharing

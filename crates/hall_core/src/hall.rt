@@ -30,7 +30,7 @@ impl Model for Hall {
     ghost use Rattle.std.specs.Coded.{codes};
     ghost use Rattle.wall_rules.specs.Histories.{accesses_code};
     ghost use Rattle.hall_core.specs.Halls.{HallValue};
-    ghost use Rattle.hall_core.specs.Invariant.{IsHallValue, value_in};
+    ghost use Rattle.hall_core.specs.Invariant.{IsWhole, value_in};
 
     ghost Value = { HallValue };
 
@@ -38,7 +38,7 @@ impl Model for Hall {
 
     ghost view = { λ h. value_in h.records };
 
-    ghost invariant = { λ h. IsHallValue (value_in h.records) };
+    ghost invariant = { λ h. IsWhole h.records };
 }
 
 impl Hall {
@@ -203,7 +203,7 @@ impl Hall {
         ensures sound { IsSound self.now.policy result.now.list }
         ensures named { All (IsKnownEntry self.now.policy) result.now.list }
     {
-        &self.records.book
+        self.records.book.kept()
     }
 }
 

@@ -10,14 +10,18 @@
 //! came of the instances that were filled.
 #![tactic(auto)]
 
+mod brief;
 mod claims;
+mod gone;
 mod hall;
 mod instance;
 #[cfg(test)]
 mod kept_tests;
+mod ledger;
 mod posts;
 mod records;
 mod requests;
+mod room;
 mod runs;
 mod settled;
 mod takes;
@@ -27,6 +31,7 @@ mod worlds;
 #[cfg(test)]
 mod worlds_tests;
 
+pub use brief::BriefHall;
 pub use claims::{Claim, LeanClaim, finish};
 pub use hall::Hall;
 pub use run_model::{

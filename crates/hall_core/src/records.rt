@@ -1,7 +1,7 @@
 //! All that a hall keeps.
 ghost use Rattle.std.specs.Prelude.{◌≡◌, ◌<◌, ◌+◌, ◌^◌, ◌++◌, ◌==◌, ◌&&◌, if◌then◌else◌, [], ◌∷◌};
 ghost use Rattle.std.specs.Prelude.{ℕ, length, not, IfOk, OnOk, IfNone, IsTrue, IsFalse, Some};
-ghost use Rattle.std.specs.Prelude.{None, IfSome};
+ghost use Rattle.std.specs.Prelude.{None, IfSome, OnErr};
 ghost use Rattle.std.specs.Option.{is_some, option_map};
 ghost use Rattle.wall_policy.specs.Policy.{IsPolicy};
 ghost use Rattle.wall_rules.specs.Histories.{has};
@@ -29,6 +29,7 @@ ghost use Rattle.hall_core.specs.Moves.{Steps, TakesUnread, HoldsNoBlock};
 
 use crate::claims::{Claim, LeanClaim, finish};
 use crate::instance::Instance;
+use crate::ledger::Ledger;
 use crate::requests::{Request, Requests};
 use crate::settled::{Settlement, Settlements};
 use crate::takes::{claimed, rank_served};
@@ -36,7 +37,7 @@ use crate::{posts, requests};
 use coll_routes::{Shape, Stated};
 use mpi_elems::Buffer;
 use run_model::{Act, Entry, Posting, Refusal, Reply};
-use run_state::{Book, Entered, PostState};
+use run_state::{Entered, PostState};
 use std::alloc::Global;
 use wall_labels::{NoMemory, ProcessId};
 use wall_policy::Policy;
@@ -49,7 +50,7 @@ pub struct Records {
     pub post_state: PostState<Buffer>,
     pub requests: Vec<Requests>,
     pub settled: Settlements,
-    pub book: Book,
+    pub book: Ledger,
 }
 
 // By hand: a derived one is proved anew in each crate that drops one.
@@ -79,6 +80,7 @@ impl Records {
         ensures each { IfOk result (λ records. length records.requests.items ≡ processes policy) }
         ensures counted { IfOk result AreCounted }
         ensures stands { IfOk result (λ records. StandsForEffects (view_in records) (effects [])) }
+        ensures gone { IfOk result (λ records. records.book.gone ≡ []) }
     {
         // Not by `?`, which would be proved at the whole types of the state and the records.
         let Ok(requests) = first_requests(alloc, &policy) else {
@@ -93,7 +95,7 @@ impl Records {
             post_state,
             requests,
             settled: Settlements::new(alloc),
-            book: Book::new(alloc),
+            book: Ledger::new(alloc),
         })
     }
 
@@ -108,6 +110,7 @@ impl Records {
         ensures counted { AreCounted self.new }
         ensures steps { Steps (view_in self.old) (view_in self.new) process act result }
         ensures unchanged { MakesNothing result → view_in self.new ≡ view_in self.old }
+        ensures gone { self.new.book.gone ≡ self.old.book.gone }
     {
         match act {
             Act::Post(posting) => self.post(process, posting),
@@ -146,6 +149,7 @@ impl Records {
         ensures steps { Steps (view_in self.old) (view_in self.new) process (ToTake request)
             result }
         ensures unchanged { MakesNothing result → view_in self.new ≡ view_in self.old }
+        ensures gone { self.new.book.gone ≡ self.old.book.gone }
     {
         finish(self.claim(process, request))
     }
@@ -165,6 +169,7 @@ impl Records {
             view_in self.new ≡ view_in self.old }
         ensures can { CanFinish result }
         ensures holds { HoldsWhatIsKept (view_in self.old) process request result }
+        ensures gone { self.new.book.gone ≡ self.old.book.gone }
     {
         // As in `claim_lean`, and not by it: a rank that waits comes here at each of its tries.
         let number = request as usize;
@@ -195,6 +200,7 @@ impl Records {
             view_in self.new ≡ view_in self.old }
         ensures can { CanTell result }
         ensures holds { LeanHoldsWhatIsKept (view_in self.old) process request result }
+        ensures gone { self.new.book.gone ≡ self.old.book.gone }
     {
         let number = request as usize;
         let Some(asked) = requests::opened_by(&self.requests, process, number) else {
@@ -219,6 +225,7 @@ impl Records {
             TakesUnread (view_in self.old) (view_in self.new) process request rank) }
         ensures none { IfNone result (HoldsNoBlock (view_in self.old) process request) }
         ensures unchanged { IfNone result (self.new ≡ self.old) }
+        ensures gone { self.new.book.gone ≡ self.old.book.gone }
     {
         let number = request as usize;
         let Some(asked) = requests::opened_by(&self.requests, process, number) else {
@@ -247,6 +254,7 @@ impl Records {
         ensures counted { AreCounted self.new }
         ensures same { view_in self.new ≡ view_in self.old }
         ensures settled { result ≡ is_some (settlement_at self.old.settled comm k) }
+        ensures gone { self.new.book.gone ≡ self.old.book.gone }
     {
         self.settled.freeze(comm, k)
     }
@@ -269,6 +277,7 @@ impl Records {
         ensures can { CanTell result }
         ensures holds { LeanHoldsWhatIsKept (view_in self.old) process request result }
         ensures usual { IsFalse lean → IsUsual result }
+        ensures gone { self.new.book.gone ≡ self.old.book.gone }
     {
         let Some(settlement) = self.settled.get(asked.comm, asked.k) else {
             return LeanClaim::Claimed(Claim::Done(Reply::Pending));
@@ -292,6 +301,7 @@ impl Records {
         ensures each { length self.new.requests.items ≡ length self.old.requests.items }
         ensures counted { AreCounted self.new }
         ensures closes { Closes (view_in self.old) (view_in self.new) process number }
+        ensures gone { self.new.book.gone ≡ self.old.book.gone }
     {
         requests::take(&mut self.requests, process, number);
         self.settled.leave(asked.comm, asked.k);
@@ -309,6 +319,7 @@ impl Records {
         ensures steps { Steps (view_in self.old) (view_in self.new) process (ToPost posting)
             result }
         ensures unchanged { MakesNothing result → view_in self.new ≡ view_in self.old }
+        ensures gone { self.new.book.gone ≡ self.old.book.gone }
     {
         match self.refusal(process, &posting) {
             Some(refusal) => {
@@ -364,6 +375,7 @@ impl Records {
         ensures steps { Steps (view_in self.old) (view_in self.new) process (ToPost posting)
             result }
         ensures unchanged { MakesNothing result → view_in self.new ≡ view_in self.old }
+        ensures gone { self.new.book.gone ≡ self.old.book.gone }
     {
         let member = posts::member(process);
         let label = posts::label(&posting);
@@ -409,6 +421,7 @@ impl Records {
         ensures entered { IsTrue result →
             Counts (view_in self.old) (view_in self.new) (contribution member comm stated part) }
         ensures unchanged { IsFalse result → view_in self.new ≡ view_in self.old }
+        ensures gone { self.new.book.gone ≡ self.old.book.gone }
     {
         // What is owned is let go by a call on each way out: the proof would take it apart.
         let Ok(copy) = stated.copy(self.alloc) else {
@@ -445,7 +458,8 @@ impl Records {
         }
     }
 
-    // Makes the room that a post of a process to instance k of a communicator takes.
+    // Makes the room that a post of a process to instance k of a communicator takes. Out of memory
+    // only where there was not all of it.
     #[tactic(auto, using(crate::proofs::CountLemmas::counted_ready, crate::proofs::CountLemmas::settled_same))]
     fn make_room(&mut self, process: u32, comm: u32, k: u64) -> Result<(), NoMemory>
         requires process { process < length self.old.requests.items }
@@ -459,6 +473,8 @@ impl Records {
         ensures counted { AreCounted self.new }
         ensures same { view_in self.new ≡ view_in self.old }
         ensures room { OnOk result (HasRoom self.new process comm k) }
+        ensures memory { HasRoom self.old process comm k → OnErr result ⊥ }
+        ensures gone { self.new.book.gone ≡ self.old.book.gone }
     {
         requests::reserve(&mut self.requests, process)?;
         self.book.reserve(2)?;
@@ -476,6 +492,7 @@ impl Records {
         ensures counted { AreCounted self.new }
         ensures recorded { IsRecorded (view_in self.old) (view_in self.new) member comm stated
             entered }
+        ensures gone { self.new.book.gone ≡ self.old.book.gone }
     {
         match entered {
             Entered::Waiting { k } => self.note(member, comm, k, stated),
@@ -507,6 +524,7 @@ impl Records {
         ensures book { self.new.book.list
             ≡ self.old.book.list ++ EntryPosted member comm stated ∷ [] }
         ensures room { self.new.book.room + 1 ≡ self.old.book.room }
+        ensures gone { self.new.book.gone ≡ self.old.book.gone }
     {
         requests::push(&mut self.requests, member.number(), Request { comm, k });
         self.settled.join(comm, k);
@@ -533,6 +551,7 @@ impl Records {
         ensures book { self.new.book.list
             ≡ self.old.book.list ++ EntrySettled comm k settlement.outcome ∷ [] }
         ensures room { self.new.book.room + 1 ≡ self.old.book.room }
+        ensures gone { self.new.book.gone ≡ self.old.book.gone }
     {
         self.book.push(Entry::Settled {
             comm,

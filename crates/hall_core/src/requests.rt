@@ -1,13 +1,14 @@
 //! Requests.
 ghost use Rattle.std.specs.Prelude.{◌≡◌, ◌<◌, ◌≤◌, ◌+◌, [], ◌∷◌, ◌++◌, length, replicate, drop};
 ghost use Rattle.std.specs.Prelude.{slice_set, ◌^◌, IfOk, IfNone, OnOk, IsSome, IsTrue, IsFalse};
-ghost use Rattle.std.specs.Prelude.{Some, None, if◌then◌else◌};
+ghost use Rattle.std.specs.Prelude.{Some, None, OnErr, if◌then◌else◌};
 ghost use Rattle.std.specs.VecDeque.{deque_len};
 ghost use Rattle.run_model.specs.declared.refusal.Refusal.TheVariants.{TooManyRequests};
 ghost use Rattle.run_model.specs.Replies.{is_limit_reached as is_over_test};
 ghost use Rattle.hall_core.specs.Asking.{opened, open_number, requests_of, room_of, with_request};
 ghost use Rattle.hall_core.specs.Asking.{with_closed};
 
+use crate::room::give_back;
 use run_model::Refusal;
 use std::alloc::{AllocError, Global};
 use std::collections::VecDeque;
@@ -86,10 +87,11 @@ impl Requests {
         }
     }
 
-    /// Makes room for one more.
+    /// Makes room for one more. Out of memory only where there was none.
     pub fn reserve(&mut self) -> Result<(), AllocError>
         ensures list { self.new.list ≡ self.old.list }
         ensures room { OnOk result (0 < self.new.room) }
+        ensures memory { OnErr result (self.old.room ≡ 0) }
     {
         self.window.reserve(1)
     }
@@ -138,7 +140,7 @@ impl Requests {
     }
 }
 
-// Drops those in front that were taken, and says how many.
+// Drops those in front that were taken, and says how many. Gives room back where much is left.
 #[tactic(auto, using(crate::proofs::FrontLemmas::taken_off))]
 fn drop_taken(window: &mut VecDeque<Option<Request>>) -> usize
     ensures front { window.old.items ≡ replicate result None ++ window.new.items }
@@ -150,6 +152,7 @@ fn drop_taken(window: &mut VecDeque<Option<Request>>) -> usize
         let _ = window.pop_front();
         dropped += 1;
     }
+    give_back(window);
     dropped
 }
 
@@ -224,12 +227,13 @@ pub fn opened_by(requests: &[Requests], process: u32, number: usize) -> Option<R
     }
 }
 
-/// Makes room for one request more.
+/// Makes room for one request more. Out of memory only where there was none.
 pub fn reserve(requests: &mut Vec<Requests>, process: u32) -> Result<(), AllocError>
     requires { process < length requests.old.items }
     ensures requests { requests_of requests.new.items ≡ requests_of requests.old.items }
     ensures number { length requests.new.items ≡ length requests.old.items }
     ensures room { OnOk result (0 < room_of requests.new.items process) }
+    ensures memory { OnErr result (room_of requests.old.items process ≡ 0) }
 {
     let asked = &mut requests[process as usize];
     asked.reserve()

@@ -1,6 +1,6 @@
 //! The places of instances, each with what came of it.
 ghost use Rattle.std.specs.Prelude.{◌≡◌, ◌<◌, ◌≤◌, ◌==◌, ◌+◌, ◌^◌, ◌∷◌, ◌++◌, ℕ, None, Some};
-ghost use Rattle.std.specs.Prelude.{length, replicate, drop, min, max, OnOk, IsTrue};
+ghost use Rattle.std.specs.Prelude.{length, replicate, drop, min, max, OnOk, OnErr, IsTrue};
 ghost use Rattle.std.specs.Prelude.{if◌then◌else◌};
 ghost use Rattle.std.specs.Option.{is_some, option_copied};
 ghost use Rattle.std.specs.VecDeque.{deque_len};
@@ -10,6 +10,7 @@ ghost use Rattle.hall_core.specs.Settling.{open_at, settlement_at, HasPlace, one
 ghost use Rattle.hall_core.specs.Settling.{settled_as, with_place, AreSame, IsPlaced};
 
 use crate::instance::Instance;
+use crate::room::give_back;
 use run_model::Outcome;
 use std::alloc::Global;
 use std::collections::VecDeque;
@@ -122,7 +123,8 @@ fn share_in(alloc: Global, place: &mut Place)
     }
 }
 
-// Drops the places in front where nothing stands, and says how many.
+// Drops the places in front where nothing stands, and says how many. Gives room back where much is
+// left.
 #[tactic(auto, using(crate::proofs::FrontLemmas::taken_off))]
 fn drop_nothing(places: &mut VecDeque<Place>) -> usize
     ensures front { places.old.items ≡ replicate result nothing ++ places.new.items }
@@ -134,6 +136,7 @@ fn drop_nothing(places: &mut VecDeque<Place>) -> usize
         let _ = places.pop_front();
         dropped += 1;
     }
+    give_back(places);
     dropped
 }
 
@@ -219,12 +222,13 @@ impl Row {
     }
 
     // Makes a place for the instance of that number. Of those that were dropped it takes back only
-    // those from that number on.
+    // those from that number on. Takes no memory where there is a place.
     fn ready(&mut self, k: usize) -> Result<(), NoMemory>
         requires { k < 2 ^ 62 }
         ensures same { (j : ℕ) → place_in self.new.list j ≡ place_in self.old.list j }
         ensures first { OnOk result (self.new.first ≡ min self.old.first k) }
         ensures within { OnOk result (k < length self.new.list) }
+        ensures memory { self.old.first ≤ k → k < length self.old.list → OnErr result ⊥ }
     {
         self.reach_back(k)?;
         self.reach_on(k)
@@ -235,6 +239,7 @@ impl Row {
     fn reach_back(&mut self, k: usize) -> Result<(), NoMemory>
         ensures same { self.new.list ≡ self.old.list }
         ensures first { OnOk result (self.new.first ≡ min self.old.first k) }
+        ensures memory { self.old.first ≤ k → OnErr result ⊥ }
     {
         while k < self.first {
             self.places.push_front(Place::nothing())?;
@@ -251,6 +256,7 @@ impl Row {
         ensures same { (j : ℕ) → place_in self.new.list j ≡ place_in self.old.list j }
         ensures first { self.new.first ≡ self.old.first }
         ensures within { OnOk result (k < length self.new.list) }
+        ensures memory { k < length self.old.list → OnErr result ⊥ }
     {
         while self.places.len() <= k - self.first {
             self.places.push_back(Place::nothing())?;
@@ -360,12 +366,13 @@ impl Settlements {
         waiting_at(&self.rows, comm as usize, k as usize)
     }
 
-    /// Makes a place for instance k of a communicator.
+    /// Makes a place for instance k of a communicator. Takes no memory where there is one.
     pub fn ready(&mut self, comm: u32, k: u64) -> Result<(), NoMemory>
         requires { k < 2 ^ 62 }
         ensures same { AreSame self.old self.new }
         ensures rows { OnOk result (length self.new ≡ max (length self.old) (comm + 1)) }
         ensures room { OnOk result (HasPlace self.new comm k) }
+        ensures memory { HasPlace self.old comm k → OnErr result ⊥ }
     {
         add_rows(self.alloc, &mut self.rows, comm as usize)?;
         ready_at(&mut self.rows, comm as usize, k as usize)
@@ -456,6 +463,8 @@ fn add_rows(alloc: Global, rows: &mut Vec<Row>, comm: usize) -> Result<(), NoMem
     ensures same { AreSame rows.old.items rows.new.items }
     ensures number { OnOk result
         (length rows.new.items ≡ max (length rows.old.items) (comm + 1)) }
+    ensures there { comm < length rows.old.items → rows.new.items ≡ rows.old.items }
+    ensures memory { comm < length rows.old.items → OnErr result ⊥ }
 {
     while rows.len() <= comm {
         rows.push(Row::new(alloc))?;
@@ -469,6 +478,7 @@ fn ready_at(rows: &mut Vec<Row>, comm: usize, k: usize) -> Result<(), NoMemory>
     ensures same { AreSame rows.old.items rows.new.items }
     ensures number { length rows.new.items ≡ length rows.old.items }
     ensures room { OnOk result (HasPlace rows.new.items comm k) }
+    ensures memory { HasPlace rows.old.items comm k → OnErr result ⊥ }
 {
     rows[comm].ready(k)
 }

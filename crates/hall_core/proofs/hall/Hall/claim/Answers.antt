@@ -1,3 +1,4 @@
+use Rattle.std.proofs.Common.{◌∙◌}
 use Rattle.hall_core.specs.Halls.{view_of}
 use Rattle.hall_core.specs.Invariant.{value_in}
 use Rattle.hall_core.specs.Claims.{to_take, claim_reply}
@@ -6,11 +7,14 @@ use Rattle.hall_core.proofs.NamedLemmas.{step_named}
 use Rattle.hall_core.proofs.hall.Hall.claim.Goals as goal
 
 pub invariant_of-self : goal.invariant_of-self
-invariant_of-self c =
-    kept_after (value_in c.self.inside.records) (value_in c.claim.new.self)
-    (to_take c.args.process c.args.request) (claim_reply c.claim.result)
-    c.self.invariant c.claim.ensures.policy c.claim.ensures.each c.claim.ensures.counted tt
-    c.claim.ensures.steps
+invariant_of-self c = record {
+  hall =
+      kept_after (value_in c.self.inside.records) (value_in c.claim.new.self)
+      (to_take c.args.process c.args.request) (claim_reply c.claim.result)
+      c.self.invariant.hall c.claim.ensures.policy c.claim.ensures.each c.claim.ensures.counted tt
+      c.claim.ensures.steps;
+  none = c.claim.ensures.gone ∙ c.self.invariant.none;
+}
 
 pub returns-clause-runs : goal.returns-clause-runs
 returns-clause-runs c =
@@ -23,7 +27,7 @@ returns-clause-apart c =
     rw (← c.self.view_is)
     (applied_apart (value_in c.self.inside.records) (value_in c.claim.new.self)
     (to_take c.args.process c.args.request) (claim_reply c.claim.result)
-    c.self.invariant.policy c.claim.ensures.policy c.claim.ensures.steps)
+    c.self.invariant.hall.policy c.claim.ensures.policy c.claim.ensures.steps)
 
 pub returns-clause-claims : goal.returns-clause-claims
 returns-clause-claims c =
@@ -35,4 +39,4 @@ returns-clause-named c =
     rw c.claim.ensures.policy (step_named (view_of (value_in c.self.inside.records))
     (view_of (value_in c.claim.new.self)) c.args.process
     (to_take c.args.process c.args.request).act (claim_reply c.claim.result)
-    c.self.invariant.policy c.self.invariant.stands tt c.claim.ensures.steps)
+    c.self.invariant.hall.policy c.self.invariant.hall.stands tt c.claim.ensures.steps)

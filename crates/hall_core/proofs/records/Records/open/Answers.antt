@@ -2,7 +2,8 @@ use Rattle.hall_core.proofs.OpenLemmas.{stands_first, counts_first}
 use Rattle.hall_core.proofs.records.Records.open.Goals as goal
 
 pub returns-clause-stands : goal.returns-clause-stands
-returns-clause-stands c = stands_first _ c.in-Ok-open.ensures c.in-Ok.ensures.none c.new-2.ensures
+returns-clause-stands c =
+    stands_first _ c.in-Ok-open.ensures c.in-Ok.ensures.none c.new-2.ensures.list
 
 pub returns-clause-counted : goal.returns-clause-counted
 returns-clause-counted c = counts_first _ _ _ c.in-Ok.ensures.none c.new.ensures

@@ -8,6 +8,7 @@ invariant-loop-self l = record {
   same : replicate l.self-inside.first nothing ++ l.self-inside.places.items
       ≡ replicate l.initial.self-inside.first nothing ++ l.initial.self-inside.places.items;
   first : min l.self-inside.first l.k ≡ min l.initial.self-inside.first l.k;
+  back : l.self-inside.first ≤ l.initial.self-inside.first;
   few : l.self-inside.first + length l.self-inside.places.items ≤ 2 ^ 62;
   counted : deque_len l.self-inside.places ≡ length l.self-inside.places.items;
 }

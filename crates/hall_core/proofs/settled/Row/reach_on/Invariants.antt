@@ -10,6 +10,7 @@ invariant-loop-self l = record {
       ≡ place_in
       (replicate l.initial.self-inside.first nothing ++ l.initial.self-inside.places.items) j;
   first : l.self-inside.first ≡ l.initial.self-inside.first;
+  longer : length l.initial.self-inside.places.items ≤ length l.self-inside.places.items;
   few : l.self-inside.first + length l.self-inside.places.items ≤ 2 ^ 62;
   counted : deque_len l.self-inside.places ≡ length l.self-inside.places.items;
 }

@@ -1,0 +1,9 @@
+-- It owns nothing, so it may go to another thread.
+use denote.Param.Send.{IsSend}
+use Rattle.hall_core.specs.contracts.gone.Gone.{the_row}
+
+pub send : IsSend the_row
+send = record {
+  owned = λ d vs. ((λ vss. (tt, ((λ uss. (tt, tt)), tt))), tt);
+  leaving = λ k f vs. tt;
+}
