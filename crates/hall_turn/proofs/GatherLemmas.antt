@@ -11,13 +11,12 @@ use Rattle.atomic_table.specs.Table.{Me}
 use Rattle.atomic_table.specs.Seated.{TableId}
 use Rattle.atomic_table.proofs.Lists.{at_map}
 use Rattle.wall_policy.specs.Policy.{ChineseWall}
+use Rattle.run_model.specs.Runs.{Entry}
 use Rattle.run_model.specs.Comms.{processes}
-use Rattle.hall_core.specs.Halls.{HallValue}
 use Rattle.hall_turn.specs.Views.{Told, SeatView, every, own_of, gathered}
 use Rattle.hall_turn.specs.Steps.{IsIdle, told_of, HasAll, Ends}
-use Rattle.hall_turn.specs.Machines.{Stands}
 use Rattle.hall_turn.specs.Known.{Known}
-use Rattle.hall_turn.specs.Ending.{Closed}
+use Rattle.hall_turn.specs.Ending.{ClosedTo}
 use Rattle.hall_turn.proofs.AgreeLemmas.{at_both, at_unmap}
 
 map_append : (xs ys : List Known) → map told_of (xs ++ ys) ≡ map told_of xs ++ map told_of ys
@@ -156,14 +155,14 @@ module _ {S : Type 0} where
           (j, r.0, ap (λ l. get_elem? l j) g.split ∙ at_front g.mid (g.first ∷ []) j r.0 r.1, r.2)
 
 -- what the one seat knows, in the words of the passes
-pub closed : {S : Type 0} (wall : ChineseWall) (hall : HallValue) (passes : List Known)
-    (m : Me S SeatView) → HasAll passes m → Ends Stands wall m.0 hall →
-    processes wall ≤ length passes → Closed wall hall passes
-closed wall hall passes m h e long = record {
+pub closed : {S M : Type 0} (stands : ChineseWall → M → List Entry → Type 0) (wall : ChineseWall)
+    (machine : M) (passes : List Known) (m : Me S SeatView) → HasAll passes m →
+    Ends stands wall m.0 machine → processes wall ≤ length passes →
+    ClosedTo stands wall machine passes
+closed stands wall machine passes m h e long = record {
   run = e.run;
-  policy = e.stood.0;
   legal = e.legal;
-  stands = e.stood.1;
+  stood = e.stood;
   each = λ i d lt.
       let k = get_or passes i d in
       let j = h.knows i k (at_get passes i d lt) in

@@ -1,4 +1,5 @@
 pub mod RunLemmas
+pub mod SettleLemmas
 pub mod DistinctLemmas
 pub mod AgreeLemmas
 pub mod TicketLemmas

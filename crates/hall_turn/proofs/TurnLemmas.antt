@@ -12,7 +12,7 @@ use Rattle.hall_turn.specs.Runs.{Continues, calls_of}
 use Rattle.hall_turn.specs.Known.{Doorway}
 use Rattle.hall_turn.specs.Answers.{SeesOn, EntersAnd}
 use Rattle.hall_turn.specs.Machines.{Carries, Settles}
-use Rattle.hall_turn.specs.Views.{SeatView, saw, drawn, declared}
+use Rattle.hall_turn.specs.Views.{SeatView, saw, drawn, declared, served}
 use Rattle.hall_turn.specs.Steps.{Looks, HoldsMachine, MayCarryOut, Turned, TellsAfter, IsReady}
 use Rattle.hall_turn.specs.Steps.{IsIdle}
 use Rattle.hall_turn.proofs.RunLemmas.{continues_self, continues_trans, calls_of-own}
@@ -153,13 +153,43 @@ module _ {M : Type 0} (stands : ChineseWall → M → List Entry → Type 0) whe
         stood = more.1;
       })
 
+  -- the machine that carried it out, at the end of the turn
+  pub stood_after : (v : SeatView) (m1 m2 m3 m4 m5 : Me (Option M) SeatView)
+      (in_slot after : Option M) (call : Call) (reply : Reply) (is_booked : M → Bool) (b : Bool)
+      → m1.0.policy ≡ v.policy → HoldsMachine stands m1.0 m2 → m2.1 ≡ (0, in_slot) ∷ rest m2.1
+      → m3 ≡ (m2.0, (0, after) ∷ rest m2.1)
+      → m4 ≡ (declared m3.0 (entry call reply), m3.1)
+      → (e : Entry) × (m4.0.said ≡ Some e) × (m5 ≡ (served m4.0 e, []))
+      → (old : M) × (new : M) × (in_slot ≡ Some old) × (after ≡ Some new)
+      × Carries stands old new call reply
+      → ((new : M) → after ≡ Some new → b ≡ is_booked new)
+      → (machine : M) × stands v.policy machine m5.0.seen × (b ≡ is_booked machine)
+  stood_after v m1 m2 m3 m4 m5 in_slot after call reply is_booked b policy holds slot writes declares
+      serves carries books =
+      let same : holds.machine ≡ carries.0 = cc (was_machine m1.0 m2 in_slot holds slot, carries.2)
+      in
+      let more = carries.4 v.policy holds.run
+      (subst (λ p. Legal p holds.run) policy holds.seen.legal)
+      (subst (λ x. stands v.policy x holds.run) same
+      (subst (λ p. stands p holds.machine holds.run) policy holds.stood)) in
+      let said : m4.0.said ≡ Some (entry call reply) = λ i. (declares i).0.said in
+      let its : serves.0 ≡ entry call reply = cc (said, serves.1) in
+      let seen : m4.0.seen ≡ holds.run =
+      (λ i. (declares i).0.seen) ∙ (λ i. (writes i).0.seen) ∙ (λ i. (holds.is i).0.seen) in
+      let is : m5.0.seen ≡ entry call reply ∷ holds.run =
+      (λ i. (serves.2 i).0.seen) ∙ (λ i. its i ∷ seen i) in (
+        carries.1,
+        subst (stands v.policy carries.1) (sym is) more.1,
+        books carries.1 carries.3,
+      )
+
   -- a look of a seat between two calls
-  pub sees_on : (door d : Doorway) (p : ℕ) (b b' : Bool) (r : ℕ) (st : Step (Option M))
+  pub sees_on : (door d : Doorway) (p : ℕ) (b b' k k' : Bool) (r : ℕ) (st : Step (Option M))
       (m m' : Me (Option M) SeatView) → IsIdle p m → Looks stands st m r m'
       →
-      SeesOn (record { door = door; process = p; seen = m.0.seen; settled = b })
-      (record { door = d; process = p; seen = m'.0.seen; settled = b' })
-  sees_on door d p b b' r st m m' idle l =
+      SeesOn (record { door = door; process = p; seen = m.0.seen; settled = b; booked = k })
+      (record { door = d; process = p; seen = m'.0.seen; settled = b'; booked = k' })
+  sees_on door d p b b' k k' r st m m' idle l =
       record {
         begins = l.0.begins;
         own =
@@ -168,15 +198,16 @@ module _ {M : Type 0} (stands : ChineseWall → M → List Entry → Type 0) whe
       }
 
   -- what a deed that was carried out does
-  pub carried : (door d : Doorway) (p : ℕ) (b b' : Bool) (e : Entry)
+  pub carried : (door d : Doorway) (p : ℕ) (b b' k k' : Bool) (e : Entry)
       (Tells : ChineseWall → List Entry → Type 0) (r : ℕ) (st : Step (Option M))
       (m m1 m2 : Me (Option M) SeatView)
       → door.policy ≡ m.0.policy → e.call.process ≡ p
       → IsIdle p m → Looks stands st m r m1 → Turned m1.0 e m2.0
       → TellsAfter m2.0.seen (Tells m1.0.policy)
-      → EntersAnd (record { door = door; process = p; seen = m.0.seen; settled = b }) e
-      (Tells door.policy) (record { door = d; process = p; seen = m2.0.seen; settled = b' })
-  carried door d p b b' e Tells r st m m1 m2 wall by idle l t tells =
+      → EntersAnd (record { door = door; process = p; seen = m.0.seen; settled = b; booked = k }) e
+      (Tells door.policy)
+      (record { door = d; process = p; seen = m2.0.seen; settled = b'; booked = k' })
+  carried door d p b b' k k' e Tells r st m m1 m2 wall by idle l t tells =
       let saw_it = l.2 (λ (x : m.0.ticket ≡ Some r). cc (idle.ticket, x)) in
       let policy : m1.0.policy ≡ door.policy = (λ i. (saw_it i).0.policy) ∙ sym wall in
       let process : m1.0.process ≡ p = (λ i. (saw_it i).0.process) ∙ idle.process_is in

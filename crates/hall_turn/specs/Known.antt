@@ -9,13 +9,14 @@ pub record Doorway : Type 0 where
   pub name : TableId
   pub policy : ChineseWall
 
--- a pass: its door, the process that it calls as, the run that it has seen, and whether its last
--- call settled an instance
+-- a pass: its door, the process that it calls as, the run that it has seen, whether its last call
+-- settled an instance, and whether the machine was booked at the end of that call's turn
 pub record Known : Type 0 where
   pub door : Doorway
   pub process : ℕ
   pub seen : List Entry
   pub settled : Bool
+  pub booked : Bool
 
 -- a note: its door, and the run that its maker had seen
 pub record Noted : Type 0 where

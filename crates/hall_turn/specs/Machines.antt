@@ -1,5 +1,5 @@
 -- What a door needs of the machine behind it: the runs that it stands for.
-use Rattle.std.specs.Prelude.{◌≡◌, ℕ, ◌+◌, List, ◌∷◌, length}
+use Rattle.std.specs.Prelude.{◌≡◌, ◌↔◌, ℕ, ◌+◌, Bool, true, IsTrue, List, ◌∷◌, length}
 use Rattle.wall_policy.specs.Policy.{ChineseWall}
 use Rattle.run_model.specs.declared.call.Call.{Call}
 use Rattle.run_model.specs.declared.reply.Reply.{Reply}
@@ -32,6 +32,16 @@ Carries stands old new call reply = (wall : ChineseWall) (run : List Entry) → 
     stands wall old run →
     Legal wall (entry call reply ∷ run) × stands wall new (entry call reply ∷ run)
     × IsKnownReply wall reply
+
+-- whether the entry settles its instance, after each legal run that the machine stands for
+abbrev pub TellsWhether : {M : Type 0} → (ChineseWall → M → List Entry → Type 0) → M → Bool →
+    Entry → Type 0
+TellsWhether stands old settled e = (wall : ChineseWall) (run : List Entry) → Legal wall run →
+    stands wall old run → IsTrue settled ↔ Settles wall run e
+
+-- a hall writes nothing down, so it never lacks anything that it had to write
+abbrev pub is_always_booked : HallValue → Bool
+is_always_booked hall = true
 
 -- What else is known of a claim of p for its request, after a run: it holds the run's instance and
 -- p's rank, or is no delivery; and it may be finished, with its room as it was made.

@@ -2,10 +2,11 @@
 ghost use Rattle.std.specs.Prelude.{◌≡◌, ◌<◌, ◌≤◌, ◌↔◌, length, IfOk, IfErr, IsErr};
 ghost use Rattle.std.specs.List.{All};
 ghost use Rattle.run_model.specs.Comms.{processes};
-ghost use Rattle.hall_turn.specs.Ending.{Closed};
+ghost use Rattle.hall_turn.specs.Ending.{ClosedTo};
 
-use crate::door::Door;
-use crate::pass::Passes;
+use crate::door::DoorTo;
+use crate::machine::Machine;
+use crate::pass::PassesTo;
 use hall_core::Hall;
 use thiserror::Error;
 
@@ -19,30 +20,33 @@ pub enum CloseFault {
 
 /// A door that was not closed, with what was handed in, unchanged.
 #[derive(Drop)]
-pub struct Unclosed {
+pub struct UnclosedTo<M: Machine> {
     /// Why it was not closed.
     pub fault: CloseFault,
     /// The door, as it was.
-    pub door: Door,
+    pub door: DoorTo<M>,
     /// The passes, as they were.
-    pub passes: Passes,
+    pub passes: PassesTo<M>,
 }
 
-impl Door {
-    /// The hall, at the end of the run of all calls that were made at the door. It takes no memory.
+/// A door to a hall that was not closed.
+pub type Unclosed = UnclosedTo<Hall>;
+
+impl<M: Machine> DoorTo<M> {
+    /// The machine, at the end of the run of all calls that were made at the door. It takes no memory.
     ///
     /// `MissingPass` is answered exactly if there are fewer passes than processes; then door and
     /// passes come back as they were. The caller sees to it that the passes are of this door. It
     /// waits for nobody.
-    pub fn close(self, passes: Passes) -> Result<Hall, Unclosed>
+    pub fn close(self, passes: PassesTo<M>) -> Result<M, UnclosedTo<M>>
         requires { All (λ pass. pass.door ≡ self) passes.items }
-        ensures hall { IfOk result (λ hall. Closed self.policy hall passes.items) }
+        ensures machine { IfOk result (λ machine. ClosedTo M.stands self.policy machine passes.items) }
         ensures missing { IsErr result ↔ (length passes.items < processes self.policy) }
         ensures back { IfErr result
             (λ unclosed. (unclosed.door ≡ self) × (unclosed.passes.items ≡ passes.items)) }
     {
         if passes.len() < self.count as usize {
-            return Err(Unclosed {
+            return Err(UnclosedTo {
                 fault: CloseFault::MissingPass,
                 door: self,
                 passes,
@@ -51,11 +55,11 @@ impl Door {
         Ok(self.end_all(passes))
     }
 
-    // The hall, where no pass is missing.
-    fn end_all(self, passes: Passes) -> Hall
+    // The machine, where no pass is missing.
+    fn end_all(self, passes: PassesTo<M>) -> M
         requires of { All (λ pass. pass.door ≡ self) passes.items }
         requires enough { processes self.policy ≤ length passes.items }
-        ensures { Closed self.policy result passes.items }
+        ensures { ClosedTo M.stands self.policy result passes.items }
     {
         let turns = self.into_turns();
         let seat = turns.gather(passes);

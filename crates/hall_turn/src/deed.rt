@@ -3,13 +3,13 @@ ghost use Rattle.std.specs.Prelude.{List};
 ghost use Rattle.wall_policy.specs.Policy.{ChineseWall};
 ghost use Rattle.run_model.specs.declared.call.Call.{Call};
 ghost use Rattle.run_model.specs.declared.reply.Reply.{Reply};
-ghost use Rattle.run_model.specs.Runs.{Entry};
+ghost use Rattle.run_model.specs.Runs.{Entry, entry};
 ghost use Rattle.run_model.specs.Replies.{Legal};
 ghost use Rattle.hall_core.specs.Claims.{to_take, claim_reply};
 ghost use Rattle.run_model.specs.Known.{HasKnownLabel};
-ghost use Rattle.hall_turn.specs.Machines.{Carries, ClaimsAfter};
+ghost use Rattle.hall_turn.specs.Machines.{Carries, ClaimsAfter, TellsWhether};
 
-use crate::machine::Machine;
+use crate::machine::{Applied, Machine};
 use hall_core::{Call, Claim, Reply};
 
 /// It is one call. What it tells comes to a reply, which may be one that is not made yet.
@@ -28,12 +28,15 @@ pub(crate) trait Deed {
     /// What else is known of what it tells, after this run.
     ghost tells: { ChineseWall → List Entry → Self → Self.Told → Type 0 };
 
-    fn carry_out<M: Machine>(self, machine: &mut M) -> Self::Told
+    /// It also notes whether it settled an instance.
+    fn carry_out<M: Machine>(self, machine: &mut M, settled: &mut bool) -> Self::Told
         requires { (wall : ChineseWall) × (run : List Entry)
             × Legal wall run × M.stands wall machine.old run × may wall self }
         ensures carries { Carries M.stands machine.old machine.new (call self) (reply result) }
         ensures tells { (wall : ChineseWall) (run : List Entry) → Legal wall run
-            → M.stands wall machine.old run → tells wall run self result };
+            → M.stands wall machine.old run → tells wall run self result }
+        ensures settled { TellsWhether M.stands machine.old settled.new
+            (entry (call self) (reply result)) };
 }
 
 impl Deed for Call {
@@ -47,8 +50,13 @@ impl Deed for Call {
 
     ghost tells = { λ _ _ _ _. Unit };
 
-    fn carry_out<M: Machine>(self, machine: &mut M) -> Reply {
-        machine.apply(self)
+    fn carry_out<M: Machine>(self, machine: &mut M, settled: &mut bool) -> Reply {
+        let Applied {
+            reply,
+            settled: whether,
+        } = machine.apply(self);
+        *settled = whether;
+        reply
     }
 }
 
@@ -70,8 +78,10 @@ impl Deed for Claiming {
 
     ghost tells = { λ wall run it claim. ClaimsAfter wall run it.process it.request claim };
 
-    fn carry_out<M: Machine>(self, machine: &mut M) -> Claim {
+    // A take never settles an instance.
+    fn carry_out<M: Machine>(self, machine: &mut M, settled: &mut bool) -> Claim {
         let Claiming { process, request } = self;
+        *settled = false;
         machine.claim(process, request)
     }
 }

@@ -9,12 +9,14 @@ ghost use Rattle.run_model.specs.Runs.{entry};
 ghost use Rattle.run_model.specs.Known.{IsKnownLabel, HasKnownLabel, IsKnownReply};
 ghost use Rattle.hall_turn.specs.Answers.{Answered, ClaimAnswered, ClaimNamesKnown, EntersAnd};
 ghost use Rattle.hall_turn.specs.Answers.{MayFinish, IsSamePass, IsTooLate, NamesKnown, new_passes};
-ghost use Rattle.hall_turn.specs.Answers.{SaysOf, SaysOfClaim, SaysWhether};
+ghost use Rattle.hall_turn.specs.Answers.{ClaimStoodAt, SaysBooked, SaysOf, SaysOfClaim, SaysWhether};
+ghost use Rattle.hall_turn.specs.Answers.{StoodAt};
 ghost use Rattle.hall_turn.specs.Views.{newcomer};
 
 use crate::answer::{Answer, Claimed};
 use crate::deed::{Claiming, Deed};
-use crate::pass::{Pass, Passes};
+use crate::machine::Machine;
+use crate::pass::{PassTo, Passes, PassesTo};
 use crate::rule::View;
 use crate::turns::Turns;
 use atomic_table::{Seat, Table};
@@ -28,33 +30,36 @@ use wall_policy::Policy;
 /// After so many turns a door is exhausted.
 const LAST: u64 = 1 << 62;
 
-/// One hall, at which processes take turns. Contracts see which door it is, and its policy.
-pub struct Door {
-    pub(crate) turns: Turns<Hall>,
+/// One machine, at which processes take turns. Contracts see which door it is, and its policy.
+pub struct DoorTo<M: Machine> {
+    pub(crate) turns: Turns<M>,
     // How many processes there are.
     pub(crate) count: u32,
 }
 
+/// A door to a hall.
+pub type Door = DoorTo<Hall>;
+
 // By hand: a derived one is proved anew in each crate that lets a door go.
-impl Drop for Door {
+impl<M: Machine + Drop> Drop for DoorTo<M> {
     fn drop(self) {
-        let Door { turns, count: _ } = self;
+        let DoorTo { turns, count: _ } = self;
         drop(turns);
     }
 }
 
-impl Door {
+impl<M: Machine> DoorTo<M> {
     // What is behind it.
-    pub(crate) fn into_turns(self) -> Turns<Hall>
+    pub(crate) fn into_turns(self) -> Turns<M>
         ensures name { result.table.shared.table_id ≡ self.name }
         ensures policy { result.table.shared.key.value ≡ self.policy }
     {
-        let Door { turns, count: _ } = self;
+        let DoorTo { turns, count: _ } = self;
         turns
     }
 }
 
-impl Model for Door {
+impl<M: Machine> Model for DoorTo<M> {
     ghost use Rattle.std.specs.Prelude.{◌≡◌, ◌<◌};
     ghost use Rattle.run_model.specs.Comms.{processes};
     ghost use Rattle.hall_turn.specs.Known.{Doorway};
@@ -67,7 +72,7 @@ impl Model for Door {
     ghost invariant = { λ d. (d.count ≡ processes d.turns.table.shared.key.value) × (0 < d.count) };
 }
 
-impl Door {
+impl DoorTo<Hall> {
     /// A door to a new hall, and a pass for each process, in order, which has seen nothing.
     /// `NoMemory` is answered only where a growth was refused.
     pub fn open(alloc: Global, policy: Policy) -> Result<(Door, Passes), NoMemory>
@@ -78,14 +83,52 @@ impl Door {
     {
         let key = Snapshot::of(&policy);
         let count = policy.processes();
-        let passes = Vec::with_capacity(alloc, count as usize)?;
         let hall = Hall::open(alloc, policy)?;
+        DoorTo::set_up(alloc, &key, count, hall)
+    }
+}
+
+impl<M: Machine + Drop> DoorTo<M> {
+    /// A door to this machine, which stands for the empty run under the policy, and a pass for each
+    /// process, in order, which has seen nothing. `NoMemory` is answered only where a growth was
+    /// refused; then the machine is let go.
+    pub fn over(
+        alloc: Global,
+        policy: &Policy,
+        machine: M,
+    ) -> Result<(DoorTo<M>, PassesTo<M>), NoMemory>
+        requires stands { M.stands policy.now machine [] }
+        ensures policy { IfOk result (λ opened. opened.0.policy ≡ policy.now) }
+        ensures passes { IfOk result
+            (λ opened. opened.1.items ≡ new_passes opened.0 (processes policy.now)) }
+        ensures of { IfOk result (λ opened. All (λ pass. pass.door ≡ opened.0) opened.1.items) }
+    {
+        let key = Snapshot::of(policy);
+        DoorTo::set_up(alloc, &key, policy.processes(), machine)
+    }
+
+    // The same, for whoever has a policy's value and number of processes in hand.
+    fn set_up(
+        alloc: Global,
+        key: &Snapshot<Policy>,
+        count: u32,
+        machine: M,
+    ) -> Result<(DoorTo<M>, PassesTo<M>), NoMemory>
+        requires stands { M.stands key.now.value machine [] }
+        requires count { count ≡ processes key.now.value }
+        requires some { 0 < count }
+        ensures policy { IfOk result (λ opened. opened.0.policy ≡ key.now.value) }
+        ensures passes { IfOk result
+            (λ opened. opened.1.items ≡ new_passes opened.0 (processes key.now.value)) }
+        ensures of { IfOk result (λ opened. All (λ pass. pass.door ≡ opened.0) opened.1.items) }
+    {
+        let passes = Vec::with_capacity(alloc, count as usize)?;
         let mut slots = Vec::new(alloc);
-        slots.push(Some(hall))?;
-        let Ok((table, maker)) = Table::new(alloc, &[0, 0], slots, &key) else {
+        slots.push(Some(machine))?;
+        let Ok((table, maker)) = Table::new(alloc, &[0, 0], slots, key) else {
             return Err(NoMemory);
         };
-        let door = Door {
+        let door = DoorTo {
             turns: Turns { table },
             count,
         };
@@ -94,7 +137,7 @@ impl Door {
     }
 
     // The passes of all processes, of which there is at least one. There is room for them.
-    fn deal(&self, mut maker: Seat<Option<Hall>, View>, mut passes: Passes) -> Passes
+    fn deal(&self, mut maker: Seat<Option<M>, View>, mut passes: PassesTo<M>) -> PassesTo<M>
         requires at { maker.table_id ≡ self.now.name }
         requires maker { maker.me ≡ (newcomer self.now.policy, []) }
         requires none { passes.items ≡ [] }
@@ -105,27 +148,31 @@ impl Door {
         let last = self.count - 1;
         for process in 0..last {
             let seat = self.turns.make_pass(&mut maker);
-            passes.push_reserved(Pass {
+            passes.push_reserved(PassTo {
                 seat,
                 process,
                 settled: false,
+                booked: true,
             });
         }
-        passes.push_reserved(Pass {
+        passes.push_reserved(PassTo {
             seat: maker,
             process: last,
             settled: false,
+            booked: true,
         });
         passes
     }
+}
 
+impl<M: Machine> DoorTo<M> {
     /// Posts the pass's part in its next collective on a communicator, at its turn. The caller sees
     /// to it that the posting's label is public or a dataset of the policy; all else the hall
     /// judges, and its reply is the one that is due after the calls of all turns before.
     ///
     /// `Exhausted` is answered after 2^62 turns alone; then nothing is posted, and the pass has
     /// looked, as by `front`.
-    pub fn post<R: Wait>(&self, rt: &R, pass: &mut Pass, posting: Posting) -> Answer
+    pub fn post<R: Wait>(&self, rt: &R, pass: &mut PassTo<M>, posting: Posting) -> Answer
         requires door { pass.old.door ≡ self.now }
         requires label { IsKnownLabel self.now.policy posting.label }
         ensures same { IsSamePass pass.old pass.new }
@@ -133,6 +180,7 @@ impl Door {
         ensures answered { Answered pass.old (ToPost posting) result pass.new }
         ensures named { NamesKnown self.now.policy result }
         ensures settled { SaysOf pass.old result pass.new }
+        ensures stood { StoodAt M.stands M.is_booked pass.old result pass.new }
     {
         self.call(rt, pass, Act::Post(posting))
     }
@@ -142,13 +190,14 @@ impl Door {
     ///
     /// `Exhausted` is answered after 2^62 turns alone; then the request stays, and the pass has
     /// looked, as by `front`.
-    pub fn take<R: Wait>(&self, rt: &R, pass: &mut Pass, request: u64) -> Answer
+    pub fn take<R: Wait>(&self, rt: &R, pass: &mut PassTo<M>, request: u64) -> Answer
         requires door { pass.old.door ≡ self.now }
         ensures same { IsSamePass pass.old pass.new }
         ensures legal { Legal self.now.policy pass.new.seen }
         ensures answered { Answered pass.old (ToTake request) result pass.new }
         ensures named { NamesKnown self.now.policy result }
         ensures settled { SaysOf pass.old result pass.new }
+        ensures stood { StoodAt M.stands M.is_booked pass.old result pass.new }
     {
         match self.claim(rt, pass, request) {
             Claimed::Claim(claim) => Answer::Reply(finish(claim)),
@@ -161,7 +210,7 @@ impl Door {
     ///
     /// `Exhausted` is answered after 2^62 turns alone; then the request stays, and the pass has
     /// looked, as by `front`.
-    pub fn claim<R: Wait>(&self, rt: &R, pass: &mut Pass, request: u64) -> Claimed
+    pub fn claim<R: Wait>(&self, rt: &R, pass: &mut PassTo<M>, request: u64) -> Claimed
         requires door { pass.old.door ≡ self.now }
         ensures same { IsSamePass pass.old pass.new }
         ensures legal { Legal self.now.policy pass.new.seen }
@@ -169,6 +218,7 @@ impl Door {
         ensures may { MayFinish result }
         ensures named { ClaimNamesKnown self.now.policy result }
         ensures settled { SaysOfClaim pass.old result pass.new }
+        ensures stood { ClaimStoodAt M.stands M.is_booked pass.old result pass.new }
     {
         let claiming = Claiming {
             process: pass.process,
@@ -183,19 +233,20 @@ impl Door {
     /// The size of a communicator and the process's rank in it, at the pass's turn.
     ///
     /// `Exhausted` is answered after 2^62 turns alone; then the pass has looked, as by `front`.
-    pub fn info<R: Wait>(&self, rt: &R, pass: &mut Pass, comm: u32) -> Answer
+    pub fn info<R: Wait>(&self, rt: &R, pass: &mut PassTo<M>, comm: u32) -> Answer
         requires door { pass.old.door ≡ self.now }
         ensures same { IsSamePass pass.old pass.new }
         ensures legal { Legal self.now.policy pass.new.seen }
         ensures answered { Answered pass.old (ToInfo comm) result pass.new }
         ensures named { NamesKnown self.now.policy result }
         ensures settled { SaysOf pass.old result pass.new }
+        ensures stood { StoodAt M.stands M.is_booked pass.old result pass.new }
     {
         self.call(rt, pass, Act::Info(comm))
     }
 
     // One call, at the pass's turn.
-    fn call<R: Wait>(&self, rt: &R, pass: &mut Pass, act: Act) -> Answer
+    fn call<R: Wait>(&self, rt: &R, pass: &mut PassTo<M>, act: Act) -> Answer
         requires door { pass.old.door ≡ self.now }
         requires label { HasKnownLabel self.now.policy act }
         ensures same { IsSamePass pass.old pass.new }
@@ -203,6 +254,7 @@ impl Door {
         ensures answered { Answered pass.old act result pass.new }
         ensures named { NamesKnown self.now.policy result }
         ensures settled { SaysOf pass.old result pass.new }
+        ensures stood { StoodAt M.stands M.is_booked pass.old result pass.new }
     {
         let call = Call {
             process: pass.process,
@@ -218,7 +270,7 @@ impl Door {
     fn carry_out<R: Wait, D: Deed + Drop>(
         &self,
         rt: &R,
-        pass: &mut Pass,
+        pass: &mut PassTo<M>,
         deed: D,
     ) -> Option<D::Told>
         requires door { pass.old.door ≡ self.now }
@@ -232,12 +284,20 @@ impl Door {
         ensures named { IfSome result (λ told. IsKnownReply self.now.policy (D.reply told)) }
         ensures exhausted { IfNone result (IsTooLate pass.old pass.new) }
         ensures settled { IfSome result (λ _. SaysWhether pass.new) }
-        ensures kept { IfNone result (pass.new.settled ≡ pass.old.settled) }
+        ensures stood { IfSome result (λ _. SaysBooked M.stands M.is_booked pass.new) }
+        ensures kept { IfNone result ((pass.new.settled ≡ pass.old.settled)
+            × (pass.new.booked ≡ pass.old.booked)) }
     {
         if self.turns.look(&mut pass.seat) >= LAST {
             return None;
         }
-        let told = self.turns.turn(rt, &mut pass.seat, deed, &mut pass.settled);
+        let told = self.turns.turn(
+            rt,
+            &mut pass.seat,
+            deed,
+            &mut pass.settled,
+            &mut pass.booked,
+        );
         Some(told)
     }
 }

@@ -4,15 +4,14 @@ ghost use Rattle.std.specs.List.{All};
 ghost use Rattle.hall_turn.specs.Steps.{HasAll, HasWhole, Ends};
 
 use crate::machine::Machine;
-use crate::pass::{Pass, Passes};
+use crate::pass::{PassTo, PassesTo};
 use crate::rule::{Gather, View};
 use crate::turns::Turns;
 use atomic_table::Seat;
-use hall_core::Hall;
 
-impl Turns<Hall> {
+impl<M: Machine> Turns<M> {
     // One seat that knows what each pass has seen.
-    pub(crate) fn gather(&self, mut passes: Passes) -> Seat<Option<Hall>, View>
+    pub(crate) fn gather(&self, mut passes: PassesTo<M>) -> Seat<Option<M>, View>
         requires some_pass { 0 < vec_len passes }
         requires of { All (λ pass. pass.door.name ≡ self.now.table.shared.table_id) passes.items }
         ensures at { result.table_id ≡ self.now.table.shared.table_id }
@@ -21,25 +20,25 @@ impl Turns<Hall> {
         let Some(first) = passes.pop() else {
             unreachable!()
         };
-        let Pass {
+        let PassTo {
             mut seat,
             process: _,
             settled: _,
+            booked: _,
         } = first;
         while let Some(pass) = passes.pop() {
-            let Pass {
+            let PassTo {
                 seat: other,
                 process: _,
                 settled: _,
+                booked: _,
             } = pass;
             self.table.shared.join_seat::<Gather>(&mut seat, other);
         }
         passes.destroy_empty();
         seat
     }
-}
 
-impl<M: Machine> Turns<M> {
     // The machine, at the end of the run.
     pub(crate) fn end(self, seat: Seat<Option<M>, View>) -> M
         requires at { seat.table_id ≡ self.table.shared.table_id }

@@ -18,8 +18,9 @@ mod steps;
 mod turns;
 
 pub use answer::{Answer, Claimed};
-pub use close::{CloseFault, Unclosed};
-pub use door::Door;
+pub use close::{CloseFault, Unclosed, UnclosedTo};
+pub use door::{Door, DoorTo};
 pub use hall_core::{Claim, NoMemory, finish};
-pub use note::Note;
-pub use pass::{Pass, Passes};
+pub use machine::{Applied, Machine};
+pub use note::{Note, NoteTo};
+pub use pass::{Pass, PassTo, Passes, PassesTo};

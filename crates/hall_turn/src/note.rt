@@ -4,8 +4,9 @@ ghost use Rattle.run_model.specs.Replies.{Legal};
 ghost use Rattle.hall_turn.specs.Runs.{Continues};
 ghost use Rattle.hall_turn.specs.Answers.{IsSamePass, SeesOn};
 
-use crate::door::Door;
-use crate::pass::Pass;
+use crate::door::DoorTo;
+use crate::machine::Machine;
+use crate::pass::PassTo;
 use crate::rule::View;
 use atomic_table::Seat;
 use hall_core::Hall;
@@ -14,11 +15,14 @@ use std::marker::Model;
 /// What a pass had seen, to be told to another. Contracts see its door and the run, the newest
 /// entry first.
 #[derive(Drop)]
-pub struct Note {
-    seat: Seat<Option<Hall>, View>,
+pub struct NoteTo<M: Machine> {
+    seat: Seat<Option<M>, View>,
 }
 
-impl Model for Note {
+/// A note of a pass of a door to a hall.
+pub type Note = NoteTo<Hall>;
+
+impl<M: Machine> Model for NoteTo<M> {
     ghost use Rattle.hall_turn.specs.Known.{Noted};
 
     ghost Value = { Noted };
@@ -33,20 +37,20 @@ impl Model for Note {
     ghost invariant = { λ n. IsNote n.seat.me };
 }
 
-impl Door {
+impl<M: Machine> DoorTo<M> {
     /// A note of what the pass has seen. The pass stays as it was. It waits for nobody.
-    pub fn note(&self, pass: &mut Pass) -> Note
+    pub fn note(&self, pass: &mut PassTo<M>) -> NoteTo<M>
         requires { pass.old.door ≡ self.now }
         ensures same { pass.new ≡ pass.old }
         ensures note { result ≡ record { door = self.now; seen = pass.old.seen } }
     {
         let seat = self.turns.write_note(&mut pass.seat);
-        Note { seat }
+        NoteTo { seat }
     }
 
     /// The pass sees at least what the note has seen, and looks, as by `front`. It waits for
     /// nobody.
-    pub fn learn(&self, pass: &mut Pass, note: Note)
+    pub fn learn(&self, pass: &mut PassTo<M>, note: NoteTo<M>)
         requires pass { pass.old.door ≡ self.now }
         requires note { note.door ≡ self.now }
         ensures same { IsSamePass pass.old pass.new }
@@ -54,8 +58,9 @@ impl Door {
         ensures note { Continues pass.new.seen note.seen }
         ensures legal { Legal self.now.policy pass.new.seen }
         ensures settled { pass.new.settled ≡ pass.old.settled }
+        ensures booked { pass.new.booked ≡ pass.old.booked }
     {
-        let Note { seat } = note;
+        let NoteTo { seat } = note;
         self.turns.hear(&mut pass.seat, seat);
         self.turns.look(&mut pass.seat);
     }

@@ -9,7 +9,7 @@ ghost use Rattle.run_model.specs.Replies.{Legal};
 ghost use Rattle.run_model.specs.Known.{IsKnownReply};
 ghost use Rattle.hall_turn.specs.Views.{maker_left, next_pass, noted, informed, declared, served};
 ghost use Rattle.hall_turn.specs.Views.{drawn};
-ghost use Rattle.hall_turn.specs.Machines.{Carries, Settles};
+ghost use Rattle.hall_turn.specs.Machines.{Carries, Settles, TellsWhether};
 ghost use Rattle.hall_turn.specs.Steps.{Looks, IsAt, IsIdle, IsNote, IsReady, HoldsMachine};
 ghost use Rattle.hall_turn.specs.Steps.{MayCarryOut, Turned, TellsAfter, CanMake};
 
@@ -44,23 +44,27 @@ fn pause(looks: u32) -> u32
     looks
 }
 
-// The machine in the slot carries out the deed, where it lies, and it is noted whether that settled
-// an instance.
-fn carry_out_in<M: Machine, D: Deed>(slot: &mut Option<M>, deed: D, settled: &mut bool) -> D::Told
+// The machine in the slot carries out the deed, where it lies. It is noted whether that settled an
+// instance, and whether the machine is booked then.
+fn carry_out_in<M: Machine, D: Deed>(
+    slot: &mut Option<M>,
+    deed: D,
+    settled: &mut bool,
+    booked: &mut bool,
+) -> D::Told
     requires { (machine : M) × (slot.old ≡ Some machine)
         × MayCarryOut M.stands machine (λ wall. D.may wall deed) }
     ensures carries { (old : M) × (new : M) × (slot.old ≡ Some old) × (slot.new ≡ Some new)
         × Carries M.stands old new (D.call deed) (D.reply result) }
     ensures tells { (old : M) (wall : ChineseWall) (run : List Entry) → slot.old ≡ Some old
         → Legal wall run → M.stands wall old run → D.tells wall run deed result }
-    ensures settled { (old : M) (wall : ChineseWall) (run : List Entry) → slot.old ≡ Some old
-        → Legal wall run → M.stands wall old run
-        → IsTrue settled.new ↔ Settles wall run (entry (D.call deed) (D.reply result)) }
+    ensures settled { (old : M) → slot.old ≡ Some old
+        → TellsWhether M.stands old settled.new (entry (D.call deed) (D.reply result)) }
+    ensures booked { (new : M) → slot.new ≡ Some new → booked.new ≡ M.is_booked new }
 {
     let Some(machine) = slot else { unreachable!() };
-    let before = machine.entries();
-    let told = deed.carry_out(machine);
-    *settled = machine.entries().checked_sub(before) == Some(2);
+    let told = deed.carry_out(machine, settled);
+    *booked = machine.is_booked();
     told
 }
 
@@ -182,6 +186,7 @@ impl<M: Machine> Turns<M> {
         seat: &mut Seat<Option<M>, View>,
         deed: D,
         settled: &mut bool,
+        booked: &mut bool,
     ) -> D::Told
         requires at { seat.old.table_id ≡ self.now.table.shared.table_id }
         requires idle { IsIdle (D.call deed).process seat.old.me }
@@ -197,12 +202,15 @@ impl<M: Machine> Turns<M> {
         ensures settled { TellsAfter seat.new.me.0.seen
             (λ run. IsTrue settled.new
             ↔ Settles seat.old.me.0.policy run (entry (D.call deed) (D.reply result))) }
+        ensures stood { (machine : M)
+            × M.stands seat.old.me.0.policy machine seat.new.me.0.seen
+            × (booked.new ≡ M.is_booked machine) }
     {
         let ticket = self.draw(seat);
         self.await_turn(rt, seat, ticket);
         let asked = Snapshot::of(&deed);
         let slot = seat.slot_mut(&self.table.shared, SLOT);
-        let told = carry_out_in(slot, deed, settled);
+        let told = carry_out_in(slot, deed, settled, booked);
         self.declare::<Brand, D>(seat, &asked, &told);
         self.serve(seat);
         told

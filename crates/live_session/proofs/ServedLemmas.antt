@@ -287,9 +287,9 @@ module _ {S O : Type 0} (fails : S → ℕ) (left : S → Option (List ℕ))
       door = door;
       run = closed.run;
       door_is = p.policy;
-      policy = closed.policy ∙ p.policy;
+      policy = closed.stood.0 ∙ p.policy;
       legal = subst (λ (w : ChineseWall). Legal w closed.run) p.policy closed.legal;
-      stands = closed.stands;
+      stands = closed.stood.1;
       count = many_sessions;
       each = λ i d e lt. session_of hall closed i d e lt;
       others = λ i le. closed.others i

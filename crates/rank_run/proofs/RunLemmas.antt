@@ -338,9 +338,9 @@ module _ (patience : ℕ) (wall : ChineseWall) (scripts : List (List Act)) (door
   pub ran : are_whole all ≡ true → Ran patience wall scripts (map vec_items (replies_in all)) hall
   ran whole = record {
     run = story.closed.run;
-    policy = story.closed.policy ∙ story.same;
+    policy = story.closed.stood.0 ∙ story.same;
     legal = subst (λ w. Legal w story.closed.run) story.same story.closed.legal;
-    stands = story.closed.stands;
+    stands = story.closed.stood.1;
     scripts_are = many_scripts;
     replies_are = length-map (replies_in all) vec_items
         ∙ length-map all (λ (y : Played). y.replies) ∙ many_played;

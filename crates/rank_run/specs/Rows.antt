@@ -1,5 +1,5 @@
 -- Worked rows: what waiting and scripts come to, and what they do not.
-use Rattle.std.specs.Prelude.{List, [], ◌∷◌, false}
+use Rattle.std.specs.Prelude.{List, [], ◌∷◌, true, false}
 use Rattle.run_model.specs.declared.call.Posting.{Posting}
 use Rattle.run_model.specs.declared.call.Act.TheVariants.{Post as ToPost, Take, Info as ToInfo}
 use Rattle.run_model.specs.declared.reply.Reply.TheVariants.{Posted, Pending, NullComm}
@@ -31,7 +31,8 @@ ActsLeftOut = Plays 3 2 (ToInfo 0 ∷ ToInfo 0 ∷ []) (NullComm ∷ NullComm �
 
 -- a pass of process 2 that has seen this run
 abbrev pub at_door : Doorway → List Entry → Known
-at_door door seen = record { door = door; process = 2; seen = seen; settled = false }
+at_door door seen =
+    record { door = door; process = 2; seen = seen; settled = false; booked = true }
 
 -- process 1 called meanwhile
 abbrev pub other : Entry

@@ -1,7 +1,7 @@
 use Rattle.std.proofs.Common.{◌∙◌, sym, ap, subst, refl, List, ℕ, Option}
 use Rattle.hall_turn.specs.Machines.{Carries}
 use Rattle.hall_turn.specs.Views.{drawn}
-use Rattle.hall_turn.proofs.TurnLemmas.{ready, may_apply, holds_one}
+use Rattle.hall_turn.proofs.TurnLemmas.{ready, may_apply, holds_one, stood_after}
 use Rattle.hall_turn.proofs.turns.Turns.turn.Goals as goal
 
 pub slot_mut-slot-requires : goal.slot_mut-slot-requires
@@ -41,3 +41,23 @@ serve-requires-clause-ready g c =
       subst (λ x. Carries g.M.Machine.stands k.0 k.1 (g.D.Deed.call x) reply)
           (sym c.of-asked.ensures) k.4,
     )
+
+pub returns-clause-stood : goal.returns-clause-stood
+returns-clause-stood g c =
+    let reply = g.D.Deed.reply c.carry_out_in-told.result in
+    let k = c.carry_out_in-told.ensures.carries in
+    stood_after g.M.Machine.stands c.args.seat.now.me.0 c.draw-ticket.new.seat.me
+    c.await_turn.new.seat.me
+    _ c.declare.new.seat.me c.serve.new.seat.me c.slot_mut-slot.result.now
+    c.carry_out_in-told.new.slot (g.D.Deed.call c.of-asked.result.value) reply
+    g.M.Machine.is_booked c.carry_out_in-told.new.booked
+    (ap (λ m. m.0.policy) c.draw-ticket.ensures.draws) c.await_turn.ensures.holds
+    c.slot_mut-slot.ensures.value refl c.declare.ensures.declares c.serve.ensures.serves (
+      k.0,
+      k.1,
+      k.2,
+      k.3,
+      subst (λ x. Carries g.M.Machine.stands k.0 k.1 (g.D.Deed.call x) reply)
+          (sym c.of-asked.ensures) k.4,
+    )
+    c.carry_out_in-told.ensures.booked

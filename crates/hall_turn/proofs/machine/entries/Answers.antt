@@ -3,7 +3,7 @@ use Rattle.wall_policy.specs.Policy.{ChineseWall}
 use Rattle.run_model.specs.Books.{book}
 use Rattle.run_model.specs.Runs.{posts}
 use Rattle.hall_turn.specs.Machines.{entries_of}
-use Rattle.hall_turn.proofs.machine.HallMachine.entries.Goals as goal
+use Rattle.hall_turn.proofs.machine.entries.Goals as goal
 
 pub returns : goal.returns
 unfolding entries_of

@@ -1,13 +1,13 @@
-use Rattle.std.proofs.Common.{◌≡◌, ◌∙◌, ◌+◌, ◌-◌, [], false, ap, sym, arith}
+use Rattle.std.proofs.Common.{◌≡◌, ◌∙◌, ◌+◌, ◌-◌, [], true, false, ap, sym, arith}
 use Rattle.run_model.specs.Comms.{processes}
 use Rattle.hall_turn.specs.Known.{Doorway, Known}
 use Rattle.hall_turn.specs.Views.{SeatView, maker_left, next_pass}
 use Rattle.hall_turn.specs.Answers.{new_pass, new_passes}
 use Rattle.hall_turn.proofs.DealLemmas.{all_of_door, more_passes, next_maker, passes_length}
-use Rattle.hall_turn.proofs.door.Door.deal.Goals as goal
+use Rattle.hall_turn.proofs.door.DoorTo.deal.Goals as goal
 
 pub push_reserved-requires : goal.push_reserved-requires
-push_reserved-requires c =
+push_reserved-requires g c =
     let i = c.loop-process.invariant in
     let room = i.room in
     let o = c.loop-process.passes.ok in
@@ -18,7 +18,7 @@ push_reserved-requires c =
     omega arith
 
 pub loop-process-preserved : goal.loop-process-preserved
-loop-process-preserved c =
+loop-process-preserved g c =
     let i = c.loop-process.invariant in
     let n = c.loop-process.process in
     let door = c.args.self.now in
@@ -32,6 +32,7 @@ loop-process-preserved c =
       process = n;
       seen = made.me.0.seen;
       settled = false;
+      booked = true;
     } in
     let is : k ≡ new_pass door n = (λ j. record {
       door =
@@ -39,6 +40,7 @@ loop-process-preserved c =
       process = n;
       seen = (pass j).0.seen;
       settled = false;
+      booked = true;
     }) in record {
       at = m.at.0.0 ∙ i.at;
       maker = m.maker ∙ (λ j. (maker_left (i.maker j).0, (i.maker j).1))
@@ -48,7 +50,7 @@ loop-process-preserved c =
     }
 
 pub push_reserved-requires-2 : goal.push_reserved-requires-2
-push_reserved-requires-2 c =
+push_reserved-requires-2 g c =
     let i = c.loop-process.invariant in
     let room = i.room in
     let o = c.loop-process.passes.ok in
@@ -60,7 +62,7 @@ push_reserved-requires-2 c =
     omega arith
 
 pub returns : goal.returns
-returns c =
+returns g c =
     let i = c.loop-process.invariant in
     let n = c.loop-process.process in
     let door = c.args.self.now in
@@ -77,6 +79,7 @@ returns c =
       process = c.self.inside.count - 1;
       seen = left.me.0.seen;
       settled = false;
+      booked = true;
     } in
     let is : k ≡ new_pass door n = (λ j. record {
       door =
@@ -84,6 +87,7 @@ returns c =
       process = sym here j;
       seen = (i.maker j).0.seen;
       settled = false;
+      booked = true;
     }) in
     let passes = push.items ∙ more_passes door n c.loop-process.passes.items k i.passes is ∙ ap
     (new_passes door) all in

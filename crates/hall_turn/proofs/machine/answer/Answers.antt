@@ -3,7 +3,7 @@ use Rattle.wall_policy.specs.Policy.{ChineseWall}
 use Rattle.run_model.specs.Runs.{entry}
 use Rattle.run_model.specs.Replies.{Legal}
 use Rattle.run_model.specs.Known.{IsKnownReply}
-use Rattle.hall_turn.proofs.machine.HallMachine.apply.Goals as goal
+use Rattle.hall_turn.proofs.machine.answer.Goals as goal
 
 pub returns : goal.returns
 returns c = λ wall run legal stands.

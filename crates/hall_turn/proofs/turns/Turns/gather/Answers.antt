@@ -1,15 +1,14 @@
 use Rattle.std.proofs.Common.{◌≡◌, ◌∙◌, ap, sym, arith}
-use Rattle.hall_turn.specs.Machines.{Stands}
 use Rattle.hall_turn.specs.Views.{own_of}
 use Rattle.hall_turn.specs.Steps.{told_of}
 use Rattle.hall_turn.specs.Known.{Known}
 use Rattle.hall_turn.proofs.MoveLemmas.{joins_pass}
 use Rattle.hall_turn.proofs.GatherLemmas.{gathers_one, gathers_more, gathers_all, nil_of, door_is}
 use Rattle.hall_turn.proofs.GatherLemmas.{of_rest}
-use Rattle.hall_turn.proofs.gather.Turns+Hall.gather.Goals as goal
+use Rattle.hall_turn.proofs.turns.Turns.gather.Goals as goal
 
 pub loop-pass-init : goal.loop-pass-init
-loop-pass-init c =
+loop-pass-init g c =
     let all = c.args.passes.items in
     let rest = c.pop.new.self.items in
     let k = c.in-Some.first in
@@ -26,7 +25,7 @@ loop-pass-init c =
     }
 
 pub join_seat-requires : goal.join_seat-requires
-join_seat-requires c =
+join_seat-requires g c =
     let i = c.loop-pass.invariant in
     let t = c.args.self.now in
     let w = t.counts.0 in
@@ -42,12 +41,12 @@ join_seat-requires c =
           i.of,
       p.slots,
       omega arith,
-      joins_pass Stands t.table.shared.key.value m.id m.me.0 o.id o.me.0 i.gathers.out p.out
+      joins_pass g.M.Machine.stands t.table.shared.key.value m.id m.me.0 o.id o.me.0 i.gathers.out p.out
           i.gathers.some_part (omega arith) i.gathers.ticket p.ticket,
     )
 
 pub loop-pass-preserved : goal.loop-pass-preserved
-loop-pass-preserved c =
+loop-pass-preserved g c =
     let i = c.loop-pass.invariant in
     let t = c.args.self.now in
     let all = c.loop-pass.passes.items in
@@ -66,7 +65,7 @@ loop-pass-preserved c =
     }
 
 pub returns-clause-has : goal.returns-clause-has
-returns-clause-has c =
+returns-clause-has g c =
     let none = c.in_default-pop.ensures.cases in
     let o = c.loop-pass.passes.ok in
     gathers_all c.args.passes.items c.loop-pass.passes.items c.loop-pass.seat.me
