@@ -1,0 +1,327 @@
+-- The text of a run's book, as it is written call by call.
+use Rattle.std.proofs.Common.{◌≡◌, ◌+◌, ℕ, List, [], ◌∷◌, ◌++◌, length, refl, sym, ap, ◌∙◌, subst}
+use Rattle.std.proofs.Common.{Option, Some, None, append_assoc, length-append, arith, take, get_or}
+use Rattle.std.proofs.Common.{slice_get, eqb-true, eq-eqb}
+use Rattle.std.specs.Prelude.{◌↔◌, IfSome, IsTrue, nat_eq, unwrap_or}
+use Rattle.std.proofs.lemmas.List.{append-nil, take_more, flat_map_more}
+use Rattle.std.proofs.lemmas.Option.{slice_get_within, unwrap_or-slice_get}
+use Rattle.std.proofs.lemmas.Grind.{flat_map-append}
+use Rattle.std.specs.Io.KnownBytes.{Appends, Keeps}
+use Rattle.wall_labels.specs.Known.{AppendsFront}
+use Rattle.wall_labels.proofs.WallLabelsLemmas.{Appends-then}
+use Rattle.wall_policy.specs.Policy.{ChineseWall}
+use Rattle.run_model.specs.declared.entry.Entry.{Entry as BookEntry}
+use Rattle.run_model.specs.Runs.{Entry}
+use Rattle.audit_book.specs.Text.{book_text, end_words, entry_lines, entry_words, header_words}
+use Rattle.audit_book.specs.Text.{line_of}
+use Rattle.hall_core.specs.Briefs.{Adds}
+use Rattle.hall_core.specs.Halls.{HallValue, StandsFor}
+use Rattle.hall_turn.specs.Machines.{Settles, entries_of}
+use Rattle.live_book.specs.declared.unbooked.Unbooked.{Unbooked}
+use Rattle.live_book.specs.Books.{IsBooked, IsCut, IsUnbooked, IsWritten, SinkValue}
+use Rattle.live_book.specs.Books.{StandsWithBook, book_of, text_so_far}
+use Rattle.live_book.specs.Writing.{Writes, WritesAll, WritesFront}
+
+-- ## bytes
+
+-- what is written and stays
+pub appends_kept : (a b c : Option (List ℕ)) (xs : List ℕ) → Appends a b xs → Keeps b c →
+    Appends a c xs
+appends_kept None b c xs p k = tt
+appends_kept (Some a) None c xs p k = absurd p
+appends_kept (Some a) (Some b) None xs p k = absurd k
+appends_kept (Some a) (Some b) (Some c) xs p k = k ∙ p
+
+-- all of them are a front of them
+pub whole_front : (a b : Option (List ℕ)) (xs : List ℕ) → Appends a b xs → AppendsFront a b xs
+whole_front a b xs p = (xs, [], append-nil xs, p)
+
+-- nothing is a front
+pub no_front : (a : Option (List ℕ)) (xs : List ℕ) → AppendsFront a a xs
+no_front None xs = ([], xs, refl, tt)
+no_front (Some a) xs = ([], xs, refl, sym (append-nil a))
+
+-- a front of bytes is one of more bytes
+pub front_more : (a b : Option (List ℕ)) (xs ys : List ℕ) → AppendsFront a b xs →
+    AppendsFront a b (xs ++ ys)
+front_more a b xs ys p = (
+  p.0,
+  p.1 ++ ys,
+  sym (append_assoc p.0 p.1 ys) ∙ ap (λ (t : List ℕ). t ++ ys) p.2,
+  p.3,
+)
+
+-- bytes, and then a front of others
+pub front_then : (a b c : Option (List ℕ)) (xs ys : List ℕ) → Appends a b xs →
+    AppendsFront b c ys → AppendsFront a c (xs ++ ys)
+front_then a b c xs ys p q = (
+  xs ++ q.0,
+  q.1,
+  append_assoc xs q.0 q.1 ∙ ap (λ (t : List ℕ). xs ++ t) q.2,
+  Appends-then a b c xs q.0 p q.3,
+)
+
+-- ## texts
+
+pub text_more : (wall : ChineseWall) (entries more : List BookEntry) →
+    text_so_far wall (entries ++ more) ≡ text_so_far wall entries ++ entry_lines wall more
+text_more wall entries more =
+    ap (λ (t : List ℕ). line_of (header_words wall.version) ++ t)
+    (flat_map-append (λ (entry : BookEntry). line_of (entry_words wall entry)) entries more)
+    ∙ sym (append_assoc (line_of (header_words wall.version)) (entry_lines wall entries)
+    (entry_lines wall more))
+
+pub text_whole : (wall : ChineseWall) (entries : List BookEntry) →
+    book_text wall entries ≡ text_so_far wall entries ++ line_of (end_words (length entries))
+unfolding book_text
+text_whole wall entries = sym (append_assoc (line_of (header_words wall.version))
+    (entry_lines wall entries) (line_of (end_words (length entries))))
+
+-- ## one call
+
+module _ (wall : ChineseWall) (begun : SinkValue) (run : List Entry) (e : Entry)
+    (added : List BookEntry) (is_book : book_of wall (e ∷ run) ≡ book_of wall run ++ added) where
+  -- all was written, and is now
+  booked_more : (old new : SinkValue) → IsBooked wall begun old run →
+      WritesAll old new (entry_lines wall added) → IsBooked wall begun new (e ∷ run)
+  booked_more old new is by = record {
+    written = subst (Appends begun.contents new.contents)
+        (sym (text_more wall (book_of wall run) added)
+        ∙ ap (text_so_far wall) (sym is_book))
+        (Appends-then begun.contents old.contents new.contents
+        (text_so_far wall (book_of wall run)) (entry_lines wall added) is.written by.written);
+    went = by.went ∙ is.went;
+  }
+
+  -- all was written, and of this a front
+  cut_now : (old new : SinkValue) (fault : Unbooked) → IsBooked wall begun old run →
+      WritesFront fault old new (entry_lines wall added) → IsCut wall begun new (e ∷ run) fault
+  cut_now old new fault is by = record {
+    past = run;
+    later = e ∷ [];
+    is_run = refl;
+    held = old.contents;
+    written = is.written;
+    next = added;
+    is_book = is_book;
+    front = by.front;
+    is_fault = subst (λ (n : ℕ). IsUnbooked fault n new.failures) is.went by.is_fault;
+  }
+
+  -- not all was written
+  still_cut : (old new : SinkValue) (fault : Unbooked) → new ≡ old →
+      IsCut wall begun old run fault → IsCut wall begun new (e ∷ run) fault
+  still_cut old new fault same is = subst (λ (s : SinkValue). IsCut wall begun s (e ∷ run) fault)
+      (sym same) (record {
+        past = is.past;
+        later = e ∷ is.later;
+        is_run = ap (λ (l : List Entry). e ∷ l) is.is_run;
+        held = is.held;
+        written = is.written;
+        next = is.next ++ added;
+        is_book = is_book
+            ∙ (ap (λ (l : List BookEntry). l ++ added) is.is_book
+            ∙ append_assoc (book_of wall is.past) is.next added);
+        front = subst (AppendsFront is.held old.contents)
+            (sym (flat_map-append (λ (entry : BookEntry). line_of (entry_words wall entry))
+            is.next added))
+            (front_more is.held old.contents (entry_lines wall is.next) (entry_lines wall added)
+            is.front);
+        is_fault = is.is_fault;
+      })
+
+  pub written_more : (old new : SinkValue) (before after : Option Unbooked) →
+      IsWritten wall begun old before run →
+      Writes before after old new (entry_lines wall added) →
+      IsWritten wall begun new after (e ∷ run)
+  written_more old new (Some fault) after is by =
+      subst (λ (f : Option Unbooked). IsWritten wall begun new f (e ∷ run)) (sym by.0)
+      (still_cut old new fault by.1 is)
+  written_more old new None None is by = booked_more old new is by
+  written_more old new None (Some fault) is by = cut_now old new fault is by
+
+-- a take adds nothing
+pub written_still : (wall : ChineseWall) (begun sink : SinkValue) (fault : Option Unbooked)
+    (run : List Entry) (e : Entry) → book_of wall (e ∷ run) ≡ book_of wall run →
+    IsWritten wall begun sink fault run → IsWritten wall begun sink fault (e ∷ run)
+written_still wall begun sink None run e same is = record {
+  written = subst
+      (λ (b : List BookEntry). Appends begun.contents sink.contents (text_so_far wall b))
+      (sym same) is.written;
+  went = is.went;
+}
+written_still wall begun sink (Some fault) run e same is =
+    still_cut wall begun run e [] (same ∙ sym (append-nil (book_of wall run))) sink sink fault refl
+    is
+
+-- ## calls
+
+-- what a hall stands for after a call, whose news were written or not
+pub stands_more : (old new : HallValue) (begun was is : SinkValue)
+    (before after : Option Unbooked) (run : List Entry) (e : Entry) (w : ChineseWall)
+    (olds news : List BookEntry) → olds ≡ [] → new.policy ≡ old.policy → w ≡ old.policy →
+    StandsFor new (e ∷ run) → Adds old.policy run e olds news →
+    Writes before after was is (entry_lines w news) →
+    StandsWithBook old.policy
+    (record { hall = old; begun = begun; sink = was; fault = before }) run →
+    StandsWithBook new.policy
+    (record { hall = new; begun = begun; sink = is; fault = after }) (e ∷ run)
+stands_more old new begun was is before after run e w olds news none same lines hall adds writes
+    stands =
+    let news_are : news ≡ adds.added =
+    adds.news ∙ ap (λ (l : List BookEntry). l ++ adds.added) none in
+    record {
+      policy = refl;
+      hall = hall;
+      book = subst (λ (v : ChineseWall). IsWritten v begun is after (e ∷ run)) (sym same)
+          (written_more old.policy begun run e adds.added adds.book was is before after
+          stands.book
+          (subst (λ (bytes : List ℕ). Writes before after was is bytes)
+          (λ i. entry_lines (lines i) (news_are i)) writes));
+    }
+
+-- and after a take
+pub stands_on : (old new : HallValue) (begun sink : SinkValue) (fault : Option Unbooked)
+    (run : List Entry) (e : Entry) → new.policy ≡ old.policy → StandsFor new (e ∷ run) →
+    book_of old.policy (e ∷ run) ≡ book_of old.policy run →
+    StandsWithBook old.policy
+    (record { hall = old; begun = begun; sink = sink; fault = fault }) run →
+    StandsWithBook new.policy
+    (record { hall = new; begun = begun; sink = sink; fault = fault }) (e ∷ run)
+stands_on old new begun sink fault run e same hall keeps stands = record {
+  policy = refl;
+  hall = hall;
+  book = subst (λ (v : ChineseWall). IsWritten v begun sink fault (e ∷ run)) (sym same)
+      (written_still old.policy begun sink fault run e keeps stands.book);
+}
+
+-- a fault stays
+pub sticks_by : (before after : Option Unbooked) (old new : SinkValue) (bytes : List ℕ) →
+    Writes before after old new bytes →
+    IfSome before (λ fault. (after ≡ before) × (new ≡ old))
+sticks_by (Some fault) after old new bytes writes = (writes.0, writes.1)
+sticks_by None after old new bytes writes = tt
+
+-- two entries came exactly where an instance settled
+pub settles_by : (wall : ChineseWall) (run : List Entry) (e : Entry) (n : ℕ)
+    (olds news : List BookEntry) → olds ≡ [] → Adds wall run e olds news → n ≡ length news →
+    IsTrue (nat_eq n 2) ↔ Settles wall run e
+unfolding entries_of
+settles_by wall run e n olds news none adds count =
+    let a : ℕ = length (book_of wall run) in
+    let b : ℕ = length (book_of wall (e ∷ run)) in
+    let news_are : news ≡ adds.added =
+    adds.news ∙ ap (λ (l : List BookEntry). l ++ adds.added) none in
+    let grows : b ≡ a + n =
+    ap length adds.book ∙ length-append (book_of wall run) adds.added
+    ∙ ap (λ (k : ℕ). a + k) (sym (count ∙ ap length news_are)) in
+    let onward : n ≡ 2 → b ≡ a + 2 = λ t. grows ∙ ap (λ (k : ℕ). a + k) t in
+    let back : b ≡ a + 2 → n ≡ 2 = λ s. added_same a b n grows s in
+    (λ t. onward (eqb-true n 2 t), λ s. eq-eqb n 2 (back s))
+  where
+    added_same : (a b n : ℕ) → b ≡ a + n → b ≡ a + 2 → n ≡ 2
+    added_same a b n p q = omega arith
+
+-- the lines of one entry more
+pub lines_more : (wall : ChineseWall) (es : List BookEntry) (text : List ℕ) (i : ℕ)
+    (e : BookEntry) (now new : List ℕ) → slice_get es i ≡ Some e →
+    now ≡ text ++ entry_lines wall (take i es) →
+    new ≡ now ++ line_of (entry_words wall e) →
+    new ≡ text ++ entry_lines wall (take (i + 1) es)
+lines_more wall es text i e now new at so_far more =
+    more
+    ∙ (ap (λ (t : List ℕ). t ++ line_of (entry_words wall e)) so_far
+    ∙ (flat_map_more (λ (entry : BookEntry). line_of (entry_words wall entry)) text (take i es) e
+    ∙ ap (λ (ls : List BookEntry). text ++ entry_lines wall ls)
+    (ap (λ (x : BookEntry). take i es ++ (x ∷ [])) (at_place es i e at)
+    ∙ sym (take_more es i e (slice_get_within es i e at)))))
+  where
+    at_place : (es : List BookEntry) (i : ℕ) (e : BookEntry) → slice_get es i ≡ Some e →
+        e ≡ get_or es i e
+    at_place es i e h = sym (ap (λ (o : Option BookEntry). unwrap_or o e) h)
+        ∙ unwrap_or-slice_get es i e
+
+-- ## the first line
+
+pub written_first : (wall : ChineseWall) (begun sink : SinkValue) →
+    Appends begun.contents sink.contents (line_of (header_words wall.version)) →
+    sink.failures ≡ begun.failures → IsWritten wall begun sink None []
+written_first wall begun sink by went = record {
+  written = subst (Appends begun.contents sink.contents)
+      (sym (append-nil (line_of (header_words wall.version)))) by;
+  went = went;
+}
+
+-- ## the last line
+
+-- of a cut book a front of the whole was written
+cut_front : (wall : ChineseWall) (begun sink : SinkValue) (run : List Entry) (fault : Unbooked) →
+    IsCut wall begun sink run fault →
+    AppendsFront begun.contents sink.contents (book_text wall (book_of wall run))
+cut_front wall begun sink run fault is = subst (AppendsFront begun.contents sink.contents)
+    (sym (text_whole wall (book_of wall run)
+    ∙ ap (λ (t : List ℕ). t ++ line_of (end_words (length (book_of wall run))))
+    (ap (text_so_far wall) is.is_book ∙ text_more wall (book_of wall is.past) is.next)))
+    (front_more begun.contents sink.contents
+    (text_so_far wall (book_of wall is.past) ++ entry_lines wall is.next)
+    (line_of (end_words (length (book_of wall run))))
+    (front_then begun.contents is.held sink.contents (text_so_far wall (book_of wall is.past))
+    (entry_lines wall is.next) is.written is.front))
+
+module _ (wall : ChineseWall) (begun old new : SinkValue) (run : List Entry) (n : ℕ)
+    (count : n ≡ length (book_of wall run)) where
+  abbrev last : List ℕ
+  last = line_of (end_words n)
+
+  abbrev whole : List ℕ
+  whole = book_text wall (book_of wall run)
+
+  is_whole : text_so_far wall (book_of wall run) ++ last ≡ whole
+  is_whole = ap (λ (k : ℕ). text_so_far wall (book_of wall run) ++ line_of (end_words k)) count
+      ∙ sym (text_whole wall (book_of wall run))
+
+  pub all_written : IsBooked wall begun old run → WritesAll old new last →
+      Appends begun.contents new.contents whole
+  all_written is by = subst (Appends begun.contents new.contents) is_whole
+      (Appends-then begun.contents old.contents new.contents
+      (text_so_far wall (book_of wall run)) last is.written by.written)
+
+  pub front_written : (fault : Unbooked) → IsBooked wall begun old run →
+      WritesFront fault old new last → AppendsFront begun.contents new.contents whole
+  front_written fault is by = subst (AppendsFront begun.contents new.contents) is_whole
+      (front_then begun.contents old.contents new.contents
+      (text_so_far wall (book_of wall run)) last is.written by.front)
+
+-- how the last line went, after what was written before
+module _ (wall : ChineseWall) (begun old new : SinkValue) (run : List Entry) (n : ℕ) where
+  abbrev end_line : List ℕ
+  end_line = line_of (end_words n)
+
+  pub last_written : (before : Option Unbooked) →
+      (before ≡ None → n ≡ length (book_of wall run)) →
+      IsWritten wall begun old before run → Writes before None old new end_line →
+      Appends begun.contents new.contents (book_text wall (book_of wall run))
+  last_written None count is by = all_written wall begun old new run n (count refl) is by
+  last_written (Some fault) count is by = absurd (no_fault fault by.0)
+    where
+      no_fault : (fault : Unbooked) → None ≡ Some fault → ⊥
+      no_fault fault h = cc
+
+  pub last_front : (before : Option Unbooked) (fault : Unbooked) →
+      (before ≡ None → n ≡ length (book_of wall run)) →
+      IsWritten wall begun old before run → Writes before (Some fault) old new end_line →
+      AppendsFront begun.contents new.contents (book_text wall (book_of wall run))
+  last_front None fault count is by =
+      front_written wall begun old new run n (count refl) fault is by
+  last_front (Some was) fault count is by =
+      subst (λ (s : SinkValue). AppendsFront begun.contents s.contents
+      (book_text wall (book_of wall run))) (sym by.1) (cut_front wall begun old run was is)
+
+-- the entries that are gone are all of the run's book
+pub count_is : (wall w : ChineseWall) (run : List Entry) (gone news : List BookEntry) (n : ℕ) →
+    w ≡ wall → book_of w run ≡ gone ++ news → news ≡ [] → n ≡ length gone →
+    n ≡ length (book_of wall run)
+count_is wall w run gone news n same parts none count =
+    count ∙ sym (ap (λ (v : ChineseWall). length (book_of v run)) (sym same)
+    ∙ (ap length (parts ∙ ap (λ (l : List BookEntry). gone ++ l) none)
+    ∙ ap length (append-nil gone)))

@@ -1,0 +1,43 @@
+use Rattle.std.proofs.Common.{Option, subst}
+use Rattle.audit_book.specs.Text.{end_words, line_of}
+use Rattle.live_book.specs.declared.unbooked.Unbooked.{Unbooked}
+use Rattle.live_book.specs.Writing.{Writes, sink_value}
+use Rattle.live_book.proofs.WritingLemmas.{count_is, last_front, last_written}
+use Rattle.live_book.proofs.booked.BookedHall.finish.Goals as goal
+use Rattle.live_book.proofs.booked.BookedHall.finish.Goals.{in-None, in-Some}
+
+pub returns-clause-written : goal.returns-clause-written
+returns-clause-written g c = rw (← c.self.view_is) (λ wall run stands.
+    let sv = sink_value g.B.Sink.contents g.B.BookSink.lasting g.B.Sink.failures in
+    elim c.match-fault.branch [
+      | in-None w ↦ rw w.written-is (last_written wall (sv c.self.inside.begun.value)
+          (sv c.self.inside.sink) (sv c.write_last-fault.new.sink) run c.self.inside.entries
+          c.self.inside.fault
+          (λ none. count_is wall c.self.inside.hall.hall.policy run c.self.inside.hall.gone
+          c.self.inside.hall.news c.self.inside.entries stands.policy
+          (c.news.ensures.runs run stands.hall) c.self.invariant.news
+          (c.self.invariant.entries none))
+          stands.book
+          (subst (λ (o : Option Unbooked). Writes c.self.inside.fault o (sv c.self.inside.sink)
+          (sv c.write_last-fault.new.sink) (line_of (end_words c.self.inside.entries)))
+          w.in-None.is c.write_last-fault.ensures))
+      | in-Some w ↦ rw w.written-is tt
+    ])
+
+pub returns-clause-front : goal.returns-clause-front
+returns-clause-front g c = rw (← c.self.view_is) (λ wall run stands.
+    let sv = sink_value g.B.Sink.contents g.B.BookSink.lasting g.B.Sink.failures in
+    elim c.match-fault.branch [
+      | in-None w ↦ rw w.written-is tt
+      | in-Some w ↦ rw w.written-is (last_front wall (sv c.self.inside.begun.value)
+          (sv c.self.inside.sink) (sv c.write_last-fault.new.sink) run c.self.inside.entries
+          c.self.inside.fault w.in-Some.fault
+          (λ none. count_is wall c.self.inside.hall.hall.policy run c.self.inside.hall.gone
+          c.self.inside.hall.news c.self.inside.entries stands.policy
+          (c.news.ensures.runs run stands.hall) c.self.invariant.news
+          (c.self.invariant.entries none))
+          stands.book
+          (subst (λ (o : Option Unbooked). Writes c.self.inside.fault o (sv c.self.inside.sink)
+          (sv c.write_last-fault.new.sink) (line_of (end_words c.self.inside.entries)))
+          w.in-Some.is c.write_last-fault.ensures))
+    ])

@@ -1,0 +1,130 @@
+//! Writes the lines of a book.
+ghost use Rattle.std.specs.Prelude.{◌≡◌, ◌++◌, [], All, IfErr, IsTrue, OnErr, OnOk};
+ghost use Rattle.std.specs.Io.KnownBytes.{Appends, Keeps};
+ghost use Rattle.wall_labels.specs.Known.{AppendsFront};
+ghost use Rattle.run_model.specs.Known.{IsKnownEntry};
+ghost use Rattle.audit_book.specs.Text.{end_words, entry_lines, header_words, line_of};
+ghost use Rattle.live_book.specs.Books.{IsUnbooked};
+ghost use Rattle.live_book.specs.declared.unbooked.Unbooked.TheVariants.{NoMemory as LacksMemory};
+
+use crate::sink::BookSink;
+use crate::unbooked::Unbooked;
+use audit_book::{put_end, put_entry, put_header};
+use coll_text::send;
+use run_state::Book;
+use wall_policy::Policy;
+
+// Writes the text out, and leaves none.
+fn send_text<B: BookSink>(text: &mut Vec<u8>, sink: &mut B) -> Result<(), Unbooked>
+    ensures written { OnOk result
+        (Appends (B.contents sink.old) (B.contents sink.new) text.old.items) }
+    ensures went { OnOk result (B.failures sink.new ≡ B.failures sink.old) }
+    ensures none { OnOk result (text.new.items ≡ []) }
+    ensures fault { IfErr result
+        (λ fault. IsUnbooked fault (B.failures sink.old) (B.failures sink.new)) }
+    ensures front { OnErr result
+        (AppendsFront (B.contents sink.old) (B.contents sink.new) text.old.items) }
+{
+    match send(text, sink) {
+        Ok(()) => Ok(()),
+        Err(_) => Err(Unbooked::Write),
+    }
+}
+
+// Tells the sink that an instance has settled, if one has.
+fn tell<B: BookSink>(settled: bool, sink: &mut B) -> Result<(), Unbooked>
+    ensures went { OnOk result (B.failures sink.new ≡ B.failures sink.old) }
+    ensures fault { IfErr result
+        (λ fault. IsUnbooked fault (B.failures sink.old) (B.failures sink.new)) }
+    ensures same { Keeps (B.contents sink.old) (B.contents sink.new) }
+    ensures lasts { IsTrue settled →
+        OnOk result (Keeps (B.lasting sink.new) (B.contents sink.new)) }
+{
+    if !settled {
+        return Ok(());
+    }
+    match sink.settled() {
+        Ok(()) => Ok(()),
+        Err(_) => Err(Unbooked::Write),
+    }
+}
+
+// Appends the lines of entries, whose processes and datasets are the policy's.
+fn put_entries(policy: &Policy, news: &Book, text: &mut Vec<u8>) -> Result<(), Unbooked>
+    requires { All (IsKnownEntry policy.now) news.now.list }
+    ensures put { OnOk result
+        (text.new.items ≡ text.old.items ++ entry_lines policy.now news.now.list) }
+    ensures fault { IfErr result (λ fault. fault ≡ LacksMemory) }
+{
+    for at in 0..news.len() {
+        put_entry(policy, news.get(at), text)?;
+    }
+    Ok(())
+}
+
+/// Writes the first line of a book under the policy.
+pub fn write_header<B: BookSink>(
+    policy: &Policy,
+    text: &mut Vec<u8>,
+    sink: &mut B,
+) -> Result<(), Unbooked>
+    requires { text.old.items ≡ [] }
+    ensures written { OnOk result (Appends (B.contents sink.old) (B.contents sink.new)
+        (line_of (header_words policy.now.version))) }
+    ensures went { OnOk result (B.failures sink.new ≡ B.failures sink.old) }
+    ensures none { OnOk result (text.new.items ≡ []) }
+    ensures fault { IfErr result
+        (λ fault. IsUnbooked fault (B.failures sink.old) (B.failures sink.new)) }
+    ensures front { OnErr result (AppendsFront (B.contents sink.old) (B.contents sink.new)
+        (line_of (header_words policy.now.version))) }
+{
+    put_header(policy, text)?;
+    send_text(text, sink)
+}
+
+/// Writes the lines of entries, whose processes and datasets are the policy's. Where they settle an
+/// instance the sink is then told so.
+#[tactic(auto, using(crate::proofs::WritingLemmas::appends_kept, crate::proofs::WritingLemmas::whole_front, crate::proofs::WritingLemmas::no_front))]
+pub fn write_entries<B: BookSink>(
+    policy: &Policy,
+    news: &Book,
+    settled: bool,
+    text: &mut Vec<u8>,
+    sink: &mut B,
+) -> Result<(), Unbooked>
+    requires known { All (IsKnownEntry policy.now) news.now.list }
+    requires none { text.old.items ≡ [] }
+    ensures written { OnOk result (Appends (B.contents sink.old) (B.contents sink.new)
+        (entry_lines policy.now news.now.list)) }
+    ensures went { OnOk result (B.failures sink.new ≡ B.failures sink.old) }
+    ensures none { OnOk result (text.new.items ≡ []) }
+    ensures lasts { IsTrue settled →
+        OnOk result (Keeps (B.lasting sink.new) (B.contents sink.new)) }
+    ensures fault { IfErr result
+        (λ fault. IsUnbooked fault (B.failures sink.old) (B.failures sink.new)) }
+    ensures front { OnErr result (AppendsFront (B.contents sink.old) (B.contents sink.new)
+        (entry_lines policy.now news.now.list)) }
+{
+    put_entries(policy, news, text)?;
+    send_text(text, sink)?;
+    tell(settled, sink)
+}
+
+/// Writes the last line of a book of so many entries.
+pub fn write_end<B: BookSink>(
+    entries: u64,
+    text: &mut Vec<u8>,
+    sink: &mut B,
+) -> Result<(), Unbooked>
+    requires { text.old.items ≡ [] }
+    ensures written { OnOk result (Appends (B.contents sink.old) (B.contents sink.new)
+        (line_of (end_words entries))) }
+    ensures went { OnOk result (B.failures sink.new ≡ B.failures sink.old) }
+    ensures fault { IfErr result
+        (λ fault. IsUnbooked fault (B.failures sink.old) (B.failures sink.new)) }
+    ensures front { OnErr result (AppendsFront (B.contents sink.old) (B.contents sink.new)
+        (line_of (end_words entries))) }
+{
+    put_end(entries as usize, text)?;
+    send_text(text, sink)
+}

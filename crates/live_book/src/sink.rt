@@ -1,0 +1,19 @@
+//! What a book is written to.
+ghost use Rattle.std.specs.Prelude.{◌≡◌, ℕ, ◌+◌, List, Option, None, OnOk, OnErr};
+ghost use Rattle.std.specs.Io.KnownBytes.{Keeps};
+
+use wall_labels::{Failed, Sink};
+
+/// A writer that is told of each instance that settles, so that a device may make it last.
+pub trait BookSink: Sink {
+    /// The bytes that it was told to make last, where they are known.
+    ghost lasting: { Self → Option (List ℕ) } = { λ _. None };
+
+    /// The entries of a post that settled an instance were written, and its reply comes next. A
+    /// device may see to it here that all that was written lasts. It writes nothing.
+    fn settled(&mut self) -> Result<(), Failed>
+        ensures went { OnOk result (Self.failures self.new ≡ Self.failures self.old) }
+        ensures failed { OnErr result (Self.failures self.new ≡ Self.failures self.old + 1) }
+        ensures same { Keeps (Self.contents self.old) (Self.contents self.new) }
+        ensures lasts { OnOk result (Keeps (lasting self.new) (Self.contents self.new)) };
+}
