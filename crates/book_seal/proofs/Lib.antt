@@ -1,0 +1,6 @@
+pub mod FinishedLemmas
+pub mod BegunLemmas
+pub mod SealLemmas
+pub mod ExactLemmas
+pub mod KnownLemmas
+pub mod LawLemmas

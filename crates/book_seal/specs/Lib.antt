@@ -1,0 +1,6 @@
+-- what is finished of a text, and what its seal is
+pub mod Seals
+-- why a text has no seal
+pub mod Refusals
+-- how far a seal has come (of private contracts)
+pub mod SealSteps

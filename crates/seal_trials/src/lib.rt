@@ -1,0 +1,11 @@
+//! The tests of the seal of a book, through its public calls.
+//!
+//! They stand in a crate of their own, since a check of a crate's tests proves the crate once more.
+#![tactic(auto)]
+
+#[cfg(test)]
+mod cuts;
+#[cfg(test)]
+mod refused;
+#[cfg(test)]
+mod stored;
