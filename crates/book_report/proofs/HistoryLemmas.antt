@@ -25,7 +25,7 @@ use Rattle.run_model.specs.Posts.{Post, comms, filled, histories, outcome, outco
 use Rattle.run_model.specs.Posts.{is_granted, with_delivery}
 use Rattle.run_model.specs.Books.{posted, posts_in}
 use Rattle.run_model.proofs.RunModelLemmas.{posts_in-append}
-use Rattle.audit_book.proofs.StepLemmas.{take_more}
+use Rattle.audit_book.proofs.AuditBookLemmas.{take_more}
 use Rattle.book_report.specs.Held.{posts_to, histories_after, IsFirstAfter}
 
 ---- before the first entry

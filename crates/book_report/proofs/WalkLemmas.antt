@@ -26,9 +26,8 @@ use Rattle.run_state.specs.declared.entered.Entered.TheVariants.{Settled as sett
 use Rattle.run_state.specs.Views.{PostStateValue}
 use Rattle.run_state.specs.Stands.{Tells}
 use Rattle.audit_book.specs.Checks.{Stands, post_of, bare}
-use Rattle.audit_book.proofs.StepLemmas.{take_more, posts_few, length_front}
-use Rattle.audit_book.proofs.StepLemmas.{post_counts}
-use Rattle.audit_book.proofs.CheckLemmas.{bare_posts}
+use Rattle.audit_book.proofs.AuditBookLemmas.{take_more, posts_few, length_front}
+use Rattle.audit_book.proofs.AuditBookLemmas.{bare_posts, post_counts}
 use Rattle.book_report.specs.declared.row.Row.{Row}
 use Rattle.book_report.specs.declared.row.Way.TheVariants.{OwnPost}
 use Rattle.book_report.specs.declared.known.Known.{Known}

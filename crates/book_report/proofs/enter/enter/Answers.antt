@@ -2,7 +2,7 @@ use Rattle.std.proofs.Common.{◌∷◌, subst}
 use Rattle.run_state.specs.Views.{view_of}
 use Rattle.run_state.specs.Stands.{StandsForPosts, Tells}
 use Rattle.audit_book.specs.Checks.{bare, post_of}
-use Rattle.audit_book.proofs.CheckLemmas.{accepted_is, word_is, few_is}
+use Rattle.audit_book.proofs.AuditBookLemmas.{accepted_is, word_is, few_is}
 use Rattle.book_report.proofs.WalkLemmas.{told_is}
 use Rattle.book_report.proofs.enter.enter.Goals as goal
 

@@ -1,0 +1,102 @@
+-- The line of each fact and of each warning. (Own format.)
+use Rattle.std.specs.Prelude.{◌≡◌, ℕ, ◌<◌, ◌↔◌, nat_eq, List, ◌++◌, codes, AllPairs, Contains}
+use Rattle.std.specs.Prelude.{Option, Some, None, find, length, if◌then◌else◌}
+use Rattle.std.specs.List.{flat_map}
+use Rattle.std.specs.Fmt.{decimal}
+use Rattle.wall_labels.specs.declared.op.Op.{Op}
+use Rattle.wall_labels.specs.Ops.{op_name}
+use Rattle.wall_policy.specs.Policy.{ChineseWall, rival}
+use Rattle.mpi_cart.specs.Grids.{below}
+use Rattle.coll_text.specs.Words.{name_at}
+use Rattle.policy_meaning.specs.declared.fact.Fact.{Fact}
+use Rattle.policy_meaning.specs.declared.fact.Fact.TheVariants.{OfClass, AtHome, NoHome}
+use Rattle.policy_meaning.specs.declared.fact.Fact.TheVariants.{KeptApart, SanitisedFrom}
+use Rattle.policy_meaning.specs.declared.warning.Doubt.{Doubt}
+use Rattle.policy_meaning.specs.declared.warning.Doubt.TheVariants.{TooFewProcesses}
+use Rattle.policy_meaning.specs.declared.warning.Doubt.TheVariants.{TooFewDatasets, TellsOneFigure}
+use Rattle.policy_meaning.specs.declared.warning.Doubt.TheVariants.{TwoContributors, FewDatasets}
+use Rattle.policy_meaning.specs.declared.warning.Warning.{Warning}
+use Rattle.policy_meaning.specs.declared.warning.Warning.TheVariants.{NothingSanitised}
+use Rattle.policy_meaning.specs.declared.warning.Warning.TheVariants.{OfOperation, NoRival}
+use Rattle.policy_meaning.specs.declared.warning.Warning.TheVariants.{NobodysHome, AnyLabel}
+use Rattle.policy_meaning.specs.Facts.{IsFact, fact_place}
+use Rattle.policy_meaning.specs.Warnings.{Warns, warning_place}
+
+abbrev pub dataset_name : ChineseWall → ℕ → List ℕ
+dataset_name wall d = name_at wall.dataset_names d
+
+abbrev pub process_name : ChineseWall → ℕ → List ℕ
+process_name wall p = name_at wall.process_names p
+
+-- the first rival of a dataset, if it has one
+abbrev pub rival_of : ChineseWall → (dataset : ℕ) → Option ℕ
+rival_of wall d = find (rival wall d) (below (length wall.dataset_names))
+
+-- what is said of the class of a dataset: a class has no name here, so another dataset of it is
+-- named
+abbrev pub class_words : ChineseWall → (other : Option ℕ) → List ℕ
+class_words wall (Some d) = codes " is in one class with " ++ dataset_name wall d
+class_words wall None = codes " is alone in its class"
+
+abbrev pub class_text : ChineseWall → (dataset : ℕ) → List ℕ
+class_text wall d = dataset_name wall d ++ class_words wall (rival_of wall d)
+
+abbrev pub home_text : (process dataset : List ℕ) → List ℕ
+home_text process dataset = process ++ codes " is at home at " ++ dataset
+
+abbrev pub pair_text : (left right : List ℕ) → List ℕ
+pair_text left right = left ++ codes " and " ++ right ++ codes " never hold each other's data"
+
+abbrev pub datasets_text : ℕ → List ℕ
+datasets_text n = if nat_eq n 1 then codes "1 dataset" else decimal n ++ codes " datasets"
+
+abbrev pub counts_text : (least distinct : ℕ) → List ℕ
+counts_text least distinct = decimal least ++ codes " contributors and " ++ datasets_text distinct
+
+abbrev pub numbers_text : Op → (least distinct : ℕ) → List ℕ
+numbers_text op least distinct =
+    op_name op ++ codes " is sanitised from " ++ counts_text least distinct ++ codes " on"
+
+abbrev pub fact_text : ChineseWall → Fact → List ℕ
+fact_text wall (OfClass d class) = class_text wall d
+fact_text wall (AtHome p d) = home_text (process_name wall p) (dataset_name wall d)
+fact_text wall (NoHome p) = process_name wall p ++ codes " has no home"
+fact_text wall (KeptApart p q) = pair_text (process_name wall p) (process_name wall q)
+fact_text wall (SanitisedFrom op least distinct) = numbers_text op least distinct
+
+-- what is said of an operation, behind its name
+abbrev pub doubt_text : Doubt → List ℕ
+doubt_text TooFewProcesses =
+    codes " is never sanitised: it takes more contributors than there are processes"
+doubt_text TooFewDatasets =
+    codes " is never sanitised: it takes more datasets than the processes can give data of"
+doubt_text TellsOneFigure = codes " is sanitised, though its result is one member's figure"
+doubt_text TwoContributors =
+    codes " is sanitised from 2 contributors on: each can learn the other's figure"
+doubt_text FewDatasets =
+    codes " is sanitised from 1 or 2 datasets on: a firm can learn its rival's figure"
+
+abbrev pub warning_text : ChineseWall → Warning → List ℕ
+warning_text wall NothingSanitised = codes "no result is ever sanitised: there is no sanitise rule"
+warning_text wall (OfOperation op doubt) = op_name op ++ doubt_text doubt
+warning_text wall (NoRival d) =
+    dataset_name wall d ++ codes " has no rival: its data may reach everybody"
+warning_text wall (NobodysHome d) = codes "no process is at home at " ++ dataset_name wall d
+warning_text wall (AnyLabel p) =
+    process_name wall p ++ codes " has no home: it may write any label on a zero"
+
+abbrev pub fact_line : ChineseWall → Fact → List ℕ
+fact_line wall fact = fact_text wall fact ++ codes "\n"
+
+abbrev pub warning_line : ChineseWall → Warning → List ℕ
+warning_line wall warning = codes "warning: " ++ warning_text wall warning ++ codes "\n"
+
+-- the lines of all facts of the policy, and of all warnings that are due to it, in their orders
+pub record IsMeaning (wall : ChineseWall) (text : List ℕ) : Type 0 where
+  pub facts : List Fact
+  pub warnings : List Warning
+  pub all_facts : (fact : Fact) → Contains facts fact ↔ IsFact wall fact
+  pub facts_in_order : AllPairs (λ a b. fact_place a < fact_place b) facts
+  pub all_warnings : (warning : Warning) → Contains warnings warning ↔ Warns wall warning
+  pub warnings_in_order : AllPairs (λ a b. warning_place a < warning_place b) warnings
+  pub lines : text ≡ flat_map (fact_line wall) facts ++ flat_map (warning_line wall) warnings

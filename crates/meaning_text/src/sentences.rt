@@ -1,0 +1,221 @@
+//! The line of each fact and of each warning.
+ghost use Rattle.std.specs.Prelude.{◌≡◌, ◌<◌, ◌++◌, OnOk, IfOk, IfSome, All, length};
+ghost use Rattle.std.specs.List.{flat_map};
+ghost use Rattle.meaning_text.specs.Sentences.{rival_of, class_words, class_text, home_text};
+ghost use Rattle.meaning_text.specs.Sentences.{pair_text, datasets_text, counts_text};
+ghost use Rattle.meaning_text.specs.Sentences.{numbers_text, fact_text, doubt_text};
+ghost use Rattle.meaning_text.specs.Sentences.{warning_text, fact_line, warning_line, IsMeaning};
+ghost use Rattle.policy_meaning.specs.Known.{IsKnownFact, IsKnownWarning};
+
+use coll_text::{put, put_decimal};
+use policy_meaning::{Doubt, Fact, Warning, facts, warnings};
+use std::alloc::{AllocError, Global};
+use wall_labels::{DatasetId, NoMemory, Op};
+use wall_policy::Policy;
+
+// Two words one after the other.
+fn put_two(text: &mut Vec<u8>, first: &str, second: &str) -> Result<(), AllocError>
+    ensures { OnOk result (text.new.items ≡ text.old.items ++ (first.now ++ second.now)) }
+{
+    put(text, first)?;
+    put(text, second)
+}
+
+// The first rival of the dataset.
+fn rival_of(policy: &Policy, dataset: DatasetId) -> Option<DatasetId>
+    ensures first { result ≡ rival_of policy.now dataset }
+    ensures known { IfSome result (λ other. other < length policy.now.dataset_names) }
+{
+    for number in 0..policy.datasets() {
+        let other = DatasetId::new(number).unwrap();
+        if policy.rival(dataset, other) {
+            return Some(other);
+        }
+    }
+    None
+}
+
+// What is said of the class of a dataset whose first rival this is.
+#[tactic(auto, using(crate::proofs::NameLemmas::name_is))]
+fn put_rival(
+    text: &mut Vec<u8>,
+    policy: &Policy,
+    rival: Option<DatasetId>,
+) -> Result<(), AllocError>
+    requires { IfSome rival (λ other. other < length policy.now.dataset_names) }
+    ensures { OnOk result (text.new.items ≡ text.old.items ++ class_words policy.now rival) }
+{
+    match rival {
+        Some(other) => put_two(text, " is in one class with ", policy.dataset_name(other)),
+        None => put(text, " is alone in its class"),
+    }
+}
+
+#[tactic(auto, using(crate::proofs::NameLemmas::name_is))]
+fn put_class(text: &mut Vec<u8>, policy: &Policy, dataset: DatasetId) -> Result<(), AllocError>
+    requires { dataset < length policy.now.dataset_names }
+    ensures { OnOk result (text.new.items ≡ text.old.items ++ class_text policy.now dataset) }
+{
+    put(text, policy.dataset_name(dataset))?;
+    put_rival(text, policy, rival_of(policy, dataset))
+}
+
+fn put_home(text: &mut Vec<u8>, process: &str, dataset: &str) -> Result<(), AllocError>
+    ensures { OnOk result (text.new.items ≡ text.old.items ++ home_text process.now dataset.now) }
+{
+    put(text, process)?;
+    put(text, " is at home at ")?;
+    put(text, dataset)
+}
+
+fn put_pair(text: &mut Vec<u8>, left: &str, right: &str) -> Result<(), AllocError>
+    ensures { OnOk result (text.new.items ≡ text.old.items ++ pair_text left.now right.now) }
+{
+    put(text, left)?;
+    put(text, " and ")?;
+    put(text, right)?;
+    put(text, " never hold each other's data")
+}
+
+fn put_datasets(text: &mut Vec<u8>, number: u32) -> Result<(), AllocError>
+    ensures { OnOk result (text.new.items ≡ text.old.items ++ datasets_text number) }
+{
+    if number == 1 {
+        return put(text, "1 dataset");
+    }
+    put_decimal(text, u64::from(number))?;
+    put(text, " datasets")
+}
+
+fn put_counts(text: &mut Vec<u8>, least: u32, distinct: u32) -> Result<(), AllocError>
+    ensures { OnOk result (text.new.items ≡ text.old.items ++ counts_text least distinct) }
+{
+    put_decimal(text, u64::from(least))?;
+    put(text, " contributors and ")?;
+    put_datasets(text, distinct)
+}
+
+fn put_numbers(text: &mut Vec<u8>, op: Op, least: u32, distinct: u32) -> Result<(), AllocError>
+    ensures { OnOk result (text.new.items ≡ text.old.items ++ numbers_text op least distinct) }
+{
+    put(text, op.name())?;
+    put(text, " is sanitised from ")?;
+    put_counts(text, least, distinct)?;
+    put(text, " on")
+}
+
+#[tactic(auto, using(crate::proofs::NameLemmas::name_is))]
+fn put_fact(text: &mut Vec<u8>, policy: &Policy, fact: &Fact) -> Result<(), AllocError>
+    requires { IsKnownFact policy.now fact.now }
+    ensures { OnOk result (text.new.items ≡ text.old.items ++ fact_text policy.now fact.now) }
+{
+    match fact {
+        Fact::OfClass { dataset, class: _ } => put_class(text, policy, *dataset),
+        Fact::AtHome { process, dataset } => put_home(
+            text,
+            policy.process_name(*process),
+            policy.dataset_name(*dataset),
+        ),
+        Fact::NoHome { process } => put_two(text, policy.process_name(*process), " has no home"),
+        Fact::KeptApart { left, right } => put_pair(
+            text,
+            policy.process_name(*left),
+            policy.process_name(*right),
+        ),
+        Fact::SanitisedFrom {
+            op,
+            least,
+            distinct,
+        } => put_numbers(text, *op, *least, *distinct),
+    }
+}
+
+fn doubt_words(doubt: Doubt) -> &'static str
+    ensures { result.now ≡ doubt_text doubt }
+{
+    match doubt {
+        Doubt::TooFewProcesses => {
+            " is never sanitised: it takes more contributors than there are processes"
+        }
+        Doubt::TooFewDatasets => {
+            " is never sanitised: it takes more datasets than the processes can give data of"
+        }
+        Doubt::TellsOneFigure => " is sanitised, though its result is one member's figure",
+        Doubt::TwoContributors => {
+            " is sanitised from 2 contributors on: each can learn the other's figure"
+        }
+        Doubt::FewDatasets => {
+            " is sanitised from 1 or 2 datasets on: a firm can learn its rival's figure"
+        }
+    }
+}
+
+#[tactic(auto, using(crate::proofs::NameLemmas::name_is))]
+fn put_warning(text: &mut Vec<u8>, policy: &Policy, warning: &Warning) -> Result<(), AllocError>
+    requires { IsKnownWarning policy.now warning.now }
+    ensures { OnOk result (text.new.items ≡ text.old.items ++ warning_text policy.now warning.now) }
+{
+    match warning {
+        Warning::NothingSanitised => {
+            put(
+                text,
+                "no result is ever sanitised: there is no sanitise rule",
+            )
+        }
+        Warning::OfOperation { op, doubt } => put_two(text, op.name(), doubt_words(*doubt)),
+        Warning::NoRival { dataset } => put_two(
+            text,
+            policy.dataset_name(*dataset),
+            " has no rival: its data may reach everybody",
+        ),
+        Warning::NobodysHome { dataset } => put_two(
+            text,
+            "no process is at home at ",
+            policy.dataset_name(*dataset),
+        ),
+        Warning::AnyLabel { process } => put_two(
+            text,
+            policy.process_name(*process),
+            " has no home: it may write any label on a zero",
+        ),
+    }
+}
+
+fn put_facts(text: &mut Vec<u8>, policy: &Policy, facts: &[Fact]) -> Result<(), AllocError>
+    requires { All (IsKnownFact policy.now) facts.now }
+    ensures { OnOk result
+        (text.new.items ≡ text.old.items ++ flat_map (fact_line policy.now) facts.now) }
+{
+    for fact in facts {
+        put_fact(text, policy, fact)?;
+        put(text, "\n")?;
+    }
+    Ok(())
+}
+
+fn put_warnings(text: &mut Vec<u8>, policy: &Policy, warnings: &[Warning]) -> Result<(), AllocError>
+    requires { All (IsKnownWarning policy.now) warnings.now }
+    ensures { OnOk result
+        (text.new.items ≡ text.old.items ++ flat_map (warning_line policy.now) warnings.now) }
+{
+    for warning in warnings {
+        put(text, "warning: ")?;
+        put_warning(text, policy, warning)?;
+        put(text, "\n")?;
+    }
+    Ok(())
+}
+
+/// What the policy means: a line for each fact, and one for each warning.
+///
+/// A line has at most 98 bytes, its end left out, since a name has at most 32.
+pub fn meaning_text(alloc: Global, policy: &Policy) -> Result<Vec<u8>, NoMemory>
+    ensures { IfOk result (λ text. IsMeaning policy.now text.items) }
+{
+    let facts = facts(alloc, policy)?;
+    let warnings = warnings(alloc, policy)?;
+    let mut text = Vec::new(alloc);
+    put_facts(&mut text, policy, &facts)?;
+    put_warnings(&mut text, policy, &warnings)?;
+    Ok(text)
+}

@@ -1,0 +1,228 @@
+//! What policies mean, worked by hand from the rules.
+
+use crate::walls::{
+    BANKS_AND_INSURER, CONSULTANTS, DESKS, DESKS_OF_TWO, DOUBTFUL, FOUR_BANKS, LONG, policy,
+};
+use meaning_text::meaning_text;
+use policy_meaning::{Doubt, Warning, are_kept_apart, most_labels, warns};
+use std::process::Abort;
+use std::test::Fail;
+use wall_labels::{DatasetId, Op, ProcessId};
+
+// The lines of a policy's meaning are these, and none has more than 100 columns.
+fn says(rt: &(impl AllocGlobal + Abort), wall: &str, expected: &str) -> Result<(), Fail> {
+    let policy = policy(rt, wall);
+    let said = meaning_text(rt.alloc(), &policy);
+    drop(policy);
+    match said {
+        Ok(text) => {
+            assert_eq!(rt; text.as_slice(), expected.as_bytes());
+            let mut column: u32 = 0;
+            for byte in &text {
+                column = if *byte == b'\n' {
+                    0
+                } else {
+                    column.saturating_add(1)
+                };
+                assert!(rt; column <= 100);
+            }
+        }
+        Err(_) => panic!(rt; "out of memory"),
+    }
+    Ok(())
+}
+
+#[test]
+fn banks_and_an_insurer(rt: HostRuntime) -> Result<(), Fail> {
+    says(
+        &rt,
+        BANKS_AND_INSURER,
+        "alpha is in one class with beta
+beta is in one class with alpha
+umbra is alone in its class
+a0 is at home at alpha
+b0 is at home at beta
+i0 is at home at umbra
+a0 and b0 never hold each other's data
+sum is sanitised from 3 contributors and 3 datasets on
+warning: umbra has no rival: its data may reach everybody
+",
+    )
+}
+
+#[test]
+fn consultants(rt: HostRuntime) -> Result<(), Fail> {
+    says(
+        &rt,
+        CONSULTANTS,
+        "alpha is in one class with beta
+beta is in one class with alpha
+crude is in one class with delta
+delta is in one class with crude
+a0 is at home at alpha
+b0 is at home at beta
+c0 is at home at crude
+consultant has no home
+a0 and b0 never hold each other's data
+warning: no result is ever sanitised: there is no sanitise rule
+warning: no process is at home at delta
+",
+    )
+}
+
+#[test]
+fn desks(rt: HostRuntime) -> Result<(), Fail> {
+    says(
+        &rt,
+        DESKS,
+        "alpha is in one class with beta
+beta is in one class with alpha
+a0 is at home at alpha
+a1 is at home at alpha
+b0 is at home at beta
+a0 and b0 never hold each other's data
+a1 and b0 never hold each other's data
+sum is sanitised from 3 contributors and 1 dataset on
+warning: sum is sanitised from 1 or 2 datasets on: a firm can learn its rival's figure
+",
+    )?;
+    says(
+        &rt,
+        DESKS_OF_TWO,
+        "alpha is in one class with beta
+beta is in one class with alpha
+a0 is at home at alpha
+a1 is at home at alpha
+b0 is at home at beta
+a0 and b0 never hold each other's data
+a1 and b0 never hold each other's data
+sum is sanitised from 3 contributors and 3 datasets on
+warning: sum is never sanitised: it takes more datasets than the processes can give data of
+",
+    )
+}
+
+#[test]
+fn four_banks(rt: HostRuntime) -> Result<(), Fail> {
+    says(
+        &rt,
+        FOUR_BANKS,
+        "alpha is in one class with beta
+beta is in one class with alpha
+gamma is in one class with alpha
+delta is in one class with alpha
+a0 is at home at alpha
+b0 is at home at beta
+g0 is at home at gamma
+d0 is at home at delta
+n0 has no home
+a0 and b0 never hold each other's data
+a0 and g0 never hold each other's data
+a0 and d0 never hold each other's data
+b0 and g0 never hold each other's data
+b0 and d0 never hold each other's data
+g0 and d0 never hold each other's data
+sum is sanitised from 4 contributors and 4 datasets on
+warning: n0 has no home: it may write any label on a zero
+",
+    )
+}
+
+#[test]
+fn each_warning(rt: HostRuntime) -> Result<(), Fail> {
+    says(
+        &rt,
+        DOUBTFUL,
+        "alpha is in one class with beta
+beta is in one class with alpha
+gamma is in one class with alpha
+umbra is alone in its class
+a0 is at home at alpha
+n0 has no home
+sum is sanitised from 4 contributors and 4 datasets on
+minloc is sanitised from 2 contributors and 2 datasets on
+warning: sum is never sanitised: it takes more contributors than there are processes
+warning: sum is never sanitised: it takes more datasets than the processes can give data of
+warning: minloc is sanitised, though its result is one member's figure
+warning: minloc is sanitised from 2 contributors on: each can learn the other's figure
+warning: minloc is sanitised from 1 or 2 datasets on: a firm can learn its rival's figure
+warning: umbra has no rival: its data may reach everybody
+warning: no process is at home at beta
+warning: no process is at home at gamma
+warning: no process is at home at umbra
+warning: n0 has no home: it may write any label on a zero
+",
+    )
+}
+
+#[test]
+fn long_names(rt: HostRuntime) -> Result<(), Fail> {
+    says(
+        &rt,
+        LONG,
+        "alpha-alpha-alpha-alpha-alpha-32 is in one class with beta-beta-beta-beta-beta-beta-32
+beta-beta-beta-beta-beta-beta-32 is in one class with alpha-alpha-alpha-alpha-alpha-32
+left-left-left-left-left-left-32 is at home at alpha-alpha-alpha-alpha-alpha-32
+right-right-right-right-right-32 is at home at beta-beta-beta-beta-beta-beta-32
+third-third-third-third-third-32 has no home
+left-left-left-left-left-left-32 and right-right-right-right-right-32 never hold each other's data
+maxloc is sanitised from 256 contributors and 256 datasets on
+warning: maxloc is never sanitised: it takes more contributors than there are processes
+warning: maxloc is never sanitised: it takes more datasets than the processes can give data of
+warning: maxloc is sanitised, though its result is one member's figure
+warning: third-third-third-third-third-32 has no home: it may write any label on a zero
+",
+    )
+}
+
+#[test]
+fn who_is_kept_apart(rt: HostRuntime) -> Result<(), Fail> {
+    let policy = policy(&rt, FOUR_BANKS);
+    let a0 = ProcessId::new(0).unwrap();
+    let b0 = ProcessId::new(1).unwrap();
+    let n0 = ProcessId::new(4).unwrap();
+    let nobody = ProcessId::new(5).unwrap();
+    assert!(&rt; are_kept_apart(&policy, a0, b0));
+    assert!(&rt; are_kept_apart(&policy, b0, a0));
+    assert!(&rt; !are_kept_apart(&policy, a0, a0));
+    assert!(&rt; !are_kept_apart(&policy, a0, n0));
+    assert!(&rt; !are_kept_apart(&policy, a0, nobody));
+    Ok(())
+}
+
+// The datasets of one class with a process each, and those of which one alone has a process.
+#[test]
+fn how_many_datasets_labels_name(rt: HostRuntime) -> Result<(), Fail> {
+    assert_eq!(&rt; most_labels(&policy(&rt, DOUBTFUL)), 2);
+    assert_eq!(&rt; most_labels(&policy(&rt, FOUR_BANKS)), 4);
+    assert_eq!(&rt; most_labels(&policy(&rt, DESKS)), 2);
+    Ok(())
+}
+
+// One question of each kind, and some that are of no dataset and no process of the policy.
+#[test]
+fn which_warnings_are_due(rt: HostRuntime) -> Result<(), Fail> {
+    let policy = policy(&rt, DOUBTFUL);
+    let few_datasets = Warning::OfOperation {
+        op: Op::Sum,
+        doubt: Doubt::TooFewDatasets,
+    };
+    let of_no_rule = Warning::OfOperation {
+        op: Op::Max,
+        doubt: Doubt::TellsOneFigure,
+    };
+    assert!(&rt; !warns(&policy, &Warning::NothingSanitised));
+    assert!(&rt; warns(&policy, &few_datasets));
+    assert!(&rt; !warns(&policy, &of_no_rule));
+    let dataset = DatasetId::new(3).unwrap();
+    let process = ProcessId::new(1).unwrap();
+    assert!(&rt; warns(&policy, &Warning::NoRival { dataset }));
+    assert!(&rt; warns(&policy, &Warning::NobodysHome { dataset }));
+    assert!(&rt; warns(&policy, &Warning::AnyLabel { process }));
+    let dataset = DatasetId::new(4).unwrap();
+    let process = ProcessId::new(2).unwrap();
+    assert!(&rt; !warns(&policy, &Warning::NoRival { dataset }));
+    assert!(&rt; !warns(&policy, &Warning::NobodysHome { dataset }));
+    assert!(&rt; !warns(&policy, &Warning::AnyLabel { process }));
+    Ok(())
+}
