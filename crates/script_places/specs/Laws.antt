@@ -1,0 +1,16 @@
+-- What holds of all lines.
+use Rattle.std.specs.Prelude.{◌≡◌, ℕ, List}
+use Rattle.coll_text.specs.declared.fault.LineFault.{LineFault}
+use Rattle.coll_text.specs.Numbers.{Word}
+use Rattle.script_places.specs.Places.{HaveFault, IsColumn}
+use Rattle.script_places.specs.Cuts.{StaysWithProbe}
+
+-- a fault that stays with the probe behind the words stays whatever stands behind them
+abbrev pub ProbeTells : Type 0
+ProbeTells = (datasets ws : List Word) (fault : LineFault) → StaysWithProbe datasets ws fault →
+    HaveFault datasets ws fault
+
+-- the fault of a line stands in one column
+abbrev pub ColumnsAreUnique : Type 0
+ColumnsAreUnique = (datasets : List Word) (line : List ℕ) (fault : LineFault) (c d : ℕ) →
+    IsColumn datasets line fault c → IsColumn datasets line fault d → c ≡ d

@@ -1,0 +1,91 @@
+//! The faults of a script.
+ghost use Rattle.std.specs.Prelude.{◌≡◌, IfOk, IfSome, IfNone};
+ghost use Rattle.coll_text.specs.declared.fault.LineFault.{LineFault};
+ghost use Rattle.coll_text.specs.Reading.{parts};
+ghost use Rattle.hall_script.specs.Scripts.{trimmed, is_skipped};
+ghost use Rattle.script_places.specs.Places.{IsColumn};
+ghost use Rattle.script_places.specs.Found.{HasFault, AreFaults};
+
+use crate::column::column_of;
+use crate::found::Found;
+use coll_text::{LineFault, Parts};
+use hall_script::read_call;
+use std::alloc::Global;
+use wall_labels::NoMemory;
+use wall_policy::Policy;
+
+fn trim(line: &[u8]) -> &[u8]
+    ensures { result.now ≡ trimmed line.now }
+{
+    match line {
+        [front @ .., b'\r'] => front,
+        _ => line,
+    }
+}
+
+fn is_skipped(line: &[u8]) -> bool
+    ensures { result ≡ is_skipped line.now }
+{
+    match line {
+        [] => true,
+        [first, ..] => *first == b'#',
+    }
+}
+
+// The fault of a line that is no call, with its place.
+fn fault_in(
+    alloc: Global,
+    policy: &Policy,
+    line: &[u8],
+    number: u64,
+) -> Result<Option<Found>, NoMemory>
+    ensures line { IfOk result (λ r. IfSome r (λ found. found.line ≡ number)) }
+    ensures fault { IfOk result
+        (λ r. IfSome r (λ found. HasFault policy.now.dataset_names line.now found.fault)) }
+    ensures column { IfOk result (λ r. IfSome r (λ found.
+        IsColumn policy.now.dataset_names (trimmed line.now) found.fault found.column)) }
+    ensures none { IfOk result (λ r. IfNone r
+        ((fault : LineFault) → ¬ (HasFault policy.now.dataset_names line.now fault))) }
+{
+    let line = trim(line);
+    if is_skipped(line) {
+        return Ok(None);
+    }
+    match read_call(alloc, policy, line) {
+        Ok(call) => {
+            drop(call);
+            Ok(None)
+        }
+        Err(LineFault::NoMemory) => Ok(None),
+        Err(fault) => {
+            let column = column_of(alloc, policy, line, fault)? as u64;
+            Ok(Some(Found {
+                line: number,
+                column,
+                fault,
+            }))
+        }
+    }
+}
+
+/// The faults of a script: for each line that is no call its number, its first fault, and the
+/// column where that stands.
+///
+/// Lines end at LF, and one CR before it is dropped. Empty lines, and those that begin with `#`,
+/// have no fault. Whether the policy has the process of a call is not looked at.
+pub fn faults_of(alloc: Global, policy: &Policy, script: &[u8]) -> Result<Vec<Found>, NoMemory>
+    ensures { IfOk result
+        (λ list. AreFaults policy.now.dataset_names (parts 10 script.now) list.items) }
+{
+    let mut list = Vec::new(alloc);
+    let mut lines = Parts::new(script, b'\n');
+    let mut number = 1;
+    while let Some(line) = lines.next_long() {
+        match fault_in(alloc, policy, line, number)? {
+            None => {}
+            Some(found) => list.push(found)?,
+        }
+        number += 1;
+    }
+    Ok(list)
+}
