@@ -3,6 +3,7 @@ pub mod KeyLemmas
 pub mod NameLemmas
 pub mod RepeatLemmas
 pub mod BuildLemmas
+pub mod FrontLemmas
 pub mod LowestLemmas
 pub mod PlaceLemmas
 pub mod PolicyLemmas

@@ -3,7 +3,7 @@
 -- conflict of interest classes, sanitised information. Homes and least numbers are own rules.)
 use Rattle.std.specs.Prelude.{◌≡◌, ℕ, ◌<◌, ◌≤◌, nat_eq, nat_le, Bool, true, false, IsTrue, ◌&&◌}
 use Rattle.std.specs.Prelude.{◌||◌, ◌⊎◌, List, length, find, Option, Some, None, option_map}
-use Rattle.std.specs.Prelude.{slice_get}
+use Rattle.std.specs.Prelude.{slice_get, take, filter, nat_lt}
 use Rattle.std.specs.List.{list_all, list_any, AllZip}
 use Rattle.wall_labels.specs.Limits.{process_limit, dataset_limit, class_limit}
 use Rattle.wall_labels.specs.declared.op.Op.{Op}
@@ -146,3 +146,19 @@ pub record CanBeHeld (w : ChineseWall) (pairs : List (ℕ × ℕ)) : Type 0 wher
   pub known : AreKnownPairs w pairs
   pub kept : (p d : ℕ) → held_of w p d ≡ true → has_pair pairs p d ≡ true
   pub apart : NobodyHasRivalsAtFirst (with_held w pairs)
+
+-- ## a front of the processes
+
+-- the policy of the first n processes: what belongs to the others is not in it
+abbrev pub first_processes : ℕ → ChineseWall → ChineseWall
+first_processes n w = record {
+  version = w.version;
+  class_names = w.class_names;
+  dataset_names = w.dataset_names;
+  process_names = take n w.process_names;
+  classes = w.classes;
+  homes = take n w.homes;
+  leasts = w.leasts;
+  distincts = w.distincts;
+  held = filter (λ pair. nat_lt pair.0 n) w.held;
+}

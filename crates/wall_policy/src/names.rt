@@ -1,6 +1,6 @@
 //! Different names, numbered in the order in which they came.
 ghost use Rattle.std.specs.Prelude.{◌≡◌, ◌<◌, ◌++◌, ◌∷◌, [], not, length, IfOk};
-ghost use Rattle.std.specs.Prelude.{OnErr, IfSome, slice_get, Some};
+ghost use Rattle.std.specs.Prelude.{OnErr, IfSome, slice_get, Some, take};
 ghost use Rattle.std.specs.Prelude.{if◌then◌else◌, IsTrue, false};
 ghost use Rattle.wall_policy.specs.Names.{place_of, is_in, comes_twice};
 
@@ -197,6 +197,13 @@ impl NameTable {
         let NameTable { names, hints: _ } = self;
         let hints = copy_of(alloc, &first.hints);
         NameTable { names, hints }
+    }
+
+    /// Takes all but the first names away. (A hint of one that went leads nowhere.)
+    pub(crate) fn truncate(&mut self, number: usize)
+        ensures { self.new ≡ take number self.old }
+    {
+        self.names.truncate(number);
     }
 
     /// Adds a copy of a name, unless it is there.

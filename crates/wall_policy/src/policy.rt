@@ -1,10 +1,11 @@
 //! A policy, as the rules of the wall ask it.
 ghost use Rattle.std.specs.Prelude.{◌≡◌, ◌<◌, ◌≤◌, ◌↔◌, length, IsTrue, IfSome, Some, false, true};
-ghost use Rattle.std.specs.Prelude.{slice_get};
+ghost use Rattle.std.specs.Prelude.{slice_get, filter, nat_lt, ◌+◌};
 ghost use Rattle.wall_labels.specs.declared.ids.TheConstants.{PROCESS_LIMIT, DATASET_LIMIT};
 ghost use Rattle.wall_policy.specs.Names.{place_of, is_name, is_dataset_name};
 ghost use Rattle.wall_policy.specs.Rivals.{AreRivals, are_rivals};
 ghost use Rattle.wall_policy.specs.Policy.{home_if_any, number_in, with_held, CanBeHeld};
+ghost use Rattle.wall_policy.specs.Policy.{first_processes};
 ghost use Rattle.wall_policy.specs.Policy.{AreKnownPairs};
 
 use crate::build::{Lists, lists_of};
@@ -214,6 +215,28 @@ impl Policy {
         self
     }
 
+    /// The policy of the processes up to this one, this one included: those behind it, and what is
+    /// said of them, are not in it. It is an equal policy where this one is the last, or is none.
+    ///
+    /// For books that were written before processes were added.
+    pub fn up_to(&self, alloc: Global, last: ProcessId) -> Result<Policy, NoMemory>
+        ensures { IfOk result (λ front. front ≡ first_processes (last + 1) self.now) }
+    {
+        let copy = self.copy(alloc)?;
+        Ok(copy.first(last.number() as usize + 1))
+    }
+
+    // The policy of so many processes, the first.
+    fn first(mut self, number: usize) -> Policy
+        requires { 1 ≤ number }
+        ensures { result ≡ first_processes number self }
+    {
+        self.process_names.truncate(number);
+        self.homes.truncate(number);
+        keep_first(&mut self.held, number);
+        self
+    }
+
     /// The version of the file that says the policy.
     pub fn version(&self) -> u32
         ensures version { result ≡ self.now.version }
@@ -373,6 +396,13 @@ pub fn are_rivals(classes: &[ClassId], left: DatasetId, right: DatasetId) -> boo
         return false;
     };
     left.number() != right.number() && class.number() == other.number()
+}
+
+// Takes the pairs of all but the first processes away.
+fn keep_first(pairs: &mut Vec<(ProcessId, DatasetId)>, number: usize)
+    ensures { pairs.new.items ≡ filter (λ pair. nat_lt pair.0 number) pairs.old.items }
+{
+    pairs.retain(|pair| (pair.0.number() as usize) < number);
 }
 
 // The number that the list has for the operation.
