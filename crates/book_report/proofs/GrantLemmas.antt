@@ -42,7 +42,7 @@ rank_is members p j e =
     (slice_get-get_or members j 0 at.0 ∙ ap (λ (m : ℕ). Some m) (eqb-true (get_or members j 0) p at.1), at.0)
 
 -- no process is a member at two ranks
-ranked : (members : List ℕ) (j p : ℕ) → IsGroup members → slice_get members j ≡ Some p →
+pub ranked : (members : List ℕ) (j p : ℕ) → IsGroup members → slice_get members j ≡ Some p →
     rank_in members p ≡ Some j
 ranked members j p group at =
     let there = rank_present members p (slice_get-member members j p at) in

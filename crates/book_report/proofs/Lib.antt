@@ -2,3 +2,10 @@ pub mod KnownLemmas
 pub mod HistoryLemmas
 pub mod GrantLemmas
 pub mod WalkLemmas
+pub mod BarLemmas
+pub mod SoundLemmas
+pub mod PartLemmas
+pub mod OffenceLemmas
+pub mod DenialLemmas
+pub mod ReasonLemmas
+pub mod CountLemmas

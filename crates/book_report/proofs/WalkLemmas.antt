@@ -91,7 +91,7 @@ fresh_is has known p d covers fresh = elim (cases_Bool (has p d)) [
   | inr f ↦ f
 ]
 
-post_at : (entries : List Entry) (n : ℕ) (x : Post) → slice_get entries n ≡ Some (posted x) →
+pub post_at : (entries : List Entry) (n : ℕ) (x : Post) → slice_get entries n ≡ Some (posted x) →
     IsPostAt entries (n + 1) x
 post_at entries n x at =
     let last : n ≡ n + 1 - 1 = omega arith in
@@ -210,6 +210,13 @@ come_settled wall entries n post_state known c k o at come =
       rows = known_later wall entries n (n + 1) known (omega arith) come.rows;
       whole = subst (λ ps. Covers (histories wall ps) known) same come.whole;
     }
+
+pub stands_settled : (wall : ChineseWall) (entries : List Entry) (n : ℕ)
+    (post_state : PostStateValue (Unit {0})) (c k : ℕ) (o : Outcome) →
+    slice_get entries n ≡ Some (Settled c k o) → Stands wall post_state (posts_to entries n) →
+    Stands wall post_state (posts_to entries (n + 1))
+stands_settled wall entries n post_state c k o at stands =
+    subst (Stands wall post_state) (sym (posts_settled entries n c k o at)) stands
 
 pub stands_posted : (wall : ChineseWall) (entries : List Entry) (n : ℕ) (x : Post)
     (post_state : PostStateValue (Unit {0})) → slice_get entries n ≡ Some (posted x) →

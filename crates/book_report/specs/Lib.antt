@@ -2,3 +2,9 @@
 pub mod Held
 -- how far a walk through a book has come
 pub mod Walk
+-- why posts were barred
+pub mod Bars
+-- why instances were denied
+pub mod Denials
+-- how the reason of a denial is found
+pub mod Reasons

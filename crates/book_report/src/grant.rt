@@ -37,7 +37,8 @@ fn is_of(label: &Option<Label>, dataset: DatasetId) -> bool
     }
 }
 
-fn label_of(roll: &Roll, rank: u32) -> Option<Label>
+/// The label of what the rank gave.
+pub(crate) fn label_of(roll: &Roll, rank: u32) -> Option<Label>
     ensures { result ≡ label_of roll.now rank }
 {
     match roll.stated.get(rank) {
@@ -46,8 +47,8 @@ fn label_of(roll: &Roll, rank: u32) -> Option<Label>
     }
 }
 
-// Whether the rank gives elements of the dataset to the other.
-fn gives(roll: &Roll, from: u32, to: u32, dataset: DatasetId) -> bool
+/// Whether the rank gives elements of the dataset to the other.
+pub(crate) fn gives(roll: &Roll, from: u32, to: u32, dataset: DatasetId) -> bool
     requires fit { IsFit roll.now }
     requires from { from < roll.now.shape.size }
     requires to { to < roll.now.shape.size }
@@ -60,8 +61,8 @@ fn gives(roll: &Roll, from: u32, to: u32, dataset: DatasetId) -> bool
     routed(roll, from, to)
 }
 
-// The lowest rank that gives elements of the dataset to this one.
-fn giver(roll: &Roll, to: u32, dataset: DatasetId) -> Option<u32>
+/// The lowest rank that gives elements of the dataset to this one.
+pub(crate) fn giver(roll: &Roll, to: u32, dataset: DatasetId) -> Option<u32>
     requires fit { IsFit roll.now }
     requires to { to < roll.now.shape.size }
     ensures within { IfSome result (λ i. i < roll.now.shape.size) }

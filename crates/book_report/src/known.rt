@@ -36,8 +36,8 @@ fn no_sets(alloc: Global) -> Result<Vec<LabelSet>, NoMemory>
     Ok(sets)
 }
 
-// The dataset that the label names, if there is one.
-fn dataset_in(label: &Option<Label>) -> Option<DatasetId>
+/// The dataset that the label names, if there is one.
+pub(crate) fn dataset_in(label: &Option<Label>) -> Option<DatasetId>
     ensures { result ≡ dataset_in label.now }
 {
     match label {

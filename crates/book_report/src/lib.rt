@@ -5,12 +5,21 @@
 //! said by the histories that a book gives (`run_model`).
 #![tactic(auto)]
 
+mod bar;
+mod bars;
+mod denial;
+mod denied;
 mod enter;
 mod grant;
 mod known;
+mod reason;
 mod row;
 mod walk;
 
 pub use audit_book::{Book, BookFault, NoMemory};
+pub use bar::Bar;
+pub use bars::barred_posts;
+pub use denial::{Denial, Reason, Source};
+pub use denied::denials;
 pub use row::{Row, Way};
 pub use walk::held;

@@ -1,0 +1,12 @@
+use Rattle.std.proofs.Common.{sym, subst}
+use Rattle.audit_book.specs.Checks.{Stands}
+use Rattle.book_report.proofs.HistoryLemmas.{no_posts}
+use Rattle.book_report.proofs.BarLemmas.{bars_none}
+use Rattle.book_report.proofs.bars.bars_from.Goals as goal
+
+pub loop-at-init : goal.loop-at-init
+loop-at-init c = record {
+  stands = subst (Stands c.args.policy.now c.args.post_state.now)
+      (sym (no_posts c.args.book.now.list)) c.requires.stands;
+  are = bars_none c.args.policy.now c.args.book.now.list _ c.new-bars.ensures.items;
+}

@@ -1,0 +1,92 @@
+-- How the reason of a denial is found: words of private contracts.
+use Rattle.std.specs.Prelude.{◌≡◌, ℕ, ◌+◌, ◌-◌, ◌<◌, ◌≤◌, ◌^◌, ◌==◌, ◌&&◌, Bool, false, List, ◌∷◌}
+use Rattle.std.specs.Prelude.{length, slice_get, Contains, All, AllPairs, Some}
+use Rattle.wall_labels.specs.declared.label.Label.{Label}
+use Rattle.wall_policy.specs.Policy.{ChineseWall}
+use Rattle.wall_policy.specs.Rivals.{AreRivals}
+use Rattle.wall_rules.specs.Histories.{History}
+use Rattle.coll_routes.specs.declared.roll.Roll.{Roll}
+use Rattle.coll_routes.specs.Fit.{IsFit}
+use Rattle.wall_verdict.specs.declared.verdict.Rule.{Rule}
+use Rattle.wall_verdict.specs.declared.verdict.Verdict.TheVariants.{Denied as is_denied}
+use Rattle.wall_verdict.specs.Charges.{sanitised}
+use Rattle.wall_verdict.specs.Meanings.{IsVerdict}
+use Rattle.run_model.specs.declared.outcome.Outcome.TheVariants.{Denied}
+use Rattle.run_model.specs.declared.entry.Entry.{Entry}
+use Rattle.run_model.specs.declared.entry.Entry.TheVariants.{Posted, Settled}
+use Rattle.run_model.specs.Posts.{Post, outcome}
+use Rattle.run_model.specs.Books.{IsSound, posted}
+use Rattle.run_state.specs.declared.entered.Entered.{Entered}
+use Rattle.run_state.specs.Views.{PostStateValue}
+use Rattle.audit_book.specs.Checks.{Stands}
+use Rattle.book_report.specs.declared.denial.Denial.{Denial}
+use Rattle.book_report.specs.declared.reason.Clash.{Clash}
+use Rattle.book_report.specs.Held.{posts_to, IsPostAt}
+use Rattle.book_report.specs.Walk.{GivesTo, IsTold}
+use Rattle.book_report.specs.Denials.{IsDeniedAt, IsFilledAt, IsDenial, HasDenial, ComesFrom}
+
+-- the entry is a post of p on c
+abbrev pub is_part : Entry → (p c : ℕ) → Bool
+is_part (Posted q d stated) p c = d == c && q == p
+is_part (Settled d k o) p c = false
+
+-- rank m gives rank j elements of a rival of d
+abbrev pub GivesRival : ChineseWall → Roll → (m j d : ℕ) → Type 0
+GivesRival wall roll m j d = (e : ℕ) × GivesTo roll m j e × AreRivals wall.classes d e
+
+-- some rank below i does, and what rank j gets isn't sanitised
+pub record IsBeside (wall : ChineseWall) (roll : Roll) (j i d : ℕ) : Type 0 where
+  pub unsanitised : sanitised wall roll j ≡ false
+  pub rank : ℕ
+  pub low : rank < i
+  pub gives : GivesRival wall roll rank j d
+
+-- the clash tells a rival of d, which p, rank j, holds or would get too
+pub record IsClash (wall : ChineseWall) (entries : List Entry) (c k : ℕ) (roll : Roll)
+    (has : History) (j i p d : ℕ) (clash : Clash) : Type 0 where
+  pub rivals : AreRivals wall.classes d clash.rival
+  pub source : ComesFrom wall entries c k roll has j i p clash.rival clash.source
+
+-- entry n filled instance (c, k), which is this roll, and the next entry tells that it was denied
+pub record IsDenied (wall : ChineseWall) (entries : List Entry) (n c k : ℕ) (roll : Roll)
+    (has : History) (rule : Rule) (p : ℕ) (label : Label) : Type 0 where
+  pub told : IsDeniedAt entries (n + 1) c k rule p label
+  pub filled : IsFilledAt wall entries n c k roll has
+  pub fit : IsFit roll
+  pub verdict : IsVerdict wall has roll (is_denied rule p label)
+  pub within : n ≤ length entries
+
+-- entry n is the post x, which filled an instance that was denied
+pub record IsDeniedPost (wall : ChineseWall) (entries : List Entry) (n : ℕ) (x : Post)
+    : Type 0 where
+  pub at : IsPostAt entries n x
+  pub rule : Rule
+  pub process : ℕ
+  pub label : Label
+  pub denied : outcome wall x (posts_to entries (n - 1)) ≡ Some (Denied rule process label)
+
+-- these are the denials that the posts among the first n entries brought, in their order
+pub record AreDenials (wall : ChineseWall) (entries : List Entry) (n : ℕ) (denials : List Denial)
+    : Type 0 where
+  pub sound : All (IsDenial wall entries) denials
+  pub early : All (λ denial. denial.entry ≤ n + 1) denials
+  pub whole : (m : ℕ) (x : Post) → m ≤ n → IsDeniedPost wall entries m x → HasDenial denials (m + 1)
+  pub rising : AllPairs (λ a b. a.entry < b.entry) denials
+
+-- after n entries the state stands for their posts, and these are their denials
+pub record HasDenials (wall : ChineseWall) (entries : List Entry) (n : ℕ)
+    (post_state : PostStateValue (Unit {0})) (denials : List Denial) : Type 0 where
+  pub stands : Stands wall post_state (posts_to entries n)
+  pub are : AreDenials wall entries n denials
+
+-- entry n + 1 of a sound book is a post on c, the state stands for the posts up to it, and this was
+-- told of it
+pub record HasFollowed (wall : ChineseWall) (entries : List Entry) (n c : ℕ)
+    (post_state : PostStateValue (Unit {0})) (entered : Entered (Unit {0})) : Type 0 where
+  pub x : Post
+  pub sound : IsSound wall entries
+  pub few : length entries < 2 ^ 62
+  pub at : slice_get entries n ≡ Some (posted x)
+  pub comm : x.comm ≡ c
+  pub stands : Stands wall post_state (x ∷ posts_to entries n)
+  pub told : IsTold wall x (posts_to entries n) entered
