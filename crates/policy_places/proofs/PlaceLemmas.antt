@@ -1,0 +1,132 @@
+-- The line of a sign, and where TOML ends.
+use Rattle.std.proofs.Common.{◌≡◌, ℕ, ◌+◌, ◌-◌, ◌<◌, ◌≤◌, Bool, true, false, List, []}
+use Rattle.std.proofs.Common.{◌∷◌, length, take, Option, Some, None, sym, ap, ◌∙◌, subst}
+use Rattle.std.proofs.Common.{arith, get_or, inl, inr}
+use Rattle.std.proofs.Common.{cond, nat_eq, eq-eqb}
+use Rattle.std.specs.Prelude.{is_some, find}
+use Rattle.std.specs.Str.Lossy.{utf8_valid_len}
+use Rattle.std.proofs.lemmas.Bool.{cases_lt, cases_Bool}
+use Rattle.std.proofs.lemmas.Option.{slice_get-get_or}
+use Rattle.std.proofs.lemmas.Str.{utf8_valid_len-IsUtf8, IsUtf8-nil}
+use Rattle.toml.specs.Data.{Members, no_members}
+use Rattle.toml.specs.Parse.{parse_document}
+use Rattle.toml.proofs.OnLiterals.{toml_on_literals}
+use Rattle.wall_policy.specs.Answer.{tree_of, in_tree}
+use Rattle.wall_policy.specs.declared.fault.PolicyFault.{PolicyFault}
+use Rattle.policy_places.specs.declared.sign.Sign.{Sign}
+use Rattle.policy_places.specs.Fronts.{front}
+use Rattle.policy_places.specs.Ends.{AreEnds}
+use Rattle.policy_places.specs.Signs.{Known, known_of, shows, signs_of, sign_of}
+use Rattle.policy_places.specs.Places.{IsFirst, front_shows, EndsToml}
+
+-- an empty text is a document
+nothing_is_toml : tree_of [] ≡ Some no_members
+unfolding toml_on_literals tree_of
+nothing_is_toml =
+    let whole : nat_eq (utf8_valid_len []) 0 ≡ true =
+    eq-eqb (utf8_valid_len []) 0 (utf8_valid_len-IsUtf8 [] IsUtf8-nil) in
+    ap (λ b. cond b (parse_document []) None) whole
+
+-- what is found passes
+pub found_passes : {X : Type 0} (test : X → Bool) (xs : List X) (x : X) → find test xs ≡ Some x →
+    test x ≡ true
+found_passes test [] x h = absurd cc
+found_passes test (y ∷ ys) x h = elim (cases_Bool (test y)) [
+  | inl passes ↦
+      let same : Some y ≡ Some x = sym (ap (λ b. cond b (Some y) (find test ys)) passes) ∙ h in
+      let is : y ≡ x = cc in
+      ap test (sym is) ∙ passes
+  | inr fails ↦ found_passes test ys x (sym (ap (λ b. cond b (Some y) (find test ys)) fails) ∙ h)
+]
+
+-- the whole document shows its sign
+pub shown_by_all : (text : List ℕ) (whole : Members) (fault : PolicyFault) (known : Known)
+    (sign : Sign) → tree_of text ≡ Some whole → known ≡ known_of whole →
+    sign_of whole fault ≡ Some sign → in_tree (shows known sign) (tree_of text) ≡ true
+unfolding sign_of
+shown_by_all text whole fault known sign read is found =
+    ap (in_tree (shows known sign)) read
+    ∙ ap (λ (k : Known). shows k sign whole) is
+    ∙ found_passes (λ s. shows (known_of whole) s whole) (signs_of fault) sign found
+
+module _ (text ends : List ℕ) (all : AreEnds text ends) where
+  -- the bytes up to the end of line n are the first n lines
+  pub front_is : (n : ℕ) → 1 ≤ n → n ≤ length ends →
+      take (get_or ends (n - 1) 0) text ≡ front n text
+  front_is n some most =
+      let same : n - 1 + 1 ≡ n = omega arith in
+      subst (λ j. take (get_or ends (n - 1) 0) text ≡ front j text) same
+      (all.fronts (n - 1) (get_or ends (n - 1) 0) (slice_get-get_or ends (n - 1) 0 (omega arith)))
+
+  pub end_within : (n : ℕ) → 1 ≤ n → n ≤ length ends → get_or ends (n - 1) 0 ≤ length text
+  end_within n some most =
+      all.within (n - 1) (get_or ends (n - 1) 0) (slice_get-get_or ends (n - 1) 0 (omega arith))
+
+  -- the whole text is no TOML
+  pub behind_all : tree_of text ≡ None → (n : ℕ) → length ends < n → tree_of (front n text) ≡ None
+  behind_all refused n low = ap tree_of (all.whole n (omega arith)) ∙ refused
+
+  -- one line fewer is none either
+  pub behind_more : (n : ℕ) → 1 ≤ n → n ≤ length ends →
+      tree_of (take (get_or ends (n - 1) 0) text) ≡ None →
+      ((m : ℕ) → n < m → tree_of (front m text) ≡ None) →
+      (m : ℕ) → n - 1 < m → tree_of (front m text) ≡ None
+  behind_more n some most refused behind m low = elim (cases_lt n m) [
+    | inl later ↦ behind m later
+    | inr here ↦
+        let same : n ≡ m = omega arith in
+        subst (λ j. tree_of (front j text) ≡ None) same
+        (ap tree_of (sym (front_is n some most)) ∙ refused)
+  ]
+
+  pub ends_here : (n : ℕ) → 1 ≤ n → n ≤ length ends →
+      is_some (tree_of (take (get_or ends (n - 1) 0) text)) ≡ true →
+      ((m : ℕ) → n < m → tree_of (front m text) ≡ None) → EndsToml text (n + 1)
+  ends_here n some most read behind =
+      let same : n ≡ n + 1 - 1 = omega arith in
+      record {
+        counted = omega arith;
+        before = subst (λ j. is_some (tree_of (front j text)) ≡ true) same
+            (ap (λ t. is_some (tree_of t)) (sym (front_is n some most)) ∙ read);
+        behind = λ m low. behind m (omega arith);
+      }
+
+  pub ends_at_once : ((m : ℕ) → 0 < m → tree_of (front m text) ≡ None) → EndsToml text 1
+  ends_at_once behind = record {
+    counted = omega arith;
+    before = ap (λ (o : Option Members). is_some o) nothing_is_toml;
+    behind = λ m low. behind m (omega arith);
+  }
+
+  module _ (known : Known) (sign : Sign) where
+    pub shown_here : (n : ℕ) → 1 ≤ n → n ≤ length ends →
+        (b : Bool) → b ≡ in_tree (shows known sign) (tree_of (take (get_or ends (n - 1) 0) text)) →
+        front_shows text known sign n ≡ b
+    shown_here n some most b is =
+        ap (λ t. in_tree (shows known sign) (tree_of t)) (sym (front_is n some most)) ∙ sym is
+
+    pub not_before_more : (n : ℕ) → 1 ≤ n →
+        ((m : ℕ) → 1 ≤ m → m < n → front_shows text known sign m ≡ false) →
+        front_shows text known sign n ≡ false →
+        (m : ℕ) → 1 ≤ m → m < n + 1 → front_shows text known sign m ≡ false
+    not_before_more n some before here m counted low = elim (cases_lt m n) [
+      | inl earlier ↦ before m counted earlier
+      | inr now ↦
+          let same : n ≡ m = omega arith in
+          subst (λ j. front_shows text known sign j ≡ false) same here
+    ]
+
+    pub first_here : (n : ℕ) → 1 ≤ n → front_shows text known sign n ≡ true →
+        ((m : ℕ) → 1 ≤ m → m < n → front_shows text known sign m ≡ false) →
+        IsFirst (front_shows text known sign) n
+    first_here n some here before = record {
+      counted = some;
+      here = here;
+      not_before = before;
+    }
+
+    -- the whole text shows it
+    pub shown_at_last : (n : ℕ) → length ends ≤ n →
+        in_tree (shows known sign) (tree_of text) ≡ true → front_shows text known sign n ≡ true
+    shown_at_last n most whole =
+        ap (λ t. in_tree (shows known sign) (tree_of t)) (all.whole n most) ∙ whole

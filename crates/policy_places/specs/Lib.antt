@@ -1,0 +1,6 @@
+pub mod Fronts
+pub mod Ends
+pub mod Parts
+pub mod Signs
+pub mod Places
+pub mod Laws

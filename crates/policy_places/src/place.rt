@@ -1,0 +1,137 @@
+//! The fault of a policy, and where it stands.
+ghost use Rattle.std.specs.Prelude.{◌≡◌, ◌≢◌, IfOk, Err, Some, None, true};
+ghost use Rattle.toml.specs.View.{table_view};
+ghost use Rattle.wall_policy.specs.Answer.{answer_to, in_tree, tree_of};
+ghost use Rattle.policy_places.specs.Ends.{AreEnds};
+ghost use Rattle.policy_places.specs.Signs.{known_of, shows};
+ghost use Rattle.policy_places.specs.Places.{IsFirst, front_shows, EndsToml, IsFoundBy, IsFoundIn};
+ghost use Rattle.policy_places.specs.Places.{IsPlaceIfAny};
+
+use crate::document::tree_of;
+use crate::fronts::ends_of;
+use crate::known::{Known, known_of, sign_of};
+use crate::sign::Sign;
+use std::alloc::Global;
+use toml::Table;
+use wall_labels::NoMemory;
+use wall_policy::{PolicyFault, read_policy};
+
+/// What stands where the fault is told.
+#[derive(Clone, Copy, Debug, PartialEq, Eq)]
+pub struct Found {
+    pub sign: Sign,
+    /// The number of the line, from 1.
+    pub line: u64,
+}
+
+/// The fault of a policy.
+#[derive(Clone, Copy, Debug, PartialEq, Eq)]
+pub struct Place {
+    pub fault: PolicyFault,
+    /// Where it stands. Nowhere, if what is missing is the version, or each process, and no key
+    /// outside the arrays is unknown.
+    pub found: Option<Found>,
+}
+
+// The line behind the longest part of the text that is TOML.
+fn end_of_toml(alloc: Global, text: &[u8], ends: &[usize]) -> Result<u64, NoMemory>
+    requires ends { AreEnds text.now ends.now }
+    requires refused { tree_of text.now ≡ None }
+    ensures { IfOk result (EndsToml text.now) }
+{
+    let mut lines = ends.len();
+    while lines > 0 {
+        if tree_of(alloc, &text[..ends[lines - 1]])?.is_some() {
+            return Ok(lines as u64 + 1);
+        }
+        lines -= 1;
+    }
+    Ok(1)
+}
+
+// Whether the front is a document that shows the sign.
+fn front_shows(alloc: Global, front: &[u8], known: &Known, sign: Sign) -> Result<bool, NoMemory>
+    ensures { IfOk result (λ b. b ≡ in_tree (shows known.now sign) (tree_of front.now)) }
+{
+    match tree_of(alloc, front)? {
+        Some(tree) => Ok(known.shows(alloc, sign, &tree)?),
+        None => Ok(false),
+    }
+}
+
+// The first line up to which the text shows the sign, where the whole text does.
+fn line_of(
+    alloc: Global,
+    text: &[u8],
+    ends: &[usize],
+    known: &Known,
+    sign: Sign,
+) -> Result<u64, NoMemory>
+    requires ends { AreEnds text.now ends.now }
+    requires whole { in_tree (shows known.now sign) (tree_of text.now) ≡ true }
+    ensures { IfOk result (IsFirst (front_shows text.now known.now sign)) }
+{
+    let mut line = 1;
+    while line < ends.len() {
+        if front_shows(alloc, &text[..ends[line - 1]], known, sign)? {
+            return Ok(line as u64);
+        }
+        line += 1;
+    }
+    Ok(line as u64)
+}
+
+// What is found of a document with this fault.
+fn found_in(
+    alloc: Global,
+    text: &[u8],
+    ends: &[usize],
+    whole: &Table,
+    fault: PolicyFault,
+) -> Result<Option<Found>, NoMemory>
+    requires ends { AreEnds text.now ends.now }
+    requires whole { tree_of text.now ≡ Some (table_view whole.now) }
+    ensures { IfOk result (IsFoundIn text.now fault (tree_of text.now)) }
+{
+    let known = known_of(alloc, whole)?;
+    let Some(sign) = sign_of(alloc, &known, whole, fault)? else {
+        return Ok(None);
+    };
+    let line = line_of(alloc, text, ends, &known, sign)?;
+    Ok(Some(Found { sign, line }))
+}
+
+// The place of a fault.
+fn place_in(alloc: Global, text: &[u8], fault: PolicyFault) -> Result<Place, NoMemory>
+    requires { answer_to text.now ≡ Err fault }
+    ensures { IfOk result (λ place. IsPlaceIfAny text.now (Some place)) }
+{
+    let ends = ends_of(alloc, text)?;
+    let found = match tree_of(alloc, text)? {
+        Some(whole) => found_in(alloc, text, &ends, &whole, fault)?,
+        None => Some(Found {
+            sign: Sign::NotToml,
+            line: end_of_toml(alloc, text, &ends)?,
+        }),
+    };
+    Ok(Place { fault, found })
+}
+
+/// The place of the fault of a policy; none, where the text is one.
+///
+/// The fault is that of `read_policy`. It stands on the first line up to which the text shows it:
+/// something that is a part of no policy, or at least of none that goes on as this text does. Each
+/// front of the text is read, from the first line on, so the time grows with the square of the
+/// number of lines.
+pub fn place_of(alloc: Global, policy: &[u8]) -> Result<Option<Place>, NoMemory>
+    ensures { IfOk result (IsPlaceIfAny policy.now) }
+{
+    match read_policy(alloc, policy) {
+        Ok(wall) => {
+            drop(wall);
+            Ok(None)
+        }
+        Err(PolicyFault::NoMemory) => Err(NoMemory),
+        Err(fault) => Ok(Some(place_in(alloc, policy, fault)?)),
+    }
+}
