@@ -1,0 +1,18 @@
+use Rattle.std.proofs.Common.{ℕ, List, ◌++◌, ap, ◌∙◌, length}
+use Rattle.run_model.specs.Posts.{comms}
+use Rattle.book_report.specs.Held.{posts_to}
+use Rattle.report_text.specs.Rows.{rows_text}
+use Rattle.report_text.specs.Members.{comms_text}
+use Rattle.report_text.specs.Instances.{instances_text}
+use Rattle.report_text.proofs.whole.text_of.Goals as goal
+
+pub returns : goal.returns
+returns c =
+    let wall = c.args.policy.now in
+    let entries = c.args.book.now.list in
+    c.in_ok-put_instances.ensures
+    ∙ ap (λ (t : List ℕ). t ++ instances_text wall entries)
+    (c.in_ok-put_comms_of.ensures
+    ∙ ap (λ (t : List ℕ). t ++ comms_text wall (comms wall (posts_to entries (length entries))))
+    (c.in_ok-put_rows.ensures
+    ∙ ap (λ (t : List ℕ). t ++ rows_text wall entries c.args.rows.now) c.new-text.ensures.items))

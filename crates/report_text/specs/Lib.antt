@@ -1,0 +1,12 @@
+-- the words of lines, and how a line is folded
+pub mod Words
+-- who holds what
+pub mod Rows
+-- who is in which communicator
+pub mod Members
+-- how each instance came out
+pub mod Instances
+-- the whole text
+pub mod Report
+-- how far a walk through a book has come
+pub mod Walk

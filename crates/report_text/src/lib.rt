@@ -1,0 +1,17 @@
+//! The text of a report: what an auditor wants to know of a book, line by line.
+//!
+//! [`report_text`] writes who holds what and how each came to it, the members of the communicators,
+//! and the instances with their outcomes. What a line says is told by `book_report`; here it gets
+//! its words, with names in place of numbers.
+#![tactic(auto)]
+
+mod instances;
+mod lines;
+mod members;
+mod rows;
+mod walk;
+mod whole;
+mod words;
+
+pub use book_report::{Book, BookFault};
+pub use whole::report_text;

@@ -1,0 +1,93 @@
+//! The lines of the members of communicators.
+ghost use Rattle.std.specs.Prelude.{◌≡◌, ◌++◌, length, OnOk};
+ghost use Rattle.run_model.specs.Posts.{comms};
+ghost use Rattle.run_model.specs.Books.{IsSound};
+ghost use Rattle.book_report.specs.Held.{posts_to};
+ghost use Rattle.report_text.specs.Members.{rank_text, member_line, member_lines};
+ghost use Rattle.report_text.specs.Members.{comm_lines, comms_text};
+ghost use Rattle.report_text.specs.Words.{numbered};
+
+use crate::walk::state_at_last;
+use crate::words::put_process;
+use book_report::Book;
+use coll_text::{put, put_decimal};
+use mpi_group::Group;
+use run_state::PostState;
+use std::alloc::{AllocError, Global};
+use wall_labels::{NoMemory, ProcessId};
+use wall_policy::Policy;
+
+fn put_rank(text: &mut Vec<u8>, comm: u32, rank: u32) -> Result<(), AllocError>
+    ensures { OnOk result (text.new.items ≡ text.old.items ++ rank_text comm rank) }
+{
+    put(text, "communicator ")?;
+    put_decimal(text, u64::from(comm))?;
+    put(text, ", rank ")?;
+    put_decimal(text, u64::from(rank))?;
+    put(text, ": ")
+}
+
+fn put_member(
+    text: &mut Vec<u8>,
+    policy: &Policy,
+    comm: u32,
+    rank: u32,
+    process: ProcessId,
+) -> Result<(), AllocError>
+    ensures { OnOk result
+        (text.new.items ≡ text.old.items ++ member_line policy.now comm rank process) }
+{
+    put_rank(text, comm, rank)?;
+    put_process(text, policy, process)?;
+    put(text, "\n")
+}
+
+// A line for each member of one communicator.
+fn put_members(
+    text: &mut Vec<u8>,
+    policy: &Policy,
+    comm: u32,
+    group: &Group,
+) -> Result<(), AllocError>
+    ensures { OnOk result
+        (text.new.items ≡ text.old.items ++ member_lines policy.now comm group.now) }
+{
+    for rank in 0..group.size() {
+        put_member(text, policy, comm, rank, group.at(rank))?;
+    }
+    Ok(())
+}
+
+// The members of all communicators of a state.
+fn put_comms(
+    text: &mut Vec<u8>,
+    policy: &Policy,
+    post_state: &PostState<()>,
+) -> Result<(), AllocError>
+    ensures { OnOk result (text.new.items
+        ≡ text.old.items ++ numbered (comm_lines policy.now) 0 post_state.now.comms) }
+{
+    for comm in 0..post_state.len() {
+        put_members(text, policy, comm, post_state.group(comm))?;
+    }
+    Ok(())
+}
+
+/// The members of all communicators that are there at the end of a sound book.
+pub(crate) fn put_comms_of(
+    alloc: Global,
+    text: &mut Vec<u8>,
+    policy: &Policy,
+    book: &Book,
+) -> Result<(), NoMemory>
+    requires { IsSound policy.now book.now.list }
+    ensures { OnOk result (text.new.items ≡ text.old.items ++ comms_text policy.now
+        (comms policy.now (posts_to book.now.list (length book.now.list)))) }
+{
+    put(text, "\nwho is in which communicator:\n")?;
+    let post_state = state_at_last(alloc, policy, book)?;
+    let done = put_comms(text, policy, &post_state);
+    drop(post_state);
+    done?;
+    Ok(())
+}

@@ -1,0 +1,54 @@
+//! The text of a report.
+ghost use Rattle.std.specs.Prelude.{◌≡◌, ◌++◌, length, IfOk, IfErr, OnOk};
+ghost use Rattle.run_model.specs.Posts.{comms};
+ghost use Rattle.run_model.specs.Books.{IsSound};
+ghost use Rattle.run_model.specs.PostLaws.{KeepsTheWall};
+ghost use Rattle.audit_book.specs.Checks.{IsFaultOf};
+ghost use Rattle.book_report.specs.Held.{posts_to};
+ghost use Rattle.report_text.specs.Rows.{rows_text};
+ghost use Rattle.report_text.specs.Members.{comms_text};
+ghost use Rattle.report_text.specs.Instances.{instances_text};
+ghost use Rattle.report_text.specs.Report.{IsReport};
+
+use crate::instances::put_instances;
+use crate::members::put_comms_of;
+use crate::rows::put_rows;
+use book_report::{Book, BookFault, Row, held};
+use std::alloc::Global;
+use wall_labels::NoMemory;
+use wall_policy::Policy;
+
+// The lines of these rows, and what a sound book tells besides.
+fn text_of(alloc: Global, policy: &Policy, book: &Book, rows: &[Row]) -> Result<Vec<u8>, NoMemory>
+    requires { IsSound policy.now book.now.list }
+    ensures { IfOk result (λ text. text.items ≡ rows_text policy.now book.now.list rows.now
+        ++ comms_text policy.now
+        (comms policy.now (posts_to book.now.list (length book.now.list)))
+        ++ instances_text policy.now book.now.list) }
+{
+    let mut text = Vec::new(alloc);
+    put_rows(alloc, &mut text, policy, book, rows)?;
+    put_comms_of(alloc, &mut text, policy, book)?;
+    put_instances(alloc, &mut text, policy, book)?;
+    Ok(text)
+}
+
+/// The text of a report on a book: who holds what at its end, by which entry and how; who is in
+/// which communicator; and how each instance came out.
+///
+/// The book is checked first, as by `check_book`, and where it is not sound its fault is answered.
+/// A line has at most 100 columns as long as the book has fewer than ten million entries, since a
+/// name has at most 32. A number that the policy has no name for is written as no word; there is
+/// none in a book that `read_book` has read.
+pub fn report_text(alloc: Global, policy: &Policy, book: &Book) -> Result<Vec<u8>, BookFault>
+    ensures sound { OnOk result (IsSound policy.now book.now.list) }
+    ensures keeps { OnOk result (KeepsTheWall policy.now book.now.list) }
+    ensures report { IfOk result (λ text. IsReport policy.now book.now.list text.items) }
+    ensures fault { IfErr result (IsFaultOf policy.now book.now.list) }
+{
+    let rows = held(alloc, policy, book)?;
+    match text_of(alloc, policy, book, &rows) {
+        Ok(text) => Ok(text),
+        Err(_) => Err(BookFault::NoMemory),
+    }
+}
