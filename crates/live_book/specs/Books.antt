@@ -18,6 +18,10 @@ pub record SinkValue : Type 0 where
   pub lasting : Option (List ℕ)
   pub failures : ℕ
 
+-- a sink that has nothing
+abbrev pub empty_sink : SinkValue
+empty_sink = record { contents = None; lasting = None; failures = 0 }
+
 -- the value of such a hall in clauses
 pub record BookedHallValue : Type 0 where
   -- what a hall keeps that has its whole book
@@ -79,3 +83,7 @@ pub record StandsWithBook (wall : ChineseWall) (m : BookedHallValue) (run : List
     pub policy : m.hall.policy ≡ wall
     pub hall : StandsFor m.hall run
     pub book : IsWritten wall m.begun m.sink m.fault run
+
+-- the same of a hall whose sink was so at the opening
+abbrev pub StandsBehind : (begun : SinkValue) → ChineseWall → BookedHallValue → List Entry → Type 0
+StandsBehind begun wall m run = StandsWithBook wall m run × (m.begun ≡ begun)

@@ -7,6 +7,7 @@ ghost use Rattle.audit_book.specs.Text.{book_text, end_words, entry_lines, heade
 ghost use Rattle.live_book.specs.Books.{IsUnbooked};
 ghost use Rattle.live_book.specs.Writing.{Writes, sink_value};
 
+use crate::begun::Begun;
 use crate::finished::{Finished, Unopened};
 use crate::lines::{write_end, write_entries, write_header};
 use crate::sink::BookSink;
@@ -14,43 +15,41 @@ use crate::unbooked::Unbooked;
 use hall_core::{BriefHall, Call, Claim, Reply};
 use hall_turn::Applied;
 use std::alloc::Global;
-use std::marker::Model;
-use std::snapshot::Snapshot;
+use std::marker::{Model, PhantomData};
 use wall_policy::Policy;
 
 /// A hall beside the sink to which its book is written. Contracts see what a hall keeps that has
 /// its whole book, the sink as it was at the opening and as it is, and why nothing is written any
 /// more, if so.
-pub struct BookedHall<B: BookSink> {
+pub struct BookedHall<B: BookSink, K: Begun> {
     hall: BriefHall,
-    begun: Snapshot<B>,
     sink: B,
     // Room for lines; empty between calls as long as all was written.
     text: Vec<u8>,
     // How many entries were written.
     entries: u64,
     fault: Option<Unbooked>,
+    of: PhantomData<K>,
 }
 
 // By hand: a derived one is proved anew in each crate that drops one.
-impl<B: BookSink + Drop> Drop for BookedHall<B> {
+impl<B: BookSink + Drop, K: Begun> Drop for BookedHall<B, K> {
     fn drop(self) {
         let BookedHall {
             hall,
-            begun,
             sink,
             text,
             entries: _,
             fault: _,
+            of: _,
         } = self;
         drop(hall);
-        drop(begun);
         drop(sink);
         drop(text);
     }
 }
 
-impl<B: BookSink> Model for BookedHall<B> {
+impl<B: BookSink, K: Begun> Model for BookedHall<B, K> {
     ghost use Rattle.std.specs.Prelude.{◌≡◌, [], None, length};
     ghost use Rattle.std.specs.Coded.{codes};
     ghost use Rattle.wall_rules.specs.Histories.{accesses_code};
@@ -63,7 +62,7 @@ impl<B: BookSink> Model for BookedHall<B> {
 
     ghost view = { λ b. record {
       hall = b.hall.hall;
-      begun = sink_value B.contents B.lasting B.failures b.begun.value;
+      begun = K.begun;
       sink = sink_value B.contents B.lasting B.failures b.sink;
       fault = b.fault;
     } };
@@ -130,7 +129,7 @@ fn write_last<B: BookSink>(
     }
 }
 
-impl<B: BookSink> BookedHall<B> {
+impl<B: BookSink, K: Begun> BookedHall<B, K> {
     ghost use Rattle.wall_policy.specs.Policy.{ChineseWall};
     ghost use Rattle.run_model.specs.PostLaws.{NobodyHoldsBoth};
     ghost use Rattle.run_model.specs.Runs.{Entry, MakesNothing, effects, entry, posts};
@@ -143,10 +142,10 @@ impl<B: BookSink> BookedHall<B> {
 
     /// A hall that stands for the empty run, with the first line of its book written. Else the sink
     /// comes back, with a front of that line, and why: `NoMemory` only where a growth was refused.
-    pub fn open(alloc: Global, policy: Policy, sink: B) -> Result<BookedHall<B>, Unopened<B>>
+    pub fn open(alloc: Global, policy: Policy, sink: B) -> Result<BookedHall<B, K>, Unopened<B>>
+        requires { K.begun ≡ sink_value B.contents B.lasting B.failures sink }
         ensures stands { IfOk result (λ m. StandsWithBook policy m []) }
-        ensures begun { IfOk result
-            (λ m. m.begun ≡ sink_value B.contents B.lasting B.failures sink) }
+        ensures begun { IfOk result (λ m. m.begun ≡ K.begun) }
         ensures booked { IfOk result (λ m. IsTrue (is_all_booked m)) }
         ensures fault { IfErr result (λ unopened.
             IsUnbooked unopened.fault (B.failures sink) (B.failures unopened.sink)) }
@@ -154,10 +153,8 @@ impl<B: BookSink> BookedHall<B> {
             AppendsFront (B.contents sink) (B.contents unopened.sink)
             (line_of (header_words policy.version))) }
     {
-        let begun = Snapshot::of(&sink);
         let mut sink = sink;
         let Ok(hall) = BriefHall::open(alloc, policy) else {
-            drop(begun);
             return Err(Unopened {
                 sink,
                 fault: Unbooked::NoMemory,
@@ -167,15 +164,14 @@ impl<B: BookSink> BookedHall<B> {
         match write_header(hall.policy(), &mut text, &mut sink) {
             Ok(()) => Ok(BookedHall {
                 hall,
-                begun,
                 sink,
                 text,
                 entries: 0,
                 fault: None,
+                of: PhantomData,
             }),
             Err(fault) => {
                 drop(hall);
-                drop(begun);
                 drop(text);
                 Err(Unopened { sink, fault })
             }
@@ -279,16 +275,15 @@ impl<B: BookSink> BookedHall<B> {
     {
         let BookedHall {
             hall,
-            begun,
             sink,
             text,
             entries,
             fault,
+            of: _,
         } = self;
         // What is still kept is nothing, so that its book is as long as the entries were many.
         let _ = hall.news();
         drop(hall);
-        drop(begun);
         let (mut sink, mut text) = (sink, text);
         let fault = write_last(entries, &mut text, &mut sink, fault);
         drop(text);

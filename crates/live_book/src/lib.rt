@@ -7,6 +7,7 @@
 //! does not grow with the run's posts. A `BooklessHall` is for a server that keeps no book.
 #![tactic(auto)]
 
+mod begun;
 mod booked;
 mod bookless;
 mod finished;
@@ -15,6 +16,7 @@ mod machine;
 mod sink;
 mod unbooked;
 
+pub use begun::Begun;
 pub use booked::BookedHall;
 pub use bookless::BooklessHall;
 pub use finished::{Finished, Unopened};

@@ -1,16 +1,17 @@
 //! Halls as machines behind a door.
 ghost use Rattle.hall_turn.specs.Machines.{Stands};
-ghost use Rattle.live_book.specs.Books.{StandsWithBook, is_all_booked};
+ghost use Rattle.live_book.specs.Books.{StandsBehind, is_all_booked};
 ghost use Rattle.live_book.specs.Machines.{has_no_book};
 
+use crate::begun::Begun;
 use crate::booked::BookedHall;
 use crate::bookless::BooklessHall;
 use crate::sink::BookSink;
 use hall_core::{Call, Claim};
 use hall_turn::{Applied, Machine};
 
-impl<B: BookSink> Machine for BookedHall<B> {
-    ghost stands = { StandsWithBook };
+impl<B: BookSink, K: Begun> Machine for BookedHall<B, K> {
+    ghost stands = { StandsBehind K.begun };
 
     ghost is_booked = { is_all_booked };
 

@@ -22,8 +22,7 @@ returns-clause-runs g c = rw (← c.self.view_is) (λ run legal stands.
       subst (λ (w : ChineseWall). Legal w (entry c.args.call c.apply-reply.result ∷ run))
           (sym same) after.0,
       stands_more c.self.inside.hall.hall c.forget.new.self.hall
-          (sink_value g.B.Sink.contents g.B.BookSink.lasting g.B.Sink.failures
-          c.self.inside.begun.value)
+          g.K.Begun.begun
           (sink_value g.B.Sink.contents g.B.BookSink.lasting g.B.Sink.failures c.self.inside.sink)
           (sink_value g.B.Sink.contents g.B.BookSink.lasting g.B.Sink.failures
           c.write_down-self-inside.new.sink)

@@ -10,7 +10,7 @@ pub returns-clause-written : goal.returns-clause-written
 returns-clause-written g c = rw (← c.self.view_is) (λ wall run stands.
     let sv = sink_value g.B.Sink.contents g.B.BookSink.lasting g.B.Sink.failures in
     elim c.match-fault.branch [
-      | in-None w ↦ rw w.written-is (last_written wall (sv c.self.inside.begun.value)
+      | in-None w ↦ rw w.written-is (last_written wall g.K.Begun.begun
           (sv c.self.inside.sink) (sv c.write_last-fault.new.sink) run c.self.inside.entries
           c.self.inside.fault
           (λ none. count_is wall c.self.inside.hall.hall.policy run c.self.inside.hall.gone
@@ -29,7 +29,7 @@ returns-clause-front g c = rw (← c.self.view_is) (λ wall run stands.
     let sv = sink_value g.B.Sink.contents g.B.BookSink.lasting g.B.Sink.failures in
     elim c.match-fault.branch [
       | in-None w ↦ rw w.written-is tt
-      | in-Some w ↦ rw w.written-is (last_front wall (sv c.self.inside.begun.value)
+      | in-Some w ↦ rw w.written-is (last_front wall g.K.Begun.begun
           (sv c.self.inside.sink) (sv c.write_last-fault.new.sink) run c.self.inside.entries
           c.self.inside.fault w.in-Some.fault
           (λ none. count_is wall c.self.inside.hall.hall.policy run c.self.inside.hall.gone
