@@ -3,7 +3,9 @@ use Rattle.std.proofs.Common.{◌≡◌, ◌∙◌, ℕ, ◌+◌, List, [], ◌�
 use Rattle.std.proofs.Common.{reverse, Option, Some, None, refl, sym, ap, subst, append_assoc}
 use Rattle.std.proofs.Common.{arith}
 use Rattle.std.proofs.lemmas.List.{length-map, length-reverse}
+use Rattle.std.proofs.Common.{Bool}
 use Rattle.wall_policy.specs.Policy.{ChineseWall}
+use Rattle.run_model.specs.Runs.{Entry}
 use Rattle.coll_text.specs.Numbers.{Word}
 use Rattle.coll_text.specs.Reading.{parts}
 use Rattle.hall_script.specs.Devices.{used}
@@ -89,13 +91,29 @@ module _ {S O : Type 0} (fails : S → ℕ) (left : S → Option (List ℕ))
     answered = λ later read past e. absurd (none_read later read past e);
   }
 
+  -- a read that failed is not told
+  pub prompt_still : (wall : ChineseWall) (first mid last : S) (old new : O) (bytes : List ℕ)
+      (told : List Told) → Prompt wall first mid old new bytes told →
+      Tells (heard mid) (heard last) [] → Prompt wall first last old new bytes told
+  prompt_still wall first mid last old new bytes told p tells = record {
+    reads = p.reads;
+    tells = tells_then (heard first) (heard mid) (heard last) p.reads [] p.tells tells;
+    gave = p.gave;
+    answered = p.answered;
+  }
+
+module _ (stood : ChineseWall → List Entry → Bool → Type 0)
+    {S O : Type 0} (fails : S → ℕ) (left : S → Option (List ℕ))
+    (heard : S → Option (List Heard)) (failures : O → ℕ) (contents : O → Option (List ℕ)) where
   -- all finished lines were answered, and then came a read
   pub prompt_more : (wall : ChineseWall) (a b : Known) (first mid last : S) (old out new : O)
       (bytes more : List ℕ) (line : Word)
-      (s : SoFar wall a (parts 10 bytes) (line ∷ []) (used failures contents old out) b) →
-      Prompt wall first mid old out bytes s.told →
+      (s : SoFar stood wall a (parts 10 bytes) (line ∷ []) (used failures contents old out) b) →
+      IsPrompt heard wall (used fails left first mid) (used failures contents old out) bytes
+      s.told →
       Tells (heard mid) (heard last) (record { bytes = more; written = contents out } ∷ []) →
-      (told : List Told) → Prompt wall first last old new (bytes ++ more) (told ++ s.told)
+      (told : List Told) → IsPrompt heard wall (used fails left first last)
+      (used failures contents old new) (bytes ++ more) (told ++ s.told)
   prompt_more wall a b first mid last old out new bytes more line s p tells told =
       let read : Heard = record { bytes = more; written = contents out } in
       let now : HadAnswered wall (contents old) (contents out) (text_of p.reads) s.told = record {
@@ -113,14 +131,3 @@ module _ {S O : Type 0} (fails : S → ℕ) (left : S → Option (List ℕ))
         answered =
             answered_more wall (contents old) read p.reads s.told told now p.answered;
       }
-
-  -- a read that failed is not told
-  pub prompt_still : (wall : ChineseWall) (first mid last : S) (old new : O) (bytes : List ℕ)
-      (told : List Told) → Prompt wall first mid old new bytes told →
-      Tells (heard mid) (heard last) [] → Prompt wall first last old new bytes told
-  prompt_still wall first mid last old new bytes told p tells = record {
-    reads = p.reads;
-    tells = tells_then (heard first) (heard mid) (heard last) p.reads [] p.tells tells;
-    gave = p.gave;
-    answered = p.answered;
-  }

@@ -1,6 +1,7 @@
 -- What sessions come to, line by line.
 use Rattle.std.proofs.Common.{◌≡◌, inl, inr, ℕ, zero, suc, ◌+◌, List, [], ◌∷◌, ◌++◌, map}
 use Rattle.std.proofs.Common.{reverse, Option, Some, None, Result, Ok, Err, refl, sym, ap, subst}
+use Rattle.std.proofs.Common.{◌≢◌, Bool, true, false}
 use Rattle.std.proofs.Common.{◌∙◌, append_assoc, append-nil, IfOk, replicate, take, arith}
 use Rattle.wall_labels.specs.declared.no_memory.NoMemory.{NoMemory as OutOfMemory}
 use Rattle.wall_labels.specs.Known.{AppendsFront}
@@ -26,20 +27,22 @@ use Rattle.hall_turn.specs.declared.answer.Answer.{Answer}
 use Rattle.hall_turn.specs.declared.answer.Answer.TheVariants.{Reply as Replied, Exhausted as Late}
 use Rattle.hall_turn.specs.Runs.{Continues, calls_of}
 use Rattle.hall_turn.specs.Known.{Known, Doorway}
-use Rattle.hall_turn.specs.Answers.{IsSamePass, Answered}
+use Rattle.hall_turn.specs.Answers.{IsSamePass, SeesOn, Answered, SaysBooked, StoodAt}
 use Rattle.hall_turn.proofs.HallTurnLemmas.{continues_self, continues_more, continues_trans}
 use Rattle.live_session.specs.declared.line.BadLine.{BadLine}
 use Rattle.live_session.specs.declared.acting.Came.{Came}
 use Rattle.live_session.specs.declared.acting.Came.TheVariants as cames
 use Rattle.live_session.specs.declared.answer.Next.{Next}
 use Rattle.live_session.specs.declared.answer.Next.TheVariants as nexts
-use Rattle.live_session.specs.Lines.{said, left_line, exhausted_line}
+use Rattle.live_session.specs.Lines.{said, left_line, exhausted_line, unbooked_line}
 use Rattle.live_session.specs.Sessions.{Told, done, waited, asked_nothing, said_by, called}
 use Rattle.live_session.specs.Sessions.{calls_for, made, answer, answers, SeesMore, Acted, EndsAt}
-use Rattle.live_session.specs.Sessions.{SaysLast, IsCutIn, BreaksOff, IsWrittenButNewest, EndsSo}
+use Rattle.live_session.specs.Sessions.{SaysLast, IsCutIn, BreaksOff, EndsSo, and_untold, Stood}
+use Rattle.live_session.specs.Sessions.{last_call, StoodBehind, StoodFor, AreBooked, EndsUnbooked}
 use Rattle.live_session.specs.Sessions.{Serves, IsPrompt}
 use Rattle.live_session.specs.Hearing.{Heard, Tells}
-use Rattle.live_session.specs.Steps.{ComesTo, MayHaveCome, ComesTooLate, reply_to, CameTo, Waited}
+use Rattle.live_session.specs.Steps.{ComesTo, MayHaveCome, ComesTooLate, ComesUnbooked, reply_to}
+use Rattle.live_session.specs.Steps.{CameTo, Waited}
 use Rattle.live_session.specs.Steps.{came_of, line_to, next_after, AnswersSo, WritesAnswer}
 use Rattle.live_session.specs.Steps.{PutsAnswer, AnswersLine, SoFar, Stops, StopsSo, Holds}
 use Rattle.live_session.specs.Steps.{behind}
@@ -49,7 +52,8 @@ use Rattle.live_session.proofs.PromptLemmas.{prompt_none, prompt_more, prompt_st
 use Rattle.live_session.specs.declared.ending.SessionEnd.{SessionEnd}
 use Rattle.live_session.specs.declared.ending.SessionEnd.TheVariants.{EndOfStream, Left}
 use Rattle.live_session.specs.declared.ending.SessionEnd.TheVariants.{ReadFailed, WriteFailed}
-use Rattle.live_session.specs.declared.ending.SessionEnd.TheVariants.{Exhausted, NoMemory}
+use Rattle.live_session.specs.declared.ending.SessionEnd.TheVariants.{Exhausted, Unbooked}
+use Rattle.live_session.specs.declared.ending.SessionEnd.TheVariants.{NoMemory}
 
 -- ---- the pass
 
@@ -104,6 +108,11 @@ answers-append wall (told ∷ later) first =
     ap (λ l. l ++ answer wall told) (answers-append wall later first)
     ∙ append_assoc (answers wall first) (answers wall later) (answer wall told)
 
+pub untold-append : (untold : Option Told) (later first : List Told) →
+    and_untold untold later ++ first ≡ and_untold untold (later ++ first)
+untold-append None later first = refl
+untold-append (Some newest) later first = refl
+
 map-append : {A B : Type 0} (f : A → B) (xs ys : List A) → map f (xs ++ ys) ≡ map f xs ++ map f ys
 map-append f [] ys = refl
 map-append f (x ∷ xs) ys = ap (λ l. f x ∷ l) (map-append f xs ys)
@@ -137,62 +146,113 @@ acted_then wall a b c whole text first later mid rest past told s t all is = rec
 -- one line more
 pub acted_more : (wall : ChineseWall) (a b c : Known) (text lines later : List Word) (line : Word)
     (past : List Told) (told : Told) → Acted wall a text lines (line ∷ later) past b →
-    ComesTo b (said wall.dataset_names line) told c →
+    said wall.dataset_names line ≡ said_by told → SeesMore b (calls_for b.process told) c →
     Acted wall a text (line ∷ lines) later (told ∷ past) c
-acted_more wall a b c text lines later line past told s comes =
+acted_more wall a b c text lines later line past told s says sees =
     acted_then wall a b c (line ∷ later) text lines (line ∷ []) (line ∷ later) later past
     (told ∷ []) s
     (record {
       cut = refl;
-      says = ap (λ l. l ∷ []) comes.says;
-      sees = subst (λ l. SeesMore b l c) (sym (append-nil (calls_for b.process told))) comes.sees;
+      says = ap (λ l. l ∷ []) says;
+      sees = subst (λ l. SeesMore b l c) (sym (append-nil (calls_for b.process told))) sees;
     }) text s.cut
 
+-- ---- the machine
+
+module _ (stood : ChineseWall → List Entry → Bool → Type 0) where
+  -- more was seen since
+  behind_on : (a b d : Known) (calls : List Entry) (call : Entry) (booked : Bool) →
+      Continues d.seen b.seen → StoodBehind stood a calls call booked b →
+      StoodBehind stood a calls call booked d
+  behind_on a b d calls call booked more s = record {
+    front = s.front;
+    begins = continues_trans d.seen b.seen (call ∷ s.front) more s.begins;
+    own = s.own;
+    so = s.so;
+  }
+
+  -- other calls were made before
+  behind_then : (a b d : Known) (past calls : List Entry) (call : Entry) (booked : Bool) →
+      SeesMore a past b → StoodBehind stood b calls call booked d →
+      StoodBehind stood a (calls ++ past) call booked d
+  behind_then a b d past calls call booked s t = record {
+    front = t.front;
+    begins = t.begins;
+    own = ap (λ (p : ℕ). calls_of p (call ∷ t.front)) (sym s.same.1) ∙ t.own
+        ∙ ap (λ (p : ℕ). calls ++ calls_of p b.seen) s.same.1 ∙ ap (λ l. calls ++ l) s.own
+        ∙ sym (append_assoc calls past (calls_of a.process a.seen));
+    so = subst (λ (w : Doorway). stood w.policy (call ∷ t.front) booked) s.same.0 t.so;
+  }
+
+  for_on : (a b d : Known) (told : Told) (calls : List Entry) (booked : Bool) →
+      Continues d.seen b.seen → StoodFor stood a told calls booked b →
+      StoodFor stood a told calls booked d
+  for_on a b d told calls booked more s =
+      λ call is. behind_on a b d calls call booked more (s call is)
+
+  for_then : (a b d : Known) (past calls : List Entry) (told : Told) (booked : Bool) →
+      SeesMore a past b → StoodFor stood b told calls booked d →
+      StoodFor stood a told (calls ++ past) booked d
+  for_then a b d past calls told booked s t = λ call is.
+      behind_then a b d past calls call booked s
+      (t call (ap (λ (p : ℕ). last_call p told) s.same.1 ∙ is))
+
+  -- the calls of some lines were made after those of others
+  for_lines : (a b d : Known) (first later : List Told) (told : Told) (booked : Bool) →
+      SeesMore a (made a.process first) b →
+      StoodFor stood b told (made b.process later) booked d →
+      StoodFor stood a told (made a.process (later ++ first)) booked d
+  for_lines a b d first later told booked s t =
+      subst (λ l. StoodFor stood a told l booked d)
+      (ap (λ (p : ℕ). made p later ++ made a.process first) s.same.1
+      ∙ sym (made-append a.process later first))
+      (for_then a b d (made a.process first) (made b.process later) told booked s t)
+
+  -- the calls of one line were made after those of others
+  for_line : (a b d : Known) (first : List Told) (told : Told) (booked : Bool) →
+      SeesMore a (made a.process first) b →
+      StoodFor stood b told (calls_for b.process told) booked d →
+      StoodFor stood a told (made a.process (told ∷ first)) booked d
+  for_line a b d first told booked s t = for_lines a b d first (told ∷ []) told booked s
+      (subst (λ l. StoodFor stood b told l booked d)
+      (sym (append-nil (calls_for b.process told))) t)
+
+  booked_on : (a b d : Known) (told : List Told) → Continues d.seen b.seen →
+      AreBooked stood a told b → AreBooked stood a told d
+  booked_on a b d [] more h = tt
+  booked_on a b d (told ∷ past) more h = (
+    booked_on a b d past more h.0,
+    for_on a b d told (made a.process (told ∷ past)) true more h.1,
+  )
+
+  pub booked_more : (a b d : Known) (past : List Told) (line : Result Ask BadLine) (told : Told) →
+      SeesMore a (made a.process past) b → AreBooked stood a past b →
+      ComesTo stood b line told true d → AreBooked stood a (told ∷ past) d
+  booked_more a b d past line told s h comes =
+      (booked_on a b d past comes.sees.begins h, for_line a b d past told true s comes.so)
+
+  pub booked_then : (a b d : Known) (first later : List Told) →
+      SeesMore a (made a.process first) b → AreBooked stood a first b →
+      AreBooked stood b later d → Continues d.seen b.seen → AreBooked stood a (later ++ first) d
+  booked_then a b d first [] s h t more = booked_on a b d first more h
+  booked_then a b d first (told ∷ later) s h t more = (
+    booked_then a b d first later s h t.0 more,
+    for_lines a b d first (told ∷ later) told true s t.1,
+  )
+
+  -- the newest line of later ones
+  unbooked_then : (a b d : Known) (rest : List Word) (first later : List Told) (newest : Told) →
+      SeesMore a (made a.process first) b → EndsUnbooked stood b rest later newest d →
+      EndsUnbooked stood a rest (later ++ first) newest d
+  unbooked_then a b d rest first later newest s t = record {
+    next = t.next;
+    later = t.later;
+    finished = t.finished;
+    calls = λ none. t.calls (ap (λ (p : ℕ). last_call p newest) s.same.1 ∙ none);
+    unbooked = for_lines a b d first (newest ∷ later) newest false s t.unbooked;
+  }
+
 -- ---- one line
-
--- a wait of one take
-pub waited_once : (before after : Known) (request : ℕ) (a : Answer) → IsSamePass before after →
-    Legal before.door.policy after.seen → Answered before (Take request) a after →
-    Waited before request a after
-waited_once before after request (Replied reply) same legal a =
-    (0, sees_call before after (Take request) reply same legal a)
-waited_once before after request Late same legal a =
-    (sees_late before after (Take request) same legal a, a.1)
-
--- a wait of one take more
-pub waited_more : (before mid after : Known) (request : ℕ) (reply : Reply) →
-    Waited before request (Replied Pending) mid → IsSamePass mid after →
-    Legal mid.door.policy after.seen → Answered mid (Take request) (Replied reply) after →
-    Waited before request (Replied reply) after
-waited_more before mid after request reply (again, sees) same legal a = (
-  suc again,
-  subst (λ (p : ℕ). SeesMore before (called p (Take request) reply
-      ∷ called before.process (Take request) Pending
-      ∷ replicate again (called before.process (Take request) Pending)) after) sees.same.1
-      (sees_then before mid after (calls_for before.process (waited request again Pending))
-      (called mid.process (Take request) reply ∷ []) sees
-      (sees_call mid after (Take request) reply same legal a)),
-)
-
--- a wait whose next take came too late
-pub waited_still : (before mid after : Known) (request : ℕ) →
-    Waited before request (Replied Pending) mid → IsSamePass mid after →
-    Legal mid.door.policy after.seen → Answered mid (Take request) Late after →
-    Waited before request (Replied Pending) after
-waited_still before mid after request (again, sees) same legal a = (
-  again,
-  sees_then before mid after (calls_for before.process (waited request again Pending)) [] sees
-      (sees_late mid after (Take request) same legal a),
-)
-
--- a wait of one take more, whatever that was answered but that it is too late
-pub waited_again : (before mid after : Known) (request : ℕ) (a : Answer) → (a ≡ Late → ⊥) →
-    Waited before request (Replied Pending) mid → IsSamePass mid after →
-    Legal mid.door.policy after.seen → Answered mid (Take request) a after →
-    Waited before request a after
-waited_again before mid after request (Replied reply) made w same legal a =
-    waited_more before mid after request reply w same legal a
-waited_again before mid after request Late made w same legal a = absurd (made refl)
 
 -- the policy of a door is that of its passes
 pub at_door : (door : Doorway) (pass : Known) (run : List Entry) → pass.door ≡ door →
@@ -206,41 +266,132 @@ no_leave ask act e f = cc
 no_wait : (ask : Ask) (request : ℕ) → ask ≡ Wait request → ask ≡ Leave → ⊥
 no_wait ask request e f = cc
 
-pub act_came : (before after : Known) (act : Act) (a : Answer) → IsSamePass before after →
-    Legal before.door.policy after.seen → Answered before act a after →
-    CameTo before (ToAct act) (came_of a) after
-act_came before after act (Replied reply) same legal a = (
-  done act reply,
-  record { says = refl; sees = sees_call before after act reply same legal a },
-  refl,
-)
-act_came before after act Late same legal a = record {
-  ask = ToAct act;
-  says = refl;
-  calls = no_leave (ToAct act) act refl;
-  sees = sees_late before after act same legal a;
-  late = a.1;
-}
+-- what came of a call is told where the machine was booked
+told_or_not : (stood : ChineseWall → List Entry → Bool → Type 0) (before after : Known) (ask : Ask)
+    (told : Told) (reply : Reply) (booked : Bool) → last_call before.process told ≢ None →
+    reply_to told ≡ Some reply → ComesTo stood before (Ok ask) told booked after →
+    CameTo stood before ask (came_of (Replied reply) booked) after
+told_or_not stood before after ask told reply true calls is comes = (told, comes, is)
+told_or_not stood before after ask told reply false calls is comes = (told, comes, calls)
 
-pub wait_came : (before after : Known) (request : ℕ) (a : Answer) → Waited before request a after →
-    CameTo before (Wait request) (came_of a) after
-wait_came before after request (Replied reply) (again, sees) =
-    (waited request again reply, record { says = refl; sees = sees }, refl)
-wait_came before after request Late (sees, late) = record {
+module _ {M : Type 0} (stands : ChineseWall → M → List Entry → Type 0) (is_booked : M → Bool) where
+  -- the call was made, and its pass says of the machine what it was at the end of its turn
+  behind_call : (before after : Known) (act : Act) (reply : Reply) → IsSamePass before after →
+      Answered before act (Replied reply) after → SaysBooked stands is_booked after →
+      (call : Entry) → Some (called before.process act reply) ≡ Some call →
+      StoodBehind (Stood stands is_booked) before (called before.process act reply ∷ []) call
+      after.booked after
+  behind_call before after act reply same a says call is =
+      let this : called before.process act reply ≡ call = cc in
+      subst (λ (e : Entry). StoodBehind (Stood stands is_booked) before
+      (called before.process act reply ∷ []) e after.booked after) this
+      (record {
+        front = a.front;
+        begins = subst (λ (run : List Entry). Continues after.seen run) a.ends
+            (continues_self after.seen);
+        own = ap (λ (run : List Entry). calls_of before.process run) (sym a.ends) ∙ a.own;
+        so = (
+          says.0,
+          subst (λ (run : List Entry). stands before.door.policy says.0 run) a.ends
+              (subst (λ (w : Doorway). stands w.policy says.0 after.seen) same.0 says.1),
+          says.2,
+        );
+      })
+
+  -- a wait of one take
+  pub waited_once : (before after : Known) (request : ℕ) (a : Answer) → IsSamePass before after →
+      Legal before.door.policy after.seen → Answered before (Take request) a after →
+      StoodAt stands is_booked before a after →
+      Waited (Stood stands is_booked) before request a after
+  waited_once before after request (Replied reply) same legal a says = (
+    0,
+    record {
+      says = refl;
+      sees = sees_call before after (Take request) reply same legal a;
+      so = λ call is. behind_call before after (Take request) reply same a says call is;
+    },
+  )
+  waited_once before after request Late same legal a says =
+      (sees_late before after (Take request) same legal a, a.1)
+
+  -- a wait of one take more
+  pub waited_more : (before mid after : Known) (request : ℕ) (reply : Reply) →
+      Waited (Stood stands is_booked) before request (Replied Pending) mid → IsSamePass mid after →
+      Legal mid.door.policy after.seen → Answered mid (Take request) (Replied reply) after →
+      SaysBooked stands is_booked after →
+      Waited (Stood stands is_booked) before request (Replied reply) after
+  waited_more before mid after request reply (again, w) same legal a says =
+      let first = calls_for before.process (waited request again Pending) in
+      let number : mid.process ≡ before.process = w.sees.same.1 in (
+        suc again,
+        record {
+          says = refl;
+          sees = subst (λ (p : ℕ). SeesMore before (called p (Take request) reply ∷ first) after)
+              number (sees_then before mid after first
+              (called mid.process (Take request) reply ∷ []) w.sees
+              (sees_call mid after (Take request) reply same legal a));
+          so = λ call is.
+              subst (λ (p : ℕ). StoodBehind (Stood stands is_booked) before
+              (called p (Take request) reply ∷ first) call after.booked after) number
+              (behind_then (Stood stands is_booked) before mid after first
+              (called mid.process (Take request) reply ∷ []) call after.booked w.sees
+              (behind_call mid after (Take request) reply same a says call
+              (ap (λ (p : ℕ). Some (called p (Take request) reply)) number ∙ is)));
+        },
+      )
+
+  -- a wait whose next take came too late
+  pub waited_still : (before mid after : Known) (request : ℕ) →
+      Waited (Stood stands is_booked) before request (Replied Pending) mid → IsSamePass mid after →
+      Legal mid.door.policy after.seen → Answered mid (Take request) Late after →
+      after.booked ≡ mid.booked →
+      Waited (Stood stands is_booked) before request (Replied Pending) after
+  waited_still before mid after request (again, w) same legal a keeps =
+      let first = calls_for before.process (waited request again Pending) in (
+        again,
+        record {
+          says = refl;
+          sees = sees_then before mid after first [] w.sees
+              (sees_late mid after (Take request) same legal a);
+          so = subst (λ (b : Bool). StoodFor (Stood stands is_booked) before
+              (waited request again Pending) first b after) (sym keeps)
+              (for_on (Stood stands is_booked) before mid after (waited request again Pending) first
+              mid.booked a.0.begins w.so);
+        },
+      )
+
+  pub act_came : (before after : Known) (act : Act) (a : Answer) → IsSamePass before after →
+      Legal before.door.policy after.seen → Answered before act a after →
+      StoodAt stands is_booked before a after →
+      CameTo (Stood stands is_booked) before (ToAct act) (came_of a after.booked) after
+  act_came before after act (Replied reply) same legal a says =
+      told_or_not (Stood stands is_booked) before after (ToAct act) (done act reply) reply
+      after.booked (λ e. absurd cc) refl
+      (record {
+        says = refl;
+        sees = sees_call before after act reply same legal a;
+        so = λ call is. behind_call before after act reply same a says call is;
+      })
+  act_came before after act Late same legal a says = record {
+    ask = ToAct act;
+    says = refl;
+    calls = no_leave (ToAct act) act refl;
+    sees = sees_late before after act same legal a;
+    late = a.1;
+  }
+
+pub wait_came : (stood : ChineseWall → List Entry → Bool → Type 0) (before after : Known)
+    (request : ℕ) (a : Answer) → Waited stood before request a after →
+    CameTo stood before (Wait request) (came_of a after.booked) after
+wait_came stood before after request (Replied reply) (again, comes) =
+    told_or_not stood before after (Wait request) (waited request again reply) reply after.booked
+    (λ e. absurd cc) refl comes
+wait_came stood before after request Late (sees, late) = record {
   ask = Wait request;
   says = refl;
   calls = no_wait (Wait request) request refl;
   sees = sees;
   late = late;
-}
-
--- a line that asks for nothing: nothing was made
-pub comes_bad : (wall : ChineseWall) (before : Known) (line : Result Ask BadLine) (bad : BadLine) →
-    wall ≡ before.door.policy → Legal wall before.seen → line ≡ Err bad →
-    ComesTo before line (asked_nothing bad) before
-comes_bad wall before line bad is legal says = record {
-  says = says;
-  sees = sees_none before (subst (λ (w : ChineseWall). Legal w before.seen) is legal);
 }
 
 -- the answer is all of the text
@@ -255,37 +406,55 @@ replied wall (waited request again r) reply e =
     let k : r ≡ reply = cc in ap (reply_line wall) (sym k)
 replied wall (asked_nothing bad) reply e = absurd cc
 
-came_answers : (wall : ChineseWall) (before after : Known) (ask : Ask) (it : Came) →
-    CameTo before ask it after →
-    AnswersSo wall before (Ok ask) (line_to wall it) after (next_after it)
-came_answers wall before after ask (cames.Reply reply) (told, comes, is) =
-    (told, comes, replied wall told reply is)
-came_answers wall before after ask cames.Left (is, sees) = (ap Ok is, sees, refl)
-came_answers wall before after ask cames.Exhausted late = (late, refl)
+none_made : (process : ℕ) (bad : BadLine) (call : Entry) →
+    last_call process (asked_nothing bad) ≡ Some call → ⊥
+none_made process bad call e = absurd cc
 
-may_have : (before after : Known) (ask : Ask) (it : Came) → CameTo before ask it after →
-    MayHaveCome before (Ok ask) after
-may_have before after ask (cames.Reply reply) (told, comes, is) = inr (told, comes)
-may_have before after ask cames.Left (is, sees) = inl sees
-may_have before after ask cames.Exhausted late = inl late.sees
+module _ (stood : ChineseWall → List Entry → Bool → Type 0) where
+  -- a line that asks for nothing: nothing was made
+  pub comes_bad : (wall : ChineseWall) (before : Known) (line : Result Ask BadLine)
+      (bad : BadLine) → wall ≡ before.door.policy → Legal wall before.seen → line ≡ Err bad →
+      ComesTo stood before line (asked_nothing bad) true before
+  comes_bad wall before line bad is legal says = record {
+    says = says;
+    sees = sees_none before (subst (λ (w : ChineseWall). Legal w before.seen) is legal);
+    so = λ call e. absurd (none_made before.process bad call e);
+  }
 
--- what came of a line was put, or memory ran out
-pub puts_came : (wall : ChineseWall) (before after : Known) (line : Result Ask BadLine) (ask : Ask)
-    (it : Came) (text : List ℕ) (r : Result Next OutOfMemory) → line ≡ Ok ask →
-    CameTo before ask it after → IfOk r (λ next. text ≡ line_to wall it) →
-    IfOk r (λ next. next ≡ next_after it) → PutsAnswer wall before line text after r
-puts_came wall before after line ask it text (Ok nx) is came put goes =
-    subst (λ (l : Result Ask BadLine). AnswersSo wall before l text after nx) (sym is)
-    (subst (AnswersSo wall before (Ok ask) text after) (sym goes)
-    (subst (λ (t : List ℕ). AnswersSo wall before (Ok ask) t after (next_after it)) (sym put)
-    (came_answers wall before after ask it came)))
-puts_came wall before after line ask it text (Err e) is came put goes =
-    subst (λ (l : Result Ask BadLine). MayHaveCome before l after) (sym is)
-    (may_have before after ask it came)
+  came_answers : (wall : ChineseWall) (before after : Known) (ask : Ask) (it : Came) →
+      CameTo stood before ask it after →
+      AnswersSo stood wall before (Ok ask) (line_to wall it) after (next_after it)
+  came_answers wall before after ask (cames.Reply reply) (told, comes, is) =
+      (told, comes, replied wall told reply is)
+  came_answers wall before after ask cames.Left (is, sees) = (ap Ok is, sees, refl)
+  came_answers wall before after ask cames.Exhausted late = (late, refl)
+  came_answers wall before after ask cames.Unbooked comes = (comes, refl)
+
+  may_have : (before after : Known) (ask : Ask) (it : Came) → CameTo stood before ask it after →
+      MayHaveCome stood before (Ok ask) after
+  may_have before after ask (cames.Reply reply) (told, comes, is) = inr (told, true, comes)
+  may_have before after ask cames.Left (is, sees) = inl sees
+  may_have before after ask cames.Exhausted late = inl late.sees
+  may_have before after ask cames.Unbooked (told, comes, calls) = inr (told, false, comes)
+
+  -- what came of a line was put, or memory ran out
+  pub puts_came : (wall : ChineseWall) (before after : Known) (line : Result Ask BadLine)
+      (ask : Ask) (it : Came) (text : List ℕ) (r : Result Next OutOfMemory) → line ≡ Ok ask →
+      CameTo stood before ask it after → IfOk r (λ next. text ≡ line_to wall it) →
+      IfOk r (λ next. next ≡ next_after it) → PutsAnswer stood wall before line text after r
+  puts_came wall before after line ask it text (Ok nx) is came put goes =
+      subst (λ (l : Result Ask BadLine). AnswersSo stood wall before l text after nx) (sym is)
+      (subst (AnswersSo stood wall before (Ok ask) text after) (sym goes)
+      (subst (λ (t : List ℕ). AnswersSo stood wall before (Ok ask) t after (next_after it))
+      (sym put) (came_answers wall before after ask it came)))
+  puts_came wall before after line ask it text (Err e) is came put goes =
+      subst (λ (l : Result Ask BadLine). MayHaveCome stood before l after) (sym is)
+      (may_have before after ask it came)
 
 -- ---- lines so far
 
-module _ {O : Type 0} (failures : O → ℕ) (contents : O → Option (List ℕ)) where
+module _ (stood : ChineseWall → List Entry → Bool → Type 0) {O : Type 0} (failures : O → ℕ)
+    (contents : O → Option (List ℕ)) where
   abbrev Between : O → O → Used O
   Between old new = used failures contents old new
 
@@ -296,42 +465,42 @@ module _ {O : Type 0} (failures : O → ℕ) (contents : O → Option (List ℕ)
 
   unfoldable pub so_far_none : (wall : ChineseWall) (before : Known) (text : List Word) (sink : O) →
       wall ≡ before.door.policy → Legal wall before.seen →
-      SoFar wall before text text (Between sink sink) before
+      SoFar stood wall before text text (Between sink sink) before
   so_far_none wall before text sink is legal = record {
     lines = [];
     told = [];
     acted = acted_none wall before text
         (subst (λ (w : ChineseWall). Legal w before.seen) is legal);
+    booked = tt;
     written = (refl, Appends-nil (contents sink));
   }
 
   -- one line more was answered
   pub goes_on : (wall : ChineseWall) (a b d : Known) (text later : List Word) (line : Word)
-      (old mid new : O) → SoFar wall a text (line ∷ later) (Between old mid) b →
-      WritesAnswer wall b (said wall.dataset_names line) (Between mid new) d nexts.GoesOn →
-      SoFar wall a text later (Between old new) d
+      (old mid new : O) → SoFar stood wall a text (line ∷ later) (Between old mid) b →
+      WritesAnswer stood wall b (said wall.dataset_names line) (Between mid new) d nexts.GoesOn →
+      SoFar stood wall a text later (Between old new) d
   goes_on wall a b d text later line old mid new s (answered, (told, comes, is), w) = record {
     lines = line ∷ s.lines;
     told = told ∷ s.told;
-    acted = acted_more wall a b d text s.lines later line s.told told s.acted comes;
+    acted = acted_more wall a b d text s.lines later line s.told told s.acted comes.says comes.sees;
+    booked = booked_more stood a b d s.told (said wall.dataset_names line) told s.acted.sees
+        s.booked comes;
     written = written_then old mid new (answers wall s.told) (answer wall told) s.written
         (subst (IsWritten (Between mid new)) is w);
   }
 
-  written_all : (wall : ChineseWall) (sink : Used O) (told : List Told) →
-      IsWritten sink (answers wall told) → IsWrittenButNewest wall sink told
-  written_all wall sink [] w = w
-  written_all wall sink (t ∷ told) w = inl w
-
   -- memory ran out before the next line
   pub stops_here : (wall : ChineseWall) (a b : Known) (text rest : List Word) (sink : Used O) →
-      SoFar wall a text rest sink b → Stops wall a text sink b NoMemory
+      SoFar stood wall a text rest sink b → Stops stood wall a text sink b NoMemory
   stops_here wall a b text rest sink s = record {
     lines = s.lines;
     rest = rest;
     told = s.told;
+    untold = None;
     acted = s.acted;
-    stops = written_all wall sink s.told s.written;
+    booked = s.booked;
+    stops = s.written;
   }
 
   -- nothing was made of the line at hand
@@ -345,19 +514,32 @@ module _ {O : Type 0} (failures : O → ℕ) (contents : O → Option (List ℕ)
   }
 
   -- the line at hand ends the session
-  left_at : (wall : ChineseWall) (before after : Known) (line next : Word) (later : List Word)
-      (text : List ℕ) →
-      AnswersSo wall before (said wall.dataset_names line) text after nexts.Left →
-      EndsAt wall (line ∷ next ∷ later) after Left text
-  left_at wall before after line next later text (says, sees, is) =
+  left_at : (wall : ChineseWall) (a before after : Known) (line next : Word) (later : List Word)
+      (told : List Told) (text : List ℕ) →
+      AnswersSo stood wall before (said wall.dataset_names line) text after nexts.Left →
+      EndsAt stood wall a (line ∷ next ∷ later) told None after Left text
+  left_at wall a before after line next later told text (says, sees, is) =
       ((line, next, later, Leave, refl, says, refl), is)
 
-  late_at : (wall : ChineseWall) (before after : Known) (line next : Word) (later : List Word)
-      (text : List ℕ) →
-      AnswersSo wall before (said wall.dataset_names line) text after nexts.Exhausted →
-      EndsAt wall (line ∷ next ∷ later) after Exhausted text
-  late_at wall before after line next later text (late, is) =
+  late_at : (wall : ChineseWall) (a before after : Known) (line next : Word) (later : List Word)
+      (told : List Told) (text : List ℕ) →
+      AnswersSo stood wall before (said wall.dataset_names line) text after nexts.Exhausted →
+      EndsAt stood wall a (line ∷ next ∷ later) told None after Exhausted text
+  late_at wall a before after line next later told text (late, is) =
       ((line, next, later, late.ask, refl, late.says, late.calls), late.late, is)
+
+  -- what the line at hand came to is not told
+  unbooked_at : (a b d : Known) (line : Result Ask BadLine) (next : Word) (later : List Word)
+      (past : List Told) (told : Told) → SeesMore a (made a.process past) b →
+      ComesTo stood b line told false d → last_call b.process told ≢ None →
+      EndsUnbooked stood a (next ∷ later) past told d
+  unbooked_at a b d line next later past told s comes calls = record {
+    next = next;
+    later = later;
+    finished = refl;
+    calls = λ none. calls (ap (λ (p : ℕ). last_call p told) s.same.1 ∙ none);
+    unbooked = for_line stood a b d past told false s comes.so;
+  }
 
   -- all answers were written, and a prefix of the next
   cut_more : (old mid new : O) (whole text newest : List ℕ) → IsWritten (Between old mid) whole →
@@ -373,20 +555,25 @@ module _ {O : Type 0} (failures : O → ℕ) (contents : O → Option (List ℕ)
   -- the answer to the line at hand was not written to its end
   breaks_in : (wall : ChineseWall) (a b d : Known) (text later : List Word) (line after : Word)
       (old mid new : O) (nx : Next) (words : List ℕ) →
-      SoFar wall a text (line ∷ after ∷ later) (Between old mid) b →
-      AnswersSo wall b (said wall.dataset_names line) words d nx →
-      BrokeOff (Between mid new) words → Stops wall a text (Between old new) d WriteFailed
+      SoFar stood wall a text (line ∷ after ∷ later) (Between old mid) b →
+      AnswersSo stood wall b (said wall.dataset_names line) words d nx →
+      BrokeOff (Between mid new) words → Stops stood wall a text (Between old new) d WriteFailed
   breaks_in wall a b d text later line after old mid new nexts.GoesOn words s (told, comes, is) f =
       record {
         lines = line ∷ s.lines;
         rest = after ∷ later;
         told = told ∷ s.told;
-        acted = acted_more wall a b d text s.lines (after ∷ later) line s.told told s.acted comes;
+        untold = None;
+        acted = acted_more wall a b d text s.lines (after ∷ later) line s.told told s.acted
+            comes.says comes.sees;
+        booked = booked_more stood a b d s.told (said wall.dataset_names line) told s.acted.sees
+            s.booked comes;
         stops = (
           f.0 ∙ ap (λ (n : ℕ). n + 1) s.written.0,
           inl (
             told,
             s.told,
+            refl,
             refl,
             cut_more old mid new (answers wall s.told) words (answer wall told) s.written f.1 is,
           ),
@@ -396,13 +583,15 @@ module _ {O : Type 0} (failures : O → ℕ) (contents : O → Option (List ℕ)
     lines = s.lines;
     rest = line ∷ after ∷ later;
     told = s.told;
+    untold = None;
     acted = acted_still wall a b d text s.lines (line ∷ after ∷ later) s.told s.acted so.1;
+    booked = booked_on stood a b d s.told so.1.begins s.booked;
     stops = (
       f.0 ∙ ap (λ (n : ℕ). n + 1) s.written.0,
       inr (
         Left,
         words,
-        left_at wall b d line after later words so,
+        left_at wall a b d line after later s.told words so,
         cut_more old mid new (answers wall s.told) words words s.written f.1 refl,
       ),
     );
@@ -411,34 +600,61 @@ module _ {O : Type 0} (failures : O → ℕ) (contents : O → Option (List ℕ)
     lines = s.lines;
     rest = line ∷ after ∷ later;
     told = s.told;
+    untold = None;
     acted = acted_still wall a b d text s.lines (line ∷ after ∷ later) s.told s.acted so.0.sees;
+    booked = booked_on stood a b d s.told so.0.sees.begins s.booked;
     stops = (
       f.0 ∙ ap (λ (n : ℕ). n + 1) s.written.0,
       inr (
         Exhausted,
         words,
-        late_at wall b d line after later words so,
+        late_at wall a b d line after later s.told words so,
         cut_more old mid new (answers wall s.told) words words s.written f.1 refl,
       ),
     );
   }
+  breaks_in wall a b d text later line after old mid new nexts.Unbooked words s
+      ((told, comes, calls), is) f = record {
+        lines = line ∷ s.lines;
+        rest = after ∷ later;
+        told = s.told;
+        untold = Some told;
+        acted = acted_more wall a b d text s.lines (after ∷ later) line s.told told s.acted
+            comes.says comes.sees;
+        booked = booked_on stood a b d s.told comes.sees.begins s.booked;
+        stops = (
+          f.0 ∙ ap (λ (n : ℕ). n + 1) s.written.0,
+          inr (
+            Unbooked,
+            words,
+            (
+              unbooked_at a b d (said wall.dataset_names line) after later s.told told s.acted.sees
+                  comes calls,
+              is,
+            ),
+            cut_more old mid new (answers wall s.told) words words s.written f.1 refl,
+          ),
+        );
+      }
 
   -- the session ends at the line at hand
   pub breaks_off : (wall : ChineseWall) (a b d : Known) (text later : List Word) (line after : Word)
       (old mid new : O) (end : SessionEnd) →
-      SoFar wall a text (line ∷ after ∷ later) (Between old mid) b →
-      AnswersLine {X = Unit {0}} wall b (said wall.dataset_names line) (Between mid new) d (Err end) →
-      Stops wall a text (Between old new) d end
+      SoFar stood wall a text (line ∷ after ∷ later) (Between old mid) b →
+      AnswersLine stood {X = Unit {0}} wall b (said wall.dataset_names line) (Between mid new) d
+      (Err end) → Stops stood wall a text (Between old new) d end
   breaks_off wall a b d text later line after old mid new WriteFailed s (nx, words, so, f) =
       breaks_in wall a b d text later line after old mid new nx words s so f
   breaks_off wall a b d text later line after old mid new Left s (words, so, w) = record {
     lines = s.lines;
     rest = line ∷ after ∷ later;
     told = s.told;
+    untold = None;
     acted = acted_still wall a b d text s.lines (line ∷ after ∷ later) s.told s.acted so.1;
+    booked = booked_on stood a b d s.told so.1.begins s.booked;
     stops = (
       words,
-      left_at wall b d line after later words so,
+      left_at wall a b d line after later s.told words so,
       written_then old mid new (answers wall s.told) words s.written w,
     );
   }
@@ -446,30 +662,54 @@ module _ {O : Type 0} (failures : O → ℕ) (contents : O → Option (List ℕ)
     lines = s.lines;
     rest = line ∷ after ∷ later;
     told = s.told;
+    untold = None;
     acted = acted_still wall a b d text s.lines (line ∷ after ∷ later) s.told s.acted so.0.sees;
+    booked = booked_on stood a b d s.told so.0.sees.begins s.booked;
     stops = (
       words,
-      late_at wall b d line after later words so,
+      late_at wall a b d line after later s.told words so,
       written_then old mid new (answers wall s.told) words s.written w,
     );
   }
+  breaks_off wall a b d text later line after old mid new Unbooked s
+      (words, ((told, comes, calls), is), w) = record {
+        lines = line ∷ s.lines;
+        rest = after ∷ later;
+        told = s.told;
+        untold = Some told;
+        acted = acted_more wall a b d text s.lines (after ∷ later) line s.told told s.acted
+            comes.says comes.sees;
+        booked = booked_on stood a b d s.told comes.sees.begins s.booked;
+        stops = (
+          words,
+          (
+            unbooked_at a b d (said wall.dataset_names line) after later s.told told s.acted.sees
+                comes calls,
+            is,
+          ),
+          written_then old mid new (answers wall s.told) words s.written w,
+        );
+      }
   breaks_off wall a b d text later line after old mid new NoMemory s (same, inl sees) = record {
     lines = s.lines;
     rest = line ∷ after ∷ later;
     told = s.told;
+    untold = None;
     acted = acted_still wall a b d text s.lines (line ∷ after ∷ later) s.told s.acted sees;
-    stops = written_all wall (Between old new) s.told
-        (subst (λ (o : O). IsWritten (Between old o) (answers wall s.told)) (sym same) s.written);
+    booked = booked_on stood a b d s.told sees.begins s.booked;
+    stops = subst (λ (o : O). IsWritten (Between old o) (answers wall s.told)) (sym same) s.written;
   }
-  breaks_off wall a b d text later line after old mid new NoMemory s (same, inr (told, comes)) =
-      record {
+  breaks_off wall a b d text later line after old mid new NoMemory s
+      (same, inr (told, booked, comes)) = record {
         lines = line ∷ s.lines;
         rest = after ∷ later;
-        told = told ∷ s.told;
-        acted = acted_more wall a b d text s.lines (after ∷ later) line s.told told s.acted comes;
-        stops = inr
-            (subst (λ (o : O). IsWritten (Between old o) (answers wall s.told)) (sym same)
-            s.written);
+        told = s.told;
+        untold = Some told;
+        acted = acted_more wall a b d text s.lines (after ∷ later) line s.told told s.acted
+            comes.says comes.sees;
+        booked = booked_on stood a b d s.told comes.sees.begins s.booked;
+        stops = subst (λ (o : O). IsWritten (Between old o) (answers wall s.told)) (sym same)
+            s.written;
       }
   breaks_off wall a b d text later line after old mid new ReadFailed s h = absurd h
   breaks_off wall a b d text later line after old mid new EndOfStream s h = absurd h
@@ -479,15 +719,17 @@ module _ {O : Type 0} (failures : O → ℕ) (contents : O → Option (List ℕ)
   -- a text was acted on, and then what it goes on with
   unfoldable pub so_far_then : (wall : ChineseWall) (a b d : Known) (bytes more : List ℕ)
       (line : Word) (rest : List Word) (old mid new : O) →
-      SoFar wall a (parts 10 bytes) (line ∷ []) (Between old mid) b →
-      SoFar wall b (behind line (parts 10 more)) rest (Between mid new) d →
-      SoFar wall a (parts 10 (bytes ++ more)) rest (Between old new) d
+      SoFar stood wall a (parts 10 bytes) (line ∷ []) (Between old mid) b →
+      SoFar stood wall b (behind line (parts 10 more)) rest (Between mid new) d →
+      SoFar stood wall a (parts 10 (bytes ++ more)) rest (Between old new) d
   so_far_then wall a b d bytes more line rest old mid new s t = record {
     lines = t.lines ++ s.lines;
     told = t.told ++ s.told;
     acted = acted_then wall a b d (behind line (parts 10 more)) (parts 10 bytes) s.lines t.lines
         (line ∷ []) rest s.told t.told s.acted t.acted (parts 10 (bytes ++ more))
         (parts_behind bytes more (reverse s.lines) line s.acted.cut);
+    booked = booked_then stood a b d s.told t.told s.acted.sees s.booked t.booked
+        t.acted.sees.begins;
     written = subst (IsWritten (Between old new)) (sym (answers-append wall t.told s.told))
         (written_then old mid new (answers wall s.told) (answers wall t.told) s.written t.written);
   }
@@ -500,17 +742,6 @@ module _ {O : Type 0} (failures : O → ℕ) (contents : O → Option (List ℕ)
       subst (IsWritten (Between old new)) (sym (answers-append wall told past))
       (written_then old mid new (answers wall past) (answers wall told) w v)
 
-  but_newest_then : (wall : ChineseWall) (old mid new : O) (past told : List Told) →
-      IsWritten (Between old mid) (answers wall past) →
-      IsWrittenButNewest wall (Between mid new) told →
-      IsWrittenButNewest wall (Between old new) (told ++ past)
-  but_newest_then wall old mid new past [] w v =
-      written_all wall (Between old new) past (answers_then wall old mid new past [] w v)
-  but_newest_then wall old mid new past (t ∷ told) w (inl v) =
-      inl (answers_then wall old mid new past (t ∷ told) w v)
-  but_newest_then wall old mid new past (t ∷ told) w (inr v) =
-      inr (answers_then wall old mid new past told w v)
-
   -- behind the answers so far, others and this text
   behind_answers : (wall : ChineseWall) (past told : List Told) (text : List ℕ) →
       answers wall past ++ (answers wall told ++ text) ≡ answers wall (told ++ past) ++ text
@@ -518,14 +749,36 @@ module _ {O : Type 0} (failures : O → ℕ) (contents : O → Option (List ℕ)
       sym (append_assoc (answers wall past) (answers wall told) text)
       ∙ ap (λ l. l ++ text) (sym (answers-append wall told past))
 
-  says_last_then : (wall : ChineseWall) (old mid new : O) (rest : List Word)
-      (past told : List Told) (after : Known) (end : SessionEnd) →
-      IsWritten (Between old mid) (answers wall past) →
-      SaysLast wall (Between mid new) rest told after end →
-      SaysLast wall (Between old new) rest (told ++ past) after end
-  says_last_then wall old mid new rest past told after end w (text, at, v) = (
+  -- lines were told before
+  ends_at_then : (wall : ChineseWall) (a b d : Known) (rest : List Word) (past told : List Told)
+      (untold : Option Told) (end : SessionEnd) (text : List ℕ) →
+      SeesMore a (made a.process past) b →
+      EndsAt stood wall b rest told untold d end text →
+      EndsAt stood wall a rest (told ++ past) untold d end text
+  ends_at_then wall a b d rest past told None Left text s at = at
+  ends_at_then wall a b d rest past told None Exhausted text s at = at
+  ends_at_then wall a b d rest past told None EndOfStream text s at = absurd at
+  ends_at_then wall a b d rest past told None ReadFailed text s at = absurd at
+  ends_at_then wall a b d rest past told None WriteFailed text s at = absurd at
+  ends_at_then wall a b d rest past told None Unbooked text s at = absurd at
+  ends_at_then wall a b d rest past told None NoMemory text s at = absurd at
+  ends_at_then wall a b d rest past told (Some newest) Unbooked text s at =
+      (unbooked_then stood a b d rest past told newest s at.0, at.1)
+  ends_at_then wall a b d rest past told (Some newest) Left text s at = absurd at
+  ends_at_then wall a b d rest past told (Some newest) Exhausted text s at = absurd at
+  ends_at_then wall a b d rest past told (Some newest) EndOfStream text s at = absurd at
+  ends_at_then wall a b d rest past told (Some newest) ReadFailed text s at = absurd at
+  ends_at_then wall a b d rest past told (Some newest) WriteFailed text s at = absurd at
+  ends_at_then wall a b d rest past told (Some newest) NoMemory text s at = absurd at
+
+  says_last_then : (wall : ChineseWall) (a b d : Known) (old mid new : O) (rest : List Word)
+      (past told : List Told) (untold : Option Told) (end : SessionEnd) →
+      SeesMore a (made a.process past) b → IsWritten (Between old mid) (answers wall past) →
+      SaysLast stood wall (Between mid new) b rest told untold d end →
+      SaysLast stood wall (Between old new) a rest (told ++ past) untold d end
+  says_last_then wall a b d old mid new rest past told untold end s w (text, at, v) = (
     text,
-    at,
+    ends_at_then wall a b d rest past told untold end text s at,
     subst (IsWritten (Between old new)) (behind_answers wall past told text)
         (written_then old mid new (answers wall past) (answers wall told ++ text) w v),
   )
@@ -543,48 +796,67 @@ module _ {O : Type 0} (failures : O → ℕ) (contents : O → Option (List ℕ)
         (answers wall told ++ front) w.1 m),
   )
 
-  breaks_off_then : (wall : ChineseWall) (old mid new : O) (rest : List Word)
-      (past told : List Told) (after : Known) → IsWritten (Between old mid) (answers wall past) →
-      BreaksOff wall (Between mid new) rest told after →
-      BreaksOff wall (Between old new) rest (told ++ past) after
-  breaks_off_then wall old mid new rest past told after w (inl (newest, before, is, cut)) = inl (
-    newest,
-    before ++ past,
-    ap (λ l. l ++ past) is,
-    cut_then wall old mid new past before (answer wall newest) w cut,
-  )
-  breaks_off_then wall old mid new rest past told after w (inr (end, text, at, cut)) =
-      inr (end, text, at, cut_then wall old mid new past told text w cut)
+  breaks_off_then : (wall : ChineseWall) (a b d : Known) (old mid new : O) (rest : List Word)
+      (past told : List Told) (untold : Option Told) → SeesMore a (made a.process past) b →
+      IsWritten (Between old mid) (answers wall past) →
+      BreaksOff stood wall (Between mid new) b rest told untold d →
+      BreaksOff stood wall (Between old new) a rest (told ++ past) untold d
+  breaks_off_then wall a b d old mid new rest past told untold s w
+      (inl (newest, before, is, none, cut)) = inl (
+        newest,
+        before ++ past,
+        ap (λ l. l ++ past) is,
+        none,
+        cut_then wall old mid new past before (answer wall newest) w cut,
+      )
+  breaks_off_then wall a b d old mid new rest past told untold s w (inr (end, text, at, cut)) =
+      inr (
+        end,
+        text,
+        ends_at_then wall a b d rest past told untold end text s at,
+        cut_then wall old mid new past told text w cut,
+      )
 
-  pub stops_so_then : (wall : ChineseWall) (old mid new : O) (rest : List Word)
-      (past told : List Told) (after : Known) (end : SessionEnd) → IsWritten (Between old mid) (answers wall past) →
-      StopsSo wall (Between mid new) rest told after end →
-      StopsSo wall (Between old new) rest (told ++ past) after end
-  stops_so_then wall old mid new rest past told after WriteFailed w (once, b) =
-      (once ∙ ap (λ (n : ℕ). n + 1) w.0, breaks_off_then wall old mid new rest past told after w b)
-  stops_so_then wall old mid new rest past told after Left w l =
-      says_last_then wall old mid new rest past told after Left w l
-  stops_so_then wall old mid new rest past told after Exhausted w l =
-      says_last_then wall old mid new rest past told after Exhausted w l
-  stops_so_then wall old mid new rest past told after NoMemory w v =
-      but_newest_then wall old mid new past told w v
-  stops_so_then wall old mid new rest past told after ReadFailed w h = absurd h
-  stops_so_then wall old mid new rest past told after EndOfStream w h = absurd h
+  pub stops_so_then : (wall : ChineseWall) (a b d : Known) (old mid new : O) (rest : List Word)
+      (past told : List Told) (untold : Option Told) (end : SessionEnd) →
+      SeesMore a (made a.process past) b → IsWritten (Between old mid) (answers wall past) →
+      StopsSo stood wall (Between mid new) b rest told untold d end →
+      StopsSo stood wall (Between old new) a rest (told ++ past) untold d end
+  stops_so_then wall a b d old mid new rest past told untold WriteFailed s w (once, k) = (
+    once ∙ ap (λ (n : ℕ). n + 1) w.0,
+    breaks_off_then wall a b d old mid new rest past told untold s w k,
+  )
+  stops_so_then wall a b d old mid new rest past told untold Left s w l =
+      says_last_then wall a b d old mid new rest past told untold Left s w l
+  stops_so_then wall a b d old mid new rest past told untold Exhausted s w l =
+      says_last_then wall a b d old mid new rest past told untold Exhausted s w l
+  stops_so_then wall a b d old mid new rest past told untold Unbooked s w l =
+      says_last_then wall a b d old mid new rest past told untold Unbooked s w l
+  stops_so_then wall a b d old mid new rest past told untold NoMemory s w v =
+      answers_then wall old mid new past told w v
+  stops_so_then wall a b d old mid new rest past told untold ReadFailed s w h = absurd h
+  stops_so_then wall a b d old mid new rest past told untold EndOfStream s w h = absurd h
 
   -- the text that it goes on with was not acted on to its end
   unfoldable pub stops_then : (wall : ChineseWall) (a b d : Known) (bytes more : List ℕ)
       (line : Word) (old mid new : O) (end : SessionEnd) →
-      SoFar wall a (parts 10 bytes) (line ∷ []) (Between old mid) b →
-      Stops wall b (behind line (parts 10 more)) (Between mid new) d end →
-      Stops wall a (parts 10 (bytes ++ more)) (Between old new) d end
+      SoFar stood wall a (parts 10 bytes) (line ∷ []) (Between old mid) b →
+      Stops stood wall b (behind line (parts 10 more)) (Between mid new) d end →
+      Stops stood wall a (parts 10 (bytes ++ more)) (Between old new) d end
   stops_then wall a b d bytes more line old mid new end s t = record {
     lines = t.lines ++ s.lines;
     rest = t.rest;
     told = t.told ++ s.told;
-    acted = acted_then wall a b d (behind line (parts 10 more)) (parts 10 bytes) s.lines t.lines
-        (line ∷ []) t.rest s.told t.told s.acted t.acted (parts 10 (bytes ++ more))
-        (parts_behind bytes more (reverse s.lines) line s.acted.cut);
-    stops = stops_so_then wall old mid new t.rest s.told t.told d end s.written t.stops;
+    untold = t.untold;
+    acted = subst (λ (l : List Told). Acted wall a (parts 10 (bytes ++ more)) (t.lines ++ s.lines)
+        t.rest l d) (untold-append t.untold t.told s.told)
+        (acted_then wall a b d (behind line (parts 10 more)) (parts 10 bytes) s.lines t.lines
+        (line ∷ []) t.rest s.told (and_untold t.untold t.told) s.acted t.acted
+        (parts 10 (bytes ++ more)) (parts_behind bytes more (reverse s.lines) line s.acted.cut));
+    booked = booked_then stood a b d s.told t.told s.acted.sees s.booked t.booked
+        t.acted.sees.begins;
+    stops = stops_so_then wall a b d old mid new t.rest s.told t.told t.untold end s.acted.sees
+        s.written t.stops;
   }
 
 -- ---- the whole session
@@ -595,19 +867,21 @@ took_none zero [] e = refl
 took_none zero (x ∷ buffer) e = refl
 took_none (suc n) buffer e = absurd (omega arith)
 
--- the session goes on: all finished lines of what was read were answered
-pub record Going {S O : Type 0} (heard : S → Option (List Heard)) (wall : ChineseWall)
-    (source : Used S) (sink : Used O) (before : Known) (kept : Unfinished) (now : Known)
-    : Type 0 where
-  pub bytes : List ℕ
-  pub read : Consumes (bytes_before source) (bytes_after source) bytes
-  pub went : NeverFailed source
-  pub line : Word
-  pub holds : Holds kept line
-  pub so_far : SoFar wall before (parts 10 bytes) (line ∷ []) sink now
-  pub prompt : IsPrompt heard wall source sink bytes so_far.told
+module _ (stood : ChineseWall → List Entry → Bool → Type 0) where
+  -- the session goes on: all finished lines of what was read were answered
+  pub record Going {S O : Type 0} (heard : S → Option (List Heard)) (wall : ChineseWall)
+      (source : Used S) (sink : Used O) (before : Known) (kept : Unfinished) (now : Known)
+      : Type 0 where
+    pub bytes : List ℕ
+    pub read : Consumes (bytes_before source) (bytes_after source) bytes
+    pub went : NeverFailed source
+    pub line : Word
+    pub holds : Holds kept line
+    pub so_far : SoFar stood wall before (parts 10 bytes) (line ∷ []) sink now
+    pub prompt : IsPrompt heard wall source sink bytes so_far.told
 
-module _ {S O : Type 0} (fails : S → ℕ) (left : S → Option (List ℕ))
+module _ (stood : ChineseWall → List Entry → Bool → Type 0)
+    {S O : Type 0} (fails : S → ℕ) (left : S → Option (List ℕ))
     (heard : S → Option (List Heard)) (failures : O → ℕ) (contents : O → Option (List ℕ)) where
   abbrev Reading : S → S → Used S
   Reading old new = used fails left old new
@@ -617,7 +891,7 @@ module _ {S O : Type 0} (fails : S → ℕ) (left : S → Option (List ℕ))
 
   pub going_none : (wall : ChineseWall) (before : Known) (kept : Unfinished) (source : S)
       (sink : O) → wall ≡ before.door.policy → Legal wall before.seen → Holds kept [] →
-      Going heard wall (Reading source source) (Writing sink sink) before kept before
+      Going stood heard wall (Reading source source) (Writing sink sink) before kept before
   unfolding so_far_none
   going_none wall before kept source sink is legal h = record {
     bytes = [];
@@ -625,19 +899,19 @@ module _ {S O : Type 0} (fails : S → ℕ) (left : S → Option (List ℕ))
     went = refl;
     line = [];
     holds = h;
-    so_far = so_far_none failures contents wall before ([] ∷ []) sink is legal;
+    so_far = so_far_none stood failures contents wall before ([] ∷ []) sink is legal;
     prompt = prompt_none fails left heard failures contents wall source sink;
   }
 
   -- more was read and acted on
   pub going_on : (wall : ChineseWall) (a b d : Known) (kept now : Unfinished) (first mid last : S)
       (old out new : O) (more : List ℕ) →
-      (g : Going heard wall (Reading first mid) (Writing old out) a kept b) →
+      (g : Going stood heard wall (Reading first mid) (Writing old out) a kept b) →
       fails last ≡ fails mid → Consumes (left mid) (left last) more →
       Tells (heard mid) (heard last) (record { bytes = more; written = contents out } ∷ []) →
       (line : Word) → Holds now line →
-      SoFar wall b (behind g.line (parts 10 more)) (line ∷ []) (Writing out new) d →
-      Going heard wall (Reading first last) (Writing old new) a now d
+      SoFar stood wall b (behind g.line (parts 10 more)) (line ∷ []) (Writing out new) d →
+      Going stood heard wall (Reading first last) (Writing old new) a now d
   unfolding so_far_then
   going_on wall a b d kept now first mid last old out new more g went read tells line h s = record {
     bytes = g.bytes ++ more;
@@ -645,18 +919,18 @@ module _ {S O : Type 0} (fails : S → ℕ) (left : S → Option (List ℕ))
     went = went ∙ g.went;
     line = line;
     holds = h;
-    so_far = so_far_then failures contents wall a b d g.bytes more g.line (line ∷ []) old out new
-        g.so_far s;
-    prompt = prompt_more fails left heard failures contents wall a b first mid last old out new
-        g.bytes more g.line g.so_far g.prompt tells s.told;
+    so_far = so_far_then stood failures contents wall a b d g.bytes more g.line (line ∷ []) old out
+        new g.so_far s;
+    prompt = prompt_more stood fails left heard failures contents wall a b first mid last old out
+        new g.bytes more g.line g.so_far g.prompt tells s.told;
   }
 
   pub served_to_end : (wall : ChineseWall) (a b : Known) (kept : Unfinished) (first mid last : S)
       (old new : O) (more : List ℕ) → more ≡ [] →
-      Going heard wall (Reading first mid) (Writing old new) a kept b → fails last ≡ fails mid →
-      Consumes (left mid) (left last) more → IsAtEnd (left last) →
+      Going stood heard wall (Reading first mid) (Writing old new) a kept b →
+      fails last ≡ fails mid → Consumes (left mid) (left last) more → IsAtEnd (left last) →
       Tells (heard mid) (heard last) (record { bytes = more; written = contents new } ∷ []) →
-      Serves heard wall (Reading first last) (Writing old new) a b EndOfStream
+      Serves stood heard wall (Reading first last) (Writing old new) a b EndOfStream
   served_to_end wall a b kept first mid last old new more none g went read end tells =
       let all = ap (λ l. g.bytes ++ l) none ∙ append-nil g.bytes in record {
         bytes = g.bytes;
@@ -665,76 +939,89 @@ module _ {S O : Type 0} (fails : S → ℕ) (left : S → Option (List ℕ))
         lines = g.so_far.lines;
         rest = g.line ∷ [];
         told = g.so_far.told;
+        untold = None;
         acted = g.so_far.acted;
+        booked = g.so_far.booked;
         prompt = subst (λ (l : List ℕ). IsPrompt heard wall (Reading first last) (Writing old new) l
             g.so_far.told) all
-            (prompt_more fails left heard failures contents wall a b first mid last old new new
-            g.bytes more g.line g.so_far g.prompt tells []);
-        ends = (went ∙ g.went, end, refl, g.so_far.written);
+            (prompt_more stood fails left heard failures contents wall a b first mid last old new
+            new g.bytes more g.line g.so_far g.prompt tells []);
+        ends = (went ∙ g.went, end, refl, refl, g.so_far.written);
       }
 
   pub served_till_fault : (wall : ChineseWall) (a b : Known) (kept : Unfinished)
       (first mid last : S) (old new : O) →
-      Going heard wall (Reading first mid) (Writing old new) a kept b → fails last ≡ fails mid + 1 →
-      Keeps (left mid) (left last) → Tells (heard mid) (heard last) [] →
-      Serves heard wall (Reading first last) (Writing old new) a b ReadFailed
+      Going stood heard wall (Reading first mid) (Writing old new) a kept b →
+      fails last ≡ fails mid + 1 → Keeps (left mid) (left last) →
+      Tells (heard mid) (heard last) [] →
+      Serves stood heard wall (Reading first last) (Writing old new) a b ReadFailed
   served_till_fault wall a b kept first mid last old new g once keeps tells = record {
     bytes = g.bytes;
     read = Consumes-kept (left first) (left mid) (left last) g.bytes g.read keeps;
     lines = g.so_far.lines;
     rest = g.line ∷ [];
     told = g.so_far.told;
+    untold = None;
     acted = g.so_far.acted;
+    booked = g.so_far.booked;
     prompt = prompt_still fails left heard failures contents wall first mid last old new g.bytes
         g.so_far.told g.prompt tells;
-    ends = (once ∙ ap (λ (n : ℕ). n + 1) g.went, refl, g.so_far.written);
+    ends = (once ∙ ap (λ (n : ℕ). n + 1) g.went, refl, refl, g.so_far.written);
   }
 
-  ends_so : (wall : ChineseWall) (first last : S) (old new : O) (rest : List Word)
-      (told : List Told) (after : Known) (end : SessionEnd) → fails last ≡ fails first →
-      StopsSo wall (Writing old new) rest told after end →
-      EndsSo wall (Reading first last) (Writing old new) rest told after end
-  ends_so wall first last old new rest told after WriteFailed went (once, b) = (went, once, b)
-  ends_so wall first last old new rest told after Left went l = (went, l)
-  ends_so wall first last old new rest told after Exhausted went l = (went, l)
-  ends_so wall first last old new rest told after NoMemory went v = (went, v)
-  ends_so wall first last old new rest told after ReadFailed went h = absurd h
-  ends_so wall first last old new rest told after EndOfStream went h = absurd h
+  ends_so : (wall : ChineseWall) (first last : S) (old new : O) (before : Known)
+      (rest : List Word) (told : List Told) (untold : Option Told) (after : Known)
+      (end : SessionEnd) → fails last ≡ fails first →
+      StopsSo stood wall (Writing old new) before rest told untold after end →
+      EndsSo stood wall (Reading first last) (Writing old new) before rest told untold after end
+  ends_so wall first last old new before rest told untold after WriteFailed went (once, b) =
+      (went, once, b)
+  ends_so wall first last old new before rest told untold after Left went l = (went, l)
+  ends_so wall first last old new before rest told untold after Exhausted went l = (went, l)
+  ends_so wall first last old new before rest told untold after Unbooked went l = (went, l)
+  ends_so wall first last old new before rest told untold after NoMemory went v = (went, v)
+  ends_so wall first last old new before rest told untold after ReadFailed went h = absurd h
+  ends_so wall first last old new before rest told untold after EndOfStream went h = absurd h
 
   pub served_till_stop : (wall : ChineseWall) (a b d : Known) (kept : Unfinished)
       (first mid last : S) (old out new : O) (more : List ℕ) (end : SessionEnd) →
-      (g : Going heard wall (Reading first mid) (Writing old out) a kept b) →
+      (g : Going stood heard wall (Reading first mid) (Writing old out) a kept b) →
       fails last ≡ fails mid → Consumes (left mid) (left last) more →
       Tells (heard mid) (heard last) (record { bytes = more; written = contents out } ∷ []) →
-      Stops wall b (behind g.line (parts 10 more)) (Writing out new) d end →
-      Serves heard wall (Reading first last) (Writing old new) a d end
+      Stops stood wall b (behind g.line (parts 10 more)) (Writing out new) d end →
+      Serves stood heard wall (Reading first last) (Writing old new) a d end
   unfolding stops_then
   served_till_stop wall a b d kept first mid last old out new more end g went read tells stops =
-      let s = stops_then failures contents wall a b d g.bytes more g.line old out new end g.so_far
-      stops in record {
+      let s = stops_then stood failures contents wall a b d g.bytes more g.line old out new end
+      g.so_far stops in record {
         bytes = g.bytes ++ more;
         read = Consumes-trans (left first) (left mid) (left last) g.bytes more g.read read;
         lines = s.lines;
         rest = s.rest;
         told = s.told;
+        untold = s.untold;
         acted = s.acted;
-        prompt = prompt_more fails left heard failures contents wall a b first mid last old out new
-            g.bytes more g.line g.so_far g.prompt tells stops.told;
-        ends = ends_so wall first last old new s.rest s.told d end (went ∙ g.went) s.stops;
+        booked = s.booked;
+        prompt = prompt_more stood fails left heard failures contents wall a b first mid last old
+            out new g.bytes more g.line g.so_far g.prompt tells stops.told;
+        ends = ends_so wall first last old new a s.rest s.told s.untold d end (went ∙ g.went)
+            s.stops;
       }
 
   -- memory ran out before the first read
   pub served_nothing : (wall : ChineseWall) (before : Known) (source : S) (sink : O) →
       wall ≡ before.door.policy → Legal wall before.seen →
-      Serves heard wall (Reading source source) (Writing sink sink) before before NoMemory
+      Serves stood heard wall (Reading source source) (Writing sink sink) before before NoMemory
   served_nothing wall before source sink is legal = record {
     bytes = [];
     read = Consumes-nil (left source);
     lines = [];
     rest = [] ∷ [];
     told = [];
+    untold = None;
     acted = acted_none wall before ([] ∷ [])
         (subst (λ (w : ChineseWall). Legal w before.seen) is legal);
+    booked = tt;
     prompt = prompt_none fails left heard failures contents wall source sink;
     ends = (refl, (refl, Appends-nil (contents sink)));
   }

@@ -1,10 +1,11 @@
 -- Sessions that are handed to threads and come back: words of private contracts.
-use Rattle.std.specs.Prelude.{◌≡◌, ℕ, ◌≤◌, List, [], map, Option, Some}
+use Rattle.std.specs.Prelude.{◌≡◌, ℕ, ◌≤◌, Bool, List, [], map, Option, Some}
 use Rattle.std.specs.Prelude.{vec_capacity}
 use Rattle.std.specs.List.{AllZip}
 use Rattle.std.specs.declared.thread.PromisedHandle.{PromisedHandle}
 use Rattle.wall_policy.specs.Policy.{ChineseWall}
 use Rattle.run_model.specs.Comms.{processes}
+use Rattle.run_model.specs.Runs.{Entry}
 use Rattle.hall_script.specs.Devices.{used}
 use Rattle.hall_turn.specs.Known.{Doorway, Known}
 use Rattle.hall_turn.specs.Answers.{new_passes, IsSamePass}
@@ -20,24 +21,6 @@ use Rattle.live_session.specs.Hearing.{Heard}
 use Rattle.live_session.specs.Sessions.{ServesIfBegun}
 
 module _ {S O : Type 0} where
-  -- a job at the door whose pass has seen nothing
-  pub record IsFresh (door : Doorway) (job : Job S O) : Type 0 where
-    pub door_is : job.pass.door ≡ door
-    pub unseen : job.pass.seen ≡ []
-
-  -- what the threads were given
-  abbrev pub handed : List (PromisedHandle (Played S O) (Serving S O)) → List (Job S O)
-  handed handles = map (λ handle. handle.promise.0.value) handles
-
-  abbrev pub passes_of : List (Job S O) → List Known
-  passes_of jobs = map (λ job. job.pass) jobs
-
-  abbrev pub peers_of : List (Job S O) → List (Peer S O)
-  peers_of jobs = map (λ job. job.peer) jobs
-
-  abbrev pub passes_in : List (Played S O) → List Known
-  passes_in all = map (λ played. played.pass) all
-
   -- the devices of a session, and how it ended
   abbrev pub end_of : Session S O → Peer S O × Option SessionEnd
   end_of session = (session.peer, Some session.end)
@@ -45,42 +28,62 @@ module _ {S O : Type 0} where
   abbrev pub ends_of : List (Session S O) → List (Peer S O × Option SessionEnd)
   ends_of sessions = map end_of sessions
 
+module _ {M S O : Type 0} where
+  -- a job at the door whose pass has seen nothing
+  pub record IsFresh (door : Doorway) (job : Job M S O) : Type 0 where
+    pub door_is : job.pass.door ≡ door
+    pub unseen : job.pass.seen ≡ []
+
+  -- what the threads were given
+  abbrev pub handed : List (PromisedHandle (Played M S O) (Serving M S O)) → List (Job M S O)
+  handed handles = map (λ handle. handle.promise.0.value) handles
+
+  abbrev pub passes_of : List (Job M S O) → List Known
+  passes_of jobs = map (λ job. job.pass) jobs
+
+  abbrev pub peers_of : List (Job M S O) → List (Peer S O)
+  peers_of jobs = map (λ job. job.peer) jobs
+
+  abbrev pub passes_in : List (Played M S O) → List Known
+  passes_in all = map (λ played. played.pass) all
+
   -- the devices that came back, and how their session ended, if it began
-  abbrev pub end_in : Played S O → Peer S O × Option SessionEnd
+  abbrev pub end_in : Played M S O → Peer S O × Option SessionEnd
   end_in played = (played.peer, played.ended)
 
-  abbrev pub ends_in : List (Played S O) → List (Peer S O × Option SessionEnd)
+  abbrev pub ends_in : List (Played M S O) → List (Peer S O × Option SessionEnd)
   ends_in all = map end_in all
 
   -- a door with the policy, and a job for each of its passes, with the devices, in order
   pub record ArePrepared (wall : ChineseWall) (peers : List (Peer S O)) (door : Doorway)
-      (jobs : List (Job S O)) : Type 0 where
+      (jobs : List (Job M S O)) : Type 0 where
     pub policy : door.policy ≡ wall
     pub passes : passes_of jobs ≡ new_passes door (processes wall)
     pub peers_are : peers_of jobs ≡ peers
 
   -- there is room for what so many sessions come to
-  pub record HasRoomFor (count : ℕ) (room : Room S O) : Type 0 where
+  pub record HasRoomFor (count : ℕ) (room : Room M S O) : Type 0 where
     pub passes : (room.passes.items ≡ []) × (count ≤ vec_capacity room.passes)
     pub sessions : (room.sessions.items ≡ []) × (count ≤ vec_capacity room.sessions)
     pub ended : (room.ended.items ≡ []) × (count ≤ vec_capacity room.ended)
     pub handles : (room.handles.items ≡ []) × (count ≤ vec_capacity room.handles)
 
-module _ {S O : Type 0} (fails : S → ℕ) (left : S → Option (List ℕ))
+module _ (stood : ChineseWall → List Entry → Bool → Type 0)
+    {M S O : Type 0} (fails : S → ℕ) (left : S → Option (List ℕ))
     (heard : S → Option (List Heard)) (failures : O → ℕ) (contents : O → Option (List ℕ)) where
   -- what became of a job
-  pub record HasServed (job : Job S O) (played : Played S O) : Type 0 where
-    pub so : ServesIfBegun heard job.pass.door.policy
+  pub record HasServed (job : Job M S O) (played : Played M S O) : Type 0 where
+    pub so : ServesIfBegun stood heard job.pass.door.policy
         (used fails left job.peer.source played.peer.source)
         (used failures contents job.peer.sink played.peer.sink) job.pass played.pass played.ended
     pub same : IsSamePass job.pass played.pass
 
-  abbrev pub AllServed : List (Job S O) → List (Played S O) → Type 0
+  abbrev pub AllServed : List (Job M S O) → List (Played M S O) → Type 0
   AllServed jobs all = AllZip HasServed jobs all
 
   -- what all threads gave back, sorted
-  pub record HaveEnded (jobs : List (Job S O)) (ended : Ended S O) : Type 0 where
-    pub all : List (Played S O)
+  pub record HaveEnded (jobs : List (Job M S O)) (ended : Ended M S O) : Type 0 where
+    pub all : List (Played M S O)
     pub served : AllServed jobs all
     pub passes : ended.passes.items ≡ passes_in all
     pub sessions : ends_of ended.sessions.items ≡ ends_in all

@@ -45,3 +45,7 @@ left_line = codes "left\n"
 -- the answer to a call that the door is too late for
 abbrev pub exhausted_line : List ℕ
 exhausted_line = codes "exhausted\n"
+
+-- the answer to a call behind which the machine was not booked
+abbrev pub unbooked_line : List ℕ
+unbooked_line = codes "unbooked\n"

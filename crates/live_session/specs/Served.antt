@@ -1,11 +1,10 @@
 -- What all sessions at one door come to. (Own rules.)
-use Rattle.std.specs.Prelude.{◌≡◌, ℕ, ◌<◌, ◌≤◌, List, [], length, Option}
+use Rattle.std.specs.Prelude.{◌≡◌, ℕ, ◌<◌, ◌≤◌, Bool, List, [], length, Option}
 use Rattle.std.specs.Prelude.{slice_index_or}
 use Rattle.wall_policy.specs.Policy.{ChineseWall}
 use Rattle.run_model.specs.Comms.{processes}
 use Rattle.run_model.specs.Runs.{Entry}
 use Rattle.run_model.specs.Replies.{Legal}
-use Rattle.hall_core.specs.Halls.{HallValue, StandsFor}
 use Rattle.hall_script.specs.Devices.{used}
 use Rattle.hall_turn.specs.Runs.{Continues, calls_of}
 use Rattle.hall_turn.specs.Known.{Doorway, Known}
@@ -13,31 +12,34 @@ use Rattle.hall_turn.specs.Answers.{new_pass}
 use Rattle.live_session.specs.declared.peer.Peer.{Peer}
 use Rattle.live_session.specs.declared.peer.Session.{Session}
 use Rattle.live_session.specs.Hearing.{Heard}
-use Rattle.live_session.specs.Sessions.{Serves}
+use Rattle.live_session.specs.Sessions.{Stood, Serves}
 
 module _ {S O : Type 0} (fails : S → ℕ) (left : S → Option (List ℕ))
     (heard : S → Option (List Heard)) (failures : O → ℕ) (contents : O → Option (List ℕ)) where
   -- What became of the session of process p, where this is the run of all calls: its pass has seen
   -- a beginning of the run, with all calls of p.
-  pub record SessionOf (wall : ChineseWall) (run : List Entry) (door : Doorway) (p : ℕ)
-      (old : Peer S O) (new : Session S O) : Type 0 where
+  pub record SessionOf (stood : ChineseWall → List Entry → Bool → Type 0) (wall : ChineseWall)
+      (run : List Entry) (door : Doorway) (p : ℕ) (old : Peer S O) (new : Session S O)
+      : Type 0 where
     pub pass : Known
     pub begins : Continues run pass.seen
     pub own : calls_of p run ≡ calls_of p pass.seen
-    pub served : Serves heard wall (used fails left old.source new.peer.source)
+    pub served : Serves stood heard wall (used fails left old.source new.peer.source)
         (used failures contents old.sink new.peer.sink) (new_pass door p) pass new.end
 
-  -- There is a legal run for which the hall stands. The calls of each process in it are those of
-  -- its session; what is no process has none.
-  pub record ServedAll (wall : ChineseWall) (peers : List (Peer S O))
-      (sessions : List (Session S O)) (hall : HallValue) : Type 0 where
+  -- There is a legal run for which the machine stands. The calls of each process in it are those of
+  -- its session, which was told no reply before the machine was booked; what is no process has
+  -- none.
+  pub record ServedAll {M : Type 0} (stands : ChineseWall → M → List Entry → Type 0)
+      (is_booked : M → Bool) (wall : ChineseWall) (peers : List (Peer S O))
+      (sessions : List (Session S O)) (machine : M) : Type 0 where
     pub door : Doorway
     pub run : List Entry
     pub door_is : door.policy ≡ wall
-    pub policy : hall.policy ≡ wall
     pub legal : Legal wall run
-    pub stands : StandsFor hall run
+    pub stood : stands wall machine run
     pub count : length sessions ≡ processes wall
     pub each : (p : ℕ) (d : Peer S O) (e : Session S O) → p < processes wall →
-        SessionOf wall run door p (slice_index_or peers p d) (slice_index_or sessions p e)
+        SessionOf (Stood stands is_booked) wall run door p (slice_index_or peers p d)
+        (slice_index_or sessions p e)
     pub others : (p : ℕ) → processes wall ≤ p → calls_of p run ≡ []

@@ -1,7 +1,8 @@
 -- What a session of a process comes to. (Own rules.) Lines, what they came to, and runs have the
 -- newest first.
 use Rattle.std.specs.Prelude.{◌≡◌, ◌≢◌, ◌⊎◌, ℕ, ◌^◌, ◌≤◌, List, [], ◌∷◌, ◌++◌, ◌+◌, length, map}
-use Rattle.std.specs.Prelude.{reverse, replicate, Option, Some, None, Result, Ok, Err}
+use Rattle.std.specs.Prelude.{reverse, replicate, Bool, true, false, Option, Some, None, Result, Ok}
+use Rattle.std.specs.Prelude.{Err}
 use Rattle.std.specs.Io.KnownBytes.{Appends, Consumes, IsAtEnd}
 use Rattle.wall_policy.specs.Policy.{ChineseWall}
 use Rattle.coll_text.specs.Numbers.{Word}
@@ -24,8 +25,9 @@ use Rattle.live_session.specs.declared.line.BadLine.{BadLine}
 use Rattle.live_session.specs.declared.ending.SessionEnd.{SessionEnd}
 use Rattle.live_session.specs.declared.ending.SessionEnd.TheVariants.{EndOfStream, Left}
 use Rattle.live_session.specs.declared.ending.SessionEnd.TheVariants.{ReadFailed, WriteFailed}
-use Rattle.live_session.specs.declared.ending.SessionEnd.TheVariants.{Exhausted, NoMemory}
-use Rattle.live_session.specs.Lines.{said, bad_line, left_line, exhausted_line}
+use Rattle.live_session.specs.declared.ending.SessionEnd.TheVariants.{Exhausted, Unbooked}
+use Rattle.live_session.specs.declared.ending.SessionEnd.TheVariants.{NoMemory}
+use Rattle.live_session.specs.Lines.{said, bad_line, left_line, exhausted_line, unbooked_line}
 use Rattle.live_session.specs.Hearing.{Heard, Tells, text_of}
 
 -- ---- lines and their answers
@@ -88,7 +90,10 @@ pub record Acted (wall : ChineseWall) (before : Known) (text lines rest : List W
   pub says : map (said wall.dataset_names) lines ≡ map said_by told
   pub sees : SeesMore before (made before.process told) after
 
--- ---- how it ends
+-- these lines, and before them, as the newest, one that was acted on and not told, if there is one
+abbrev pub and_untold : Option Told → List Told → List Told
+and_untold None told = told
+and_untold (Some newest) told = newest ∷ told
 
 -- no LF is in the rest: it is the line that is not finished, perhaps empty
 abbrev pub IsUnfinished : (rest : List Word) → Type 0
@@ -99,60 +104,113 @@ abbrev pub BeginsWith : ChineseWall → (IsSo : Ask → Type 0) → (rest : List
 BeginsWith wall IsSo rest = (line : Word) × (next : Word) × (later : List Word) × (ask : Ask)
     × (rest ≡ line ∷ next ∷ later) × (said wall.dataset_names line ≡ Ok ask) × IsSo ask
 
--- The next line ends the session so, and this text is its answer: it says `leave`, or it asks for
--- a call after 2^62 turns. No call was made for it.
-abbrev pub EndsAt : ChineseWall → (rest : List Word) → (after : Known) → SessionEnd →
-    (text : List ℕ) → Type 0
-EndsAt wall rest after Left text = BeginsWith wall (λ ask. ask ≡ Leave) rest × (text ≡ left_line)
-EndsAt wall rest after Exhausted text = BeginsWith wall (λ ask. ask ≢ Leave) rest
-    × (2 ^ 62 ≤ length after.seen) × (text ≡ exhausted_line)
-EndsAt wall rest after EndOfStream text = ⊥
-EndsAt wall rest after ReadFailed text = ⊥
-EndsAt wall rest after WriteFailed text = ⊥
-EndsAt wall rest after NoMemory text = ⊥
-
--- all answers were written, and that to the line which ends the session so
-abbrev pub SaysLast : {O : Type 0} → ChineseWall → Used O → (rest : List Word) → List Told →
-    (after : Known) → SessionEnd → Type 0
-SaysLast wall sink rest told after end = (text : List ℕ) × EndsAt wall rest after end text
-    × IsWritten sink (answers wall told ++ text)
-
 -- these bytes were written, and a prefix of the newest answer
 abbrev pub IsCutIn : {O : Type 0} → Used O → (whole newest : List ℕ) → Type 0
 IsCutIn sink whole newest = (front : List ℕ) × (back : List ℕ) × (front ++ back ≡ newest)
     × Appends (bytes_before sink) (bytes_after sink) (whole ++ front)
 
--- all answers but the newest were written, and a prefix of that: the newest line came to something,
--- or it would have ended the session
-abbrev pub BreaksOff : {O : Type 0} → ChineseWall → Used O → (rest : List Word) → List Told →
-    (after : Known) → Type 0
-BreaksOff wall sink rest told after =
-    ((newest : Told) × (past : List Told) × (told ≡ newest ∷ past)
-    × IsCutIn sink (answers wall past) (answer wall newest))
-    ⊎ ((end : SessionEnd) × (text : List ℕ) × EndsAt wall rest after end text
-    × IsCutIn sink (answers wall told) text)
+-- ---- the machine
 
--- all answers were written, or all but the newest
-abbrev pub IsWrittenButNewest : {O : Type 0} → ChineseWall → Used O → List Told → Type 0
-IsWrittenButNewest wall sink [] = IsWritten sink []
-IsWrittenButNewest wall sink (told ∷ past) =
-    IsWritten sink (answers wall (told ∷ past)) ⊎ IsWritten sink (answers wall past)
+-- the machine, as it was at the end of a turn: it stood for this run, and was booked or not
+abbrev pub Stood : {M : Type 0} → (ChineseWall → M → List Entry → Type 0) → (M → Bool) →
+    ChineseWall → List Entry → Bool → Type 0
+Stood {M = M} stands is_booked wall run booked =
+    (machine : M) × stands wall machine run × (booked ≡ is_booked machine)
 
--- what the devices, the rest and the run are like where the session ended so
-abbrev pub EndsSo : {S O : Type 0} → ChineseWall → Used S → Used O → (rest : List Word) →
-    List Told → (after : Known) → SessionEnd → Type 0
-EndsSo wall source sink rest told after EndOfStream = NeverFailed source
-    × IsAtEnd (bytes_after source) × IsUnfinished rest × IsWritten sink (answers wall told)
-EndsSo wall source sink rest told after Left =
-    NeverFailed source × SaysLast wall sink rest told after Left
-EndsSo wall source sink rest told after ReadFailed =
-    FailedOnce source × IsUnfinished rest × IsWritten sink (answers wall told)
-EndsSo wall source sink rest told after WriteFailed =
-    NeverFailed source × FailedOnce sink × BreaksOff wall sink rest told after
-EndsSo wall source sink rest told after Exhausted =
-    NeverFailed source × SaysLast wall sink rest told after Exhausted
-EndsSo wall source sink rest told after NoMemory =
-    NeverFailed source × IsWrittenButNewest wall sink told
+-- the last call that was made for the line, if it asks for any
+abbrev pub last_call : (process : ℕ) → Told → Option Entry
+last_call process (done act reply) = Some (called process act reply)
+last_call process (waited request again reply) = Some (called process (Take request) reply)
+last_call process (asked_nothing bad) = None
+
+module _ (stood : ChineseWall → List Entry → Bool → Type 0) where
+  -- At the end of this call's turn the machine stood for the run that ends with the call, and was
+  -- booked or not. What was seen after begins with that run, in which these are the calls of the
+  -- process since.
+  pub record StoodBehind (before : Known) (calls : List Entry) (call : Entry) (booked : Bool)
+      (after : Known) : Type 0 where
+    pub front : List Entry
+    pub begins : Continues after.seen (call ∷ front)
+    pub own : calls_of before.process (call ∷ front) ≡ calls ++ calls_of before.process before.seen
+    pub so : stood before.door.policy (call ∷ front) booked
+
+  -- the machine was booked, or not, behind the last call of the line that came to this; the calls
+  -- of its process so far are these
+  abbrev pub StoodFor : (before : Known) → Told → (calls : List Entry) → (booked : Bool) →
+      (after : Known) → Type 0
+  StoodFor before told calls booked after = (call : Entry) →
+      last_call before.process told ≡ Some call → StoodBehind before calls call booked after
+
+  -- No reply is told before the book has its entries: behind the last call of each of these lines
+  -- the machine was booked.
+  abbrev pub AreBooked : (before : Known) → List Told → (after : Known) → Type 0
+  AreBooked before [] after = Unit {0}
+  AreBooked before (told ∷ past) after = AreBooked before past after
+      × StoodFor before told (made before.process (told ∷ past)) true after
+
+  -- The newest line was acted on, and is not told what it came to: behind its last call the machine
+  -- was not booked.
+  pub record EndsUnbooked (before : Known) (rest : List Word) (told : List Told) (newest : Told)
+      (after : Known) : Type 0 where
+    pub next : Word
+    pub later : List Word
+    pub finished : rest ≡ next ∷ later
+    pub calls : last_call before.process newest ≢ None
+    pub unbooked : StoodFor before newest (made before.process (newest ∷ told)) false after
+
+  -- ---- how it ends
+
+  -- The session ends so, and this text is the answer to its newest line. The next line says
+  -- `leave`, or it asks for a call after 2^62 turns: then no call was made for it. Or the newest
+  -- line was acted on, and the machine was not booked.
+  abbrev pub EndsAt : ChineseWall → (before : Known) → (rest : List Word) → List Told →
+      (untold : Option Told) → (after : Known) → SessionEnd → (text : List ℕ) → Type 0
+  EndsAt wall before rest told None after Left text =
+      BeginsWith wall (λ ask. ask ≡ Leave) rest × (text ≡ left_line)
+  EndsAt wall before rest told None after Exhausted text =
+      BeginsWith wall (λ ask. ask ≢ Leave) rest × (2 ^ 62 ≤ length after.seen)
+      × (text ≡ exhausted_line)
+  EndsAt wall before rest told (Some newest) after Unbooked text =
+      EndsUnbooked before rest told newest after × (text ≡ unbooked_line)
+  EndsAt wall before rest told untold after end text = ⊥
+
+  -- all answers were written, and that to the line which ends the session so
+  abbrev pub SaysLast : {O : Type 0} → ChineseWall → Used O → (before : Known) →
+      (rest : List Word) → List Told → (untold : Option Told) → (after : Known) → SessionEnd →
+      Type 0
+  SaysLast wall sink before rest told untold after end = (text : List ℕ)
+      × EndsAt wall before rest told untold after end text
+      × IsWritten sink (answers wall told ++ text)
+
+  -- all answers but the newest were written, and a prefix of that: the newest line came to
+  -- something, or it would have ended the session
+  abbrev pub BreaksOff : {O : Type 0} → ChineseWall → Used O → (before : Known) →
+      (rest : List Word) → List Told → (untold : Option Told) → (after : Known) → Type 0
+  BreaksOff wall sink before rest told untold after =
+      ((newest : Told) × (past : List Told) × (told ≡ newest ∷ past) × (untold ≡ None)
+      × IsCutIn sink (answers wall past) (answer wall newest))
+      ⊎ ((end : SessionEnd) × (text : List ℕ) × EndsAt wall before rest told untold after end text
+      × IsCutIn sink (answers wall told) text)
+
+  -- what the devices, the rest and the run are like where the session ended so
+  abbrev pub EndsSo : {S O : Type 0} → ChineseWall → Used S → Used O → (before : Known) →
+      (rest : List Word) → List Told → (untold : Option Told) → (after : Known) → SessionEnd →
+      Type 0
+  EndsSo wall source sink before rest told untold after EndOfStream = NeverFailed source
+      × IsAtEnd (bytes_after source) × IsUnfinished rest × (untold ≡ None)
+      × IsWritten sink (answers wall told)
+  EndsSo wall source sink before rest told untold after Left =
+      NeverFailed source × SaysLast wall sink before rest told untold after Left
+  EndsSo wall source sink before rest told untold after ReadFailed = FailedOnce source
+      × IsUnfinished rest × (untold ≡ None) × IsWritten sink (answers wall told)
+  EndsSo wall source sink before rest told untold after WriteFailed = NeverFailed source
+      × FailedOnce sink × BreaksOff wall sink before rest told untold after
+  EndsSo wall source sink before rest told untold after Exhausted =
+      NeverFailed source × SaysLast wall sink before rest told untold after Exhausted
+  EndsSo wall source sink before rest told untold after Unbooked =
+      NeverFailed source × SaysLast wall sink before rest told untold after Unbooked
+  EndsSo wall source sink before rest told untold after NoMemory =
+      NeverFailed source × IsWritten sink (answers wall told)
 
 -- ---- reads
 
@@ -179,24 +237,28 @@ pub record IsPrompt {S O : Type 0} (heard : S → Option (List Heard)) (wall : C
 
 -- ---- a session
 
--- What a session came to: the bytes that it was handed, cut at each LF, are the lines that it acted
--- on and a rest; what was written are the answers to these lines, in order, each before the next
--- read.
-pub record Serves {S O : Type 0} (heard : S → Option (List Heard)) (wall : ChineseWall)
-    (source : Used S) (sink : Used O) (before after : Known) (end : SessionEnd) : Type 0 where
-  pub bytes : List ℕ
-  pub read : Consumes (bytes_before source) (bytes_after source) bytes
-  pub lines : List Word
-  pub rest : List Word
-  pub told : List Told
-  pub acted : Acted wall before (parts 10 bytes) lines rest told after
-  pub prompt : IsPrompt heard wall source sink bytes told
-  pub ends : EndsSo wall source sink rest told after end
+module _ (stood : ChineseWall → List Entry → Bool → Type 0) where
+  -- What a session came to: the bytes that it was handed, cut at each LF, are the lines that it
+  -- acted on and a rest; what was written are the answers to these lines, in order, each before the
+  -- next read, and no reply before the book has its entries. Of the lines that were acted on the
+  -- newest may not be told.
+  pub record Serves {S O : Type 0} (heard : S → Option (List Heard)) (wall : ChineseWall)
+      (source : Used S) (sink : Used O) (before after : Known) (end : SessionEnd) : Type 0 where
+    pub bytes : List ℕ
+    pub read : Consumes (bytes_before source) (bytes_after source) bytes
+    pub lines : List Word
+    pub rest : List Word
+    pub told : List Told
+    pub untold : Option Told
+    pub acted : Acted wall before (parts 10 bytes) lines rest (and_untold untold told) after
+    pub booked : AreBooked stood before told after
+    pub prompt : IsPrompt heard wall source sink bytes told
+    pub ends : EndsSo stood wall source sink before rest told untold after end
 
--- The session ended so, or it did not begin, and nothing was done.
-abbrev pub ServesIfBegun : {S O : Type 0} → (heard : S → Option (List Heard)) → ChineseWall →
-    Used S → Used O → (before after : Known) → Option SessionEnd → Type 0
-ServesIfBegun heard wall source sink before after (Some end) =
-    Serves heard wall source sink before after end
-ServesIfBegun heard wall source sink before after None =
-    IsUntouched source × IsUntouched sink × (after ≡ before)
+  -- The session ended so, or it did not begin, and nothing was done.
+  abbrev pub ServesIfBegun : {S O : Type 0} → (heard : S → Option (List Heard)) → ChineseWall →
+      Used S → Used O → (before after : Known) → Option SessionEnd → Type 0
+  ServesIfBegun heard wall source sink before after (Some end) =
+      Serves heard wall source sink before after end
+  ServesIfBegun heard wall source sink before after None =
+      IsUntouched source × IsUntouched sink × (after ≡ before)

@@ -1,6 +1,7 @@
 -- How a session goes on line by line: words of private contracts.
-use Rattle.std.specs.Prelude.{◌≡◌, ◌≢◌, ◌⊎◌, ℕ, ◌^◌, ◌<◌, ◌≤◌, Bool, true, false, List, [], ◌∷◌, ◌++◌}
-use Rattle.std.specs.Prelude.{length, Option, Some, None, Result, Ok, Err, IsOk}
+use Rattle.std.specs.Prelude.{◌≡◌, ◌≢◌, ◌⊎◌, ℕ, ◌^◌, ◌<◌, ◌≤◌, Bool, true, false, List, [], ◌∷◌}
+use Rattle.std.specs.Prelude.{◌++◌, length, Option, Some, None, Result, Ok, Err, IsOk}
+use Rattle.run_model.specs.Runs.{Entry}
 use Rattle.wall_labels.specs.declared.no_memory.NoMemory.{NoMemory as OutOfMemory}
 use Rattle.wall_policy.specs.Policy.{ChineseWall}
 use Rattle.coll_text.specs.Numbers.{Word}
@@ -18,15 +19,16 @@ use Rattle.live_session.specs.declared.line.Unfinished.{Unfinished}
 use Rattle.live_session.specs.declared.ending.SessionEnd.{SessionEnd}
 use Rattle.live_session.specs.declared.ending.SessionEnd.TheVariants.{EndOfStream, Left}
 use Rattle.live_session.specs.declared.ending.SessionEnd.TheVariants.{ReadFailed, WriteFailed}
-use Rattle.live_session.specs.declared.ending.SessionEnd.TheVariants.{Exhausted, NoMemory}
+use Rattle.live_session.specs.declared.ending.SessionEnd.TheVariants.{Exhausted, Unbooked}
+use Rattle.live_session.specs.declared.ending.SessionEnd.TheVariants.{NoMemory}
 use Rattle.live_session.specs.declared.acting.Came.{Came}
 use Rattle.live_session.specs.declared.acting.Came.TheVariants as cames
 use Rattle.live_session.specs.declared.answer.Next.{Next}
 use Rattle.live_session.specs.declared.answer.Next.TheVariants as nexts
-use Rattle.live_session.specs.Lines.{line_limit, left_line, exhausted_line}
+use Rattle.live_session.specs.Lines.{line_limit, left_line, exhausted_line, unbooked_line}
 use Rattle.live_session.specs.Sessions.{Told, done, waited, asked_nothing, said_by, calls_for}
-use Rattle.live_session.specs.Sessions.{answer, answers, SeesMore, Acted, SaysLast, BreaksOff}
-use Rattle.live_session.specs.Sessions.{IsWrittenButNewest}
+use Rattle.live_session.specs.Sessions.{answer, answers, SeesMore, Acted, and_untold, last_call}
+use Rattle.live_session.specs.Sessions.{StoodFor, AreBooked, SaysLast, BreaksOff}
 
 -- ---- the line that is not finished
 
@@ -47,17 +49,6 @@ Reads line (Err error) = IsOk line
 
 -- ---- one line
 
--- the line was acted on, and came to this
-pub record ComesTo (before : Known) (line : Result Ask BadLine) (told : Told) (after : Known)
-    : Type 0 where
-  pub says : line ≡ said_by told
-  pub sees : SeesMore before (calls_for before.process told) after
-
--- nothing was made of the line, or it came to something
-abbrev pub MayHaveCome : (before : Known) → Result Ask BadLine → (after : Known) → Type 0
-MayHaveCome before line after =
-    SeesMore before [] after ⊎ ((told : Told) × ComesTo before line told after)
-
 -- the line asks for a call, which the door was too late for
 pub record ComesTooLate (before : Known) (line : Result Ask BadLine) (after : Known) : Type 0 where
   pub ask : Ask
@@ -72,112 +63,148 @@ reply_to (done act reply) = Some reply
 reply_to (waited request again reply) = Some reply
 reply_to (asked_nothing bad) = None
 
--- what a line came to whose last call was answered so
-abbrev pub came_of : Answer → Came
-came_of (Replied reply) = cames.Reply reply
-came_of Late = cames.Exhausted
-
--- what a line came to that asks for something
-abbrev pub CameTo : (before : Known) → Ask → Came → (after : Known) → Type 0
-CameTo before ask (cames.Reply reply) after =
-    (told : Told) × ComesTo before (Ok ask) told after × (reply_to told ≡ Some reply)
-CameTo before ask cames.Left after = (ask ≡ Leave) × SeesMore before [] after
-CameTo before ask cames.Exhausted after = ComesTooLate before (Ok ask) after
+-- what a line came to whose last call was answered so, with the machine booked or not
+abbrev pub came_of : Answer → (booked : Bool) → Came
+came_of (Replied reply) true = cames.Reply reply
+came_of (Replied reply) false = cames.Unbooked
+came_of Late booked = cames.Exhausted
 
 abbrev pub CameNamesKnown : ChineseWall → Came → Type 0
 CameNamesKnown wall (cames.Reply reply) = IsKnownReply wall reply
 CameNamesKnown wall cames.Left = Unit {0}
 CameNamesKnown wall cames.Exhausted = Unit {0}
-
--- the request was taken again and again, all takes but the last answered Pending, and this is the
--- answer to the last; the door was too late at the first take alone
-abbrev pub Waited : (before : Known) → (request : ℕ) → Answer → (after : Known) → Type 0
-Waited before request (Replied reply) after =
-    (again : ℕ) × SeesMore before (calls_for before.process (waited request again reply)) after
-Waited before request Late after = SeesMore before [] after × (2 ^ 62 ≤ length after.seen)
+CameNamesKnown wall cames.Unbooked = Unit {0}
 
 -- the line that answers what came of it
 abbrev pub line_to : ChineseWall → Came → List ℕ
 line_to wall (cames.Reply reply) = reply_line wall reply
 line_to wall cames.Left = left_line
 line_to wall cames.Exhausted = exhausted_line
+line_to wall cames.Unbooked = unbooked_line
 
 -- how the session goes on after that
 abbrev pub next_after : Came → Next
 next_after (cames.Reply reply) = nexts.GoesOn
 next_after cames.Left = nexts.Left
 next_after cames.Exhausted = nexts.Exhausted
+next_after cames.Unbooked = nexts.Unbooked
 
--- the text answers the line, and the session goes on so
-abbrev pub AnswersSo : ChineseWall → (before : Known) → Result Ask BadLine → (text : List ℕ) →
-    (after : Known) → Next → Type 0
-AnswersSo wall before line text after nexts.GoesOn =
-    (told : Told) × ComesTo before line told after × (text ≡ answer wall told)
-AnswersSo wall before line text after nexts.Left =
-    (line ≡ Ok Leave) × SeesMore before [] after × (text ≡ left_line)
-AnswersSo wall before line text after nexts.Exhausted =
-    ComesTooLate before line after × (text ≡ exhausted_line)
+module _ (stood : ChineseWall → List Entry → Bool → Type 0) where
+  -- the line was acted on, and came to this, behind which the machine was booked or not
+  pub record ComesTo (before : Known) (line : Result Ask BadLine) (told : Told) (booked : Bool)
+      (after : Known) : Type 0 where
+    pub says : line ≡ said_by told
+    pub sees : SeesMore before (calls_for before.process told) after
+    pub so : StoodFor stood before told (calls_for before.process told) booked after
 
--- the line was acted on and its answer is the text; or memory ran out
-abbrev pub PutsAnswer : ChineseWall → (before : Known) → Result Ask BadLine → (text : List ℕ) →
-    (after : Known) → Result Next OutOfMemory → Type 0
-PutsAnswer wall before line text after (Ok next) = AnswersSo wall before line text after next
-PutsAnswer wall before line text after (Err error) = MayHaveCome before line after
+  -- nothing was made of the line, or it came to something
+  abbrev pub MayHaveCome : (before : Known) → Result Ask BadLine → (after : Known) → Type 0
+  MayHaveCome before line after = SeesMore before [] after
+      ⊎ ((told : Told) × (booked : Bool) × ComesTo before line told booked after)
 
--- the line's answer was written, after which the session goes on so
-abbrev pub WritesAnswer : {O : Type 0} → ChineseWall → (before : Known) → Result Ask BadLine →
-    Used O → (after : Known) → Next → Type 0
-WritesAnswer wall before line sink after next =
-    (text : List ℕ) × AnswersSo wall before line text after next × IsWritten sink text
+  -- the line came to something that is not told
+  abbrev pub ComesUnbooked : (before : Known) → Result Ask BadLine → (after : Known) → Type 0
+  ComesUnbooked before line after = (told : Told) × ComesTo before line told false after
+      × (last_call before.process told ≢ None)
 
--- the line was acted on and its answer was written; or why the session ends
-abbrev pub AnswersLine : {X O : Type 0} → ChineseWall → (before : Known) → Result Ask BadLine →
-    Used O → (after : Known) → Result X SessionEnd → Type 0
-AnswersLine wall before line sink after (Ok x) =
-    WritesAnswer wall before line sink after nexts.GoesOn
-AnswersLine wall before line sink after (Err Left) =
-    WritesAnswer wall before line sink after nexts.Left
-AnswersLine wall before line sink after (Err Exhausted) =
-    WritesAnswer wall before line sink after nexts.Exhausted
-AnswersLine wall before line sink after (Err WriteFailed) = (next : Next) × (text : List ℕ)
-    × AnswersSo wall before line text after next × BrokeOff sink text
-AnswersLine wall before line sink after (Err NoMemory) =
-    IsUntouched sink × MayHaveCome before line after
-AnswersLine wall before line sink after (Err ReadFailed) = ⊥
-AnswersLine wall before line sink after (Err EndOfStream) = ⊥
+  -- what a line came to that asks for something
+  abbrev pub CameTo : (before : Known) → Ask → Came → (after : Known) → Type 0
+  CameTo before ask (cames.Reply reply) after =
+      (told : Told) × ComesTo before (Ok ask) told true after × (reply_to told ≡ Some reply)
+  CameTo before ask cames.Left after = (ask ≡ Leave) × SeesMore before [] after
+  CameTo before ask cames.Exhausted after = ComesTooLate before (Ok ask) after
+  CameTo before ask cames.Unbooked after = ComesUnbooked before (Ok ask) after
 
--- ---- lines so far
+  -- the request was taken again and again, all takes but the last answered Pending, and this is the
+  -- answer to the last, behind which the machine was as the pass says; the door was too late at the
+  -- first take alone
+  abbrev pub Waited : (before : Known) → (request : ℕ) → Answer → (after : Known) → Type 0
+  Waited before request (Replied reply) after = (again : ℕ)
+      × ComesTo before (Ok (Wait request)) (waited request again reply) after.booked after
+  Waited before request Late after = SeesMore before [] after × (2 ^ 62 ≤ length after.seen)
 
--- the lines of the text so far were acted on, and all answers written
-pub record SoFar {O : Type 0} (wall : ChineseWall) (before : Known) (text rest : List Word)
-    (sink : Used O) (now : Known) : Type 0 where
-  pub lines : List Word
-  pub told : List Told
-  pub acted : Acted wall before text lines rest told now
-  pub written : IsWritten sink (answers wall told)
+  -- the text answers the line, and the session goes on so
+  abbrev pub AnswersSo : ChineseWall → (before : Known) → Result Ask BadLine → (text : List ℕ) →
+      (after : Known) → Next → Type 0
+  AnswersSo wall before line text after nexts.GoesOn =
+      (told : Told) × ComesTo before line told true after × (text ≡ answer wall told)
+  AnswersSo wall before line text after nexts.Left =
+      (line ≡ Ok Leave) × SeesMore before [] after × (text ≡ left_line)
+  AnswersSo wall before line text after nexts.Exhausted =
+      ComesTooLate before line after × (text ≡ exhausted_line)
+  AnswersSo wall before line text after nexts.Unbooked =
+      ComesUnbooked before line after × (text ≡ unbooked_line)
 
--- why no further line is acted on
-abbrev pub StopsSo : {O : Type 0} → ChineseWall → Used O → (rest : List Word) → List Told →
-    (after : Known) → SessionEnd → Type 0
-StopsSo wall sink rest told after Left = SaysLast wall sink rest told after Left
-StopsSo wall sink rest told after Exhausted = SaysLast wall sink rest told after Exhausted
-StopsSo wall sink rest told after WriteFailed =
-    FailedOnce sink × BreaksOff wall sink rest told after
-StopsSo wall sink rest told after NoMemory = IsWrittenButNewest wall sink told
-StopsSo wall sink rest told after ReadFailed = ⊥
-StopsSo wall sink rest told after EndOfStream = ⊥
+  -- the line was acted on and its answer is the text; or memory ran out
+  abbrev pub PutsAnswer : ChineseWall → (before : Known) → Result Ask BadLine → (text : List ℕ) →
+      (after : Known) → Result Next OutOfMemory → Type 0
+  PutsAnswer wall before line text after (Ok next) = AnswersSo wall before line text after next
+  PutsAnswer wall before line text after (Err error) = MayHaveCome before line after
 
-pub record Stops {O : Type 0} (wall : ChineseWall) (before : Known) (text : List Word)
-    (sink : Used O) (after : Known) (end : SessionEnd) : Type 0 where
-  pub lines : List Word
-  pub rest : List Word
-  pub told : List Told
-  pub acted : Acted wall before text lines rest told after
-  pub stops : StopsSo wall sink rest told after end
+  -- the line's answer was written, after which the session goes on so
+  abbrev pub WritesAnswer : {O : Type 0} → ChineseWall → (before : Known) → Result Ask BadLine →
+      Used O → (after : Known) → Next → Type 0
+  WritesAnswer wall before line sink after next =
+      (text : List ℕ) × AnswersSo wall before line text after next × IsWritten sink text
 
--- all finished lines of the text were acted on, and the rest is kept; or why not
-abbrev pub TakesIn : {X O : Type 0} → ChineseWall → (before : Known) → (text : List Word) →
-    (kept : Unfinished) → Used O → (after : Known) → Result X SessionEnd → Type 0
-TakesIn wall before text kept sink after (Ok x) =
-    (line : Word) × Holds kept line × SoFar wall before text (line ∷ []) sink after
-TakesIn wall before text kept sink after (Err end) = Stops wall before text sink after end
+  -- the line was acted on and its answer was written; or why the session ends
+  abbrev pub AnswersLine : {X O : Type 0} → ChineseWall → (before : Known) →
+      Result Ask BadLine → Used O → (after : Known) → Result X SessionEnd → Type 0
+  AnswersLine wall before line sink after (Ok x) =
+      WritesAnswer wall before line sink after nexts.GoesOn
+  AnswersLine wall before line sink after (Err Left) =
+      WritesAnswer wall before line sink after nexts.Left
+  AnswersLine wall before line sink after (Err Exhausted) =
+      WritesAnswer wall before line sink after nexts.Exhausted
+  AnswersLine wall before line sink after (Err Unbooked) =
+      WritesAnswer wall before line sink after nexts.Unbooked
+  AnswersLine wall before line sink after (Err WriteFailed) = (next : Next) × (text : List ℕ)
+      × AnswersSo wall before line text after next × BrokeOff sink text
+  AnswersLine wall before line sink after (Err NoMemory) =
+      IsUntouched sink × MayHaveCome before line after
+  AnswersLine wall before line sink after (Err ReadFailed) = ⊥
+  AnswersLine wall before line sink after (Err EndOfStream) = ⊥
+
+  -- ---- lines so far
+
+  -- the lines of the text so far were acted on, and all answers written
+  pub record SoFar {O : Type 0} (wall : ChineseWall) (before : Known) (text rest : List Word)
+      (sink : Used O) (now : Known) : Type 0 where
+    pub lines : List Word
+    pub told : List Told
+    pub acted : Acted wall before text lines rest told now
+    pub booked : AreBooked stood before told now
+    pub written : IsWritten sink (answers wall told)
+
+  -- why no further line is acted on
+  abbrev pub StopsSo : {O : Type 0} → ChineseWall → Used O → (before : Known) →
+      (rest : List Word) → List Told → (untold : Option Told) → (after : Known) → SessionEnd →
+      Type 0
+  StopsSo wall sink before rest told untold after Left =
+      SaysLast stood wall sink before rest told untold after Left
+  StopsSo wall sink before rest told untold after Exhausted =
+      SaysLast stood wall sink before rest told untold after Exhausted
+  StopsSo wall sink before rest told untold after Unbooked =
+      SaysLast stood wall sink before rest told untold after Unbooked
+  StopsSo wall sink before rest told untold after WriteFailed =
+      FailedOnce sink × BreaksOff stood wall sink before rest told untold after
+  StopsSo wall sink before rest told untold after NoMemory = IsWritten sink (answers wall told)
+  StopsSo wall sink before rest told untold after ReadFailed = ⊥
+  StopsSo wall sink before rest told untold after EndOfStream = ⊥
+
+  pub record Stops {O : Type 0} (wall : ChineseWall) (before : Known) (text : List Word)
+      (sink : Used O) (after : Known) (end : SessionEnd) : Type 0 where
+    pub lines : List Word
+    pub rest : List Word
+    pub told : List Told
+    pub untold : Option Told
+    pub acted : Acted wall before text lines rest (and_untold untold told) after
+    pub booked : AreBooked stood before told after
+    pub stops : StopsSo wall sink before rest told untold after end
+
+  -- all finished lines of the text were acted on, and the rest is kept; or why not
+  abbrev pub TakesIn : {X O : Type 0} → ChineseWall → (before : Known) → (text : List Word) →
+      (kept : Unfinished) → Used O → (after : Known) → Result X SessionEnd → Type 0
+  TakesIn wall before text kept sink after (Ok x) =
+      (line : Word) × Holds kept line × SoFar wall before text (line ∷ []) sink after
+  TakesIn wall before text kept sink after (Err end) = Stops wall before text sink after end

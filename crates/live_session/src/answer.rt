@@ -4,6 +4,7 @@ ghost use Rattle.run_model.specs.Replies.{Legal};
 ghost use Rattle.hall_turn.specs.Answers.{IsSamePass};
 ghost use Rattle.hall_script.specs.Devices.{used};
 ghost use Rattle.live_session.specs.Lines.{said};
+ghost use Rattle.live_session.specs.Sessions.{Stood};
 ghost use Rattle.live_session.specs.Steps.{Holds, CameNamesKnown, line_to, next_after, PutsAnswer};
 ghost use Rattle.live_session.specs.Steps.{AnswersLine};
 
@@ -13,7 +14,7 @@ use crate::line::{Unfinished, bad_line};
 use crate::seat::Seat;
 use coll_text::{put, send};
 use hall_script::write_reply;
-use hall_turn::{Door, Pass};
+use hall_turn::{DoorTo, Machine, PassTo};
 use std::alloc::Global;
 use std::sync::Wait;
 use wall_labels::{NoMemory, Sink};
@@ -28,6 +29,8 @@ pub(crate) enum Next {
     Left,
     /// It ends: the door was too late for the line's call.
     Exhausted,
+    /// It ends: what came of the line's call is not told.
+    Unbooked,
 }
 
 // Puts the line that answers what came of a line, and says how the session goes on.
@@ -50,16 +53,20 @@ fn put_came(policy: &Policy, came: &Came, text: &mut Vec<u8>) -> Result<Next, No
             Ok(()) => Ok(Next::Exhausted),
             Err(_) => Err(NoMemory),
         },
+        Came::Unbooked => match put(text, "unbooked\n") {
+            Ok(()) => Ok(Next::Unbooked),
+            Err(_) => Err(NoMemory),
+        },
     }
 }
 
 // Acts on a finished line, and puts its answer.
-fn put_answer<R: Wait>(
+fn put_answer<R: Wait, M: Machine>(
     rt: &R,
     alloc: Global,
-    door: &Door,
+    door: &DoorTo<M>,
     policy: &Policy,
-    pass: &mut Pass,
+    pass: &mut PassTo<M>,
     seat: &mut Seat,
     line: &Unfinished,
     text: &mut Vec<u8>,
@@ -71,8 +78,8 @@ fn put_answer<R: Wait>(
     ensures same { IsSamePass pass.old pass.new }
     ensures legal { Legal policy.now pass.new.seen }
     ensures puts { (bytes : List ℕ) → Holds line.now bytes →
-        PutsAnswer policy.now pass.old (said policy.now.dataset_names bytes) text.new.items
-        pass.new result }
+        PutsAnswer (Stood M.stands M.is_booked) policy.now pass.old
+        (said policy.now.dataset_names bytes) text.new.items pass.new result }
 {
     match line.read(alloc, policy) {
         Ok(Ok(ask)) => {
@@ -88,12 +95,12 @@ fn put_answer<R: Wait>(
 }
 
 /// Acts on a finished line, and writes its answer. The text is room for it.
-pub(crate) fn answer_line<R: Wait, O: Sink>(
+pub(crate) fn answer_line<R: Wait, M: Machine, O: Sink>(
     rt: &R,
     alloc: Global,
-    door: &Door,
+    door: &DoorTo<M>,
     policy: &Policy,
-    pass: &mut Pass,
+    pass: &mut PassTo<M>,
     seat: &mut Seat,
     line: &Unfinished,
     text: &mut Vec<u8>,
@@ -107,7 +114,8 @@ pub(crate) fn answer_line<R: Wait, O: Sink>(
     ensures same { IsSamePass pass.old pass.new }
     ensures legal { Legal policy.now pass.new.seen }
     ensures answers { (bytes : List ℕ) → Holds line.now bytes →
-        AnswersLine policy.now pass.old (said policy.now.dataset_names bytes)
+        AnswersLine (Stood M.stands M.is_booked) policy.now pass.old
+        (said policy.now.dataset_names bytes)
         (used O.failures O.contents sink.old sink.new) pass.new result }
 {
     let next = match put_answer(rt, alloc, door, policy, pass, seat, line, text) {
@@ -119,6 +127,7 @@ pub(crate) fn answer_line<R: Wait, O: Sink>(
             Next::GoesOn => Ok(()),
             Next::Left => Err(SessionEnd::Left),
             Next::Exhausted => Err(SessionEnd::Exhausted),
+            Next::Unbooked => Err(SessionEnd::Unbooked),
         },
         Err(_) => Err(SessionEnd::WriteFailed),
     }

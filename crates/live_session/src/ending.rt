@@ -13,6 +13,9 @@ pub enum SessionEnd {
     WriteFailed,
     /// The door had 2^62 turns. The call at hand was not made, and its line was answered so.
     Exhausted,
+    /// At the end of the newest call's turn the machine was not booked. The call was made, and its
+    /// line was answered so in place of its reply.
+    Unbooked,
     /// A growth of memory was refused: for a line, before it was acted on, or for its answer.
     NoMemory,
 }

@@ -2,7 +2,7 @@
 
 use crate::desk::Desk;
 use crate::ending::SessionEnd;
-use hall_turn::Pass;
+use hall_turn::{Machine, PassTo};
 use std::snapshot::Snapshot;
 use std::thread::Promise;
 use wall_labels::Sink;
@@ -27,15 +27,15 @@ pub struct Session<S, O> {
 
 /// What a thread is given.
 #[derive(Drop)]
-pub(crate) struct Job<S, O> {
-    pub(crate) pass: Pass,
+pub(crate) struct Job<M: Machine, S, O> {
+    pub(crate) pass: PassTo<M>,
     pub(crate) peer: Peer<S, O>,
 }
 
 /// What a thread gives back.
 #[derive(Drop)]
-pub(crate) struct Played<S, O> {
-    pub(crate) pass: Pass,
+pub(crate) struct Played<M: Machine, S, O> {
+    pub(crate) pass: PassTo<M>,
     pub(crate) peer: Peer<S, O>,
     /// How the session ended; none where it did not begin.
     pub(crate) ended: Option<SessionEnd>,
@@ -43,11 +43,13 @@ pub(crate) struct Played<S, O> {
 
 /// The thread of a job serves its process.
 #[derive(Drop)]
-pub(crate) struct Serving<S, O>(pub(crate) Snapshot<Job<S, O>>);
+pub(crate) struct Serving<M: Machine, S, O>(pub(crate) Snapshot<Job<M, S, O>>);
 
-impl<S: Desk<O> + Drop, O: Sink + Drop> Promise<Played<S, O>> for Serving<S, O> {
+impl<M: Machine, S: Desk<O> + Drop, O: Sink + Drop> Promise<Played<M, S, O>> for Serving<M, S, O> {
+    ghost use Rattle.live_session.specs.Sessions.{Stood};
     ghost use Rattle.live_session.specs.Joining.{HasServed};
 
     ghost kept_by = { λ p r.
-        HasServed S.failures S.remaining S.heard O.failures O.contents p.0.value r };
+        HasServed (Stood M.stands M.is_booked) S.failures S.remaining S.heard O.failures O.contents
+        p.0.value r };
 }

@@ -3,7 +3,8 @@ ghost use Rattle.std.specs.Prelude.{◌≡◌, ◌≢◌, ◌↔◌, ◌≤◌, 
 ghost use Rattle.std.specs.Prelude.{vec_len, vec_capacity};
 ghost use Rattle.std.specs.List.{All};
 ghost use Rattle.run_model.specs.Comms.{processes};
-ghost use Rattle.hall_turn.specs.Ending.{Closed};
+ghost use Rattle.hall_turn.specs.Ending.{ClosedTo};
+ghost use Rattle.live_session.specs.Sessions.{Stood};
 ghost use Rattle.live_session.specs.Served.{ServedAll};
 ghost use Rattle.live_session.specs.Joining.{IsFresh, HasServed, AllServed, handed};
 ghost use Rattle.live_session.specs.Joining.{passes_of, peers_of, passes_in, ends_of, ends_in};
@@ -12,8 +13,8 @@ ghost use Rattle.live_session.specs.Joining.{ArePrepared, HaveEnded, HasRoomFor}
 use crate::desk::Desk;
 use crate::peer::{Job, Peer, Played, Serving, Session};
 use crate::session::serve;
-use hall_core::{Hall, NoMemory};
-use hall_turn::{Door, Passes};
+use hall_core::NoMemory;
+use hall_turn::{DoorTo, Machine, PassesTo};
 use mpi_comm::COMMUNICATOR_LIMIT;
 use rank_stage::{GivenUp, Stage};
 use std::alloc::{AllocError, Global};
@@ -25,18 +26,19 @@ use wall_labels::Sink;
 use wall_policy::Policy;
 
 // A session from its start to its end; or nothing of it, where the run is given up.
-fn play<R: Wait, S: Desk<O> + Drop, O: Sink + Drop>(
+fn play<R: Wait, M: Machine, S: Desk<O> + Drop, O: Sink + Drop>(
     rt: &R,
     alloc: Global,
-    door: &Door,
+    door: &DoorTo<M>,
     policy: &Policy,
     stage: &Stage,
     turn: &Mutex<()>,
-    job: Job<S, O>,
-) -> Played<S, O>
+    job: Job<M, S, O>,
+) -> Played<M, S, O>
     requires fresh { IsFresh door.now job }
     requires policy { policy.now ≡ door.now.policy }
-    ensures { HasServed S.failures S.remaining S.heard O.failures O.contents job result }
+    ensures { HasServed (Stood M.stands M.is_booked) S.failures S.remaining S.heard O.failures
+        O.contents job result }
 {
     let Job {
         mut pass,
@@ -64,14 +66,19 @@ fn play<R: Wait, S: Desk<O> + Drop, O: Sink + Drop>(
 }
 
 // Joins all threads, and keeps what they gave.
-fn join_all<R: Threads, S: Desk<O> + Send + Drop, O: Sink + Send + Drop>(
+fn join_all<R, M, S, O>(
     rt: &R,
-    handles: Vec<PromisedHandle<Played<S, O>, Serving<S, O>>>,
-    mut ended: Vec<Played<S, O>>,
-) -> Vec<Played<S, O>>
+    handles: Vec<PromisedHandle<Played<M, S, O>, Serving<M, S, O>>>,
+    mut ended: Vec<Played<M, S, O>>,
+) -> Vec<Played<M, S, O>>
+where
+    R: Threads,
+    M: Machine + Send + Drop,
+    S: Desk<O> + Send + Drop,
+    O: Sink + Send + Drop,
     requires { (ended.items ≡ []) × (vec_len handles ≤ vec_capacity ended) }
-    ensures served { AllServed S.failures S.remaining S.heard O.failures O.contents
-        (handed handles.items) result.items }
+    ensures served { AllServed (Stood M.stands M.is_booked) S.failures S.remaining S.heard
+        O.failures O.contents (handed handles.items) result.items }
     ensures len { vec_len result ≡ vec_len handles }
 {
     for handle in handles {
@@ -82,17 +89,22 @@ fn join_all<R: Threads, S: Desk<O> + Send + Drop, O: Sink + Send + Drop>(
 
 // The sessions begin if all have their threads, or go home. All have ended, and are joined, when it
 // returns.
-fn end_all<R: Threads + Wait, S: Desk<O> + Send + Drop, O: Sink + Send + Drop>(
+fn end_all<R, M, S, O>(
     rt: &R,
     stage: &Stage,
     all_started: bool,
-    handles: Vec<PromisedHandle<Played<S, O>, Serving<S, O>>>,
-    ended: Vec<Played<S, O>>,
-) -> Result<Vec<Played<S, O>>, GivenUp>
+    handles: Vec<PromisedHandle<Played<M, S, O>, Serving<M, S, O>>>,
+    ended: Vec<Played<M, S, O>>,
+) -> Result<Vec<Played<M, S, O>>, GivenUp>
+where
+    R: Threads + Wait,
+    M: Machine + Send + Drop,
+    S: Desk<O> + Send + Drop,
+    O: Sink + Send + Drop,
     requires { (ended.items ≡ []) × (vec_len handles ≤ vec_capacity ended) }
     ensures served { IfOk result (λ all.
-        AllServed S.failures S.remaining S.heard O.failures O.contents (handed handles.items)
-        all.items) }
+        AllServed (Stood M.stands M.is_booked) S.failures S.remaining S.heard O.failures O.contents
+        (handed handles.items) all.items) }
     ensures started { IfOk result (λ _. all_started ≡ true) }
 {
     let told = stage.release(rt, all_started);
@@ -107,46 +119,51 @@ fn end_all<R: Threads + Wait, S: Desk<O> + Send + Drop, O: Sink + Send + Drop>(
 }
 
 // A thread for each job, as far as none is refused.
-fn run_each<R: Threads + Wait + Sync, S: Desk<O> + Send + Drop, O: Sink + Send + Drop>(
+fn run_each<R, M, S, O>(
     rt: &R,
     alloc: Global,
-    door: &Door,
+    door: &DoorTo<M>,
     policy: &Policy,
     stage: &Stage,
     turn: &Mutex<()>,
-    jobs: Vec<Job<S, O>>,
-    mut handles: Vec<PromisedHandle<Played<S, O>, Serving<S, O>>>,
-    ended: Vec<Played<S, O>>,
-) -> Result<Vec<Played<S, O>>, GivenUp>
+    jobs: Vec<Job<M, S, O>>,
+    mut handles: Vec<PromisedHandle<Played<M, S, O>, Serving<M, S, O>>>,
+    ended: Vec<Played<M, S, O>>,
+) -> Result<Vec<Played<M, S, O>>, GivenUp>
+where
+    R: Threads + Wait + Sync,
+    M: Machine + Send + Drop,
+    S: Desk<O> + Send + Drop,
+    O: Sink + Send + Drop,
     requires policy { policy.now ≡ door.now.policy }
     requires fresh { All (IsFresh door.now) jobs.items }
     requires handles { (handles.items ≡ []) × (vec_len jobs ≤ vec_capacity handles) }
     requires ended { (ended.items ≡ []) × (vec_len jobs ≤ vec_capacity ended) }
     ensures { IfOk result
-        (λ all. AllServed S.failures S.remaining S.heard O.failures O.contents jobs.items
-        all.items) }
+        (λ all. AllServed (Stood M.stands M.is_booked) S.failures S.remaining S.heard O.failures
+        O.contents jobs.items all.items) }
 {
     thread::scope(
         thread::scope_env(),
         rt,
-        move |scope| -> Result<Vec<Played<S, O>>, GivenUp>
+        move |scope| -> Result<Vec<Played<M, S, O>>, GivenUp>
             requires policy { policy.now ≡ door.now.policy }
             requires fresh { All (IsFresh door.now) jobs.items }
             requires handles { (handles.items ≡ []) × (vec_len jobs ≤ vec_capacity handles) }
             requires ended { (ended.items ≡ []) × (vec_len jobs ≤ vec_capacity ended) }
             ensures { IfOk result
-                (λ all. AllServed S.failures S.remaining S.heard O.failures O.contents jobs.items
-                all.items) }
+                (λ all. AllServed (Stood M.stands M.is_booked) S.failures S.remaining S.heard
+                O.failures O.contents jobs.items all.items) }
         {
             for job in jobs {
                 let promise = Serving(Snapshot::of(&job));
                 let Ok(handle) = scope.spawn_with(
                     promise,
-                    move || -> Played<S, O>
+                    move || -> Played<M, S, O>
                         requires policy { policy.now ≡ door.now.policy }
                         requires fresh { IsFresh door.now job }
-                        ensures { HasServed S.failures S.remaining S.heard O.failures O.contents job
-                            result }
+                        ensures { HasServed (Stood M.stands M.is_booked) S.failures S.remaining
+                            S.heard O.failures O.contents job result }
                     { play(rt, alloc, door, policy, stage, turn, job) },
                 ) else {
                     return end_all(rt, stage, false, handles, ended);
@@ -160,11 +177,11 @@ fn run_each<R: Threads + Wait + Sync, S: Desk<O> + Send + Drop, O: Sink + Send +
 
 /// What all sessions came to.
 #[derive(Drop)]
-pub struct Served<S, O> {
+pub struct Served<M, S, O> {
     /// The session of each process, in order.
     pub sessions: Vec<Session<S, O>>,
-    /// The hall after all calls.
-    pub hall: Hall,
+    /// The machine after all calls.
+    pub machine: M,
 }
 
 /// Why no session began.
@@ -180,35 +197,35 @@ pub enum ServeFault {
 
 // The start of the sessions, and room for what their threads give back.
 #[derive(Drop)]
-pub(crate) struct Room<S: Desk<O> + Drop, O: Sink + Drop> {
+pub(crate) struct Room<M: Machine, S: Desk<O> + Drop, O: Sink + Drop> {
     stage: Stage,
-    passes: Passes,
+    passes: PassesTo<M>,
     sessions: Vec<Session<S, O>>,
-    ended: Vec<Played<S, O>>,
-    handles: Vec<PromisedHandle<Played<S, O>, Serving<S, O>>>,
+    ended: Vec<Played<M, S, O>>,
+    handles: Vec<PromisedHandle<Played<M, S, O>, Serving<M, S, O>>>,
 }
 
 // A door, a job for each process there, and room for all of them.
 #[derive(Drop)]
-pub(crate) struct Ready<S: Desk<O> + Drop, O: Sink + Drop> {
-    door: Door,
-    jobs: Vec<Job<S, O>>,
-    room: Room<S, O>,
+pub(crate) struct Ready<M: Machine + Drop, S: Desk<O> + Drop, O: Sink + Drop> {
+    door: DoorTo<M>,
+    jobs: Vec<Job<M, S, O>>,
+    room: Room<M, S, O>,
 }
 
 // What the threads gave back, sorted.
 #[derive(Drop)]
-pub(crate) struct Ended<S, O> {
-    passes: Passes,
+pub(crate) struct Ended<M: Machine, S, O> {
+    passes: PassesTo<M>,
     sessions: Vec<Session<S, O>>,
 }
 
 // A pass and its devices for each process.
-fn share_out<S: Drop, O: Drop>(
+fn share_out<M: Machine, S: Drop, O: Drop>(
     alloc: Global,
-    passes: Passes,
+    passes: PassesTo<M>,
     peers: Vec<Peer<S, O>>,
-) -> Result<Vec<Job<S, O>>, NoMemory>
+) -> Result<Vec<Job<M, S, O>>, NoMemory>
     requires { vec_len passes ≡ vec_len peers }
     ensures passes { IfOk result (λ jobs. passes_of jobs.items ≡ passes.items) }
     ensures peers { IfOk result (λ jobs. peers_of jobs.items ≡ peers.items) }
@@ -225,10 +242,10 @@ fn share_out<S: Drop, O: Drop>(
 }
 
 // Room for so many sessions.
-fn make_room<S: Desk<O> + Drop, O: Sink + Drop>(
+fn make_room<M: Machine, S: Desk<O> + Drop, O: Sink + Drop>(
     alloc: Global,
     count: usize,
-) -> Result<Room<S, O>, AllocError>
+) -> Result<Room<M, S, O>, AllocError>
     ensures { IfOk result (HasRoomFor count) }
 {
     let passes = Vec::with_capacity(alloc, count)?;
@@ -245,19 +262,20 @@ fn make_room<S: Desk<O> + Drop, O: Sink + Drop>(
     })
 }
 
-// A door, a job for each process there, and room for all of them.
-fn prepare<S: Desk<O> + Drop, O: Sink + Drop>(
+// A door to the machine, a job for each process there, and room for all of them.
+fn prepare<M: Machine + Drop, S: Desk<O> + Drop, O: Sink + Drop>(
     alloc: Global,
     policy: &Policy,
+    machine: M,
     peers: Vec<Peer<S, O>>,
-) -> Result<Ready<S, O>, NoMemory>
-    requires { vec_len peers ≡ processes policy.now }
+) -> Result<Ready<M, S, O>, NoMemory>
+    requires stands { M.stands policy.now machine [] }
+    requires peers { vec_len peers ≡ processes policy.now }
     ensures prepared { IfOk result
         (λ ready. ArePrepared policy.now peers.items ready.door ready.jobs.items) }
     ensures room { IfOk result (λ ready. HasRoomFor (vec_len ready.jobs) ready.room) }
 {
-    let copy = policy.copy(alloc)?;
-    let (door, passes) = Door::open(alloc, copy)?;
+    let (door, passes) = DoorTo::over(alloc, policy, machine)?;
     let Ok(jobs) = share_out(alloc, passes, peers) else {
         drop(door);
         return Err(NoMemory);
@@ -271,11 +289,11 @@ fn prepare<S: Desk<O> + Drop, O: Sink + Drop>(
 }
 
 // The passes, and the sessions; none where a session did not begin.
-fn sort_out<S: Drop, O: Drop>(
-    all: Vec<Played<S, O>>,
-    mut passes: Passes,
+fn sort_out<M: Machine, S: Drop, O: Drop>(
+    all: Vec<Played<M, S, O>>,
+    mut passes: PassesTo<M>,
     mut sessions: Vec<Session<S, O>>,
-) -> Option<Ended<S, O>>
+) -> Option<Ended<M, S, O>>
     requires passes { (passes.items ≡ []) × (vec_len all ≤ vec_capacity passes) }
     requires sessions { (sessions.items ≡ []) × (vec_len all ≤ vec_capacity sessions) }
     ensures passes { IfSome result (λ ended. ended.passes.items ≡ passes_in all.items) }
@@ -294,19 +312,25 @@ fn sort_out<S: Drop, O: Drop>(
 }
 
 // All sessions at the same time, in the room that was made for them. None where none began.
-fn run_jobs<R: Threads + Wait + Sync, S: Desk<O> + Send + Drop, O: Sink + Send + Drop>(
+fn run_jobs<R, M, S, O>(
     rt: &R,
     alloc: Global,
-    door: &Door,
+    door: &DoorTo<M>,
     policy: &Policy,
-    jobs: Vec<Job<S, O>>,
-    room: Room<S, O>,
-) -> Option<Ended<S, O>>
+    jobs: Vec<Job<M, S, O>>,
+    room: Room<M, S, O>,
+) -> Option<Ended<M, S, O>>
+where
+    R: Threads + Wait + Sync,
+    M: Machine + Send + Drop,
+    S: Desk<O> + Send + Drop,
+    O: Sink + Send + Drop,
     requires policy { policy.now ≡ door.now.policy }
     requires fresh { All (IsFresh door.now) jobs.items }
     requires room { HasRoomFor (vec_len jobs) room }
     ensures { IfSome result
-        (HaveEnded S.failures S.remaining S.heard O.failures O.contents jobs.items) }
+        (HaveEnded (Stood M.stands M.is_booked) S.failures S.remaining S.heard O.failures O.contents
+        jobs.items) }
 {
     let Room {
         stage,
@@ -323,41 +347,52 @@ fn run_jobs<R: Threads + Wait + Sync, S: Desk<O> + Send + Drop, O: Sink + Send +
 }
 
 // Closes the door, to which all passes have come back.
-fn close_up<S: Drop, O: Drop>(door: Door, ended: Ended<S, O>) -> Served<S, O>
+fn close_up<M: Machine + Drop, S: Drop, O: Drop>(
+    door: DoorTo<M>,
+    ended: Ended<M, S, O>,
+) -> Served<M, S, O>
     requires of { All (λ pass. pass.door ≡ door) ended.passes.items }
     requires all { processes door.policy ≤ length ended.passes.items }
     ensures sessions { result.sessions ≡ ended.sessions }
-    ensures hall { Closed door.policy result.hall ended.passes.items }
+    ensures machine { ClosedTo M.stands door.policy result.machine ended.passes.items }
 {
     let Ended { passes, sessions } = ended;
     match door.close(passes) {
-        Ok(hall) => Served { sessions, hall },
+        Ok(machine) => Served { sessions, machine },
         Err(_unclosed) => unreachable!(),
     }
 }
 
-/// Serves all processes at a new door, each in a thread of its own, until every session has ended.
-/// `peers` has the devices of each process, in order; they come back with how its session ended.
-/// No session begins before all threads have started, and every thread has ended when it returns.
+/// Serves all processes at a door to this machine, each in a thread of its own, until every session
+/// has ended. The machine stands for the empty run under the policy. `peers` has the devices of
+/// each process, in order; they come back with how its session ended. No session begins before all
+/// threads have started, and every thread has ended when it returns.
 ///
-/// `BadPeers` is answered exactly where there are not devices for each process, and no others. After
-/// a fault no call was made.
-pub fn serve_all<R: Threads + Wait + Sync, S: Desk<O> + Send + Drop, O: Sink + Send + Drop>(
+/// `BadPeers` is answered exactly where there are not devices for each process, and no others.
+/// After a fault no call was made, and the machine was let go.
+pub fn serve_all<R, M, S, O>(
     rt: &R,
     alloc: Global,
     policy: &Policy,
+    machine: M,
     peers: Vec<Peer<S, O>>,
-) -> Result<Served<S, O>, ServeFault>
+) -> Result<Served<M, S, O>, ServeFault>
+where
+    R: Threads + Wait + Sync,
+    M: Machine + Send + Drop,
+    S: Desk<O> + Send + Drop,
+    O: Sink + Send + Drop,
+    requires stands { M.stands policy.now machine [] }
     ensures served { IfOk result (λ served.
-        ServedAll S.failures S.remaining S.heard O.failures O.contents policy.now peers.items
-        served.sessions.items served.hall) }
+        ServedAll S.failures S.remaining S.heard O.failures O.contents M.stands M.is_booked
+        policy.now peers.items served.sessions.items served.machine) }
     ensures bad_peers { IfErr result (λ fault.
         (fault ≡ ServeFault.BadPeers) ↔ (vec_len peers ≢ processes policy.now)) }
 {
     if peers.len() != policy.processes() as usize {
         return Err(ServeFault::BadPeers);
     }
-    let Ok(ready) = prepare(alloc, policy, peers) else {
+    let Ok(ready) = prepare(alloc, policy, machine, peers) else {
         return Err(ServeFault::NoMemory);
     };
     let Ready { door, jobs, room } = ready;

@@ -4,7 +4,7 @@ ghost use Rattle.run_model.specs.Replies.{Legal};
 ghost use Rattle.coll_text.specs.Reading.{parts};
 ghost use Rattle.hall_script.specs.Devices.{used};
 ghost use Rattle.hall_turn.specs.Answers.{IsSamePass};
-ghost use Rattle.live_session.specs.Sessions.{Serves, ServesIfBegun};
+ghost use Rattle.live_session.specs.Sessions.{Stood, Serves, ServesIfBegun};
 ghost use Rattle.live_session.specs.Steps.{Holds, TakesIn, behind};
 
 use crate::answer::answer_line;
@@ -14,7 +14,7 @@ use crate::line::Unfinished;
 use crate::requests::Requests;
 use crate::seat::Seat;
 use coll_text::Parts;
-use hall_turn::{Door, Pass};
+use hall_turn::{DoorTo, Machine, PassTo};
 use rank_stage::Stage;
 use std::alloc::Global;
 use std::sync::{Mutex, Wait};
@@ -22,12 +22,12 @@ use wall_labels::Sink;
 use wall_policy::Policy;
 
 // Acts on the lines that these bytes finish, and keeps the rest.
-fn take_in<R: Wait, O: Sink>(
+fn take_in<R: Wait, M: Machine, O: Sink>(
     rt: &R,
     alloc: Global,
-    door: &Door,
+    door: &DoorTo<M>,
     policy: &Policy,
-    pass: &mut Pass,
+    pass: &mut PassTo<M>,
     seat: &mut Seat,
     line: &mut Unfinished,
     bytes: &[u8],
@@ -42,7 +42,8 @@ fn take_in<R: Wait, O: Sink>(
     ensures same { IsSamePass pass.old pass.new }
     ensures legal { Legal policy.now pass.new.seen }
     ensures takes { (start : List ℕ) → Holds line.old start →
-        TakesIn policy.now pass.old (behind start (parts 10 bytes.now)) line.new
+        TakesIn (Stood M.stands M.is_booked) policy.now pass.old
+        (behind start (parts 10 bytes.now)) line.new
         (used O.failures O.contents sink.old sink.new) pass.new result }
 {
     let mut parts = Parts::new(bytes, b'\n');
@@ -67,12 +68,12 @@ fn take_in<R: Wait, O: Sink>(
 }
 
 // A session from its first line to its end.
-fn hold<R: Wait, S: Desk<O>, O: Sink>(
+fn hold<R: Wait, M: Machine, S: Desk<O>, O: Sink>(
     rt: &R,
     alloc: Global,
-    door: &Door,
+    door: &DoorTo<M>,
     policy: &Policy,
-    pass: &mut Pass,
+    pass: &mut PassTo<M>,
     seat: &mut Seat,
     source: &mut S,
     sink: &mut O,
@@ -81,7 +82,7 @@ fn hold<R: Wait, S: Desk<O>, O: Sink>(
     requires policy { policy.now ≡ door.now.policy }
     requires legal { Legal policy.now pass.old.seen }
     ensures same { IsSamePass pass.old pass.new }
-    ensures serves { Serves S.heard policy.now
+    ensures serves { Serves (Stood M.stands M.is_booked) S.heard policy.now
         (used S.failures S.remaining source.old source.new)
         (used O.failures O.contents sink.old sink.new)
         pass.old pass.new result }
@@ -126,29 +127,31 @@ fn hold<R: Wait, S: Desk<O>, O: Sink>(
 /// answered by the line of its reply. A wait takes the request, and again when its instance has
 /// settled, and is answered as the last of these takes was: `pending` where every other session has
 /// ended or waits too, so that nobody is left who could settle it. `leave` is answered by `left`,
-/// and ends the session, as does a call after 2^62 turns of the door, answered by `exhausted`. Any
-/// other line is answered by `bad NAME`: then nothing was done, and the session goes on.
+/// and ends the session, as does a call after 2^62 turns of the door, answered by `exhausted`. So
+/// does a call behind whose turn the machine is not booked: it was made, and in place of its reply
+/// stands `unbooked`. Any other line is answered by `bad NAME`: then nothing was done, and the
+/// session goes on.
 ///
 /// `turn` is one for all sessions at the door: a session holds it while it calls there, and not
 /// while it reads, works out a delivery, writes or sleeps.
 ///
 /// The source is told when the session begins, before its first line is read, and when it has
 /// ended; no turn and no place of the stage is held meanwhile.
-pub fn serve<R: Wait, S: Desk<O>, O: Sink>(
+pub fn serve<R: Wait, M: Machine, S: Desk<O>, O: Sink>(
     rt: &R,
     alloc: Global,
-    door: &Door,
+    door: &DoorTo<M>,
     policy: &Policy,
     stage: &Stage,
     turn: &Mutex<()>,
-    pass: &mut Pass,
+    pass: &mut PassTo<M>,
     source: &mut S,
     sink: &mut O,
 ) -> Option<SessionEnd>
     requires door { pass.old.door ≡ door.now }
     requires policy { policy.now ≡ door.now.policy }
     ensures same { IsSamePass pass.old pass.new }
-    ensures serves { ServesIfBegun S.heard policy.now
+    ensures serves { ServesIfBegun (Stood M.stands M.is_booked) S.heard policy.now
         (used S.failures S.remaining source.old source.new)
         (used O.failures O.contents sink.old sink.new)
         pass.old pass.new result }

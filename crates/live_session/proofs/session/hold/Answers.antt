@@ -3,6 +3,7 @@ use Rattle.wall_policy.specs.Policy.{ChineseWall}
 use Rattle.run_model.specs.Replies.{Legal}
 use Rattle.hall_turn.specs.Known.{Doorway}
 use Rattle.live_session.proofs.SessionLemmas.{going_none, going_on, served_till_stop, served_to_end}
+use Rattle.live_session.specs.Sessions.{Stood}
 use Rattle.live_session.proofs.SessionLemmas.{took_none}
 use Rattle.live_session.proofs.session.hold.Goals as goal
 
@@ -16,7 +17,8 @@ loop-init g c =
       none = c.new-text.ensures.items;
       same = (refl, refl);
       legal = c.requires.legal;
-      going = going_none g.S.Desk.failures g.S.Desk.remaining g.S.Desk.heard g.O.Sink.failures
+      going = going_none (Stood g.M.Machine.stands g.M.Machine.is_booked)
+          g.S.Desk.failures g.S.Desk.remaining g.S.Desk.heard g.O.Sink.failures
           g.O.Sink.contents wall pass c.new-line.result c.args.source.now c.args.sink.now is
           c.requires.legal c.new-line.ensures;
     }
@@ -30,7 +32,8 @@ loop-preserved g c =
       none = e.none;
       same = (e.same.0 ∙ i.same.0, e.same.1 ∙ i.same.1);
       legal = e.legal;
-      going = going_on g.S.Desk.failures g.S.Desk.remaining g.S.Desk.heard g.O.Sink.failures
+      going = going_on (Stood g.M.Machine.stands g.M.Machine.is_booked)
+          g.S.Desk.failures g.S.Desk.remaining g.S.Desk.heard g.O.Sink.failures
           g.O.Sink.contents
           c.args.policy.now c.args.pass.now c.loop.pass c.take_in.new.pass c.loop.line
           c.take_in.new.line c.args.source.now c.loop.source c.hear.new.self c.args.sink.now
@@ -42,7 +45,8 @@ pub returns-then-n-eq0-clause-serves : goal.returns-then-n-eq0-clause-serves
 returns-then-n-eq0-clause-serves g c =
     let zero : c.in-Ok.n ≡ 0 = search rules in
     let room : 0 < length c.hear.new.buffer = search rules in
-    served_to_end g.S.Desk.failures g.S.Desk.remaining g.S.Desk.heard g.O.Sink.failures
+    served_to_end (Stood g.M.Machine.stands g.M.Machine.is_booked)
+    g.S.Desk.failures g.S.Desk.remaining g.S.Desk.heard g.O.Sink.failures
     g.O.Sink.contents c.args.policy.now c.args.pass.now c.loop.pass c.loop.line c.args.source.now
     c.loop.source c.hear.new.self c.args.sink.now c.loop.sink (take c.in-Ok.n c.hear.new.buffer)
     (took_none c.in-Ok.n c.hear.new.buffer zero) c.loop.invariant.going c.in-Ok.ensures.went
@@ -51,7 +55,8 @@ returns-then-n-eq0-clause-serves g c =
 pub returns-in-Err-take_in-clause-serves : goal.returns-in-Err-take_in-clause-serves
 returns-in-Err-take_in-clause-serves g c =
     let i = c.loop.invariant in
-    served_till_stop g.S.Desk.failures g.S.Desk.remaining g.S.Desk.heard g.O.Sink.failures
+    served_till_stop (Stood g.M.Machine.stands g.M.Machine.is_booked)
+    g.S.Desk.failures g.S.Desk.remaining g.S.Desk.heard g.O.Sink.failures
     g.O.Sink.contents
     c.args.policy.now c.args.pass.now c.loop.pass c.take_in.new.pass c.loop.line c.args.source.now
     c.loop.source c.hear.new.self c.args.sink.now c.loop.sink c.take_in.new.sink

@@ -2,6 +2,7 @@ use Rattle.std.proofs.Common.{◌≡◌, []}
 use Rattle.run_model.specs.Replies.{Legal}
 use Rattle.hall_turn.specs.Answers.{IsSamePass}
 use Rattle.hall_script.specs.Devices.{used}
+use Rattle.live_session.specs.Sessions.{Stood}
 use Rattle.live_session.proofs.SessionLemmas.{Going}
 use Rattle.live_session.proofs.session.hold.Given as goal
 
@@ -10,7 +11,7 @@ invariant-loop g l = record {
   none : l.text.items ≡ [];
   same : IsSamePass l.fn.pass l.pass;
   legal : Legal l.policy l.pass.seen;
-  going : Going g.S.Desk.heard l.policy
+  going : Going (Stood g.M.Machine.stands g.M.Machine.is_booked) g.S.Desk.heard l.policy
       (used g.S.Desk.failures g.S.Desk.remaining l.fn.source l.source)
       (used g.O.Sink.failures g.O.Sink.contents l.fn.sink l.sink) l.fn.pass l.line l.pass;
 }

@@ -3,6 +3,7 @@ use Rattle.run_model.specs.Replies.{Legal}
 use Rattle.hall_turn.specs.Answers.{IsSamePass}
 use Rattle.hall_script.specs.Devices.{used}
 use Rattle.coll_text.specs.Reading.{parts}
+use Rattle.live_session.specs.Sessions.{Stood}
 use Rattle.live_session.specs.Steps.{Holds, SoFar, behind}
 use Rattle.live_session.proofs.session.take_in.Given as goal
 
@@ -12,7 +13,8 @@ invariant-loop-part g l = record {
   same : IsSamePass l.fn.pass l.pass;
   legal : Legal l.policy l.pass.seen;
   so_far : (start : List ℕ) → Holds l.fn.line start → (line : List ℕ) × Holds l.line line
-      × SoFar l.policy l.fn.pass (behind start (parts 10 l.bytes)) (line ∷ l.parts)
+      × SoFar (Stood g.M.Machine.stands g.M.Machine.is_booked)
+      l.policy l.fn.pass (behind start (parts 10 l.bytes)) (line ∷ l.parts)
       (used g.O.Sink.failures g.O.Sink.contents l.fn.sink l.sink) l.pass;
 }
 

@@ -1,5 +1,6 @@
 use Rattle.std.proofs.Common.{◌∙◌, arith}
 use Rattle.std.specs.Vec.Iter.{into_iter_items}
+use Rattle.live_session.specs.Sessions.{Stood}
 use Rattle.live_session.proofs.ServedLemmas.{all_handed, refused}
 use Rattle.live_session.proofs.run.fn.run_each.scope.Goals as goal
 
@@ -9,7 +10,8 @@ returns-in_default g c = refused c.end_all.result _ c.end_all.ensures.started
 pub returns : goal.returns
 returns g c =
     let i = c.loop-job.invariant in
-    all_handed g.S.Desk.failures g.S.Desk.remaining g.S.Desk.heard g.O.Sink.failures
+    all_handed (Stood g.M.Machine.stands g.M.Machine.is_booked)
+    g.S.Desk.failures g.S.Desk.remaining g.S.Desk.heard g.O.Sink.failures
     g.O.Sink.contents
     c.end_all-2.result c.captures.jobs.items c.loop-job.yielded
     (into_iter_items c.loop-job.job-iterator) c.loop-job.handles.items i.handed
