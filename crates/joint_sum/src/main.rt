@@ -2,7 +2,7 @@
 //! process, and the audit of the book. `README.md` walks through it.
 #![tactic(auto)]
 
-ghost use Rattle.std.specs.Prelude.{◌≡◌, ◌≤◌, [], IfOk, vec_len, vec_capacity};
+ghost use Rattle.std.specs.Prelude.{◌≡◌, IfOk};
 ghost use Rattle.std.specs.List.{All};
 ghost use Rattle.wall_policy.specs.Policy.{ChineseWall};
 ghost use Rattle.joint_sum.specs.Reports.{IsReportOfRun, IsSomeReport};
@@ -10,9 +10,9 @@ ghost use Rattle.joint_sum.specs.Reports.{IsReportOfRun, IsSomeReport};
 mod firm;
 mod printed;
 mod reports;
+mod threads;
 
 use anyhow::{Result, bail};
-use firm::{Firm, play};
 use hall_turn::{Door, Passes};
 use printed::{Printed, print};
 use reports::report;
@@ -20,16 +20,9 @@ use std::alloc::Global;
 use std::rt::{Env, Files};
 use std::sync::Wait;
 use std::thread::Threads;
-use std::{env, fs, thread};
+use std::{env, fs};
+use threads::{Ended, play_all};
 use wall_policy::{Policy, read_policy};
-
-// What the processes came to.
-#[derive(Drop)]
-struct Ended {
-    passes: Passes,
-    // What each was told.
-    told: Vec<Result<Vec<u8>>>,
-}
 
 // The policy of the file that the first word names.
 fn named_policy<R: Files + Env + AllocGlobal>(rt: &R) -> Result<Policy> {
@@ -38,51 +31,6 @@ fn named_policy<R: Files + Env + AllocGlobal>(rt: &R) -> Result<Policy> {
     };
     let bytes = fs::read(rt, path.as_str())?;
     Ok(read_policy(rt.alloc(), &bytes)?)
-}
-
-// Parts the passes from what was told.
-fn sort_out(
-    door: &Door,
-    firms: Vec<Firm>,
-    mut passes: Passes,
-    mut told: Vec<Result<Vec<u8>>>,
-) -> Ended
-    requires of { All (λ firm. firm.pass.door ≡ door.now) firms.items }
-    requires passes { (passes.items ≡ []) × (vec_len firms ≤ vec_capacity passes) }
-    requires told { (told.items ≡ []) × (vec_len firms ≤ vec_capacity told) }
-    ensures { All (λ pass. pass.door ≡ door.now) result.passes.items }
-{
-    for firm in firms {
-        passes.push_reserved(firm.pass);
-        told.push_reserved(firm.told);
-    }
-    Ended { passes, told }
-}
-
-// All processes at the same time, each in a thread of its own.
-fn play_all<R: Threads + Wait + Sync>(
-    rt: &R,
-    alloc: Global,
-    door: &Door,
-    policy: &Policy,
-    passes: Passes,
-) -> Result<Ended>
-    requires policy { policy.now ≡ door.now.policy }
-    requires passes { All (λ pass. pass.door ≡ door.now) passes.items }
-    ensures { IfOk result (λ ended. All (λ pass. pass.door ≡ door.now) ended.passes.items) }
-{
-    let back = Vec::with_capacity(alloc, passes.len())?;
-    let told = Vec::with_capacity(alloc, passes.len())?;
-    let firms = thread::map_vec(
-        rt,
-        passes,
-        &|pass| -> Firm
-            requires policy { policy.now ≡ door.now.policy }
-            requires pass { pass.door ≡ door.now }
-            ensures { result.pass.door ≡ door.entry.now }
-        { play(rt, alloc, door, policy, pass) },
-    )?;
-    Ok(sort_out(door, firms, back, told))
 }
 
 // The door of a policy, with its passes. The door keeps a copy.

@@ -34,6 +34,8 @@ use Rattle.rank_run.specs.Plays.{Plays}
 use Rattle.rank_run.specs.Jobs.{made, IsFresh, HasPlayed, HaveRoom, AllPlayed}
 use Rattle.rank_run.specs.Jobs.{joined, ending_of}
 use Rattle.rank_run.specs.Jobs.{handed, passes_of, scripts_of, passes_in, replies_in}
+use Rattle.rank_run.specs.Jobs.{scripts_shared, AreRoomy}
+use Rattle.rank_run.specs.declared.ready.Share.{Share}
 use Rattle.rank_run.specs.Ran.{Ran, most_turns}
 use Rattle.rank_run.proofs.CountLemmas.{calls_below, calls_whole, sum_le, both_le}
 
@@ -418,6 +420,18 @@ pub shared_passes : (jobs : List Job) (job : Job) (rest : List Known) →
 shared_passes jobs job rest =
     ap (λ (l : List Known). l ++ rest) (map-append (λ (j : Job). j.pass) jobs (job ∷ []))
     ∙ append_assoc (passes_of jobs) (job.pass ∷ []) rest
+
+pub shares_scripts : (shares : List Share) (share : Share) →
+    scripts_shared (shares ++ share ∷ []) ≡ scripts_shared shares ++ share.script.items ∷ []
+shares_scripts shares share = map-append (λ (s : Share). s.script.items) shares (share ∷ [])
+
+pub shares_room : (shares : List Share) (share : Share) → AreRoomy shares →
+    share.replies.items ≡ [] → length share.script.items ≤ vec_capacity share.replies
+    → AreRoomy (shares ++ share ∷ [])
+shares_room shares share room none fits =
+    All-push
+    (λ (s : Share). (s.replies.items ≡ []) × (length s.script.items ≤ vec_capacity s.replies))
+    shares share room (none, fits)
 
 pub shared_scripts : (jobs : List Job) (job : Job) →
     scripts_of (jobs ++ job ∷ []) ≡ scripts_of jobs ++ job.script.items ∷ []

@@ -28,6 +28,7 @@ use Rattle.rank_run.specs.declared.rank.Ending.TheVariants.{Whole, Cut, NotBegun
 use Rattle.rank_run.specs.declared.rank.Played.{Played}
 use Rattle.rank_run.specs.declared.rank.Playing.{Playing}
 use Rattle.rank_run.specs.declared.ready.Room.{Room}
+use Rattle.rank_run.specs.declared.ready.Share.{Share}
 use Rattle.rank_run.specs.declared.run.Ended.{Ended}
 use Rattle.rank_run.specs.Waits.{tries}
 use Rattle.rank_run.specs.Plays.{Performs, Plays}
@@ -86,6 +87,17 @@ HasRoom job = (job.replies.items ≡ []) × (length job.script.items ≤ vec_cap
 
 abbrev pub HaveRoom : List Job → Type 0
 HaveRoom jobs = All HasRoom jobs
+
+abbrev pub scripts_shared : List Share → List (List Act)
+scripts_shared shares = map (λ share. share.script.items) shares
+
+-- the share has no reply yet, and room for all
+abbrev pub IsRoomy : Share → Type 0
+IsRoomy share =
+    (share.replies.items ≡ []) × (length share.script.items ≤ vec_capacity share.replies)
+
+abbrev pub AreRoomy : List Share → Type 0
+AreRoomy shares = All IsRoomy shares
 
 -- there is room for what so many jobs come to
 pub record HasRoomFor (jobs : ℕ) (room : Room) : Type 0 where

@@ -1,7 +1,8 @@
 //! What is there before the first thread starts: all memory that a run takes.
-ghost use Rattle.std.specs.Prelude.{◌≡◌, IfOk, length, vec_len};
+ghost use Rattle.std.specs.Prelude.{◌≡◌, ◌≤◌, [], IfOk, length, vec_len, vec_capacity};
 ghost use Rattle.run_model.specs.Comms.{processes};
 ghost use Rattle.rank_run.specs.Jobs.{HaveRoom, HasRoomFor, ArePrepared, passes_of, scripts_of};
+ghost use Rattle.rank_run.specs.Jobs.{scripts_shared, AreRoomy};
 
 use crate::rank::{Job, Played, Playing};
 use crate::requests::Requests;
@@ -9,7 +10,7 @@ use hall_core::{NoMemory, Reply};
 use hall_turn::{Door, Passes};
 use mpi_comm::COMMUNICATOR_LIMIT;
 use rank_stage::Stage;
-use run_model::{Acts, Scripts};
+use run_model::{Act, Acts, Scripts};
 use std::alloc::{AllocError, Global};
 use std::thread::PromisedHandle;
 use wall_policy::Policy;
@@ -36,22 +37,72 @@ pub(crate) struct Ready {
     pub(crate) room: Room,
 }
 
-// A pass, a script and room for replies and requests for each process.
-fn share_out(alloc: Global, passes: Passes, scripts: Vec<Acts>) -> Result<Vec<Job>, NoMemory>
-    requires { vec_len passes ≡ vec_len scripts }
-    ensures passes { IfOk result (λ jobs. passes_of jobs.items ≡ passes.items) }
-    ensures scripts { IfOk result (λ jobs. scripts_of jobs.items ≡ scripts.items) }
-    ensures room { IfOk result (λ jobs. HaveRoom jobs.items) }
+// What a process plays, and room for its replies and its requests. With a pass it is a job.
+#[derive(Drop)]
+pub(crate) struct Share {
+    pub(crate) script: Vec<Act>,
+    pub(crate) replies: Vec<Reply>,
+    pub(crate) requests: Requests,
+}
+
+// A share for each process, and room for as many jobs.
+#[derive(Drop)]
+struct Shares {
+    all: Vec<Share>,
+    jobs: Vec<Job>,
+}
+
+fn share_out(alloc: Global, scripts: Vec<Acts>) -> Result<Shares, NoMemory>
+    ensures scripts { IfOk result (λ shares. scripts_shared shares.all.items ≡ scripts.items) }
+    ensures room { IfOk result (λ shares. AreRoomy shares.all.items) }
+    ensures number { IfOk result (λ shares. vec_len shares.all ≡ vec_len scripts) }
+    ensures jobs { IfOk result (λ shares. (shares.jobs.items ≡ [])
+        × (vec_len shares.all ≤ vec_capacity shares.jobs)) }
 {
-    let mut jobs = Vec::with_capacity(alloc, passes.len())?;
-    let mut passes = passes.into_iter();
+    let jobs = Vec::with_capacity(alloc, scripts.len())?;
+    let all = shares_of(alloc, scripts)?;
+    Ok(Shares { all, jobs })
+}
+
+fn shares_of(alloc: Global, scripts: Vec<Acts>) -> Result<Vec<Share>, NoMemory>
+    ensures scripts { IfOk result (λ shares. scripts_shared shares.items ≡ scripts.items) }
+    ensures room { IfOk result (λ shares. AreRoomy shares.items) }
+    ensures number { IfOk result (λ shares. vec_len shares ≡ vec_len scripts) }
+{
+    let mut shares = Vec::with_capacity(alloc, scripts.len())?;
     for acts in scripts {
-        let Some(pass) = passes.next() else {
-            unreachable!()
-        };
         let script = acts.into_vec();
         let replies = Vec::with_capacity(alloc, script.len())?;
         let requests = Requests::new(alloc, &script)?;
+        shares.push_reserved(Share {
+            script,
+            replies,
+            requests,
+        });
+    }
+    Ok(shares)
+}
+
+// A job for each share, with the passes in order. Takes no memory.
+fn deal(passes: Passes, shares: Vec<Share>, mut jobs: Vec<Job>) -> Vec<Job>
+    requires number { vec_len passes ≡ vec_len shares }
+    requires roomy { AreRoomy shares.items }
+    requires jobs { (jobs.items ≡ []) × (vec_len shares ≤ vec_capacity jobs) }
+    ensures passes { passes_of result.items ≡ passes.items }
+    ensures scripts { scripts_of result.items ≡ scripts_shared shares.items }
+    ensures room { HaveRoom result.items }
+    ensures count { vec_len result ≡ vec_len shares }
+{
+    let mut passes = passes.into_iter();
+    for share in shares {
+        let Some(pass) = passes.next() else {
+            unreachable!()
+        };
+        let Share {
+            script,
+            replies,
+            requests,
+        } = share;
         jobs.push_reserved(Job {
             pass,
             script,
@@ -59,7 +110,7 @@ fn share_out(alloc: Global, passes: Passes, scripts: Vec<Acts>) -> Result<Vec<Jo
             requests,
         });
     }
-    Ok(jobs)
+    jobs
 }
 
 // Room for so many jobs. Where the gate may hold a rank all play, and nobody sleeps.
@@ -82,7 +133,7 @@ fn make_room(alloc: Global, count: usize, holds: bool) -> Result<Room, AllocErro
 }
 
 /// A door, a job for each process there, and room for all of them; under a gate that may hold a
-/// rank, or not.
+/// rank, or not. The door is the last to be opened: where memory is refused there is none.
 pub(crate) fn prepare(
     alloc: Global,
     policy: Policy,
@@ -95,17 +146,21 @@ pub(crate) fn prepare(
     ensures room { IfOk result (λ ready. HasRoomFor (vec_len ready.jobs) ready.room) }
 {
     // What is wide is handed to `drop` on each way out, which takes it apart in one call.
+    let Ok(shares) = share_out(alloc, scripts.into_vec()) else {
+        drop(policy);
+        return Err(MemoryRefused(()));
+    };
+    let Ok(room) = make_room(alloc, shares.all.len(), holds) else {
+        drop(shares);
+        drop(policy);
+        return Err(MemoryRefused(()));
+    };
     let Ok((door, passes)) = Door::open(alloc, policy) else {
+        drop(room);
+        drop(shares);
         return Err(MemoryRefused(()));
     };
-    let Ok(jobs) = share_out(alloc, passes, scripts.into_vec()) else {
-        drop(door);
-        return Err(MemoryRefused(()));
-    };
-    let Ok(room) = make_room(alloc, jobs.len(), holds) else {
-        drop(jobs);
-        drop(door);
-        return Err(MemoryRefused(()));
-    };
+    let Shares { all, jobs } = shares;
+    let jobs = deal(passes, all, jobs);
     Ok(Ready { door, jobs, room })
 }

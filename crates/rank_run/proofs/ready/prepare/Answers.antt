@@ -4,12 +4,14 @@ use Rattle.run_model.specs.declared.call.Act.{Act}
 use Rattle.hall_turn.proofs.HallTurnLemmas.{passes_length}
 use Rattle.rank_run.proofs.ready.prepare.Goals as goal
 
-pub share_out-requires : goal.share_out-requires
-share_out-requires c =
+pub deal-jobs-requires-clause-number : goal.deal-jobs-requires-clause-number
+deal-jobs-requires-clause-number c =
     let n = processes c.args.policy in
-    let o = c.in-Ok.passes.ok in
+    let o = c.in-Ok-open.passes.ok in
     let p = c.into_vec.result.ok in
-    let a = passes_length c.in-Ok.door n c.in-Ok.passes.items c.in-Ok.ensures.passes in
+    let a =
+    passes_length c.in-Ok-open.door n c.in-Ok-open.passes.items c.in-Ok-open.ensures.passes in
     let e = ap (λ (l : List (List Act)). length l) c.into_vec.ensures in
     let long = c.requires in
+    let number = c.in-Ok.ensures.number in
     omega arith
