@@ -1,10 +1,11 @@
 //! Devices over std's files and streams, with a count of failures that takes no bytes.
 ghost use Rattle.std.specs.Prelude.{◌≡◌, ℕ, ◌+◌, ◌<◌, ◌≤◌, List, Option, length, IsSome, IfOk};
-ghost use Rattle.std.specs.Prelude.{OnOk, OnErr, Ok};
+ghost use Rattle.std.specs.Prelude.{OnOk, OnErr, Ok, None, true, false};
+ghost use Rattle.std.specs.Fs.{new_options, with_write, with_create_new};
 ghost use Rattle.std.specs.Io.KnownBytes.{ReadConsumes, WriteAppends};
 ghost use Rattle.program_files.specs.Files.{bytes_of};
 
-use std::fs::File;
+use std::fs::{File, OpenOptions};
 use std::io;
 use std::io::{Read, Write};
 use std::marker::Model;
@@ -110,6 +111,50 @@ impl<'a, R: Files, L: Ledger> Source for FileSource<'a, R, L> {
     }
 }
 
+/// A file of a list. It is opened at its first read, and not again once it is open; a file that is
+/// missing, or cannot be opened, is a read that failed. It fails at most once: after a read that
+/// failed it gives nothing more. Its count takes no ledger, so a list may have any number of them.
+#[derive(Drop)]
+pub struct ListedFile<'a, R: Files> {
+    pub rt: &'a R,
+    pub path: &'a str,
+    pub file: Option<R::File>,
+    pub has_failed: bool,
+}
+
+impl<'a, R: Files> Source for ListedFile<'a, R> {
+    ghost use Rattle.program_files.specs.Files.{failed_once};
+
+    ghost failures = { λ s. failed_once s.has_failed };
+
+    fn read(&mut self, buffer: &mut [u8]) -> Result<usize, Failed>
+        ensures within { IfOk result (λ n. n ≤ length buffer.new) }
+        ensures went { OnOk result
+            (failed_once self.new.has_failed ≡ failed_once self.old.has_failed) }
+        ensures failed { OnErr result
+            (failed_once self.new.has_failed ≡ failed_once self.old.has_failed + 1) }
+        ensures once { OnErr result
+            ((self.old.has_failed ≡ false) × (self.new.has_failed ≡ true)) }
+        ensures bytes { ReadConsumes None None result buffer.new }
+        ensures opened { OnOk result (self.old.has_failed ≡ false → IsSome self.new.file) }
+        ensures stays { IsSome self.old.file → IsSome self.new.file }
+        ensures nothing { self.old.has_failed ≡ true →
+            (result ≡ Ok 0) × (self.new.file ≡ self.old.file) }
+        ensures path { self.new.path ≡ self.old.path }
+    {
+        if self.has_failed {
+            return Ok(0);
+        }
+        match read_opened(self.rt, self.path, &mut self.file, buffer) {
+            Ok(n) => Ok(n),
+            Err(_) => {
+                self.has_failed = true;
+                Err(Failed)
+            }
+        }
+    }
+}
+
 // What a write of some bytes came to. It failed where it took none.
 fn counted<L: Ledger>(outcome: io::Result<usize>, failures: &mut Count<L>) -> Result<usize, Failed>
     ensures went { OnOk result (failures.new ≡ failures.old) }
@@ -146,10 +191,28 @@ pub struct FileSink<'a, R: Files, L: Ledger> {
     pub failures: Count<L>,
 }
 
+/// How a file is opened that is made, and is not there before.
+pub fn only_new() -> OpenOptions
+    ensures { result ≡ with_create_new (with_write new_options true) true }
+{
+    let mut how = OpenOptions::new();
+    how.write(true).create_new(true);
+    how
+}
+
+// Makes a file: in place of one that was there, or, where it is to be new, never.
+fn made_at<R: Files>(rt: &R, path: &str, is_new: bool) -> io::Result<R::File> {
+    if is_new {
+        return only_new().open(rt, path);
+    }
+    File::create(rt, path)
+}
+
 // Writes to a file that was made, or makes it first.
 fn write_made<R: Files>(
     rt: &R,
     path: &str,
+    is_new: bool,
     file: &mut Option<R::File>,
     bytes: &[u8],
 ) -> io::Result<usize>
@@ -162,7 +225,7 @@ fn write_made<R: Files>(
     match file {
         Some(made) => made.write(bytes),
         None => {
-            let mut made = File::create(rt, path)?;
+            let mut made = made_at(rt, path, is_new)?;
             let outcome = made.write(bytes);
             *file = Some(made);
             outcome
@@ -193,7 +256,46 @@ impl<'a, R: Files, L: Ledger> Sink for FileSink<'a, R, L> {
         if bytes.is_empty() {
             return Ok(0);
         }
-        let outcome = write_made(self.rt, self.path, &mut self.file, bytes);
+        let outcome = write_made(self.rt, self.path, false, &mut self.file, bytes);
+        counted(outcome, &mut self.failures)
+    }
+}
+
+/// A file that is made new at its first write of some bytes, and not again once it is made. One that
+/// is there is never replaced, and no bytes go to it. A file that is there, or cannot be made, is a
+/// write that failed; the next write tries once more to make it.
+#[derive(Drop)]
+pub struct NewFileSink<'a, R: Files, L: Ledger> {
+    pub rt: &'a R,
+    pub path: &'a str,
+    pub file: Option<R::File>,
+    pub failures: Count<L>,
+}
+
+impl<'a, R: Files, L: Ledger> Sink for NewFileSink<'a, R, L> {
+    ghost use Rattle.program_files.specs.Files.{bytes_of};
+
+    ghost failures = { λ s. s.failures };
+
+    ghost contents = { λ s. bytes_of R.File.contents s.file };
+
+    fn write(&mut self, bytes: &[u8]) -> Result<usize, Failed>
+        ensures within { IfOk result (λ n. n ≤ length bytes.now) }
+        ensures some { IfOk result (λ n. 0 < length bytes.now → 0 < n) }
+        ensures went { OnOk result (self.new.failures ≡ self.old.failures) }
+        ensures failed { OnErr result (self.new.failures ≡ self.old.failures + 1) }
+        ensures bytes { let held = bytes_of R.File.contents in
+            WriteAppends (held self.old.file) (held self.new.file) result bytes.now }
+        ensures made { OnOk result (0 < length bytes.now → IsSome self.new.file) }
+        ensures stays { IsSome self.old.file → IsSome self.new.file }
+        ensures nothing { length bytes.now ≡ 0 →
+            (result ≡ Ok 0) × (self.new.file ≡ self.old.file) }
+        ensures path { self.new.path ≡ self.old.path }
+    {
+        if bytes.is_empty() {
+            return Ok(0);
+        }
+        let outcome = write_made(self.rt, self.path, true, &mut self.file, bytes);
         counted(outcome, &mut self.failures)
     }
 }

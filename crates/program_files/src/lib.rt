@@ -3,4 +3,4 @@
 
 mod devices;
 
-pub use devices::{Count, FileSink, FileSource, StreamSink};
+pub use devices::{Count, FileSink, FileSource, ListedFile, NewFileSink, StreamSink, only_new};
