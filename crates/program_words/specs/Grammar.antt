@@ -1,15 +1,22 @@
 -- The command line, as `clap` sees it. (Own format.)
-use Rattle.std.specs.Prelude.{◌≡◌, true, List, [], ◌∷◌, Option, Some, None, codes, option_and_then}
-use Rattle.std.specs.Prelude.{option_map, Result, Ok, Err, if◌then◌else◌}
+use Rattle.std.specs.Prelude.{◌≡◌, Bool, true, false, List, [], ◌∷◌, Option, Some, None, codes}
+use Rattle.std.specs.Prelude.{option_and_then}
+use Rattle.std.specs.Prelude.{option_map, unwrap_or, map, Result, Ok, Err, if◌then◌else◌}
+use Rattle.std.specs.Borrow.{Bor}
 use Rattle.std.specs.Str.{bytes_eq}
-use Rattle.clap.specs.Words.{App, Row, Rule, Text, Kinds, fault_of, first_of, new_app, new_rule}
-use Rattle.clap.specs.Words.{subcommand_of, with_rule, with_subcommand}
+use Rattle.clap.specs.Words.{App, Row, Rule, Text, Kinds, fault_of, all_of, first_of, new_app}
+use Rattle.clap.specs.Words.{new_rule, subcommand_of, with_rule, with_subcommand}
+use Rattle.clap.specs.declared.builder.action.ArgAction.TheVariants.{Append, SetTrue}
 use Rattle.program_words.specs.declared.words.ReplayPaths.{ReplayPaths}
 use Rattle.program_words.specs.declared.words.RunPaths.{RunPaths}
 use Rattle.program_words.specs.declared.words.AuditPaths.{AuditPaths}
 use Rattle.program_words.specs.declared.words.ServePaths.{ServePaths}
+use Rattle.program_words.specs.declared.words.SealPaths.{SealPaths}
+use Rattle.program_words.specs.declared.words.CheckPaths.{CheckPaths}
+use Rattle.program_words.specs.declared.words.ReportPaths.{ReportPaths}
 use Rattle.program_words.specs.declared.words.Command.{Command}
-use Rattle.program_words.specs.declared.words.Command.TheVariants.{Replay, Run, Audit, Serve}
+use Rattle.program_words.specs.declared.words.Command.TheVariants.{Replay, Run, Audit, Serve, Seal}
+use Rattle.program_words.specs.declared.words.Command.TheVariants.{Check, Report, Usage, Version}
 use Rattle.program_words.specs.declared.words.ArgFault.{ArgFault}
 use Rattle.program_words.specs.declared.words.ArgFault.TheVariants.{BadArguments, NoMemory}
 
@@ -20,19 +27,57 @@ required_rule id = record (new_rule id) { required = true }
 abbrev pub optional_rule : Text → Rule
 optional_rule name = record (new_rule name) { long = Some name }
 
+-- the same of one that may come several times
+abbrev pub repeated_rule : Text → Rule
+repeated_rule name = record (optional_rule name) { action = Some Append }
+
+-- an option without a value
+abbrev pub flag_rule : Text → Rule
+flag_rule name = record (optional_rule name) { action = Some SetTrue }
+
 -- NAME POLICY FILE
-abbrev pub files_app : Text → Text → App
-files_app name file =
+abbrev pub plain_app : Text → Text → App
+plain_app name file =
     let with_policy = with_rule (new_app name) (required_rule (codes "policy")) in
     with_rule with_policy (required_rule file)
 
--- NAME POLICY PATH [--book FILE]
+-- NAME POLICY FILE [--after BOOK]..
+abbrev pub files_app : Text → Text → App
+files_app name file = with_rule (plain_app name file) (repeated_rule (codes "after"))
+
+-- NAME POLICY PATH [--after BOOK].. [--book FILE]
 abbrev pub keeping_app : Text → Text → App
 keeping_app name path = with_rule (files_app name path) (optional_rule (codes "book"))
 
--- audit POLICY BOOK
+-- audit POLICY BOOK [--after BOOK]..
 abbrev pub audit_app : App
 audit_app = files_app (codes "audit") (codes "book")
+
+-- serve POLICY DIR [--after BOOK].. [--book FILE] [--sync]
+abbrev pub serve_app : App
+serve_app = with_rule (keeping_app (codes "serve") (codes "pipes")) (flag_rule (codes "sync"))
+
+-- seal POLICY BOOK OUT [--after BOOK]..
+abbrev pub seal_app : App
+seal_app =
+    let with_out = with_rule (plain_app (codes "seal") (codes "book")) (required_rule (codes "out"))
+    in
+    with_rule with_out (repeated_rule (codes "after"))
+
+-- check POLICY [SCRIPT] [--book BOOK]
+abbrev pub check_app : App
+check_app =
+    let with_policy = with_rule (new_app (codes "check")) (required_rule (codes "policy")) in
+    let with_script = with_rule with_policy (new_rule (codes "script")) in
+    with_rule with_script (optional_rule (codes "book"))
+
+-- report POLICY BOOK [--after BOOK]..
+abbrev pub report_app : App
+report_app = files_app (codes "report") (codes "book")
+
+-- usage [COMMAND]
+abbrev pub usage_app : App
+usage_app = with_rule (new_app (codes "usage")) (new_rule (codes "command"))
 
 -- the words after the program's name
 abbrev pub bare_app : App
@@ -45,30 +90,61 @@ program_app =
     let with_replay = with_subcommand bare_app (keeping_app (codes "replay") (codes "script")).top in
     let with_run = with_subcommand with_replay (keeping_app (codes "run") (codes "script")).top in
     let with_audit = with_subcommand with_run audit_app.top in
-    with_subcommand with_audit (keeping_app (codes "serve") (codes "pipes")).top
+    let with_serve = with_subcommand with_audit serve_app.top in
+    let with_seal = with_subcommand with_serve seal_app.top in
+    let with_check = with_subcommand with_seal check_app.top in
+    let with_report = with_subcommand with_check report_app.top in
+    let with_usage = with_subcommand with_report usage_app.top in
+    with_subcommand with_usage (new_app (codes "version")).top
 
--- the files of a replay, as text
+-- the files of a replay, as text; the earlier books have the oldest first
 pub record ReplayFiles : Type 0 where
   pub policy : Text
+  pub after : List Text
   pub script : Text
   pub book : Option Text
 
--- the files of a run, as text
+-- the files of a run, as text; the earlier books have the oldest first
 pub record RunFiles : Type 0 where
   pub policy : Text
+  pub after : List Text
   pub script : Text
   pub book : Option Text
 
--- the files of an audit, as text
+-- the files of an audit, as text; the earlier books have the oldest first
 pub record AuditFiles : Type 0 where
   pub policy : Text
+  pub after : List Text
   pub book : Text
 
--- the files of a server, as text: its pipes are in a folder
+-- the files of a server, as text; the earlier books have the oldest first, and its pipes are in a
+-- folder
 pub record ServeFiles : Type 0 where
   pub policy : Text
+  pub after : List Text
   pub pipes : Text
   pub book : Option Text
+  -- whether the book's file is to be synced
+  pub sync : Bool
+
+-- the files of a seal, as text; the earlier books have the oldest first
+pub record SealFiles : Type 0 where
+  pub policy : Text
+  pub after : List Text
+  pub book : Text
+  pub out : Text
+
+-- the files of a check, as text
+pub record CheckFiles : Type 0 where
+  pub policy : Text
+  pub script : Option Text
+  pub book : Option Text
+
+-- the files of a report, as text; the earlier books have the oldest first
+pub record ReportFiles : Type 0 where
+  pub policy : Text
+  pub after : List Text
+  pub book : Text
 
 -- a command and its files
 pub data Asked : Type 0 where
@@ -76,29 +152,77 @@ pub data Asked : Type 0 where
   to_run : RunFiles → Asked
   to_audit : AuditFiles → Asked
   to_serve : ServeFiles → Asked
+  to_seal : SealFiles → Asked
+  to_check : CheckFiles → Asked
+  to_report : ReportFiles → Asked
+  -- how it is used, or one of its commands
+  to_usage : Option Text → Asked
+  to_version : Asked
+
+-- all values of an argument, in the order of the words
+abbrev pub every_of : Text → List Row → List Text
+every_of id rows = unwrap_or (all_of id rows) []
+
+-- whether an option without a value was given: its value is then `true`
+abbrev pub is_set : Text → List Row → Bool
+is_set id rows = unwrap_or (option_map (λ v. bytes_eq v (codes "true")) (first_of id rows)) false
 
 abbrev pub replay_in : List Row → Option ReplayFiles
 replay_in rows =
     option_and_then (λ p. option_and_then (λ s.
-    Some (record { policy = p; script = s; book = first_of (codes "book") rows }))
-    (first_of (codes "script") rows)) (first_of (codes "policy") rows)
+    Some (record {
+      policy = p;
+      after = every_of (codes "after") rows;
+      script = s;
+      book = first_of (codes "book") rows;
+    })) (first_of (codes "script") rows)) (first_of (codes "policy") rows)
 
 abbrev pub run_in : List Row → Option RunFiles
 run_in rows =
     option_and_then (λ p. option_and_then (λ s.
-    Some (record { policy = p; script = s; book = first_of (codes "book") rows }))
-    (first_of (codes "script") rows)) (first_of (codes "policy") rows)
+    Some (record {
+      policy = p;
+      after = every_of (codes "after") rows;
+      script = s;
+      book = first_of (codes "book") rows;
+    })) (first_of (codes "script") rows)) (first_of (codes "policy") rows)
 
 abbrev pub audit_in : List Row → Option AuditFiles
 audit_in rows =
-    option_and_then (λ p. option_and_then (λ b. Some (record { policy = p; book = b }))
+    option_and_then (λ p. option_and_then (λ b.
+    Some (record { policy = p; after = every_of (codes "after") rows; book = b }))
     (first_of (codes "book") rows)) (first_of (codes "policy") rows)
 
 abbrev pub serve_in : List Row → Option ServeFiles
 serve_in rows =
     option_and_then (λ p. option_and_then (λ d.
-    Some (record { policy = p; pipes = d; book = first_of (codes "book") rows }))
-    (first_of (codes "pipes") rows)) (first_of (codes "policy") rows)
+    Some (record {
+      policy = p;
+      after = every_of (codes "after") rows;
+      pipes = d;
+      book = first_of (codes "book") rows;
+      sync = is_set (codes "sync") rows;
+    })) (first_of (codes "pipes") rows)) (first_of (codes "policy") rows)
+
+abbrev pub seal_in : List Row → Option SealFiles
+seal_in rows =
+    option_and_then (λ p. option_and_then (λ b. option_and_then (λ o.
+    Some (record { policy = p; after = every_of (codes "after") rows; book = b; out = o }))
+    (first_of (codes "out") rows)) (first_of (codes "book") rows)) (first_of (codes "policy") rows)
+
+abbrev pub check_in : List Row → Option CheckFiles
+check_in rows =
+    option_map (λ p. record {
+      policy = p;
+      script = first_of (codes "script") rows;
+      book = first_of (codes "book") rows;
+    }) (first_of (codes "policy") rows)
+
+abbrev pub report_in : List Row → Option ReportFiles
+report_in rows =
+    option_and_then (λ p. option_and_then (λ b.
+    Some (record { policy = p; after = every_of (codes "after") rows; book = b }))
+    (first_of (codes "book") rows)) (first_of (codes "policy") rows)
 
 -- the command of this name
 abbrev pub command_in : Text → List Row → Option Asked
@@ -107,6 +231,11 @@ command_in name rows =
     else if bytes_eq name (codes "run") then option_map to_run (run_in rows)
     else if bytes_eq name (codes "audit") then option_map to_audit (audit_in rows)
     else if bytes_eq name (codes "serve") then option_map to_serve (serve_in rows)
+    else if bytes_eq name (codes "seal") then option_map to_seal (seal_in rows)
+    else if bytes_eq name (codes "check") then option_map to_check (check_in rows)
+    else if bytes_eq name (codes "report") then option_map to_report (report_in rows)
+    else if bytes_eq name (codes "usage") then Some (to_usage (first_of (codes "command") rows))
+    else if bytes_eq name (codes "version") then Some to_version
     else None
 
 abbrev pub command_of : Option (Text × List Row) → Option Asked
@@ -122,26 +251,67 @@ unfoldable pub asked : List Text → Option Asked
 asked words =
     unless_refused (fault_of program_app words) (command_of (subcommand_of program_app words))
 
+abbrev pub texts_of : List (Bor Text) → List Text
+texts_of paths = map (λ p. p.now) paths
+
 abbrev pub replay_files : ReplayPaths → ReplayFiles
-replay_files r =
-    record { policy = r.policy.now; script = r.script.now; book = option_map (λ b. b.now) r.book }
+replay_files r = record {
+  policy = r.policy.now;
+  after = texts_of r.after.items;
+  script = r.script.now;
+  book = option_map (λ b. b.now) r.book;
+}
 
 abbrev pub run_files : RunPaths → RunFiles
-run_files r =
-    record { policy = r.policy.now; script = r.script.now; book = option_map (λ b. b.now) r.book }
+run_files r = record {
+  policy = r.policy.now;
+  after = texts_of r.after.items;
+  script = r.script.now;
+  book = option_map (λ b. b.now) r.book;
+}
 
 abbrev pub audit_files : AuditPaths → AuditFiles
-audit_files r = record { policy = r.policy.now; book = r.book.now }
+audit_files r =
+    record { policy = r.policy.now; after = texts_of r.after.items; book = r.book.now }
 
 abbrev pub serve_files : ServePaths → ServeFiles
-serve_files r =
-    record { policy = r.policy.now; pipes = r.pipes.now; book = option_map (λ b. b.now) r.book }
+serve_files r = record {
+  policy = r.policy.now;
+  after = texts_of r.after.items;
+  pipes = r.pipes.now;
+  book = option_map (λ b. b.now) r.book;
+  sync = r.sync;
+}
+
+abbrev pub seal_files : SealPaths → SealFiles
+seal_files r = record {
+  policy = r.policy.now;
+  after = texts_of r.after.items;
+  book = r.book.now;
+  out = r.out.now;
+}
+
+abbrev pub check_files : CheckPaths → CheckFiles
+check_files r = record {
+  policy = r.policy.now;
+  script = option_map (λ s. s.now) r.script;
+  book = option_map (λ b. b.now) r.book;
+}
+
+abbrev pub report_files : ReportPaths → ReportFiles
+report_files r =
+    record { policy = r.policy.now; after = texts_of r.after.items; book = r.book.now }
 
 abbrev pub asked_by : Command → Asked
 asked_by (Replay r) = to_replay (replay_files r)
 asked_by (Run r) = to_run (run_files r)
 asked_by (Audit r) = to_audit (audit_files r)
 asked_by (Serve r) = to_serve (serve_files r)
+asked_by (Seal r) = to_seal (seal_files r)
+asked_by (Check r) = to_check (check_files r)
+asked_by (Report r) = to_report (report_files r)
+asked_by (Usage command) = to_usage (option_map (λ c. c.now) command)
+asked_by Version = to_version
 
 -- what was read is what the words ask for, unless memory ran out
 abbrev pub Refuses : ArgFault → Option Asked → Type 0
@@ -151,3 +321,9 @@ Refuses NoMemory said = Unit {0}
 abbrev pub SaysCommand : Result Command ArgFault → Option Asked → Type 0
 SaysCommand (Ok command) said = said ≡ Some (asked_by command)
 SaysCommand (Err fault) said = Refuses fault said
+
+-- ---- words of private contracts
+
+-- these paths are the earlier books that the words name, in their order
+abbrev pub AreEarlier : List Row → List (Bor Text) → Type 0
+AreEarlier rows paths = texts_of paths ≡ every_of (codes "after") rows

@@ -1,10 +1,16 @@
 //! The command line: which command its words ask for, and over which files.
 #![tactic(auto)]
 
+mod grammar;
 mod refusal;
+mod usage;
 mod words;
 
-pub use words::{ArgFault, AuditPaths, Command, ReplayPaths, RunPaths, ServePaths, read_words};
+pub use usage::{VERSION, usage_text};
+pub use words::{
+    ArgFault, AuditPaths, CheckPaths, Command, ReplayPaths, ReportPaths, RunPaths, SealPaths,
+    ServePaths, read_words,
+};
 
 #[cfg(test)]
 mod tests;

@@ -4,7 +4,8 @@ use std::alloc::Global;
 use std::process::Abort;
 use std::test::Fail;
 
-// Words, and the command with its files that they ask for, `none` where no book is wanted.
+// Words, and the command with its files that they ask for, `none` where no book is wanted, and the
+// earlier books behind them.
 const ASKED: &[(&[&str], &str)] = &[
     (&["replay", "w", "s"], "replay w s none"),
     (&["replay", "w", "s", "--book", "b"], "replay w s b"),
@@ -29,6 +30,76 @@ const ASKED: &[(&[&str], &str)] = &[
     (&["serve", "--book=b", "w", "d"], "serve w d b"),
     (&["serve", "w", "--book", "b", "d"], "serve w d b"),
     (&["serve", "--", "-w", "-d"], "serve -w -d none"),
+    (&["replay", "w", "s", "--after", "x"], "replay w s none x"),
+    (
+        &["replay", "--after", "x", "w", "--after=y", "s"],
+        "replay w s none x y",
+    ),
+    (
+        &["replay", "w", "--after", "y", "s", "--after", "x"],
+        "replay w s none y x",
+    ),
+    (
+        &["replay", "w", "--after=x", "--book=b", "s", "--after=x"],
+        "replay w s b x x",
+    ),
+    (
+        &["replay", "w", "s", "--after=--book"],
+        "replay w s none --book",
+    ),
+    (
+        &["replay", "w", "s", "--book", "b", "--after", "b"],
+        "replay w s b b",
+    ),
+    (&["replay", "--", "w", "--after"], "replay w --after none"),
+    (
+        &[
+            "run", "--after", "x", "--after", "y", "--after", "z", "w", "s",
+        ],
+        "run w s none x y z",
+    ),
+    (
+        &["run", "w", "--book", "b", "s", "--after=-x"],
+        "run w s b -x",
+    ),
+    (&["audit", "w", "b", "--after", "x"], "audit w b x"),
+    (
+        &["audit", "--after=x", "w", "--after", "b", "b"],
+        "audit w b x b",
+    ),
+    (
+        &["serve", "w", "d", "--after", "x", "--after", "y"],
+        "serve w d none x y",
+    ),
+    (
+        &["serve", "--book=b", "--after=x", "w", "d"],
+        "serve w d b x",
+    ),
+    (&["serve", "w", "d", "--sync"], "serve w d none synced"),
+    (
+        &["serve", "--sync", "w", "--book", "b", "d"],
+        "serve w d b synced",
+    ),
+    (&["serve", "w", "d", "--book=--sync"], "serve w d --sync"),
+    (&["seal", "w", "b", "o"], "seal w b o"),
+    (
+        &["seal", "--after", "x", "w", "b", "--after=y", "o"],
+        "seal w b o x y",
+    ),
+    (&["seal", "--", "-w", "-b", "-o"], "seal -w -b -o"),
+    (&["check", "w"], "check w none none"),
+    (&["check", "w", "s"], "check w s none"),
+    (&["check", "w", "--book", "b"], "check w none b"),
+    (&["check", "--book=b", "w", "s"], "check w s b"),
+    (&["report", "w", "b"], "report w b"),
+    (
+        &["report", "--after", "x", "w", "--after=y", "b"],
+        "report w b x y",
+    ),
+    (&["usage"], "usage none"),
+    (&["usage", "replay"], "usage replay"),
+    (&["usage", "nothing"], "usage nothing"),
+    (&["version"], "version"),
 ];
 
 // Words that ask for nothing that the program does.
@@ -65,6 +136,45 @@ const BAD: &[&[&str]] = &[
     &["serve", "w", "d", "--book", "b", "--book", "c"],
     &["serve", "w", "d", "--script", "s"],
     &["Serve", "w", "d"],
+    &["--after", "x", "replay", "w", "s"],
+    &["replay", "w", "s", "--after"],
+    &["replay", "w", "s", "--after", "-x"],
+    &["replay", "w", "s", "--after", "--book", "b"],
+    &["replay", "w", "s", "--after", "x", "y"],
+    &["replay", "w", "--after", "s"],
+    &["replay", "w", "--", "s", "--after", "x"],
+    &["replay", "w", "s", "--afte", "x"],
+    &["replay", "w", "s", "-a", "x"],
+    &[
+        "replay", "w", "s", "--after", "x", "--book", "b", "--book", "c",
+    ],
+    &["run", "w", "--after", "x"],
+    &["audit", "w", "--after", "b"],
+    &["audit", "w", "b", "--after"],
+    &["serve", "--after", "w", "d"],
+    &["serve", "w", "d", "--sync=true"],
+    &["serve", "w", "d", "--sync", "--sync"],
+    &["serve", "w", "d", "-s"],
+    &["replay", "w", "s", "--sync"],
+    &["run", "w", "s", "--sync"],
+    &["seal"],
+    &["seal", "w", "b"],
+    &["seal", "w", "b", "o", "p"],
+    &["seal", "w", "b", "o", "--book", "c"],
+    &["seal", "w", "b", "o", "--sync"],
+    &["seal", "w", "b", "--out", "o"],
+    &["Seal", "w", "b", "o"],
+    &["check"],
+    &["check", "w", "s", "b"],
+    &["check", "w", "s", "--book"],
+    &["check", "w", "--after", "x"],
+    &["report", "w"],
+    &["report", "w", "b", "c"],
+    &["report", "w", "b", "--book", "c"],
+    &["usage", "replay", "run"],
+    &["usage", "--help"],
+    &["version", "replay"],
+    &["Version"],
     &["help"],
     &["help", "replay"],
     &["-h"],
@@ -76,27 +186,74 @@ const BAD: &[&[&str]] = &[
     &["run", "--help"],
     &["audit", "--help"],
     &["serve", "--help"],
+    &["seal", "--help"],
     &["replay", "--version"],
 ];
 
+// A command that goes on after no earlier books.
+fn tell_plain(text: &mut String, command: &Command) -> Result<(), Fail> {
+    match command {
+        Command::Check(paths) => {
+            let script = paths.script.unwrap_or("none");
+            let book = paths.book.unwrap_or("none");
+            write!(text, "check {} {script} {book}", paths.policy)?;
+        }
+        Command::Usage(command) => {
+            let command = command.unwrap_or("none");
+            write!(text, "usage {command}")?;
+        }
+        Command::Version => text.push_str("version")?,
+        _ => text.push_str("another")?,
+    }
+    Ok(())
+}
+
 // The command that the words ask for with its files, or why they are refused.
 fn told(alloc: Global, words: &[&str]) -> Result<String, Fail> {
-    let text = match read_words(alloc, words) {
+    let mut text = String::new(alloc);
+    let after = match read_words(alloc, words) {
         Ok(Command::Replay(paths)) => {
             let book = paths.book.unwrap_or("none");
-            format!(in alloc; "replay {} {} {book}", paths.policy, paths.script)?
+            write!(text, "replay {} {} {book}", paths.policy, paths.script)?;
+            paths.after
         }
         Ok(Command::Run(paths)) => {
             let book = paths.book.unwrap_or("none");
-            format!(in alloc; "run {} {} {book}", paths.policy, paths.script)?
+            write!(text, "run {} {} {book}", paths.policy, paths.script)?;
+            paths.after
         }
-        Ok(Command::Audit(paths)) => format!(in alloc; "audit {} {}", paths.policy, paths.book)?,
+        Ok(Command::Audit(paths)) => {
+            write!(text, "audit {} {}", paths.policy, paths.book)?;
+            paths.after
+        }
         Ok(Command::Serve(paths)) => {
             let book = paths.book.unwrap_or("none");
-            format!(in alloc; "serve {} {} {book}", paths.policy, paths.pipes)?
+            write!(text, "serve {} {} {book}", paths.policy, paths.pipes)?;
+            if paths.sync {
+                write!(text, " synced")?;
+            }
+            paths.after
         }
-        Err(fault) => format!(in alloc; "{fault}")?,
+        Ok(Command::Seal(paths)) => {
+            write!(text, "seal {} {} {}", paths.policy, paths.book, paths.out)?;
+            paths.after
+        }
+        Ok(Command::Report(paths)) => {
+            write!(text, "report {} {}", paths.policy, paths.book)?;
+            paths.after
+        }
+        Ok(command) => {
+            tell_plain(&mut text, &command)?;
+            Vec::new(alloc)
+        }
+        Err(fault) => {
+            write!(text, "{fault}")?;
+            Vec::new(alloc)
+        }
     };
+    for path in after {
+        write!(text, " {path}")?;
+    }
     Ok(text)
 }
 
@@ -119,4 +276,35 @@ fn other_words_are_bad_arguments(rt: HostRuntime) -> Result<(), Fail> {
     let text = format!(in rt.alloc(); "{fault}")?;
     assert!(&rt; text.as_str() == "out of memory", "{text}");
     Ok(())
+}
+
+#[test]
+fn each_command_has_its_usage(rt: HostRuntime) -> Result<(), Fail> {
+    let program = usage_text(None).unwrap_or("");
+    for name in [
+        "replay", "run", "audit", "serve", "seal", "check", "report", "usage", "version",
+    ] {
+        let text = usage_text(Some(name)).unwrap_or("");
+        let begun = format!(in rt.alloc(); "usage: consortium {name}")?;
+        assert!(&rt; text.starts_with(begun.as_str()), "{text}");
+        let listed = format!(in rt.alloc(); "\n  {name}")?;
+        assert!(&rt; program.contains(listed.as_str()), "{name}");
+    }
+    assert!(&rt; usage_text(Some("help")).is_none());
+    assert!(&rt; usage_text(Some("")).is_none());
+    assert!(&rt; VERSION.starts_with("consortium 20"));
+    Ok(())
+}
+
+#[test]
+fn no_line_of_a_usage_is_long(rt: HostRuntime) {
+    let names = ["replay", "run", "audit", "serve", "seal", "check", "report"];
+    for line in usage_text(None).unwrap_or("").lines() {
+        assert!(&rt; line.len() <= 100, "{line}");
+    }
+    for name in names {
+        for line in usage_text(Some(name)).unwrap_or("").lines() {
+            assert!(&rt; line.len() <= 100, "{line}");
+        }
+    }
 }

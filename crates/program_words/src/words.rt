@@ -1,61 +1,110 @@
 //! Reads the words of the command line.
 ghost use Rattle.std.specs.Prelude.{◌≡◌, IfOk, IsOkAnd, map, false, option_map, [], ◌≢◌, Err};
-ghost use Rattle.clap.specs.Words.{app_of, rule_of, first_of, found_of, rows_of, fault_of};
-ghost use Rattle.clap.specs.Words.{subcommand_of, subcommand_rows_of, with_subcommand};
-ghost use Rattle.clap.specs.declared.builder.Command.TheViews.{out-Command as fields_of};
-ghost use Rattle.program_words.specs.Grammar.{required_rule, files_app, keeping_app};
-ghost use Rattle.program_words.specs.Grammar.{program_app, replay_in, run_in, audit_in, serve_in};
-ghost use Rattle.program_words.specs.Grammar.{to_replay, to_run, to_audit, to_serve};
+ghost use Rattle.clap.specs.Words.{first_of, found_of, rows_of, fault_of, Row};
+ghost use Rattle.clap.specs.Words.{subcommand_of, subcommand_rows_of};
+ghost use Rattle.program_words.specs.Grammar.{every_of, is_set, AreEarlier, program_app};
+ghost use Rattle.program_words.specs.Grammar.{replay_in, run_in, audit_in, serve_in, seal_in};
+ghost use Rattle.program_words.specs.Grammar.{check_in, report_in, to_check, to_report};
+ghost use Rattle.program_words.specs.Grammar.{to_replay, to_run, to_audit, to_serve, to_seal};
 ghost use Rattle.program_words.specs.Grammar.{command_in, command_of, asked, asked_by};
 ghost use Rattle.program_words.specs.Grammar.{SaysCommand};
 
+use crate::grammar::program_command;
+use clap::ArgMatches;
 use clap::error::ErrorKind;
-use clap::{Arg, ArgMatches};
 use std::alloc::{AllocError, Global};
 use thiserror::Error;
 
 /// The files of a replay.
-#[derive(Clone, Copy, Debug)]
+#[derive(Debug, Drop)]
 pub struct ReplayPaths<'a> {
     pub policy: &'a str,
+    /// The earlier books, the oldest first.
+    pub after: Vec<&'a str>,
     pub script: &'a str,
     /// Where the book goes, if it is wanted.
     pub book: Option<&'a str>,
 }
 
 /// The files of a run.
-#[derive(Clone, Copy, Debug)]
+#[derive(Debug, Drop)]
 pub struct RunPaths<'a> {
     pub policy: &'a str,
+    /// The earlier books, the oldest first.
+    pub after: Vec<&'a str>,
     pub script: &'a str,
     /// Where the book goes, if it is wanted.
     pub book: Option<&'a str>,
 }
 
 /// The files of an audit.
-#[derive(Clone, Copy, Debug)]
+#[derive(Debug, Drop)]
 pub struct AuditPaths<'a> {
     pub policy: &'a str,
+    /// The earlier books, the oldest first.
+    pub after: Vec<&'a str>,
     pub book: &'a str,
 }
 
 /// The files of a server.
-#[derive(Clone, Copy, Debug)]
+#[derive(Debug, Drop)]
 pub struct ServePaths<'a> {
     pub policy: &'a str,
+    /// The earlier books, the oldest first.
+    pub after: Vec<&'a str>,
     /// The folder with the pipes.
     pub pipes: &'a str,
     /// Where the book goes, if it is wanted.
     pub book: Option<&'a str>,
+    /// Whether the book's file is to be synced behind each post that settles an instance.
+    pub sync: bool,
+}
+
+/// The files of a seal.
+#[derive(Debug, Drop)]
+pub struct SealPaths<'a> {
+    pub policy: &'a str,
+    /// The earlier books, the oldest first.
+    pub after: Vec<&'a str>,
+    /// The book that was cut.
+    pub book: &'a str,
+    /// Where the whole book goes.
+    pub out: &'a str,
+}
+
+/// The files of a check.
+#[derive(Debug, Drop)]
+pub struct CheckPaths<'a> {
+    pub policy: &'a str,
+    /// The script that is to be checked, if one is.
+    pub script: Option<&'a str>,
+    /// The book that is to be checked, if one is.
+    pub book: Option<&'a str>,
+}
+
+/// The files of a report.
+#[derive(Debug, Drop)]
+pub struct ReportPaths<'a> {
+    pub policy: &'a str,
+    /// The earlier books, the oldest first.
+    pub after: Vec<&'a str>,
+    pub book: &'a str,
 }
 
 /// What the program is asked to do.
-#[derive(Clone, Copy, Debug)]
+#[derive(Debug, Drop)]
 pub enum Command<'a> {
     Replay(ReplayPaths<'a>),
     Run(RunPaths<'a>),
     Audit(AuditPaths<'a>),
     Serve(ServePaths<'a>),
+    Seal(SealPaths<'a>),
+    Check(CheckPaths<'a>),
+    Report(ReportPaths<'a>),
+    /// To tell how it is used: one of its commands, where one is named.
+    Usage(Option<&'a str>),
+    /// To tell its version.
+    Version,
 }
 
 /// Why the words are refused.
@@ -69,80 +118,6 @@ pub enum ArgFault {
     NoMemory,
 }
 
-// An argument that may not be missing.
-fn required<'a>(alloc: Global, id: &'a str) -> Arg<'a>
-    ensures rule { rule_of result ≡ required_rule id.now }
-    ensures local { result.global ≡ false }
-{
-    Arg::new(alloc, id).required(true)
-}
-
-// The command `NAME POLICY FILE`; its second argument has the name `file`.
-fn files_command<'a>(
-    alloc: Global,
-    name: &'a str,
-    file: &'a str,
-) -> Result<clap::Command<'a>, AllocError>
-    ensures app { IfOk result (λ c. app_of c ≡ files_app name.now file.now) }
-    ensures globals { IfOk result (λ c. (fields_of c).has_globals ≡ false) }
-{
-    let Ok(command) = clap::Command::new(alloc, name).arg(required(alloc, "policy")) else {
-        return Err(AllocError);
-    };
-    command.arg(required(alloc, file))
-}
-
-// The command `NAME POLICY PATH [--book FILE]`; its second argument has the name `path`.
-fn keeping_command<'a>(
-    alloc: Global,
-    name: &'a str,
-    path: &'a str,
-) -> Result<clap::Command<'a>, AllocError>
-    ensures app { IfOk result (λ c. app_of c ≡ keeping_app name.now path.now) }
-    ensures globals { IfOk result (λ c. (fields_of c).has_globals ≡ false) }
-{
-    let Ok(command) = files_command(alloc, name, path) else {
-        return Err(AllocError);
-    };
-    command.arg(Arg::new(alloc, "book").long("book"))
-}
-
-// The command line with one command more, if that could be made.
-fn with_command<'a>(
-    program: clap::Command<'a>,
-    made: Result<clap::Command<'a>, AllocError>,
-) -> Result<clap::Command<'a>, AllocError>
-    ensures { IfOk result (λ new. IsOkAnd made.entry (λ c. (fields_of c).has_globals ≡ false
-        → app_of new ≡ with_subcommand (app_of program.entry) (app_of c).top)) }
-{
-    match made {
-        Ok(command) => program.subcommand(command),
-        Err(error) => {
-            drop(program);
-            Err(error)
-        }
-    }
-}
-
-// The command line of the program.
-fn program_command<'a>(alloc: Global) -> Result<clap::Command<'a>, AllocError>
-    ensures { IfOk result (λ c. app_of c ≡ program_app) }
-{
-    let program = clap::Command::new(alloc, "consortium")
-        .no_binary_name(true)
-        .subcommand_required(true);
-    let Ok(program) = with_command(program, keeping_command(alloc, "replay", "script")) else {
-        return Err(AllocError);
-    };
-    let Ok(program) = with_command(program, keeping_command(alloc, "run", "script")) else {
-        return Err(AllocError);
-    };
-    let Ok(program) = with_command(program, files_command(alloc, "audit", "book")) else {
-        return Err(AllocError);
-    };
-    with_command(program, keeping_command(alloc, "serve", "pipes"))
-}
-
 // The value of an argument.
 fn value_of<'a>(matches: &ArgMatches<'a>, id: &str) -> Option<&'a str>
     ensures { option_map (λ s. s.now) result ≡ first_of id.now (rows_of (found_of matches.now)) }
@@ -150,8 +125,34 @@ fn value_of<'a>(matches: &ArgMatches<'a>, id: &str) -> Option<&'a str>
     matches.get_str(id)
 }
 
+// Whether an option without a value was given.
+fn is_set(matches: &ArgMatches, id: &str) -> bool
+    ensures { result ≡ is_set id.now (rows_of (found_of matches.now)) }
+{
+    match value_of(matches, id) {
+        Some(value) => value == "true",
+        None => false,
+    }
+}
+
+// The values of an argument, in their order.
+fn values_of<'a>(
+    alloc: Global,
+    matches: &ArgMatches<'a>,
+    id: &str,
+) -> Result<Vec<&'a str>, AllocError>
+    ensures { IfOk result (λ values.
+        map (λ v. v.now) values.items ≡ every_of id.now (rows_of (found_of matches.now))) }
+{
+    let mut values = Vec::new(alloc);
+    let texts = matches.get_strs(id).unwrap_or(&[]);
+    values.extend_from_slice(texts)?;
+    Ok(values)
+}
+
 // A replay of the files that its arguments name.
-fn replay_asked<'a>(matches: &ArgMatches<'a>) -> Option<Command<'a>>
+fn replay_asked<'a>(matches: &ArgMatches<'a>, after: Vec<&'a str>) -> Option<Command<'a>>
+    requires { AreEarlier (rows_of (found_of matches.now)) after.items }
     ensures { option_map asked_by result
         ≡ option_map to_replay (replay_in (rows_of (found_of matches.now))) }
 {
@@ -160,6 +161,7 @@ fn replay_asked<'a>(matches: &ArgMatches<'a>) -> Option<Command<'a>>
     let book = value_of(matches, "book");
     let paths = ReplayPaths {
         policy,
+        after,
         script,
         book,
     };
@@ -167,7 +169,8 @@ fn replay_asked<'a>(matches: &ArgMatches<'a>) -> Option<Command<'a>>
 }
 
 // A run of the files that its arguments name.
-fn run_asked<'a>(matches: &ArgMatches<'a>) -> Option<Command<'a>>
+fn run_asked<'a>(matches: &ArgMatches<'a>, after: Vec<&'a str>) -> Option<Command<'a>>
+    requires { AreEarlier (rows_of (found_of matches.now)) after.items }
     ensures { option_map asked_by result
         ≡ option_map to_run (run_in (rows_of (found_of matches.now))) }
 {
@@ -176,6 +179,7 @@ fn run_asked<'a>(matches: &ArgMatches<'a>) -> Option<Command<'a>>
     let kept = value_of(matches, "book");
     let paths = RunPaths {
         policy,
+        after,
         script,
         book: kept,
     };
@@ -183,51 +187,128 @@ fn run_asked<'a>(matches: &ArgMatches<'a>) -> Option<Command<'a>>
 }
 
 // An audit of the files that its arguments name.
-fn audit_asked<'a>(matches: &ArgMatches<'a>) -> Option<Command<'a>>
+fn audit_asked<'a>(matches: &ArgMatches<'a>, after: Vec<&'a str>) -> Option<Command<'a>>
+    requires { AreEarlier (rows_of (found_of matches.now)) after.items }
     ensures { option_map asked_by result
         ≡ option_map to_audit (audit_in (rows_of (found_of matches.now))) }
 {
     let policy = value_of(matches, "policy")?;
     let book = value_of(matches, "book")?;
-    Some(Command::Audit(AuditPaths { policy, book }))
+    let paths = AuditPaths {
+        policy,
+        after,
+        book,
+    };
+    Some(Command::Audit(paths))
 }
 
 // Serving at the pipes that its arguments name.
-fn serve_asked<'a>(matches: &ArgMatches<'a>) -> Option<Command<'a>>
+fn serve_asked<'a>(matches: &ArgMatches<'a>, after: Vec<&'a str>) -> Option<Command<'a>>
+    requires { AreEarlier (rows_of (found_of matches.now)) after.items }
     ensures { option_map asked_by result
         ≡ option_map to_serve (serve_in (rows_of (found_of matches.now))) }
 {
     let policy = value_of(matches, "policy")?;
     let pipes = value_of(matches, "pipes")?;
     let file = value_of(matches, "book");
+    let sync = is_set(matches, "sync");
     let paths = ServePaths {
         policy,
+        after,
         pipes,
         book: file,
+        sync,
     };
     Some(Command::Serve(paths))
 }
 
+// A seal of the book that its arguments name.
+fn seal_asked<'a>(matches: &ArgMatches<'a>, after: Vec<&'a str>) -> Option<Command<'a>>
+    requires { AreEarlier (rows_of (found_of matches.now)) after.items }
+    ensures { option_map asked_by result
+        ≡ option_map to_seal (seal_in (rows_of (found_of matches.now))) }
+{
+    let policy = value_of(matches, "policy")?;
+    let book = value_of(matches, "book")?;
+    let out = value_of(matches, "out")?;
+    let paths = SealPaths {
+        policy,
+        after,
+        book,
+        out,
+    };
+    Some(Command::Seal(paths))
+}
+
+// A check of the files that its arguments name.
+fn check_asked<'a>(matches: &ArgMatches<'a>) -> Option<Command<'a>>
+    ensures { option_map asked_by result
+        ≡ option_map to_check (check_in (rows_of (found_of matches.now))) }
+{
+    let policy = value_of(matches, "policy")?;
+    let script = value_of(matches, "script");
+    let checked = value_of(matches, "book");
+    let paths = CheckPaths {
+        policy,
+        script,
+        book: checked,
+    };
+    Some(Command::Check(paths))
+}
+
+// A report on the book that its arguments name.
+fn report_asked<'a>(matches: &ArgMatches<'a>, after: Vec<&'a str>) -> Option<Command<'a>>
+    requires { AreEarlier (rows_of (found_of matches.now)) after.items }
+    ensures { option_map asked_by result
+        ≡ option_map to_report (report_in (rows_of (found_of matches.now))) }
+{
+    let policy = value_of(matches, "policy")?;
+    let book = value_of(matches, "book")?;
+    let paths = ReportPaths {
+        policy,
+        after,
+        book,
+    };
+    Some(Command::Report(paths))
+}
+
 // The command of this name, with its files.
-fn command_named<'a>(name: &str, matches: &ArgMatches<'a>) -> Option<Command<'a>>
+fn command_named<'a>(
+    name: &str,
+    matches: &ArgMatches<'a>,
+    after: Vec<&'a str>,
+) -> Option<Command<'a>>
+    requires { AreEarlier (rows_of (found_of matches.now)) after.items }
     ensures { option_map asked_by result ≡ command_in name.now (rows_of (found_of matches.now)) }
 {
     match name {
-        "replay" => replay_asked(matches),
-        "run" => run_asked(matches),
-        "audit" => audit_asked(matches),
-        "serve" => serve_asked(matches),
+        "replay" => replay_asked(matches, after),
+        "run" => run_asked(matches, after),
+        "audit" => audit_asked(matches, after),
+        "serve" => serve_asked(matches, after),
+        "seal" => seal_asked(matches, after),
+        "check" => check_asked(matches),
+        "report" => report_asked(matches, after),
+        "usage" => Some(Command::Usage(value_of(matches, "command"))),
+        "version" => Some(Command::Version),
         _ => None,
     }
 }
 
 // The command that the matches name, with its files.
-fn command_asked<'a>(matches: &ArgMatches<'a>) -> Option<Command<'a>>
-    ensures { option_map asked_by result ≡ command_of (subcommand_rows_of matches.now) }
+fn command_asked<'a>(
+    alloc: Global,
+    matches: &ArgMatches<'a>,
+) -> Result<Option<Command<'a>>, AllocError>
+    ensures { IfOk result (λ command.
+        option_map asked_by command ≡ command_of (subcommand_rows_of matches.now)) }
 {
     match matches.subcommand() {
-        Some((name, inner)) => command_named(name, inner),
-        None => None,
+        Some((name, inner)) => {
+            let after = values_of(alloc, inner, "after")?;
+            Ok(command_named(name, inner, after))
+        }
+        None => Ok(None),
     }
 }
 
@@ -259,8 +340,10 @@ fn matches_of<'a>(alloc: Global, words: &'a [&'a str]) -> Result<ArgMatches<'a>,
 }
 
 /// What the words after the program's name ask for: `replay POLICY SCRIPT [--book FILE]`, `run
-/// POLICY SCRIPT [--book FILE]`, `audit POLICY BOOK` or `serve POLICY DIR [--book FILE]`. They are
-/// bad arguments exactly where `clap` refuses them for another cause than memory.
+/// POLICY SCRIPT [--book FILE]`, `audit POLICY BOOK`, `serve POLICY DIR [--book FILE] [--sync]`,
+/// `seal POLICY BOOK OUT` or `report POLICY BOOK`, each with `--after BOOK` any number of times;
+/// `check POLICY [SCRIPT] [--book BOOK]`, `usage [COMMAND]` or `version`. They are bad arguments
+/// exactly where `clap` refuses them for another cause than memory.
 #[tactic(auto, unfolding(crate::specs::Grammar::asked))]
 pub fn read_words<'a>(alloc: Global, words: &'a [&'a str]) -> Result<Command<'a>, ArgFault>
     ensures { SaysCommand result (asked (map (λ w. w.now) words.entry.now)) }
@@ -269,10 +352,11 @@ pub fn read_words<'a>(alloc: Global, words: &'a [&'a str]) -> Result<Command<'a>
         Ok(matches) => matches,
         Err(fault) => return Err(fault),
     };
-    let command = command_asked(&matches);
+    let command = command_asked(alloc, &matches);
     drop(matches);
     match command {
-        Some(command) => Ok(command),
-        None => Err(ArgFault::BadArguments),
+        Ok(Some(command)) => Ok(command),
+        Ok(None) => Err(ArgFault::BadArguments),
+        Err(_) => Err(ArgFault::NoMemory),
     }
 }

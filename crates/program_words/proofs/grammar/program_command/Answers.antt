@@ -1,9 +1,10 @@
 use Rattle.std.proofs.Common.{rules, ◌≡◌, IfOk, IsOkAnd, false, Result, Ok, Err, ap, ◌∙◌, codes}
-use Rattle.clap.specs.Words.{App, app_of, with_subcommand}
+use Rattle.clap.specs.Words.{App, app_of, new_app, with_subcommand}
 use Rattle.clap.specs.declared.builder.Command.{Command}
 use Rattle.clap.specs.declared.builder.Command.TheViews.{out-Command as fields_of}
-use Rattle.program_words.specs.Grammar.{bare_app, keeping_app, audit_app, program_app}
-use Rattle.program_words.proofs.words.program_command.Goals as goal
+use Rattle.program_words.specs.Grammar.{bare_app, keeping_app, audit_app, serve_app, seal_app}
+use Rattle.program_words.specs.Grammar.{check_app, report_app, usage_app, program_app}
+use Rattle.program_words.proofs.grammar.program_command.Goals as goal
 
 -- where the command that was made is b, the command line a has b more
 joined : {E : Type 0} (program : Command) (made new : Result Command E) (a b : App) →
@@ -34,6 +35,26 @@ returns c =
     (Ok c.in-Ok-with_command-2.program)
     _ audit_app run c.files_command.ensures.app c.files_command.ensures.globals
     c.in-Ok-with_command-2.ensures in
-    joined c.in-Ok-with_command-2.program c.keeping_command-3.result c.with_command-4.result
-    _ (keeping_app (codes "serve") (codes "pipes")) audit c.keeping_command-3.ensures.app
-    c.keeping_command-3.ensures.globals c.with_command-4.ensures
+    let serve = joined c.in-Ok-with_command-2.program c.serve_command.result
+    (Ok c.in-Ok-with_command-3.program)
+    _ serve_app audit c.serve_command.ensures.app c.serve_command.ensures.globals
+    c.in-Ok-with_command-3.ensures in
+    let seal = joined c.in-Ok-with_command-3.program c.seal_command.result
+    (Ok c.in-Ok-with_command-4.program)
+    _ seal_app serve c.seal_command.ensures.app c.seal_command.ensures.globals
+    c.in-Ok-with_command-4.ensures in
+    let check = joined c.in-Ok-with_command-4.program c.check_command.result
+    (Ok c.in-Ok-with_command-5.program)
+    _ check_app seal c.check_command.ensures.app c.check_command.ensures.globals
+    c.in-Ok-with_command-5.ensures in
+    let report = joined c.in-Ok-with_command-5.program c.files_command-2.result
+    (Ok c.in-Ok-with_command-6.program)
+    _ report_app check c.files_command-2.ensures.app c.files_command-2.ensures.globals
+    c.in-Ok-with_command-6.ensures in
+    let usage = joined c.in-Ok-with_command-6.program c.usage_command.result
+    (Ok c.in-Ok-with_command-7.program)
+    _ usage_app report c.usage_command.ensures.app c.usage_command.ensures.globals
+    c.in-Ok-with_command-7.ensures in
+    joined c.in-Ok-with_command-7.program c.version_command.result c.with_command-9.result
+    _ (new_app (codes "version")) usage c.version_command.ensures.app
+    c.version_command.ensures.globals c.with_command-9.ensures

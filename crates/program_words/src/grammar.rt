@@ -1,0 +1,185 @@
+//! The command line, as `clap` is told of it: the commands of the program, each with its words.
+ghost use Rattle.std.specs.Prelude.{◌≡◌, IfOk, IsOkAnd, codes, false};
+ghost use Rattle.clap.specs.Words.{app_of, new_app, rule_of, with_subcommand};
+ghost use Rattle.clap.specs.declared.builder.Command.TheViews.{out-Command as fields_of};
+ghost use Rattle.program_words.specs.Grammar.{required_rule, repeated_rule, files_app, keeping_app};
+ghost use Rattle.program_words.specs.Grammar.{plain_app, flag_rule, serve_app, seal_app, check_app};
+ghost use Rattle.program_words.specs.Grammar.{usage_app, program_app};
+
+use clap::{Arg, ArgAction};
+use std::alloc::{AllocError, Global};
+
+// An argument that may not be missing.
+fn required<'a>(alloc: Global, id: &'a str) -> Arg<'a>
+    ensures rule { rule_of result ≡ required_rule id.now }
+    ensures local { result.global ≡ false }
+{
+    Arg::new(alloc, id).required(true)
+}
+
+// An option that may come several times, each time with a value.
+fn repeated<'a>(alloc: Global, id: &'a str) -> Arg<'a>
+    ensures rule { rule_of result ≡ repeated_rule id.now }
+    ensures local { result.global ≡ false }
+{
+    Arg::new(alloc, id).long(id).action(ArgAction::Append)
+}
+
+// An option without a value.
+fn flag<'a>(alloc: Global, id: &'a str) -> Arg<'a>
+    ensures rule { rule_of result ≡ flag_rule id.now }
+    ensures local { result.global ≡ false }
+{
+    Arg::new(alloc, id).long(id).action(ArgAction::SetTrue)
+}
+
+// The command `NAME POLICY FILE`; its second argument has the name `file`.
+fn plain_command<'a>(
+    alloc: Global,
+    name: &'a str,
+    file: &'a str,
+) -> Result<clap::Command<'a>, AllocError>
+    ensures app { IfOk result (λ c. app_of c ≡ plain_app name.now file.now) }
+    ensures globals { IfOk result (λ c. (fields_of c).has_globals ≡ false) }
+{
+    let Ok(command) = clap::Command::new(alloc, name).arg(required(alloc, "policy")) else {
+        return Err(AllocError);
+    };
+    command.arg(required(alloc, file))
+}
+
+// The same with `[--after BOOK]..`.
+fn files_command<'a>(
+    alloc: Global,
+    name: &'a str,
+    file: &'a str,
+) -> Result<clap::Command<'a>, AllocError>
+    ensures app { IfOk result (λ c. app_of c ≡ files_app name.now file.now) }
+    ensures globals { IfOk result (λ c. (fields_of c).has_globals ≡ false) }
+{
+    let Ok(command) = plain_command(alloc, name, file) else {
+        return Err(AllocError);
+    };
+    command.arg(repeated(alloc, "after"))
+}
+
+// The same with `[--book FILE]`; its second argument has the name `path`.
+fn keeping_command<'a>(
+    alloc: Global,
+    name: &'a str,
+    path: &'a str,
+) -> Result<clap::Command<'a>, AllocError>
+    ensures app { IfOk result (λ c. app_of c ≡ keeping_app name.now path.now) }
+    ensures globals { IfOk result (λ c. (fields_of c).has_globals ≡ false) }
+{
+    let Ok(command) = files_command(alloc, name, path) else {
+        return Err(AllocError);
+    };
+    command.arg(Arg::new(alloc, "book").long("book"))
+}
+
+// The command `serve POLICY DIR [--after BOOK].. [--book FILE] [--sync]`.
+fn serve_command<'a>(alloc: Global) -> Result<clap::Command<'a>, AllocError>
+    ensures app { IfOk result (λ c. app_of c ≡ serve_app) }
+    ensures globals { IfOk result (λ c. (fields_of c).has_globals ≡ false) }
+{
+    let Ok(command) = keeping_command(alloc, "serve", "pipes") else {
+        return Err(AllocError);
+    };
+    command.arg(flag(alloc, "sync"))
+}
+
+// The command `seal POLICY BOOK OUT [--after BOOK]..`.
+fn seal_command<'a>(alloc: Global) -> Result<clap::Command<'a>, AllocError>
+    ensures app { IfOk result (λ c. app_of c ≡ seal_app) }
+    ensures globals { IfOk result (λ c. (fields_of c).has_globals ≡ false) }
+{
+    let Ok(command) = plain_command(alloc, "seal", "book") else {
+        return Err(AllocError);
+    };
+    let Ok(command) = command.arg(required(alloc, "out")) else {
+        return Err(AllocError);
+    };
+    command.arg(repeated(alloc, "after"))
+}
+
+// The command `check POLICY [SCRIPT] [--book BOOK]`.
+fn check_command<'a>(alloc: Global) -> Result<clap::Command<'a>, AllocError>
+    ensures app { IfOk result (λ c. app_of c ≡ check_app) }
+    ensures globals { IfOk result (λ c. (fields_of c).has_globals ≡ false) }
+{
+    let Ok(command) = clap::Command::new(alloc, "check").arg(required(alloc, "policy")) else {
+        return Err(AllocError);
+    };
+    let Ok(command) = command.arg(Arg::new(alloc, "script")) else {
+        return Err(AllocError);
+    };
+    command.arg(Arg::new(alloc, "book").long("book"))
+}
+
+// The command `usage [COMMAND]`.
+fn usage_command<'a>(alloc: Global) -> Result<clap::Command<'a>, AllocError>
+    ensures app { IfOk result (λ c. app_of c ≡ usage_app) }
+    ensures globals { IfOk result (λ c. (fields_of c).has_globals ≡ false) }
+{
+    clap::Command::new(alloc, "usage").arg(Arg::new(alloc, "command"))
+}
+
+// The command `version`.
+fn version_command<'a>(alloc: Global) -> Result<clap::Command<'a>, AllocError>
+    ensures app { IfOk result (λ c. app_of c ≡ new_app (codes "version")) }
+    ensures globals { IfOk result (λ c. (fields_of c).has_globals ≡ false) }
+{
+    Ok(clap::Command::new(alloc, "version"))
+}
+
+// The command line with one command more, if that could be made.
+fn with_command<'a>(
+    program: clap::Command<'a>,
+    made: Result<clap::Command<'a>, AllocError>,
+) -> Result<clap::Command<'a>, AllocError>
+    ensures { IfOk result (λ new. IsOkAnd made.entry (λ c. (fields_of c).has_globals ≡ false
+        → app_of new ≡ with_subcommand (app_of program.entry) (app_of c).top)) }
+{
+    match made {
+        Ok(command) => program.subcommand(command),
+        Err(error) => {
+            drop(program);
+            Err(error)
+        }
+    }
+}
+
+/// The command line of the program.
+pub(crate) fn program_command<'a>(alloc: Global) -> Result<clap::Command<'a>, AllocError>
+    ensures { IfOk result (λ c. app_of c ≡ program_app) }
+{
+    let program = clap::Command::new(alloc, "consortium")
+        .no_binary_name(true)
+        .subcommand_required(true);
+    let Ok(program) = with_command(program, keeping_command(alloc, "replay", "script")) else {
+        return Err(AllocError);
+    };
+    let Ok(program) = with_command(program, keeping_command(alloc, "run", "script")) else {
+        return Err(AllocError);
+    };
+    let Ok(program) = with_command(program, files_command(alloc, "audit", "book")) else {
+        return Err(AllocError);
+    };
+    let Ok(program) = with_command(program, serve_command(alloc)) else {
+        return Err(AllocError);
+    };
+    let Ok(program) = with_command(program, seal_command(alloc)) else {
+        return Err(AllocError);
+    };
+    let Ok(program) = with_command(program, check_command(alloc)) else {
+        return Err(AllocError);
+    };
+    let Ok(program) = with_command(program, files_command(alloc, "report", "book")) else {
+        return Err(AllocError);
+    };
+    let Ok(program) = with_command(program, usage_command(alloc)) else {
+        return Err(AllocError);
+    };
+    with_command(program, version_command(alloc))
+}

@@ -1,0 +1,217 @@
+//! How the program is used, and its version. (Own format.)
+ghost use Rattle.std.specs.Prelude.{◌≡◌, option_map};
+ghost use Rattle.program_words.specs.Usage.{command_usage, usage_of};
+
+/// The program's name and version: the date of the newest changes in `CHANGELOG.md`.
+pub const VERSION: &str = "consortium 2026-11-28\n";
+
+const PROGRAM: &str = "\
+usage: consortium COMMAND WORDS
+
+  serve POLICY DIR [--after BOOK].. [--book FILE] [--sync]
+      answers each process of a policy live, at its two named pipes in DIR
+  replay POLICY SCRIPT [--after BOOK].. [--book FILE]
+      makes the calls of a script in its order, and writes the replies
+  run POLICY SCRIPT [--after BOOK].. [--book FILE]
+      the same with a thread for each process, whose takes wait
+  audit POLICY BOOK [--after BOOK]..
+      tells whether a book is what its posts give
+  seal POLICY BOOK OUT [--after BOOK]..
+      makes a whole book of one that was cut, in a new file
+  check POLICY [SCRIPT] [--book BOOK]
+      tells what a policy means, and where a policy, a script or a book is at fault
+  report POLICY BOOK [--after BOOK]..
+      tells who came to hold what by a book, and why posts were barred and instances denied
+  usage [COMMAND]
+      this text, or that of one command
+  version
+      the version of the program
+
+status  0  all was done
+        1  the policy is refused
+        2  a script, a book or an earlier book is refused, or is not sound
+        3  a file, a pipe or an output failed, or a file is too long, or is there already
+        4  memory or a thread was refused
+        5  the words ask for nothing that the program does
+
+`consortium usage COMMAND` has the lines that a command writes with each status.
+";
+
+const REPLAY: &str = "\
+usage: consortium replay POLICY SCRIPT [--after BOOK].. [--book FILE]
+
+Makes the calls of SCRIPT in its order under POLICY, and writes a line for each reply to standard
+output. With --book it then writes the audit book to FILE; an older FILE is replaced. With --after,
+any number of times, the oldest first, it goes on after the books of earlier runs.
+
+status  0  all lines were answered, and the book was written if it was asked for
+        1  the policy is refused                             policy: NAME
+        2  an earlier book is no book, or not sound          after PATH: ..
+        2  a line of the script is no call                   script: line N: NAME
+        3  a file could not be read, or is too long          read fault
+        3  a reply or the book could not be written          write fault
+        4  memory was refused                                out of memory
+        5  the words are bad                                 bad arguments
+";
+
+const RUN: &str = "\
+usage: consortium run POLICY SCRIPT [--after BOOK].. [--book FILE]
+
+Gives each process the calls of SCRIPT that are its own, in a thread for each, whose takes wait.
+Writes a line `rank P NAME` and the replies for each process, and the audit book to FILE with
+--book; an older FILE is replaced. With --after, any number of times, the oldest first, it goes on
+after the books of earlier runs.
+
+status  0  all lines were answered, and the book was written if it was asked for
+        1  the policy is refused                             policy: NAME
+        2  an earlier book is no book, or not sound          after PATH: ..
+        2  a line of the script is no call                   script: line N: NAME
+        3  a file could not be read, or is too long          read fault
+        3  the replies or the book could not be written      write fault
+        4  memory was refused                                out of memory
+        4  a thread was refused                              no thread
+        4  the calls were too many                           exhausted
+        5  the words are bad                                 bad arguments
+";
+
+const AUDIT: &str = "\
+usage: consortium audit POLICY BOOK [--after BOOK]..
+
+Tells whether BOOK is what its posts give under POLICY: `sound N`, or `unsound at entry N`. With
+--after, any number of times, the oldest first, the book is one that goes on after earlier ones.
+
+status  0  the book is sound                                 sound N, on standard output
+        1  the policy is refused                             policy: NAME
+        2  an earlier book is no book, or not sound          after PATH: ..
+        2  the book is unsound                               unsound at entry N, there too
+        2  the file is no book                               book: line N, book: cut
+        3  a file could not be read, or is too long          read fault
+        3  the line could not be written                     write fault
+        4  memory was refused                                out of memory
+        5  the words are bad                                 bad arguments
+";
+
+const SERVE: &str = "\
+usage: consortium serve POLICY DIR [--after BOOK].. [--book FILE] [--sync]
+
+Answers each process of POLICY live, at the two named pipes NAME.calls and NAME.replies in DIR,
+until all have left. With --book the audit book is written to FILE, a new file, while it runs; with
+--sync its data is on the disk before a post is answered that settled an instance. With --after, any
+number of times, the oldest first, it goes on after the books of earlier runs.
+
+status  0  all have left, and the book was written if it was asked for
+        1  the policy is refused                             policy: NAME
+        2  an earlier book is no book, or not sound          after PATH: ..
+        3  a pipe is missing, or open to others              no pipe: NAME, open to others: NAME
+        3  there is a file at FILE already                   book exists: FILE
+        3  a file could not be read, or is too long          read fault
+        3  the events or the book could not be written       write fault
+        4  memory was refused                                out of memory
+        4  a thread was refused                              no thread
+        5  the words are bad                                 bad arguments
+";
+
+const SEAL: &str = "\
+usage: consortium seal POLICY BOOK OUT [--after BOOK]..
+
+Makes a whole book of BOOK, which was cut, in the new file OUT: a line that is not finished goes,
+the verdict that the last post settles is added if it is missing, and the end line. With --after,
+any number of times, the oldest first, the book is one that goes on after earlier ones.
+
+status  0  the whole book stands in OUT                      sealed N, on standard output
+        1  the policy is refused                             policy: NAME
+        2  an earlier book is no book, or not sound          after PATH: ..
+        2  a finished line is not in its form                book: line N
+        2  no sound book begins with its entries             unsound at entry N, there too
+        3  a file could not be read, or is too long          read fault
+        3  OUT is there already, or could not be written     write fault
+        4  memory was refused                                out of memory
+        5  the words are bad                                 bad arguments
+";
+
+const CHECK: &str = "\
+usage: consortium check POLICY [SCRIPT] [--book BOOK]
+
+Tells what POLICY means, a line for each fact, and what in it is hardly meant, behind `warning: `.
+Where the policy is refused it tells the line in place of that. Of SCRIPT it tells each line that is
+no call, and of BOOK, which is checked as by an audit, where it is at fault.
+
+status  0  all of it reads, and the book is sound
+        1  the policy is refused                             policy: NAME
+        2  a line of the script is no call                   script: line N: NAME
+        2  the book is unsound                               unsound at entry N, on standard output
+        2  the file is no book                               book: line N, book: cut
+        3  a file could not be read, or is too long          read fault
+        3  a line could not be written                       write fault
+        4  memory was refused                                out of memory
+        5  the words are bad                                 bad arguments
+";
+
+const REPORT: &str = "\
+usage: consortium report POLICY BOOK [--after BOOK]..
+
+Tells who came to hold what by BOOK, by which entry and how, what became of each instance, and for
+each post that was barred and each instance that was denied the reason. With --after, any number of
+times, the oldest first, the book is one that goes on after earlier ones.
+
+status  0  the book is sound, and the report was written
+        1  the policy is refused                             policy: NAME
+        2  an earlier book is no book, or not sound          after PATH: ..
+        2  the book is unsound                               unsound at entry N, on standard output
+        2  the file is no book                               book: line N, book: cut
+        3  a file could not be read, or is too long          read fault
+        3  the report could not be written                   write fault
+        4  memory was refused                                out of memory
+        5  the words are bad                                 bad arguments
+";
+
+const USAGE: &str = "\
+usage: consortium usage [COMMAND]
+
+Tells how the program is used, or one of its commands, on standard output.
+
+status  0  the text was written
+        3  it could not be written                           write fault
+        4  memory was refused                                out of memory
+        5  the words are bad, or there is no such command    bad arguments
+";
+
+const TELL_VERSION: &str = "\
+usage: consortium version
+
+Tells the version of the program on standard output: the date of its newest changes.
+
+status  0  the line was written
+        3  it could not be written                           write fault
+        4  memory was refused                                out of memory
+        5  the words are bad                                 bad arguments
+";
+
+// The usage of the command of this name.
+fn command_usage(name: &str) -> Option<&'static str>
+    ensures { option_map (λ t. t.now) result ≡ command_usage name.now }
+{
+    match name {
+        "replay" => Some(REPLAY),
+        "run" => Some(RUN),
+        "audit" => Some(AUDIT),
+        "serve" => Some(SERVE),
+        "seal" => Some(SEAL),
+        "check" => Some(CHECK),
+        "report" => Some(REPORT),
+        "usage" => Some(USAGE),
+        "version" => Some(TELL_VERSION),
+        _ => None,
+    }
+}
+
+/// How the program is used, or the command of this name, with each status and its line; `None`
+/// exactly where there is no such command. No line has more than 100 bytes.
+pub fn usage_text(command: Option<&str>) -> Option<&'static str>
+    ensures { option_map (λ t. t.now) result ≡ usage_of (option_map (λ c. c.now) command.entry) }
+{
+    match command {
+        Some(name) => command_usage(name),
+        None => Some(PROGRAM),
+    }
+}
