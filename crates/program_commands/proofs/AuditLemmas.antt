@@ -26,6 +26,7 @@ module _ {B : Type 0} (wall : ChineseWall) (device : Used B) (bytes text : List 
   is_no_book (Err (endings.BadPolicy f)) h = absurd h
   is_no_book (Err (endings.BadLine n f)) h = absurd h
   is_no_book (Err (endings.Unsound n)) h = absurd h
+  is_no_book (Err (endings.BadEarlier p f)) h = absurd h
   is_no_book (Err endings.WriteFault) h = absurd h
   is_no_book (Err endings.NoThread) h = absurd h
   is_no_book (Err endings.Exhausted) h = absurd h

@@ -3,3 +3,5 @@ pub mod RankLemmas
 pub mod ProgramCommandsLemmas
 pub mod AuditLemmas
 pub mod ServeLemmas
+pub mod EarlierLemmas
+pub mod SealLemmas

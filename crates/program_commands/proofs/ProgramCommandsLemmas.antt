@@ -6,7 +6,9 @@ use Rattle.run_model.specs.declared.call.Act.{Act}
 use Rattle.hall_script.specs.Devices.{Used, IsUntouched}
 use Rattle.program_commands.specs.declared.ending.Ending.{Ending}
 use Rattle.program_commands.specs.Replaying.{IsUnkept, no_book}
-use Rattle.program_commands.specs.Running.{IsNoRun, Tells, Runs, RunEnds}
+use Rattle.program_commands.specs.Running.{IsNoRun, Tells, Runs}
+use Rattle.program_commands.specs.Earlier.{EarlierBooks}
+use Rattle.program_commands.specs.Continuing.{RunAfterEnds}
 
 abbrev no_writer : (W : Type 0) → Option (Used W)
 no_writer W = None
@@ -26,16 +28,17 @@ module _ {S O : Type 0} (A B : Type 0) (wall : ChineseWall) (script : Used S) (o
   run_bookless (inl a) = inl a
   run_bookless (inr a) = inr (a.0, a.1, told_bookless a.0 a.2)
 
-pub kept_nowhere :
-    {P S O A B : Type 0} (policy : Used P) (script : Used S) (out : Used O) (ending : Ending)
-    → RunEnds {B = A} policy script out None ending → RunEnds {B = B} policy script out None ending
-kept_nowhere policy script out ending (inl a) = inl a
-kept_nowhere {A = A} {B = B} policy script out ending (inr a) =
-    inr (a.0, a.1, run_bookless A B a.0 script out ending a.2)
+module _ {P D S O : Type 0} (policy : Used P) (earlier : EarlierBooks D) (script : Used S)
+    (out : Used O) (ending : Ending) where
+  pub kept_nowhere : {A B : Type 0} → RunAfterEnds {B = A} policy earlier script out None ending
+      → RunAfterEnds {B = B} policy earlier script out None ending
+  kept_nowhere (inl a) = inl a
+  kept_nowhere {A = A} {B = B} (inr a) =
+      inr (a.0, a.1, run_bookless A B a.0 script out ending a.2)
 
-pub bookless : {P S O B : Type 0} (policy : Used P) (script : Used S) (out : Used O)
-    (ending : Ending) (book : Option (Used B)) → book ≡ None
-    → RunEnds policy script out no_book ending → RunEnds policy script out book ending
-bookless {B = B} policy script out ending book is ends =
-    subst (λ b. RunEnds policy script out b ending) (sym is)
-    (kept_nowhere {A = Unit {0}} {B = B} policy script out ending ends)
+  pub bookless : {B : Type 0} (book : Option (Used B)) → book ≡ None
+      → RunAfterEnds policy earlier script out no_book ending
+      → RunAfterEnds policy earlier script out book ending
+  bookless {B = B} book is ends =
+      subst (λ b. RunAfterEnds policy earlier script out b ending) (sym is)
+      (kept_nowhere {A = Unit {0}} {B = B} ends)

@@ -6,9 +6,12 @@ use Rattle.wall_policy.specs.declared.fault.PolicyFault.{PolicyFault}
 use Rattle.wall_policy.specs.declared.fault.PolicyFault.TheVariants as policies
 use Rattle.coll_text.specs.declared.fault.LineFault.{LineFault}
 use Rattle.coll_text.specs.declared.fault.LineFault.TheVariants as lines
+use Rattle.program_commands.specs.declared.ending.EarlierFault.{EarlierFault}
+use Rattle.program_commands.specs.declared.ending.EarlierFault.TheVariants as earlier
 use Rattle.program_commands.specs.declared.ending.Ending.{Ending}
 use Rattle.program_commands.specs.declared.ending.Ending.TheVariants.{Done, BadPolicy, BadLine}
 use Rattle.program_commands.specs.declared.ending.Ending.TheVariants.{BadBookLine, CutBook, Unsound}
+use Rattle.program_commands.specs.declared.ending.Ending.TheVariants.{BadEarlier}
 use Rattle.program_commands.specs.declared.ending.Ending.TheVariants.{ReadFault, WriteFault}
 use Rattle.program_commands.specs.declared.ending.Ending.TheVariants.{NoThread}
 use Rattle.program_commands.specs.declared.ending.Ending.TheVariants.{Exhausted, NoMemory}
@@ -21,6 +24,7 @@ status_of (BadLine n fault) = 2
 status_of (BadBookLine n) = 2
 status_of CutBook = 2
 status_of (Unsound n) = 2
+status_of (BadEarlier path fault) = 2
 status_of ReadFault = 3
 status_of WriteFault = 3
 status_of NoThread = 4
@@ -58,6 +62,12 @@ line_fault_text lines.NoMemory = codes "NoMemory\n"
 abbrev pub numbered_line : List ℕ → ℕ → List ℕ
 numbered_line words n = words ++ (decimal n ++ codes "\n")
 
+-- what is wrong with an earlier book, behind its path
+abbrev pub earlier_fault_text : EarlierFault → List ℕ
+earlier_fault_text (earlier.BadLine n) = numbered_line (codes ": line ") n
+earlier_fault_text earlier.Cut = codes ": cut\n"
+earlier_fault_text (earlier.Unsound n) = numbered_line (codes ": unsound at entry ") n
+
 -- the line on standard error, none where all was done, nor where a book was read and is unsound
 abbrev pub error_line : Ending → List ℕ
 error_line Done = []
@@ -67,6 +77,8 @@ error_line (BadLine n fault) =
 error_line (BadBookLine n) = numbered_line (codes "book: line ") n
 error_line CutBook = codes "book: cut\n"
 error_line (Unsound n) = []
+error_line (BadEarlier path fault) =
+    (codes "after " ++ path.now) ++ earlier_fault_text fault
 error_line ReadFault = codes "read fault\n"
 error_line WriteFault = codes "write fault\n"
 error_line NoThread = codes "no thread\n"
@@ -86,6 +98,11 @@ Writes writer bytes Done = IsWritten writer bytes
 Writes writer bytes WriteFault = BrokeOff writer bytes
 Writes writer bytes NoMemory = IsBegun writer bytes
 Writes writer bytes ending = ⊥
+
+-- the whole text was written, and that is all; or the writer failed behind a prefix of it
+abbrev pub WritesAll : {W : Type 0} → List ℕ → Used W → Ending → Type 0
+WritesAll text writer ending =
+    (IsWritten writer text × (ending ≡ Done)) ⊎ (BrokeOff writer text × (ending ≡ WriteFault))
 
 -- it ended so, with this status, and with the ending's line on standard error
 abbrev pub EndsSo : {E : Type 0} → (Ending → Type 0) → Used E → (status : ℕ) → Type 0

@@ -4,3 +4,8 @@ pub mod Replaying
 pub mod Running
 pub mod Auditing
 pub mod Serving
+pub mod Earlier
+pub mod Continuing
+pub mod Sealing
+pub mod Reporting
+pub mod Checking

@@ -1,9 +1,17 @@
 -- How serving ends, each process at devices of its own.
-use Rattle.std.specs.Prelude.{◌≡◌, ◌≢◌, ◌⊎◌, ℕ, List, [], ◌++◌, length, codes, Option}
+use Rattle.std.specs.Prelude.{◌≡◌, ◌≢◌, ◌⊎◌, ℕ, Bool, List, [], ◌++◌, length, codes, Option, Some}
+use Rattle.std.specs.Prelude.{None}
 use Rattle.wall_policy.specs.Policy.{ChineseWall}
 use Rattle.run_model.specs.Comms.{processes}
-use Rattle.hall_core.specs.Halls.{HallValue}
-use Rattle.hall_script.specs.Devices.{Used}
+use Rattle.run_model.specs.Runs.{Entry}
+use Rattle.audit_book.specs.Text.{header_words, line_of}
+use Rattle.hall_script.specs.Devices.{used}
+use Rattle.hall_turn.specs.Machines.{Stands}
+use Rattle.live_book.specs.declared.unbooked.Unbooked.{Unbooked}
+use Rattle.live_book.specs.declared.unbooked.Unbooked.TheVariants as unbookeds
+use Rattle.live_book.specs.Books.{StandsBehind, is_all_booked}
+use Rattle.live_book.specs.Machines.{has_no_book}
+use Rattle.live_book.specs.Writing.{sink_value}
 use Rattle.live_session.specs.declared.peer.Peer.{Peer}
 use Rattle.live_session.specs.declared.peer.Session.{Session}
 use Rattle.live_session.specs.declared.run.ServeFault.{ServeFault}
@@ -11,27 +19,12 @@ use Rattle.live_session.specs.declared.run.ServeFault.TheVariants as serves
 use Rattle.live_session.specs.Hearing.{Heard}
 use Rattle.live_session.specs.Served.{ServedAll}
 use Rattle.program_commands.specs.declared.ending.Ending.{Ending}
-use Rattle.program_commands.specs.declared.ending.Ending.TheVariants.{NoThread, NoMemory}
-use Rattle.program_commands.specs.declared.ending.Ending.TheVariants.{BadArguments}
+use Rattle.program_commands.specs.declared.ending.Ending.TheVariants.{Done, WriteFault, NoThread}
+use Rattle.program_commands.specs.declared.ending.Ending.TheVariants.{NoMemory, BadArguments}
 use Rattle.program_commands.specs.declared.unready.Unready.{Unready}
 use Rattle.program_commands.specs.declared.unready.Unready.TheVariants as unreadies
-use Rattle.program_commands.specs.Replaying.{IsKept, IsUnkept}
-
--- ---- no session
-
--- How it ends where no session began.
-abbrev pub serve_ending : ServeFault → Ending
-serve_ending serves.BadPeers = BadArguments
-serve_ending serves.NoThread = NoThread
-serve_ending serves.NoMemory = NoMemory
-
--- No session began: there are not devices for each process, and no others; or there are, and a
--- thread or memory was refused.
-abbrev pub IsUnserved : {S O : Type 0} → ChineseWall → List (Peer S O) → Ending → Type 0
-IsUnserved wall peers BadArguments = length peers ≢ processes wall
-IsUnserved wall peers NoThread = length peers ≡ processes wall
-IsUnserved wall peers NoMemory = length peers ≡ processes wall
-IsUnserved wall peers ending = ⊥
+use Rattle.program_commands.specs.Endings.{Writes}
+use Rattle.program_commands.specs.Replaying.{text_of}
 
 -- the line on standard error of a server that does not begin
 abbrev pub unready_line : Unready → List ℕ
@@ -39,17 +32,68 @@ unready_line (unreadies.NoPipe name) = codes "no pipe: " ++ (name.now ++ codes "
 unready_line (unreadies.OpenToOthers name) = codes "open to others: " ++ (name.now ++ codes "\n")
 unready_line (unreadies.BookExists path) = codes "book exists: " ++ (path.now ++ codes "\n")
 
+-- how it ends where no session began
+abbrev pub serve_ending : ServeFault → Ending
+serve_ending serves.BadPeers = BadArguments
+serve_ending serves.NoThread = NoThread
+serve_ending serves.NoMemory = NoMemory
+
+-- how it ends where the book was not written to its end
+abbrev pub book_ending : Unbooked → Ending
+book_ending unbookeds.Write = WriteFault
+book_ending unbookeds.NoMemory = NoMemory
+book_ending unbookeds.TooLong = NoMemory
+
+-- ---- the book
+
+-- the first line of a book
+abbrev pub first_line : ChineseWall → List ℕ
+first_line wall = line_of (header_words wall.version)
+
+module _ {B : Type 0} (spoilt : B → ℕ) (kept : B → Option (List ℕ)) where
+  -- The writer came back, and it ended so at the first line of the book.
+  abbrev pub IsUnopened : ChineseWall → (book back : Option B) → Ending → Type 0
+  IsUnopened wall book back ending = (old : B) × (new : B) × (book ≡ Some old)
+      × (back ≡ Some new) × Writes (used spoilt kept old new) (first_line wall) ending
+
+  -- No session began. There are not devices for each process, and no others; then the writer came
+  -- back as it was. Or there are, and a thread or memory was refused, and the writer was let go; or
+  -- the first line of the book was not written.
+  abbrev pub IsUnserved : {S O : Type 0} → ChineseWall → List (Peer S O) → (book back : Option B) →
+      Ending → Type 0
+  IsUnserved wall peers book back BadArguments =
+      (length peers ≢ processes wall) × (back ≡ book)
+  IsUnserved wall peers book back NoThread = (length peers ≡ processes wall) × (back ≡ None)
+  IsUnserved wall peers book back NoMemory = (length peers ≡ processes wall)
+      × ((back ≡ None) ⊎ IsUnopened wall book back NoMemory)
+  IsUnserved wall peers book back WriteFault =
+      (length peers ≡ processes wall) × IsUnopened wall book back WriteFault
+  IsUnserved wall peers book back ending = ⊥
+
 -- ---- all sessions
 
 module _ {S O : Type 0} (fails : S → ℕ) (left : S → Option (List ℕ))
     (heard : S → Option (List Heard)) (failures : O → ℕ) (contents : O → Option (List ℕ)) where
-  -- How serving ends: no session began, and no book was kept; or all have ended, in a legal run in
-  -- which the calls of each process are those of its session, and then the book of that very run
-  -- was kept.
-  abbrev pub ServeEnds : {B : Type 0} → ChineseWall → List (Peer S O) → List (Session S O)
-      → Option (Used B) → Ending → Type 0
-  ServeEnds wall peers sessions book ending =
-      (IsUnserved wall peers ending × (sessions ≡ []) × IsUnkept book)
-      ⊎ ((hall : HallValue)
-      × (served : ServedAll fails left heard failures contents wall peers sessions hall)
-      × IsKept wall served.run book ending)
+  -- All sessions have ended, at such a machine, in a legal run in which the calls of each process
+  -- are those of its session; and this is so of that very run.
+  abbrev pub HaveEndedIn : {M : Type 0} → (ChineseWall → M → List Entry → Type 0) → (M → Bool) →
+      ChineseWall → List (Peer S O) → List (Session S O) → (List Entry → Type 0) → Type 0
+  HaveEndedIn {M = M} stands is_booked wall peers sessions IsSoOf = (machine : M)
+      × (served : ServedAll fails left heard failures contents stands is_booked wall peers sessions
+      machine) × IsSoOf served.run
+
+  module _ {B : Type 0} (spoilt : B → ℕ) (kept lasting : B → Option (List ℕ)) where
+    -- How serving ends: no session began; or all have ended. Where there is a book, no reply was
+    -- told before its entries were written behind what the writer had at first, and the writer came
+    -- back with the whole text of the run's book, or with a beginning of it and why no more.
+    abbrev pub ServeEnds : ChineseWall → List (Peer S O) → (book : Option B) → List (Session S O) →
+        (back : Option B) → Ending → Type 0
+    ServeEnds wall peers None sessions back ending =
+        (IsUnserved spoilt kept wall peers None back ending × (sessions ≡ []))
+        ⊎ HaveEndedIn Stands has_no_book wall peers sessions
+        (λ run. (ending ≡ Done) × (back ≡ None))
+    ServeEnds wall peers (Some old) sessions back ending =
+        (IsUnserved spoilt kept wall peers (Some old) back ending × (sessions ≡ []))
+        ⊎ HaveEndedIn (StandsBehind (sink_value kept lasting spoilt old)) is_all_booked wall peers
+        sessions (λ run. (new : B) × (back ≡ Some new)
+        × Writes (used spoilt kept old new) (text_of wall run) ending)

@@ -1,14 +1,17 @@
 //! Audits a book under a policy, over any devices.
-ghost use Rattle.std.specs.Prelude.{◌≡◌, Ok, IfOk, IfErr, OnOk, OnErr};
+ghost use Rattle.std.specs.Prelude.{◌≡◌, Ok, IfOk, IfErr, OnOk, OnErr, All};
+ghost use Rattle.run_model.specs.Known.{IsKnownEntry};
 ghost use Rattle.audit_book.specs.Reading.{book_in};
 ghost use Rattle.hall_script.specs.Devices.{used, IsWritten, BrokeOff};
 ghost use Rattle.program_commands.specs.Endings.{EndsSo};
 ghost use Rattle.program_commands.specs.Auditing.{text_ending, finding_ending, finding_line};
 ghost use Rattle.program_commands.specs.Auditing.{IsBookOf, GivesNoBook};
 ghost use Rattle.program_commands.specs.Auditing.{IsNoBook, IsFound, Announces, Audits, AuditEnds};
+ghost use Rattle.program_commands.specs.Earlier.{earlier_books};
+ghost use Rattle.program_commands.specs.Continuing.{AuditAfterEnds};
 
+use crate::earlier::{Earlier, no_earlier, read_wall_after};
 use crate::ending::{Ending, end, write_numbered};
-use crate::wall::read_wall;
 use audit_book::{Book, BookFault, ReadFault, check_book, read_book};
 use hall_script::{DeviceFault, read_device};
 use std::alloc::Global;
@@ -26,7 +29,7 @@ pub(crate) enum Finding {
     Unsound(u64),
 }
 
-fn text_ending(fault: ReadFault) -> Ending
+fn text_ending(fault: ReadFault) -> Ending<'static>
     ensures { result ≡ text_ending fault }
 {
     match fault {
@@ -36,7 +39,7 @@ fn text_ending(fault: ReadFault) -> Ending
     }
 }
 
-fn finding_ending(finding: Finding) -> Ending
+pub(crate) fn finding_ending(finding: Finding) -> Ending<'static>
     ensures { result ≡ finding_ending finding }
 {
     match finding {
@@ -46,7 +49,8 @@ fn finding_ending(finding: Finding) -> Ending
 }
 
 // Reads the text of a book. Out of memory comes only in place of a book.
-fn book_of(alloc: Global, wall: &Policy, text: &[u8]) -> Result<Book, Ending>
+fn book_of(alloc: Global, wall: &Policy, text: &[u8]) -> Result<Book, Ending<'static>>
+    ensures known { IfOk result (λ book. All (IsKnownEntry wall.now) book.list) }
     ensures book { IfOk result (λ book. book_in wall.now text.now ≡ Ok book.list) }
     ensures ending { IfErr result (GivesNoBook wall.now text.now) }
 {
@@ -57,7 +61,12 @@ fn book_of(alloc: Global, wall: &Policy, text: &[u8]) -> Result<Book, Ending>
 }
 
 // Reads a book whole.
-fn read_entries<B: Source>(alloc: Global, wall: &Policy, source: &mut B) -> Result<Book, Ending>
+pub(crate) fn read_entries<B: Source>(
+    alloc: Global,
+    wall: &Policy,
+    source: &mut B,
+) -> Result<Book, Ending<'static>>
+    ensures known { IfOk result (λ book. All (IsKnownEntry wall.now) book.list) }
     ensures book { let device = used B.failures B.remaining source.old source.new in
         IfOk result (λ book. IsBookOf wall.now device book.list) }
     ensures ending { let device = used B.failures B.remaining source.old source.new in
@@ -71,7 +80,7 @@ fn read_entries<B: Source>(alloc: Global, wall: &Policy, source: &mut B) -> Resu
 }
 
 // Checks a book.
-fn judge(alloc: Global, wall: &Policy, book: &Book) -> Result<Finding, NoMemory>
+pub(crate) fn judge(alloc: Global, wall: &Policy, book: &Book) -> Result<Finding, NoMemory>
     ensures { IfOk result (IsFound wall.now book.now.list) }
 {
     match check_book(alloc, wall, book) {
@@ -95,7 +104,7 @@ fn write_finding<O: Sink>(out: &mut O, finding: Finding) -> Result<(), Failed>
 }
 
 // Tells the finding.
-fn tell<O: Sink>(out: &mut O, finding: Finding) -> Ending
+pub(crate) fn tell<O: Sink>(out: &mut O, finding: Finding) -> Ending<'static>
     ensures { Announces finding (used O.failures O.contents out.old out.new) result }
 {
     match write_finding(out, finding) {
@@ -110,7 +119,7 @@ fn audit_under<B: Source, O: Sink>(
     wall: &Policy,
     book: &mut B,
     out: &mut O,
-) -> Ending
+) -> Ending<'static>
     ensures { Audits wall.now
         (used B.failures B.remaining book.old book.new)
         (used O.failures O.contents out.old out.new)
@@ -128,20 +137,22 @@ fn audit_under<B: Source, O: Sink>(
     }
 }
 
-// Reads and judges the policy, and then audits the book.
-fn audit_devices<P: Source, B: Source, O: Sink>(
+// Reads and judges the policy and the earlier books, and then audits the book.
+fn audit_devices<'a, P: Source, D: Source + Drop, B: Source, O: Sink>(
     alloc: Global,
     policy: &mut P,
+    earlier: Vec<Earlier<'a, D>>,
     book: &mut B,
     out: &mut O,
-) -> Ending
-    ensures { AuditEnds
+) -> Ending<'a>
+    ensures { AuditAfterEnds
         (used P.failures P.remaining policy.old policy.new)
+        (earlier_books D.failures D.remaining earlier.entry.items)
         (used B.failures B.remaining book.old book.new)
         (used O.failures O.contents out.old out.new)
         result }
 {
-    let wall = match read_wall(alloc, policy) {
+    let wall = match read_wall_after(alloc, policy, earlier) {
         Ok(wall) => wall,
         Err(ending) => return ending,
     };
@@ -172,6 +183,27 @@ pub fn audit_on<P: Source, B: Source, O: Sink, E: Sink>(
         (used E.failures E.contents err.old err.new)
         result }
 {
-    let ending = audit_devices(alloc, policy, book, out);
+    audit_after(alloc, policy, no_earlier(alloc), book, out, err)
+}
+
+/// The same under the policy for what comes after earlier books, as `read_wall_after` gives it.
+pub fn audit_after<P: Source, D: Source + Drop, B: Source, O: Sink, E: Sink>(
+    alloc: Global,
+    policy: &mut P,
+    earlier: Vec<Earlier<D>>,
+    book: &mut B,
+    out: &mut O,
+    err: &mut E,
+) -> u8
+    ensures { EndsSo
+        (AuditAfterEnds
+        (used P.failures P.remaining policy.old policy.new)
+        (earlier_books D.failures D.remaining earlier.entry.items)
+        (used B.failures B.remaining book.old book.new)
+        (used O.failures O.contents out.old out.new))
+        (used E.failures E.contents err.old err.new)
+        result }
+{
+    let ending = audit_devices(alloc, policy, earlier, book, out);
     end(err, ending)
 }

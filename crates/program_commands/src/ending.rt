@@ -2,16 +2,27 @@
 ghost use Rattle.std.specs.Prelude.{◌≡◌, ◌++◌, OnOk, OnErr, codes};
 ghost use Rattle.hall_script.specs.Devices.{used, IsWritten, BrokeOff};
 ghost use Rattle.program_commands.specs.Endings.{status_of, error_line, numbered_line};
-ghost use Rattle.program_commands.specs.Endings.{policy_fault_text};
+ghost use Rattle.program_commands.specs.Endings.{policy_fault_text, earlier_fault_text};
 ghost use Rattle.program_commands.specs.Endings.{line_fault_text, IsTold};
 
 use coll_text::LineFault;
 use wall_labels::{Failed, Sink, write_all};
 use wall_policy::PolicyFault;
 
+/// What is wrong with an earlier book. Lines and entries count from 1.
+#[derive(Clone, Copy, Debug, PartialEq, Eq)]
+pub enum EarlierFault {
+    /// The line of this number is the first that is not in its form, or that stands behind the end.
+    BadLine(u64),
+    /// It stops before a finished `end` line, and all finished lines are in their form.
+    Cut,
+    /// The entry of this number is the first that is not what the posts of the book give.
+    Unsound(u64),
+}
+
 /// How the program ends. Lines and entries count from 1.
 #[derive(Clone, Copy, Debug, PartialEq, Eq)]
-pub enum Ending {
+pub enum Ending<'a> {
     /// All was done.
     Done,
     /// The policy file is refused.
@@ -25,6 +36,8 @@ pub enum Ending {
     CutBook,
     /// The entry of this number is the first that is not what the posts of the book give.
     Unsound(u64),
+    /// The earlier book at this path is none, or is not sound.
+    BadEarlier(&'a str, EarlierFault),
     /// A reader failed, or a file is too long.
     ReadFault,
     /// The writer failed.
@@ -40,7 +53,7 @@ pub enum Ending {
 }
 
 fn status(ending: Ending) -> u8
-    ensures { result ≡ status_of ending }
+    ensures { result ≡ status_of ending.entry }
 {
     match ending {
         Ending::Done => 0,
@@ -48,6 +61,7 @@ fn status(ending: Ending) -> u8
         Ending::BadLine(..) => 2,
         Ending::BadBookLine(_) | Ending::CutBook => 2,
         Ending::Unsound(_) => 2,
+        Ending::BadEarlier(..) => 2,
         Ending::ReadFault | Ending::WriteFault => 3,
         Ending::NoThread | Ending::Exhausted => 4,
         Ending::NoMemory => 4,
@@ -56,7 +70,7 @@ fn status(ending: Ending) -> u8
 }
 
 // The fault's name, and the end of the line.
-fn policy_fault(fault: PolicyFault) -> &'static str
+pub(crate) fn policy_fault(fault: PolicyFault) -> &'static str
     ensures { result.now ≡ policy_fault_text fault }
 {
     match fault {
@@ -93,7 +107,7 @@ fn line_fault(fault: LineFault) -> &'static str
 }
 
 // Writes one after the other.
-fn write_two<W: Sink>(sink: &mut W, first: &[u8], second: &[u8]) -> Result<(), Failed>
+pub(crate) fn write_two<W: Sink>(sink: &mut W, first: &[u8], second: &[u8]) -> Result<(), Failed>
     ensures written { let device = used W.failures W.contents sink.old sink.new in
         OnOk result (IsWritten device (first.now ++ second.now)) }
     ensures broken { let device = used W.failures W.contents sink.old sink.new in
@@ -157,12 +171,44 @@ fn write_bad_line<W: Sink>(sink: &mut W, number: u64, fault: LineFault) -> Resul
     }
 }
 
+// Writes what is wrong with an earlier book, behind its path.
+fn write_earlier_fault<W: Sink>(sink: &mut W, fault: EarlierFault) -> Result<(), Failed>
+    ensures written { let device = used W.failures W.contents sink.old sink.new in
+        OnOk result (IsWritten device (earlier_fault_text fault)) }
+    ensures broken { let device = used W.failures W.contents sink.old sink.new in
+        OnErr result (BrokeOff device (earlier_fault_text fault)) }
+{
+    match fault {
+        EarlierFault::BadLine(number) => write_numbered(sink, b": line ", number),
+        EarlierFault::Cut => write_all(sink, b": cut\n"),
+        EarlierFault::Unsound(number) => write_numbered(sink, b": unsound at entry ", number),
+    }
+}
+
+// Writes `after PATH: ` and what is wrong with that book.
+fn write_bad_earlier<W: Sink>(sink: &mut W, path: &str, fault: EarlierFault) -> Result<(), Failed>
+    ensures written { let device = used W.failures W.contents sink.old sink.new in
+        let line = (codes "after " ++ path.now) ++ earlier_fault_text fault in
+        OnOk result (IsWritten device line) }
+    ensures broken { let device = used W.failures W.contents sink.old sink.new in
+        let line = (codes "after " ++ path.now) ++ earlier_fault_text fault in
+        OnErr result (BrokeOff device line) }
+{
+    match write_two(sink, b"after ", path.as_bytes()) {
+        Ok(()) => match write_earlier_fault(sink, fault) {
+            Ok(()) => Ok(()),
+            Err(_) => Err(Failed),
+        },
+        Err(_) => Err(Failed),
+    }
+}
+
 // Writes the ending's line, if it has one.
 fn write_ending<W: Sink>(sink: &mut W, ending: Ending) -> Result<(), Failed>
     ensures written { let device = used W.failures W.contents sink.old sink.new in
-        OnOk result (IsWritten device (error_line ending)) }
+        OnOk result (IsWritten device (error_line ending.entry)) }
     ensures broken { let device = used W.failures W.contents sink.old sink.new in
-        OnErr result (BrokeOff device (error_line ending)) }
+        OnErr result (BrokeOff device (error_line ending.entry)) }
 {
     match ending {
         Ending::Done | Ending::Unsound(_) => Ok(()),
@@ -170,6 +216,7 @@ fn write_ending<W: Sink>(sink: &mut W, ending: Ending) -> Result<(), Failed>
         Ending::BadLine(number, fault) => write_bad_line(sink, number, fault),
         Ending::BadBookLine(number) => write_numbered(sink, b"book: line ", number),
         Ending::CutBook => write_all(sink, b"book: cut\n"),
+        Ending::BadEarlier(path, fault) => write_bad_earlier(sink, path, fault),
         Ending::ReadFault => write_all(sink, b"read fault\n"),
         Ending::WriteFault => write_all(sink, b"write fault\n"),
         Ending::NoThread => write_all(sink, b"no thread\n"),
@@ -182,8 +229,8 @@ fn write_ending<W: Sink>(sink: &mut W, ending: Ending) -> Result<(), Failed>
 /// Writes the ending's line, if it has one, and gives the status. A writer that fails changes
 /// nothing of that.
 pub fn end<W: Sink>(err: &mut W, ending: Ending) -> u8
-    ensures status { result ≡ status_of ending }
-    ensures told { IsTold (used W.failures W.contents err.old err.new) (error_line ending) }
+    ensures status { result ≡ status_of ending.entry }
+    ensures told { IsTold (used W.failures W.contents err.old err.new) (error_line ending.entry) }
 {
     match write_ending(err, ending) {
         Ok(()) => status(ending),

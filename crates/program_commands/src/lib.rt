@@ -3,17 +3,27 @@
 #![tactic(auto)]
 
 mod audit;
+mod check;
+mod earlier;
 mod ending;
 mod replay;
+mod report;
 mod run;
+mod seal;
 mod serve;
+mod text;
 mod unready;
 mod wall;
 
-pub use audit::{BOOK_LIMIT, audit_on};
-pub use ending::{Ending, end};
-pub use replay::replay_on;
-pub use run::run_on;
+pub use audit::{BOOK_LIMIT, audit_after, audit_on};
+pub use check::check_on;
+pub use earlier::{Earlier, read_wall_after};
+pub use ending::{EarlierFault, Ending, end};
+pub use replay::{replay_after, replay_on};
+pub use report::report_on;
+pub use run::{run_after, run_on};
+pub use seal::seal_on;
 pub use serve::{ServeEnd, serve_on};
+pub use text::text_on;
 pub use unready::{Unready, refuse};
 pub use wall::read_wall;

@@ -6,16 +6,18 @@ ghost use Rattle.program_commands.specs.Endings.{Writes, EndsSo};
 ghost use Rattle.hall_script.specs.Devices.{used};
 ghost use Rattle.program_commands.specs.Replaying.{script_ending, text_of, perhaps, no_book};
 ghost use Rattle.program_commands.specs.Replaying.{ReplayEnds};
+ghost use Rattle.program_commands.specs.Earlier.{earlier_books};
+ghost use Rattle.program_commands.specs.Continuing.{ReplayAfterEnds};
 
+use crate::earlier::{Earlier, no_earlier, read_wall_after};
 use crate::ending::{Ending, end};
-use crate::wall::read_wall;
 use audit_book::{WriteFault, write_book};
 use hall_core::Hall;
 use hall_script::{ScriptFault, replay};
 use std::alloc::Global;
 use wall_labels::{Sink, Source};
 
-pub(crate) fn script_ending(fault: ScriptFault) -> Ending
+pub(crate) fn script_ending(fault: ScriptFault) -> Ending<'static>
     ensures { result ≡ script_ending fault }
 {
     match fault {
@@ -27,7 +29,7 @@ pub(crate) fn script_ending(fault: ScriptFault) -> Ending
 }
 
 // Writes the hall's book.
-pub(crate) fn keep<B: Sink>(alloc: Global, hall: &Hall, book: &mut B) -> Ending
+pub(crate) fn keep<B: Sink>(alloc: Global, hall: &Hall, book: &mut B) -> Ending<'static>
     ensures { (run : List Entry) → StandsFor hall.now run → Writes
         (used B.failures B.contents book.old book.new) (text_of hall.now.policy run) result }
 {
@@ -38,21 +40,23 @@ pub(crate) fn keep<B: Sink>(alloc: Global, hall: &Hall, book: &mut B) -> Ending
     }
 }
 
-// Reads and judges the policy, and then replays the script.
-fn replay_devices<P: Source, S: Source, O: Sink>(
+// Reads and judges the policy and the earlier books, and then replays the script.
+fn replay_devices<'a, P: Source, D: Source + Drop, S: Source, O: Sink>(
     alloc: Global,
     policy: &mut P,
+    earlier: Vec<Earlier<'a, D>>,
     script: &mut S,
     out: &mut O,
-) -> Ending
-    ensures { ReplayEnds
+) -> Ending<'a>
+    ensures { ReplayAfterEnds
         (used P.failures P.remaining policy.old policy.new)
+        (earlier_books D.failures D.remaining earlier.entry.items)
         (used S.failures S.remaining script.old script.new)
         (used O.failures O.contents out.old out.new)
         no_book
         result }
 {
-    let wall = match read_wall(alloc, policy) {
+    let wall = match read_wall_after(alloc, policy, earlier) {
         Ok(wall) => wall,
         Err(ending) => return ending,
     };
@@ -63,22 +67,25 @@ fn replay_devices<P: Source, S: Source, O: Sink>(
     Ending::Done
 }
 
-// Reads and judges the policy, replays the script, and writes the book of its run.
-fn replay_keeping<P: Source, S: Source, O: Sink, B: Sink>(
+// Reads and judges the policy and the earlier books, replays the script, and writes the book of its
+// run.
+fn replay_keeping<'a, P: Source, D: Source + Drop, S: Source, O: Sink, B: Sink>(
     alloc: Global,
     policy: &mut P,
+    earlier: Vec<Earlier<'a, D>>,
     script: &mut S,
     out: &mut O,
     book: &mut B,
-) -> Ending
-    ensures { ReplayEnds
+) -> Ending<'a>
+    ensures { ReplayAfterEnds
         (used P.failures P.remaining policy.old policy.new)
+        (earlier_books D.failures D.remaining earlier.entry.items)
         (used S.failures S.remaining script.old script.new)
         (used O.failures O.contents out.old out.new)
         (Some (used B.failures B.contents book.old book.new))
         result }
 {
-    let wall = match read_wall(alloc, policy) {
+    let wall = match read_wall_after(alloc, policy, earlier) {
         Ok(wall) => wall,
         Err(ending) => return ending,
     };
@@ -114,13 +121,47 @@ pub fn replay_on<P: Source, S: Source, O: Sink, E: Sink, B: Sink>(
         (used E.failures E.contents err.old err.new)
         result }
 {
+    let none = no_earlier(alloc);
     match book {
         Some(book) => {
-            let ending = replay_keeping(alloc, policy, script, out, book);
+            let ending = replay_keeping(alloc, policy, none, script, out, book);
             end(err, ending)
         }
         None => {
-            let ending = replay_devices(alloc, policy, script, out);
+            let ending = replay_devices(alloc, policy, none, script, out);
+            end(err, ending)
+        }
+    }
+}
+
+/// The same under the policy for what comes after earlier books, as `read_wall_after` gives it. The
+/// earlier books are read and judged before the script is looked at.
+pub fn replay_after<P: Source, D: Source + Drop, S: Source, O: Sink, E: Sink, B: Sink>(
+    alloc: Global,
+    policy: &mut P,
+    earlier: Vec<Earlier<D>>,
+    script: &mut S,
+    out: &mut O,
+    err: &mut E,
+    book: Option<&mut B>,
+) -> u8
+    ensures { EndsSo
+        (ReplayAfterEnds
+        (used P.failures P.remaining policy.old policy.new)
+        (earlier_books D.failures D.remaining earlier.entry.items)
+        (used S.failures S.remaining script.old script.new)
+        (used O.failures O.contents out.old out.new)
+        (perhaps B.failures B.contents book.entry book.exit))
+        (used E.failures E.contents err.old err.new)
+        result }
+{
+    match book {
+        Some(book) => {
+            let ending = replay_keeping(alloc, policy, earlier, script, out, book);
+            end(err, ending)
+        }
+        None => {
+            let ending = replay_devices(alloc, policy, earlier, script, out);
             end(err, ending)
         }
     }

@@ -13,10 +13,12 @@ ghost use Rattle.program_commands.specs.Running.{rank_line, reply_lines, rank_te
 ghost use Rattle.program_commands.specs.Running.{IsNoScript, run_ending, IsNoRun, break_ending};
 ghost use Rattle.program_commands.specs.Running.{Breaks};
 ghost use Rattle.program_commands.specs.Running.{FellShort, Reached, RunEnds};
+ghost use Rattle.program_commands.specs.Earlier.{earlier_books};
+ghost use Rattle.program_commands.specs.Continuing.{RunAfterEnds};
 
+use crate::earlier::{Earlier, no_earlier, read_wall_after};
 use crate::ending::{Ending, end};
 use crate::replay::{keep, script_ending};
-use crate::wall::read_wall;
 use audit_book::WriteFault;
 use hall_core::{Hall, Reply};
 use hall_script::{DeviceFault, SCRIPT_LIMIT, Scripts, read_device, split_script, write_reply};
@@ -28,7 +30,11 @@ use wall_labels::{NoMemory, ProcessId, Sink, Source, write_all};
 use wall_policy::Policy;
 
 // Reads a script whole, and gives each process its acts.
-fn read_scripts<S: Source>(alloc: Global, wall: &Policy, source: &mut S) -> Result<Scripts, Ending>
+fn read_scripts<S: Source>(
+    alloc: Global,
+    wall: &Policy,
+    source: &mut S,
+) -> Result<Scripts, Ending<'static>>
     ensures scripts { let device = used S.failures S.remaining source.old source.new in
         IfOk result (IsScriptOf wall.now device) }
     ensures named { IfOk result (ScriptsHaveKnownLabels wall.now) }
@@ -45,10 +51,10 @@ fn read_scripts<S: Source>(alloc: Global, wall: &Policy, source: &mut S) -> Resu
     }
 }
 
-impl From<RunFault> for Ending {
+impl From<RunFault> for Ending<'static> {
     ghost from_gives = { λ fault ending. ending ≡ run_ending fault };
 
-    fn from(fault: RunFault) -> Ending {
+    fn from(fault: RunFault) -> Ending<'static> {
         match fault {
             RunFault::BadScripts => Ending::BadArguments,
             RunFault::NoThread => Ending::NoThread,
@@ -64,7 +70,7 @@ fn run_scripts<R: Threads + Wait + Sync>(
     alloc: Global,
     wall: Policy,
     scripts: Scripts,
-) -> Result<Run, Ending>
+) -> Result<Run, Ending<'static>>
     requires named { ScriptsHaveKnownLabels wall scripts }
     requires long { length scripts ≡ processes wall }
     ensures ran { IfOk result (λ run. Ran script_patience wall scripts run.replies run.hall) }
@@ -181,7 +187,7 @@ fn write_ranks<O: Sink>(
     Ok(())
 }
 
-fn break_ending(fault: WriteFault) -> Ending
+fn break_ending(fault: WriteFault) -> Ending<'static>
     ensures { result ≡ break_ending fault }
 {
     match fault {
@@ -197,7 +203,7 @@ fn play<R: Threads + Wait + Sync, S: Source, O: Sink>(
     wall: Policy,
     script: &mut S,
     out: &mut O,
-) -> Result<Hall, Ending>
+) -> Result<Hall, Ending<'static>>
     ensures reached { let script = used S.failures S.remaining script.old script.new in
         let out = used O.failures O.contents out.old out.new in
         IfOk result (Reached wall script out) }
@@ -228,22 +234,24 @@ fn play<R: Threads + Wait + Sync, S: Source, O: Sink>(
     }
 }
 
-// Reads and judges the policy, and then runs the script.
-fn run_devices<R: Threads + Wait + Sync, P: Source, S: Source, O: Sink>(
+// Reads and judges the policy and the earlier books, and then runs the script.
+fn run_devices<'a, R: Threads + Wait + Sync, P: Source, D: Source + Drop, S: Source, O: Sink>(
     rt: &R,
     alloc: Global,
     policy: &mut P,
+    earlier: Vec<Earlier<'a, D>>,
     script: &mut S,
     out: &mut O,
-) -> Ending
-    ensures { RunEnds
+) -> Ending<'a>
+    ensures { RunAfterEnds
         (used P.failures P.remaining policy.old policy.new)
+        (earlier_books D.failures D.remaining earlier.entry.items)
         (used S.failures S.remaining script.old script.new)
         (used O.failures O.contents out.old out.new)
         no_book
         result }
 {
-    let wall = match read_wall(alloc, policy) {
+    let wall = match read_wall_after(alloc, policy, earlier) {
         Ok(wall) => wall,
         Err(ending) => return ending,
     };
@@ -254,23 +262,28 @@ fn run_devices<R: Threads + Wait + Sync, P: Source, S: Source, O: Sink>(
     Ending::Done
 }
 
-// Reads and judges the policy, runs the script, and writes the book of its run.
-fn run_keeping<R: Threads + Wait + Sync, P: Source, S: Source, O: Sink, B: Sink>(
+// Reads and judges the policy and the earlier books, runs the script, and writes the book of its
+// run.
+fn run_keeping<'a, R, P: Source, D: Source + Drop, S: Source, O: Sink, B: Sink>(
     rt: &R,
     alloc: Global,
     policy: &mut P,
+    earlier: Vec<Earlier<'a, D>>,
     script: &mut S,
     out: &mut O,
     book: &mut B,
-) -> Ending
-    ensures { RunEnds
+) -> Ending<'a>
+where
+    R: Threads + Wait + Sync,
+    ensures { RunAfterEnds
         (used P.failures P.remaining policy.old policy.new)
+        (earlier_books D.failures D.remaining earlier.entry.items)
         (used S.failures S.remaining script.old script.new)
         (used O.failures O.contents out.old out.new)
         (Some (used B.failures B.contents book.old book.new))
         result }
 {
-    let wall = match read_wall(alloc, policy) {
+    let wall = match read_wall_after(alloc, policy, earlier) {
         Ok(wall) => wall,
         Err(ending) => return ending,
     };
@@ -310,13 +323,50 @@ pub fn run_on<R: Threads + Wait + Sync, P: Source, S: Source, O: Sink, E: Sink, 
         (used E.failures E.contents err.old err.new)
         result }
 {
+    let none = no_earlier(alloc);
     match book {
         Some(book) => {
-            let ending = run_keeping(rt, alloc, policy, script, out, book);
+            let ending = run_keeping(rt, alloc, policy, none, script, out, book);
             end(err, ending)
         }
         None => {
-            let ending = run_devices(rt, alloc, policy, script, out);
+            let ending = run_devices(rt, alloc, policy, none, script, out);
+            end(err, ending)
+        }
+    }
+}
+
+/// The same under the policy for what comes after earlier books, as `read_wall_after` gives it. The
+/// earlier books are read and judged before the script is looked at.
+pub fn run_after<R, P: Source, D: Source + Drop, S: Source, O: Sink, E: Sink, B: Sink>(
+    rt: &R,
+    alloc: Global,
+    policy: &mut P,
+    earlier: Vec<Earlier<D>>,
+    script: &mut S,
+    out: &mut O,
+    err: &mut E,
+    book: Option<&mut B>,
+) -> u8
+where
+    R: Threads + Wait + Sync,
+    ensures { EndsSo
+        (RunAfterEnds
+        (used P.failures P.remaining policy.old policy.new)
+        (earlier_books D.failures D.remaining earlier.entry.items)
+        (used S.failures S.remaining script.old script.new)
+        (used O.failures O.contents out.old out.new)
+        (perhaps B.failures B.contents book.entry book.exit))
+        (used E.failures E.contents err.old err.new)
+        result }
+{
+    match book {
+        Some(book) => {
+            let ending = run_keeping(rt, alloc, policy, earlier, script, out, book);
+            end(err, ending)
+        }
+        None => {
+            let ending = run_devices(rt, alloc, policy, earlier, script, out);
             end(err, ending)
         }
     }

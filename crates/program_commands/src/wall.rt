@@ -9,7 +9,7 @@ use std::alloc::Global;
 use wall_labels::Source;
 use wall_policy::{Policy, PolicyFault, read_policy};
 
-fn policy_ending(fault: PolicyFault) -> Ending
+fn policy_ending(fault: PolicyFault) -> Ending<'static>
     ensures { result ≡ policy_ending fault }
 {
     match fault {
@@ -20,7 +20,7 @@ fn policy_ending(fault: PolicyFault) -> Ending
 
 /// Reads a policy file whole, and judges it; or how the program ends where there is no policy. A
 /// file of more than `SCRIPT_LIMIT` bytes is a read fault.
-pub fn read_wall<P: Source>(alloc: Global, source: &mut P) -> Result<Policy, Ending>
+pub fn read_wall<P: Source>(alloc: Global, source: &mut P) -> Result<Policy, Ending<'static>>
     ensures policy { let device = used P.failures P.remaining source.old source.new in
         IfOk result (IsPolicyOf device) }
     ensures ending { let device = used P.failures P.remaining source.old source.new in

@@ -1,15 +1,37 @@
-use Rattle.std.proofs.Common.{refl}
-use Rattle.program_commands.specs.declared.ending.Ending.TheVariants.{Done}
-use Rattle.program_commands.specs.Replaying.{no_book}
-use Rattle.program_commands.proofs.ServeLemmas.{all_ended}
+use Rattle.std.proofs.Common.{◌∙◌, None, inl, inr, refl, sym}
+use Rattle.program_commands.specs.declared.ending.Ending.TheVariants.{Done, NoMemory}
+use Rattle.program_commands.proofs.ServeLemmas.{let_go}
 use Rattle.program_commands.proofs.serve.serve_bookless.Goals as goal
 
-pub returns-in-Ok : goal.returns-in-Ok
-returns-in-Ok g c = (
+pub returns-in_default : goal.returns-in_default
+returns-in_default g c = (
+  NoMemory,
+  inl (
+    (sym c.args.peers.ok.0 ∙ c.requires, inl c.unserved.ensures.book),
+    c.unserved.ensures.sessions,
+  ),
+  c.unserved.ensures.status,
+  c.unserved.ensures.told,
+)
+
+pub returns-in-Ok-serve_all : goal.returns-in-Ok-serve_all
+returns-in-Ok-serve_all g c = (
   Done,
-  all_ended g.S.Desk.failures g.S.Desk.remaining g.S.Desk.heard g.O.Sink.failures g.O.Sink.contents
-      c.args.policy.now c.args.peers.items c.in-Ok.served.sessions.items c.in-Ok.served.hall no_book
-      Done c.in-Ok.ensures.served (λ run stands. refl),
+  inr (c.in-Ok-serve_all.served.machine, c.in-Ok-serve_all.ensures.served, (refl, refl)),
   c.end-status.ensures.status,
   c.end-status.ensures.told,
+)
+
+pub returns-in-Err : goal.returns-in-Err
+returns-in-Err g c = (
+  c.serve_ending.result,
+  inl (
+    let_go g.B.Sink.failures g.B.Sink.contents c.args.policy.now c.args.peers.items None
+        c.unserved-in-Err.result.book c.in-Err.fault c.serve_ending.result c.args.peers.len
+        c.args.peers.ok.0 c.requires c.in-Err.ensures.bad_peers c.unserved-in-Err.ensures.book
+        c.serve_ending.ensures,
+    c.unserved-in-Err.ensures.sessions,
+  ),
+  c.unserved-in-Err.ensures.status,
+  c.unserved-in-Err.ensures.told,
 )

@@ -1,0 +1,183 @@
+-- How a check ends.
+use Rattle.std.specs.Prelude.{◌≡◌, ℕ, ◌<◌, ◌⊎◌, List, [], ◌++◌, length, codes, Ok, Err}
+use Rattle.std.specs.Prelude.{Option, Some, None}
+use Rattle.std.specs.Fmt.{decimal}
+use Rattle.wall_policy.specs.declared.fault.PolicyFault.{PolicyFault}
+use Rattle.wall_policy.specs.Policy.{ChineseWall}
+use Rattle.wall_policy.specs.Answer.{answer_to}
+use Rattle.policy_places.specs.declared.place.Found.{Found}
+use Rattle.policy_places.specs.declared.place.Place.{Place}
+use Rattle.policy_places.specs.Places.{IsPlace}
+use Rattle.coll_text.specs.declared.fault.LineFault.{LineFault}
+use Rattle.run_model.specs.declared.entry.Entry.{Entry}
+use Rattle.meaning_text.specs.Sentences.{IsMeaning}
+use Rattle.check_text.specs.declared.faults.ScriptFaults.{ScriptFaults}
+use Rattle.check_text.specs.Lines.{AreLines}
+use Rattle.hall_script.specs.Devices.{Used, used, IsUntouched, NeverFailed, IsRead}
+use Rattle.hall_script.specs.Devices.{IsUnreadable, IsWritten, BrokeOff}
+use Rattle.hall_script.specs.Scripts.{script_limit}
+use Rattle.program_commands.specs.declared.audit.Finding.{Finding}
+use Rattle.program_commands.specs.declared.ending.Ending.{Ending}
+use Rattle.program_commands.specs.declared.ending.Ending.TheVariants.{Done, BadPolicy, BadLine}
+use Rattle.program_commands.specs.declared.ending.Ending.TheVariants.{ReadFault, WriteFault, NoMemory}
+use Rattle.program_commands.specs.Endings.{policy_fault_text}
+use Rattle.program_commands.specs.Auditing.{finding_line, finding_ending, IsFound, IsBookOf}
+use Rattle.program_commands.specs.Auditing.{IsNoBook}
+
+-- the first of two that is at fault
+abbrev pub first_ending : Ending → Ending → Ending
+first_ending Done second = second
+first_ending first second = first
+
+-- nothing is told, and it ends so
+abbrev pub TellsNone : (how : Ending) → (text : List ℕ) → Ending → Type 0
+TellsNone how text ending = (text ≡ []) × (ending ≡ how)
+
+-- ---- what is told of each file
+
+-- what a policy means, or memory ran out
+abbrev pub TellsMeaning : ChineseWall → (text : List ℕ) → Ending → Type 0
+TellsMeaning wall text ending = (IsMeaning wall text × (ending ≡ Done)) ⊎ TellsNone NoMemory text ending
+
+-- how it ends by the first line of a script that is no call
+abbrev pub script_ending : Option (ℕ × LineFault) → Ending
+script_ending None = Done
+script_ending (Some first) = BadLine first.0 first.1
+
+-- the lines of a script that are no calls, or memory ran out
+abbrev pub TellsLines : ChineseWall → (path script text : List ℕ) → Ending → Type 0
+TellsLines wall path script text ending =
+    ((said : ScriptFaults) × AreLines wall.dataset_names path script said
+    × (text ≡ said.text.items) × (ending ≡ script_ending said.first))
+    ⊎ TellsNone NoMemory text ending
+
+-- it was read, and this is told of it; or it was not read
+abbrev pub TellsScript : {S : Type 0}
+    → ChineseWall → (path : List ℕ) → Used S → (text : List ℕ) → Ending → Type 0
+TellsScript wall path script text ending =
+    ((bytes : List ℕ) × IsRead script script_limit bytes
+    × TellsLines wall path bytes text ending)
+    ⊎ (IsUnreadable script script_limit × TellsNone ReadFault text ending)
+    ⊎ (NeverFailed script × TellsNone NoMemory text ending)
+
+-- the line of a finding, or memory ran out
+abbrev pub TellsFinding : Finding → (text : List ℕ) → Ending → Type 0
+TellsFinding finding text ending =
+    ((text ≡ finding_line finding) × (ending ≡ finding_ending finding))
+    ⊎ TellsNone NoMemory text ending
+
+-- it is no book that was read, and nothing is told; or what its check found
+abbrev pub TellsBook : {B : Type 0} → ChineseWall → Used B → (text : List ℕ) → Ending → Type 0
+TellsBook wall book text ending =
+    (IsNoBook wall book ending × (text ≡ []))
+    ⊎ ((entries : List Entry) × IsBookOf wall book entries
+    × (((finding : Finding) × IsFound wall entries finding × TellsFinding finding text ending)
+    ⊎ TellsNone NoMemory text ending))
+
+-- A reader, if there is one, as it is given; it is let go after its use.
+pub record IfAny (D : Type 0) : Type 0 where
+  pub failures : D → ℕ
+  pub bytes : D → Option (List ℕ)
+  pub device : Option D
+
+abbrev pub if_any : {D : Type 0} → (D → ℕ) → (D → Option (List ℕ)) → Option D → IfAny D
+if_any failures bytes device =
+    record { failures = failures; bytes = bytes; device = device }
+
+-- what is told of a reader that was used, or, where there is none, nothing
+abbrev pub Tells : {D : Type 0} → (D → ℕ) → (D → Option (List ℕ))
+    → (Used D → Type 0) → (none : Type 0) → Option D → Type 0
+Tells failures bytes told none None = none
+Tells {D} failures bytes told none (Some device) =
+    (left : D) × told (used failures bytes device left)
+
+abbrev pub TellsScriptIfAny : {S : Type 0}
+    → ChineseWall → (path : List ℕ) → IfAny S → (text : List ℕ) → Ending → Type 0
+TellsScriptIfAny wall path script text ending = Tells script.failures script.bytes
+    (λ device. TellsScript wall path device text ending) (TellsNone Done text ending) script.device
+
+abbrev pub TellsBookIfAny : {B : Type 0}
+    → ChineseWall → IfAny B → (text : List ℕ) → Ending → Type 0
+TellsBookIfAny wall book text ending = Tells book.failures book.bytes
+    (λ device. TellsBook wall device text ending) (TellsNone Done text ending) book.device
+
+-- ---- the command
+
+-- What is told of policy, script and book, one behind the other; it ends by the first of them that
+-- is at fault.
+pub record IsChecked {S B : Type 0} (wall : ChineseWall) (path : List ℕ) (script : IfAny S)
+    (book : IfAny B) (text : List ℕ) (ending : Ending) : Type 0 where
+  pub meaning : List ℕ
+  pub lines : List ℕ
+  pub found : List ℕ
+  pub of_policy : Ending
+  pub of_script : Ending
+  pub of_book : Ending
+  pub by_policy : TellsMeaning wall meaning of_policy
+  pub by_script : TellsScriptIfAny wall path script lines of_script
+  pub by_book : TellsBookIfAny wall book found of_book
+  pub whole : text ≡ meaning ++ (lines ++ found)
+  pub first : ending ≡ first_ending of_policy (first_ending of_script of_book)
+
+-- all that there is to tell was written, or the writer failed behind a prefix of it
+abbrev pub Checks : {S B O : Type 0} → ChineseWall → (path : List ℕ) → IfAny S → IfAny B
+    → Used O → Ending → Type 0
+Checks wall path script book out ending =
+    (text : List ℕ) × (due : Ending) × IsChecked wall path script book text due
+    × ((IsWritten out text × (ending ≡ due)) ⊎ (BrokeOff out text × (ending ≡ WriteFault)))
+
+-- `PATH:LINE: NAME`, with the name of a policy's fault
+abbrev pub place_line : (path : List ℕ) → (line : ℕ) → PolicyFault → List ℕ
+place_line path n fault =
+    path ++ (codes ":" ++ (decimal n ++ (codes ": " ++ policy_fault_text fault)))
+
+-- the line of a fault was told, or memory ran out
+abbrev pub TellsLine : {O : Type 0} → (path : List ℕ) → (line : ℕ) → PolicyFault → Used O → Ending
+    → Type 0
+TellsLine path n fault out ending =
+    (IsWritten out (place_line path n fault) × (ending ≡ BadPolicy fault))
+    ⊎ (BrokeOff out (place_line path n fault) × (ending ≡ WriteFault))
+    ⊎ ((ending ≡ NoMemory) × IsUntouched out)
+
+-- the same of a fault that may stand on no line
+abbrev pub TellsFound : {O : Type 0} → (path : List ℕ) → PolicyFault → Option Found → Used O
+    → Ending → Type 0
+TellsFound path fault None out ending = (ending ≡ BadPolicy fault) × IsUntouched out
+TellsFound path fault (Some found) out ending = TellsLine path found.line fault out ending
+
+-- the most bytes of a policy for whose fault a line is looked for
+abbrev pub place_limit : ℕ
+place_limit = 262144
+
+-- The place of the fault was told; of a long text it was not looked for; or memory ran out.
+abbrev pub TellsRefused : {O : Type 0} → (path text : List ℕ) → PolicyFault → Used O → Ending
+    → Type 0
+TellsRefused path text fault out ending =
+    ((place : Place) × IsPlace text place × TellsFound path place.fault place.found out ending)
+    ⊎ ((place_limit < length text) × (ending ≡ BadPolicy fault) × IsUntouched out)
+    ⊎ ((ending ≡ NoMemory) × IsUntouched out)
+
+-- The text is a policy, and script and book were checked under it; or it is none, and that was told;
+-- or memory ran out.
+abbrev pub ChecksText : {S B O : Type 0} → (text policy_path path : List ℕ) → IfAny S → IfAny B
+    → Used O → Ending → Type 0
+ChecksText text policy_path path script book out ending =
+    ((wall : ChineseWall) × (answer_to text ≡ Ok wall) × Checks wall path script book out ending)
+    ⊎ ((fault : PolicyFault) × (answer_to text ≡ Err fault)
+    × TellsRefused policy_path text fault out ending)
+    ⊎ ((ending ≡ NoMemory) × IsUntouched out)
+
+-- no policy was read, and this is why
+abbrev pub IsUnread : {P : Type 0} → Used P → Ending → Type 0
+IsUnread policy ReadFault = IsUnreadable policy script_limit
+IsUnread policy NoMemory = NeverFailed policy
+IsUnread policy ending = ⊥
+
+-- How `check` ends: no policy was read, and nothing was written; or its text was judged, and script
+-- and book were checked under it, as far as there are any.
+abbrev pub CheckEnds : {P S B O : Type 0} → (policy_path path : List ℕ) → Used P → IfAny S
+    → IfAny B → Used O → Ending → Type 0
+CheckEnds policy_path path policy script book out ending =
+    (IsUnread policy ending × IsUntouched out)
+    ⊎ ((text : List ℕ) × IsRead policy script_limit text
+    × ChecksText text policy_path path script book out ending)

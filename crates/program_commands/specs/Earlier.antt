@@ -1,0 +1,130 @@
+-- Earlier books, and the policy for what comes after them: what was held at their end is held
+-- before. What a chain of books is, and what it keeps, say the definitions of chains.
+use Rattle.std.specs.Prelude.{◌≡◌, ◌⊎◌, ℕ, List, [], ◌∷◌, ◌++◌, reverse, Option}
+use Rattle.std.specs.Borrow.{Bor}
+use Rattle.wall_policy.specs.Policy.{ChineseWall}
+use Rattle.run_model.specs.declared.entry.Entry.{Entry as BookEntry}
+use Rattle.run_model.specs.Books.{book, posts_in, IsSound, IsFirstBad}
+use Rattle.run_model.specs.Chains.{Link, IsChain, IsPolicyAfter, NobodyEverHeldBoth}
+use Rattle.run_model.specs.Runs.{Entry, posts}
+use Rattle.run_model.specs.Replies.{Legal}
+use Rattle.audit_book.specs.declared.fault.ReadFault.TheVariants as texts
+use Rattle.hall_script.specs.Devices.{Used, used, NeverFailed, IsUnreadable}
+use Rattle.program_commands.specs.declared.earlier.Earlier.{Earlier}
+use Rattle.program_commands.specs.declared.ending.EarlierFault.{EarlierFault}
+use Rattle.program_commands.specs.declared.ending.EarlierFault.TheVariants as faults
+use Rattle.program_commands.specs.declared.ending.Ending.{Ending}
+use Rattle.program_commands.specs.declared.ending.Ending.TheVariants.{BadEarlier, BadBookLine}
+use Rattle.program_commands.specs.declared.ending.Ending.TheVariants.{CutBook, ReadFault, NoMemory}
+use Rattle.program_commands.specs.Walls.{IsPolicyOf, IsNoPolicy}
+use Rattle.program_commands.specs.Auditing.{book_limit, IsBookOf, IsNoText}
+
+-- Earlier books, the oldest first, as they are given: each with its path and its reader, which is
+-- let go as soon as its book is read.
+pub record EarlierBooks (D : Type 0) : Type 0 where
+  pub failures : D → ℕ
+  pub bytes : D → Option (List ℕ)
+  pub books : List (Earlier D)
+
+abbrev pub earlier_books : {D : Type 0} → (D → ℕ) → (D → Option (List ℕ)) → List (Earlier D)
+    → EarlierBooks D
+earlier_books failures bytes books = record { failures = failures; bytes = bytes; books = books }
+
+-- the reader of one of them, before its use and as it was let go
+abbrev pub reader : {D : Type 0} → EarlierBooks D → Earlier D → (left : D) → Used D
+reader earlier one left = used earlier.failures earlier.bytes one.device left
+
+-- ---- a policy after books
+
+-- Each book of a chain, the newest first, was read from the reader at its place.
+abbrev pub AreReadFrom : {D : Type 0} → EarlierBooks D → List (Earlier D) → List Link → Type 0
+AreReadFrom earlier [] [] = Unit {0}
+AreReadFrom {D} earlier (one ∷ before) (r ∷ older) =
+    ((left : D) × IsBookOf r.wall (reader earlier one left) r.book)
+    × AreReadFrom earlier before older
+AreReadFrom earlier readers links = ⊥
+
+-- the policy of the oldest book of a chain, or, where there is none, the one after it
+abbrev pub first_policy : List Link → ChineseWall → ChineseWall
+first_policy [] wall = wall
+first_policy (r ∷ older) wall = first_policy older r.wall
+
+-- These books were read, the first under this policy, and each of the others under the one after
+-- those before it; all are sound, and this is the policy after all.
+pub record IsAfter {D : Type 0} (first : ChineseWall) (earlier : EarlierBooks D)
+    (links : List Link) (wall : ChineseWall) : Type 0 where
+  pub begins : first_policy links wall ≡ first
+  pub read : AreReadFrom earlier (reverse earlier.books) links
+  pub chain : IsChain links wall
+
+-- Over these books and one more that is sound under this policy nobody ever held two rivals,
+-- directly or through others.
+abbrev pub BooksKeepTheWall : List Link → ChineseWall → Type 0
+BooksKeepTheWall links wall = (entries : List BookEntry) → IsSound wall entries →
+    NobodyEverHeldBoth wall.classes (record { wall = wall; book = entries } ∷ links)
+
+-- Over these books and any legal run under this policy nobody ever held two rivals.
+abbrev pub RunsKeepTheWall : List Link → ChineseWall → Type 0
+RunsKeepTheWall links wall = (run : List Entry) → Legal wall run →
+    NobodyEverHeldBoth wall.classes (record { wall = wall; book = book wall (posts run) } ∷ links)
+
+-- The policy that all else goes by: a policy was read, and it is that one, or, where there are
+-- earlier books, the one after them.
+pub record IsWallAfter {P D : Type 0} (policy : Used P) (earlier : EarlierBooks D)
+    (wall : ChineseWall) : Type 0 where
+  pub first : ChineseWall
+  pub read : IsPolicyOf policy first
+  pub links : List Link
+  pub after : IsAfter first earlier links wall
+  pub books_keep : BooksKeepTheWall links wall
+  pub runs_keep : RunsKeepTheWall links wall
+
+-- ---- none
+
+-- this is what is wrong with the book
+abbrev pub IsEarlierFault : {D : Type 0} → ChineseWall → Used D → EarlierFault → Type 0
+IsEarlierFault wall book (faults.BadLine n) = IsNoText wall book (texts.BadLine n)
+IsEarlierFault wall book faults.Cut = IsNoText wall book texts.Cut
+IsEarlierFault wall book (faults.Unsound n) =
+    (entries : List BookEntry) × IsBookOf wall book entries × IsFirstBad wall entries n
+
+-- the book at this path was not read, is none, or is not sound, and this is why
+abbrev pub IsNoLink : {D : Type 0} → ChineseWall → Used D → (path : List ℕ) → Ending → Type 0
+IsNoLink wall book path (BadEarlier named fault) =
+    (named.now ≡ path) × IsEarlierFault wall book fault
+IsNoLink wall book path ReadFault = IsUnreadable book book_limit
+IsNoLink wall book path NoMemory = NeverFailed book
+IsNoLink wall book path ending = ⊥
+
+-- One of these books gives no policy for what comes after it, and this is why. All those before it
+-- do, and those behind it are not read.
+pub record IsBroken {D : Type 0} (first : ChineseWall) (earlier : EarlierBooks D)
+    (ending : Ending) : Type 0 where
+  pub before : List (Earlier D)
+  pub one : Earlier D
+  pub behind : List (Earlier D)
+  pub are : before ++ (one ∷ behind) ≡ earlier.books
+  pub links : List Link
+  pub wall : ChineseWall
+  pub after : IsAfter first (record earlier { books = before }) links wall
+  pub left : D
+  pub fault : IsNoLink wall (reader earlier one left) one.path.now ending
+
+-- there is no policy that all else could go by, and this is why
+abbrev pub IsNoWallAfter : {P D : Type 0} → Used P → EarlierBooks D → Ending → Type 0
+IsNoWallAfter policy earlier ending =
+    IsNoPolicy policy ending
+    ⊎ ((first : ChineseWall) × IsPolicyOf policy first × IsBroken first earlier ending)
+
+-- ---- words of private contracts
+
+-- how a book that is none ends where it is an earlier one
+abbrev pub earlier_ending : (path : Bor (List ℕ)) → Ending → Ending
+earlier_ending path (BadBookLine n) = BadEarlier path (faults.BadLine n)
+earlier_ending path CutBook = BadEarlier path faults.Cut
+earlier_ending path ending = ending
+
+-- the book was read and is sound, and this is the policy after it
+abbrev pub IsLink : {D : Type 0} → ChineseWall → Used D → (after : ChineseWall) → Type 0
+IsLink wall book after = (entries : List BookEntry) × IsBookOf wall book entries
+    × IsSound wall entries × IsPolicyAfter wall (posts_in entries) after

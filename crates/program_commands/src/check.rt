@@ -1,0 +1,384 @@
+//! Tells what a policy means, and what of a script and of a book is at fault, over any devices.
+ghost use Rattle.std.specs.Prelude.{◌≡◌, ◌++◌, [], OnOk, OnErr, Err, codes};
+ghost use Rattle.hall_script.specs.Devices.{used, IsWritten, BrokeOff};
+ghost use Rattle.program_commands.specs.Endings.{EndsSo, numbered_line};
+ghost use Rattle.program_commands.specs.Auditing.{finding_line};
+ghost use Rattle.program_commands.specs.Checking.{first_ending, script_ending, TellsMeaning};
+ghost use Rattle.program_commands.specs.Checking.{TellsLines, TellsScript, TellsFinding};
+ghost use Rattle.program_commands.specs.Checking.{TellsBook, TellsScriptIfAny, TellsBookIfAny};
+ghost use Rattle.program_commands.specs.Checking.{if_any, Checks, place_line, TellsLine};
+ghost use Rattle.program_commands.specs.Checking.{TellsRefused, ChecksText, CheckEnds};
+ghost use Rattle.wall_policy.specs.Answer.{answer_to};
+
+use crate::audit::{Finding, finding_ending, judge, read_entries};
+use crate::ending::{Ending, end, policy_fault, write_two};
+use check_text::{LineFault, ScriptFaults, script_lines};
+use coll_text::{put, put_decimal};
+use hall_script::{DeviceFault, SCRIPT_LIMIT, read_device};
+use meaning_text::meaning_text;
+use policy_places::place_of;
+use std::alloc::{AllocError, Global};
+use wall_labels::{Failed, Sink, Source, write_all};
+use wall_policy::{Policy, PolicyFault, read_policy};
+
+/// The most bytes of a policy for whose fault a line is looked for.
+pub const PLACE_LIMIT: usize = 262144;
+
+// What is told of a file, and how the check ends by it.
+#[derive(Drop)]
+struct Told {
+    text: Vec<u8>,
+    ending: Ending<'static>,
+}
+
+// No line is told.
+fn untold(alloc: Global, ending: Ending<'static>) -> Told
+    ensures text { result.text.items ≡ [] }
+    ensures ending { result.ending ≡ ending.entry }
+{
+    let text = Vec::new(alloc);
+    Told { text, ending }
+}
+
+fn first_ending(first: Ending<'static>, second: Ending<'static>) -> Ending<'static>
+    ensures { result ≡ first_ending first.entry second.entry }
+{
+    match first {
+        Ending::Done => second,
+        other => other,
+    }
+}
+
+// What the policy means.
+fn tell_meaning(alloc: Global, wall: &Policy) -> Told
+    ensures { TellsMeaning wall.now result.text.items result.ending }
+{
+    match meaning_text(alloc, wall) {
+        Ok(text) => Told {
+            text,
+            ending: Ending::Done,
+        },
+        Err(_) => untold(alloc, Ending::NoMemory),
+    }
+}
+
+fn script_ending(first: Option<(u64, LineFault)>) -> Ending<'static>
+    ensures { result ≡ script_ending first }
+{
+    match first {
+        Some((number, fault)) => Ending::BadLine(number, fault),
+        None => Ending::Done,
+    }
+}
+
+// What of the text of a script is at fault.
+fn tell_lines(alloc: Global, wall: &Policy, path: &str, script: &[u8]) -> Told
+    ensures { TellsLines wall.now path.now script.now result.text.items result.ending }
+{
+    match script_lines(alloc, wall, path, script) {
+        Ok(faults) => {
+            let ScriptFaults { text, first } = faults;
+            let ending = script_ending(first);
+            Told { text, ending }
+        }
+        Err(_) => untold(alloc, Ending::NoMemory),
+    }
+}
+
+// The same of a script that is still to be read.
+fn tell_script<S: Source>(alloc: Global, wall: &Policy, path: &str, script: &mut S) -> Told
+    ensures { TellsScript wall.now path.now
+        (used S.failures S.remaining script.old script.new)
+        result.text.items result.ending }
+{
+    match read_device(alloc, script, SCRIPT_LIMIT) {
+        Ok(bytes) => {
+            let told = tell_lines(alloc, wall, path, &bytes);
+            drop(bytes);
+            told
+        }
+        Err(DeviceFault::Read) => untold(alloc, Ending::ReadFault),
+        Err(DeviceFault::NoMemory) => untold(alloc, Ending::NoMemory),
+    }
+}
+
+// Appends the words, the number and the end of the line.
+fn put_numbered(text: &mut Vec<u8>, words: &str, number: u64) -> Result<(), AllocError>
+    ensures { OnOk result (text.new.items ≡ text.old.items ++ numbered_line words.now number) }
+{
+    put(text, words)?;
+    put_decimal(text, number)?;
+    put(text, "\n")
+}
+
+// Appends the finding's line.
+fn put_finding(text: &mut Vec<u8>, finding: Finding) -> Result<(), AllocError>
+    ensures { OnOk result (text.new.items ≡ text.old.items ++ finding_line finding) }
+{
+    match finding {
+        Finding::Sound(number) => put_numbered(text, "sound ", number),
+        Finding::Unsound(number) => put_numbered(text, "unsound at entry ", number),
+    }
+}
+
+// What was found of a book.
+fn tell_finding(alloc: Global, finding: Finding) -> Told
+    ensures { TellsFinding finding result.text.items result.ending }
+{
+    let mut text = Vec::new(alloc);
+    match put_finding(&mut text, finding) {
+        Ok(()) => Told {
+            text,
+            ending: finding_ending(finding),
+        },
+        Err(_) => untold(alloc, Ending::NoMemory),
+    }
+}
+
+// What of a book is at fault.
+fn tell_book<B: Source>(alloc: Global, wall: &Policy, book: &mut B) -> Told
+    ensures { TellsBook wall.now
+        (used B.failures B.remaining book.old book.new)
+        result.text.items result.ending }
+{
+    let entries = match read_entries(alloc, wall, book) {
+        Ok(entries) => entries,
+        Err(ending) => return untold(alloc, ending),
+    };
+    let judged = judge(alloc, wall, &entries);
+    drop(entries);
+    match judged {
+        Ok(finding) => tell_finding(alloc, finding),
+        Err(_) => untold(alloc, Ending::NoMemory),
+    }
+}
+
+fn tell_script_if_any<S: Source + Drop>(
+    alloc: Global,
+    wall: &Policy,
+    path: &str,
+    script: Option<S>,
+) -> Told
+    ensures { TellsScriptIfAny wall.now path.now
+        (if_any S.failures S.remaining script)
+        result.text.items result.ending }
+{
+    match script {
+        Some(script) => {
+            let mut script = script;
+            tell_script(alloc, wall, path, &mut script)
+        }
+        None => untold(alloc, Ending::Done),
+    }
+}
+
+fn tell_book_if_any<B: Source + Drop>(alloc: Global, wall: &Policy, book: Option<B>) -> Told
+    ensures { TellsBookIfAny wall.now
+        (if_any B.failures B.remaining book)
+        result.text.items result.ending }
+{
+    match book {
+        Some(book) => {
+            let mut book = book;
+            tell_book(alloc, wall, &mut book)
+        }
+        None => untold(alloc, Ending::Done),
+    }
+}
+
+// Writes three texts, one behind the other.
+fn write_three<O: Sink>(out: &mut O, a: &[u8], b: &[u8], c: &[u8]) -> Result<(), Failed>
+    ensures written { let device = used O.failures O.contents out.old out.new in
+        OnOk result (IsWritten device (a.now ++ (b.now ++ c.now))) }
+    ensures broken { let device = used O.failures O.contents out.old out.new in
+        OnErr result (BrokeOff device (a.now ++ (b.now ++ c.now))) }
+{
+    match write_all(out, a) {
+        Ok(()) => match write_two(out, b, c) {
+            Ok(()) => Ok(()),
+            Err(_) => Err(Failed),
+        },
+        Err(_) => Err(Failed),
+    }
+}
+
+// Checks script and book under the policy, and writes all that there is to tell.
+fn check_under<S: Source + Drop, B: Source + Drop, O: Sink>(
+    alloc: Global,
+    wall: &Policy,
+    path: &str,
+    script: Option<S>,
+    book: Option<B>,
+    out: &mut O,
+) -> Ending<'static>
+    ensures { Checks wall.now path.now
+        (if_any S.failures S.remaining script)
+        (if_any B.failures B.remaining book)
+        (used O.failures O.contents out.old out.new)
+        result }
+{
+    let meaning = tell_meaning(alloc, wall);
+    let lines = tell_script_if_any(alloc, wall, path, script);
+    let found = tell_book_if_any(alloc, wall, book);
+    let behind = first_ending(lines.ending, found.ending);
+    let ending = first_ending(meaning.ending, behind);
+    let written = write_three(out, &meaning.text, &lines.text, &found.text);
+    drop(meaning);
+    drop(lines);
+    drop(found);
+    match written {
+        Ok(()) => ending,
+        Err(_) => Ending::WriteFault,
+    }
+}
+
+// Appends `PATH:LINE: NAME`.
+fn put_place(
+    text: &mut Vec<u8>,
+    path: &str,
+    line: u64,
+    fault: PolicyFault,
+) -> Result<(), AllocError>
+    ensures { OnOk result (text.new.items ≡ text.old.items ++ place_line path.now line fault) }
+{
+    put(text, path)?;
+    put(text, ":")?;
+    put_decimal(text, line)?;
+    put(text, ": ")?;
+    put(text, policy_fault(fault))
+}
+
+// Tells the line on which the fault of a policy stands.
+fn tell_line<O: Sink>(
+    alloc: Global,
+    path: &str,
+    line: u64,
+    fault: PolicyFault,
+    out: &mut O,
+) -> Ending<'static>
+    ensures { TellsLine path.now line fault (used O.failures O.contents out.old out.new) result }
+{
+    let mut text = Vec::new(alloc);
+    if put_place(&mut text, path, line, fault).is_err() {
+        return Ending::NoMemory;
+    }
+    match write_all(out, &text) {
+        Ok(()) => Ending::BadPolicy(fault),
+        Err(_) => Ending::WriteFault,
+    }
+}
+
+// Tells of a policy that is refused on which line its fault stands, if it stands on one. Of a text
+// of more than `PLACE_LIMIT` bytes it is not looked for.
+fn tell_refused<O: Sink>(
+    alloc: Global,
+    path: &str,
+    policy: &[u8],
+    fault: PolicyFault,
+    out: &mut O,
+) -> Ending<'static>
+    requires { answer_to policy.now ≡ Err fault }
+    ensures { TellsRefused path.now policy.now fault
+        (used O.failures O.contents out.old out.new)
+        result }
+{
+    if policy.len() > PLACE_LIMIT {
+        return Ending::BadPolicy(fault);
+    }
+    match place_of(alloc, policy) {
+        Ok(Some(place)) => match place.found {
+            Some(found) => tell_line(alloc, path, found.line, place.fault, out),
+            None => Ending::BadPolicy(place.fault),
+        },
+        Ok(None) => Ending::BadPolicy(fault),
+        Err(_) => Ending::NoMemory,
+    }
+}
+
+// Judges the bytes of a policy, and then checks script and book under it.
+fn check_policy<S: Source + Drop, B: Source + Drop, O: Sink>(
+    alloc: Global,
+    text: &[u8],
+    policy_path: &str,
+    path: &str,
+    script: Option<S>,
+    book: Option<B>,
+    out: &mut O,
+) -> Ending<'static>
+    ensures { ChecksText text.now policy_path.now path.now
+        (if_any S.failures S.remaining script)
+        (if_any B.failures B.remaining book)
+        (used O.failures O.contents out.old out.new)
+        result }
+{
+    match read_policy(alloc, text) {
+        Ok(wall) => {
+            let ending = check_under(alloc, &wall, path, script, book, out);
+            drop(wall);
+            ending
+        }
+        Err(PolicyFault::NoMemory) => Ending::NoMemory,
+        Err(fault) => tell_refused(alloc, policy_path, text, fault, out),
+    }
+}
+
+// Reads the policy, and then checks all under it.
+fn check_devices<P: Source, S: Source + Drop, B: Source + Drop, O: Sink>(
+    alloc: Global,
+    policy: &mut P,
+    policy_path: &str,
+    path: &str,
+    script: Option<S>,
+    book: Option<B>,
+    out: &mut O,
+) -> Ending<'static>
+    ensures { CheckEnds policy_path.now path.now
+        (used P.failures P.remaining policy.old policy.new)
+        (if_any S.failures S.remaining script)
+        (if_any B.failures B.remaining book)
+        (used O.failures O.contents out.old out.new)
+        result }
+{
+    match read_device(alloc, policy, SCRIPT_LIMIT) {
+        Ok(text) => {
+            let ending = check_policy(alloc, &text, policy_path, path, script, book, out);
+            drop(text);
+            ending
+        }
+        Err(DeviceFault::Read) => Ending::ReadFault,
+        Err(DeviceFault::NoMemory) => Ending::NoMemory,
+    }
+}
+
+/// Reads the policy, and where there are any a script and a book, and writes to `out` what the
+/// policy means and what in it is hardly meant, then a line `PATH:LINE:COLUMN: ..` for each line of
+/// the script that is no call, where `path` is its PATH, and then `sound N` or `unsound at entry N`
+/// for the book. It writes the line of the first fault to `err`, and gives the status: 0 exactly
+/// where all of it reads, the book is sound, and all was written.
+///
+/// What is told of one file does not hang on the others. Where the policy is refused the others are
+/// not looked at, and `PATH:LINE: NAME` is written to `out`, with `policy_path` as its PATH, the
+/// line on which its fault stands, if it stands on one, and its name. Of a policy of more than
+/// `PLACE_LIMIT` bytes no line is looked for.
+pub fn check_on<P: Source, S: Source + Drop, B: Source + Drop, O: Sink, E: Sink>(
+    alloc: Global,
+    policy: &mut P,
+    policy_path: &str,
+    path: &str,
+    script: Option<S>,
+    book: Option<B>,
+    out: &mut O,
+    err: &mut E,
+) -> u8
+    ensures { EndsSo
+        (CheckEnds policy_path.now path.now
+        (used P.failures P.remaining policy.old policy.new)
+        (if_any S.failures S.remaining script)
+        (if_any B.failures B.remaining book)
+        (used O.failures O.contents out.old out.new))
+        (used E.failures E.contents err.old err.new)
+        result }
+{
+    let ending = check_devices(alloc, policy, policy_path, path, script, book, out);
+    end(err, ending)
+}

@@ -1,0 +1,125 @@
+//! Reads earlier books, and gives the policy for what comes after them.
+ghost use Rattle.std.specs.Prelude.{◌≡◌, IfOk, IfErr, List, []};
+ghost use Rattle.run_model.specs.Chains.{Link};
+ghost use Rattle.hall_script.specs.Devices.{used};
+ghost use Rattle.program_commands.specs.Earlier.{earlier_books, IsAfter, IsBroken, IsWallAfter};
+ghost use Rattle.program_commands.specs.Earlier.{IsNoWallAfter, earlier_ending, IsLink, IsNoLink};
+
+use crate::audit::read_entries;
+use crate::ending::{EarlierFault, Ending};
+use crate::wall::read_wall;
+use audit_book::{BookFault, after_book};
+use std::alloc::Global;
+use wall_labels::Source;
+use wall_labels::memory::MemorySource;
+use wall_policy::Policy;
+
+/// An earlier book.
+#[derive(Drop)]
+pub struct Earlier<'a, D> {
+    /// The path by which its fault is told.
+    pub path: &'a str,
+    /// Its reader.
+    pub device: D,
+}
+
+// No earlier book. (The readers of none are of any kind.)
+pub(crate) fn no_earlier(alloc: Global) -> Vec<Earlier<'static, MemorySource<'static>>>
+    ensures { result.items ≡ [] }
+{
+    Vec::new(alloc)
+}
+
+fn earlier_ending<'a>(path: &'a str, ending: Ending<'a>) -> Ending<'a>
+    ensures { result ≡ earlier_ending path.entry ending.entry }
+{
+    match ending {
+        Ending::BadBookLine(number) => Ending::BadEarlier(path, EarlierFault::BadLine(number)),
+        Ending::CutBook => Ending::BadEarlier(path, EarlierFault::Cut),
+        other => other,
+    }
+}
+
+// Reads a book and checks it: the policy for what comes after it.
+fn read_link<'a, D: Source>(
+    alloc: Global,
+    wall: Policy,
+    path: &'a str,
+    device: &mut D,
+) -> Result<Policy, Ending<'a>>
+    ensures link { let book = used D.failures D.remaining device.old device.new in
+        IfOk result (IsLink wall book) }
+    ensures ending { let book = used D.failures D.remaining device.old device.new in
+        IfErr result (IsNoLink wall book path.now) }
+{
+    let book = match read_entries(alloc, &wall, device) {
+        Ok(book) => book,
+        Err(ending) => {
+            drop(wall);
+            return Err(earlier_ending(path, ending));
+        }
+    };
+    let after = after_book(alloc, wall, &book);
+    drop(book);
+    match after {
+        Ok(after) => Ok(after),
+        Err(BookFault::BadEntry(number)) => {
+            Err(Ending::BadEarlier(path, EarlierFault::Unsound(number)))
+        }
+        Err(BookFault::NoMemory) => Err(Ending::NoMemory),
+    }
+}
+
+// Reads and checks all books, the oldest first.
+fn read_links<'a, D: Source + Drop>(
+    alloc: Global,
+    first: Policy,
+    earlier: Vec<Earlier<'a, D>>,
+) -> Result<Policy, Ending<'a>>
+    ensures after { let books = earlier_books D.failures D.remaining earlier.entry.items in
+        IfOk result (λ wall. (links : List Link) × IsAfter first books links wall) }
+    ensures ending { let books = earlier_books D.failures D.remaining earlier.entry.items in
+        IfErr result (IsBroken first books) }
+{
+    let mut wall = first;
+    for one in earlier {
+        let Earlier { path, mut device } = one;
+        match read_link(alloc, wall, path, &mut device) {
+            Ok(after) => wall = after,
+            Err(ending) => return Err(ending),
+        }
+    }
+    Ok(wall)
+}
+
+/// Reads a policy file and then the earlier books, the oldest first, and gives the policy for what
+/// comes after them: what each process held at their end is what it held before. So a run under it
+/// begins where they end, and over all of them nobody ever held two rivals.
+///
+/// Each book is read and checked under the policy after those before it, and its reader is let go
+/// before the next one is looked at. A policy file of more than `SCRIPT_LIMIT` bytes, or a book of
+/// more than `BOOK_LIMIT`, is a read fault. Where a book is none, or not sound, those behind it are
+/// not looked at.
+pub fn read_wall_after<'a, P: Source, D: Source + Drop>(
+    alloc: Global,
+    policy: &mut P,
+    earlier: Vec<Earlier<'a, D>>,
+) -> Result<Policy, Ending<'a>>
+    ensures policy { let device = used P.failures P.remaining policy.old policy.new in
+        let books = earlier_books D.failures D.remaining earlier.entry.items in
+        IfOk result (IsWallAfter device books) }
+    ensures ending { let device = used P.failures P.remaining policy.old policy.new in
+        let books = earlier_books D.failures D.remaining earlier.entry.items in
+        IfErr result (IsNoWallAfter device books) }
+{
+    let first = match read_wall(alloc, policy) {
+        Ok(first) => first,
+        Err(ending) => return Err(ending),
+    };
+    let wall = match read_links(alloc, first, earlier) {
+        Ok(wall) => wall,
+        Err(ending) => return Err(ending),
+    };
+    let _ = wall.processes();
+    Ok(wall)
+}

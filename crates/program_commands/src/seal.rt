@@ -1,0 +1,166 @@
+//! Makes a whole book of one that was cut, over any devices.
+ghost use Rattle.std.specs.Prelude.{All};
+ghost use Rattle.run_model.specs.Known.{IsKnownEntry};
+ghost use Rattle.hall_script.specs.Devices.{used};
+ghost use Rattle.program_commands.specs.Endings.{EndsSo};
+ghost use Rattle.program_commands.specs.Earlier.{earlier_books};
+ghost use Rattle.program_commands.specs.Sealing.{AnnouncesSeal, KeepsBook, TellsFault, SealsText};
+ghost use Rattle.program_commands.specs.Sealing.{Seals, SealEnds};
+
+use crate::audit::{BOOK_LIMIT, Finding, tell};
+use crate::earlier::{Earlier, read_wall_after};
+use crate::ending::{Ending, end, write_numbered};
+use audit_book::{Book, WriteFault, write_book};
+use book_seal::{SealFault, seal_book};
+use hall_script::{DeviceFault, read_device};
+use std::alloc::Global;
+use wall_labels::{Sink, Source};
+use wall_policy::Policy;
+
+// Tells of a seal of so many entries.
+fn tell_sealed<O: Sink>(out: &mut O, entries: u64) -> Ending<'static>
+    ensures { AnnouncesSeal entries (used O.failures O.contents out.old out.new) result }
+{
+    match write_numbered(out, b"sealed ", entries) {
+        Ok(()) => Ending::Done,
+        Err(_) => Ending::WriteFault,
+    }
+}
+
+// Writes the whole book, and then tells of it.
+fn keep_sealed<W: Sink, O: Sink>(
+    alloc: Global,
+    wall: &Policy,
+    book: &Book,
+    sealed: &mut W,
+    out: &mut O,
+) -> Ending<'static>
+    requires { All (IsKnownEntry wall.now) book.now.list }
+    ensures { KeepsBook wall.now book.now.list
+        (used W.failures W.contents sealed.old sealed.new)
+        (used O.failures O.contents out.old out.new)
+        result }
+{
+    match write_book(alloc, wall, book, sealed) {
+        Ok(()) => tell_sealed(out, book.len() as u64),
+        Err(WriteFault::Write) => Ending::WriteFault,
+        Err(WriteFault::NoMemory) => Ending::NoMemory,
+    }
+}
+
+// Tells of a text that has no seal as its audit would.
+fn tell_fault<O: Sink>(out: &mut O, fault: SealFault) -> Ending<'static>
+    ensures { TellsFault fault (used O.failures O.contents out.old out.new) result }
+{
+    match fault {
+        SealFault::BadLine(number) => Ending::BadBookLine(number),
+        SealFault::BadEntry(number) => tell(out, Finding::Unsound(number)),
+        SealFault::NoMemory => Ending::NoMemory,
+    }
+}
+
+// Seals the text of a book.
+fn seal_text<W: Sink, O: Sink>(
+    alloc: Global,
+    wall: &Policy,
+    text: &[u8],
+    sealed: &mut W,
+    out: &mut O,
+) -> Ending<'static>
+    ensures { SealsText wall.now text.now
+        (used W.failures W.contents sealed.old sealed.new)
+        (used O.failures O.contents out.old out.new)
+        result }
+{
+    match seal_book(alloc, wall, text) {
+        Ok(book) => {
+            let ending = keep_sealed(alloc, wall, &book, sealed, out);
+            drop(book);
+            ending
+        }
+        Err(fault) => tell_fault(out, fault),
+    }
+}
+
+// Reads a book, and seals it.
+fn seal_under<B: Source, W: Sink, O: Sink>(
+    alloc: Global,
+    wall: &Policy,
+    book: &mut B,
+    sealed: &mut W,
+    out: &mut O,
+) -> Ending<'static>
+    ensures { Seals wall.now
+        (used B.failures B.remaining book.old book.new)
+        (used W.failures W.contents sealed.old sealed.new)
+        (used O.failures O.contents out.old out.new)
+        result }
+{
+    match read_device(alloc, book, BOOK_LIMIT) {
+        Ok(text) => {
+            let ending = seal_text(alloc, wall, &text, sealed, out);
+            drop(text);
+            ending
+        }
+        Err(DeviceFault::Read) => Ending::ReadFault,
+        Err(DeviceFault::NoMemory) => Ending::NoMemory,
+    }
+}
+
+// Reads and judges the policy and the earlier books, and then seals the book.
+fn seal_devices<'a, P: Source, D: Source + Drop, B: Source, W: Sink, O: Sink>(
+    alloc: Global,
+    policy: &mut P,
+    earlier: Vec<Earlier<'a, D>>,
+    book: &mut B,
+    sealed: &mut W,
+    out: &mut O,
+) -> Ending<'a>
+    ensures { SealEnds
+        (used P.failures P.remaining policy.old policy.new)
+        (earlier_books D.failures D.remaining earlier.entry.items)
+        (used B.failures B.remaining book.old book.new)
+        (used W.failures W.contents sealed.old sealed.new)
+        (used O.failures O.contents out.old out.new)
+        result }
+{
+    let wall = match read_wall_after(alloc, policy, earlier) {
+        Ok(wall) => wall,
+        Err(ending) => return ending,
+    };
+    let ending = seal_under(alloc, &wall, book, sealed, out);
+    drop(wall);
+    ending
+}
+
+/// Reads the policy, the earlier books and a book that was cut, and writes the whole book to
+/// `sealed`: what is not finished is left out, the verdict that its last post settles is added if
+/// it is missing, and the `end` line. Then it writes `sealed N`, with the number of its entries, to
+/// `out`, and the line of a fault to `err`, and gives the status: 0 exactly where the whole book
+/// and that line were written.
+///
+/// A text whose finished lines are not the beginning of a sound book is told as `audit_on` would
+/// tell it, and nothing is written to `sealed`. A book of more than `BOOK_LIMIT` bytes is a read
+/// fault.
+pub fn seal_on<P: Source, D: Source + Drop, B: Source, W: Sink, O: Sink, E: Sink>(
+    alloc: Global,
+    policy: &mut P,
+    earlier: Vec<Earlier<D>>,
+    book: &mut B,
+    sealed: &mut W,
+    out: &mut O,
+    err: &mut E,
+) -> u8
+    ensures { EndsSo
+        (SealEnds
+        (used P.failures P.remaining policy.old policy.new)
+        (earlier_books D.failures D.remaining earlier.entry.items)
+        (used B.failures B.remaining book.old book.new)
+        (used W.failures W.contents sealed.old sealed.new)
+        (used O.failures O.contents out.old out.new))
+        (used E.failures E.contents err.old err.new)
+        result }
+{
+    let ending = seal_devices(alloc, policy, earlier, book, sealed, out);
+    end(err, ending)
+}
