@@ -1,11 +1,15 @@
 -- What a command does, by the files that its words name.
-use Rattle.std.proofs.Common.{◌≡◌, ℕ, Option, Some, None, ap}
+use Rattle.std.proofs.Common.{◌≡◌, ◌∙◌, ℕ, ◌+◌, ◌<◌, ◌≤◌, List, [], ◌∷◌, ◌++◌, length, map, take}
+use Rattle.std.proofs.Common.{get_or, Option, Some, None, Bor, sym, ap, subst}
+use Rattle.std.proofs.lemmas.List.{get_or_default, map_push, take_all, take_more}
 use Rattle.clap.specs.Words.{Text}
 use Rattle.hall_script.specs.Devices.{Used}
 use Rattle.program_words.specs.Grammar.{RunFiles}
 use Rattle.program_commands.specs.Endings.{EndsSo}
-use Rattle.program_commands.specs.Running.{RunEnds}
+use Rattle.program_commands.specs.declared.earlier.Earlier.{Earlier}
+use Rattle.program_commands.specs.Continuing.{RunAfterEnds}
 use Rattle.consortium.specs.Performing.{FileKind, FileUse, used_file, path_unopened, RunsFiles}
+use Rattle.consortium.specs.Performing.{AreListed, EarlierUse, used_earlier}
 use Rattle.program_commands.proofs.ProgramCommandsLemmas.{kept_nowhere}
 
 -- a device that is not opened has its path
@@ -13,15 +17,67 @@ pub at_path : {F : Type 0} {file : Option F} {path want : Text}
     → file ≡ None → path ≡ want → path_unopened path file ≡ Some want
 at_path is same = rw is (ap Some same)
 
+-- one earlier book more
+pub one_listed : {D : Type 0} (kind : FileKind D) (paths : List Text) (books : List (Earlier D))
+    (path : Text) (one : Earlier D) → AreListed kind paths books → one.path.now ≡ path →
+    kind.unopened one.device ≡ Some path → kind.failures one.device ≡ kind.before →
+    AreListed kind (paths ++ (path ∷ [])) (books ++ (one ∷ []))
+one_listed kind [] [] path one listed named unopened begins = ((named, unopened, begins), tt)
+one_listed kind [] (x ∷ books) path one listed named unopened begins = absurd listed
+one_listed kind (p ∷ paths) [] path one listed named unopened begins = absurd listed
+one_listed kind (p ∷ paths) (x ∷ books) path one listed named unopened begins =
+    (listed.0, one_listed kind paths books path one listed.1 named unopened begins)
+
+-- the same of the next of some paths
+pub next_listed : {D : Type 0} (kind : FileKind D) (paths : List (Bor Text)) (i : ℕ)
+    (path : Bor Text) (books : List (Earlier D)) (one : Earlier D) → i < length paths →
+    get_or paths i path ≡ path → AreListed kind (map (λ p. p.now) (take i paths)) books →
+    one.path.now ≡ path.now → kind.unopened one.device ≡ Some path.now →
+    kind.failures one.device ≡ kind.before →
+    AreListed kind (map (λ p. p.now) (take (i + 1) paths)) (books ++ (one ∷ []))
+next_listed kind paths i path books one lt is listed named unopened begins =
+    let now : Bor Text → Text = λ p. p.now in
+    let longer : take (i + 1) paths ≡ take i paths ++ (path ∷ []) =
+    take_more paths i path lt ∙ ap (λ (p : Bor Text). take i paths ++ (p ∷ [])) is in
+    let same = ap (map now) longer ∙ map_push now (take i paths) path in
+    subst (λ (l : List Text). AreListed kind l (books ++ (one ∷ []))) (sym same)
+    (one_listed kind (map now (take i paths)) books path.now one listed named unopened begins)
+
+-- the same of the one that is read there, at any default
+pub read_listed : {D : Type 0} (kind : FileKind D) (paths : List (Bor Text)) (i : ℕ)
+    (d : Bor Text) (books : List (Earlier D)) (one : Earlier D) → i < length paths →
+    AreListed kind (map (λ p. p.now) (take i paths)) books →
+    one.path.now ≡ (get_or paths i d).now →
+    kind.unopened one.device ≡ Some (get_or paths i d).now →
+    kind.failures one.device ≡ kind.before →
+    AreListed kind (map (λ p. p.now) (take (i + 1) paths)) (books ++ (one ∷ []))
+read_listed kind paths i d books one lt listed named unopened begins =
+    let path = get_or paths i d in
+    next_listed kind paths i path books one lt (get_or_default paths i path d lt) listed named
+    unopened begins
+
+-- the same of all of them
+pub all_listed : {D : Type 0} (kind : FileKind D) (paths : List (Bor Text)) (i : ℕ)
+    (books : List (Earlier D)) → length paths ≤ i →
+    AreListed kind (map (λ p. p.now) (take i paths)) books →
+    AreListed kind (map (λ p. p.now) paths) books
+all_listed kind paths i books all listed =
+    subst (λ (l : List (Bor Text)). AreListed kind (map (λ p. p.now) l) books)
+    (take_all i paths all) listed
+
 -- a run whose book no file was named for
-module _ {P S O A B E : Type 0} (policies : FileKind P) (seconds : FileKind S)
-    (books : FileKind B) (files : RunFiles) (out : Used O) (err : Used E) (status : ℕ) where
+module _ {P D S O A B E : Type 0} (policies : FileKind P) (olds : FileKind D)
+    (seconds : FileKind S) (books : FileKind B) (files : RunFiles) (out : Used O) (err : Used E)
+    (status : ℕ) where
   pub ran_bookless : (policy : FileUse policies files.policy)
-      (script : FileUse seconds files.script) → files.book ≡ None
-      → EndsSo (RunEnds {B = A} (used_file policies policy) (used_file seconds script) out None)
-      err status → RunsFiles policies seconds books files out err status
-  ran_bookless policy script none ended =
+      (earlier : EarlierUse olds files.after) (script : FileUse seconds files.script)
+      → files.book ≡ None
+      → EndsSo (RunAfterEnds {B = A} (used_file policies policy) (used_earlier olds earlier)
+      (used_file seconds script) out None)
+      err status → RunsFiles policies olds seconds books files out err status
+  ran_bookless policy earlier script none ended =
       let policy' = used_file policies policy in
+      let earlier' = used_earlier olds earlier in
       let script' = used_file seconds script in
-      let run = kept_nowhere {A = A} {B = B} policy' script' out ended.0 ended.1 in
-      rw none (policy, script, tt, (ended.0, run, ended.2, ended.3))
+      let run = kept_nowhere policy' earlier' script' out ended.0 {A = A} {B = B} ended.1 in
+      rw none (policy, earlier, script, tt, (ended.0, run, ended.2, ended.3))

@@ -1,24 +1,31 @@
 -- What a command does, by the files that its words name.
-use Rattle.std.specs.Prelude.{◌≡◌, ℕ, ◌⊎◌, List, Option, Some, None, option_map}
-use Rattle.std.specs.Prelude.{string_bytes, Result, Ok, Err}
+use Rattle.std.specs.Prelude.{◌≡◌, ℕ, ◌⊎◌, List, [], ◌∷◌, map, Option, Some, None, option_map}
+use Rattle.std.specs.Prelude.{string_bytes, unwrap_or, Result, Ok, Err}
 use Rattle.std.specs.Process.{exit_status}
 use Rattle.clap.specs.Words.{Text}
 use Rattle.hall_script.specs.Devices.{Used, used, IsUntouched}
+use Rattle.program_commands.specs.declared.earlier.Earlier.{Earlier}
 use Rattle.program_commands.specs.declared.ending.Ending.{Ending}
 use Rattle.program_commands.specs.declared.ending.Ending.TheVariants.{BadArguments, NoMemory}
-use Rattle.program_commands.specs.Endings.{EndsSo}
+use Rattle.program_commands.specs.Endings.{EndsSo, WritesAll}
 use Rattle.program_words.specs.declared.words.ArgFault.{ArgFault}
 use Rattle.program_words.specs.declared.words.ArgFault.TheVariants as refusals
 use Rattle.program_words.specs.Grammar.{Asked, to_replay, to_run, to_audit, to_serve, ReplayFiles}
-use Rattle.program_words.specs.Grammar.{RunFiles, AuditFiles, ServeFiles}
+use Rattle.program_words.specs.Grammar.{RunFiles, AuditFiles, ServeFiles, SealFiles, to_seal}
+use Rattle.program_words.specs.Grammar.{ReportFiles, CheckFiles, to_report, to_check, to_usage}
+use Rattle.program_words.specs.Grammar.{to_version}
+use Rattle.program_words.specs.Usage.{usage_of}
+use Rattle.program_words.specs.declared.usage.TheConstants.{VERSION}
 use Rattle.consortium.specs.declared.commands.LivePaths.{LivePaths}
 use Rattle.consortium.specs.declared.commands.Performed.{Performed}
 use Rattle.consortium.specs.declared.commands.Performed.TheVariants as performs
 use Rattle.consortium.specs.declared.serving.Outcome.{Outcome}
 use Rattle.consortium.specs.declared.serving.Outcome.TheVariants as outcomes
-use Rattle.program_commands.specs.Replaying.{ReplayEnds}
-use Rattle.program_commands.specs.Running.{RunEnds}
-use Rattle.program_commands.specs.Auditing.{AuditEnds}
+use Rattle.program_commands.specs.Earlier.{EarlierBooks, earlier_books}
+use Rattle.program_commands.specs.Continuing.{ReplayAfterEnds, RunAfterEnds, AuditAfterEnds}
+use Rattle.program_commands.specs.Sealing.{SealEnds}
+use Rattle.program_commands.specs.Reporting.{ReportEnds}
+use Rattle.program_commands.specs.Checking.{IfAny, if_any, CheckEnds}
 
 -- how the program ends where its words are refused
 abbrev pub refusal_ending : ArgFault → Ending
@@ -65,65 +72,155 @@ abbrev pub used_book : {D : Type 0}
 used_book kind None book = None
 used_book kind (Some path) book = Some (used_file kind book)
 
+-- Earlier books at these paths, in order: each has a device for its file, which was not opened, and
+-- is told by its path.
+abbrev pub AreListed : {D : Type 0} → FileKind D → List Text → List (Earlier D) → Type 0
+AreListed kind [] [] = Unit {0}
+AreListed kind (path ∷ paths) (one ∷ books) =
+    ((one.path.now ≡ path) × (kind.unopened one.device ≡ Some path)
+    × (kind.failures one.device ≡ kind.before)) × AreListed kind paths books
+AreListed kind paths books = ⊥
+
+-- earlier books at these paths
+pub record EarlierUse {D : Type 0} (kind : FileKind D) (paths : List Text) : Type 0 where
+  pub books : List (Earlier D)
+  pub listed : AreListed kind paths books
+
+abbrev pub used_earlier : {D : Type 0} {paths : List Text}
+    → (kind : FileKind D) → EarlierUse kind paths → EarlierBooks D
+used_earlier kind earlier = earlier_books kind.failures kind.bytes earlier.books
+
+-- A device for the file at this path, which was not opened; none where there is no path.
+abbrev pub IsListedIfAny : {D : Type 0} → FileKind D → Option Text → Option D → Type 0
+IsListedIfAny kind None None = Unit {0}
+IsListedIfAny kind (Some path) (Some device) =
+    (kind.unopened device ≡ Some path) × (kind.failures device ≡ kind.before)
+IsListedIfAny kind path device = ⊥
+
+-- a file that may be missing
+pub record UseIfAny {D : Type 0} (kind : FileKind D) (path : Option Text) : Type 0 where
+  pub device : Option D
+  pub listed : IsListedIfAny kind path device
+
+abbrev pub used_if_any : {D : Type 0} {path : Option Text}
+    → (kind : FileKind D) → UseIfAny kind path → IfAny D
+used_if_any kind file = if_any kind.failures kind.bytes file.device
+
 -- a replay of these files, with this status
-abbrev pub ReplaysFiles : {P S B O E : Type 0} → FileKind P → FileKind S → FileKind B
-    → ReplayFiles → Used O → Used E → (status : ℕ) → Type 0
-ReplaysFiles policies seconds books files out err status =
-    (policy : FileUse policies files.policy) × (script : FileUse seconds files.script)
-    × (book : BookUse books files.book)
-    × EndsSo (ReplayEnds (used_file policies policy) (used_file seconds script) out
-    (used_book books files.book book)) err status
+abbrev pub ReplaysFiles : {P D S B O E : Type 0} → FileKind P → FileKind D → FileKind S
+    → FileKind B → ReplayFiles → Used O → Used E → (status : ℕ) → Type 0
+ReplaysFiles policies olds seconds books files out err status =
+    (policy : FileUse policies files.policy) × (earlier : EarlierUse olds files.after)
+    × (script : FileUse seconds files.script) × (book : BookUse books files.book)
+    × EndsSo (ReplayAfterEnds (used_file policies policy) (used_earlier olds earlier)
+    (used_file seconds script) out (used_book books files.book book)) err status
 
 -- a run of these files, with this status
-abbrev pub RunsFiles : {P S B O E : Type 0} → FileKind P → FileKind S → FileKind B
-    → RunFiles → Used O → Used E → (status : ℕ) → Type 0
-RunsFiles policies seconds books files out err status =
-    (policy : FileUse policies files.policy) × (script : FileUse seconds files.script)
-    × (book : BookUse books files.book)
-    × EndsSo (RunEnds (used_file policies policy) (used_file seconds script) out
-    (used_book books files.book book)) err status
+abbrev pub RunsFiles : {P D S B O E : Type 0} → FileKind P → FileKind D → FileKind S
+    → FileKind B → RunFiles → Used O → Used E → (status : ℕ) → Type 0
+RunsFiles policies olds seconds books files out err status =
+    (policy : FileUse policies files.policy) × (earlier : EarlierUse olds files.after)
+    × (script : FileUse seconds files.script) × (book : BookUse books files.book)
+    × EndsSo (RunAfterEnds (used_file policies policy) (used_earlier olds earlier)
+    (used_file seconds script) out (used_book books files.book book)) err status
 
 -- an audit of these files, with this status
-abbrev pub AuditsFiles : {P S O E : Type 0} → FileKind P → FileKind S
+abbrev pub AuditsFiles : {P D S O E : Type 0} → FileKind P → FileKind D → FileKind S
     → AuditFiles → Used O → Used E → (status : ℕ) → Type 0
-AuditsFiles policies seconds files out err status =
-    (policy : FileUse policies files.policy) × (book : FileUse seconds files.book)
-    × EndsSo (AuditEnds (used_file policies policy) (used_file seconds book) out) err status
+AuditsFiles policies olds seconds files out err status =
+    (policy : FileUse policies files.policy) × (earlier : EarlierUse olds files.after)
+    × (book : FileUse seconds files.book)
+    × EndsSo (AuditAfterEnds (used_file policies policy) (used_earlier olds earlier)
+    (used_file seconds book) out) err status
+
+-- a seal of these files, with this status
+abbrev pub SealsFiles : {P D S W O E : Type 0} → FileKind P → FileKind D → FileKind S
+    → FileKind W → SealFiles → Used O → Used E → (status : ℕ) → Type 0
+SealsFiles policies olds seconds seals files out err status =
+    (policy : FileUse policies files.policy) × (earlier : EarlierUse olds files.after)
+    × (book : FileUse seconds files.book) × (sealed : FileUse seals files.out)
+    × EndsSo (SealEnds (used_file policies policy) (used_earlier olds earlier)
+    (used_file seconds book) (used_file seals sealed) out) err status
+
+-- a report on these files, with this status
+abbrev pub ReportsFiles : {P D S O E : Type 0} → FileKind P → FileKind D → FileKind S
+    → ReportFiles → Used O → Used E → (status : ℕ) → Type 0
+ReportsFiles policies olds seconds files out err status =
+    (policy : FileUse policies files.policy) × (earlier : EarlierUse olds files.after)
+    × (book : FileUse seconds files.book)
+    × EndsSo (ReportEnds (used_file policies policy) (used_earlier olds earlier)
+    (used_file seconds book) out) err status
+
+-- a check of these files, with this status
+abbrev pub ChecksFiles : {P D O E : Type 0} → FileKind P → FileKind D → CheckFiles → Used O
+    → Used E → (status : ℕ) → Type 0
+ChecksFiles policies others files out err status =
+    (policy : FileUse policies files.policy) × (script : UseIfAny others files.script)
+    × (book : UseIfAny others files.book)
+    × EndsSo (CheckEnds files.policy (unwrap_or files.script []) (used_file policies policy)
+    (used_if_any others script) (used_if_any others book) out) err status
 
 -- nothing was done but to tell this ending
 abbrev pub Declines : {O E : Type 0} → Ending → Used O → Used E → (status : ℕ) → Type 0
 Declines ending out err status = EndsSo (λ e. (e ≡ ending) × IsUntouched out) err status
 
+-- this text was written, or, where there is none, the words are bad
+abbrev pub TellsText : {O E : Type 0} → Option Text → Used O → Used E → (status : ℕ) → Type 0
+TellsText (Some text) out err status = EndsSo (WritesAll text out) err status
+TellsText None out err status = Declines BadArguments out err status
+
+-- how the program is used, or one of its commands
+abbrev pub TellsUsage : {O E : Type 0} → (command : Option Text) → Used O → Used E
+    → (status : ℕ) → Type 0
+TellsUsage command out err status = TellsText (usage_of command) out err status
+
 -- the files of a server, as they are kept
 abbrev pub live_files : LivePaths → ServeFiles
 live_files paths = record {
   policy = string_bytes paths.policy;
+  after = map (λ p. string_bytes p) paths.after.items;
   pipes = string_bytes paths.pipes;
   book = option_map (λ b. string_bytes b) paths.book;
+  sync = paths.sync;
 }
+
+-- it was done with this status, or memory ran out before
+abbrev pub OrNoMemory : {O E : Type 0} → (Used O → Used E → (status : ℕ) → Type 0)
+    → Used O → Used E → (status : ℕ) → Type 0
+OrNoMemory done out err status = done out err status ⊎ Declines NoMemory out err status
 
 -- What was asked for was done, over a device for each file that it names, or memory ran out
 -- before. Where nothing was asked for, the words are bad, or memory ran out. (To serve is not done
 -- here.)
-abbrev pub IsDone : {P S B O E : Type 0} → FileKind P → FileKind S → FileKind B
-    → Option Asked → Used O → Used E → (status : ℕ) → Type 0
-IsDone policies seconds books None out err status =
-    Declines BadArguments out err status ⊎ Declines NoMemory out err status
-IsDone policies seconds books (Some (to_replay files)) out err status =
-    ReplaysFiles policies seconds books files out err status ⊎ Declines NoMemory out err status
-IsDone policies seconds books (Some (to_run files)) out err status =
-    RunsFiles policies seconds books files out err status ⊎ Declines NoMemory out err status
-IsDone policies seconds books (Some (to_audit files)) out err status =
-    AuditsFiles policies seconds files out err status ⊎ Declines NoMemory out err status
-IsDone policies seconds books (Some (to_serve files)) out err status =
+abbrev pub IsDone : {P D S B W O E : Type 0} → FileKind P → FileKind D → FileKind S → FileKind B
+    → FileKind W → Option Asked → Used O → Used E → (status : ℕ) → Type 0
+IsDone policies olds seconds books seals None out err status =
+    OrNoMemory (Declines BadArguments) out err status
+IsDone policies olds seconds books seals (Some (to_replay files)) out err status =
+    OrNoMemory (ReplaysFiles policies olds seconds books files) out err status
+IsDone policies olds seconds books seals (Some (to_run files)) out err status =
+    OrNoMemory (RunsFiles policies olds seconds books files) out err status
+IsDone policies olds seconds books seals (Some (to_audit files)) out err status =
+    OrNoMemory (AuditsFiles policies olds seconds files) out err status
+IsDone policies olds seconds books seals (Some (to_seal files)) out err status =
+    OrNoMemory (SealsFiles policies olds seconds seals files) out err status
+IsDone policies olds seconds books seals (Some (to_report files)) out err status =
+    OrNoMemory (ReportsFiles policies olds seconds files) out err status
+IsDone policies olds seconds books seals (Some (to_check files)) out err status =
+    OrNoMemory (ChecksFiles policies olds files) out err status
+IsDone policies olds seconds books seals (Some (to_usage command)) out err status =
+    OrNoMemory (TellsUsage command) out err status
+IsDone policies olds seconds books seals (Some to_version) out err status =
+    OrNoMemory (TellsText (Some VERSION.now)) out err status
+IsDone policies olds seconds books seals (Some (to_serve files)) out err status =
     Declines NoMemory out err status
 
 -- It is done, with this status; or it is to serve live, by these files, and nothing is done yet.
-abbrev pub Performs : {P S B O E : Type 0} → FileKind P → FileKind S → FileKind B
-    → Option Asked → Used O → Used E → Performed → Type 0
-Performs policies seconds books asked out err (performs.Ended status) =
-    IsDone policies seconds books asked out err status
-Performs policies seconds books asked out err (performs.ToServe paths) =
+abbrev pub Performs : {P D S B W O E : Type 0} → FileKind P → FileKind D → FileKind S → FileKind B
+    → FileKind W → Option Asked → Used O → Used E → Performed → Type 0
+Performs policies olds seconds books seals asked out err (performs.Ended status) =
+    IsDone policies olds seconds books seals asked out err status
+Performs policies olds seconds books seals asked out err (performs.ToServe paths) =
     (asked ≡ Some (to_serve (live_files paths))) × IsUntouched out × IsUntouched err
 
 -- What was performed, or refused, becomes of the command line: the status is that of what was done,

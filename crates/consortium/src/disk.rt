@@ -1,4 +1,4 @@
-//! A system in memory, for tests: its words, five files, and streams that keep what they are given.
+//! A system in memory, for tests: its words, six files, and streams that keep what they are given.
 use crate::serving::{Complaints, Output};
 use std::alloc::Allocator;
 use std::cell::{Cell, RefCell};
@@ -8,8 +8,8 @@ use std::io;
 use std::io::{ErrorKind, Read, Seek, SeekFrom, Write};
 use std::rt::{Env, Files};
 
-/// The files: four to be read, `w`, `s`, `b` and `e`, which is empty, and one to be written, `k`.
-/// There are no others.
+/// The files: four to be read, `w`, `s`, `b` and `e`, which is empty, one to be written, `k`, and
+/// one that is not there until it is made new, `n`. There are no others.
 #[derive(Clone, Copy, Debug, PartialEq, Eq)]
 pub enum Name {
     Policy,
@@ -17,6 +17,7 @@ pub enum Name {
     Book,
     Empty,
     Kept,
+    New,
 }
 
 /// The error of the call that fails. These few stand for all kinds, whose 42 would make each proof
@@ -51,8 +52,10 @@ pub struct Disk<'a> {
     pub policy: &'a [u8],
     pub script: &'a [u8],
     pub book: &'a [u8],
-    /// What was written to `k` since it was made last.
+    /// What was written to `k` or `n` since one of them was made last.
     pub kept: RefCell<Vec<u8>>,
+    /// Whether `n` was made.
+    pub is_new_made: Cell<bool>,
     /// The most bytes that one read gives, or one write takes.
     pub step: usize,
     /// How many calls go well before one fails.
@@ -111,25 +114,46 @@ impl<'a> Disk<'a> {
             "b" => Ok(Name::Book),
             "e" => Ok(Name::Empty),
             "k" => Ok(Name::Kept),
+            "n" => Ok(Name::New),
             _ => Err(io::Error::from(ErrorKind::NotFound)),
         }
+    }
+
+    fn admit_to_read(&self, name: Name) -> io::Result<()> {
+        match name {
+            Name::Kept | Name::New => Err(refused()),
+            _ => Ok(()),
+        }
+    }
+
+    // The new file is made but where it is not there, and nothing may be lost that was.
+    fn admit_new(&self, how: &OpenOptions) -> io::Result<()> {
+        if self.is_new_made.get() {
+            return Err(io::Error::from(ErrorKind::AlreadyExists));
+        }
+        if how.asks_create() || how.asks_truncate() || !how.asks_create_new() {
+            return Err(refused());
+        }
+        self.is_new_made.set(true);
+        Ok(())
     }
 
     // Gives the file anew where it is made, and refuses one that is opened otherwise than its use
     // wants, or than a system would.
     fn admit(&self, name: Name, how: &OpenOptions) -> io::Result<()> {
         how.check()?;
-        if how.asks_append() || how.asks_create_new() {
+        if how.asks_append() {
             return Err(refused());
         }
-        if name != Name::Kept {
-            return if how.asks_write() {
-                Err(refused())
-            } else {
-                Ok(())
-            };
+        if !how.asks_write() {
+            return self.admit_to_read(name);
         }
-        if how.asks_read() || !how.asks_write() || !how.asks_create() || !how.asks_truncate() {
+        if how.asks_read() {
+            return Err(refused());
+        }
+        if name == Name::New {
+            self.admit_new(how)?;
+        } else if name != Name::Kept || !is_to_be_made(how) {
             return Err(refused());
         }
         match self.kept.try_borrow_mut() {
@@ -140,6 +164,11 @@ impl<'a> Disk<'a> {
             Err(_) => Err(refused()),
         }
     }
+}
+
+// Whether it asks for a file in place of one that was there.
+fn is_to_be_made(how: &OpenOptions) -> bool {
+    how.asks_create() && how.asks_truncate() && !how.asks_create_new()
 }
 
 /// One of the files, opened.
@@ -175,7 +204,7 @@ impl<'a> Read for Opened<'a> {
 
 impl<'a> Write for Opened<'a> {
     fn write(&mut self, bytes: &[u8]) -> io::Result<usize> {
-        if self.name != Name::Kept {
+        if self.name != Name::Kept && self.name != Name::New {
             return Err(self.disk.unasked());
         }
         self.disk.turn(self.name)?;
@@ -239,7 +268,7 @@ impl<'a> Files for System<'a> {
             Name::Policy => disk.policy,
             Name::Script => disk.script,
             Name::Book => disk.book,
-            Name::Empty | Name::Kept => b"".as_slice(),
+            Name::Empty | Name::Kept | Name::New => b"".as_slice(),
         };
         Ok(Opened { disk, name, rest })
     }

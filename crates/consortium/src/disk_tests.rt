@@ -121,6 +121,22 @@ fn a_book_is_made_anew(rt: HostRuntime) -> Result<(), Fail> {
     Ok(())
 }
 
+// The new file is made once, and only as one that was not there. What refuses it leaves it so.
+#[test]
+fn a_new_file_is_made_once(rt: HostRuntime) -> Result<(), Fail> {
+    let disk = disk_of(b"", rt.alloc());
+    let system = System { disk: &disk };
+    let only_new = program_files::only_new();
+    assert!(&rt; File::open(&system, "n").is_err());
+    assert!(&rt; File::create(&system, "n").is_err());
+    assert_eq!(&rt; only_new.open(&system, "n")?.write(b"new")?, 3);
+    assert!(&rt; only_new.open(&system, "n").is_err());
+    assert!(&rt; File::create(&system, "n").is_err());
+    assert!(&rt; taken(&disk.kept, rt.alloc())?.as_slice() == b"new".as_slice());
+    assert_eq!(&rt; disk.open.get(), 0);
+    Ok(())
+}
+
 // A stream that is asked to flush is seen to have been.
 #[test]
 fn a_flush_of_a_stream_is_seen(rt: HostRuntime) -> Result<(), Fail> {

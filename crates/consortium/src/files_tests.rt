@@ -83,6 +83,7 @@ pub(crate) fn disk_of<'a>(policy: &'a [u8], alloc: Global) -> Disk<'a> {
         script: b"",
         book: b"",
         kept: RefCell::new(Vec::new(alloc)),
+        is_new_made: Cell::new(false),
         step: usize::MAX,
         left: Cell::new(u64::MAX),
         refusal: Refusal::Other,
@@ -111,6 +112,7 @@ where
         script: case.script,
         book: case.book,
         kept: RefCell::new(Vec::new(alloc)),
+        is_new_made: Cell::new(false),
         step: faults.step,
         left: Cell::new(faults.files),
         refusal: faults.refusal,
@@ -178,6 +180,12 @@ fn told_to_serve(disk: &Disk, paths: &LivePaths) -> ExitCode {
     for line in [paths.policy.as_str(), paths.pipes.as_str(), book] {
         let _ = disk.note(line);
     }
+    for path in &paths.after {
+        let _ = disk.note(path.as_str());
+    }
+    if paths.sync {
+        let _ = disk.note("synced");
+    }
     ExitCode::from(TO_SERVE)
 }
 
@@ -197,6 +205,9 @@ struct Long {
     run: String,
     book: String,
     sound: String,
+    // The book, cut in its last line, and what is told where it is sealed.
+    cut: String,
+    sealed: String,
 }
 
 fn long_texts(rt: &impl AllocGlobal, posts: u64) -> Result<Long, Fail> {
@@ -213,20 +224,24 @@ fn long_texts(rt: &impl AllocGlobal, posts: u64) -> Result<Long, Fail> {
         )?;
     }
     let entries = posts.wrapping_mul(2);
+    let cut = format!(in rt.alloc(); "{book}end ")?;
     write!(book, "end {entries}\n")?;
     let run = format!(in rt.alloc(); "rank 0 p0\n{replies}")?;
     let sound = format!(in rt.alloc(); "sound {entries}\n")?;
+    let sealed = format!(in rt.alloc(); "sealed {entries}\n")?;
     Ok(Long {
         script,
         replies,
         run,
         book,
         sound,
+        cut,
+        sealed,
     })
 }
 
 // Each command that has files, over these texts.
-fn commands<'a>(long: &'a Long) -> [Case<'a>; 5] {
+fn commands<'a>(long: &'a Long) -> [Case<'a>; 7] {
     let quiet = Case {
         words: &[],
         policy: ALONE.as_bytes(),
@@ -267,6 +282,20 @@ fn commands<'a>(long: &'a Long) -> [Case<'a>; 5] {
             opened: b"w\nb\n",
             ..quiet
         },
+        Case {
+            words: &[b"consortium", b"audit", b"w", b"b", b"--after", b"b"],
+            out: long.sound.as_bytes(),
+            opened: b"w\nb\nb\n",
+            ..quiet
+        },
+        Case {
+            words: &[b"consortium", b"seal", b"w", b"b", b"n"],
+            book: long.cut.as_bytes(),
+            out: long.sealed.as_bytes(),
+            kept: long.book.as_bytes(),
+            opened: b"w\nb\nn\n",
+            ..quiet
+        },
     ]
 }
 
@@ -303,16 +332,16 @@ const WRITTEN: usize = 65536;
 // of such a size, the last of them short, and the end is seen.
 fn most_calls(case: &Case, step: usize) -> u64 {
     let mut most: u64 = 0;
-    for (name, bytes, size) in [
-        (b'w', case.policy, READ),
-        (b's', case.script, READ),
-        (b'b', case.book, READ),
-        (b'k', case.kept, WRITTEN),
-    ] {
-        if case.opened.contains(&name) {
-            let pieces = bytes.len().checked_div(step.min(size)).unwrap_or(0) as u64;
-            most = most.saturating_add(pieces).saturating_add(3);
-        }
+    for name in case.opened {
+        let (bytes, size) = match *name {
+            b'w' => (case.policy, READ),
+            b's' => (case.script, READ),
+            b'b' => (case.book, READ),
+            b'k' | b'n' => (case.kept, WRITTEN),
+            _ => continue,
+        };
+        let pieces = bytes.len().checked_div(step.min(size)).unwrap_or(0) as u64;
+        most = most.saturating_add(pieces).saturating_add(3);
     }
     most
 }
@@ -322,11 +351,15 @@ fn most_calls(case: &Case, step: usize) -> u64 {
 fn is_broken_at(name: Name, ended: &Ended, case: &Case) -> bool {
     let is_ended = ended.status == ExitCode::from(3) && ended.open == 0;
     let is_front = case.kept.starts_with(&ended.kept) && case.opened.starts_with(&ended.opened);
-    let is_told = if name == Name::Kept {
-        ended.err.as_slice() == b"write fault\n".as_slice() && ended.out.as_slice() == case.out
-    } else {
-        let is_none = ended.out.is_empty() && ended.kept.is_empty();
-        ended.err.as_slice() == b"read fault\n".as_slice() && is_none
+    let is_told = match name {
+        Name::Kept => {
+            ended.err.as_slice() == b"write fault\n".as_slice() && ended.out.as_slice() == case.out
+        }
+        Name::New => { ended.err.as_slice() == b"write fault\n".as_slice() && ended.out.is_empty() }
+        _ => {
+            let is_none = ended.out.is_empty() && ended.kept.is_empty();
+            ended.err.as_slice() == b"read fault\n".as_slice() && is_none
+        }
     };
     is_ended && is_front && is_told
 }
@@ -373,6 +406,14 @@ fn each_call_at_a_file_fails(rt: HostRuntime) -> Result<(), Fail> {
     Ok(())
 }
 
+// What stands in the file that is written before anything goes to standard output.
+fn kept_before_output<'a>(case: &Case<'a>) -> &'a [u8] {
+    if case.opened.contains(&b'n') {
+        return case.kept;
+    }
+    b""
+}
+
 // Fails each call at standard output once, and gives how many there are.
 fn fail_at_output<R>(rt: &R, case: &Case, faults: Faults) -> Result<u64, Fail>
 where
@@ -389,7 +430,8 @@ where
         }
         let is_told = ended.err.as_slice() == b"write fault\n".as_slice();
         let is_front = case.out.starts_with(&ended.out) && case.opened.starts_with(&ended.opened);
-        if !is_told || !is_front || !ended.kept.is_empty() || ended.open != 0 {
+        let is_kept = ended.kept.as_slice() == kept_before_output(case);
+        if !is_told || !is_front || !is_kept || ended.open != 0 {
             return Err(Fail::from("a use with a fault at its output ended otherwise"));
         }
     }

@@ -2,18 +2,30 @@
 //! of the script, and to FILE, where one is named, the audit book of the run; `consortium run
 //! POLICY SCRIPT [--book FILE]` does so with a thread for each process, and `consortium audit
 //! POLICY BOOK` writes whether a book is what its posts give. `consortium serve POLICY DIR [--book
-//! FILE]` serves the processes of the policy live, each at two named pipes in DIR.
+//! FILE] [--sync]` serves the processes of the policy live, each at two named pipes in DIR; with
+//! `--sync` the file of its book is synced behind each post that settles an instance. `consortium
+//! seal POLICY BOOK OUT` makes a whole book of one that was cut, in a new file, and `consortium
+//! report POLICY BOOK` tells who came to hold what by a book, and how. Each goes on after earlier
+//! books where it has `--after BOOK`, any number of times, the oldest first. `consortium check
+//! POLICY [SCRIPT] [--book BOOK]` tells what a policy means, and what of a script and a book is at
+//! fault; `consortium usage [COMMAND]` how it is used, and `consortium version` its version.
 #![tactic(auto)]
 
+mod book_file;
 mod commands;
 mod desk;
+mod devices;
 mod events;
+mod looking;
 mod pipes;
 mod server;
 mod serving;
 
 pub use commands::{Counts, LivePaths, Performed, perform};
-pub use program_commands::{audit_on, replay_on, run_on, serve_on};
+pub use program_commands::{
+    audit_after, audit_on, check_on, read_wall_after, replay_after, replay_on, report_on,
+    run_after, run_on, seal_on, serve_on,
+};
 pub use program_words::read_words;
 use server::serve_live;
 use serving::{Blanks, Outcome, Served, serve};

@@ -3,16 +3,18 @@
 //! What the sessions come to says the contract of `serve_on`; the pipes, and so this, have none.
 ghost use Rattle.std.specs.Prelude.{◌≡◌};
 
+use crate::book_file::{BookFile, NewBook, new_file};
 use crate::commands::LivePaths;
 use crate::desk::{desks_at, peers_at};
+use crate::devices::listed;
 use crate::events::{Event, Events};
 use crate::pipes::{Pipes, first_fault, pipes_in};
+use crate::serving::texts;
 use live_session::{Desk, Peer};
-use program_commands::{Ending, ServeEnd, Unready, end, read_wall, refuse, serve_on};
-use program_files::{Count, FileSink, FileSource, StreamSink};
+use program_commands::{Ending, ServeEnd, end, read_wall_after, refuse, serve_on};
+use program_files::{Count, FileSource, StreamSink};
 use std::alloc::Global;
-use std::fs::{File, OpenOptions};
-use std::io::{ErrorKind, Stderr, Stdout};
+use std::io::{Stderr, Stdout};
 use std::marker::Brand;
 use std::sync::Wait;
 use std::sync::ledger::{Blank, Ledger};
@@ -76,11 +78,7 @@ impl<'a> PipeServer<'a> {
         let Ok(events) = Events::new(alloc, self.out) else {
             return end(err, Ending::NoMemory);
         };
-        let book = match &paths.book {
-            Some(path) => Some(path.as_str()),
-            None => None,
-        };
-        self.serve_at(rt, policy, &all, &events, book, err)
+        self.serve_at(rt, policy, &all, &events, paths, err)
     }
 
     // Makes the devices and the book, and serves.
@@ -90,7 +88,7 @@ impl<'a> PipeServer<'a> {
         policy: &Policy,
         all: &[Pipes],
         events: &Events<Stdout>,
-        book: Option<&str>,
+        paths: &LivePaths,
         err: &mut E,
     ) -> u8
     where
@@ -103,24 +101,31 @@ impl<'a> PipeServer<'a> {
         let Ok(peers) = peers_at(alloc, &desks) else {
             return end(err, Ending::NoMemory);
         };
-        let kept = match book {
+        let kept = match &paths.book {
             Some(path) => match new_file(files, path, err) {
-                Ok(file) => Some(file),
+                Ok(file) => {
+                    let is_synced = paths.sync;
+                    Some(NewBook {
+                        files,
+                        path,
+                        file,
+                        is_synced,
+                    })
+                }
                 Err(status) => return status,
             },
             None => None,
         };
         events.tell(rt, Event::Serving(policy.processes()));
         let ended = match kept {
-            Some(file) => {
+            Some(book) => {
                 let blank = Blank::new(1);
-                serve_keeping::<_, _, _, _, Brand>(rt, policy, peers, err, file, blank)
+                serve_keeping::<_, _, _, _, Brand>(rt, policy, peers, err, book, blank)
             }
-            None => serve_on::<_, _, _, _, E>(rt, alloc, policy, peers, err, None),
+            None => serve_bookless(rt, policy, peers, err),
         };
-        let ServeEnd { status, sessions } = ended;
-        let have_ended = sessions.len() == policy.processes() as usize;
-        drop(sessions);
+        let Ended { status, sessions } = ended;
+        let have_ended = sessions == policy.processes() as usize;
         if !have_ended || events.end(rt) || status == WRITE_FAULT {
             return status;
         }
@@ -128,13 +133,77 @@ impl<'a> PipeServer<'a> {
     }
 }
 
-// Reads a policy file.
-fn policy_at<L: Ledger>(
-    alloc: Global,
-    files: &HostRuntime,
-    paths: &LivePaths,
+// What serving came to: the status, and how many sessions have ended.
+struct Ended {
+    status: u8,
+    sessions: usize,
+}
+
+// Serves, and writes the book to this file.
+fn serve_keeping<R, S, O, E: Sink, B: Ledger + Send>(
+    rt: &R,
+    policy: &Policy,
+    peers: Vec<Peer<S, O>>,
+    err: &mut E,
+    book: NewBook,
     blank: Blank,
-) -> Result<Policy, Ending>
+) -> Ended
+where
+    R: AllocGlobal + Threads + Wait + Sync,
+    S: Desk<O> + Send + Drop,
+    O: Sink + Send + Drop,
+    requires name { blank.name ≡ B.name }
+    requires parts { blank.parts ≡ B.parts }
+    requires one { blank.parts ≡ 1 }
+{
+    let book = BookFile::<B>::new(book, blank);
+    let ServeEnd {
+        status,
+        sessions,
+        book,
+    } = serve_on(rt, rt.alloc(), policy, peers, err, Some(book));
+    drop(book);
+    let count = sessions.len();
+    drop(sessions);
+    Ended {
+        status,
+        sessions: count,
+    }
+}
+
+// Serves, and keeps no book.
+fn serve_bookless<R, S, O, E: Sink>(
+    rt: &R,
+    policy: &Policy,
+    peers: Vec<Peer<S, O>>,
+    err: &mut E,
+) -> Ended
+where
+    R: AllocGlobal + Threads + Wait + Sync,
+    S: Desk<O> + Send + Drop,
+    O: Sink + Send + Drop,
+{
+    let ServeEnd {
+        status,
+        sessions,
+        book,
+    } = serve_on::<_, _, _, _, BookFile<Brand>>(rt, rt.alloc(), policy, peers, err, None);
+    drop(book);
+    let count = sessions.len();
+    drop(sessions);
+    Ended {
+        status,
+        sessions: count,
+    }
+}
+
+// Reads a policy file, and then the earlier books.
+fn policy_at<'a, L: Ledger>(
+    alloc: Global,
+    files: &'a HostRuntime,
+    paths: &'a LivePaths,
+    blank: Blank,
+) -> Result<Policy, Ending<'a>>
     requires name { blank.name ≡ L.name }
     requires parts { blank.parts ≡ L.parts }
     requires one { blank.parts ≡ 1 }
@@ -145,57 +214,11 @@ fn policy_at<L: Ledger>(
         file: None,
         failures: Count::<L>::new(blank),
     };
-    read_wall(alloc, &mut source)
-}
-
-// A file that was not there before.
-#[derive(Drop)]
-struct NewFile<'a> {
-    files: &'a HostRuntime,
-    path: &'a str,
-    file: File,
-}
-
-// Makes a file that is not there; or the status, behind the line of the fault.
-fn new_file<'a, E: Sink>(
-    files: &'a HostRuntime,
-    path: &'a str,
-    err: &mut E,
-) -> Result<NewFile<'a>, u8> {
-    let mut make = OpenOptions::new();
-    make.write(true).create_new(true);
-    match make.open(files, path) {
-        Ok(file) => Ok(NewFile { files, path, file }),
-        Err(error) => match error.kind() {
-            ErrorKind::AlreadyExists => Err(refuse(err, Unready::BookExists(path))),
-            _ => Err(end(err, Ending::WriteFault)),
-        },
-    }
-}
-
-// Serves, and writes the book to this file.
-fn serve_keeping<R, S, O, E: Sink, B: Ledger>(
-    rt: &R,
-    policy: &Policy,
-    peers: Vec<Peer<S, O>>,
-    err: &mut E,
-    book: NewFile,
-    blank: Blank,
-) -> ServeEnd<S, O>
-where
-    R: AllocGlobal + Threads + Wait + Sync,
-    S: Desk<O> + Send + Drop,
-    O: Sink + Send + Drop,
-    requires name { blank.name ≡ B.name }
-    requires parts { blank.parts ≡ B.parts }
-    requires one { blank.parts ≡ 1 }
-{
-    let NewFile { files, path, file } = book;
-    let mut book = FileSink {
-        rt: files,
-        path,
-        file: Some(file),
-        failures: Count::<B>::new(blank),
+    let Ok(after) = texts(alloc, &paths.after) else {
+        return Err(Ending::NoMemory);
     };
-    serve_on(rt, rt.alloc(), policy, peers, err, Some(&mut book))
+    let Ok(earlier) = listed(alloc, files, &after) else {
+        return Err(Ending::NoMemory);
+    };
+    read_wall_after(alloc, &mut source, earlier)
 }

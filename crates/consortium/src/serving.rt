@@ -9,7 +9,7 @@ ghost use Rattle.consortium.specs.Performing.{file_kind, path_unopened, Performs
 
 use crate::commands::{Counts, LivePaths, Performed, fault_ending, perform};
 use program_commands::end;
-use program_files::{Count, FileSink, FileSource, StreamSink};
+use program_files::{Count, FileSink, FileSource, ListedFile, NewFileSink, StreamSink};
 use program_words::ArgFault;
 use std::alloc::{AllocError, Global};
 use std::env;
@@ -23,7 +23,7 @@ use std::thread::Threads;
 use wall_labels::{Sink, Source};
 
 // A new ledger for the failures of each device: the policy, the second file that a command reads,
-// the book that it keeps, and the streams.
+// the book that it writes, and the streams.
 pub(crate) struct Blanks {
     pub(crate) policy: Blank,
     pub(crate) second: Blank,
@@ -135,16 +135,22 @@ where
     ensures done { let policies = file_kind ⟦<FileSource<'a, F, P> as Source>⟧.failures
         ⟦<FileSource<'a, F, P> as Source>⟧.remaining
         (λ d. path_unopened d.path.now d.file) counts.policy in
+        let earlier = file_kind ⟦<ListedFile<'a, F> as Source>⟧.failures
+        ⟦<ListedFile<'a, F> as Source>⟧.remaining
+        (λ d. path_unopened d.path.now d.file) 0 in
         let seconds = file_kind ⟦<FileSource<'a, F, S> as Source>⟧.failures
         ⟦<FileSource<'a, F, S> as Source>⟧.remaining
         (λ d. path_unopened d.path.now d.file) counts.second in
         let books = file_kind ⟦<FileSink<'a, F, B> as Sink>⟧.failures
         ⟦<FileSink<'a, F, B> as Sink>⟧.contents
         (λ d. path_unopened d.path.now d.file) counts.kept in
+        let seals = file_kind ⟦<NewFileSink<'a, F, B> as Sink>⟧.failures
+        ⟦<NewFileSink<'a, F, B> as Sink>⟧.contents
+        (λ d. path_unopened d.path.now d.file) counts.kept in
         let outs = used O.failures O.contents out.old out.new in
         let errs = used E.failures E.contents err.old err.new in
         IfOk result (λ performed. (words : List Text)
-        × Performs policies seconds books (asked words) outs errs performed) }
+        × Performs policies earlier seconds books seals (asked words) outs errs performed) }
     ensures refused { OnErr result ((out.new ≡ out.old) × (err.new ≡ err.old)) }
 {
     let words = given_words(rt.alloc(), system)?;
@@ -187,7 +193,7 @@ fn behind_the_name(alloc: Global, mut args: Args) -> Result<Vec<String>, AllocEr
 }
 
 // The words as they are, letter for letter.
-fn texts<'a>(alloc: Global, words: &'a [String]) -> Result<Vec<&'a str>, AllocError>
+pub(crate) fn texts<'a>(alloc: Global, words: &'a [String]) -> Result<Vec<&'a str>, AllocError>
     ensures { IfOk result (λ texts.
         map (λ t. t.now) texts.items ≡ map (λ w. string_bytes w) words.entry.now) }
 {

@@ -252,19 +252,11 @@ const REFUSED: &[(&[&[u8]], &str, &str, u8)] = &[
         "",
         5,
     ),
-    // a file of no bytes is a file, and its reading no fault
     (
-        &[b"consortium", b"replay", b"e", b"s"],
-        "policy: BadVersion\n",
-        "e\n",
-        1,
-    ),
-    (&[b"consortium", b"replay", b"w", b"e"], "", "w\ne\n", 0),
-    (
-        &[b"consortium", b"audit", b"w", b"e"],
-        "book: cut\n",
-        "w\ne\n",
-        2,
+        &[b"consortium", b"serve", b"w", b"d", b"--sync=yes"],
+        "bad arguments\n",
+        "",
+        5,
     ),
     // letter for letter: a space is part of a word
     (
@@ -287,14 +279,148 @@ const REFUSED: &[(&[&[u8]], &str, &str, u8)] = &[
     ),
 ];
 
-#[test]
-fn faults_of_words_and_files_are_told(rt: HostRuntime) -> Result<(), Fail> {
-    for (words, err, opened, status) in REFUSED {
+// The same of seals and of earlier books.
+const REFUSED_BOOKS: &[(&[&[u8]], &str, &str, u8)] = &[
+    // what is sealed goes to a file that was not there, and to no other
+    (
+        &[b"consortium", b"seal", b"w", b"b", b"k"],
+        "write fault\n",
+        "w\nb\nk\n",
+        3,
+    ),
+    (
+        &[b"consortium", b"seal", b"w", b"b", b"b"],
+        "write fault\n",
+        "w\nb\nb\n",
+        3,
+    ),
+    (
+        &[b"consortium", b"seal", b"w", b"x", b"n"],
+        "read fault\n",
+        "w\nx\n",
+        3,
+    ),
+    (
+        &[b"consortium", b"seal", b"w", b"s", b"n"],
+        "book: line 1\n",
+        "w\ns\n",
+        2,
+    ),
+    (
+        &[b"consortium", b"seal", b"w", b"b", b"n", b"--after=b"],
+        "after b: cut\n",
+        "w\nb\n",
+        2,
+    ),
+    (
+        &[b"consortium", b"seal", b"w", b"b"],
+        "bad arguments\n",
+        "",
+        5,
+    ),
+    // earlier books are looked at behind the policy, the oldest first, and in front of all else
+    (
+        &[b"consortium", b"replay", b"w", b"s", b"--after", b"b"],
+        "after b: cut\n",
+        "w\nb\n",
+        2,
+    ),
+    (
+        &[b"consortium", b"run", b"--after=b", b"w", b"s", b"--book=k"],
+        "after b: cut\n",
+        "w\nb\n",
+        2,
+    ),
+    (
+        &[b"consortium", b"audit", b"w", b"b", b"--after=e"],
+        "after e: cut\n",
+        "w\ne\n",
+        2,
+    ),
+    (
+        &[
+            b"consortium",
+            b"replay",
+            b"w",
+            b"s",
+            b"--after=x",
+            b"--after",
+            b"b",
+        ],
+        "read fault\n",
+        "w\nx\n",
+        3,
+    ),
+    (
+        &[b"consortium", b"run", b"w", b"s", b"--after", b" b"],
+        "read fault\n",
+        "w\n b\n",
+        3,
+    ),
+    (
+        &[b"consortium", b"audit", b"w", b"b", b"--after", b"s"],
+        "after s: line 1\n",
+        "w\ns\n",
+        2,
+    ),
+    (
+        &[b"consortium", b"audit", b"s", b"b", b"--after", b"b"],
+        "policy: NotToml\n",
+        "s\n",
+        1,
+    ),
+    (
+        &[b"consortium", b"replay", b"w", b"s", b"--after"],
+        "bad arguments\n",
+        "",
+        5,
+    ),
+    (
+        &[b"consortium", b"--after", b"b", b"replay", b"w", b"s"],
+        "bad arguments\n",
+        "",
+        5,
+    ),
+    // a file of no bytes is a file, and its reading no fault
+    (
+        &[b"consortium", b"replay", b"e", b"s"],
+        "policy: BadVersion\n",
+        "e\n",
+        1,
+    ),
+    (&[b"consortium", b"replay", b"w", b"e"], "", "w\ne\n", 0),
+    (
+        &[b"consortium", b"audit", b"w", b"e"],
+        "book: cut\n",
+        "w\ne\n",
+        2,
+    ),
+];
+
+// Words, and what comes of them, as in the tables.
+type Row<'a> = (&'a [&'a [u8]], &'a str, &'a str, u8);
+
+// Whether what comes of these words is as the rows tell it.
+fn are_told<R>(rt: &R, rows: &[Row]) -> Result<(), Fail>
+where
+    R: AllocGlobal + Threads + Wait + Sync + Abort + Eprint,
+{
+    for (words, err, opened, status) in rows {
         let case = refused(words, err.as_bytes(), opened.as_bytes(), *status);
-        let ended = used(&rt, &case, NONE)?;
-        assert!(&rt; is_as_told(&ended, &case), "{err} {opened}");
+        let ended = used(rt, &case, NONE)?;
+        assert!(rt; is_as_told(&ended, &case), "{err} {opened}");
     }
     Ok(())
+}
+
+#[test]
+fn faults_of_words_and_files_are_told(rt: HostRuntime) -> Result<(), Fail> {
+    are_told(&rt, REFUSED)
+}
+
+#[test]
+fn faults_of_seals_and_earlier_books_are_told(rt: HostRuntime) -> Result<(), Fail> {
+    are_told(&rt, REFUSED_BOOKS)
 }
 
 // Words that ask for a server, and the paths that it is asked for.
@@ -316,6 +442,22 @@ const SERVED_AT: &[(&[&[u8]], &str)] = &[
         &[b"consortium", b"serve", b"--", b"-w", b"--book"],
         "-w\n--book\nnone\n",
     ),
+    (
+        &[
+            b"consortium",
+            b"serve",
+            b"--after",
+            b"y",
+            b"w",
+            b"--after= x",
+            b"d",
+        ],
+        "w\nd\nnone\ny\n x\n",
+    ),
+    (
+        &[b"consortium", b"serve", b"w", b"--sync", b"d", b"--book=k"],
+        "w\nd\nk\nsynced\n",
+    ),
 ];
 
 // To serve is handed on with the paths as the words have them: no file is opened, and nothing is
@@ -331,29 +473,41 @@ fn servers_are_handed_their_paths(rt: HostRuntime) -> Result<(), Fail> {
 }
 
 // Each call at standard error fails once, in turn. It changes nothing but that the line ends there.
-#[test]
-fn each_call_at_standard_error_fails(rt: HostRuntime) -> Result<(), Fail> {
-    for (words, line, opened, status) in REFUSED {
+fn fail_at_errors<R>(rt: &R, rows: &[Row]) -> Result<(), Fail>
+where
+    R: AllocGlobal + Threads + Wait + Sync + Abort + Eprint,
+{
+    for (words, line, opened, status) in rows {
         let case = refused(words, line.as_bytes(), opened.as_bytes(), *status);
         let mut calls: u64 = 0;
         for err in 0..40u64 {
             let step = 5;
-            let ended = used(&rt, &case, Faults { step, err, ..NONE })?;
+            let ended = used(rt, &case, Faults { step, err, ..NONE })?;
             if is_as_told(&ended, &case) {
                 break;
             }
             calls = err.wrapping_add(1);
-            assert_eq!(&rt; ended.status, ExitCode::from(*status));
-            assert!(&rt; case.err.starts_with(&ended.err) && ended.out.is_empty());
-            assert!(&rt; ended.opened.as_slice() == case.opened && ended.open == 0);
+            assert_eq!(rt; ended.status, ExitCode::from(*status));
+            assert!(rt; case.err.starts_with(&ended.err) && ended.out.is_empty());
+            assert!(rt; ended.opened.as_slice() == case.opened && ended.open == 0);
         }
         let pieces = case.err.len().div_ceil(5) as u64;
-        assert!(&rt;
+        assert!(rt;
             pieces <= calls && calls < pieces.saturating_add(4),
             "{calls}"
         );
     }
     Ok(())
+}
+
+#[test]
+fn each_call_at_standard_error_fails(rt: HostRuntime) -> Result<(), Fail> {
+    fail_at_errors(&rt, REFUSED)
+}
+
+#[test]
+fn each_call_at_standard_error_fails_for_books(rt: HostRuntime) -> Result<(), Fail> {
+    fail_at_errors(&rt, REFUSED_BOOKS)
 }
 
 // Words that want a book where none can be made, what is written before, and the name asked for.

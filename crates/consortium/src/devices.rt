@@ -1,0 +1,122 @@
+//! The devices of a command, for files that are opened at their first use.
+ghost use Rattle.std.specs.Prelude.{◌≡◌, None, map, option_map, IfOk, false};
+ghost use Rattle.consortium.specs.Performing.{file_kind, path_unopened, AreListed, IsListedIfAny};
+
+use program_commands::Earlier;
+use program_files::{Count, FileSink, FileSource, ListedFile, NewFileSink};
+use std::alloc::{AllocError, Global};
+use std::rt::Files;
+use std::sync::ledger::Ledger;
+use wall_labels::Source;
+
+/// Readers for earlier books at these paths, in order.
+pub(crate) fn listed<'a, F: Files>(
+    alloc: Global,
+    files: &'a F,
+    paths: &[&'a str],
+) -> Result<Vec<Earlier<'a, ListedFile<'a, F>>>, AllocError>
+    ensures { let earlier = file_kind ⟦<ListedFile<'a, F> as Source>⟧.failures
+        ⟦<ListedFile<'a, F> as Source>⟧.remaining
+        (λ d. path_unopened d.path.now d.file) 0 in
+        IfOk result (λ books. AreListed earlier (map (λ p. p.now) paths.now) books.items) }
+{
+    let mut books = Vec::new(alloc);
+    for path in paths {
+        books.push(earlier_at(files, path))?;
+    }
+    Ok(books)
+}
+
+fn earlier_at<'a, F: Files>(files: &'a F, path: &'a str) -> Earlier<'a, ListedFile<'a, F>>
+    ensures name { result.path.now ≡ path.now }
+    ensures path { result.device.path.now ≡ path.now }
+    ensures unopened { result.device.file ≡ None }
+    ensures count { result.device.has_failed ≡ false }
+{
+    let device = listed_at(files, path);
+    Earlier { path, device }
+}
+
+/// A reader of the file at this path, which counts no failures but its own.
+pub(crate) fn listed_at<'a, F: Files>(files: &'a F, path: &'a str) -> ListedFile<'a, F>
+    ensures path { result.path.now ≡ path.now }
+    ensures unopened { result.file ≡ None }
+    ensures count { result.has_failed ≡ false }
+{
+    ListedFile {
+        rt: files,
+        path,
+        file: None,
+        has_failed: false,
+    }
+}
+
+/// The same if there is a path.
+pub(crate) fn listed_if_any<'a, F: Files>(
+    files: &'a F,
+    path: Option<&'a str>,
+) -> Option<ListedFile<'a, F>>
+    ensures { let kind = file_kind ⟦<ListedFile<'a, F> as Source>⟧.failures
+        ⟦<ListedFile<'a, F> as Source>⟧.remaining
+        (λ d. path_unopened d.path.now d.file) 0 in
+        IsListedIfAny kind (option_map (λ p. p.now) path.entry) result }
+{
+    match path {
+        Some(path) => Some(listed_at(files, path)),
+        None => None,
+    }
+}
+
+/// A reader of the file at this path.
+pub(crate) fn unopened<'a, F: Files, L: Ledger>(
+    files: &'a F,
+    path: &'a str,
+    failures: Count<L>,
+) -> FileSource<'a, F, L>
+    ensures path { result.path.now ≡ path.now }
+    ensures unopened { result.file ≡ None }
+    ensures count { result.failures ≡ failures }
+{
+    FileSource {
+        rt: files,
+        path,
+        file: None,
+        failures,
+    }
+}
+
+/// A writer of the file at this path, in place of what stands there.
+pub(crate) fn unmade<'a, F: Files, L: Ledger>(
+    files: &'a F,
+    path: &'a str,
+    failures: Count<L>,
+) -> FileSink<'a, F, L>
+    ensures path { result.path.now ≡ path.now }
+    ensures unmade { result.file ≡ None }
+    ensures count { result.failures ≡ failures }
+{
+    FileSink {
+        rt: files,
+        path,
+        file: None,
+        failures,
+    }
+}
+
+/// A writer of a new file at this path.
+pub(crate) fn only_new<'a, F: Files, L: Ledger>(
+    files: &'a F,
+    path: &'a str,
+    failures: Count<L>,
+) -> NewFileSink<'a, F, L>
+    ensures path { result.path.now ≡ path.now }
+    ensures unmade { result.file ≡ None }
+    ensures count { result.failures ≡ failures }
+{
+    NewFileSink {
+        rt: files,
+        path,
+        file: None,
+        failures,
+    }
+}

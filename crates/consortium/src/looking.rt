@@ -1,0 +1,99 @@
+//! The commands that look at files and write to their output alone.
+ghost use Rattle.std.specs.Prelude.{option_map};
+ghost use Rattle.hall_script.specs.Devices.{used};
+ghost use Rattle.program_words.specs.Grammar.{report_files, check_files};
+ghost use Rattle.consortium.specs.Performing.{file_kind, path_unopened, OrNoMemory};
+ghost use Rattle.consortium.specs.Performing.{ReportsFiles, ChecksFiles, TellsUsage};
+
+use crate::commands::Counts;
+use crate::devices::{listed, listed_if_any, unopened};
+use program_commands::{Ending, check_on, end, report_on, text_on};
+use program_files::{FileSource, ListedFile};
+use program_words::{CheckPaths, ReportPaths, usage_text};
+use std::alloc::Global;
+use std::rt::Files;
+use std::sync::ledger::Ledger;
+use wall_labels::{Sink, Source};
+
+/// A report on the files that the words name.
+pub(crate) fn report_files<'a, F: Files, P: Ledger, S: Ledger, B: Ledger, O: Sink, E: Sink>(
+    alloc: Global,
+    files: &'a F,
+    paths: ReportPaths<'a>,
+    counts: Counts<P, S, B>,
+    out: &mut O,
+    err: &mut E,
+) -> u8
+    ensures { let policies = file_kind ⟦<FileSource<'a, F, P> as Source>⟧.failures
+        ⟦<FileSource<'a, F, P> as Source>⟧.remaining
+        (λ d. path_unopened d.path.now d.file) counts.policy in
+        let earlier = file_kind ⟦<ListedFile<'a, F> as Source>⟧.failures
+        ⟦<ListedFile<'a, F> as Source>⟧.remaining
+        (λ d. path_unopened d.path.now d.file) 0 in
+        let seconds = file_kind ⟦<FileSource<'a, F, S> as Source>⟧.failures
+        ⟦<FileSource<'a, F, S> as Source>⟧.remaining
+        (λ d. path_unopened d.path.now d.file) counts.second in
+        let outs = used O.failures O.contents out.old out.new in
+        let errs = used E.failures E.contents err.old err.new in
+        OrNoMemory (ReportsFiles policies earlier seconds (report_files paths.entry))
+        outs errs result }
+{
+    let Counts { policy, second, .. } = counts;
+    let Ok(earlier) = listed(alloc, files, &paths.after) else {
+        return end(err, Ending::NoMemory);
+    };
+    let mut policy = unopened(files, paths.policy, policy);
+    let mut book = unopened(files, paths.book, second);
+    report_on(alloc, &mut policy, earlier, &mut book, out, err)
+}
+
+/// A check of the files that the words name.
+pub(crate) fn check_files<'a, F: Files, P: Ledger, S: Ledger, B: Ledger, O: Sink, E: Sink>(
+    alloc: Global,
+    files: &'a F,
+    paths: CheckPaths<'a>,
+    counts: Counts<P, S, B>,
+    out: &mut O,
+    err: &mut E,
+) -> u8
+    ensures { let policies = file_kind ⟦<FileSource<'a, F, P> as Source>⟧.failures
+        ⟦<FileSource<'a, F, P> as Source>⟧.remaining
+        (λ d. path_unopened d.path.now d.file) counts.policy in
+        let others = file_kind ⟦<ListedFile<'a, F> as Source>⟧.failures
+        ⟦<ListedFile<'a, F> as Source>⟧.remaining
+        (λ d. path_unopened d.path.now d.file) 0 in
+        ChecksFiles policies others (check_files paths.entry)
+        (used O.failures O.contents out.old out.new)
+        (used E.failures E.contents err.old err.new)
+        result }
+{
+    let Counts { policy, .. } = counts;
+    let mut policy = unopened(files, paths.policy, policy);
+    let script = listed_if_any(files, paths.script);
+    let book = listed_if_any(files, paths.book);
+    let path = paths.script.unwrap_or("");
+    check_on(
+        alloc,
+        &mut policy,
+        paths.policy,
+        path,
+        script,
+        book,
+        out,
+        err,
+    )
+}
+
+/// Tells how the program is used, or the command of this name; where there is none, the words are
+/// bad.
+pub(crate) fn tell_usage<O: Sink, E: Sink>(command: Option<&str>, out: &mut O, err: &mut E) -> u8
+    ensures { TellsUsage (option_map (λ c. c.now) command.entry)
+        (used O.failures O.contents out.old out.new)
+        (used E.failures E.contents err.old err.new)
+        result }
+{
+    match usage_text(command) {
+        Some(text) => text_on(text.as_bytes(), out, err),
+        None => end(err, Ending::BadArguments),
+    }
+}
