@@ -24,8 +24,8 @@ fn asks(colour: Option<i32>, keys: [i32; 4]) -> [Ask; 4] {
     keys.map(|key| Ask { colour, key })
 }
 
-// A table whose world has these processes.
-fn opened(rt: &impl Abort, alloc: Global, processes: &[u32]) -> CommTable {
+/// A table whose world has these processes.
+pub(crate) fn opened(rt: &impl Abort, alloc: Global, processes: &[u32]) -> CommTable {
     match CommTable::open(alloc, group(rt, alloc, processes)) {
         Ok(table) => table,
         Err(_) => panic!(rt; "no memory"),
@@ -147,8 +147,8 @@ fn looks(rt: HostRuntime) {
     drop(table);
 }
 
-// A table of one process gets as many communicators as there may be.
-fn fill_up(rt: &impl Abort, table: &mut CommTable) {
+/// A table of one process gets as many communicators as there may be.
+pub(crate) fn fill_up(rt: &impl Abort, table: &mut CommTable) {
     for number in 1..1024 {
         expect_made(rt, table.dup(0), number, 1);
     }

@@ -1,10 +1,12 @@
 //! What is opened and what waits asks for little memory, written to or not; what was read is let
 //! go.
 
+use crate::communicators::{fill_up, opened};
 use crate::parties::{BANKS_AND_OIL, grid, opening, wall};
 use crate::pending::{Calls, Table, at_a_table, line_of_two};
 use crate::policies::{fault_of, many};
 use coll_routes::Signature;
+use mpi_comm::CommTable;
 use run_model::{Act, Acts};
 use std::alloc::{AllocError, Global};
 use std::fs;
@@ -122,6 +124,28 @@ fn a_large_grid_asks_for_little(rt: HostRuntime) -> Result<(), Fail> {
         after < before.saturating_add(256),
         "{before} pages, then {after}"
     );
+    Ok(())
+}
+
+// How many more pages were asked for when a table of one process is full.
+fn pages_of_table<R: Files + AllocGlobal + Abort>(
+    rt: &R,
+    table: &mut CommTable,
+) -> Result<u64, Fail> {
+    let before = pages(rt, 0)?;
+    fill_up(rt, table);
+    let after = pages(rt, 0)?;
+    Ok(after.saturating_sub(before))
+}
+
+// More than a kilobyte for each of 1,024 communicators would be seen.
+#[test]
+fn a_full_table_asks_for_little(rt: HostRuntime) -> Result<(), Fail> {
+    let mut table = opened(&rt, rt.alloc(), &[0]);
+    let more = pages_of_table(&rt, &mut table);
+    drop(table);
+    let more = more?;
+    assert!(&rt; more < 256, "{more} pages more");
     Ok(())
 }
 
@@ -274,6 +298,47 @@ fn instances_that_are_full_are_let_go(rt: HostRuntime) -> Result<(), Fail> {
     at_a_table(&rt, 256, Calls::OfHall, |table| {
         let more = pages_of_filling(&rt, table)?;
         assert!(&rt; more < 32, "{more} pages more");
+        Ok(())
+    })
+}
+
+// So many barriers wait on a communicator at a time.
+const WAITING: u32 = 10_000;
+
+fn open_many(rt: &impl Abort, table: &mut Table, comm: u32) -> Result<(), NoMemory> {
+    for _ in 0..WAITING {
+        table.open(rt, comm, Signature::Barrier)?;
+    }
+    Ok(())
+}
+
+fn fill_many(rt: &impl Abort, table: &mut Table, comm: u32) -> Result<(), NoMemory> {
+    for _ in 0..WAITING {
+        table.fill(rt, comm, 1, Signature::Barrier, &[1, 1])?;
+    }
+    Ok(())
+}
+
+// How many more pages were asked for when so many were opened and then full on each of 16
+// communicators, behind a first one.
+fn pages_of_queues<R: Files + AllocGlobal + Abort>(rt: &R, table: &mut Table) -> Result<u64, Fail> {
+    open_many(rt, table, 16)?;
+    fill_many(rt, table, 16)?;
+    let before = pages(rt, 0)?;
+    for comm in 0..16 {
+        open_many(rt, table, comm)?;
+        fill_many(rt, table, comm)?;
+    }
+    let after = pages(rt, 0)?;
+    Ok(after.saturating_sub(before))
+}
+
+// A queue that kept its room would keep 32 pages, and all of them five hundred.
+#[test]
+fn long_queues_give_their_room_back(rt: HostRuntime) -> Result<(), Fail> {
+    at_a_table(&rt, 2, Calls::OfHall, |table| {
+        let more = pages_of_queues(&rt, table)?;
+        assert!(&rt; more < 128, "{more} pages more");
         Ok(())
     })
 }

@@ -4,6 +4,7 @@
 use crate::devices::{
     Answers, Client, Due, Hold, LOOKS, hearers, new_answers, new_client, nothing_heard,
 };
+use crate::machines::hall;
 use crate::parties::{FRIENDS, many, wall};
 use live_session::{Desk, Peer, SessionEnd, serve_all};
 use std::alloc::Global;
@@ -32,7 +33,8 @@ fn both_end<'a, R: Abort + Threads + Wait + Sync>(
 ) -> bool {
     let policy = wall(rt, alloc, FRIENDS);
     let peers = Vec::from_array(alloc, [one, other]).expect(rt, "no memory");
-    let served = serve_all(rt, alloc, &policy, peers).expect(rt, "not served");
+    let machine = hall(rt, alloc, &policy);
+    let served = serve_all(rt, alloc, &policy, machine, peers).expect(rt, "not served");
     let mut are_all = served.sessions.len() == 2;
     for session in &served.sessions {
         are_all = are_all && session.peer.sink.are_all();
@@ -201,8 +203,9 @@ fn sessions_that_wait_take_no_processor(rt: HostRuntime) -> Result<(), Fail> {
         let sink = new_answers("posted 0\ndelivered none\n", Fuse::Whole, heard);
         peers.push(Peer { source, sink })?;
     }
+    let machine = hall(&rt, rt.alloc(), &policy);
     let before = rt.process_cpu_time()?;
-    let served = serve_all(&rt, rt.alloc(), &policy, peers).expect(&rt, "not served");
+    let served = serve_all(&rt, rt.alloc(), &policy, machine, peers).expect(&rt, "not served");
     for session in &served.sessions {
         assert!(&rt; session.peer.sink.are_all());
     }

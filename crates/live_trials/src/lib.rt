@@ -11,6 +11,8 @@ mod devices;
 #[cfg(test)]
 mod held;
 #[cfg(test)]
+mod machines;
+#[cfg(test)]
 mod memory;
 #[cfg(test)]
 mod parties;
@@ -18,3 +20,5 @@ mod parties;
 mod prompt;
 #[cfg(test)]
 mod together;
+#[cfg(test)]
+mod unbooked;

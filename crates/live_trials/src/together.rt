@@ -1,7 +1,10 @@
 //! The sessions of several processes, each in a thread of its own.
+ghost use Rattle.std.specs.Prelude.{[]};
 
 use crate::devices::{Answers, Client, Due, Heard, hearers, new_answers, new_client};
+use crate::machines::hall;
 use crate::parties::{FOUR, FRIENDS, many, wall};
+use hall_turn::Machine;
 use live_session::{Peer, ServeFault, SessionEnd, serve_all};
 use std::alloc::{AllocError, Global};
 use std::process::Abort;
@@ -9,18 +12,24 @@ use std::sync::Wait;
 use std::test::Fail;
 use std::thread::Threads;
 use wall_labels::memory::Fuse;
+use wall_policy::Policy;
 
 /// A session: its lines, their answers, after how many writes the next fails, and how it is to end.
 #[derive(Clone, Copy)]
 pub(crate) struct Row<'a> {
-    lines: &'a str,
-    answers: &'a str,
-    writes: Fuse,
-    due: Due,
+    pub(crate) lines: &'a str,
+    pub(crate) answers: &'a str,
+    pub(crate) writes: Fuse,
+    pub(crate) due: Due,
 }
 
-// A session whose devices do not fail.
-fn sound_row<'a>(lines: &'a str, answers: &'a str, end: SessionEnd, calls: u64) -> Row<'a> {
+/// A session whose devices do not fail.
+pub(crate) fn sound_row<'a>(
+    lines: &'a str,
+    answers: &'a str,
+    end: SessionEnd,
+    calls: u64,
+) -> Row<'a> {
     Row {
         lines,
         answers,
@@ -45,17 +54,22 @@ fn peers<'a>(
     Ok(peers)
 }
 
-// How many of the sessions came to what they were to.
-fn served_so<R: Abort + Threads + Wait + Sync>(
+/// How many of the sessions at this machine came to what they were to.
+pub(crate) fn served_at<R, M>(
     rt: &R,
     alloc: Global,
-    text: &str,
+    policy: &Policy,
+    machine: M,
     rows: &[Row],
-) -> usize {
-    let policy = wall(rt, alloc, text);
+) -> usize
+where
+    R: Abort + Threads + Wait + Sync,
+    M: Machine + Send + Drop,
+    requires { M.stands policy.now machine [] }
+{
     let hearers = hearers(alloc, rows.len()).expect(rt, "no memory");
     let peers = peers(alloc, rows, hearers.as_slice()).expect(rt, "no memory");
-    let served = serve_all(rt, alloc, &policy, peers).expect(rt, "not served");
+    let served = serve_all(rt, alloc, policy, machine, peers).expect(rt, "not served");
     let mut count: usize = 0;
     for (session, row) in served.sessions.iter().zip(rows) {
         if session.end == row.due.end && session.peer.sink.are_all() {
@@ -69,6 +83,18 @@ fn served_so<R: Abort + Threads + Wait + Sync>(
         }
     }
     count
+}
+
+// How many of the sessions came to what they were to, at a hall.
+fn served_so<R: Abort + Threads + Wait + Sync>(
+    rt: &R,
+    alloc: Global,
+    text: &str,
+    rows: &[Row],
+) -> usize {
+    let policy = wall(rt, alloc, text);
+    let machine = hall(rt, alloc, &policy);
+    served_at(rt, alloc, &policy, machine, rows)
 }
 
 /// Each waits until the other has posted.
@@ -169,7 +195,8 @@ fn fault_of<R: Threads + Wait + Sync + Abort>(
     let policy = wall(rt, alloc, FRIENDS);
     let hearers = hearers(alloc, rows.len()).expect(rt, "no memory");
     let peers = peers(alloc, rows, hearers.as_slice()).expect(rt, "no memory");
-    let fault = match serve_all(rt, alloc, &policy, peers) {
+    let machine = hall(rt, alloc, &policy);
+    let fault = match serve_all(rt, alloc, &policy, machine, peers) {
         Ok(served) => {
             drop(served);
             None

@@ -1,7 +1,7 @@
 //! Replays and audits over devices in memory: what is written, the book that is kept, and how each
 //! ends.
 use coll_text::LineFault;
-use program_commands::{Ending, audit_on, end, replay_on};
+use program_commands::{EarlierFault, Ending, audit_on, end, replay_on};
 use std::alloc::AllocError;
 use std::process::Abort;
 use std::test::Fail;
@@ -758,6 +758,26 @@ const ENDINGS: &[(Ending, u8, &str)] = &[
     (Ending::BadBookLine(16777217), 2, "book: line 16777217\n"),
     (Ending::CutBook, 2, "book: cut\n"),
     (Ending::Unsound(5), 2, ""),
+    (
+        Ending::BadEarlier("x", EarlierFault::BadLine(7)),
+        2,
+        "after x: line 7\n",
+    ),
+    (
+        Ending::BadEarlier("a b", EarlierFault::BadLine(16777217)),
+        2,
+        "after a b: line 16777217\n",
+    ),
+    (
+        Ending::BadEarlier("x", EarlierFault::Cut),
+        2,
+        "after x: cut\n",
+    ),
+    (
+        Ending::BadEarlier("x", EarlierFault::Unsound(5)),
+        2,
+        "after x: unsound at entry 5\n",
+    ),
     (Ending::ReadFault, 3, "read fault\n"),
     (Ending::WriteFault, 3, "write fault\n"),
     (Ending::NoThread, 4, "no thread\n"),

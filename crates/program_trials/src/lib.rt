@@ -5,6 +5,8 @@
 #![tactic(auto)]
 
 #[cfg(test)]
+mod chains;
+#[cfg(test)]
 mod endings;
 #[cfg(test)]
 mod hostile;
@@ -12,6 +14,8 @@ mod hostile;
 mod kinds;
 #[cfg(test)]
 mod limits;
+#[cfg(test)]
+mod looks;
 #[cfg(test)]
 mod memory;
 #[cfg(test)]

@@ -1,7 +1,8 @@
 //! Processes served at the same time, each over lines at hand: what each is answered, the book that
-//! is kept, and how it ends.
+//! is written while they are, and how it ends.
 use crate::endings::{sink, source};
 use crate::runs::ALONE;
+use live_book::BookSink;
 use live_session::{Desk, Peer, Session, SessionEnd};
 use program_commands::{Ending, ServeEnd, Unready, read_wall, refuse, serve_on};
 use std::alloc::{AllocError, Global};
@@ -63,6 +64,62 @@ impl Sink for Keeping {
     }
 }
 
+impl BookSink for Keeping {
+    fn settled(&mut self) -> Result<(), Failed> {
+        Ok(())
+    }
+}
+
+// A book that is to come. It fails at one of its writes, or never.
+#[derive(Drop)]
+struct Due<'a> {
+    book: ExpectingSink<'a>,
+}
+
+impl<'a> Due<'a> {
+    fn is_whole(&self) -> bool {
+        self.book.is_same && self.book.rest.is_empty()
+    }
+}
+
+impl<'a> Sink for Due<'a> {
+    ghost use Rattle.wall_labels.specs.Fuses.{failures_of};
+
+    ghost failures = { λ s. failures_of s.book.fuse };
+
+    fn write(&mut self, bytes: &[u8]) -> Result<usize, Failed> {
+        self.book.write(bytes)
+    }
+}
+
+impl<'a> BookSink for Due<'a> {
+    fn settled(&mut self) -> Result<(), Failed> {
+        Ok(())
+    }
+}
+
+fn expecting<'a>(book: &'a str, fuse: Fuse) -> Due<'a> {
+    Due {
+        book: sink(book.as_bytes(), fuse),
+    }
+}
+
+// Whether the book's writer came back, with all of it.
+fn is_kept(back: &Option<Due>) -> bool {
+    match back {
+        Some(book) => book.is_whole(),
+        None => false,
+    }
+}
+
+// Whether it came back with a beginning of the book.
+fn is_begun(back: &Option<Due>) -> bool {
+    match back {
+        Some(book) => book.book.is_same,
+        None => false,
+    }
+}
+
 // What a process says, what it is answered, and how its session ends.
 #[derive(Clone, Copy)]
 struct Talk<'a> {
@@ -90,7 +147,7 @@ fn peers<'a>(alloc: Global, talks: &[Talk<'a>]) -> Result<Vec<At<'a>>, AllocErro
     Ok(peers)
 }
 
-fn wall<R: AllocGlobal>(rt: &R, text: &str) -> Result<Policy, Ending> {
+fn wall<R: AllocGlobal>(rt: &R, text: &str) -> Result<Policy, Ending<'static>> {
     read_wall(rt.alloc(), &mut source(text.as_bytes(), Fuse::Whole))
 }
 
@@ -127,12 +184,11 @@ fn serves_so<R: AllocGlobal + Threads + Wait + Sync>(
     };
     let peers = peers(rt.alloc(), talks)?;
     let mut err = sink(line.as_bytes(), Fuse::Whole);
-    let mut kept = sink(book.as_bytes(), Fuse::Whole);
-    let ended = serve_on(rt, rt.alloc(), &wall, peers, &mut err, Some(&mut kept));
+    let kept = Some(expecting(book, Fuse::Whole));
+    let ended = serve_on(rt, rt.alloc(), &wall, peers, &mut err, kept);
     let is_told = err.is_same && err.rest.is_empty();
-    let is_kept = kept.is_same && kept.rest.is_empty();
     let is_so = have_ended_so(&ended.sessions, talks) && ended.status == status;
-    Ok(is_told && is_kept && is_so)
+    Ok(is_told && is_kept(&ended.book) && is_so)
 }
 
 const BROADCAST: &[Talk] = &[
@@ -169,14 +225,20 @@ end 3
 fn two_processes_talk(rt: HostRuntime) -> Result<(), Fail> {
     for _ in 0..20 {
         let wall = wall(&rt, FRIENDS).expect(&rt, "the policy is refused");
-        let mut kept = Keeping {
+        let kept = Keeping {
             bytes: Vec::new(rt.alloc()),
         };
         let mut err = sink(b"", Fuse::Whole);
         let peers = peers(rt.alloc(), BROADCAST)?;
-        let ended = serve_on(&rt, rt.alloc(), &wall, peers, &mut err, Some(&mut kept));
-        assert!(&rt; ended.status == 0 && err.is_same);
-        assert!(&rt; have_ended_so(&ended.sessions, BROADCAST));
+        let ended = serve_on(&rt, rt.alloc(), &wall, peers, &mut err, Some(kept));
+        let ServeEnd {
+            status,
+            sessions,
+            book,
+        } = ended;
+        assert!(&rt; status == 0 && err.is_same);
+        assert!(&rt; have_ended_so(&sessions, BROADCAST));
+        let kept = book.expect(&rt, "the book is gone");
         let book = kept.bytes.as_slice();
         assert!(&rt;
             BROADCAST_BOOKS[0].as_bytes() == book || BROADCAST_BOOKS[1].as_bytes() == book
@@ -260,10 +322,10 @@ fn devices_are_those_of_each_process(rt: HostRuntime) -> Result<(), Fail> {
             peers.push(peer(&ALONE_TALKS[0], Fuse::Whole, Fuse::Whole))?;
         }
         let mut err = sink(b"bad arguments\n", Fuse::Whole);
-        let mut kept = sink(b"", Fuse::Whole);
-        let ended = serve_on(&rt, rt.alloc(), &wall, peers, &mut err, Some(&mut kept));
+        let kept = Some(expecting("", Fuse::Whole));
+        let ended = serve_on(&rt, rt.alloc(), &wall, peers, &mut err, kept);
         assert!(&rt; ended.status == 5 && ended.sessions.is_empty());
-        assert!(&rt; err.is_same && err.rest.is_empty() && kept.is_same);
+        assert!(&rt; err.is_same && err.rest.is_empty() && is_kept(&ended.book));
     }
     Ok(())
 }
@@ -296,33 +358,80 @@ fn devices_of_a_session_fail(rt: HostRuntime) -> Result<(), Fail> {
         peers.push(peer(&other, Fuse::Whole, Fuse::Whole))?;
         let mut err = sink(b"", Fuse::Whole);
         let book = "book 1\npost 1 0 barrier gives 0 as none passed\nend 1\n";
-        let mut kept = sink(book.as_bytes(), Fuse::Whole);
-        let ended = serve_on(&rt, rt.alloc(), &wall, peers, &mut err, Some(&mut kept));
+        let kept = Some(expecting(book, Fuse::Whole));
+        let ended = serve_on(&rt, rt.alloc(), &wall, peers, &mut err, kept);
         assert!(&rt; ended.status == 0 && err.is_same);
-        assert!(&rt; kept.is_same && kept.rest.is_empty());
+        assert!(&rt; is_kept(&ended.book));
         assert!(&rt; have_ended_so(&ended.sessions, &[talk, other]));
     }
     Ok(())
 }
 
+// The same process where its first call is not booked.
+const UNBOOKED_TALKS: &[Talk] = &[Talk {
+    lines: "post 0 bcast 0 int32 1 as alpha 5\nwait 0\ntake 0\n",
+    answers: "unbooked\n",
+    end: SessionEnd::Unbooked,
+}];
+
+// How the process alone is served where its book fails at this write.
+#[derive(Clone, Copy, PartialEq, Eq)]
+enum Came {
+    // No session began, and the status is 3.
+    Unserved,
+    // Its session came to what it was to, and the status is 3.
+    Cut,
+    // Its session came to what it was to, the book is whole, and the status is 0.
+    Whole,
+    Other,
+}
+
+fn came_to<R: AllocGlobal + Threads + Wait + Sync>(
+    rt: &R,
+    talks: &[Talk],
+    write: u64,
+) -> Result<Came, Fail> {
+    let Ok(wall) = wall(rt, ALONE) else {
+        return Err(Fail::from("the policy is refused"));
+    };
+    let peers = peers(rt.alloc(), talks)?;
+    let mut err = sink(b"write fault\n", Fuse::Whole);
+    let kept = Some(expecting(ALONE_BOOK, Fuse::After(write)));
+    let ended = serve_on(rt, rt.alloc(), &wall, peers, &mut err, kept);
+    let is_so = have_ended_so(&ended.sessions, talks);
+    let is_told = err.is_same && err.rest.is_empty();
+    if ended.status == 0 && is_so && is_kept(&ended.book) {
+        return Ok(Came::Whole);
+    }
+    if ended.status != 3 || !is_told || !is_begun(&ended.book) {
+        return Ok(Came::Other);
+    }
+    if ended.sessions.is_empty() {
+        return Ok(Came::Unserved);
+    }
+    Ok(if is_so { Came::Cut } else { Came::Other })
+}
+
+// Where the first line of the book is not written, no session begins; where the entries of a call
+// are not, its reply is not told; where the last line is not, all was told.
 #[test]
-fn writers_of_books_of_sessions_fail_at_each_write(rt: HostRuntime) -> Result<(), Fail> {
-    let mut writes: u64 = 0;
-    for k in 0..100u64 {
-        let wall = wall(&rt, ALONE).expect(&rt, "the policy is refused");
-        let peers = peers(rt.alloc(), ALONE_TALKS)?;
-        let mut err = sink(b"write fault\n", Fuse::Whole);
-        let mut kept = sink(ALONE_BOOK.as_bytes(), Fuse::After(k));
-        let ended = serve_on(&rt, rt.alloc(), &wall, peers, &mut err, Some(&mut kept));
-        assert!(&rt; kept.is_same && have_ended_so(&ended.sessions, ALONE_TALKS));
-        if ended.status != 3 {
-            assert!(&rt; ended.status == 0 && kept.rest.is_empty());
+fn books_of_sessions_fail_at_each_write(rt: HostRuntime) -> Result<(), Fail> {
+    assert!(&rt; came_to(&rt, ALONE_TALKS, 0)? == Came::Unserved);
+    let mut unbooked: u64 = 0;
+    let mut told: u64 = 0;
+    for write in 1..100u64 {
+        let so = came_to(&rt, ALONE_TALKS, write)?;
+        if so == Came::Whole {
             break;
         }
-        assert!(&rt; err.is_same && err.rest.is_empty());
-        writes = k + 1;
+        if so == Came::Cut {
+            told = told.saturating_add(1);
+        } else {
+            assert!(&rt; came_to(&rt, UNBOOKED_TALKS, write)? == Came::Cut && told == 0);
+            unbooked = unbooked.saturating_add(1);
+        }
     }
-    assert!(&rt; 0 < writes && writes < 99);
+    assert!(&rt; 0 < unbooked && unbooked < 50 && told == 1);
     Ok(())
 }
 
@@ -333,7 +442,7 @@ fn sessions_without_a_book_are_served(rt: HostRuntime) -> Result<(), Fail> {
     let mut err = sink(b"", Fuse::Whole);
     let all = peers(rt.alloc(), BROADCAST)?;
     let ended = serve_on::<_, _, _, _, Keeping>(&rt, rt.alloc(), &wall, all, &mut err, None);
-    assert!(&rt; ended.status == 0 && err.is_same);
+    assert!(&rt; ended.status == 0 && err.is_same && ended.book.is_none());
     assert!(&rt; have_ended_so(&ended.sessions, BROADCAST));
     let mut broken = sink(b"bad arguments\n", Fuse::After(0));
     let none = peers(rt.alloc(), &[])?;

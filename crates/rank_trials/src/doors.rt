@@ -7,7 +7,7 @@ ghost use Rattle.std.specs.List.{All};
 ghost use Rattle.run_model.specs.Known.{IsKnownLabel};
 ghost use Rattle.hall_turn.specs.Answers.{MayFinish};
 
-use crate::parties::{ALONE, FRIENDS, RIVALS, front, label, open, wall};
+use crate::parties::{ALONE, FRIENDS, RIVALS, front, label, open, over, wall};
 use coll_routes::{Own, Signature};
 use coll_values::{Block, Integers};
 use hall_core::{Act, Call, Hall, Posting, Refusal, Reply};
@@ -25,7 +25,7 @@ use wall_labels::{Label, Op};
 use wall_policy::Policy;
 
 /// A post on the communicator of all processes.
-fn posting<R: Abort>(
+pub(crate) fn posting<R: Abort>(
     rt: &R,
     alloc: Global,
     sig: Signature,
@@ -129,7 +129,13 @@ fn is_info(answer: &Answer, members: u32, own: u32) -> bool {
 }
 
 /// The post is counted, and has this request.
-fn post<R: Wait + Abort>(rt: &R, door: &Door, pass: &mut Pass, posting: Posting, request: u64)
+pub(crate) fn post<R: Wait + Abort>(
+    rt: &R,
+    door: &Door,
+    pass: &mut Pass,
+    posting: Posting,
+    request: u64,
+)
     requires door { pass.old.door ≡ door.now }
     requires label { IsKnownLabel door.now.policy posting.label }
     ensures { pass.new.door ≡ door.now }
@@ -246,6 +252,29 @@ fn one_process_calls(rt: HostRuntime) {
     drop(pass);
     drop(passes);
     drop(door);
+}
+
+/// A hall has nothing to write down, so a pass of it is always booked.
+fn call_booked<R: Wait + Abort>(rt: &R, door: &Door, pass: &mut Pass, posting: Posting)
+    requires door { pass.old.door ≡ door.now }
+    requires label { IsKnownLabel door.now.policy posting.label }
+{
+    assert!(rt; pass.is_booked());
+    call_alone(rt, door, pass, posting);
+    assert!(rt; pass.is_booked());
+}
+
+#[test]
+fn one_process_calls_over_a_hall(rt: HostRuntime) {
+    let policy = wall(&rt, rt.alloc(), ALONE);
+    let barrier = posting(&rt, rt.alloc(), Signature::Barrier, Label::Public, &[]);
+    let (door, mut passes) = over(&rt, rt.alloc(), &policy);
+    let mut pass = last(&rt, &door, &mut passes);
+    call_booked(&rt, &door, &mut pass, barrier);
+    drop(pass);
+    drop(passes);
+    drop(door);
+    drop(policy);
 }
 
 /// What fronts and notes tell: a pass that learnt nothing looks for itself.

@@ -481,6 +481,50 @@ fn no_take_is_tried_twice(rt: HostRuntime) {
     }
 }
 
+/// So many requests of each process: a copy of the world, and then barriers, by turns on the copy
+/// and on the world, each taken before the next post.
+const REQUESTS: u64 = 4200;
+
+fn barring<R: Abort>(rt: &R, alloc: Global, policy: &Policy) -> Acts
+    ensures { All (HasKnownLabel policy.now) result }
+{
+    let mut script = Acts::from(Vec::new(alloc));
+    let copy = nothing(alloc, 0, Signature::Dup);
+    add(rt, policy, &mut script, Act::Post(copy));
+    add(rt, policy, &mut script, Act::Take(0));
+    for request in 1..REQUESTS {
+        let barrier = nothing(alloc, (request % 2) as u32, Signature::Barrier);
+        add(rt, policy, &mut script, Act::Post(barrier));
+        add(rt, policy, &mut script, Act::Take(request));
+    }
+    script
+}
+
+fn barring_scripts<R: Abort>(rt: &R, alloc: Global, policy: &Policy) -> Scripts
+    ensures { ScriptsHaveKnownLabels policy.now result }
+{
+    let mut scripts = Vec::new(alloc);
+    put(rt, policy, &mut scripts, barring(rt, alloc, policy));
+    put(rt, policy, &mut scripts, barring(rt, alloc, policy));
+    put(rt, policy, &mut scripts, barring(rt, alloc, policy));
+    put(rt, policy, &mut scripts, barring(rt, alloc, policy));
+    Scripts::from(scripts)
+}
+
+/// Nor is one that comes thousands of requests after the first: a rank that slept for another
+/// instance would try too early, or not at all.
+#[test]
+fn no_late_take_is_tried_twice(rt: HostRuntime) {
+    let gate = Tallying {
+        tries: AtomicU64::new(0),
+    };
+    let policy = wall(&rt, rt.alloc(), FOUR);
+    let scripts = barring_scripts(&rt, rt.alloc(), &policy);
+    let run = run_ranks(&rt, rt.alloc(), policy, scripts, &gate).expect(&rt, "no run");
+    drop(run);
+    stands(&rt, &gate.tries, 4 * REQUESTS);
+}
+
 fn compute_alone<R: Threads + Wait + Sync + Abort>(rt: &R, alloc: Global) {
     let gate = Alone {
         heard: AtomicU64::new(0),

@@ -5,6 +5,8 @@
 #![tactic(auto)]
 
 #[cfg(test)]
+mod counts;
+#[cfg(test)]
 mod doors;
 #[cfg(test)]
 mod gates;
@@ -18,6 +20,8 @@ mod parties;
 mod ranks;
 #[cfg(test)]
 mod refused;
+#[cfg(test)]
+mod sizes;
 #[cfg(test)]
 mod stages;
 #[cfg(test)]

@@ -3,6 +3,7 @@ ghost use Rattle.std.specs.Prelude.{◌≡◌};
 ghost use Rattle.std.specs.List.{All};
 ghost use Rattle.run_model.specs.Known.{IsKnownLabel};
 
+use hall_core::Hall;
 use hall_turn::{Door, Pass, Passes};
 use std::alloc::Global;
 use std::process::Abort;
@@ -78,6 +79,16 @@ pub(crate) fn open<R: Abort>(rt: &R, alloc: Global, policy: Policy) -> (Door, Pa
     ensures passes { All (λ pass. pass.door ≡ result.0) result.1.items }
 {
     Door::open(alloc, policy).expect(rt, "the door is not opened")
+}
+
+/// A door over a hall that was opened by itself, and its passes.
+pub(crate) fn over<R: Abort>(rt: &R, alloc: Global, policy: &Policy) -> (Door, Passes)
+    ensures policy { result.0.policy ≡ policy.now }
+    ensures passes { All (λ pass. pass.door ≡ result.0) result.1.items }
+{
+    let copy = policy.copy(alloc).expect(rt, "the policy is not copied");
+    let hall = Hall::open(alloc, copy).expect(rt, "the hall is not opened");
+    Door::over(alloc, policy, hall).expect(rt, "the door is not opened")
 }
 
 /// So many turns have ended.

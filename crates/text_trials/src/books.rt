@@ -95,7 +95,7 @@ fn written_over(
 }
 
 // It is a book, and written again as it is.
-fn is_whole(alloc: Global, policy: &Policy, text: &[u8]) -> bool {
+pub(crate) fn is_whole(alloc: Global, policy: &Policy, text: &[u8]) -> bool {
     written(alloc, policy, text, Fuse::Whole) == Some((None, 0))
 }
 

@@ -247,7 +247,7 @@ end 6
 ];
 
 // What the check says of the book of a text, none where the text is not read.
-fn judged_text(
+pub(crate) fn judged_text(
     rt: &impl AllocGlobal,
     policy: &Policy,
     text: &str,

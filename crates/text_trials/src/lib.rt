@@ -15,6 +15,8 @@ mod dice;
 #[cfg(test)]
 mod digits;
 #[cfg(test)]
+mod halls;
+#[cfg(test)]
 mod made;
 #[cfg(test)]
 mod refused;
@@ -25,6 +27,8 @@ pub mod rows;
 mod runs;
 #[cfg(test)]
 mod scripts;
+#[cfg(test)]
+mod sizes;
 #[cfg(test)]
 mod statements;
 #[cfg(test)]

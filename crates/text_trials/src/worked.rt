@@ -18,12 +18,12 @@ use wall_labels::{DatasetId, ProcessId};
 
 // A script, and its replies.
 #[derive(Drop)]
-struct Texts {
-    script: String,
-    said: String,
+pub(crate) struct Texts {
+    pub script: String,
+    pub said: String,
 }
 
-fn no_texts(alloc: Global) -> Texts {
+pub(crate) fn no_texts(alloc: Global) -> Texts {
     Texts {
         script: String::new(alloc),
         said: String::new(alloc),

@@ -1,0 +1,180 @@
+//! Checks of policies, scripts and books, and reports on books: all that is told, each status with
+//! its line, and devices that fail.
+use crate::chains::{ALPHA, ALPHA_TO_N0, BETA_TO_N0, WALL, books};
+use crate::endings::{sink, source};
+use program_commands::{check_on, report_on, text_on};
+use std::process::Abort;
+use std::test::Fail;
+use wall_labels::memory::{Fuse, MemorySource};
+
+const MEANING: &str = "alpha is in one class with beta
+beta is in one class with alpha
+a0 is at home at alpha
+b0 is at home at beta
+n0 has no home
+m0 has no home
+a0 and b0 never hold each other's data
+warning: no result is ever sanitised: there is no sanitise rule
+";
+
+const REPORT: &str = "who holds what, and by which entry:
+0: a0 holds alpha: its home
+0: b0 holds beta: its home
+7: n0 holds alpha: bcast 1 0 from a0
+
+who is in which communicator:
+communicator 0, rank 0: a0
+communicator 0, rank 1: b0
+communicator 0, rank 2: n0
+communicator 0, rank 3: m0
+communicator 1, rank 0: a0
+communicator 1, rank 1: n0
+communicator 2, rank 0: b0
+communicator 2, rank 1: m0
+
+how each instance came out:
+instance 0 0, split by entry 4: made 1 2
+instance 1 0, bcast by entry 7: granted
+";
+
+// The same after a book that gave n0 data of alpha.
+const LATER_REPORT: &str = "who holds what, and by which entry:
+0: a0 holds alpha: its home
+0: b0 holds beta: its home
+0: n0 holds alpha: held before
+
+who is in which communicator:
+communicator 0, rank 0: a0
+communicator 0, rank 1: b0
+communicator 0, rank 2: n0
+communicator 0, rank 3: m0
+communicator 1, rank 0: a0
+communicator 1, rank 1: n0
+communicator 2, rank 0: b0
+communicator 2, rank 1: m0
+
+how each instance came out:
+instance 0 0, split by entry 4: made 1 2
+instance 1 0, bcast by entry 7: granted
+";
+
+fn whole<'a>(text: &'a str) -> MemorySource<'a> {
+    source(text.as_bytes(), Fuse::Whole)
+}
+
+// Whether a check of these files comes to this status and writes this, as far as the writer takes
+// it, and this line.
+fn checks_so(
+    rt: &impl AllocGlobal,
+    policy: &str,
+    script: Option<&str>,
+    book: Option<&str>,
+    said: &str,
+    line: &str,
+    status: u8,
+) -> bool {
+    let mut policy = whole(policy);
+    let script = match script {
+        Some(text) => Some(whole(text)),
+        None => None,
+    };
+    let book = match book {
+        Some(text) => Some(whole(text)),
+        None => None,
+    };
+    let mut out = sink(said.as_bytes(), Fuse::Whole);
+    let mut err = sink(line.as_bytes(), Fuse::Whole);
+    let ended = check_on(
+        rt.alloc(),
+        &mut policy,
+        "policy.toml",
+        "calls.txt",
+        script,
+        book,
+        &mut out,
+        &mut err,
+    );
+    let is_all = out.rest.is_empty() && err.rest.is_empty();
+    ended == status && is_all && out.is_same && err.is_same
+}
+
+#[test]
+fn checks_tell_of_each_file(rt: HostRuntime) -> Result<(), Fail> {
+    assert!(&rt; checks_so(&rt, WALL, None, None, MEANING, "", 0));
+    assert!(&rt; checks_so(&rt, WALL, Some(ALPHA), None, MEANING, "", 0));
+    let told = format!(in rt.alloc(); "{MEANING}sound 8\n")?;
+    assert!(&rt; checks_so(&rt, WALL, Some(ALPHA), Some(ALPHA_TO_N0), &told, "", 0));
+    let bad = "info 0 0\nfoo\ntake 0\n";
+    let lines = "calls.txt:2:1: \"foo\" is no verb (post, take, info)
+calls.txt:3:7: a field is missing at the end of the line
+";
+    let told = format!(in rt.alloc(); "{MEANING}{lines}sound 8\n")?;
+    let line = "script: line 2: BadVerb\n";
+    assert!(&rt; checks_so(&rt, WALL, Some(bad), Some(ALPHA_TO_N0), &told, line, 2));
+    Ok(())
+}
+
+// The first that is at fault decides: policy, script, book.
+#[test]
+fn checks_end_by_the_first_fault(rt: HostRuntime) -> Result<(), Fail> {
+    let spoilt = "book 1\npost 0 0 barrier gives 0 as none barred\nend 1\n";
+    let told = format!(in rt.alloc(); "{MEANING}unsound at entry 1\n")?;
+    assert!(&rt; checks_so(&rt, WALL, Some(ALPHA), Some(spoilt), &told, "", 2));
+    let cut = "book: cut\n";
+    assert!(&rt; checks_so(&rt, WALL, Some(ALPHA), Some("book 1\n"), MEANING, cut, 2));
+    let none = "# a comment\nversion = 3\n";
+    let (told, line) = ("policy.toml:2: BadVersion\n", "policy: BadVersion\n");
+    assert!(&rt; checks_so(&rt, none, Some(ALPHA), None, told, line, 1));
+    Ok(())
+}
+
+// Whether a report after earlier books writes this, and the line, with this status.
+fn reports_so(
+    rt: &impl AllocGlobal,
+    earlier: &[(&str, &str)],
+    book: &str,
+    said: &str,
+    line: &str,
+    status: u8,
+) -> Result<bool, Fail> {
+    let mut policy = whole(WALL);
+    let mut book = whole(book);
+    let mut out = sink(said.as_bytes(), Fuse::Whole);
+    let mut err = sink(line.as_bytes(), Fuse::Whole);
+    let earlier = books(rt.alloc(), earlier)?;
+    let ended = report_on(
+        rt.alloc(),
+        &mut policy,
+        earlier,
+        &mut book,
+        &mut out,
+        &mut err,
+    );
+    let is_all = out.rest.is_empty() && err.rest.is_empty();
+    Ok(ended == status && is_all && out.is_same && err.is_same)
+}
+
+#[test]
+fn reports_tell_of_sound_books(rt: HostRuntime) -> Result<(), Fail> {
+    assert!(&rt; reports_so(&rt, &[], ALPHA_TO_N0, REPORT, "", 0)?);
+    let earlier = &[("monday.book", ALPHA_TO_N0)];
+    assert!(&rt; reports_so(&rt, earlier, ALPHA_TO_N0, LATER_REPORT, "", 0)?);
+    let told = "unsound at entry 8\n";
+    assert!(&rt; reports_so(&rt, earlier, BETA_TO_N0, told, "", 2)?);
+    let line = "after tuesday.book: unsound at entry 8\n";
+    let earlier = &[("monday.book", ALPHA_TO_N0), ("tuesday.book", BETA_TO_N0)];
+    assert!(&rt; reports_so(&rt, earlier, ALPHA_TO_N0, "", line, 2)?);
+    assert!(&rt; reports_so(&rt, &[], "book 1\n", "", "book: cut\n", 2)?);
+    Ok(())
+}
+
+#[test]
+fn texts_are_written_whole(rt: HostRuntime) {
+    for (fuse, status, line) in [(Fuse::Whole, 0, ""), (Fuse::After(0), 3, "write fault\n")] {
+        let mut out = sink(MEANING.as_bytes(), fuse);
+        let mut err = sink(line.as_bytes(), Fuse::Whole);
+        let ended = text_on(MEANING.as_bytes(), &mut out, &mut err);
+        assert!(&rt; ended == status && out.is_same);
+        assert!(&rt; err.rest.is_empty() && err.is_same);
+    }
+}

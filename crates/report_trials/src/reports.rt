@@ -1,0 +1,277 @@
+//! Reports of books, worked by hand from the books and the rules.
+
+use crate::walls::{CONSULTANTS, FOUR_BANKS, LONG, policy};
+use audit_book::{BookFault, after_book, read_book};
+use report_text::report_text;
+use std::process::Abort;
+use std::test::Fail;
+use wall_policy::Policy;
+
+// The run of `docs/policies/consultants.txt`.
+const OF_CONSULTANTS: &str = "book 2
+post 0 0 create 0,3 gives 0 as none passed
+post 1 0 create 0,3 gives 0 as none passed
+post 2 0 create 0,3 gives 0 as none passed
+post 3 0 create 0,3 gives 0 as none passed
+verdict 0 0 made 1 1
+post 0 0 create 1,3 gives 0 as none passed
+post 1 0 create 1,3 gives 0 as none passed
+post 2 0 create 1,3 gives 0 as none passed
+post 3 0 create 1,3 gives 0 as none passed
+verdict 0 1 made 2 1
+post 0 0 create 2,3 gives 0 as none passed
+post 1 0 create 2,3 gives 0 as none passed
+post 2 0 create 2,3 gives 0 as none passed
+post 3 0 create 2,3 gives 0 as none passed
+verdict 0 2 made 3 1
+post 0 1 bcast 0 int32 1 gives 1 as alpha passed
+post 3 1 bcast 0 int32 1 gives 0 as none passed
+verdict 1 0 granted
+post 1 2 bcast 0 int32 1 gives 1 as beta passed
+post 3 2 bcast 0 int32 1 gives 0 as none passed
+verdict 2 0 denied simple consultant beta
+post 2 3 bcast 0 int32 1 gives 1 as crude passed
+post 3 3 bcast 0 int32 1 gives 0 as none passed
+verdict 3 0 granted
+post 3 1 bcast 1 int32 1 gives 1 as alpha barred
+post 0 1 bcast 1 int32 1 gives 0 as none passed
+verdict 1 1 denied star consultant alpha
+post 3 3 bcast 1 int32 1 gives 1 as crude barred
+post 0 1 bcast 0 int32 1 gives 1 as alpha passed
+post 3 1 bcast 0 int32 1 gives 0 as none passed
+verdict 1 2 granted
+end 31
+";
+
+// Names of 32 bytes: what has no room in 100 columns is folded.
+const OF_LONG: &str = "book 2
+post 0 0 create 0,2 gives 0 as none passed
+post 1 0 create 0,2 gives 0 as none passed
+post 2 0 create 0,2 gives 0 as none passed
+verdict 0 0 made 1 1
+post 0 1 bcast 0 int32 1 gives 1 as alpha-alpha-alpha-alpha-alpha-32 passed
+post 2 1 bcast 0 int32 1 gives 0 as none passed
+verdict 1 0 granted
+post 0 0 bcast 0 int32 1 gives 1 as alpha-alpha-alpha-alpha-alpha-32 passed
+post 1 0 bcast 0 int32 1 gives 0 as none passed
+post 2 0 bcast 0 int32 1 gives 0 as none passed
+verdict 0 1 denied simple right-right-right-right-right-32 alpha-alpha-alpha-alpha-alpha-32
+post 2 0 bcast 2 int32 1 gives 1 as beta-beta-beta-beta-beta-beta-32 barred
+post 0 0 bcast 2 int32 1 gives 0 as none passed
+post 1 0 bcast 2 int32 1 gives 0 as none passed
+verdict 0 2 denied star third-third-third-third-third-32 beta-beta-beta-beta-beta-beta-32
+end 15
+";
+
+// Without a home, n0 writes under a label that it chooses, and d0 may not do so. The gather would
+// bring the data of two rivals to n0.
+const OF_FOUR_BANKS: &str = "book 2
+post 4 0 gather 4 int32 1 gives 1 as public passed
+post 0 0 gather 4 int32 1 gives 1 as alpha passed
+post 1 0 gather 4 int32 1 gives 1 as beta passed
+post 2 0 gather 4 int32 1 gives 1 as gamma passed
+post 3 0 gather 4 int32 1 gives 1 as delta passed
+verdict 0 0 denied simple n0 beta
+post 4 0 allgather int32 1 gives 1 as alpha passed
+post 3 0 allgather int32 1 gives 1 as public barred
+end 8
+";
+
+// Reads the book.
+fn is_told(
+    rt: &(impl AllocGlobal + Abort),
+    policy: &Policy,
+    book: &str,
+    expected: &str,
+) -> Result<(), Fail> {
+    match read_book(rt.alloc(), policy, book.as_bytes()) {
+        Ok(book) => {
+            let said = report_text(rt.alloc(), policy, &book);
+            drop(book);
+            match said {
+                Ok(text) => are_lines(rt, &text, expected),
+                Err(_) => panic!(rt; "the book has no report"),
+            }
+        }
+        Err(_) => panic!(rt; "the book is not read"),
+    }
+}
+
+// The text is this one, and no line of it has more than 100 columns.
+fn are_lines(rt: &(impl AllocGlobal + Abort), text: &[u8], expected: &str) -> Result<(), Fail> {
+    assert_eq!(rt; text, expected.as_bytes());
+    let mut column: u32 = 0;
+    for byte in text {
+        column = if *byte == b'\n' {
+            0
+        } else {
+            column.saturating_add(1)
+        };
+        assert!(rt; column <= 100);
+    }
+    Ok(())
+}
+
+// The fault of a report, none where there is one.
+fn fault_of(rt: &(impl AllocGlobal + Abort), policy: &Policy, book: &str) -> Option<BookFault> {
+    match read_book(rt.alloc(), policy, book.as_bytes()) {
+        Ok(book) => {
+            let said = report_text(rt.alloc(), policy, &book);
+            drop(book);
+            match said {
+                Ok(text) => {
+                    drop(text);
+                    None
+                }
+                Err(fault) => Some(fault),
+            }
+        }
+        Err(_) => panic!(rt; "the book is not read"),
+    }
+}
+
+#[test]
+fn consultants(rt: HostRuntime) -> Result<(), Fail> {
+    let policy = policy(&rt, CONSULTANTS);
+    is_told(
+        &rt,
+        &policy,
+        OF_CONSULTANTS,
+        "who holds what, and by which entry:
+0: a0 holds alpha: its home
+0: b0 holds beta: its home
+0: c0 holds crude: its home
+17: consultant holds alpha: bcast 1 0 from a0
+23: consultant holds crude: bcast 3 0 from c0
+
+who is in which communicator:
+communicator 0, rank 0: a0
+communicator 0, rank 1: b0
+communicator 0, rank 2: c0
+communicator 0, rank 3: consultant
+communicator 1, rank 0: a0
+communicator 1, rank 1: consultant
+communicator 2, rank 0: b0
+communicator 2, rank 1: consultant
+communicator 3, rank 0: c0
+communicator 3, rank 1: consultant
+
+how each instance came out:
+instance 0 0, create by entry 4: made 1 1
+instance 0 1, create by entry 9: made 2 1
+instance 0 2, create by entry 14: made 3 1
+instance 1 0, bcast by entry 17: granted
+instance 2 0, bcast by entry 20: denied simple consultant beta
+instance 3 0, bcast by entry 23: granted
+instance 1 1, bcast by entry 26: denied star consultant alpha
+instance 1 2, bcast by entry 30: granted
+",
+    )
+}
+
+#[test]
+fn long_names(rt: HostRuntime) -> Result<(), Fail> {
+    let policy = policy(&rt, LONG);
+    is_told(
+        &rt,
+        &policy,
+        OF_LONG,
+        "who holds what, and by which entry:
+0: left-left-left-left-left-left-32 holds alpha-alpha-alpha-alpha-alpha-32: its home
+0: right-right-right-right-right-32 holds beta-beta-beta-beta-beta-beta-32: its home
+6: third-third-third-third-third-32 holds alpha-alpha-alpha-alpha-alpha-32:
+  bcast 1 0 from left-left-left-left-left-left-32
+
+who is in which communicator:
+communicator 0, rank 0: left-left-left-left-left-left-32
+communicator 0, rank 1: right-right-right-right-right-32
+communicator 0, rank 2: third-third-third-third-third-32
+communicator 1, rank 0: left-left-left-left-left-left-32
+communicator 1, rank 1: third-third-third-third-third-32
+
+how each instance came out:
+instance 0 0, create by entry 3: made 1 1
+instance 1 0, bcast by entry 6: granted
+instance 0 1, bcast by entry 10:
+  denied simple right-right-right-right-right-32 alpha-alpha-alpha-alpha-alpha-32
+instance 0 2, bcast by entry 14:
+  denied star third-third-third-third-third-32 beta-beta-beta-beta-beta-beta-32
+",
+    )
+}
+
+#[test]
+fn two_rivals_at_once(rt: HostRuntime) -> Result<(), Fail> {
+    let policy = policy(&rt, FOUR_BANKS);
+    is_told(
+        &rt,
+        &policy,
+        OF_FOUR_BANKS,
+        "who holds what, and by which entry:
+0: a0 holds alpha: its home
+0: b0 holds beta: its home
+0: g0 holds gamma: its home
+0: d0 holds delta: its home
+7: n0 holds alpha: own post
+
+who is in which communicator:
+communicator 0, rank 0: a0
+communicator 0, rank 1: b0
+communicator 0, rank 2: g0
+communicator 0, rank 3: d0
+communicator 0, rank 4: n0
+
+how each instance came out:
+instance 0 0, gather by entry 5: denied simple n0 beta
+",
+    )
+}
+
+// What an earlier book gave is held before.
+#[test]
+fn held_before(rt: HostRuntime) -> Result<(), Fail> {
+    let first = policy(&rt, FOUR_BANKS);
+    let earlier = "book 2\npost 4 0 bcast 4 int32 1 gives 1 as gamma passed\nend 1\n";
+    let after = match read_book(rt.alloc(), &first, earlier.as_bytes()) {
+        Ok(book) => {
+            let after = after_book(rt.alloc(), first, &book);
+            drop(book);
+            after
+        }
+        Err(_) => panic!(&rt; "the book is not read"),
+    };
+    let Ok(policy) = after else {
+        panic!(&rt; "the book is not sound")
+    };
+    is_told(
+        &rt,
+        &policy,
+        "book 2\nend 0\n",
+        "who holds what, and by which entry:
+0: a0 holds alpha: its home
+0: b0 holds beta: its home
+0: g0 holds gamma: its home
+0: d0 holds delta: its home
+0: n0 holds gamma: held before
+
+who is in which communicator:
+communicator 0, rank 0: a0
+communicator 0, rank 1: b0
+communicator 0, rank 2: g0
+communicator 0, rank 3: d0
+communicator 0, rank 4: n0
+
+how each instance came out:
+",
+    )
+}
+
+// A book that is not sound has no report.
+#[test]
+fn unsound_books(rt: HostRuntime) -> Result<(), Fail> {
+    let policy = policy(&rt, FOUR_BANKS);
+    let book = "book 2\npost 0 0 bcast 0 int32 1 gives 1 as alpha barred\nend 1\n";
+    assert!(&rt; fault_of(&rt, &policy, book) == Some(BookFault::BadEntry(1)));
+    assert!(&rt; fault_of(&rt, &policy, "book 2\nend 0\n") == None);
+    Ok(())
+}

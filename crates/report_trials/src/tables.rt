@@ -1,0 +1,233 @@
+//! What books tell, worked by hand from the rules.
+
+use crate::stored::{
+    BANKS_AND_OIL, BROADCAST, GATHERED_AS_PUBLIC, GATHERED_FROM_RIVALS, TWO_TABLES, UNSOUND,
+};
+use crate::walls::policy;
+use audit_book::read_book;
+use book_report::{
+    Bar, Book, BookFault, Denial, Reason, Row, Source, Way, barred_posts, denials, held,
+};
+use std::process::Abort;
+use std::test::Fail;
+use wall_labels::{DatasetId, Label, ProcessId};
+use wall_policy::Policy;
+
+// The processes and datasets of the policy.
+#[derive(Clone, Copy)]
+struct Names {
+    a0: ProcessId,
+    b0: ProcessId,
+    c0: ProcessId,
+    n0: ProcessId,
+    alpha: DatasetId,
+    beta: DatasetId,
+    crude: DatasetId,
+}
+
+fn all_names(rt: &impl Abort) -> Names {
+    Names {
+        a0: ProcessId::new(0).expect(rt, "a process"),
+        b0: ProcessId::new(1).expect(rt, "a process"),
+        c0: ProcessId::new(2).expect(rt, "a process"),
+        n0: ProcessId::new(3).expect(rt, "a process"),
+        alpha: DatasetId::new(0).expect(rt, "a dataset"),
+        beta: DatasetId::new(1).expect(rt, "a dataset"),
+        crude: DatasetId::new(2).expect(rt, "a dataset"),
+    }
+}
+
+fn row(process: ProcessId, dataset: DatasetId, entry: u64, way: Way) -> Row {
+    Row {
+        process,
+        dataset,
+        entry,
+        way,
+    }
+}
+
+// The book of a text.
+fn book(rt: &(impl AllocGlobal + Abort), policy: &Policy, text: &str) -> Book {
+    match read_book(rt.alloc(), policy, text.as_bytes()) {
+        Ok(book) => book,
+        Err(_) => panic!(rt; "no book: {text:?}"),
+    }
+}
+
+// Who holds what, which posts were barred, and which instances denied.
+fn tells(
+    rt: &(impl AllocGlobal + Abort),
+    text: &str,
+    rows: &[Row],
+    bars: &[Bar],
+    denied: &[Denial],
+) -> Result<(), Fail> {
+    let policy = policy(rt, BANKS_AND_OIL);
+    let book = book(rt, &policy, text);
+    match held(rt.alloc(), &policy, &book) {
+        Ok(told) => assert_eq!(rt; told.as_slice(), rows, "in {text:?}"),
+        Err(fault) => panic!(rt; "{fault}"),
+    }
+    match barred_posts(rt.alloc(), &policy, &book) {
+        Ok(told) => assert_eq!(rt; told.as_slice(), bars, "in {text:?}"),
+        Err(fault) => panic!(rt; "{fault}"),
+    }
+    match denials(rt.alloc(), &policy, &book) {
+        Ok(told) => assert_eq!(rt; told.as_slice(), denied, "in {text:?}"),
+        Err(fault) => panic!(rt; "{fault}"),
+    }
+    drop(book);
+    drop(policy);
+    Ok(())
+}
+
+#[test]
+fn a_broadcast_to_a_rival(rt: HostRuntime) -> Result<(), Fail> {
+    let n = all_names(&rt);
+    let rows = [
+        row(n.a0, n.alpha, 0, Way::AtFirst),
+        row(n.b0, n.beta, 0, Way::AtFirst),
+        row(n.c0, n.crude, 0, Way::AtFirst),
+    ];
+    let denied = [Denial {
+        entry: 5,
+        comm: 0,
+        k: 0,
+        process: n.b0,
+        reason: Reason::Simple {
+            dataset: n.alpha,
+            giver: n.a0,
+            given: 1,
+            rival: n.beta,
+            source: Source::Held,
+        },
+    }];
+    tells(&rt, BROADCAST, &rows, &[], &denied)
+}
+
+// Of two that were barred the star rule names the lower rank, which posted later.
+#[test]
+fn two_barred_posts(rt: HostRuntime) -> Result<(), Fail> {
+    let n = all_names(&rt);
+    let rows = [
+        row(n.a0, n.alpha, 0, Way::AtFirst),
+        row(n.b0, n.beta, 0, Way::AtFirst),
+        row(n.c0, n.crude, 0, Way::AtFirst),
+    ];
+    let bars = [
+        Bar {
+            entry: 2,
+            process: n.c0,
+            label: Label::Public,
+            held: n.crude,
+        },
+        Bar {
+            entry: 3,
+            process: n.b0,
+            label: Label::Of(n.crude),
+            held: n.beta,
+        },
+    ];
+    let denied = [Denial {
+        entry: 5,
+        comm: 0,
+        k: 0,
+        process: n.b0,
+        reason: Reason::Star {
+            label: Label::Of(n.crude),
+            post: 3,
+        },
+    }];
+    tells(&rt, GATHERED_AS_PUBLIC, &rows, &bars, &denied)
+}
+
+// The data of one bank would come with that of the other, which is of a lower rank.
+#[test]
+fn rivals_in_one_gather(rt: HostRuntime) -> Result<(), Fail> {
+    let n = all_names(&rt);
+    let rows = [
+        row(n.a0, n.alpha, 0, Way::AtFirst),
+        row(n.b0, n.beta, 0, Way::AtFirst),
+        row(n.c0, n.crude, 0, Way::AtFirst),
+        row(n.n0, n.crude, 1, Way::OwnPost),
+    ];
+    let denied = [Denial {
+        entry: 5,
+        comm: 0,
+        k: 0,
+        process: n.n0,
+        reason: Reason::Simple {
+            dataset: n.beta,
+            giver: n.b0,
+            given: 3,
+            rival: n.alpha,
+            source: Source::Beside {
+                giver: n.a0,
+                given: 4,
+            },
+        },
+    }];
+    tells(&rt, GATHERED_FROM_RIVALS, &rows, &[], &denied)
+}
+
+#[test]
+fn one_table_after_the_other(rt: HostRuntime) -> Result<(), Fail> {
+    let n = all_names(&rt);
+    let came = Way::Delivered {
+        comm: 1,
+        k: 0,
+        from: n.a0,
+    };
+    let rows = [
+        row(n.a0, n.alpha, 0, Way::AtFirst),
+        row(n.b0, n.beta, 0, Way::AtFirst),
+        row(n.c0, n.crude, 0, Way::AtFirst),
+        row(n.n0, n.alpha, 12, came),
+    ];
+    let bars = [Bar {
+        entry: 17,
+        process: n.n0,
+        label: Label::Of(n.beta),
+        held: n.alpha,
+    }];
+    let denied = [
+        Denial {
+            entry: 16,
+            comm: 2,
+            k: 0,
+            process: n.n0,
+            reason: Reason::Simple {
+                dataset: n.beta,
+                giver: n.b0,
+                given: 14,
+                rival: n.alpha,
+                source: Source::Held,
+            },
+        },
+        Denial {
+            entry: 19,
+            comm: 1,
+            k: 1,
+            process: n.n0,
+            reason: Reason::Star {
+                label: Label::Of(n.beta),
+                post: 17,
+            },
+        },
+    ];
+    tells(&rt, TWO_TABLES, &rows, &bars, &denied)
+}
+
+// Of a book that is not sound the first bad entry is told, as by its check.
+#[test]
+fn an_unsound_book(rt: HostRuntime) -> Result<(), Fail> {
+    let policy = policy(&rt, BANKS_AND_OIL);
+    let book = book(&rt, &policy, UNSOUND);
+    let fault = Some(BookFault::BadEntry(5));
+    assert_eq!(rt; held(rt.alloc(), &policy, &book).err(), fault);
+    assert_eq!(rt; barred_posts(rt.alloc(), &policy, &book).err(), fault);
+    assert_eq!(rt; denials(rt.alloc(), &policy, &book).err(), fault);
+    drop(book);
+    drop(policy);
+    Ok(())
+}
