@@ -225,6 +225,8 @@ class Process:
             raise BadLine(words[0], call)
         if word == b"exhausted":
             raise Gone("exhausted: the server takes no more calls")
+        if word == b"unbooked":
+            raise Gone("unbooked: the server cannot write its book any more")
         return [word] + rest.split()
 
     def _info(self, number: int) -> Tuple[int, int, Optional[int]]:

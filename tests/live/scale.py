@@ -48,22 +48,26 @@ def calls_often(house, name, first, all_calls):
         until(lambda: (house.folder / "measured_again").exists(), "the measure")
 
 
-def memory_stays(given):
-    """The server's memory after many calls is that after 100,000, within a tenth, book aside."""
-    house = House(given.program, neutral(2), book=False).start()
+def memory_stays_with(given, book):
+    """A server that is measured, with a book or without."""
+    house = House(given.program, neutral(2), book=book).start()
     first = min(100_000, given.calls // 3)
     clients = [Client(calls_often, house, name, first // 2, given.calls // 2)
                for name in house.names]
     before = measured(house, "first", "measured", given.seconds)
     after = measured(house, "last", "measured_again", given.seconds)
     all_results(clients)
-    # Of six lines two processes make a post each, and each pair of these a verdict.
-    entries = (given.calls - first) // 6 * 3 // 2
-    kept = entries * given.entry_bytes // 1024
-    if after > before * 1.1 + kept:
-        raise Wrong(f"{before} KiB after {first} calls, {after} KiB after {given.calls}; "
-                    f"for {entries} entries of the book {kept} KiB are allowed")
+    if after > before * 1.1:
+        raise Wrong(f"{before} KiB after {first} calls, {after} KiB after {given.calls}, "
+                    f"{'with' if book else 'without'} a book")
     house.end()
+
+
+def memory_stays(given):
+    """The server's memory after many calls is that after 100,000, within a tenth: no entry of the
+    book is kept."""
+    for book in (False, True):
+        memory_stays_with(given, book)
 
 
 def measured(house, mark, answer, seconds):

@@ -1,5 +1,6 @@
 """Pipes, events, and what a session is told."""
 import doctest
+import hashlib
 import os
 import re
 import shutil
@@ -326,8 +327,47 @@ def nobody_waits_for_the_dead(given):
     house.end()
 
 
+def a_day(house, sender, label, told):
+    """The two of the world's three that have a communicator of their own: n0 is sent a number."""
+    house.start()
+    raws = [Raw(house, name) for name in house.names]
+    for raw in raws:
+        want(raw.ask(f"post 0 create {sender},2"), "posted 0", "the post of a constructor")
+    want(raws[2].ask("wait 0"), "comm 1 rank 1 size 2", "n0's communicator")
+    want(raws[sender].ask(f"post 1 bcast 0 int32 1 as {label} 7"), "posted 1", "the sender's post")
+    want(raws[2].ask("post 1 bcast 0 int32 1"), "posted 1", "n0's post")
+    want(raws[2].ask("wait 1"), told, "what n0 is told")
+    for raw in raws:
+        want(raw.ask("leave"), "left", "the leave")
+    house.end()
+
+
+def a_wall_over_days(given):
+    """What n0 was given one day it has held the next, where the server goes on after that book."""
+    def of_three(*books):
+        processes = [("a0", "alpha"), ("b0", "beta"), ("n0", None)]
+        house = House(given.program, processes, [["alpha", "beta"]])
+        for book in books:
+            house.words[2:2] = ["--after", str(book)]
+        return house
+
+    first, alone = of_three(), of_three()
+    a_day(first, 0, "alpha", "delivered [7]")
+    a_day(alone, 1, "beta", "delivered [7]")
+    second = of_three(first.book)
+    a_day(second, 1, "beta", "denied simple n0 beta")
+    # The newest stands in front in `of_three`.
+    third = of_three(second.book, first.book)
+    a_day(third, 1, "beta", "denied simple n0 beta")
+    refused_start(of_three(alone.book, first.book), 2, f"after {alone.book}: unsound at entry 7\n")
+    cut = first.folder / "cut"
+    cut.write_text("book 2\n", encoding="utf-8")
+    refused_start(of_three(cut), 2, f"after {cut}: cut\n")
+    refused_start(of_three(first.folder / "none"), 3, "read fault\n")
+
+
 def talk_in_the_shell(given):
-    """examples/serve: make_pipes, talk.sh with echo and read, and the bridge."""
+    """examples/serve: make_pipes, talk.sh with echo and read, the bridge, and the digests."""
     house = House(given.program, BANKS, CLASSES, SUMS)
     shutil.rmtree(house.pipes)
     environment = dict(os.environ, CONSORTIUM=given.program)
@@ -350,6 +390,24 @@ def talk_in_the_shell(given):
         want(talk.stdout.read().decode("ascii"), f"{name}: delivered [500]\n", name)
     house.end()
     house.audit()
+    words = [EXAMPLES / "digests", house.policy, house.book]
+    told = subprocess.run(words, env=environment, capture_output=True, text=True, timeout=60,
+                          check=False)
+    kept = [f"{hashlib.sha256(path.read_bytes()).hexdigest()}  {path}\n"
+            for path in (house.policy, house.book)]
+    sound = f"sound {len(house.book_lines()) - 2}\n"
+    want((told.returncode, told.stdout), (0, sound + "".join(kept)), "the digests")
+    # The same book twice is sound: the sum was sanitised, so no history has grown.
+    twice = subprocess.run(words + [house.book], env=environment, capture_output=True, text=True,
+                           timeout=60, check=False)
+    want((twice.returncode, twice.stdout), (0, sound + "".join(kept) + kept[1]), "digests of two")
+    cut = house.folder / "cut.txt"
+    cut.write_text("book 2\n", encoding="utf-8")
+    words = [EXAMPLES / "digests", house.policy, cut, house.book]
+    told = subprocess.run(words, env=environment, capture_output=True, text=True, timeout=60,
+                          check=False)
+    want((told.returncode, told.stdout, told.stderr), (2, "", f"after {cut}: cut\n"),
+         "digests behind a book that was cut")
 
 
 def begun(words):
@@ -413,5 +471,5 @@ def first_session_of_the_page(given):
 
 TESTS = [pipes_are_looked_at, books_are_new, events_that_are_not_written, events_are_told,
          a_failed_write_ends_a_session, bad_lines_are_answered, examples_of_the_client, four_firms,
-         refusals_are_typed, nobody_waits_for_the_dead, talk_in_the_shell,
+         refusals_are_typed, nobody_waits_for_the_dead, a_wall_over_days, talk_in_the_shell,
          first_session_of_the_page]

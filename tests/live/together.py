@@ -131,14 +131,15 @@ ASIDE = [("info 0", None), ("info 700", None), ("take 999999", None), ("wait 999
          ("take -1", "bad BadField"), ("post 0 allgatherv int8 as public 999", "bad BadNumber")]
 
 
-def plays(house, name, plan, seed):
-    """Each line that the process wrote, with its reply."""
-    rng, seen, left = random.Random(seed), [], []
+def plays(house, name, plan, seed, seen):
+    """Adds each line that the process wrote, with its reply; the last may have none."""
+    rng, left = random.Random(seed), []
     with house.connect(name) as process:
         seen.append(("info 0", f"info size {len(house.names)} rank {process.world.rank}"))
 
         def ask(line):
-            seen.append((line, process.ask(line)))
+            seen.append((line, None))
+            seen[-1] = (line, process.ask(line))
             return seen[-1][1]
 
         for line in plan:
@@ -161,6 +162,13 @@ def plays(house, name, plan, seed):
                 ask(f"wait {left.pop(0)}")
         for request in left:
             ask(f"wait {request}")
+    return seen
+
+
+def plays_on(house, name, plan, seed):
+    """Each line that the process wrote, with its reply, to the end of the session."""
+    seen = []
+    plays(house, name, plan, seed, seen)
     return seen
 
 
@@ -206,7 +214,8 @@ class Order:
         return 0
 
     def merged(self, seen):
-        """Lines of a script with their replies."""
+        """Lines of a script with their replies. To its last line a process may have read none, if
+        the server was killed: a post that the book has is in the script all the same."""
         # Behind so many posts of the book, the calls that are no posts of it.
         others = [[] for _ in range(len(self.posts) + 1)]
         places = [[] for _ in seen]
@@ -216,6 +225,11 @@ class Order:
         for p, calls in enumerate(seen):
             now, mine = 0, iter(places[p])
             for line, reply in calls:
+                if reply is None:
+                    at = next(mine, None) if line.startswith("post ") else None
+                    if at is not None:
+                        counted.append((at, (f"post {p} {line[5:]}", None)))
+                    continue
                 if reply.startswith("bad "):
                     continue
                 verb, _, rest = line.partition(" ")
@@ -251,7 +265,7 @@ def random_sessions(given):
         processes = [(f"p{p}", home) for p, home in enumerate(homes)]
         house = House(given.program, processes, classes, [("sum", 3, 1)]).start()
         plan = a_plan(rng, ranks, homes, datasets, length)
-        clients = [Client(plays, house, name, plan[p], rng.random())
+        clients = [Client(plays_on, house, name, plan[p], rng.random())
                    for p, name in enumerate(house.names)]
         seen = all_results(clients)
         book = house.end()

@@ -1,0 +1,262 @@
+"""The book on the disk: servers that are killed, disks that are full, and what was told before."""
+import mmap
+import os
+import pathlib
+import random
+import resource
+import shutil
+import signal
+import subprocess
+import time
+
+from live import consortium
+from live import SERVERS, Client, House, Raw, Wrong
+from live import all_results, die_with_parent, neutral, replayed, until, want
+from together import Order, a_plan, plays
+
+
+HERE = pathlib.Path(__file__).resolve().parent
+
+
+def sealed(house):
+    """The whole book of what stands in the book's file, as the program makes it."""
+    whole = house.folder / "whole.txt"
+    words = [house.program, "seal", str(house.policy), str(house.book), str(whole)]
+    done = subprocess.run(words, capture_output=True, text=True, timeout=120, check=False)
+    want((done.returncode, done.stderr), (0, ""), "how the seal ends")
+    finished = house.book.read_text(encoding="utf-8").split("\n")[:-1]
+    house.book = whole
+    lines = house.book_lines()
+    want(done.stdout, f"sealed {len(lines) - 2}\n", "what the seal tells")
+    want(lines[: len(finished)], finished, "the finished lines")
+    want(len(lines) - len(finished) <= 2, True, "a verdict and an end at most are added")
+    house.audit()
+    return lines
+
+
+class Counting(list):
+    """Lines with their replies, of which a board tells how many there are."""
+
+    def __init__(self, board, at):
+        super().__init__()
+        self._board, self._at = board, at
+
+    def append(self, pair):
+        super().append(pair)
+        self._board[self._at : self._at + 4] = len(self).to_bytes(4, "little")
+
+
+def plays_until_it_is_gone(house, name, plan, seed, board, at):
+    """Each line that the process wrote, with the reply that it read, while the server was there."""
+    seen = Counting(board, at)
+    try:
+        plays(house, name, plan, seed, seen)
+    except (consortium.Gone, OSError):
+        pass
+    return list(seen)
+
+
+def judged(given, house, seen, book):
+    """Each reply that was read is one to which the book gives rise, which is the book of its
+    posts."""
+    order = Order(book).merged(seen)
+    replies, again = replayed(given.program, house.policy, [line for line, _ in order],
+                              house.folder)
+    for (line, reply), due in zip(order, replies):
+        if reply is not None:
+            want(reply, due, f"seed {given.seed}, reply to {line[:60]!r}")
+    want(len(replies), len(order), "how many replies the replay gives")
+    want(again, book, "the book of the replay")
+
+
+def killed(given, number):
+    """One server that is killed at a random moment of a random session. Gives whether it was at
+    work then, and had not ended before."""
+    rng = random.Random(1_000_003 * given.seed + number)
+    ranks, length = rng.randint(2, 5), rng.randint(3, 25)
+    classes = [["alpha", "beta"], ["umbra"]][: rng.randint(1, 2)]
+    datasets = [name for of_class in classes for name in of_class]
+    homes = [rng.choice([None, None, datasets[0], datasets[-1]]) for _ in range(ranks)]
+    processes = [(f"p{p}", home) for p, home in enumerate(homes)]
+    house = House(given.program, processes, classes, [("sum", 3, 1)])
+    house.start()
+    plan = a_plan(rng, ranks, homes, datasets, length)
+    board = mmap.mmap(-1, 4 * ranks)
+    clients = [Client(plays_until_it_is_gone, house, name, plan[p], rng.random(), board, 4 * p)
+               for p, name in enumerate(house.names)]
+
+    def read():
+        return [int.from_bytes(board[4 * p : 4 * p + 4], "little") for p in range(ranks)]
+
+    # Who has not come yet would wait for ever at a pipe that nobody opens any more.
+    goal = ranks + rng.randrange(2 * ranks * length)
+    while (0 in read() or sum(read()) < goal) and house.server.poll() is None:
+        time.sleep(0.0001)
+    is_at_work = house.server.poll() is None
+    house.server.kill()
+    house.server.wait()
+    seen = all_results(clients)
+    judged(given, house, seen, sealed(house))
+    return is_at_work
+
+
+def killed_servers(given):
+    """Servers that are killed at a random moment: the sealed book has all that was told."""
+    at_work = sum(killed(given, number) for number in range(given.kills))
+    if at_work < given.kills // 2:
+        raise Wrong(f"{at_work} of {given.kills} servers were killed at work")
+
+
+def entries_in(book):
+    """How many finished lines of entries there are."""
+    return max(book.read_bytes().count(b"\n") - 1, 0)
+
+
+def is_ahead(given, options):
+    """A server with these options, whose book has at each reply all that it tells of."""
+    house = House(given.program, neutral(2))
+    house.words += options
+    house.start()
+    one, two = Raw(house, "p0"), Raw(house, "p1")
+    for turn in range(50):
+        want(one.ask("post 0 barrier"), f"posted {turn}", "the first post")
+        want(entries_in(house.book), 3 * turn + 1, "entries behind the first post")
+        want(two.ask("post 0 barrier"), f"posted {turn}", "the second post")
+        want(entries_in(house.book), 3 * turn + 3, "entries behind the second post")
+        want(one.ask(f"take {turn}"), "delivered none", "the take")
+        want(two.ask(f"take {turn}"), "delivered none", "the other take")
+    want(one.ask("leave"), "left", "the leave")
+    want(two.ask("leave"), "left", "the other leave")
+    want(len(house.end()), 152, "lines of the book")
+    house.audit()
+    for raw in (one, two):
+        raw.close()
+
+
+def book_is_ahead(given):
+    """At each reply the book's file has all that it tells of, also where it is synced."""
+    for options in ([], ["--sync"]):
+        is_ahead(given, options)
+
+
+ROUNDS = 6
+
+
+def bounded(size):
+    """What a server does before it begins, whose files have at most so many bytes."""
+    def prepared():
+        die_with_parent()
+        signal.signal(signal.SIGXFSZ, signal.SIG_IGN)
+        resource.setrlimit(resource.RLIMIT_FSIZE, (size, size))
+    return prepared
+
+
+def on_a_disk_of(given, size):
+    """A session of two by turns on a disk that takes so many bytes. Gives whether all was told."""
+    house = House(given.program, neutral(2))
+    server = subprocess.Popen(house.words, stdin=subprocess.DEVNULL, stdout=subprocess.PIPE,
+                              stderr=subprocess.PIPE, preexec_fn=bounded(size))
+    SERVERS.append(server)
+    if size < len("book 2\n"):
+        out, err = server.communicate(timeout=60)
+        want((server.returncode, err), (3, b"write fault\n"), "a start without a first line")
+        want(out in (b"", b"serving 2 processes\n"), True, "events of a server that does not start")
+        return False
+    raws = [Raw(house, name) for name in house.names]
+    told, entries = 0, 0
+    open_ones = list(raws)
+    for turn in range(ROUNDS):
+        for number, raw in enumerate(raws):
+            if raw not in open_ones:
+                continue
+            reply = raw.ask("post 0 barrier")
+            entries += 1 + number
+            if reply == "unbooked":
+                want(raw.read(), b"", "the end of a session that was told unbooked")
+                open_ones.remove(raw)
+                continue
+            want(reply, f"posted {turn}", "a post")
+            want(len(open_ones), 2, "sessions that go on, where a post was told")
+            want(entries_in(house.book), entries, f"entries on a disk of {size}")
+            told += 1
+    if len(open_ones) == 2:
+        for raw in raws:
+            want(raw.ask("leave"), "left", "a leave")
+    else:
+        for raw in open_ones:
+            # Nobody is told anything any more, not even what was settled before.
+            want(raw.ask("info 0"), "unbooked", "an info where the book is cut")
+            want(raw.read(), b"", "the end of the other session")
+    out, err = server.communicate(timeout=60)
+    whole = len(open_ones) == 2 and server.returncode == 0
+    if whole:
+        want((out.splitlines()[-1], err), (b"served 12 calls", b""), "how the server ends")
+        house.audit()
+    else:
+        want((server.returncode, err), (3, b"write fault\n"), f"how a disk of {size} ends")
+        want(house.book.stat().st_size <= size, True, "the size of the book")
+        lines = sealed(house)
+        want(sum(line.startswith("post") for line in lines) >= told, True, "posts that were told")
+    return whole
+
+
+def full_disks(given):
+    """A disk that is full at every size of the book: nothing is told that is not on it."""
+    house = House(given.program, neutral(2)).start()
+    raws = [Raw(house, name) for name in house.names]
+    for turn in range(ROUNDS):
+        for raw in raws:
+            want(raw.ask("post 0 barrier"), f"posted {turn}", "a post")
+    for raw in raws:
+        want(raw.ask("leave"), "left", "a leave")
+    length = len("\n".join(house.end())) + 1
+    for size in range(0, length + 2):
+        want(on_a_disk_of(given, size), size >= length, f"whether all is told on a disk of {size}")
+        for raw in raws:
+            raw.close()
+
+
+def books_are_locked(given):
+    """While a server writes its book nobody else gets a lock on it, and no second server starts."""
+    house = House(given.program, neutral(1)).start()
+    raw = Raw(house, "p0")
+    want(raw.ask("post 0 barrier"), "posted 0", "a post")
+    want(os.path.exists(house.book), True, "a book")
+    locked = subprocess.run(["flock", "--nonblock", str(house.book), "true"], check=False)
+    want(locked.returncode, 1, "whether the book is locked")
+    second = subprocess.run(house.words, capture_output=True, text=True, timeout=60, check=False)
+    want((second.returncode, second.stderr), (3, f"book exists: {house.book}\n"), "a second server")
+    want(raw.ask("leave"), "left", "the leave")
+    house.end()
+    locked = subprocess.run(["flock", "--nonblock", str(house.book), "true"], check=False)
+    want(locked.returncode, 0, "whether the book is free afterwards")
+
+
+def syncs_that_fail(given):
+    """A book that cannot be synced: nobody is told of what was to be, unless no sync is asked for."""
+    if not shutil.which("cc"):
+        print("not tried, since there is no C compiler: ", end="")
+        return
+    for options, turns in (([], 4), (["--sync"], 2)):
+        house = House(given.program, neutral(1))
+        shim = house.folder / "refuse_sync.so"
+        words = ["cc", "-O1", "-shared", "-fPIC", "-o", shim, HERE / "refuse_sync.c"]
+        subprocess.run(words, check=True, timeout=60)
+        environment = ["env", f"LD_PRELOAD={shim}", "REFUSED_SYNC=2"]
+        house.words = [*environment, *house.words, *options]
+        house.start()
+        raw = Raw(house, "p0")
+        for turn in range(turns):
+            want(raw.ask("post 0 barrier"), f"posted {turn}", "a post whose verdict is on the disk")
+        if not options:
+            want(raw.ask("leave"), "left", "the leave")
+            house.end()
+            continue
+        want(raw.ask("post 0 barrier"), "unbooked", "a post whose verdict is not on the disk")
+        want(raw.read(), b"", "the end of the session")
+        until(lambda: house.server.poll() is not None, "the server ends")
+        want((house.server.returncode, house.complaint()), (3, "write fault\n"), "how it ends")
+        want(len(sealed(house)) - 2 in (4, 6), True, "what the book has at least")
+
+
+TESTS = [book_is_ahead, books_are_locked, full_disks, killed_servers, syncs_that_fail]
