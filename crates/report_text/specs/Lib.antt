@@ -6,6 +6,8 @@ pub mod Rows
 pub mod Members
 -- how each instance came out
 pub mod Instances
+-- why posts were barred and instances denied
+pub mod Reasons
 -- the whole text
 pub mod Report
 -- how far a walk through a book has come

@@ -1,13 +1,20 @@
 -- The text of a report. (Own format.)
-use Rattle.std.specs.Prelude.{◌≡◌, ℕ, List, ◌++◌, true, length, All, AllPairs}
+use Rattle.std.specs.Prelude.{◌≡◌, ℕ, ◌<◌, List, ◌++◌, true, length, All, AllPairs}
+use Rattle.wall_labels.specs.declared.label.Label.{Label}
 use Rattle.wall_policy.specs.Policy.{ChineseWall}
+use Rattle.wall_verdict.specs.declared.verdict.Rule.{Rule}
 use Rattle.run_model.specs.declared.entry.Entry.{Entry}
-use Rattle.run_model.specs.Posts.{comms}
+use Rattle.run_model.specs.Posts.{Post, comms}
 use Rattle.book_report.specs.declared.row.Row.{Row}
+use Rattle.book_report.specs.declared.bar.Bar.{Bar}
+use Rattle.book_report.specs.declared.denial.Denial.{Denial}
 use Rattle.book_report.specs.Held.{histories_after, posts_to, IsRow, HasRow, Follows}
+use Rattle.book_report.specs.Bars.{IsBar, IsBarredAt, HasBar}
+use Rattle.book_report.specs.Denials.{IsDenial, IsDeniedAt, HasDenial}
 use Rattle.report_text.specs.Rows.{rows_text}
 use Rattle.report_text.specs.Members.{comms_text}
 use Rattle.report_text.specs.Instances.{instances_text}
+use Rattle.report_text.specs.Reasons.{bars_text, denials_text}
 
 -- these are the rows of the book, and no others: each tells how its process first came to hold its
 -- dataset, each pair that is held at the end has one, and no pair has two
@@ -16,10 +23,30 @@ pub record AreRows (wall : ChineseWall) (entries : List Entry) (rows : List Row)
   pub all : (p d : ℕ) → histories_after wall entries (length entries) p d ≡ true → HasRow rows p d
   pub once : AllPairs Follows rows
 
--- who holds what, the communicators that the book's posts make, and the outcomes that it tells
+-- the posts that were barred, all of them, in the book's order, each with what the star rule names
+pub record AreBars (wall : ChineseWall) (entries : List Entry) (bars : List Bar) : Type 0 where
+  pub right : All (IsBar wall entries) bars
+  pub all : (n : ℕ) (x : Post) → IsBarredAt entries n x → HasBar bars n
+  pub once : AllPairs (λ a b. a.entry < b.entry) bars
+
+-- the instances that were denied, all of them, in the book's order, each with what the verdict
+-- names
+pub record AreDenials (wall : ChineseWall) (entries : List Entry) (denials : List Denial)
+    : Type 0 where
+  pub right : All (IsDenial wall entries) denials
+  pub all : (n c k p : ℕ) (rule : Rule) (label : Label) → IsDeniedAt entries n c k rule p label →
+      HasDenial denials n
+  pub once : AllPairs (λ a b. a.entry < b.entry) denials
+
+-- who holds what; the communicators that the book's posts make; the outcomes that it tells; and why
+-- posts were barred and instances denied
 pub record IsReport (wall : ChineseWall) (entries : List Entry) (text : List ℕ) : Type 0 where
   pub rows : List Row
+  pub bars : List Bar
+  pub denials : List Denial
   pub are_rows : AreRows wall entries rows
+  pub are_bars : AreBars wall entries bars
+  pub are_denials : AreDenials wall entries denials
   pub lines : text ≡ rows_text wall entries rows
       ++ comms_text wall (comms wall (posts_to entries (length entries)))
-      ++ instances_text wall entries
+      ++ instances_text wall entries ++ bars_text wall bars ++ denials_text wall denials

@@ -1,10 +1,12 @@
 //! The text of a report: what an auditor wants to know of a book, line by line.
 //!
 //! [`report_text`] writes who holds what and how each came to it, the members of the communicators,
-//! and the instances with their outcomes. What a line says is told by `book_report`; here it gets
-//! its words, with names in place of numbers.
+//! the instances with their outcomes, and why posts were barred and instances denied. What a line
+//! says is told by `book_report`; here it gets its words, with names in place of numbers.
 #![tactic(auto)]
 
+mod bars;
+mod denials;
 mod instances;
 mod lines;
 mod members;

@@ -8,33 +8,46 @@ ghost use Rattle.book_report.specs.Held.{posts_to};
 ghost use Rattle.report_text.specs.Rows.{rows_text};
 ghost use Rattle.report_text.specs.Members.{comms_text};
 ghost use Rattle.report_text.specs.Instances.{instances_text};
+ghost use Rattle.report_text.specs.Reasons.{bars_text, denials_text};
 ghost use Rattle.report_text.specs.Report.{IsReport};
 
+use crate::bars::put_bars;
+use crate::denials::put_denials;
 use crate::instances::put_instances;
 use crate::members::put_comms_of;
 use crate::rows::put_rows;
-use book_report::{Book, BookFault, Row, held};
+use book_report::{Bar, Book, BookFault, Denial, Row, barred_posts, denials, held};
 use std::alloc::Global;
 use wall_labels::NoMemory;
 use wall_policy::Policy;
 
-// The lines of these rows, and what a sound book tells besides.
-fn text_of(alloc: Global, policy: &Policy, book: &Book, rows: &[Row]) -> Result<Vec<u8>, NoMemory>
+// The lines of these rows and reasons, and what a sound book tells besides.
+fn text_of(
+    alloc: Global,
+    policy: &Policy,
+    book: &Book,
+    rows: &[Row],
+    bars: &[Bar],
+    denials: &[Denial],
+) -> Result<Vec<u8>, NoMemory>
     requires { IsSound policy.now book.now.list }
     ensures { IfOk result (λ text. text.items ≡ rows_text policy.now book.now.list rows.now
         ++ comms_text policy.now
         (comms policy.now (posts_to book.now.list (length book.now.list)))
-        ++ instances_text policy.now book.now.list) }
+        ++ instances_text policy.now book.now.list
+        ++ bars_text policy.now bars.now ++ denials_text policy.now denials.now) }
 {
     let mut text = Vec::new(alloc);
     put_rows(alloc, &mut text, policy, book, rows)?;
     put_comms_of(alloc, &mut text, policy, book)?;
     put_instances(alloc, &mut text, policy, book)?;
+    put_bars(alloc, &mut text, policy, bars)?;
+    put_denials(alloc, &mut text, policy, denials)?;
     Ok(text)
 }
 
 /// The text of a report on a book: who holds what at its end, by which entry and how; who is in
-/// which communicator; and how each instance came out.
+/// which communicator; how each instance came out; and why posts were barred and instances denied.
 ///
 /// The book is checked first, as by `check_book`, and where it is not sound its fault is answered.
 /// A line has at most 100 columns as long as the book has fewer than ten million entries, since a
@@ -47,7 +60,9 @@ pub fn report_text(alloc: Global, policy: &Policy, book: &Book) -> Result<Vec<u8
     ensures fault { IfErr result (IsFaultOf policy.now book.now.list) }
 {
     let rows = held(alloc, policy, book)?;
-    match text_of(alloc, policy, book, &rows) {
+    let bars = barred_posts(alloc, policy, book)?;
+    let denied = denials(alloc, policy, book)?;
+    match text_of(alloc, policy, book, &rows, &bars, &denied) {
         Ok(text) => Ok(text),
         Err(_) => Err(BookFault::NoMemory),
     }

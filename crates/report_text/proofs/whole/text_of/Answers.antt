@@ -4,15 +4,20 @@ use Rattle.book_report.specs.Held.{posts_to}
 use Rattle.report_text.specs.Rows.{rows_text}
 use Rattle.report_text.specs.Members.{comms_text}
 use Rattle.report_text.specs.Instances.{instances_text}
+use Rattle.report_text.specs.Reasons.{bars_text, denials_text}
 use Rattle.report_text.proofs.whole.text_of.Goals as goal
 
 pub returns : goal.returns
 returns c =
     let wall = c.args.policy.now in
     let entries = c.args.book.now.list in
-    c.in_ok-put_instances.ensures
+    c.in_ok-put_denials.ensures
+    ∙ ap (λ (t : List ℕ). t ++ denials_text wall c.args.denials.now)
+    (c.in_ok-put_bars.ensures
+    ∙ ap (λ (t : List ℕ). t ++ bars_text wall c.args.bars.now)
+    (c.in_ok-put_instances.ensures
     ∙ ap (λ (t : List ℕ). t ++ instances_text wall entries)
     (c.in_ok-put_comms_of.ensures
     ∙ ap (λ (t : List ℕ). t ++ comms_text wall (comms wall (posts_to entries (length entries))))
     (c.in_ok-put_rows.ensures
-    ∙ ap (λ (t : List ℕ). t ++ rows_text wall entries c.args.rows.now) c.new-text.ensures.items))
+    ∙ ap (λ (t : List ℕ). t ++ rows_text wall entries c.args.rows.now) c.new-text.ensures.items))))
