@@ -1,0 +1,116 @@
+-- What was due at the first bad entry.
+use Rattle.std.proofs.Common.{◌≡◌, ◌≢◌, ℕ, ◌+◌, ◌-◌, ◌<◌, ◌≤◌, List, [], ◌∷◌, ◌++◌, length, take}
+use Rattle.std.proofs.Common.{drop, slice_get, Some, None, refl, sym, ap, ◌∙◌, subst, arith}
+use Rattle.std.proofs.Common.{append_assoc, inl, inr}
+use Rattle.std.specs.Prelude.{All}
+use Rattle.std.specs.Option.{option_to_list}
+use Rattle.std.proofs.lemmas.List.{append-nil, take_all, take-append-drop}
+use Rattle.std.proofs.lemmas.Bool.{cases_lt}
+use Rattle.std.proofs.lemmas.List.Elements.{All-take}
+use Rattle.std.proofs.lemmas.Option.{slice_get_within}
+use Rattle.wall_policy.specs.Policy.{ChineseWall, IsPolicy}
+use Rattle.coll_routes.specs.declared.statement.Stated.{Stated}
+use Rattle.run_model.specs.declared.entry.Entry.{Entry}
+use Rattle.run_model.specs.declared.entry.Entry.TheVariants.{Posted, Settled}
+use Rattle.run_model.specs.Posts.{Post, outcome}
+use Rattle.run_model.specs.Books.{book, posted, post_in, posts_in, outcome_entry, entries_for}
+use Rattle.run_model.specs.Books.{IsCounted, AreCounted, IsSound, Begins, IsFirstBad}
+use Rattle.run_model.specs.Known.{IsKnownEntry}
+use Rattle.run_model.proofs.RunModelLemmas.{book_is_sound}
+use Rattle.audit_book.specs.Dues.{IsDueBehind}
+use Rattle.audit_book.proofs.AuditBookLemmas.{take_more}
+use Rattle.book_seal.proofs.KnownLemmas.{due_known}
+use Rattle.book_places.specs.Owed.{before, IsEntryAt, LacksVerdict, HasOtherPost}
+
+-- a verdict is no post
+no_post : (e : Entry) → posts_in (e ∷ []) ≡ [] → post_in e ≡ None
+no_post (Settled c k o) h = refl
+no_post (Posted p c s) h = absurd (cc)
+
+module _ (wall : ChineseWall) where
+  -- a front of what a sound book begins with
+  begins_front : (es : List Entry) (m : ℕ) → Begins wall es → Begins wall (take m es)
+  begins_front es m (rest, sound) =
+      let same : es ++ rest ≡ take m es ++ (drop m es ++ rest) =
+      ap (λ xs. xs ++ rest) (sym (take-append-drop m es))
+      ∙ append_assoc (take m es) (drop m es) rest in
+      (drop m es ++ rest, subst (IsSound wall) same sound)
+
+  -- no front of it is bad
+  pub none_bad : (es : List Entry) (m : ℕ) → Begins wall es → IsFirstBad wall es m →
+      m ≤ length es → ⊥
+  none_bad es m begins bad low = bad.wrong low (begins_front es m begins)
+
+  -- a sound book goes on with a post that counts
+  post_goes_on : (es : List Entry) (x : Post) → IsSound wall es →
+      IsCounted wall x (posts_in es) → Begins wall (es ++ posted x ∷ [])
+  post_goes_on es x sound counted =
+      let rest = option_to_list (outcome_entry x (posts_in es) (outcome wall x (posts_in es))) in (
+        rest,
+        subst (IsSound wall)
+            (ap (λ b. b ++ entries_for wall x (posts_in es)) (sym sound.given)
+            ∙ sym (append_assoc es (posted x ∷ []) rest))
+            (book_is_sound wall (x ∷ posts_in es) (sound.posts, counted)),
+      )
+
+  module _ (es : List Entry) (n : ℕ) (bad : IsFirstBad wall es n) where
+    -- the entry that stands there makes the entries unsound
+    wrong_at : (e : Entry) → IsEntryAt es n e → Begins wall (before n es ++ e ∷ []) → ⊥
+    wrong_at e there begins =
+        let low = slice_get_within es (n - 1) e there in
+        let one = bad.counted in
+        let next : n - 1 + 1 ≡ n = omega arith in
+        bad.wrong (omega (arith, low))
+        (subst (λ m. Begins wall (take m es)) next
+        (subst (Begins wall) (sym (take_more es (n - 1) e there)) begins))
+
+    -- nothing is missing behind a sound book
+    pub within : IsSound wall (before n es) → n - 1 < length es
+    within sound = elim (cases_lt (n - 1) (length es)) [
+      | inl low ↦ low
+      | inr high ↦
+          let last : n ≡ length es + 1 =
+          (let one = bad.counted in let most = bad.within in omega arith) in
+          absurd (bad.missing last (subst (IsSound wall) (take_all (n - 1) es high) sound))
+    ]
+
+    pub has_other_post : (p c : ℕ) (s : Stated) → IsEntryAt es n (Posted p c s) →
+        IsSound wall (before n es) → HasOtherPost wall es n
+    has_other_post p c s there sound =
+        let x : Post = record { process = p; comm = c; stated = s } in
+        record {
+          sound = sound;
+          post = x;
+          at = there;
+          uncounted = λ counted. wrong_at (Posted p c s) there
+              (post_goes_on (before n es) x sound counted);
+        }
+
+    pub lacks_verdict : (front : List Entry) → front ≡ before n es → (due : Entry) →
+        IsDueBehind wall front (Some due) → LacksVerdict wall es n due
+    lacks_verdict front same due behind = record {
+      sound = subst (λ f. IsSound wall (f ++ due ∷ [])) same behind.sound;
+      verdict = no_post due behind.no_post;
+      other = λ e there is. wrong_at e there (
+        [],
+        subst (IsSound wall)
+            (ap (λ f. f ++ due ∷ []) same ∙ ap (λ d. before n es ++ d ∷ []) (sym is)
+            ∙ sym (append-nil (before n es ++ e ∷ [])))
+            behind.sound,
+      );
+    }
+
+    -- the entries before are no book with a bad entry
+    pub none_within : (front : List Entry) → front ≡ before n es → (m : ℕ) →
+        IsFirstBad wall front m → m ≤ length front → ⊥
+    none_within front same m first low =
+        none_bad front m (subst (Begins wall) (sym same) bad.before) first low
+
+    -- what is due behind known entries is known
+    pub owed_known : (front : List Entry) → front ≡ before n es → (due : Entry) →
+        IsPolicy wall → IsDueBehind wall front (Some due) → All (IsKnownEntry wall) es →
+        IsKnownEntry wall due
+    owed_known front same due policy behind known =
+        due_known wall front due policy
+        (subst (All (IsKnownEntry wall)) (sym same) (All-take (IsKnownEntry wall) (n - 1) es known))
+        behind
