@@ -1,10 +1,12 @@
-//! The tests of the seal of a book, through its public calls.
+//! The tests of the seal of a book, and of chains of books, through their public calls.
 //!
 //! They stand in a crate of their own, since a check of a crate's tests proves the crate once more.
 #![tactic(auto)]
 
 #[cfg(test)]
 mod cuts;
+#[cfg(test)]
+mod grown;
 #[cfg(test)]
 mod refused;
 #[cfg(test)]

@@ -1,0 +1,15 @@
+//! Earlier books under a policy that may have grown since they were written.
+//!
+//! A [`Chain`] is a policy and the books before it, the oldest first: what was held at their end is
+//! what the policy holds from before. Each book is checked under the policy of as many processes as
+//! there were when it was written, which the book itself tells.
+//!
+//! What a chain comes to says `specs/Chain.antt`; what a sound book is, and what a chain of books
+//! keeps, say the definitions of `run_model`. (Own rules.)
+#![tactic(auto)]
+
+mod chain;
+mod front;
+
+pub use audit_book::{Book, BookFault};
+pub use chain::Chain;
