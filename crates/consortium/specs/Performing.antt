@@ -157,8 +157,9 @@ abbrev pub ChecksFiles : {P D O E : Type 0} → FileKind P → FileKind D → Ch
 ChecksFiles policies others files out err status =
     (policy : FileUse policies files.policy) × (script : UseIfAny others files.script)
     × (book : UseIfAny others files.book)
-    × EndsSo (CheckEnds files.policy (unwrap_or files.script []) (used_file policies policy)
-    (used_if_any others script) (used_if_any others book) out) err status
+    × EndsSo (CheckEnds files.policy (unwrap_or files.script []) (unwrap_or files.book [])
+    (used_file policies policy) (used_if_any others script) (used_if_any others book) out)
+    err status
 
 -- nothing was done but to tell this ending
 abbrev pub Declines : {O E : Type 0} → Ending → Used O → Used E → (status : ℕ) → Type 0

@@ -72,12 +72,14 @@ pub(crate) fn check_files<'a, F: Files, P: Ledger, S: Ledger, B: Ledger, O: Sink
     let script = listed_if_any(files, paths.script);
     let book = listed_if_any(files, paths.book);
     let path = paths.script.unwrap_or("");
+    let book_path = paths.book.unwrap_or("");
     check_on(
         alloc,
         &mut policy,
         paths.policy,
         path,
         script,
+        book_path,
         book,
         out,
         err,

@@ -9,20 +9,22 @@ use Rattle.policy_places.specs.declared.place.Found.{Found}
 use Rattle.policy_places.specs.declared.place.Place.{Place}
 use Rattle.policy_places.specs.Places.{IsPlace}
 use Rattle.coll_text.specs.declared.fault.LineFault.{LineFault}
-use Rattle.run_model.specs.declared.entry.Entry.{Entry}
+use Rattle.book_places.specs.declared.place.Found.{Found as BookFound}
+use Rattle.book_places.specs.declared.place.Found.TheVariants as books
+use Rattle.book_places.specs.Books.{IsFoundIn}
+use Rattle.book_places.specs.Sentences.{found_line}
 use Rattle.meaning_text.specs.Sentences.{IsMeaning}
 use Rattle.check_text.specs.declared.faults.ScriptFaults.{ScriptFaults}
 use Rattle.check_text.specs.Lines.{AreLines}
 use Rattle.hall_script.specs.Devices.{Used, used, IsUntouched, NeverFailed, IsRead}
 use Rattle.hall_script.specs.Devices.{IsUnreadable, IsWritten, BrokeOff}
 use Rattle.hall_script.specs.Scripts.{script_limit}
-use Rattle.program_commands.specs.declared.audit.Finding.{Finding}
 use Rattle.program_commands.specs.declared.ending.Ending.{Ending}
 use Rattle.program_commands.specs.declared.ending.Ending.TheVariants.{Done, BadPolicy, BadLine}
+use Rattle.program_commands.specs.declared.ending.Ending.TheVariants.{BadBookLine, CutBook, Unsound}
 use Rattle.program_commands.specs.declared.ending.Ending.TheVariants.{ReadFault, WriteFault, NoMemory}
 use Rattle.program_commands.specs.Endings.{policy_fault_text}
-use Rattle.program_commands.specs.Auditing.{finding_line, finding_ending, IsFound, IsBookOf}
-use Rattle.program_commands.specs.Auditing.{IsNoBook}
+use Rattle.program_commands.specs.Auditing.{book_limit}
 
 -- the first of two that is at fault
 abbrev pub first_ending : Ending → Ending → Ending
@@ -60,19 +62,27 @@ TellsScript wall path script text ending =
     ⊎ (IsUnreadable script script_limit × TellsNone ReadFault text ending)
     ⊎ (NeverFailed script × TellsNone NoMemory text ending)
 
--- the line of a finding, or memory ran out
-abbrev pub TellsFinding : Finding → (text : List ℕ) → Ending → Type 0
-TellsFinding finding text ending =
-    ((text ≡ finding_line finding) × (ending ≡ finding_ending finding))
+-- how it ends by what is found of a book
+abbrev pub found_ending : BookFound → Ending
+found_ending (books.Sound entries) = Done
+found_ending (books.Line n due) = BadBookLine n
+found_ending books.Cut = CutBook
+found_ending (books.Entry n line stands owed) = Unsound n
+
+-- what is found of the text of a book, or memory ran out
+abbrev pub TellsFound : ChineseWall → (path book text : List ℕ) → Ending → Type 0
+TellsFound wall path book text ending =
+    ((found : BookFound) × IsFoundIn wall book found
+    × (text ≡ found_line wall path found) × (ending ≡ found_ending found))
     ⊎ TellsNone NoMemory text ending
 
--- it is no book that was read, and nothing is told; or what its check found
-abbrev pub TellsBook : {B : Type 0} → ChineseWall → Used B → (text : List ℕ) → Ending → Type 0
-TellsBook wall book text ending =
-    (IsNoBook wall book ending × (text ≡ []))
-    ⊎ ((entries : List Entry) × IsBookOf wall book entries
-    × (((finding : Finding) × IsFound wall entries finding × TellsFinding finding text ending)
-    ⊎ TellsNone NoMemory text ending))
+-- it was read, and this is told of it; or it was not read
+abbrev pub TellsBook : {B : Type 0}
+    → ChineseWall → (path : List ℕ) → Used B → (text : List ℕ) → Ending → Type 0
+TellsBook wall path book text ending =
+    ((bytes : List ℕ) × IsRead book book_limit bytes × TellsFound wall path bytes text ending)
+    ⊎ (IsUnreadable book book_limit × TellsNone ReadFault text ending)
+    ⊎ (NeverFailed book × TellsNone NoMemory text ending)
 
 -- A reader, if there is one, as it is given; it is let go after its use.
 pub record IfAny (D : Type 0) : Type 0 where
@@ -97,16 +107,16 @@ TellsScriptIfAny wall path script text ending = Tells script.failures script.byt
     (λ device. TellsScript wall path device text ending) (TellsNone Done text ending) script.device
 
 abbrev pub TellsBookIfAny : {B : Type 0}
-    → ChineseWall → IfAny B → (text : List ℕ) → Ending → Type 0
-TellsBookIfAny wall book text ending = Tells book.failures book.bytes
-    (λ device. TellsBook wall device text ending) (TellsNone Done text ending) book.device
+    → ChineseWall → (path : List ℕ) → IfAny B → (text : List ℕ) → Ending → Type 0
+TellsBookIfAny wall path book text ending = Tells book.failures book.bytes
+    (λ device. TellsBook wall path device text ending) (TellsNone Done text ending) book.device
 
 -- ---- the command
 
 -- What is told of policy, script and book, one behind the other; it ends by the first of them that
 -- is at fault.
 pub record IsChecked {S B : Type 0} (wall : ChineseWall) (path : List ℕ) (script : IfAny S)
-    (book : IfAny B) (text : List ℕ) (ending : Ending) : Type 0 where
+    (book_path : List ℕ) (book : IfAny B) (text : List ℕ) (ending : Ending) : Type 0 where
   pub meaning : List ℕ
   pub lines : List ℕ
   pub found : List ℕ
@@ -115,15 +125,15 @@ pub record IsChecked {S B : Type 0} (wall : ChineseWall) (path : List ℕ) (scri
   pub of_book : Ending
   pub by_policy : TellsMeaning wall meaning of_policy
   pub by_script : TellsScriptIfAny wall path script lines of_script
-  pub by_book : TellsBookIfAny wall book found of_book
+  pub by_book : TellsBookIfAny wall book_path book found of_book
   pub whole : text ≡ meaning ++ (lines ++ found)
   pub first : ending ≡ first_ending of_policy (first_ending of_script of_book)
 
 -- all that there is to tell was written, or the writer failed behind a prefix of it
-abbrev pub Checks : {S B O : Type 0} → ChineseWall → (path : List ℕ) → IfAny S → IfAny B
+abbrev pub Checks : {S B O : Type 0} → ChineseWall → (path book_path : List ℕ) → IfAny S → IfAny B
     → Used O → Ending → Type 0
-Checks wall path script book out ending =
-    (text : List ℕ) × (due : Ending) × IsChecked wall path script book text due
+Checks wall path book_path script book out ending =
+    (text : List ℕ) × (due : Ending) × IsChecked wall path script book_path book text due
     × ((IsWritten out text × (ending ≡ due)) ⊎ (BrokeOff out text × (ending ≡ WriteFault)))
 
 -- `PATH:LINE: NAME`, with the name of a policy's fault
@@ -140,10 +150,10 @@ TellsLine path n fault out ending =
     ⊎ ((ending ≡ NoMemory) × IsUntouched out)
 
 -- the same of a fault that may stand on no line
-abbrev pub TellsFound : {O : Type 0} → (path : List ℕ) → PolicyFault → Option Found → Used O
+abbrev pub TellsPlace : {O : Type 0} → (path : List ℕ) → PolicyFault → Option Found → Used O
     → Ending → Type 0
-TellsFound path fault None out ending = (ending ≡ BadPolicy fault) × IsUntouched out
-TellsFound path fault (Some found) out ending = TellsLine path found.line fault out ending
+TellsPlace path fault None out ending = (ending ≡ BadPolicy fault) × IsUntouched out
+TellsPlace path fault (Some found) out ending = TellsLine path found.line fault out ending
 
 -- the most bytes of a policy for whose fault a line is looked for
 abbrev pub place_limit : ℕ
@@ -153,16 +163,17 @@ place_limit = 262144
 abbrev pub TellsRefused : {O : Type 0} → (path text : List ℕ) → PolicyFault → Used O → Ending
     → Type 0
 TellsRefused path text fault out ending =
-    ((place : Place) × IsPlace text place × TellsFound path place.fault place.found out ending)
+    ((place : Place) × IsPlace text place × TellsPlace path place.fault place.found out ending)
     ⊎ ((place_limit < length text) × (ending ≡ BadPolicy fault) × IsUntouched out)
     ⊎ ((ending ≡ NoMemory) × IsUntouched out)
 
 -- The text is a policy, and script and book were checked under it; or it is none, and that was told;
 -- or memory ran out.
-abbrev pub ChecksText : {S B O : Type 0} → (text policy_path path : List ℕ) → IfAny S → IfAny B
-    → Used O → Ending → Type 0
-ChecksText text policy_path path script book out ending =
-    ((wall : ChineseWall) × (answer_to text ≡ Ok wall) × Checks wall path script book out ending)
+abbrev pub ChecksText : {S B O : Type 0} → (text policy_path path book_path : List ℕ) → IfAny S
+    → IfAny B → Used O → Ending → Type 0
+ChecksText text policy_path path book_path script book out ending =
+    ((wall : ChineseWall) × (answer_to text ≡ Ok wall)
+    × Checks wall path book_path script book out ending)
     ⊎ ((fault : PolicyFault) × (answer_to text ≡ Err fault)
     × TellsRefused policy_path text fault out ending)
     ⊎ ((ending ≡ NoMemory) × IsUntouched out)
@@ -175,9 +186,9 @@ IsUnread policy ending = ⊥
 
 -- How `check` ends: no policy was read, and nothing was written; or its text was judged, and script
 -- and book were checked under it, as far as there are any.
-abbrev pub CheckEnds : {P S B O : Type 0} → (policy_path path : List ℕ) → Used P → IfAny S
-    → IfAny B → Used O → Ending → Type 0
-CheckEnds policy_path path policy script book out ending =
+abbrev pub CheckEnds : {P S B O : Type 0} → (policy_path path book_path : List ℕ) → Used P
+    → IfAny S → IfAny B → Used O → Ending → Type 0
+CheckEnds policy_path path book_path policy script book out ending =
     (IsUnread policy ending × IsUntouched out)
     ⊎ ((text : List ℕ) × IsRead policy script_limit text
-    × ChecksText text policy_path path script book out ending)
+    × ChecksText text policy_path path book_path script book out ending)

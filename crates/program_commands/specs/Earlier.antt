@@ -2,13 +2,15 @@
 -- before. What a chain of books is, and what it keeps, say the definitions of chains.
 use Rattle.std.specs.Prelude.{◌≡◌, ◌⊎◌, ℕ, List, [], ◌∷◌, ◌++◌, reverse, Option}
 use Rattle.std.specs.Borrow.{Bor}
-use Rattle.wall_policy.specs.Policy.{ChineseWall}
+use Rattle.wall_policy.specs.Policy.{ChineseWall, first_processes}
 use Rattle.run_model.specs.declared.entry.Entry.{Entry as BookEntry}
-use Rattle.run_model.specs.Books.{book, posts_in, IsSound, IsFirstBad}
-use Rattle.run_model.specs.Chains.{Link, IsChain, IsPolicyAfter, NobodyEverHeldBoth}
+use Rattle.run_model.specs.Books.{book, IsSound}
+use Rattle.run_model.specs.Chains.{Link, NobodyEverHeldBoth}
 use Rattle.run_model.specs.Runs.{Entry, posts}
 use Rattle.run_model.specs.Replies.{Legal}
+use Rattle.audit_book.specs.declared.check_fault.BookFault.TheVariants.{BadEntry}
 use Rattle.audit_book.specs.declared.fault.ReadFault.TheVariants as texts
+use Rattle.book_chain.specs.Chain.{ChainValue, begun, IsAdded, IsNotAdded, StandsFor}
 use Rattle.hall_script.specs.Devices.{Used, used, NeverFailed, IsUnreadable}
 use Rattle.program_commands.specs.declared.earlier.Earlier.{Earlier}
 use Rattle.program_commands.specs.declared.ending.EarlierFault.{EarlierFault}
@@ -36,26 +38,24 @@ reader earlier one left = used earlier.failures earlier.bytes one.device left
 
 -- ---- a policy after books
 
--- Each book of a chain, the newest first, was read from the reader at its place.
-abbrev pub AreReadFrom : {D : Type 0} → EarlierBooks D → List (Earlier D) → List Link → Type 0
-AreReadFrom earlier [] [] = Unit {0}
-AreReadFrom {D} earlier (one ∷ before) (r ∷ older) =
-    ((left : D) × IsBookOf r.wall (reader earlier one left) r.book)
-    × AreReadFrom earlier before older
-AreReadFrom earlier readers links = ⊥
-
--- the policy of the oldest book of a chain, or, where there is none, the one after it
-abbrev pub first_policy : List Link → ChineseWall → ChineseWall
-first_policy [] wall = wall
-first_policy (r ∷ older) wall = first_policy older r.wall
+-- Each of these books, the newest first, was read from the reader at its place, by the names of the
+-- policy after those before it, and is sound under the first processes of that policy: as many as
+-- the chain tells. The oldest comes after none.
+abbrev pub AreRead : {D : Type 0} → EarlierBooks D → (first : ChineseWall) → List (Earlier D)
+    → List Link → ChainValue → Type 0
+AreRead earlier first [] [] now = now ≡ begun first
+AreRead {D} earlier first (one ∷ before) (r ∷ older) now =
+    (was : ChainValue) × (AreRead earlier first before older was
+    × ((left : D) × IsBookOf was.wall (reader earlier one left) r.book)
+    × (r.wall ≡ first_processes now.least was.wall) × IsAdded was r.book now)
+AreRead earlier first readers links now = ⊥
 
 -- These books were read, the first under this policy, and each of the others under the one after
--- those before it; all are sound, and this is the policy after all.
+-- those before it; all are sound, and this is what the chain of them comes to.
 pub record IsAfter {D : Type 0} (first : ChineseWall) (earlier : EarlierBooks D)
-    (links : List Link) (wall : ChineseWall) : Type 0 where
-  pub begins : first_policy links wall ≡ first
-  pub read : AreReadFrom earlier (reverse earlier.books) links
-  pub chain : IsChain links wall
+    (links : List Link) (now : ChainValue) : Type 0 where
+  pub read : AreRead earlier first (reverse earlier.books) links now
+  pub stands : StandsFor now links
 
 -- Over these books and one more that is sound under this policy nobody ever held two rivals,
 -- directly or through others.
@@ -75,26 +75,28 @@ pub record IsWallAfter {P D : Type 0} (policy : Used P) (earlier : EarlierBooks 
   pub first : ChineseWall
   pub read : IsPolicyOf policy first
   pub links : List Link
-  pub after : IsAfter first earlier links wall
+  pub least : ℕ
+  pub after : IsAfter first earlier links (record { wall = wall; least = least })
   pub books_keep : BooksKeepTheWall links wall
   pub runs_keep : RunsKeepTheWall links wall
 
 -- ---- none
 
--- this is what is wrong with the book
-abbrev pub IsEarlierFault : {D : Type 0} → ChineseWall → Used D → EarlierFault → Type 0
-IsEarlierFault wall book (faults.BadLine n) = IsNoText wall book (texts.BadLine n)
-IsEarlierFault wall book faults.Cut = IsNoText wall book texts.Cut
-IsEarlierFault wall book (faults.Unsound n) =
-    (entries : List BookEntry) × IsBookOf wall book entries × IsFirstBad wall entries n
+-- this is what is wrong with the book behind those before it
+abbrev pub IsEarlierFault : {D : Type 0} → ChainValue → Used D → EarlierFault → Type 0
+IsEarlierFault was book (faults.BadLine n) = IsNoText was.wall book (texts.BadLine n)
+IsEarlierFault was book faults.Cut = IsNoText was.wall book texts.Cut
+IsEarlierFault was book (faults.Unsound n) =
+    (entries : List BookEntry) × IsBookOf was.wall book entries
+    × IsNotAdded was entries (BadEntry n)
 
 -- the book at this path was not read, is none, or is not sound, and this is why
-abbrev pub IsNoLink : {D : Type 0} → ChineseWall → Used D → (path : List ℕ) → Ending → Type 0
-IsNoLink wall book path (BadEarlier named fault) =
-    (named.now ≡ path) × IsEarlierFault wall book fault
-IsNoLink wall book path ReadFault = IsUnreadable book book_limit
-IsNoLink wall book path NoMemory = NeverFailed book
-IsNoLink wall book path ending = ⊥
+abbrev pub IsNoLink : {D : Type 0} → ChainValue → Used D → (path : List ℕ) → Ending → Type 0
+IsNoLink was book path (BadEarlier named fault) =
+    (named.now ≡ path) × IsEarlierFault was book fault
+IsNoLink was book path ReadFault = IsUnreadable book book_limit
+IsNoLink was book path NoMemory = NeverFailed book
+IsNoLink was book path ending = ⊥
 
 -- One of these books gives no policy for what comes after it, and this is why. All those before it
 -- do, and those behind it are not read.
@@ -105,10 +107,10 @@ pub record IsBroken {D : Type 0} (first : ChineseWall) (earlier : EarlierBooks D
   pub behind : List (Earlier D)
   pub are : before ++ (one ∷ behind) ≡ earlier.books
   pub links : List Link
-  pub wall : ChineseWall
-  pub after : IsAfter first (record earlier { books = before }) links wall
+  pub was : ChainValue
+  pub after : IsAfter first (record earlier { books = before }) links was
   pub left : D
-  pub fault : IsNoLink wall (reader earlier one left) one.path.now ending
+  pub fault : IsNoLink was (reader earlier one left) one.path.now ending
 
 -- there is no policy that all else could go by, and this is why
 abbrev pub IsNoWallAfter : {P D : Type 0} → Used P → EarlierBooks D → Ending → Type 0
@@ -124,7 +126,9 @@ earlier_ending path (BadBookLine n) = BadEarlier path (faults.BadLine n)
 earlier_ending path CutBook = BadEarlier path faults.Cut
 earlier_ending path ending = ending
 
--- the book was read and is sound, and this is the policy after it
-abbrev pub IsLink : {D : Type 0} → ChineseWall → Used D → (after : ChineseWall) → Type 0
-IsLink wall book after = (entries : List BookEntry) × IsBookOf wall book entries
-    × IsSound wall entries × IsPolicyAfter wall (posts_in entries) after
+-- the book was read and is sound, and this is the chain with it
+abbrev pub IsLink : {D : Type 0} → ChainValue → Used D → (now : ChainValue) → Type 0
+IsLink was book now = (entries : List BookEntry) × IsBookOf was.wall book entries
+    × IsAdded was entries now
+    × ((older : List Link) → StandsFor was older → StandsFor now
+    (record { wall = first_processes now.least was.wall; book = entries } ∷ older))

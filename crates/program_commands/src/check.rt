@@ -1,17 +1,17 @@
 //! Tells what a policy means, and what of a script and of a book is at fault, over any devices.
 ghost use Rattle.std.specs.Prelude.{◌≡◌, ◌++◌, [], OnOk, OnErr, Err, codes};
 ghost use Rattle.hall_script.specs.Devices.{used, IsWritten, BrokeOff};
-ghost use Rattle.program_commands.specs.Endings.{EndsSo, numbered_line};
-ghost use Rattle.program_commands.specs.Auditing.{finding_line};
+ghost use Rattle.program_commands.specs.Endings.{EndsSo};
 ghost use Rattle.program_commands.specs.Checking.{first_ending, script_ending, TellsMeaning};
-ghost use Rattle.program_commands.specs.Checking.{TellsLines, TellsScript, TellsFinding};
+ghost use Rattle.program_commands.specs.Checking.{TellsLines, TellsScript, TellsFound, found_ending};
 ghost use Rattle.program_commands.specs.Checking.{TellsBook, TellsScriptIfAny, TellsBookIfAny};
 ghost use Rattle.program_commands.specs.Checking.{if_any, Checks, place_line, TellsLine};
 ghost use Rattle.program_commands.specs.Checking.{TellsRefused, ChecksText, CheckEnds};
 ghost use Rattle.wall_policy.specs.Answer.{answer_to};
 
-use crate::audit::{Finding, finding_ending, judge, read_entries};
+use crate::audit::BOOK_LIMIT;
 use crate::ending::{Ending, end, policy_fault, write_two};
+use book_places::{Found, found_in, put_found};
 use check_text::{LineFault, ScriptFaults, script_lines};
 use coll_text::{put, put_decimal};
 use hall_script::{DeviceFault, SCRIPT_LIMIT, read_device};
@@ -102,54 +102,49 @@ fn tell_script<S: Source>(alloc: Global, wall: &Policy, path: &str, script: &mut
     }
 }
 
-// Appends the words, the number and the end of the line.
-fn put_numbered(text: &mut Vec<u8>, words: &str, number: u64) -> Result<(), AllocError>
-    ensures { OnOk result (text.new.items ≡ text.old.items ++ numbered_line words.now number) }
+fn found_ending(found: &Found) -> Ending<'static>
+    ensures { result ≡ found_ending found.now }
 {
-    put(text, words)?;
-    put_decimal(text, number)?;
-    put(text, "\n")
-}
-
-// Appends the finding's line.
-fn put_finding(text: &mut Vec<u8>, finding: Finding) -> Result<(), AllocError>
-    ensures { OnOk result (text.new.items ≡ text.old.items ++ finding_line finding) }
-{
-    match finding {
-        Finding::Sound(number) => put_numbered(text, "sound ", number),
-        Finding::Unsound(number) => put_numbered(text, "unsound at entry ", number),
+    match found {
+        Found::Sound { .. } => Ending::Done,
+        Found::Line { number, .. } => Ending::BadBookLine(*number),
+        Found::Cut => Ending::CutBook,
+        Found::Entry { number, .. } => Ending::Unsound(*number),
     }
 }
 
-// What was found of a book.
-fn tell_finding(alloc: Global, finding: Finding) -> Told
-    ensures { TellsFinding finding result.text.items result.ending }
+// What is found of the text of a book.
+fn tell_found(alloc: Global, wall: &Policy, path: &str, book: &[u8]) -> Told
+    ensures { TellsFound wall.now path.now book.now result.text.items result.ending }
 {
+    let found = match found_in(alloc, wall, book) {
+        Ok(found) => found,
+        Err(_) => return untold(alloc, Ending::NoMemory),
+    };
+    let ending = found_ending(&found);
     let mut text = Vec::new(alloc);
-    match put_finding(&mut text, finding) {
-        Ok(()) => Told {
-            text,
-            ending: finding_ending(finding),
-        },
+    let put = put_found(wall, path, &found, &mut text);
+    drop(found);
+    match put {
+        Ok(()) => Told { text, ending },
         Err(_) => untold(alloc, Ending::NoMemory),
     }
 }
 
-// What of a book is at fault.
-fn tell_book<B: Source>(alloc: Global, wall: &Policy, book: &mut B) -> Told
-    ensures { TellsBook wall.now
+// The same of a book that is still to be read.
+fn tell_book<B: Source>(alloc: Global, wall: &Policy, path: &str, book: &mut B) -> Told
+    ensures { TellsBook wall.now path.now
         (used B.failures B.remaining book.old book.new)
         result.text.items result.ending }
 {
-    let entries = match read_entries(alloc, wall, book) {
-        Ok(entries) => entries,
-        Err(ending) => return untold(alloc, ending),
-    };
-    let judged = judge(alloc, wall, &entries);
-    drop(entries);
-    match judged {
-        Ok(finding) => tell_finding(alloc, finding),
-        Err(_) => untold(alloc, Ending::NoMemory),
+    match read_device(alloc, book, BOOK_LIMIT) {
+        Ok(bytes) => {
+            let told = tell_found(alloc, wall, path, &bytes);
+            drop(bytes);
+            told
+        }
+        Err(DeviceFault::Read) => untold(alloc, Ending::ReadFault),
+        Err(DeviceFault::NoMemory) => untold(alloc, Ending::NoMemory),
     }
 }
 
@@ -172,15 +167,20 @@ fn tell_script_if_any<S: Source + Drop>(
     }
 }
 
-fn tell_book_if_any<B: Source + Drop>(alloc: Global, wall: &Policy, book: Option<B>) -> Told
-    ensures { TellsBookIfAny wall.now
+fn tell_book_if_any<B: Source + Drop>(
+    alloc: Global,
+    wall: &Policy,
+    path: &str,
+    book: Option<B>,
+) -> Told
+    ensures { TellsBookIfAny wall.now path.now
         (if_any B.failures B.remaining book)
         result.text.items result.ending }
 {
     match book {
         Some(book) => {
             let mut book = book;
-            tell_book(alloc, wall, &mut book)
+            tell_book(alloc, wall, path, &mut book)
         }
         None => untold(alloc, Ending::Done),
     }
@@ -208,10 +208,11 @@ fn check_under<S: Source + Drop, B: Source + Drop, O: Sink>(
     wall: &Policy,
     path: &str,
     script: Option<S>,
+    book_path: &str,
     book: Option<B>,
     out: &mut O,
 ) -> Ending<'static>
-    ensures { Checks wall.now path.now
+    ensures { Checks wall.now path.now book_path.now
         (if_any S.failures S.remaining script)
         (if_any B.failures B.remaining book)
         (used O.failures O.contents out.old out.new)
@@ -219,7 +220,7 @@ fn check_under<S: Source + Drop, B: Source + Drop, O: Sink>(
 {
     let meaning = tell_meaning(alloc, wall);
     let lines = tell_script_if_any(alloc, wall, path, script);
-    let found = tell_book_if_any(alloc, wall, book);
+    let found = tell_book_if_any(alloc, wall, book_path, book);
     let behind = first_ending(lines.ending, found.ending);
     let ending = first_ending(meaning.ending, behind);
     let written = write_three(out, &meaning.text, &lines.text, &found.text);
@@ -302,10 +303,11 @@ fn check_policy<S: Source + Drop, B: Source + Drop, O: Sink>(
     policy_path: &str,
     path: &str,
     script: Option<S>,
+    book_path: &str,
     book: Option<B>,
     out: &mut O,
 ) -> Ending<'static>
-    ensures { ChecksText text.now policy_path.now path.now
+    ensures { ChecksText text.now policy_path.now path.now book_path.now
         (if_any S.failures S.remaining script)
         (if_any B.failures B.remaining book)
         (used O.failures O.contents out.old out.new)
@@ -313,7 +315,7 @@ fn check_policy<S: Source + Drop, B: Source + Drop, O: Sink>(
 {
     match read_policy(alloc, text) {
         Ok(wall) => {
-            let ending = check_under(alloc, &wall, path, script, book, out);
+            let ending = check_under(alloc, &wall, path, script, book_path, book, out);
             drop(wall);
             ending
         }
@@ -329,10 +331,11 @@ fn check_devices<P: Source, S: Source + Drop, B: Source + Drop, O: Sink>(
     policy_path: &str,
     path: &str,
     script: Option<S>,
+    book_path: &str,
     book: Option<B>,
     out: &mut O,
 ) -> Ending<'static>
-    ensures { CheckEnds policy_path.now path.now
+    ensures { CheckEnds policy_path.now path.now book_path.now
         (used P.failures P.remaining policy.old policy.new)
         (if_any S.failures S.remaining script)
         (if_any B.failures B.remaining book)
@@ -341,7 +344,16 @@ fn check_devices<P: Source, S: Source + Drop, B: Source + Drop, O: Sink>(
 {
     match read_device(alloc, policy, SCRIPT_LIMIT) {
         Ok(text) => {
-            let ending = check_policy(alloc, &text, policy_path, path, script, book, out);
+            let ending = check_policy(
+                alloc,
+                &text,
+                policy_path,
+                path,
+                script,
+                book_path,
+                book,
+                out,
+            );
             drop(text);
             ending
         }
@@ -352,9 +364,10 @@ fn check_devices<P: Source, S: Source + Drop, B: Source + Drop, O: Sink>(
 
 /// Reads the policy, and where there are any a script and a book, and writes to `out` what the
 /// policy means and what in it is hardly meant, then a line `PATH:LINE:COLUMN: ..` for each line of
-/// the script that is no call, where `path` is its PATH, and then `sound N` or `unsound at entry N`
-/// for the book. It writes the line of the first fault to `err`, and gives the status: 0 exactly
-/// where all of it reads, the book is sound, and all was written.
+/// the script that is no call, where `path` is its PATH, and then of the book `sound N`, or
+/// `PATH:LINE: ..`, where `book_path` is its PATH, and what is at fault there. It writes the line of
+/// the first fault to `err`, and gives the status: 0 exactly where all of it reads, the book is
+/// sound, and all was written.
 ///
 /// What is told of one file does not hang on the others. Where the policy is refused the others are
 /// not looked at, and `PATH:LINE: NAME` is written to `out`, with `policy_path` as its PATH, the
@@ -366,12 +379,13 @@ pub fn check_on<P: Source, S: Source + Drop, B: Source + Drop, O: Sink, E: Sink>
     policy_path: &str,
     path: &str,
     script: Option<S>,
+    book_path: &str,
     book: Option<B>,
     out: &mut O,
     err: &mut E,
 ) -> u8
     ensures { EndsSo
-        (CheckEnds policy_path.now path.now
+        (CheckEnds policy_path.now path.now book_path.now
         (used P.failures P.remaining policy.old policy.new)
         (if_any S.failures S.remaining script)
         (if_any B.failures B.remaining book)
@@ -379,6 +393,15 @@ pub fn check_on<P: Source, S: Source + Drop, B: Source + Drop, O: Sink, E: Sink>
         (used E.failures E.contents err.old err.new)
         result }
 {
-    let ending = check_devices(alloc, policy, policy_path, path, script, book, out);
+    let ending = check_devices(
+        alloc,
+        policy,
+        policy_path,
+        path,
+        script,
+        book_path,
+        book,
+        out,
+    );
     end(err, ending)
 }

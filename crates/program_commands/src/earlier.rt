@@ -1,5 +1,5 @@
 //! Reads earlier books, and gives the policy for what comes after them.
-ghost use Rattle.std.specs.Prelude.{◌≡◌, IfOk, IfErr, List, []};
+ghost use Rattle.std.specs.Prelude.{◌≡◌, IfOk, IfErr, ℕ, List, []};
 ghost use Rattle.run_model.specs.Chains.{Link};
 ghost use Rattle.hall_script.specs.Devices.{used};
 ghost use Rattle.program_commands.specs.Earlier.{earlier_books, IsAfter, IsBroken, IsWallAfter};
@@ -8,7 +8,8 @@ ghost use Rattle.program_commands.specs.Earlier.{IsNoWallAfter, earlier_ending, 
 use crate::audit::read_entries;
 use crate::ending::{EarlierFault, Ending};
 use crate::wall::read_wall;
-use audit_book::{BookFault, after_book};
+use audit_book::BookFault;
+use book_chain::Chain;
 use std::alloc::Global;
 use wall_labels::Source;
 use wall_labels::memory::MemorySource;
@@ -40,29 +41,29 @@ fn earlier_ending<'a>(path: &'a str, ending: Ending<'a>) -> Ending<'a>
     }
 }
 
-// Reads a book and checks it: the policy for what comes after it.
+// Reads a book and checks it: the chain with it.
 fn read_link<'a, D: Source>(
     alloc: Global,
-    wall: Policy,
+    chain: Chain,
     path: &'a str,
     device: &mut D,
-) -> Result<Policy, Ending<'a>>
+) -> Result<Chain, Ending<'a>>
     ensures link { let book = used D.failures D.remaining device.old device.new in
-        IfOk result (IsLink wall book) }
+        IfOk result (IsLink chain book) }
     ensures ending { let book = used D.failures D.remaining device.old device.new in
-        IfErr result (IsNoLink wall book path.now) }
+        IfErr result (IsNoLink chain book path.now) }
 {
-    let book = match read_entries(alloc, &wall, device) {
+    let book = match read_entries(alloc, chain.wall(), device) {
         Ok(book) => book,
         Err(ending) => {
-            drop(wall);
+            drop(chain);
             return Err(earlier_ending(path, ending));
         }
     };
-    let after = after_book(alloc, wall, &book);
+    let longer = chain.add(alloc, &book);
     drop(book);
-    match after {
-        Ok(after) => Ok(after),
+    match longer {
+        Ok(longer) => Ok(longer),
         Err(BookFault::BadEntry(number)) => {
             Err(Ending::BadEarlier(path, EarlierFault::Unsound(number)))
         }
@@ -77,19 +78,20 @@ fn read_links<'a, D: Source + Drop>(
     earlier: Vec<Earlier<'a, D>>,
 ) -> Result<Policy, Ending<'a>>
     ensures after { let books = earlier_books D.failures D.remaining earlier.entry.items in
-        IfOk result (λ wall. (links : List Link) × IsAfter first books links wall) }
+        IfOk result (λ wall. (links : List Link) × ((least : ℕ)
+        × IsAfter first books links (record { wall = wall; least = least }))) }
     ensures ending { let books = earlier_books D.failures D.remaining earlier.entry.items in
         IfErr result (IsBroken first books) }
 {
-    let mut wall = first;
+    let mut chain = Chain::begin(first);
     for one in earlier {
         let Earlier { path, mut device } = one;
-        match read_link(alloc, wall, path, &mut device) {
-            Ok(after) => wall = after,
+        match read_link(alloc, chain, path, &mut device) {
+            Ok(longer) => chain = longer,
             Err(ending) => return Err(ending),
         }
     }
-    Ok(wall)
+    Ok(chain.policy())
 }
 
 /// Reads a policy file and then the earlier books, the oldest first, and gives the policy for what
@@ -97,7 +99,9 @@ fn read_links<'a, D: Source + Drop>(
 /// begins where they end, and over all of them nobody ever held two rivals.
 ///
 /// Each book is read and checked under the policy after those before it, and its reader is let go
-/// before the next one is looked at. A policy file of more than `SCRIPT_LIMIT` bytes, or a book of
+/// before the next one is looked at. Processes may have been added to the policy since: a book is
+/// checked under the first of them alone, by the least number under which it is sound
+/// (`book_chain`). A policy file of more than `SCRIPT_LIMIT` bytes, or a book of
 /// more than `BOOK_LIMIT`, is a read fault. Where a book is none, or not sound, those behind it are
 /// not looked at.
 pub fn read_wall_after<'a, P: Source, D: Source + Drop>(

@@ -35,6 +35,10 @@ communicator 2, rank 1: m0
 how each instance came out:
 instance 0 0, split by entry 4: made 1 2
 instance 1 0, bcast by entry 7: granted
+
+why posts were barred:
+
+why instances were denied:
 ";
 
 // The same after a book that gave n0 data of alpha.
@@ -56,6 +60,10 @@ communicator 2, rank 1: m0
 how each instance came out:
 instance 0 0, split by entry 4: made 1 2
 instance 1 0, bcast by entry 7: granted
+
+why posts were barred:
+
+why instances were denied:
 ";
 
 fn whole<'a>(text: &'a str) -> MemorySource<'a> {
@@ -90,6 +98,7 @@ fn checks_so(
         "policy.toml",
         "calls.txt",
         script,
+        "calls.book",
         book,
         &mut out,
         &mut err,
@@ -118,10 +127,16 @@ calls.txt:3:7: a field is missing at the end of the line
 #[test]
 fn checks_end_by_the_first_fault(rt: HostRuntime) -> Result<(), Fail> {
     let spoilt = "book 1\npost 0 0 barrier gives 0 as none barred\nend 1\n";
-    let told = format!(in rt.alloc(); "{MEANING}unsound at entry 1\n")?;
+    let post = "calls.book:2: a post stands that does not count: it is refused, or its last word is wrong
+";
+    let told = format!(in rt.alloc(); "{MEANING}{post}")?;
     assert!(&rt; checks_so(&rt, WALL, Some(ALPHA), Some(spoilt), &told, "", 2));
+    let told = format!(in rt.alloc(); "{MEANING}calls.book: the text stops before its end\n")?;
     let cut = "book: cut\n";
-    assert!(&rt; checks_so(&rt, WALL, Some(ALPHA), Some("book 1\n"), MEANING, cut, 2));
+    assert!(&rt; checks_so(&rt, WALL, Some(ALPHA), Some("book 1\n"), &told, cut, 2));
+    let told = format!(in rt.alloc(); "{MEANING}calls.book:2: \"end 4\" where 0 entries stand\n")?;
+    let other = "book 1\nend 4\n";
+    assert!(&rt; checks_so(&rt, WALL, None, Some(other), &told, "book: line 2\n", 2));
     let none = "# a comment\nversion = 3\n";
     let (told, line) = ("policy.toml:2: BadVersion\n", "policy: BadVersion\n");
     assert!(&rt; checks_so(&rt, none, Some(ALPHA), None, told, line, 1));

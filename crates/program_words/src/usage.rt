@@ -139,7 +139,7 @@ no call, and of BOOK, which is checked as by an audit, where it is at fault.
 status  0  all of it reads, and the book is sound
         1  the policy is refused                             policy: NAME
         2  a line of the script is no call                   script: line N: NAME
-        2  the book is unsound                               unsound at entry N, on standard output
+        2  the book is unsound                               PATH:LINE: .., on standard output
         2  the file is no book                               book: line N, book: cut
         3  a file could not be read, or is too long          read fault
         3  a line could not be written                       write fault

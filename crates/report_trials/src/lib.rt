@@ -1,10 +1,12 @@
-//! The tests of what policies mean, where policies and scripts are at fault and what books tell,
-//! through the public calls of `policy_meaning`, `meaning_text`, `policy_places`, `script_places`,
-//! `check_text`, `book_report` and `report_text`.
+//! The tests of what policies mean, where policies, scripts and books are at fault and what books
+//! tell, through the public calls of `policy_meaning`, `meaning_text`, `policy_places`,
+//! `script_places`, `check_text`, `book_places`, `book_report` and `report_text`.
 //!
 //! They stand in a crate of their own, since a check of a crate's tests proves the crate once more.
 #![tactic(auto)]
 
+#[cfg(test)]
+mod book_lines;
 #[cfg(test)]
 mod fault_lines;
 #[cfg(test)]

@@ -63,6 +63,15 @@ verdict 0 2 denied star third-third-third-third-third-32 beta-beta-beta-beta-bet
 end 15
 ";
 
+// The same names: the gather would bring the data of two rivals to the third process.
+const OF_LONG_RIVALS: &str = "book 2
+post 0 0 gather 2 int32 1 gives 1 as alpha-alpha-alpha-alpha-alpha-32 passed
+post 1 0 gather 2 int32 1 gives 1 as beta-beta-beta-beta-beta-beta-32 passed
+post 2 0 gather 2 int32 1 gives 1 as public passed
+verdict 0 0 denied simple third-third-third-third-third-32 beta-beta-beta-beta-beta-beta-32
+end 4
+";
+
 // Without a home, n0 writes under a label that it chooses, and d0 may not do so. The gather would
 // bring the data of two rivals to n0.
 const OF_FOUR_BANKS: &str = "book 2
@@ -165,6 +174,14 @@ instance 2 0, bcast by entry 20: denied simple consultant beta
 instance 3 0, bcast by entry 23: granted
 instance 1 1, bcast by entry 26: denied star consultant alpha
 instance 1 2, bcast by entry 30: granted
+
+why posts were barred:
+entry 25: consultant may not post under alpha: it holds crude
+entry 28: consultant may not post under crude: it holds alpha
+
+why instances were denied:
+instance 2 0 was denied: consultant holds alpha; beta would come from b0 by entry 19
+instance 1 1 was denied: entry 25 was barred; consultant may not post under alpha
 ",
     )
 }
@@ -196,6 +213,49 @@ instance 0 1, bcast by entry 10:
   denied simple right-right-right-right-right-32 alpha-alpha-alpha-alpha-alpha-32
 instance 0 2, bcast by entry 14:
   denied star third-third-third-third-third-32 beta-beta-beta-beta-beta-beta-32
+
+why posts were barred:
+entry 12: third-third-third-third-third-32 may not post under beta-beta-beta-beta-beta-beta-32:
+  it holds alpha-alpha-alpha-alpha-alpha-32
+
+why instances were denied:
+instance 0 1 was denied:
+  right-right-right-right-right-32 holds beta-beta-beta-beta-beta-beta-32;
+  alpha-alpha-alpha-alpha-alpha-32 would come from left-left-left-left-left-left-32 by entry 8
+instance 0 2 was denied:
+  entry 12 was barred;
+  third-third-third-third-third-32 may not post under beta-beta-beta-beta-beta-beta-32
+",
+    )
+}
+
+#[test]
+fn two_rivals_with_long_names(rt: HostRuntime) -> Result<(), Fail> {
+    let policy = policy(&rt, LONG);
+    is_told(
+        &rt,
+        &policy,
+        OF_LONG_RIVALS,
+        "who holds what, and by which entry:
+0: left-left-left-left-left-left-32 holds alpha-alpha-alpha-alpha-alpha-32: its home
+0: right-right-right-right-right-32 holds beta-beta-beta-beta-beta-beta-32: its home
+
+who is in which communicator:
+communicator 0, rank 0: left-left-left-left-left-left-32
+communicator 0, rank 1: right-right-right-right-right-32
+communicator 0, rank 2: third-third-third-third-third-32
+
+how each instance came out:
+instance 0 0, gather by entry 3:
+  denied simple third-third-third-third-third-32 beta-beta-beta-beta-beta-beta-32
+
+why posts were barred:
+
+why instances were denied:
+instance 0 0 was denied:
+  third-third-third-third-third-32 would get two rivals:
+  alpha-alpha-alpha-alpha-alpha-32 from left-left-left-left-left-left-32 by entry 1,
+  beta-beta-beta-beta-beta-beta-32 from right-right-right-right-right-32 by entry 2
 ",
     )
 }
@@ -223,6 +283,12 @@ communicator 0, rank 4: n0
 
 how each instance came out:
 instance 0 0, gather by entry 5: denied simple n0 beta
+
+why posts were barred:
+entry 8: d0 may not post under public: it holds delta
+
+why instances were denied:
+instance 0 0 was denied: n0 would get two rivals: alpha from a0 by entry 2, beta from b0 by entry 3
 ",
     )
 }
@@ -262,6 +328,10 @@ communicator 0, rank 3: d0
 communicator 0, rank 4: n0
 
 how each instance came out:
+
+why posts were barred:
+
+why instances were denied:
 ",
     )
 }

@@ -12,7 +12,9 @@ path_of None d none = none
 pub returns : goal.returns
 returns g c =
     let path = ap (λ (b : Bor (List ℕ)). b.now) c.unwrap_or-path.ensures
-    ∙ path_of c.args.paths.script _ refl in (
+    ∙ path_of c.args.paths.script _ refl in
+    let book_path = ap (λ (b : Bor (List ℕ)). b.now) c.unwrap_or-book_path.ensures
+    ∙ path_of c.args.paths.book _ refl in (
       record {
         old = c.unopened-policy.result;
         new = c.check_on.new.policy;
@@ -27,5 +29,5 @@ returns g c =
         device = c.listed_if_any-book.result;
         listed = c.listed_if_any-book.ensures;
       },
-      rw path at c.check_on.ensures,
+      rw (path, book_path) at c.check_on.ensures,
     )

@@ -8,5 +8,5 @@ abbrev pub invariant-loop-one : goal.invariant-loop-one
 invariant-loop-one g l = record {
   whole : l.yielded ++ into_iter_items l.one-iterator ≡ l.fn.earlier.items;
   after : (links : List Link) × IsAfter l.fn.first
-      (earlier_books g.D.Source.failures g.D.Source.remaining l.yielded) links l.wall;
+      (earlier_books g.D.Source.failures g.D.Source.remaining l.yielded) links l.chain;
 }
