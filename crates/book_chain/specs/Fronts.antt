@@ -19,6 +19,6 @@ IsBelow n (Settled comm k outcome) = IsOutcomeBelow n outcome
 
 -- these pairs are what each process held at the book's end
 pub record HoldsAfter (wall : ChineseWall) (entries : List Entry) (pairs : List (ℕ × ℕ)) : Type 0
-    where
-  pub policy : IsPolicy (with_held wall pairs)
-  pub after : IsPolicyAfter wall (posts_in entries) (with_held wall pairs)
+  where
+    pub policy : IsPolicy (with_held wall pairs)
+    pub after : IsPolicyAfter wall (posts_in entries) (with_held wall pairs)

@@ -76,8 +76,10 @@ impl Chain {
         requires { All (IsKnownEntry self.wall) book.now.list }
         ensures added { IfOk result (IsAdded self book.now.list) }
         ensures stands { IfOk result (λ now. (older : List Link) → StandsFor self older →
-            StandsFor now (record { wall = first_processes now.least self.wall;
-            book = book.now.list } ∷ older)) }
+            StandsFor now (record {
+              wall = first_processes now.least self.wall;
+              book = book.now.list;
+            } ∷ older)) }
         ensures keeps { IfOk result (λ now. (older : List Link) → StandsFor self older →
             NobodyEverHeldBoth self.wall.classes (record
             { wall = first_processes now.least self.wall; book = book.now.list } ∷ older)) }

@@ -68,9 +68,15 @@ module _ {D : Type 0} (failures : D → ℕ) (bytes : D → Option (List ℕ)) w
         longer,
         record {
           read = subst (λ readers. AreRead (earlier_books failures bytes all) first readers longer
-              now) (sym turned)
-              (was, (same_readers before all first (reverse before) links was so.read,
-              (left, link.1), refl, link.2));
+              now) (sym turned) (
+                was,
+                (
+                  same_readers before all first (reverse before) links was so.read,
+                  (left, link.1),
+                  refl,
+                  link.2,
+                ),
+              );
           stands = link.3 links so.stands;
         },
       )

@@ -127,7 +127,8 @@ calls.txt:3:7: a field is missing at the end of the line
 #[test]
 fn checks_end_by_the_first_fault(rt: HostRuntime) -> Result<(), Fail> {
     let spoilt = "book 1\npost 0 0 barrier gives 0 as none barred\nend 1\n";
-    let post = "calls.book:2: a post stands that does not count: it is refused, or its last word is wrong
+    let post =
+        "calls.book:2: a post stands that does not count: it is refused, or its last word is wrong
 ";
     let told = format!(in rt.alloc(); "{MEANING}{post}")?;
     assert!(&rt; checks_so(&rt, WALL, Some(ALPHA), Some(spoilt), &told, "", 2));

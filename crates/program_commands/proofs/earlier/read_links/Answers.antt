@@ -8,10 +8,13 @@ use Rattle.program_commands.proofs.earlier.read_links.Goals as goal
 pub loop-one-init : goal.loop-one-init
 loop-one-init g c = record {
   whole = c.into_iter-one-iterator.ensures.into_iter_gives.0;
-  after = ([], subst (λ (v : ChainValue). IsAfter c.args.first
-      (earlier_books g.D.Source.failures g.D.Source.remaining []) [] v)
-      (sym c.begin-chain.ensures.begun)
-      (none_read g.D.Source.failures g.D.Source.remaining c.args.first));
+  after = (
+    [],
+    subst (λ (v : ChainValue). IsAfter c.args.first
+        (earlier_books g.D.Source.failures g.D.Source.remaining []) [] v)
+        (sym c.begin-chain.ensures.begun)
+        (none_read g.D.Source.failures g.D.Source.remaining c.args.first),
+  );
 }
 
 pub loop-one-preserved : goal.loop-one-preserved

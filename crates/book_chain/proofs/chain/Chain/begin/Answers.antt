@@ -13,8 +13,12 @@ invariant_of-result c = elim c.if-is_empty.branch [
       ∙ eqb-true _ 0 (sym c.is_empty.ensures ∙ w.if-is_empty.true) in
       record {
         some = omega (arith, w.least-is);
-        few = omega (arith, w.least-is, c.processes-processes.ensures.some,
-            c.processes-processes.ensures.number);
+        few = omega (
+          arith,
+          w.least-is,
+          c.processes-processes.ensures.some,
+          c.processes-processes.ensures.number,
+        );
         below = λ p d has. absurd (nothing_held c.args.policy.held none p d has);
       }
   | else-is_empty w
