@@ -21,7 +21,7 @@ module _ {S O : Type 0} (A B : Type 0) (wall : ChineseWall) (script : Used S) (o
       ⊎ Tells wall scripts out (no_writer B) ending
   told_bookless scripts (inl a) = inl a
   told_bookless scripts (inr t) =
-      inr (record { replies = t.replies; hall = t.hall; ran = t.ran; told = t.told })
+      inr (record { replies = t.replies; run = t.run; ran = t.ran; told = t.told })
 
   run_bookless : Runs wall script out (no_writer A) ending →
       Runs wall script out (no_writer B) ending

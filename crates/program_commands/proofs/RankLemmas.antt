@@ -13,7 +13,7 @@ use Rattle.audit_book.specs.declared.fault.WriteFault.TheVariants as writes
 use Rattle.hall_core.specs.Halls.{HallValue, StandsFor}
 use Rattle.hall_script.specs.Devices.{Used, used, IsUntouched}
 use Rattle.rank_run.specs.Waits.{script_patience}
-use Rattle.rank_run.specs.Ran.{Ran}
+use Rattle.rank_run.specs.Ran.{IsRun, Ran}
 use Rattle.program_commands.specs.declared.ending.Ending.{Ending}
 use Rattle.program_commands.specs.Replaying.{IsKept, IsUnkept}
 use Rattle.program_commands.specs.Running.{rank_line, reply_lines, ranks_text, rank_text}
@@ -123,8 +123,8 @@ module _ {S O : Type 0} (wall : ChineseWall) (script : Used S) (out : Used O) wh
     read,
     inr (
       replies,
-      hall,
-      ran,
+      ran.run,
+      ran.is,
       subst₂ (λ w e. Breaks out (rank_text w replies) e) (is ∙ ran.policy) (sym so) breaks,
     ),
   )
@@ -132,14 +132,14 @@ module _ {S O : Type 0} (wall : ChineseWall) (script : Used S) (out : Used O) wh
   short : {B : Type 0} (book : Option (Used B)) (scripts : List (List Act)) (ending : Ending) →
       IsUnkept book
       → (IsNoRun scripts ending × IsUntouched out)
-      ⊎ ((replies : List (List Reply)) × (hall : HallValue)
-      × Ran script_patience wall scripts replies hall
+      ⊎ ((replies : List (List Reply)) × (run : List Entry)
+      × IsRun script_patience wall scripts replies run
       × Breaks out (rank_text wall replies) ending)
       → (IsNoRun scripts ending × IsUntouched out × IsUnkept book)
       ⊎ Tells wall scripts out book ending
   short book scripts ending none (inl a) = inl (a.0, a.1, none)
   short book scripts ending none (inr a) =
-      inr (record { replies = a.0; hall = a.1; ran = a.2; told = inr (a.3, none) })
+      inr (record { replies = a.0; run = a.1; ran = a.2; told = inr (a.3, none) })
 
   -- the run ended before the book was looked at
   pub ended : {B : Type 0} (book : Option (Used B)) (ending : Ending) →
@@ -157,8 +157,8 @@ module _ {S O : Type 0} (wall : ChineseWall) (script : Used S) (out : Used O) wh
     r.read,
     inr (record {
       replies = r.replies;
-      hall = hall;
-      ran = r.ran;
+      run = r.ran.run;
+      ran = r.ran.is;
       told = inl (r.written, kept r.ran.run r.ran.stands);
     }),
   )

@@ -6,6 +6,7 @@ use Rattle.std.specs.Fmt.{decimal}
 use Rattle.wall_policy.specs.Policy.{ChineseWall}
 use Rattle.run_model.specs.declared.call.Act.{Act}
 use Rattle.run_model.specs.declared.reply.Reply.{Reply}
+use Rattle.run_model.specs.Runs.{Entry}
 use Rattle.hall_core.specs.Halls.{HallValue}
 use Rattle.coll_text.specs.Words.{name_at}
 use Rattle.audit_book.specs.declared.fault.WriteFault.{WriteFault as BookWriteFault}
@@ -17,7 +18,7 @@ use Rattle.hall_script.specs.Scripts.{script_limit, members_script, AreActs}
 use Rattle.rank_run.specs.Waits.{script_patience}
 use Rattle.rank_run.specs.declared.fault.RunFault.{RunFault}
 use Rattle.rank_run.specs.declared.fault.RunFault.TheVariants as runs
-use Rattle.rank_run.specs.Ran.{Ran, MayRunOut}
+use Rattle.rank_run.specs.Ran.{IsRun, Ran, MayRunOut}
 use Rattle.program_commands.specs.declared.ending.Ending.{Ending}
 use Rattle.program_commands.specs.declared.ending.Ending.TheVariants.{BadLine, ReadFault}
 use Rattle.program_commands.specs.declared.ending.Ending.TheVariants.{WriteFault}
@@ -101,9 +102,9 @@ Breaks out text ending = ⊥
 pub record Tells {O B : Type 0} (wall : ChineseWall) (scripts : List (List Act))
     (out : Used O) (book : Option (Used B)) (ending : Ending) : Type 0 where
   pub replies : List (List Reply)
-  pub hall : HallValue
-  pub ran : Ran script_patience wall scripts replies hall
-  pub told : (IsWritten out (rank_text wall replies) × IsKept wall ran.run book ending)
+  pub run : List Entry
+  pub ran : IsRun script_patience wall scripts replies run
+  pub told : (IsWritten out (rank_text wall replies) × IsKept wall run book ending)
       ⊎ (Breaks out (rank_text wall replies) ending × IsUnkept book)
 
 -- How the run of a script ends: there is none; or its calls were not run to their ends, and nothing
@@ -141,5 +142,6 @@ FellShort wall script out ending =
     (IsNoScript wall script ending × IsUntouched out)
     ⊎ ((scripts : List (List Act)) × IsScriptOf wall script scripts
     × ((IsNoRun scripts ending × IsUntouched out)
-    ⊎ ((replies : List (List Reply)) × (hall : HallValue)
-    × Ran script_patience wall scripts replies hall × Breaks out (rank_text wall replies) ending)))
+    ⊎ ((replies : List (List Reply)) × (run : List Entry)
+    × IsRun script_patience wall scripts replies run
+    × Breaks out (rank_text wall replies) ending)))

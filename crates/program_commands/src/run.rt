@@ -296,11 +296,11 @@ where
     ending
 }
 
-/// Reads the policy and the script, runs the calls of each process in a thread of its own, all at
-/// the same time, and writes to `out` for each process in order the line `rank P NAME` and the
-/// lines of its replies. A take is tried again while its outcome is pending. It writes the line of
-/// a fault to `err`, and gives the status. Where there is a `book`, and the replies were written,
-/// it then writes the audit book of the run to it.
+/// Reads the policy and the script, runs the calls of each process in a thread of its own, and
+/// writes to `out` for each process in order the line `rank P NAME` and the lines of its replies. A
+/// take is tried again while its outcome is pending. It writes the line of a fault to `err`, and
+/// gives the status. Where there is a `book`, and the replies were written, it then writes the audit
+/// book of the run to it.
 ///
 /// The policy is read and judged before the script is looked at, and the whole script before a call
 /// is made: after a fault of policy or script, and where a thread or memory was refused before the

@@ -14,13 +14,15 @@ use Rattle.hall_turn.specs.Known.{Doorway}
 use Rattle.hall_turn.specs.Ending.{Closed}
 use Rattle.rank_run.specs.declared.fault.RunFault.{RunFault}
 use Rattle.rank_run.specs.declared.fault.RunFault.TheVariants.{Exhausted}
+use Rattle.rank_stage.specs.declared.stage.Begun.{Begun}
+use Rattle.rank_stage.specs.declared.stage.GivenUp.{GivenUp}
 use Rattle.rank_run.specs.declared.rank.Job.{Job}
 use Rattle.rank_run.specs.declared.rank.Ending.{Ending}
 use Rattle.rank_run.specs.declared.rank.Ending.TheVariants.{Whole, Cut, NotBegun}
 use Rattle.rank_run.specs.declared.rank.Played.{Played}
 use Rattle.rank_run.specs.declared.run.Ended.{Ended}
 use Rattle.rank_run.specs.declared.run.Run.{Run}
-use Rattle.rank_run.specs.Jobs.{IsFresh, HaveEnded, ArePrepared, fault_of}
+use Rattle.rank_run.specs.Jobs.{IsFresh, HaveEnded, ArePrepared, fault_of, fault_in}
 use Rattle.rank_run.specs.Ran.{Ran, MayRunOut}
 use Rattle.rank_run.proofs.RunLemmas.{all_fresh, all_back, jobs_long, played_long, Story, ran}
 use Rattle.rank_run.proofs.RunLemmas.{cut_short, ends_whole, ends_cut}
@@ -33,11 +35,16 @@ prepared_fresh wall scripts door jobs p labels =
     (subst (λ (w : ChineseWall). ScriptsHaveKnownLabels w scripts) (sym p.policy) labels)
 
 -- the fault of a run that was cut short is that the door is exhausted
-cut_from : (ending : Ending) (fault : RunFault) → fault_of ending ≡ Some fault → fault ≡ Exhausted
+cut_of : (ending : Ending) (fault : RunFault) → fault_of ending ≡ Some fault → fault ≡ Exhausted
     → ending ≡ Cut
-cut_from Whole fault e is = absurd (cc)
-cut_from Cut fault e is = refl
-cut_from (NotBegun home) fault e is = absurd (cc)
+cut_of Whole fault e is = absurd (cc)
+cut_of Cut fault e is = refl
+cut_of (NotBegun home) fault e is = absurd (cc)
+
+cut_from : (told : Result Begun GivenUp) (ending : Ending) (fault : RunFault)
+    → fault_in told ending ≡ Some fault → fault ≡ Exhausted → ending ≡ Cut
+cut_from (Ok begun) ending fault e is = cut_of ending fault e is
+cut_from (Err given_up) ending fault e is = absurd (cc)
 
 module _ (patience : ℕ) (wall : ChineseWall) (scripts : List (List Act)) (door : Doorway)
     (jobs : List Job) (ended : Ended) (p : ArePrepared wall scripts door jobs) where
@@ -81,11 +88,11 @@ module _ (patience : ℕ) (wall : ChineseWall) (scripts : List (List Act)) (door
   whole_ran h (Err fault) whole replies closed = tt
 
   pub may_run_out : HaveEnded patience jobs ended → (result : Result Run RunFault)
-      → IfErr result (λ fault. fault_of ended.ending ≡ Some fault)
+      → IfErr result (λ fault. fault_in ended.told ended.ending ≡ Some fault)
       → IfErr result (λ _. (hall : HallValue) × Closed door.policy hall ended.passes.items)
       → IfErr result (λ fault. fault ≡ Exhausted → MayRunOut patience scripts)
   may_run_out h (Ok run) is closed = tt
   may_run_out h (Err fault) is closed = λ exhausted.
       cut_short patience wall scripts door jobs h.all ended.passes.items closed.0
       (story h closed.0 closed.1)
-      (ends_cut h.all (sym h.ending ∙ cut_from ended.ending fault is exhausted))
+      (ends_cut h.all (sym h.ending ∙ cut_from ended.told ended.ending fault is exhausted))

@@ -1,16 +1,16 @@
 -- Jobs that are handed out and played.
 use Rattle.std.proofs.Common.{◌≡◌, ℕ, zero, suc, ◌+◌, ◌*◌, ◌^◌, ◌<◌, ◌≤◌}
 use Rattle.std.proofs.Common.{Bool, ◌||◌, ◌&&◌, true, false, true≢false}
-use Rattle.std.proofs.Common.{List, [], ◌∷◌, ◌++◌, length, map, take, get_or, reverse, append_assoc}
+use Rattle.std.proofs.Common.{List, [], ◌∷◌, ◌++◌, length, map, take, get_or, reverse}
+use Rattle.std.proofs.Common.{append_assoc, append-nil}
 use Rattle.std.proofs.Common.{vec_items, vec_capacity, Global, refl, sym, ap, subst, subst₂}
 use Rattle.std.proofs.Common.{◌∙◌, arith}
-use Rattle.std.specs.List.{All, sum_by, fold, list_all, list_any}
+use Rattle.std.specs.List.{All, AllZip, sum_by, fold, list_all, list_any}
 use Rattle.std.proofs.Math.Nat.{mul-le-mul_left, mul-add}
 use Rattle.std.proofs.lemmas.List.{get_or-map, length-map, length-reverse, map-append}
 use Rattle.std.proofs.lemmas.List.Elements.{All-push}
 use Rattle.std.proofs.lemmas.List.FromFn.{get_or-map-range_with_len}
 use Rattle.std.proofs.lemmas.List.Sums.{sum_by_more, sum_by-take-le}
-use Rattle.std.specs.declared.thread.PromisedHandle.{PromisedHandle}
 use Rattle.std.proofs.lemmas.Bool.{and_parts}
 use Rattle.wall_policy.specs.Policy.{ChineseWall}
 use Rattle.run_model.specs.Comms.{processes}
@@ -28,40 +28,74 @@ use Rattle.rank_run.specs.declared.rank.Job.{Job}
 use Rattle.rank_run.specs.declared.rank.Ending.{Ending}
 use Rattle.rank_run.specs.declared.rank.Ending.TheVariants.{Whole, Cut, NotBegun}
 use Rattle.rank_run.specs.declared.rank.Played.{Played}
-use Rattle.rank_run.specs.declared.rank.Playing.{Playing}
+use Rattle.rank_run.specs.declared.rank.Sent.{Sent}
+use Rattle.rank_run.specs.declared.rank.Sent.TheVariants.{Away, Home}
 use Rattle.rank_run.specs.Waits.{tries}
 use Rattle.rank_run.specs.Plays.{Plays}
 use Rattle.rank_run.specs.Jobs.{made, IsFresh, HasPlayed, HaveRoom, AllPlayed}
 use Rattle.rank_run.specs.Jobs.{joined, ending_of}
-use Rattle.rank_run.specs.Jobs.{handed, passes_of, scripts_of, passes_in, replies_in}
+use Rattle.rank_run.specs.Jobs.{IsSent, AllSent, HasComeBack, AllCameBack}
+use Rattle.rank_run.specs.Jobs.{passes_of, scripts_of, passes_in, replies_in}
 use Rattle.rank_run.specs.Jobs.{scripts_shared, AreRoomy}
 use Rattle.rank_run.specs.declared.ready.Share.{Share}
-use Rattle.rank_run.specs.Ran.{Ran, most_turns}
+use Rattle.rank_run.specs.Ran.{IsRun, Ran, most_turns}
 use Rattle.rank_run.proofs.CountLemmas.{calls_below, calls_whole, sum_le, both_le}
 
-pub none_played : (patience : ℕ) (all : List Played) → all ≡ [] → AllPlayed patience [] all
-none_played patience [] e = tt
-none_played patience (x ∷ all) e = absurd (cc)
+-- ---- pairs of lists, element by element
 
-push_played : (patience : ℕ) (jobs : List Job) (all : List Played) (job : Job) (played : Played)
-    → AllPlayed patience jobs all → HasPlayed patience job played
-    → AllPlayed patience (jobs ++ job ∷ []) (all ++ played ∷ [])
-push_played patience [] [] job played h new = (new, tt)
-push_played patience (j ∷ jobs) (x ∷ all) job played h new =
-    (h.0, push_played patience jobs all job played h.1 new)
-push_played patience [] (x ∷ all) job played h new = absurd h
-push_played patience (j ∷ jobs) [] job played h new = absurd h
+push_each : {A B : Type 0} (R : A → B → Type 0) (xs : List A) (ys : List B) (x : A) (y : B)
+    → AllZip R xs ys → R x y → AllZip R (xs ++ x ∷ []) (ys ++ y ∷ [])
+push_each R [] [] x y h new = (new, tt)
+push_each R (a ∷ xs) (b ∷ ys) x y h new = (h.0, push_each R xs ys x y h.1 new)
+push_each R [] (b ∷ ys) x y h new = absurd h
+push_each R (a ∷ xs) [] x y h new = absurd h
 
-pub more_played : (patience : ℕ) (handles : List (PromisedHandle Played Playing))
-    (handle : PromisedHandle Played Playing) (before after : List Played) (played : Played)
-    → AllPlayed patience (handed handles) before → HasPlayed patience handle.promise.0.value played
-    → after ≡ before ++ played ∷ [] → AllPlayed patience (handed (handles ++ handle ∷ [])) after
-more_played patience handles handle before after played h new pushed =
-    subst₂ (λ (l : List Job) (m : List Played). AllPlayed patience l m)
-    (sym (map-append (λ (x : PromisedHandle Played Playing). x.promise.0.value) handles
-    (handle ∷ [])))
-    (sym pushed)
-    (push_played patience (handed handles) before handle.promise.0.value played h new)
+-- one more job was sent
+pub one_sent : (patience : ℕ) (jobs : List Job) (before after : List Sent) (job : Job) (sent : Sent)
+    → AllSent patience jobs before → IsSent patience job sent → after ≡ before ++ sent ∷ []
+    → AllSent patience (jobs ++ job ∷ []) after
+one_sent patience jobs before after job sent h new pushed =
+    subst (AllSent patience (jobs ++ job ∷ [])) (sym pushed)
+    (push_each (IsSent patience) jobs before job sent h new)
+
+pub none_back : (patience : ℕ) (all : List Played) → all ≡ [] → AllCameBack patience [] all
+none_back patience [] e = tt
+none_back patience (x ∷ all) e = absurd (cc)
+
+-- one more came back
+pub one_back : (patience : ℕ) (all : List Sent) (before after : List Played) (sent : Sent)
+    (played : Played)
+    → AllCameBack patience all before → HasComeBack patience sent played
+    → after ≡ before ++ played ∷ [] → AllCameBack patience (all ++ sent ∷ []) after
+one_back patience all before after sent played h new pushed =
+    subst (AllCameBack patience (all ++ sent ∷ [])) (sym pushed)
+    (push_each (HasComeBack patience) all before sent played h new)
+
+-- a job that was sent and has come back was played
+comes_back : (patience : ℕ) (job : Job) (sent : Sent) (played : Played) → IsSent patience job sent
+    → HasComeBack patience sent played → HasPlayed patience job played
+comes_back patience job (Away handle) played is back =
+    subst (λ j. HasPlayed patience j played) is back
+comes_back patience job (Home home) played is back = subst (HasPlayed patience job) (sym back) is
+
+pub all_played : (patience : ℕ) (jobs : List Job) (sent : List Sent) (all : List Played)
+    → AllSent patience jobs sent → AllCameBack patience sent all → AllPlayed patience jobs all
+all_played patience [] [] [] h back = tt
+all_played patience (j ∷ jobs) (s ∷ sent) (x ∷ all) h back =
+    (comes_back patience j s x h.0 back.0, all_played patience jobs sent all h.1 back.1)
+all_played patience [] (s ∷ sent) all h back = absurd h
+all_played patience (j ∷ jobs) [] all h back = absurd h
+all_played patience [] [] (x ∷ all) h back = absurd back
+all_played patience (j ∷ jobs) (s ∷ sent) [] h back = absurd back
+
+-- all jobs were sent, and have come back
+pub all_done : (patience : ℕ) (jobs yielded rest : List Job) (sent : List Sent) (all : List Played)
+    → yielded ++ rest ≡ jobs → length rest ≡ 0 → AllSent patience yielded sent
+    → AllCameBack patience sent all → AllPlayed patience jobs all
+all_done patience jobs yielded [] sent all is none h back =
+    subst (λ js. AllPlayed patience js all) (sym (append-nil yielded) ∙ is)
+    (all_played patience yielded sent all h back)
+all_done patience jobs yielded (j ∷ rest) sent all is none h back = absurd (omega (arith, none))
 
 -- the job at a place, with what became of it
 pub record PlayedAt (patience : ℕ) (jobs : List Job) (all : List Played) (i : ℕ) : Type 0 where
@@ -337,12 +371,10 @@ module _ (patience : ℕ) (wall : ChineseWall) (scripts : List (List Act)) (door
       ∙ ap (λ (y : Played). y.replies) (at.played_is x))
 
   -- where all were played to their ends, the calls of each process are those of its script
-  pub ran : are_whole all ≡ true → Ran patience wall scripts (map vec_items (replies_in all)) hall
-  ran whole = record {
-    run = story.closed.run;
-    policy = story.closed.stood.0 ∙ story.same;
+  came : are_whole all ≡ true
+      → IsRun patience wall scripts (map vec_items (replies_in all)) story.closed.run
+  came whole = record {
     legal = subst (λ w. Legal w story.closed.run) story.same story.closed.legal;
-    stands = story.closed.stood.1;
     scripts_are = many_scripts;
     replies_are = length-map (replies_in all) vec_items
         ∙ length-map all (λ (y : Played). y.replies) ∙ many_played;
@@ -367,6 +399,15 @@ module _ (patience : ℕ) (wall : ChineseWall) (scripts : List (List Act)) (door
         subst (All (IsKnownReply wall)) (sym (replies_at p at d))
         (subst (λ w. All (IsKnownReply w) at.played.replies.items)
         (ap (λ (x : Doorway). x.policy) at.door_is ∙ story.same) at.has.named);
+  }
+
+  -- and the hall stands for that run
+  pub ran : are_whole all ≡ true → Ran patience wall scripts (map vec_items (replies_in all)) hall
+  ran whole = record {
+    run = story.closed.run;
+    is = came whole;
+    policy = story.closed.stood.0 ∙ story.same;
+    stands = story.closed.stood.1;
   }
 
   -- the calls of the first processes are no more than their scripts take at most

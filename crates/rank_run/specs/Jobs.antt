@@ -1,10 +1,9 @@
 -- What the thread of a process is given, and what it comes to. (Own rules.)
 use Rattle.std.specs.Prelude.{◌≡◌, ℕ, ◌*◌, ◌^◌, ◌<◌, ◌≤◌}
-use Rattle.std.specs.Prelude.{Option, Some, None, List, [], ◌++◌, length, map, reverse}
+use Rattle.std.specs.Prelude.{Result, Ok, Err, Option, Some, None, List, [], ◌++◌, length, map, reverse}
 use Rattle.std.specs.Prelude.{vec_capacity}
 use Rattle.std.specs.List.{All, AllZip, fold}
 use Rattle.std.specs.Global.{Vec}
-use Rattle.std.specs.declared.thread.PromisedHandle.{PromisedHandle}
 use Rattle.run_model.specs.declared.call.Act.{Act}
 use Rattle.run_model.specs.declared.reply.Reply.{Reply}
 use Rattle.run_model.specs.Runs.{Entry}
@@ -18,15 +17,15 @@ use Rattle.run_model.specs.Comms.{processes}
 use Rattle.hall_turn.specs.Answers.{IsSamePass, new_passes}
 use Rattle.rank_run.specs.declared.fault.RunFault.{RunFault}
 use Rattle.rank_run.specs.declared.fault.RunFault.TheVariants.{Exhausted as OutOfTurns, NoThread}
-use Rattle.rank_run.specs.declared.fault.RunFault.TheVariants.{NoMemory}
-use Rattle.rank_run.specs.declared.fault.NotPlayed.{NotPlayed}
-use Rattle.rank_run.specs.declared.fault.NotPlayed.TheVariants.{Memory, Thread}
 use Rattle.rank_stage.specs.declared.board.SentHome.{SentHome}
+use Rattle.rank_stage.specs.declared.stage.Begun.{Begun}
+use Rattle.rank_stage.specs.declared.stage.GivenUp.{GivenUp}
 use Rattle.rank_run.specs.declared.rank.Job.{Job}
 use Rattle.rank_run.specs.declared.rank.Ending.{Ending}
 use Rattle.rank_run.specs.declared.rank.Ending.TheVariants.{Whole, Cut, NotBegun}
 use Rattle.rank_run.specs.declared.rank.Played.{Played}
-use Rattle.rank_run.specs.declared.rank.Playing.{Playing}
+use Rattle.rank_run.specs.declared.rank.Sent.{Sent}
+use Rattle.rank_run.specs.declared.rank.Sent.TheVariants.{Away, Home}
 use Rattle.rank_run.specs.declared.ready.Room.{Room}
 use Rattle.rank_run.specs.declared.ready.Share.{Share}
 use Rattle.rank_run.specs.declared.run.Ended.{Ended}
@@ -104,7 +103,7 @@ pub record HasRoomFor (jobs : ℕ) (room : Room) : Type 0 where
   pub passes : (room.passes.items ≡ []) × (jobs ≤ vec_capacity room.passes)
   pub replies : (room.replies.items ≡ []) × (jobs ≤ vec_capacity room.replies)
   pub ended : (room.ended.items ≡ []) × (jobs ≤ vec_capacity room.ended)
-  pub handles : (room.handles.items ≡ []) × (jobs ≤ vec_capacity room.handles)
+  pub sent : (room.sent.items ≡ []) × (jobs ≤ vec_capacity room.sent)
 
 -- A door with the policy, and a job for each of its passes, with the scripts, in order.
 pub record ArePrepared (wall : ChineseWall) (scripts : List (List Act)) (door : Doorway)
@@ -114,9 +113,21 @@ pub record ArePrepared (wall : ChineseWall) (scripts : List (List Act)) (door : 
   pub scripts_are : scripts_of jobs ≡ scripts
   pub room : HaveRoom jobs
 
--- what the threads were given
-abbrev pub handed : List (PromisedHandle Played Playing) → List Job
-handed handles = map (λ handle. handle.promise.0.value) handles
+-- the job was given to this thread, or went home
+abbrev pub IsSent : (patience : ℕ) → Job → Sent → Type 0
+IsSent patience job (Away handle) = handle.promise.0.value ≡ job
+IsSent patience job (Home played) = HasPlayed patience job played
+
+abbrev pub AllSent : (patience : ℕ) → List Job → List Sent → Type 0
+AllSent patience jobs sent = AllZip (IsSent patience) jobs sent
+
+-- the thread gave this back, or what went home is this
+abbrev pub HasComeBack : (patience : ℕ) → Sent → Played → Type 0
+HasComeBack patience (Away handle) played = HasPlayed patience handle.promise.0.value played
+HasComeBack patience (Home home) played = played ≡ home
+
+abbrev pub AllCameBack : (patience : ℕ) → List Sent → List Played → Type 0
+AllCameBack patience sent all = AllZip (HasComeBack patience) sent all
 
 abbrev pub passes_in : List Played → List Known
 passes_in all = map (λ played. played.pass) all
@@ -142,10 +153,11 @@ fault_of (NotBegun home) = Some NoThread
 abbrev pub ending_of : List Played → Ending
 ending_of all = fold (λ ending played. joined ending played.ending) Whole all
 
--- what a run answers whose scripts were not played
-abbrev pub told_as : NotPlayed → RunFault
-told_as (Memory error) = NoMemory
-told_as (Thread refused) = NoThread
+-- what a run answers whose ranks were told so, and which ended so: a run that was given up lacked a
+-- thread
+abbrev pub fault_in : Result Begun GivenUp → Ending → Option RunFault
+fault_in (Ok begun) ending = fault_of ending
+fault_in (Err given_up) ending = Some NoThread
 
 -- what became of each job
 abbrev pub AllPlayed : (patience : ℕ) → List Job → List Played → Type 0

@@ -21,16 +21,12 @@ most_turns patience scripts = tries patience * sum_by (λ script. length script)
 abbrev pub MayRunOut : (patience : ℕ) → (scripts : List (List Act)) → Type 0
 MayRunOut patience scripts = 2 ^ 62 ≤ most_turns patience scripts
 
--- There is a legal run for which the hall stands, under this policy. Each process has a script and
--- a list of replies; the calls of the process in the run are those of its script, and the replies
--- are those to its acts. What is no process has no call in the run. The replies name what the
--- policy has.
-pub record Ran (patience : ℕ) (wall : ChineseWall) (scripts : List (List Act))
-    (replies : List (List Reply)) (hall : HallValue) : Type 0 where
-  pub run : List Entry
-  pub policy : hall.policy ≡ wall
+-- A legal run under this policy. Each process has a script and a list of replies; the calls of the
+-- process in the run are those of its script, and the replies are those to its acts. What is no
+-- process has no call in the run. The replies name what the policy has.
+pub record IsRun (patience : ℕ) (wall : ChineseWall) (scripts : List (List Act))
+    (replies : List (List Reply)) (run : List Entry) : Type 0 where
   pub legal : Legal wall run
-  pub stands : StandsFor hall run
   pub scripts_are : length scripts ≡ processes wall
   pub replies_are : length replies ≡ processes wall
   pub each : (p : ℕ) → p < processes wall →
@@ -38,3 +34,11 @@ pub record Ran (patience : ℕ) (wall : ChineseWall) (scripts : List (List Act))
       (reverse (calls_of p run))
   pub others : (p : ℕ) → processes wall ≤ p → calls_of p run ≡ []
   pub named : All (All (IsKnownReply wall)) replies
+
+-- there is such a run, and the hall stands for it
+pub record Ran (patience : ℕ) (wall : ChineseWall) (scripts : List (List Act))
+    (replies : List (List Reply)) (hall : HallValue) : Type 0 where
+  pub run : List Entry
+  pub is : IsRun patience wall scripts replies run
+  pub policy : hall.policy ≡ wall
+  pub stands : StandsFor hall run

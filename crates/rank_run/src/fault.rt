@@ -2,7 +2,6 @@
 ghost use Rattle.std.specs.Prelude.{◌≡◌};
 
 use crate::ready::MemoryRefused;
-use rank_stage::GivenUp;
 use thiserror::Error;
 
 /// Why scripts were not run, or not to their ends.
@@ -23,42 +22,12 @@ pub enum RunFault {
     NoMemory,
 }
 
-/// A thread was refused, and the stage was given up, so that those which had started go home.
-#[derive(Drop)]
-pub(crate) struct ThreadRefused(pub(crate) GivenUp);
+impl From<MemoryRefused> for RunFault {
+    ghost use Rattle.rank_run.specs.declared.fault.RunFault.TheVariants.{NoMemory as OutOfMemory};
 
-/// Why scripts were not played, with what tells so: neither can be told as the other, since what
-/// is told is made only where it happens.
-#[derive(Drop)]
-pub(crate) enum NotPlayed {
-    Memory(MemoryRefused),
-    Thread(ThreadRefused),
-}
+    ghost from_gives = { λ error result. result ≡ OutOfMemory };
 
-impl From<MemoryRefused> for NotPlayed {
-    fn from(error: MemoryRefused) -> NotPlayed {
-        NotPlayed::Memory(error)
-    }
-}
-
-impl From<ThreadRefused> for NotPlayed {
-    fn from(error: ThreadRefused) -> NotPlayed {
-        NotPlayed::Thread(error)
-    }
-}
-
-impl From<NotPlayed> for RunFault {
-    ghost use Rattle.std.specs.Prelude.{◌≢◌};
-    ghost use Rattle.rank_run.specs.declared.fault.RunFault.TheVariants.{BadScripts, Exhausted};
-    ghost use Rattle.rank_run.specs.Jobs.{told_as};
-
-    ghost from_gives = { λ error result.
-        (result ≡ told_as error) × (result ≢ BadScripts) × (result ≢ Exhausted) };
-
-    fn from(error: NotPlayed) -> RunFault {
-        match error {
-            NotPlayed::Memory(_) => RunFault::NoMemory,
-            NotPlayed::Thread(_) => RunFault::NoThread,
-        }
+    fn from(_error: MemoryRefused) -> RunFault {
+        RunFault::NoMemory
     }
 }

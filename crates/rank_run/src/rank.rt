@@ -3,7 +3,8 @@ ghost use Rattle.std.specs.Prelude.{◌≡◌};
 ghost use Rattle.run_model.specs.Known.{HasKnownLabel};
 ghost use Rattle.hall_turn.specs.Answers.{IsSamePass, NamesKnown};
 ghost use Rattle.rank_run.specs.declared.waiting.TheConstants.{PATIENCE};
-ghost use Rattle.rank_run.specs.Jobs.{Performed, IsFresh, HasPlayed, joined, fault_of};
+ghost use Rattle.rank_run.specs.Jobs.{Performed, IsFresh, HasPlayed, HasComeBack};
+ghost use Rattle.rank_run.specs.Jobs.{joined, fault_of};
 
 use crate::fault::RunFault;
 use crate::gate::Gate;
@@ -15,7 +16,7 @@ use hall_turn::{Answer, Door, Pass};
 use rank_stage::{SentHome, Stage};
 use std::snapshot::Snapshot;
 use std::sync::Wait;
-use std::thread::Promise;
+use std::thread::{Promise, PromisedHandle, Threads};
 
 /// What a thread is given: the pass of its process, its script, and room for its replies and
 /// requests.
@@ -71,6 +72,26 @@ pub(crate) struct Played {
     /// The replies to the acts of the script, in order.
     pub(crate) replies: Vec<Reply>,
     pub(crate) ending: Ending,
+}
+
+/// Where a job was sent: to a thread of its own, or, since there was none, home from where all are
+/// sent.
+#[derive(Drop)]
+pub(crate) enum Sent {
+    Away(PromisedHandle<Played, Playing>),
+    Home(Played),
+}
+
+impl Sent {
+    /// What the job came to, as soon as its thread has ended.
+    pub(crate) fn back<R: Threads>(self, rt: &R) -> Played
+        ensures { HasComeBack PATIENCE self result }
+    {
+        match self {
+            Sent::Away(handle) => handle.join(rt),
+            Sent::Home(played) => played,
+        }
+    }
 }
 
 /// The thread of a job plays it.

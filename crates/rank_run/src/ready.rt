@@ -4,7 +4,7 @@ ghost use Rattle.run_model.specs.Comms.{processes};
 ghost use Rattle.rank_run.specs.Jobs.{HaveRoom, HasRoomFor, ArePrepared, passes_of, scripts_of};
 ghost use Rattle.rank_run.specs.Jobs.{scripts_shared, AreRoomy};
 
-use crate::rank::{Job, Played, Playing};
+use crate::rank::{Job, Played, Sent};
 use crate::requests::Requests;
 use hall_core::{NoMemory, Reply};
 use hall_turn::{Door, Passes};
@@ -12,7 +12,6 @@ use mpi_comm::COMMUNICATOR_LIMIT;
 use rank_stage::Stage;
 use run_model::{Act, Acts, Scripts};
 use std::alloc::{AllocError, Global};
-use std::thread::PromisedHandle;
 use wall_policy::Policy;
 
 /// A growth of memory was refused, and no thread was started. Only [`prepare`] makes one.
@@ -26,7 +25,7 @@ pub(crate) struct Room {
     pub(crate) passes: Passes,
     pub(crate) replies: Vec<Vec<Reply>>,
     pub(crate) ended: Vec<Played>,
-    pub(crate) handles: Vec<PromisedHandle<Played, Playing>>,
+    pub(crate) sent: Vec<Sent>,
 }
 
 /// A door, a job for each process there, and room for all of them.
@@ -120,7 +119,7 @@ fn make_room(alloc: Global, count: usize, holds: bool) -> Result<Room, AllocErro
     let passes = Vec::with_capacity(alloc, count)?;
     let replies = Vec::with_capacity(alloc, count)?;
     let ended = Vec::with_capacity(alloc, count)?;
-    let handles = Vec::with_capacity(alloc, count)?;
+    let sent = Vec::with_capacity(alloc, count)?;
     let communicators = COMMUNICATOR_LIMIT as usize;
     let stage = Stage::new(alloc, count, communicators, holds)?;
     Ok(Room {
@@ -128,7 +127,7 @@ fn make_room(alloc: Global, count: usize, holds: bool) -> Result<Room, AllocErro
         passes,
         replies,
         ended,
-        handles,
+        sent,
     })
 }
 

@@ -1,12 +1,12 @@
 //! All scripts, each in a thread of its own.
 ghost use Rattle.std.specs.Prelude.{◌≡◌, ◌≢◌, ◌↔◌, [], ◌≤◌, IfOk, IfErr, length, vec_len};
-ghost use Rattle.std.specs.Prelude.{vec_capacity, vec_items, map, true, false, Some};
+ghost use Rattle.std.specs.Prelude.{vec_capacity, vec_items, map, None, Some};
 ghost use Rattle.std.specs.List.{All};
 ghost use Rattle.run_model.specs.Comms.{processes};
 ghost use Rattle.rank_run.specs.declared.fault.RunFault.TheVariants.{BadScripts, Exhausted};
 ghost use Rattle.rank_run.specs.declared.waiting.TheConstants.{PATIENCE};
-ghost use Rattle.rank_run.specs.Jobs.{IsFresh, HasPlayed, AllPlayed, HaveEnded, handed};
-ghost use Rattle.rank_run.specs.Jobs.{passes_in, replies_in, ending_of, fault_of};
+ghost use Rattle.rank_run.specs.Jobs.{IsFresh, HasPlayed, AllCameBack, AllPlayed, HaveEnded};
+ghost use Rattle.rank_run.specs.Jobs.{passes_in, replies_in, ending_of, fault_in};
 ghost use Rattle.rank_run.specs.Jobs.{HasRoomFor, HavePlayed};
 ghost use Rattle.hall_core.specs.Halls.{HallValue};
 ghost use Rattle.hall_turn.specs.Ending.{Closed};
@@ -15,21 +15,21 @@ ghost use Rattle.rank_run.specs.Ran.{Ran, MayRunOut};
 ghost use Rattle.rank_run.specs.Waits.{script_patience};
 ghost use Rattle.run_model.specs.Known.{ScriptsHaveKnownLabels};
 
-use crate::fault::{NotPlayed, RunFault, ThreadRefused};
+use crate::fault::RunFault;
 use crate::gate::Gate;
 use crate::part::Setting;
-use crate::rank::{Ending, Job, Played, Playing, play};
-use crate::ready::{Ready, Room, prepare};
+use crate::rank::{Ending, Job, Played, Playing, Sent, play};
+use crate::ready::{MemoryRefused, Ready, Room, prepare};
 use crate::replies::RunReplies;
 use hall_core::{Hall, Reply};
 use hall_turn::{Door, Passes};
-use rank_stage::{Begun, Stage};
+use rank_stage::{Begun, GivenUp, Stage};
 use run_model::Scripts;
 use std::alloc::Global;
 use std::snapshot::Snapshot;
 use std::sync::Wait;
 use std::thread;
-use std::thread::{PromisedHandle, Threads};
+use std::thread::Threads;
 use wall_policy::Policy;
 
 /// What scripts came to.
@@ -41,34 +41,30 @@ pub struct Run {
     pub hall: Hall,
 }
 
-// What the threads gave back that were told to begin. Who has it did tell them.
+// What all ranks were told, and what they gave back.
 #[derive(Drop)]
-struct Home {
-    begun: Begun,
+struct Back {
+    told: Result<Begun, GivenUp>,
     played: Vec<Played>,
 }
 
 // The same, sorted.
 #[derive(Drop)]
 struct Ended {
+    told: Result<Begun, GivenUp>,
     passes: Passes,
     replies: Vec<Vec<Reply>>,
     // How the scripts ended, taken together.
     ending: Ending,
 }
 
-// Joins all threads, and keeps what they gave.
-fn join_all<R: Threads>(
-    rt: &R,
-    handles: Vec<PromisedHandle<Played, Playing>>,
-    mut ended: Vec<Played>,
-) -> Vec<Played>
-    requires { (ended.items ≡ []) × (vec_len handles ≤ vec_capacity ended) }
-    ensures played { AllPlayed PATIENCE (handed handles.items) result.items }
-    ensures len { vec_len result ≡ vec_len handles }
+// Waits for all, and keeps what they gave.
+fn join_all<R: Threads>(rt: &R, sent: Vec<Sent>, mut ended: Vec<Played>) -> Vec<Played>
+    requires { (ended.items ≡ []) × (vec_len sent ≤ vec_capacity ended) }
+    ensures { AllCameBack PATIENCE sent.items result.items }
 {
-    for handle in handles {
-        ended.push_reserved(handle.join(rt));
+    for one in sent {
+        ended.push_reserved(one.back(rt));
     }
     ended
 }
@@ -85,97 +81,101 @@ fn ending_of(ended: &[Played]) -> Ending
 }
 
 // The passes and the replies, and how the scripts ended.
-fn sort_out(ended: Vec<Played>, mut passes: Passes, mut replies: Vec<Vec<Reply>>) -> Ended
-    requires passes { (passes.items ≡ []) × (vec_len ended ≤ vec_capacity passes) }
-    requires replies { (replies.items ≡ []) × (vec_len ended ≤ vec_capacity replies) }
-    ensures passes { result.passes.items ≡ passes_in ended.items }
-    ensures replies { result.replies.items ≡ replies_in ended.items }
-    ensures ending { result.ending ≡ ending_of ended.items }
+fn sort_out(back: Back, mut passes: Passes, mut replies: Vec<Vec<Reply>>) -> Ended
+    requires passes { (passes.items ≡ []) × (vec_len back.played ≤ vec_capacity passes) }
+    requires replies { (replies.items ≡ []) × (vec_len back.played ≤ vec_capacity replies) }
+    ensures passes { result.passes.items ≡ passes_in back.played.items }
+    ensures replies { result.replies.items ≡ replies_in back.played.items }
+    ensures ending { result.ending ≡ ending_of back.played.items }
 {
-    let ending = ending_of(&ended);
-    for played in ended {
+    let Back { told, played } = back;
+    let ending = ending_of(&played);
+    for one in played {
         let Played {
             pass,
             replies: given,
             ending: _,
-        } = played;
+        } = one;
         passes.push_reserved(pass);
         replies.push_reserved(given);
     }
     Ended {
+        told,
         passes,
         replies,
         ending,
     }
 }
 
-// The ranks begin if all have their threads, or go home. All have ended, and are joined, when it
-// returns. Neither answer can be given where the stage was not told: none would come home then.
-fn end_all<R: Threads + Wait>(
-    rt: &R,
-    stage: &Stage,
-    all_started: bool,
-    handles: Vec<PromisedHandle<Played, Playing>>,
-    ended: Vec<Played>,
-) -> Result<Home, ThreadRefused>
-    requires { (ended.items ≡ []) × (vec_len handles ≤ vec_capacity ended) }
-    ensures played { IfOk result
-        (λ home. AllPlayed PATIENCE (handed handles.items) home.played.items) }
-    ensures len { IfOk result (λ home. vec_len home.played ≡ vec_len handles) }
-    ensures refused { IfOk result (λ _. all_started ≡ true) }
-    ensures started { IfErr result (λ _. all_started ≡ false) }
-{
-    let told = stage.release(rt, all_started);
-    let played = join_all(rt, handles, ended);
-    match told {
-        Ok(begun) => Ok(Home { begun, played }),
-        Err(given_up) => {
-            drop(played);
-            Err(ThreadRefused(given_up))
-        }
+// A thread was refused. Who waits for the start goes home, and who comes to wait for it.
+fn give_up<R: Wait>(rt: &R, stage: &Stage) -> GivenUp {
+    match stage.release(rt, false) {
+        Ok(_begun) => unreachable!(),
+        Err(given_up) => given_up,
     }
 }
 
-// A thread for each job, as far as none is refused.
+// The ranks begin, where none was told to go home.
+fn begin<R: Wait>(rt: &R, stage: &Stage, given_up: Option<GivenUp>) -> Result<Begun, GivenUp>
+    ensures { IfOk result (λ _. given_up ≡ None) }
+{
+    match given_up {
+        None => stage.release(rt, true),
+        Some(given_up) => Err(given_up),
+    }
+}
+
+// A thread for each job, as far as none is refused. Where one is, the run is given up: those that
+// had started go home, and the jobs that have no thread go home from here. All have ended, and are
+// joined, when it returns.
 fn run_each<R: Threads + Wait + Sync, G: Gate + Sync>(
     rt: &R,
     door: &Door,
     jobs: Vec<Job>,
     setting: &Setting<G>,
-    mut handles: Vec<PromisedHandle<Played, Playing>>,
+    mut sent: Vec<Sent>,
     ended: Vec<Played>,
-) -> Result<Home, ThreadRefused>
+) -> Back
     requires fresh { All (IsFresh door.now) jobs.items }
-    requires handles { (handles.items ≡ []) × (vec_len jobs ≤ vec_capacity handles) }
+    requires sent { (sent.items ≡ []) × (vec_len jobs ≤ vec_capacity sent) }
     requires ended { (ended.items ≡ []) × (vec_len jobs ≤ vec_capacity ended) }
-    ensures played { IfOk result (λ home. AllPlayed PATIENCE jobs.items home.played.items) }
-    ensures len { IfOk result (λ home. vec_len home.played ≡ vec_len jobs) }
+    ensures { AllPlayed PATIENCE jobs.items result.played.items }
 {
     let Setting { gate, stage } = *setting;
     thread::scope(
         thread::scope_env(),
         rt,
-        move |scope| -> Result<Home, ThreadRefused>
+        move |scope| -> Back
             requires fresh { All (IsFresh door.now) jobs.items }
-            requires handles { (handles.items ≡ []) × (vec_len jobs ≤ vec_capacity handles) }
+            requires sent { (sent.items ≡ []) × (vec_len jobs ≤ vec_capacity sent) }
             requires ended { (ended.items ≡ []) × (vec_len jobs ≤ vec_capacity ended) }
-            ensures played { IfOk result (λ home. AllPlayed PATIENCE jobs.items home.played.items) }
-            ensures len { IfOk result (λ home. vec_len home.played ≡ vec_len jobs) }
+            ensures { AllPlayed PATIENCE jobs.items result.played.items }
         {
+            let mut given_up = None;
             for job in jobs {
-                let promise = Playing(Snapshot::of(&job));
-                let Ok(handle) = scope.spawn_with(
-                    promise,
-                    move || -> Played
-                        requires { IsFresh door.now job }
-                        ensures { HasPlayed PATIENCE job result }
-                    { play(rt, door, job, gate, stage) },
-                ) else {
-                    return end_all(rt, stage, false, handles, ended);
-                };
-                handles.push_reserved(handle);
+                if given_up.is_some() {
+                    sent.push_reserved(Sent::Home(play(rt, door, job, gate, stage)));
+                } else {
+                    let promise = Playing(Snapshot::of(&job));
+                    match scope.spawn_with(
+                        promise,
+                        move || -> Played
+                            requires { IsFresh door.now job }
+                            ensures { HasPlayed PATIENCE job result }
+                        { play(rt, door, job, gate, stage) },
+                    ) {
+                        Ok(handle) => sent.push_reserved(Sent::Away(handle)),
+                        Err(refused) => {
+                            given_up = Some(give_up(rt, stage));
+                            let playing = refused.value;
+                            sent.push_reserved(Sent::Home(playing()));
+                        }
+                    }
+                }
             }
-            end_all(rt, stage, true, handles, ended)
+            let told = begin(rt, stage, given_up);
+            let played = join_all(rt, sent, ended);
+            Back { told, played }
         },
     )
 }
@@ -187,38 +187,49 @@ fn run_jobs<R: Threads + Wait + Sync, G: Gate + Sync>(
     jobs: Vec<Job>,
     gate: &G,
     room: Room,
-) -> Result<Ended, ThreadRefused>
+) -> Ended
     requires fresh { All (IsFresh door.now) jobs.items }
     requires room { HasRoomFor (vec_len jobs) room }
-    ensures { IfOk result (HaveEnded PATIENCE jobs.items) }
+    ensures { HaveEnded PATIENCE jobs.items result }
 {
     let Room {
         stage,
         passes,
         replies,
         ended,
-        handles,
+        sent,
     } = room;
     let setting = Setting {
         gate,
         stage: &stage,
     };
-    let Home { begun: _, played } = run_each(rt, door, jobs, &setting, handles, ended)?;
-    Ok(sort_out(played, passes, replies))
+    let back = run_each(rt, door, jobs, &setting, sent, ended);
+    sort_out(back, passes, replies)
 }
 
-// Closes the door. How the scripts ended, taken together, says what comes of them.
+// What a run answers whose ranks were told so, and which ended so.
+fn fault_in(told: &Result<Begun, GivenUp>, ending: &Ending) -> Option<RunFault>
+    ensures { result ≡ fault_in told.now ending.now }
+{
+    match told {
+        Ok(_begun) => ending.fault(),
+        Err(_given_up) => Some(RunFault::NoThread),
+    }
+}
+
+// Closes the door. What the ranks were told, and how the scripts ended, says what comes of them.
 fn close_up(door: Door, ended: Ended) -> Result<Run, RunFault>
     requires of { All (λ pass. pass.door ≡ door) ended.passes.items }
     requires all { processes door.policy ≤ length ended.passes.items }
     ensures whole { IfOk result (λ _. ended.ending ≡ Whole) }
     ensures replies { IfOk result (λ run. run.replies ≡ map vec_items ended.replies.items) }
     ensures hall { IfOk result (λ run. Closed door.policy run.hall ended.passes.items) }
-    ensures fault { IfErr result (λ fault. fault_of ended.ending ≡ Some fault) }
+    ensures fault { IfErr result (λ fault. fault_in ended.told ended.ending ≡ Some fault) }
     ensures closed { IfErr result
         (λ _. (hall : HallValue) × Closed door.policy hall ended.passes.items) }
 {
     let Ended {
+        told,
         passes,
         replies,
         ending,
@@ -227,7 +238,7 @@ fn close_up(door: Door, ended: Ended) -> Result<Run, RunFault>
         Ok(hall) => hall,
         Err(_unclosed) => unreachable!(),
     };
-    if let Some(fault) = ending.fault() {
+    if let Some(fault) = fault_in(&told, &ending) {
         drop(hall);
         drop(replies);
         return Err(fault);
@@ -245,18 +256,18 @@ fn play_all<R: Threads + Wait + Sync, G: Gate + Sync>(
     policy: Policy,
     scripts: Scripts,
     gate: &G,
-) -> Result<(Door, Ended), NotPlayed>
+) -> Result<(Door, Ended), MemoryRefused>
     requires labels { ScriptsHaveKnownLabels policy scripts }
     requires long { length scripts ≡ processes policy }
     ensures { IfOk result (λ played. HavePlayed PATIENCE policy scripts played.0 played.1) }
 {
     let ready = prepare(alloc, policy, scripts, gate.holds())?;
     let Ready { door, jobs, room } = ready;
-    let ended = run_jobs(rt, &door, jobs, gate, room)?;
+    let ended = run_jobs(rt, &door, jobs, gate, room);
     Ok((door, ended))
 }
 
-// The scripts are as many as the processes. Here alone what was refused becomes a fault.
+// The scripts are as many as the processes. Every door that was opened is closed.
 fn run_all<R: Threads + Wait + Sync, G: Gate + Sync>(
     rt: &R,
     alloc: Global,

@@ -7,13 +7,13 @@ use Rattle.hall_turn.specs.Known.{Known}
 use Rattle.rank_run.specs.declared.rank.Played.{Played}
 use Rattle.rank_run.proofs.run.sort_out.Goals as goal
 
-pub loop-played-preserved : goal.loop-played-preserved
-loop-played-preserved c =
-    let i = c.loop-played.invariant in
-    let played = c.in-Some.played in
-    let done = c.loop-played.yielded in
+pub loop-one-preserved : goal.loop-one-preserved
+loop-one-preserved c =
+    let i = c.loop-one.invariant in
+    let played = c.in-Some.one in
+    let done = c.loop-one.yielded in
     let one = c.push_reserved.ensures in
-    let two = c.push_reserved-in-loop-played.ensures in
+    let two = c.push_reserved-in-loop-one.ensures in
     record {
       done = append_assoc done (played ∷ []) (into_iter_items c.next.new.self)
           ∙ ap (λ l. done ++ l) (sym c.in-Some.ensures.steps.0) ∙ i.done;
