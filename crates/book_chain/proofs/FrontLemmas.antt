@@ -4,7 +4,7 @@ use Rattle.std.proofs.Common.{Bool, ◌⊎◌, inl, inr, ◌∷◌, length, take
 use Rattle.std.proofs.Common.{◌∙◌, subst, arith}
 use Rattle.std.specs.Prelude.{filter, min}
 use Rattle.std.specs.List.{All}
-use Rattle.std.proofs.lemmas.Bool.{cases_lt, eq-eqb, lt-ltb}
+use Rattle.std.proofs.lemmas.Bool.{cases_lt, eq-eqb, lt-ltb, or_right}
 use Rattle.std.proofs.lemmas.List.{length-take, take_all}
 use Rattle.std.proofs.lemmas.List.Elements.{All-weaker}
 use Rattle.wall_policy.specs.Policy.{ChineseWall, IsPolicy, has_pair, first_processes}
@@ -13,7 +13,7 @@ use Rattle.run_model.specs.declared.entry.Entry.{Entry}
 use Rattle.run_model.specs.declared.entry.Entry.TheVariants.{Posted, Settled}
 use Rattle.run_model.specs.Known.{IsKnownEntry}
 use Rattle.run_model.specs.Books.{IsFirstBad}
-use Rattle.run_model.proofs.BookLemmas.{no_bad_entry}
+use Rattle.run_model.proofs.RunModelLemmas.{no_bad_entry}
 use Rattle.audit_book.specs.declared.check_fault.BookFault.{BookFault}
 use Rattle.audit_book.specs.declared.check_fault.BookFault.TheVariants.{BadEntry, NoMemory}
 use Rattle.audit_book.specs.Checks.{IsFaultOf}
@@ -58,11 +58,7 @@ first_has x pairs = rw (eq-eqb x.0 x.0 refl, eq-eqb x.1 x.1 refl) refl
 
 later_has : (x : ℕ × ℕ) (pairs : List (ℕ × ℕ)) (p d : ℕ) → has_pair pairs p d ≡ true →
     has_pair (x ∷ pairs) p d ≡ true
-later_has x pairs p d has = or_right (nat_eq x.0 p && nat_eq x.1 d) has
-  where
-    or_right : (a : Bool) {b : Bool} → b ≡ true → (a || b) ≡ true
-    or_right true h = refl
-    or_right false h = h
+later_has x pairs p d has = or_right (nat_eq x.0 p && nat_eq x.1 d) (has_pair pairs p d) has
 
 all_kept : (n : ℕ) (pairs : List (ℕ × ℕ)) →
     ((p d : ℕ) → has_pair pairs p d ≡ true → p < n) →

@@ -5,6 +5,7 @@ use Rattle.std.proofs.Common.{◌||◌, ◌&&◌, List, [], ◌∷◌, ◌++◌,
 use Rattle.std.proofs.Common.{refl, sym, ap, ◌∙◌, arith, Option, Some, slice_get}
 use Rattle.std.specs.Prelude.{filter}
 use Rattle.std.proofs.lemmas.Bool.{cases_Bool, cases_lt, and_parts, eqb-true, lt-ltb}
+use Rattle.std.proofs.lemmas.Bool.{or_right}
 use Rattle.std.proofs.lemmas.List.{append-nil, length-take, take-append-drop}
 use Rattle.wall_policy.specs.Policy.{ChineseWall, IsPolicy, HasAtFirst, has_pair, with_held}
 use Rattle.wall_policy.specs.Policy.{first_processes, CanBeHeld, home_if_any, home_of}
@@ -37,10 +38,6 @@ prefix_within (x ∷ front) rest whole (suc n) is low =
 
 ---- What was held.
 
-or_right : (a : Bool) {b : Bool} → b ≡ true → (a || b) ≡ true
-or_right true h = refl
-or_right false h = h
-
 kept_more : (n : ℕ) (x : ℕ × ℕ) (pairs : List (ℕ × ℕ)) (p d : ℕ) → p < n →
     (has_pair pairs p d ≡ true → has_pair (filter (λ pair. nat_lt pair.0 n) pairs) p d ≡ true) →
     has_pair (x ∷ pairs) p d ≡ true →
@@ -55,7 +52,7 @@ kept_more n x pairs p d low later has = by (nat_eq x.0 p && nat_eq x.1 d) refl h
         let kept : nat_lt x.0 n ≡ true = lt-ltb x.0 n (omega (arith, same, low)) in
         rw (kept, is) refl
     by false is h = elim (cases_Bool (nat_lt x.0 n)) [
-      | inl kept ↦ rw kept (or_right (nat_eq x.0 p && nat_eq x.1 d) (later h))
+      | inl kept ↦ rw kept (or_right (nat_eq x.0 p && nat_eq x.1 d) _ (later h))
       | inr gone ↦ rw gone (later h)
     ]
 

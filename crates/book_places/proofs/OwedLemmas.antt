@@ -19,7 +19,7 @@ use Rattle.run_model.specs.Known.{IsKnownEntry}
 use Rattle.run_model.proofs.RunModelLemmas.{book_is_sound}
 use Rattle.audit_book.specs.Dues.{IsDueBehind}
 use Rattle.audit_book.proofs.AuditBookLemmas.{take_more}
-use Rattle.book_seal.proofs.KnownLemmas.{due_known}
+use Rattle.book_seal.proofs.BookSealLemmas.{due_known}
 use Rattle.book_places.specs.Owed.{before, IsEntryAt, LacksVerdict, HasOtherPost}
 
 -- a verdict is no post

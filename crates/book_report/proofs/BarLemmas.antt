@@ -25,7 +25,7 @@ use Rattle.run_model.specs.Contributions.{Contribution, posts_of}
 use Rattle.run_state.specs.Views.{PostStateValue, view_of}
 use Rattle.run_state.specs.Stands.{StandsForPosts}
 use Rattle.audit_book.specs.Checks.{Stands, bare}
-use Rattle.audit_book.proofs.CheckLemmas.{bare_posts}
+use Rattle.audit_book.proofs.AuditBookLemmas.{bare_posts}
 use Rattle.book_report.specs.declared.bar.Bar.{Bar}
 use Rattle.book_report.specs.Held.{histories_after, posts_to, IsPostAt}
 use Rattle.book_report.specs.Bars.{IsBar, IsBarredAt, HasBar, AreBars}

@@ -4,3 +4,4 @@ pub mod SealLemmas
 pub mod ExactLemmas
 pub mod KnownLemmas
 pub mod LawLemmas
+pub mod BookSealLemmas

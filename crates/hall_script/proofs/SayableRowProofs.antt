@@ -22,7 +22,8 @@ use Rattle.coll_text.proofs.SpellableRowProofs as statements
 use Rattle.run_model.specs.Known.{IsKnownLabel}
 use Rattle.run_model.specs.RunRows.{banks_and_oil}
 use Rattle.hall_script.specs.Spellings.{given_words, IsSayableCall}
-use Rattle.hall_script.specs.Spellings.{call_to_post, call_to_take, call_to_ask}
+use Rattle.hall_core.specs.Claims.{to_take}
+use Rattle.hall_script.specs.Spellings.{call_to_post, call_to_ask}
 
 -- a post of a statement with a spelling
 sayable : (p c : ℕ) (sig : Signature) (own : Own) (label : Label) (ns : List ℤ) →
@@ -98,7 +99,7 @@ nothing = sayable 4294967295 4294967295 Split
     (SplitBy (Some (negsuc 2147483647)) (pos 2147483647)) Public [] (omega arith) (omega arith)
     statements.lowest tt refl (λ none. refl)
 
-pub take : IsSayableCall banks_and_oil (call_to_take 4294967295 18446744073709551615)
+pub take : IsSayableCall banks_and_oil (to_take 4294967295 18446744073709551615)
 take = (omega arith, omega arith)
 
 pub info : IsSayableCall banks_and_oil (call_to_ask 4294967295 4294967295)

@@ -97,8 +97,5 @@ call_to_post p c sig own label numbers = record {
   });
 }
 
-abbrev pub call_to_take : (p request : ℕ) → Call
-call_to_take p request = record { process = p; act = Take request }
-
 abbrev pub call_to_ask : (p c : ℕ) → Call
 call_to_ask p c = record { process = p; act = Info c }

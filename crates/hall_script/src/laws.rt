@@ -18,7 +18,8 @@ ghost use Rattle.run_model.specs.declared.call.Call.{Call};
 ghost use Rattle.run_model.specs.RunRows.{banks_and_oil};
 ghost use Rattle.hall_script.specs.Lines.{answer_to};
 ghost use Rattle.hall_script.specs.Spellings.{call_line, IsLineOf, IsSayableCall};
-ghost use Rattle.hall_script.specs.Spellings.{call_to_post, call_to_take, call_to_ask};
+ghost use Rattle.hall_core.specs.Claims.{to_take};
+ghost use Rattle.hall_script.specs.Spellings.{call_to_post, call_to_ask};
 
 /// A line that is read is spelled as its call is, word for word; `as public` may stand behind a
 /// post without elements.
@@ -50,7 +51,7 @@ pub fn extreme_calls_are_sayable()
         (pos 0 ∷ pos 18446744073709551615 ∷ [])) }
     ensures nothing { IsSayableCall banks_and_oil (call_to_post 4294967295 4294967295 Split
         (SplitBy (Some (negsuc 2147483647)) (pos 2147483647)) Public []) }
-    ensures take { IsSayableCall banks_and_oil (call_to_take 4294967295 18446744073709551615) }
+    ensures take { IsSayableCall banks_and_oil (to_take 4294967295 18446744073709551615) }
     ensures info { IsSayableCall banks_and_oil (call_to_ask 4294967295 4294967295) }
 {}
 

@@ -7,8 +7,7 @@ use Rattle.policy_meaning.specs.declared.warning.Warning.{Warning}
 use Rattle.policy_meaning.specs.Facts.{IsFact}
 use Rattle.policy_meaning.specs.Warnings.{Warns}
 use Rattle.policy_meaning.specs.Known.{IsKnownFact, IsKnownWarning}
-use Rattle.policy_meaning.proofs.FactLemmas.{known_fact}
-use Rattle.policy_meaning.proofs.WarningLemmas.{known}
+use Rattle.policy_meaning.proofs.PolicyMeaningLemmas.{known, known_fact}
 
 pub known_facts : (wall : ChineseWall) (list : List Fact) → IsPolicy wall
     → ((fact : Fact) → Contains list fact ↔ IsFact wall fact) → All (IsKnownFact wall) list

@@ -6,3 +6,4 @@ pub mod HomeLemmas
 pub mod WarningLemmas
 pub mod LawLemmas
 pub mod ReachLemmas
+pub mod PolicyMeaningLemmas

@@ -22,7 +22,8 @@ use Rattle.rank_stage.specs.declared.board.SentHome.{SentHome}
 use Rattle.rank_run.specs.declared.rank.Job.{Job}
 use Rattle.rank_run.specs.declared.rank.Ending.TheVariants.{Whole, Cut, NotBegun}
 use Rattle.rank_run.specs.declared.rank.Played.{Played}
-use Rattle.rank_run.specs.Waits.{asked, pending_takes, tries, Waited}
+use Rattle.rank_run.specs.Waits.{pending_takes, tries, Waited}
+use Rattle.run_model.specs.Runs.{said}
 use Rattle.rank_run.specs.Plays.{Performs, Plays}
 use Rattle.rank_run.specs.Jobs.{made, Stopped, Performed, HasPlayed}
 use Rattle.rank_run.proofs.CountLemmas.{both_le, times_more}
@@ -57,7 +58,7 @@ pub perform_post : (patience : ℕ) (posting : _) (answer : Answer) (before afte
     → IsSamePass before after → Answered before (ToPost posting) answer after
     → Performed patience before (ToPost posting) answer after
 perform_post patience posting (Replied reply) before after same a =
-    let new = asked before.process (ToPost posting) reply ∷ [] in
+    let new = said before.process (ToPost posting) reply ∷ [] in
     (new, refl, made_more before after new same a.own)
 perform_post patience posting Exhausted before after same a =
     stopped_at_once patience before after same a.0.own a.1
@@ -66,7 +67,7 @@ pub perform_info : (patience comm : ℕ) (answer : Answer) (before after : Known
     → IsSamePass before after → Answered before (ToInfo comm) answer after
     → Performed patience before (ToInfo comm) answer after
 perform_info patience comm (Replied reply) before after same a =
-    let new = asked before.process (ToInfo comm) reply ∷ [] in
+    let new = said before.process (ToInfo comm) reply ∷ [] in
     (new, refl, made_more before after new same a.own)
 perform_info patience comm Exhausted before after same a =
     stopped_at_once patience before after same a.0.own a.1
@@ -76,17 +77,17 @@ pub perform_take : (patience request : ℕ) (answer : Answer) (before after : Kn
     → Performed patience before (Take request) answer after
 perform_take patience request (Replied reply) before after same w =
     let p = before.process in
-    let last = asked p (Take request) reply ∷ [] in
+    let last = said p (Take request) reply ∷ [] in
     let pending = pending_takes p request w.again in (
       pending ++ last,
       (w.again, w.within, (λ e. w.patient (ap Replied e)), refl),
       made_more before after (last ++ pending) same w.own
           ∙ ap (λ l. made before ++ l)
           (reverse-append last pending
-          ∙ ap (λ l. l ++ last) (reverse_replicate w.again (asked p (Take request) Pending))),
+          ∙ ap (λ l. l ++ last) (reverse_replicate w.again (said p (Take request) Pending))),
     )
 perform_take patience request Exhausted before after same w =
-    let once = asked before.process (Take request) Pending in
+    let once = said before.process (Take request) Pending in
     let pending = pending_takes before.process request w.again in record {
       calls = pending;
       more = made_more before after pending same w.own
@@ -103,8 +104,8 @@ performs_few patience p (ToPost posting) reply calls h =
 performs_few patience p (ToInfo comm) reply calls h =
     let one = ap length h in let some = le-max_left 1 patience in omega arith
 performs_few patience p (Take request) reply calls (again, within, patient, is) =
-    let once = asked p (Take request) Pending in
-    let last = asked p (Take request) reply ∷ [] in
+    let once = said p (Take request) Pending in
+    let last = said p (Take request) reply ∷ [] in
     let long = ap length is in
     let sum = length-append (pending_takes p request again) last in
     let many = length-replicate again once in

@@ -12,7 +12,8 @@ use Rattle.hall_turn.specs.Runs.{Continues, calls_of}
 use Rattle.hall_turn.specs.Known.{Known}
 use Rattle.hall_turn.specs.Answers.{IsSamePass, Answered}
 use Rattle.hall_turn.proofs.HallTurnLemmas.{continues_trans, continues_more, continues_self}
-use Rattle.rank_run.specs.Waits.{asked, pending_takes, last_take, tries, is_pending, Waited}
+use Rattle.rank_run.specs.Waits.{pending_takes, last_take, tries, is_pending, Waited}
+use Rattle.run_model.specs.Runs.{said}
 
 -- so many takes of the request were answered Pending, and nothing else was called
 pub record Waits (request times : ℕ) (before now : Known) : Type 0 where
@@ -46,7 +47,7 @@ taken : (p request : ℕ) (answer : Answer) (now after : Known) → now.process 
     × (calls_of p after.seen ≡ last_take p request answer ++ calls_of p now.seen)
     × (answer ≡ Exhausted → 2 ^ 62 ≤ length after.seen)
 taken p request (Replied reply) now after is a =
-    let new = asked now.process (Take request) reply in (
+    let new = said now.process (Take request) reply in (
       subst (λ (run : List Entry). Continues run now.seen) (sym a.ends)
           (continues_more a.front now.seen new a.begins),
       subst (λ (q : ℕ).
@@ -74,7 +75,7 @@ waits_more request times answer before now after w same a pending =
       own = t.1
           ∙ ap (λ (x : Answer). last_take p request x ++ calls_of p now.seen)
           (pending_is answer pending)
-          ∙ ap (λ (l : List Entry). asked p (Take request) Pending ∷ l) w.own
+          ∙ ap (λ (l : List Entry). said p (Take request) Pending ∷ l) w.own
           ∙ (let e : suc times ≡ times + 1 = omega arith in
           ap (λ n. pending_takes p request n ++ calls_of p before.seen) e);
     }

@@ -7,23 +7,19 @@ use Rattle.run_model.specs.declared.reply.Reply.{Reply}
 use Rattle.run_model.specs.declared.reply.Reply.TheVariants.{Posted, Barred, Pending, Delivered}
 use Rattle.run_model.specs.declared.reply.Reply.TheVariants.{NewComm, NullComm, Denied, NoRoom}
 use Rattle.run_model.specs.declared.reply.Reply.TheVariants.{Info, Refused}
-use Rattle.run_model.specs.Runs.{Entry, entry}
+use Rattle.run_model.specs.Runs.{Entry, said}
 use Rattle.hall_turn.specs.declared.answer.Answer.{Answer}
 use Rattle.hall_turn.specs.declared.answer.Answer.TheVariants.{Reply as Replied, Exhausted}
 use Rattle.hall_turn.specs.Runs.{Continues, calls_of}
 use Rattle.hall_turn.specs.Known.{Known}
 
--- the entry of a call of a process
-abbrev pub asked : (process : ℕ) → Act → Reply → Entry
-asked process act reply = entry (record { process = process; act = act }) reply
-
 -- so many takes of a request, each answered Pending
 abbrev pub pending_takes : (process request : ℕ) → (times : ℕ) → List Entry
-pending_takes process request times = replicate times (asked process (Take request) Pending)
+pending_takes process request times = replicate times (said process (Take request) Pending)
 
 -- the entry of the last take; it has none if the door was exhausted
 abbrev pub last_take : (process request : ℕ) → Answer → List Entry
-last_take process request (Replied reply) = asked process (Take request) reply ∷ []
+last_take process request (Replied reply) = said process (Take request) reply ∷ []
 last_take process request Exhausted = []
 
 -- how often a take of a script may be tried

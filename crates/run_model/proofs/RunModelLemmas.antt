@@ -1,8 +1,9 @@
 -- What crates above may cite of the lemmas of this crate. Everything else in proofs/ is its own.
 pub use Rattle.run_model.proofs.AfterLemmas.{can_be_held, is_policy_after, labels_at}
 pub use Rattle.run_model.proofs.AfterLemmas.{labels_of_entries, member_known}
-pub use Rattle.run_model.proofs.BookLemmas.{begins_given, book_is_sound, posts_in-append}
-pub use Rattle.run_model.proofs.BookLemmas.{posts_in-book, sound_books_keep_the_wall}
+pub use Rattle.run_model.proofs.BookLemmas.{begins_given, book_is_sound, no_bad_entry}
+pub use Rattle.run_model.proofs.BookLemmas.{posts_in-append, posts_in-book}
+pub use Rattle.run_model.proofs.BookLemmas.{sound_books_keep_the_wall}
 pub use Rattle.run_model.proofs.BufferLemmas.{after_but_for_room, instance_but_for_room}
 pub use Rattle.run_model.proofs.BufferLemmas.{posts_but_for_room, proper_but_for_room}
 pub use Rattle.run_model.proofs.BufferLemmas.{reply_but_for_room, same_value}

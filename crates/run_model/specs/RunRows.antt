@@ -33,7 +33,7 @@ use Rattle.run_model.specs.declared.reply.Reply.{Reply}
 use Rattle.run_model.specs.declared.reply.Reply.TheVariants.{Posted, Barred, Pending, Delivered}
 use Rattle.run_model.specs.declared.reply.Reply.TheVariants.{NewComm, NullComm, Denied, Info}
 use Rattle.run_model.specs.declared.reply.Reply.TheVariants.{Refused}
-use Rattle.run_model.specs.Runs.{Entry, posts}
+use Rattle.run_model.specs.Runs.{Entry, said, posts}
 use Rattle.run_model.specs.Replies.{Legal}
 
 -- the banks alpha and beta, the oil companies crude and delta; a0, b0 and c0 at home at alpha, beta
@@ -113,9 +113,6 @@ LegalList wall entries = Legal wall (reverse entries)
 -- the posts of a list
 abbrev pub listed_posts : List Entry → List Post
 listed_posts entries = posts (reverse entries)
-
-abbrev pub said : (p : ℕ) → Act → Reply → Entry
-said p act reply = record { call = record { process = p; act = act }; reply = reply }
 
 -- p posts these numbers on communicator c
 abbrev pub gave : (p c : ℕ) → Signature → Own → Label → List ℤ → Reply → Entry

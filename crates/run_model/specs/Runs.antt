@@ -24,6 +24,10 @@ pub record Entry : Type 0 where
 abbrev pub entry : Call → Reply → Entry
 entry call reply = record { call = call; reply = reply }
 
+-- a process does this, and has this reply
+abbrev pub said : (process : ℕ) → Act → Reply → Entry
+said process act reply = entry (record { process = process; act = act }) reply
+
 abbrev pub entry_of : Call × Reply → Entry
 entry_of pair = entry pair.0 pair.1
 
