@@ -1,9 +1,10 @@
 //! What each process holds, and the star rule.
 ghost use Rattle.wall_rules.specs.Histories.{opening, ArePairsOf};
 
-use crate::parties::{BANKS_AND_OIL, dataset, opening, process, wall};
+use crate::parties::{dataset, opening, process, wall};
 use std::alloc::{AllocError, Global};
 use std::process::Abort;
+use trial_kit::policies::BANKS_AND_OIL;
 use wall_labels::{DatasetId, Label, LabelSet, ProcessId};
 use wall_policy::Policy;
 use wall_rules::Histories;

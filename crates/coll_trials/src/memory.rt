@@ -2,32 +2,20 @@
 //! go.
 
 use crate::communicators::{fill_up, opened};
-use crate::parties::{BANKS_AND_OIL, grid, opening, wall};
+use crate::parties::{grid, opening, wall};
 use crate::pending::{Calls, Table, at_a_table, line_of_two};
 use crate::policies::{fault_of, many};
 use coll_routes::Signature;
 use mpi_comm::CommTable;
 use run_model::{Act, Acts};
 use std::alloc::{AllocError, Global};
-use std::fs;
 use std::process::Abort;
 use std::rt::Files;
 use std::test::Fail;
+use trial_kit::pages;
+use trial_kit::policies::BANKS_AND_OIL;
 use wall_labels::NoMemory;
 use wall_policy::Policy;
-
-// The pages of memory that this process has asked for (at place 0), and of these those that are
-// resident (1), as the system tells.
-fn pages<R: Files + AllocGlobal>(rt: &R, place: usize) -> Result<u64, Fail> {
-    let text = fs::read_to_string(rt, "/proc/self/statm")?;
-    let Some(word) = text.as_str().split(' ').nth(place) else {
-        return Err(Fail::from("the system tells no pages"));
-    };
-    match word.parse::<u64>() {
-        Ok(pages) => Ok(pages),
-        Err(_) => Err(Fail::from("the pages are no number")),
-    }
-}
 
 // Reads the policy of the text, so often.
 fn read_often(rt: &impl Abort, alloc: Global, text: &str, times: u32) {

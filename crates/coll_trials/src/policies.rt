@@ -1,35 +1,11 @@
 //! The policy file: what is read, and each fault.
-use crate::parties::{BANKS_AND_OIL, dataset, wall};
+use crate::parties::{dataset, wall};
 use std::alloc::{AllocError, Global};
 use std::process::Abort;
 use std::test::Fail;
+use trial_kit::policies::{BANKS_AND_OIL, SUMS_OF_THREE_FIRMS};
 use wall_labels::{DatasetId, Op};
 use wall_policy::{Policy, PolicyFault, read_policy};
-
-// The same in version 2, where a sanitised sum takes data of three firms.
-const THREE_FIRMS: &str = r#"version = 2
-[[class]]
-name = "banks"
-datasets = ["alpha", "beta"]
-[[class]]
-name = "oil"
-datasets = ["crude", "delta"]
-[[process]]
-name = "a0"
-home = "alpha"
-[[process]]
-name = "b0"
-home = "beta"
-[[process]]
-name = "c0"
-home = "crude"
-[[process]]
-name = "n0"
-[[sanitise]]
-op = "sum"
-least = 3
-distinct = 3
-"#;
 
 // What reading answers: nothing for a policy.
 pub(crate) fn fault_of(alloc: Global, bytes: &[u8]) -> Option<PolicyFault> {
@@ -232,7 +208,7 @@ const CHANGED_OF_VERSION_2: &[Change] = &[
 
 #[test]
 fn changed_policies_of_version_2(rt: HostRuntime) {
-    expect_faults(&rt, rt.alloc(), THREE_FIRMS, CHANGED_OF_VERSION_2);
+    expect_faults(&rt, rt.alloc(), SUMS_OF_THREE_FIRMS, CHANGED_OF_VERSION_2);
 }
 
 // Absent tables, empty arrays, and names that other things have too.
@@ -435,7 +411,11 @@ fn versions(rt: HostRuntime) {
         BANKS_AND_OIL,
         |policy| check_version(&rt, policy, 1, 1),
     );
-    at_both(&rt, THREE_FIRMS, |policy| check_version(&rt, policy, 2, 3));
+    at_both(
+        &rt,
+        SUMS_OF_THREE_FIRMS,
+        |policy| check_version(&rt, policy, 2, 3),
+    );
 }
 
 fn are_rivals(policy: &Policy, left: &str, right: &[u8]) -> Option<bool> {

@@ -1,13 +1,14 @@
 //! Verdicts worked by hand from the rules, under one policy.
 ghost use Rattle.std.specs.Prelude.{◌≡◌, ◌<◌};
 
-use crate::parties::{BANKS_AND_OIL, dataset, group, numbers, opening, process, upward, wall};
+use crate::parties::{dataset, group, numbers, opening, process, upward, wall};
 use crate::policies::many;
 use coll_routes::{Kind, Own, Roll, Shape, Signature, Stated, Statements};
 use mpi_cart::Grid;
 use mpi_elems::ElemType;
 use std::alloc::{AllocError, Global};
 use std::process::Abort;
+use trial_kit::policies::BANKS_AND_OIL;
 use wall_labels::{DATASET_LIMIT, DatasetId, Label, Op, PROCESS_LIMIT};
 use wall_policy::Policy;
 use wall_rules::Histories;

@@ -3,7 +3,7 @@ ghost use Rattle.std.specs.Prelude.{◌≡◌};
 ghost use Rattle.std.specs.List.{All};
 
 use crate::devices::{Due, Heard, new_answers, new_client, nothing_heard};
-use crate::parties::{ALONE, wall};
+use crate::parties::wall;
 use hall_turn::{Door, Pass, Passes};
 use live_session::{SessionEnd, serve};
 use rank_stage::Stage;
@@ -11,6 +11,7 @@ use std::alloc::Global;
 use std::process::Abort;
 use std::sync::{Mutex, Wait};
 use std::test::Fail;
+use trial_kit::policies::ALONE;
 use wall_labels::memory::Fuse;
 use wall_policy::Policy;
 

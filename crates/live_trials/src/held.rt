@@ -5,7 +5,7 @@ use crate::devices::{
     Answers, Client, Due, Hold, LOOKS, hearers, new_answers, new_client, nothing_heard,
 };
 use crate::machines::hall;
-use crate::parties::{FRIENDS, many, wall};
+use crate::parties::{many, wall};
 use live_session::{Desk, Peer, SessionEnd, serve_all};
 use std::alloc::Global;
 use std::process::Abort;
@@ -14,6 +14,7 @@ use std::test::Fail;
 use std::thread;
 use std::thread::Threads;
 use std::time::{Clock, CpuClock, Duration};
+use trial_kit::policies::FRIENDS;
 use wall_labels::Failed;
 use wall_labels::memory::Fuse;
 

@@ -1,7 +1,7 @@
 //! What a session keeps does not grow with its lines.
 
 use crate::alone::door_alone;
-use crate::parties::{ALONE, wall};
+use crate::parties::wall;
 use live_session::{Desk, SessionEnd, serve};
 use rank_stage::Stage;
 use std::fs;
@@ -9,6 +9,7 @@ use std::process::Abort;
 use std::rt::Files;
 use std::sync::{Mutex, Wait};
 use std::test::Fail;
+use trial_kit::policies::ALONE;
 use wall_labels::memory::{ExpectingSink, Fuse, MemorySource};
 use wall_labels::{Failed, Source};
 

@@ -4,48 +4,6 @@ use std::alloc::{AllocError, Global};
 use std::process::Abort;
 use wall_policy::{Policy, read_policy};
 
-/// One process.
-pub(crate) const ALONE: &str = r#"version = 1
-[[class]]
-name = "banks"
-datasets = ["alpha", "beta"]
-[[process]]
-name = "p0"
-home = "alpha"
-"#;
-
-/// Two processes.
-pub(crate) const FRIENDS: &str = r#"version = 1
-[[class]]
-name = "banks"
-datasets = ["alpha", "beta"]
-[[process]]
-name = "p0"
-home = "alpha"
-[[process]]
-name = "p1"
-home = "alpha"
-"#;
-
-/// Four processes.
-pub(crate) const FOUR: &str = r#"version = 1
-[[class]]
-name = "banks"
-datasets = ["alpha", "beta"]
-[[process]]
-name = "p0"
-home = "alpha"
-[[process]]
-name = "p1"
-home = "alpha"
-[[process]]
-name = "p2"
-home = "alpha"
-[[process]]
-name = "p3"
-home = "alpha"
-"#;
-
 /// A policy of so many processes, at home nowhere.
 pub(crate) fn many(alloc: Global, processes: u32) -> Result<String, AllocError> {
     let mut text = String::new(alloc);

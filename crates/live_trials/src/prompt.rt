@@ -3,13 +3,14 @@
 ghost use Rattle.std.specs.Prelude.{◌≡◌, map, Some};
 
 use crate::alone::{ANSWERS, LINES, door_alone};
-use crate::parties::{ALONE, wall};
+use crate::parties::wall;
 use live_session::{Desk, SessionEnd, serve};
 use rank_stage::Stage;
 use std::alloc::Global;
 use std::collections::VecDeque;
 use std::process::Abort;
 use std::sync::{Mutex, Wait};
+use trial_kit::policies::ALONE;
 use wall_labels::memory::{Fuse, MemorySource};
 use wall_labels::{Failed, Sink, Source};
 

@@ -3,7 +3,7 @@ ghost use Rattle.std.specs.Prelude.{[]};
 
 use crate::devices::{Answers, Client, Due, Heard, hearers, new_answers, new_client};
 use crate::machines::hall;
-use crate::parties::{FOUR, FRIENDS, many, wall};
+use crate::parties::{many, wall};
 use hall_turn::Machine;
 use live_session::{Peer, ServeFault, SessionEnd, serve_all};
 use std::alloc::{AllocError, Global};
@@ -11,6 +11,7 @@ use std::process::Abort;
 use std::sync::Wait;
 use std::test::Fail;
 use std::thread::Threads;
+use trial_kit::policies::{FOUR_OF_A_BANK, FRIENDS};
 use wall_labels::memory::Fuse;
 use wall_policy::Policy;
 
@@ -127,8 +128,22 @@ fn waits_that_are_in_vain_are_pending(rt: HostRuntime) {
     );
     assert!(&rt; served_so(&rt, rt.alloc(), FRIENDS, &[waits, leaves]) == 2);
     assert!(&rt; served_so(&rt, rt.alloc(), FRIENDS, &[leaves, waits]) == 2);
-    assert!(&rt; served_so(&rt, rt.alloc(), FOUR, &[waits, waits, leaves, waits]) == 4);
-    assert!(&rt; served_so(&rt, rt.alloc(), FOUR, &[waits, waits, waits, dies]) == 4);
+    assert!(&rt;
+        served_so(
+            &rt,
+            rt.alloc(),
+            FOUR_OF_A_BANK,
+            &[waits, waits, leaves, waits]
+        ) == 4
+    );
+    assert!(&rt;
+        served_so(
+            &rt,
+            rt.alloc(),
+            FOUR_OF_A_BANK,
+            &[waits, waits, waits, dies]
+        ) == 4
+    );
 }
 
 /// Four wait for each other again and again, and each gets the sum.
@@ -145,7 +160,7 @@ fn four_wait_a_hundred_times(rt: HostRuntime) -> Result<(), Fail> {
         write!(&mut answers, "posted {number}\ndelivered [{sum}]\n")?;
     }
     let row = sound_row(&lines, &answers, SessionEnd::EndOfStream, 200);
-    assert!(&rt; served_so(&rt, rt.alloc(), FOUR, &[row, row, row, row]) == 4);
+    assert!(&rt; served_so(&rt, rt.alloc(), FOUR_OF_A_BANK, &[row, row, row, row]) == 4);
     Ok(())
 }
 

@@ -2,13 +2,14 @@
 
 use crate::devices::{Answers, Client, Due, Heard, Hold, LOOKS, hearers, new_answers, new_client};
 use crate::machines::{booked_for, booked_till_it_settles};
-use crate::parties::{ALONE, FOUR, wall};
+use crate::parties::wall;
 use crate::together::{Row, served_at, sound_row};
 use live_session::{Peer, SessionEnd, serve_all};
 use std::alloc::{AllocError, Global};
 use std::process::Abort;
 use std::sync::Wait;
 use std::thread::Threads;
+use trial_kit::policies::{ALONE, FOUR_OF_A_BANK};
 use wall_labels::memory::Fuse;
 
 // Whether the session of the one process comes to what it is to, where the machine is booked for so
@@ -128,7 +129,7 @@ fn in_turn<'a>(
 #[test]
 fn who_sleeps_is_told_too(rt: HostRuntime) {
     let alloc = rt.alloc();
-    let policy = wall(&rt, alloc, FOUR);
+    let policy = wall(&rt, alloc, FOUR_OF_A_BANK);
     let hearers = hearers(alloc, 4).expect(&rt, "no memory");
     let peers = in_turn(alloc, hearers.as_slice()).expect(&rt, "no memory");
     let machine = booked_till_it_settles(&rt, alloc, &policy);

@@ -7,7 +7,7 @@ ghost use Rattle.std.specs.List.{All};
 ghost use Rattle.run_model.specs.Known.{IsKnownLabel};
 ghost use Rattle.hall_turn.specs.Answers.{MayFinish};
 
-use crate::parties::{ALONE, FRIENDS, RIVALS, front, label, open, over, wall};
+use crate::parties::{front, label, open, over, wall};
 use coll_routes::{Own, Signature};
 use coll_values::{Block, Integers};
 use hall_core::{Act, Call, Hall, Posting, Refusal, Reply};
@@ -15,12 +15,13 @@ use hall_turn::{Answer, Claim, Claimed, CloseFault, Door, Pass, Passes, Unclosed
 use mpi_elems::{Buffer, ElemType};
 use std::alloc::{AllocError, Global};
 use std::fmt::Write;
-use std::fs;
 use std::process::Abort;
 use std::rt::Files;
 use std::sync::Wait;
 use std::test::Fail;
 use std::thread::{Threads, join};
+use trial_kit::pages;
+use trial_kit::policies::{ALONE, BANKS_AND_OIL, FRIENDS};
 use wall_labels::{Label, Op};
 use wall_policy::Policy;
 
@@ -372,7 +373,7 @@ fn end<R: Abort>(rt: &R, door: Door, passes: Passes, missing: Pass)
 
 #[test]
 fn door_is_closed_by_all(rt: HostRuntime) {
-    let policy = wall(&rt, rt.alloc(), RIVALS);
+    let policy = wall(&rt, rt.alloc(), BANKS_AND_OIL);
     let alpha = label(&policy, "alpha");
     let posting = broadcast(&rt, rt.alloc(), alpha, &[7, -1]);
     let (door, mut passes) = open(&rt, rt.alloc(), policy);
@@ -437,7 +438,7 @@ fn meet<R: Wait + Abort>(rt: &R, door: &Door, passes: &mut Passes, posts: Posts)
 
 #[test]
 fn posts_meet(rt: HostRuntime) {
-    let policy = wall(&rt, rt.alloc(), RIVALS);
+    let policy = wall(&rt, rt.alloc(), BANKS_AND_OIL);
     let posts = sums(&rt, rt.alloc(), &policy);
     let (door, mut passes) = open(&rt, rt.alloc(), policy);
     meet(&rt, &door, &mut passes, posts);
@@ -516,18 +517,6 @@ fn threads_post(rt: HostRuntime) {
     drop(door);
 }
 
-/// The pages of memory that this process has resident, as the system tells.
-fn resident_pages<R: Files + AllocGlobal>(rt: &R) -> Result<u64, Fail> {
-    let text = fs::read_to_string(rt, "/proc/self/statm")?;
-    let Some(word) = text.as_str().split(' ').nth(1) else {
-        return Err(Fail::from("the system tells no pages"));
-    };
-    match word.parse::<u64>() {
-        Ok(pages) => Ok(pages),
-        Err(_) => Err(Fail::from("the pages are no number")),
-    }
-}
-
 /// A door under a copy of the policy is opened and let go with its passes, and another is closed.
 fn open_two<R: Abort>(rt: &R, alloc: Global, policy: &Policy) {
     let copy = policy.copy(alloc).expect(rt, "the policy is not copied");
@@ -563,9 +552,9 @@ fn open_hundreds<R: Abort>(rt: &R, alloc: Global, policy: &Policy, hundreds: u32
 /// door of 256 processes each list that has a place for each of them is a page or more.
 fn keep_no_pages<R: Files + AllocGlobal + Abort>(rt: &R, policy: &Policy) -> Result<(), Fail> {
     open_hundreds(rt, rt.alloc(), policy, 2);
-    let before = resident_pages(rt)?;
+    let before = pages(rt, 1)?;
     open_hundreds(rt, rt.alloc(), policy, 10);
-    let after = resident_pages(rt)?;
+    let after = pages(rt, 1)?;
     assert!(rt;
         after < before.saturating_add(512),
         "{before} pages, then {after}"

@@ -3,7 +3,7 @@ ghost use Rattle.std.specs.List.{All};
 ghost use Rattle.run_model.specs.Known.{HasKnownLabel, ScriptsHaveKnownLabels};
 
 use crate::gates::{nothing, number};
-use crate::parties::{RIVALS, label, wall};
+use crate::parties::{label, wall};
 use crate::ranks::{add, is_posted, put, stands};
 use coll_routes::Signature;
 use hall_core::{Act, Refusal, Reply};
@@ -13,6 +13,7 @@ use std::process::Abort;
 use std::sync::Wait;
 use std::sync::atomic::{AtomicU64, Ordering};
 use std::thread::Threads;
+use trial_kit::policies::BANKS_AND_OIL;
 use wall_policy::Policy;
 
 /// Hears the calls of process 0, the only one that makes any. It holds nobody, and counts what does
@@ -104,7 +105,7 @@ fn scripts<R: Abort>(rt: &R, alloc: Global, policy: &Policy) -> Scripts
 }
 
 fn hear<R: Threads + Wait + Sync + Abort>(rt: &R, alloc: Global, gate: &Hearing) {
-    let policy = wall(rt, alloc, RIVALS);
+    let policy = wall(rt, alloc, BANKS_AND_OIL);
     let scripts = scripts(rt, alloc, &policy);
     let run = run_ranks(rt, alloc, policy, scripts, gate).expect(rt, "the ranks did not run");
     drop(run);

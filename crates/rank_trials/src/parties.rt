@@ -10,54 +10,6 @@ use std::process::Abort;
 use wall_labels::Label;
 use wall_policy::{Policy, read_policy};
 
-/// One process, at home with alpha.
-pub(crate) const ALONE: &str = r#"version = 1
-[[class]]
-name = "banks"
-datasets = ["alpha", "beta"]
-[[process]]
-name = "p0"
-home = "alpha"
-"#;
-
-/// Two processes, both at home with alpha.
-pub(crate) const FRIENDS: &str = r#"version = 1
-[[class]]
-name = "banks"
-datasets = ["alpha", "beta"]
-[[process]]
-name = "p0"
-home = "alpha"
-[[process]]
-name = "p1"
-home = "alpha"
-"#;
-
-/// Four processes: a0 at home with alpha, b0 with beta, c0 with crude, n0 nowhere. Sums of three
-/// contributors are sanitised.
-pub(crate) const RIVALS: &str = r#"version = 1
-[[class]]
-name = "banks"
-datasets = ["alpha", "beta"]
-[[class]]
-name = "oil"
-datasets = ["crude", "delta"]
-[[process]]
-name = "a0"
-home = "alpha"
-[[process]]
-name = "b0"
-home = "beta"
-[[process]]
-name = "c0"
-home = "crude"
-[[process]]
-name = "n0"
-[[sanitise]]
-op = "sum"
-least = 3
-"#;
-
 /// The policy of this text.
 pub(crate) fn wall<R: Abort>(rt: &R, alloc: Global, text: &str) -> Policy {
     read_policy(alloc, text.as_bytes()).expect(rt, "the policy is not read")

@@ -8,7 +8,7 @@ ghost use Rattle.std.specs.Prelude.{◌≡◌};
 ghost use Rattle.std.specs.List.{All};
 ghost use Rattle.run_model.specs.Known.{IsKnownLabel, HasKnownLabel, ScriptsHaveKnownLabels};
 
-use crate::parties::{RIVALS, front, label, open, wall};
+use crate::parties::{front, label, open, wall};
 use coll_routes::{Own, Signature};
 use coll_values::Block;
 use hall_core::{Act, Hall, Posting, Reply};
@@ -22,6 +22,7 @@ use std::sync::atomic::{AtomicU64, Ordering};
 use std::test::Fail;
 use std::thread;
 use std::thread::Threads;
+use trial_kit::policies::BANKS_AND_OIL;
 use wall_labels::{Label, Op};
 use wall_policy::Policy;
 
@@ -223,7 +224,7 @@ pub(crate) fn run_four<R: Threads + Wait + Sync + Abort, G: Gate + Sync>(
     alloc: Global,
     gate: &G,
 ) -> Run {
-    let policy = wall(rt, alloc, RIVALS);
+    let policy = wall(rt, alloc, BANKS_AND_OIL);
     let scripts = scripts(rt, alloc, &policy, true);
     let run = run_ranks(rt, alloc, policy, scripts, gate).expect(rt, "the ranks did not run");
     check(rt, &run.replies);
@@ -315,7 +316,7 @@ fn faults_are_told(rt: HostRuntime) -> Result<(), Fail> {
 #[test]
 fn each_process_has_a_script(rt: HostRuntime) {
     let alloc = rt.alloc();
-    let policy = wall(&rt, alloc, RIVALS);
+    let policy = wall(&rt, alloc, BANKS_AND_OIL);
     let scripts = scripts(&rt, alloc, &policy, false);
     let gate = new_count();
     let ran = run_ranks(&rt, alloc, policy, scripts, &gate);
@@ -389,7 +390,7 @@ fn wait_in_vain<R: Wait + Abort>(rt: &R, door: &Door, pass: &mut Pass, posting: 
 
 #[test]
 fn patience_ends(rt: HostRuntime) {
-    let policy = wall(&rt, rt.alloc(), RIVALS);
+    let policy = wall(&rt, rt.alloc(), BANKS_AND_OIL);
     let posting = posting(&rt, rt.alloc(), Label::Public, 1);
     let (door, mut passes) = open(&rt, rt.alloc(), policy);
     let mut pass = last(&rt, &door, &mut passes);

@@ -8,7 +8,7 @@ ghost use Rattle.std.specs.List.{All};
 ghost use Rattle.run_model.specs.Known.{HasKnownLabel, IsKnownLabel, ScriptsHaveKnownLabels};
 
 use crate::doors::{close, finished, is_delivered, is_posted, is_ready, is_refused, last, put};
-use crate::parties::{RIVALS, label};
+use crate::parties::label;
 use crate::{doors, ranks};
 use coll_routes::{Own, Signature};
 use hall_core::{Act, NoMemory, Posting, Refusal, Reply};
@@ -19,6 +19,7 @@ use std::alloc::Global;
 use std::process::Abort;
 use std::sync::Wait;
 use std::thread::Threads;
+use trial_kit::policies::BANKS_AND_OIL;
 use wall_labels::{Label, Op};
 use wall_policy::{Policy, PolicyFault, read_policy};
 
@@ -34,7 +35,10 @@ macro_rules! again {
 
 /// The policy of the tests.
 fn wall<R: Abort>(rt: &R, alloc: Global) -> Policy {
-    match again!(read_policy(alloc, RIVALS.as_bytes()), PolicyFault::NoMemory) {
+    match again!(
+        read_policy(alloc, BANKS_AND_OIL.as_bytes()),
+        PolicyFault::NoMemory
+    ) {
         Ok(policy) => policy,
         Err(_) => panic!(rt; "no policy"),
     }

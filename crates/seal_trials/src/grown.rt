@@ -2,25 +2,8 @@
 use audit_book::{BookFault, after_book, read_book};
 use book_chain::Chain;
 use std::process::Abort;
+use trial_kit::policies::BANKS_AND_CONSULTANTS;
 use wall_policy::{Policy, read_policy};
-
-// The datasets alpha and beta are rivals. The first two processes are at home there, and the two
-// others are consultants, at home nowhere.
-const WALL: &str = r#"version = 1
-[[class]]
-name = "banks"
-datasets = ["alpha", "beta"]
-[[process]]
-name = "a0"
-home = "alpha"
-[[process]]
-name = "b0"
-home = "beta"
-[[process]]
-name = "n0"
-[[process]]
-name = "m0"
-"#;
 
 // The first process was alone.
 const ALONE: &str = "book 1
@@ -103,7 +86,7 @@ end 1
 const EMPTY: &str = "book 1\nend 0\n";
 
 fn wall(rt: &(impl AllocGlobal + Abort)) -> Policy {
-    match read_policy(rt.alloc(), WALL.as_bytes()) {
+    match read_policy(rt.alloc(), BANKS_AND_CONSULTANTS.as_bytes()) {
         Ok(policy) => policy,
         Err(_) => panic!(rt; "the policy is not read"),
     }

@@ -1,9 +1,10 @@
 //! Texts whose finished lines are not the beginning of a sound book, and some whose are.
 use crate::cuts::{is_sealed_as, under};
-use crate::stored::{BANKS_AND_OIL, DENIED, text_of};
+use crate::stored::{DENIED, text_of};
 use book_seal::SealFault;
 use std::process::Abort;
 use std::test::Fail;
+use trial_kit::policies::BANKS_AND_OIL;
 use wall_policy::Policy;
 
 // What stands in its place in the book of the denied broadcast, and why that has no seal.

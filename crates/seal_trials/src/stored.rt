@@ -1,30 +1,6 @@
 //! Sound books, with the policies that they are of.
 use std::alloc::{AllocError, Global};
-
-/// Two banks and two oil firms; the fourth process has no home. A sum of three or more is
-/// sanitised.
-pub(crate) const BANKS_AND_OIL: &str = r#"version = 1
-[[class]]
-name = "banks"
-datasets = ["alpha", "beta"]
-[[class]]
-name = "oil"
-datasets = ["crude", "delta"]
-[[process]]
-name = "a0"
-home = "alpha"
-[[process]]
-name = "b0"
-home = "beta"
-[[process]]
-name = "c0"
-home = "crude"
-[[process]]
-name = "n0"
-[[sanitise]]
-op = "sum"
-least = 3
-"#;
+use trial_kit::policies::BANKS_AND_OIL;
 
 /// Four processes at home at one bank.
 pub(crate) const FOUR_OF_A_BANK: &str = r#"version = 2

@@ -3,12 +3,12 @@ ghost use Rattle.std.specs.List.{All};
 ghost use Rattle.run_model.specs.Known.{IsKnownEntry};
 
 use crate::statements::listing;
-use crate::walls::{WALL, WALL_IN_VERSION_2};
 use audit_book::*;
 use std::alloc::Global;
 use std::fmt::Display;
 use std::process::Abort;
 use std::test::Fail;
+use trial_kit::policies::{BANKS_AND_OIL, SUMS_OF_THREE_FIRMS};
 use wall_labels::memory::{ExpectingSink, Fuse};
 use wall_policy::{Policy, read_policy};
 
@@ -101,7 +101,7 @@ pub(crate) fn is_whole(alloc: Global, policy: &Policy, text: &[u8]) -> bool {
 
 #[test]
 fn a_book_is_read_and_written_again(rt: HostRuntime) -> Result<(), Fail> {
-    under(&rt, WALL, |policy| again(&rt, policy))
+    under(&rt, BANKS_AND_OIL, |policy| again(&rt, policy))
 }
 
 fn again(rt: &(impl AllocGlobal + Abort), policy: &Policy) -> Result<(), Fail> {
@@ -116,7 +116,7 @@ fn again(rt: &(impl AllocGlobal + Abort), policy: &Policy) -> Result<(), Fail> {
 // The first line has the version of the policy.
 #[test]
 fn a_book_is_of_the_policys_version(rt: HostRuntime) -> Result<(), Fail> {
-    under(&rt, WALL_IN_VERSION_2, |policy| version_2(&rt, policy))
+    under(&rt, SUMS_OF_THREE_FIRMS, |policy| version_2(&rt, policy))
 }
 
 fn version_2(rt: &(impl AllocGlobal + Abort), policy: &Policy) -> Result<(), Fail> {
@@ -129,7 +129,7 @@ fn version_2(rt: &(impl AllocGlobal + Abort), policy: &Policy) -> Result<(), Fai
 
 #[test]
 fn a_front_of_a_book_is_cut(rt: HostRuntime) -> Result<(), Fail> {
-    under(&rt, WALL, |policy| fronts(&rt, policy))
+    under(&rt, BANKS_AND_OIL, |policy| fronts(&rt, policy))
 }
 
 fn fronts(rt: &(impl AllocGlobal + Abort), policy: &Policy) -> Result<(), Fail> {
@@ -174,7 +174,7 @@ const SPOILT: &[(&str, &str, u64)] = &[
 
 #[test]
 fn spoilt_books_have_a_first_bad_line(rt: HostRuntime) -> Result<(), Fail> {
-    under(&rt, WALL, |policy| spoilt(&rt, policy))
+    under(&rt, BANKS_AND_OIL, |policy| spoilt(&rt, policy))
 }
 
 fn spoilt(rt: &(impl AllocGlobal + Abort), policy: &Policy) -> Result<(), Fail> {
@@ -241,7 +241,7 @@ const LINES: &[(&str, bool)] = &[
 
 #[test]
 fn lines_of_all_forms_are_read_and_written(rt: HostRuntime) -> Result<(), Fail> {
-    under(&rt, WALL, |policy| forms(&rt, policy))
+    under(&rt, BANKS_AND_OIL, |policy| forms(&rt, policy))
 }
 
 fn forms(rt: &(impl AllocGlobal + Abort), policy: &Policy) -> Result<(), Fail> {
@@ -268,7 +268,7 @@ const LONG: &[(&str, &str)] = &[
 // Lines of up to a few thousand bytes: lists of as many numbers as there can be members, and more.
 #[test]
 fn long_lines_are_read_and_written(rt: HostRuntime) -> Result<(), Fail> {
-    under(&rt, WALL, |policy| long_lines(&rt, policy))
+    under(&rt, BANKS_AND_OIL, |policy| long_lines(&rt, policy))
 }
 
 fn long_lines(rt: &(impl AllocGlobal + Abort), policy: &Policy) -> Result<(), Fail> {
@@ -293,7 +293,7 @@ fn is_as_said(alloc: Global, policy: &Policy, text: &[u8], is_form: bool) -> boo
 
 #[test]
 fn a_front_is_written_where_the_writer_fails(rt: HostRuntime) -> Result<(), Fail> {
-    under(&rt, WALL, |policy| broken_off(&rt, policy))
+    under(&rt, BANKS_AND_OIL, |policy| broken_off(&rt, policy))
 }
 
 fn broken_off(rt: &(impl AllocGlobal + Abort), policy: &Policy) -> Result<(), Fail> {

@@ -4,26 +4,9 @@ use crate::replays::{Case, is_replayed_under};
 use crate::scripts::policy_of;
 use audit_book::{BookFault, after_book, check_book, read_book};
 use std::process::Abort;
+use trial_kit::policies::BANKS_AND_CONSULTANTS;
 use wall_labels::memory::Fuse;
 use wall_policy::Policy;
-
-// The datasets alpha and beta are rivals. The first two processes are at home there, and the two
-// others are consultants, at home nowhere.
-const WALL: &str = r#"version = 1
-[[class]]
-name = "banks"
-datasets = ["alpha", "beta"]
-[[process]]
-name = "a0"
-home = "alpha"
-[[process]]
-name = "b0"
-home = "beta"
-[[process]]
-name = "n0"
-[[process]]
-name = "m0"
-"#;
 
 // a0 and n0 have one communicator, and b0 and m0 another; n0 is sent data of alpha.
 const ALPHA_TO_N0: &str = "book 1
@@ -126,7 +109,7 @@ fn after_text(
 
 // The policy after all of these books, or the fault of the first that has one.
 fn after_all(rt: &(impl AllocGlobal + Abort), texts: &[&str]) -> Result<Policy, BookFault> {
-    let mut policy = policy_of(rt, WALL);
+    let mut policy = policy_of(rt, BANKS_AND_CONSULTANTS);
     for text in texts {
         policy = after_text(rt, policy, text)?;
     }

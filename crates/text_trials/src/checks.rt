@@ -2,7 +2,6 @@
 ghost use Rattle.std.specs.Prelude.{◌<◌};
 
 use crate::books::under;
-use crate::walls::WALL;
 use audit_book::{BookFault, check_book, read_book};
 use coll_routes::{Own, Signature, Stated};
 use mpi_elems::ElemType;
@@ -10,6 +9,7 @@ use run_model::{Entry, Outcome};
 use run_state::Book;
 use std::process::Abort;
 use std::test::Fail;
+use trial_kit::policies::BANKS_AND_OIL;
 use wall_labels::{DatasetId, Label, ProcessId};
 use wall_policy::Policy;
 use wall_verdict::Rule;
@@ -272,5 +272,5 @@ fn expect_of_texts(rt: &(impl AllocGlobal + Abort), policy: &Policy) -> Result<(
 // A post that would be refused and a verdict that is not due are the first bad entry of their book.
 #[test]
 fn what_no_post_gives_is_the_first_bad_entry(rt: HostRuntime) -> Result<(), Fail> {
-    under(&rt, WALL, |policy| expect_of_texts(&rt, policy))
+    under(&rt, BANKS_AND_OIL, |policy| expect_of_texts(&rt, policy))
 }

@@ -1,7 +1,6 @@
 //! Numbers of as many digits as readers and writers take at once, of one less and of one more: they
 //! come back in the words in which they were posted, and what is no number of its type is refused.
 
-use crate::dice::Dice;
 use crate::replays::{Case, is_replayed, is_replayed_under};
 use crate::scripts::policy_of;
 use crate::walls::FOUR;
@@ -9,6 +8,7 @@ use hall_script::{LineFault, ScriptFault};
 use std::alloc::{AllocError, Global};
 use std::process::Abort;
 use std::test::Fail;
+use trial_kit::Random;
 use wall_labels::memory::Fuse;
 
 // A type of numbers.
@@ -172,7 +172,7 @@ const NO_DIGITS: [char; 5] = ['x', '/', ':', ',', '-'];
 
 impl Type {
     // Puts one of its numbers: one of the ends, or any of so many digits.
-    fn put_number(&self, dice: &mut Dice, text: &mut String) -> Result<(), AllocError> {
+    fn put_number(&self, dice: &mut Random, text: &mut String) -> Result<(), AllocError> {
         if dice.is_one_in(3) {
             return text.push_str(dice.choose(self.ends).copied().unwrap_or("0"));
         }
@@ -184,7 +184,7 @@ impl Type {
     }
 
     // So many elements, with a space between two numbers. Now and then all are the same one.
-    fn list(&self, alloc: Global, dice: &mut Dice, count: u64) -> Result<String, AllocError> {
+    fn list(&self, alloc: Global, dice: &mut Random, count: u64) -> Result<String, AllocError> {
         let mut list = String::new(alloc);
         let mut word = String::new(alloc);
         self.put_number(dice, &mut word)?;
@@ -214,7 +214,7 @@ impl Told {
     fn put_lists(
         &mut self,
         alloc: Global,
-        dice: &mut Dice,
+        dice: &mut Random,
         ty: &Type,
         request: u64,
         count: u64,
@@ -248,7 +248,7 @@ fn expect_back(rt: &(impl AllocGlobal + Abort), ty: &Type) -> Result<(), Fail> {
     let mut request = 0u64;
     for turn in 0..4 {
         for count in COUNTS {
-            let mut dice = Dice::new(turn, count);
+            let mut dice = Random::new(0, turn, count);
             told.put_lists(rt.alloc(), &mut dice, ty, request, count)?;
             request = request.wrapping_add(1);
         }

@@ -10,27 +10,14 @@ use coll_routes::{Own, Signature};
 use hall_core::{Act, BriefHall, Call, Posting, Reply, finish};
 use mpi_elems::{Buffer, ElemType};
 use std::alloc::Global;
-use std::fs;
 use std::process::Abort;
 use std::rt::Files;
 use std::test::Fail;
+use trial_kit::pages;
 use wall_labels::Label;
 
 /// One process, at home nowhere.
 pub(crate) const LONE: &str = "version = 1\n[[process]]\nname = \"n0\"\n";
-
-/// The pages of memory that this process has asked for (at place 0), and of these those that are
-/// resident (1), as the system tells.
-fn pages<R: Files + AllocGlobal>(rt: &R, place: usize) -> Result<u64, Fail> {
-    let text = fs::read_to_string(rt, "/proc/self/statm")?;
-    let Some(word) = text.as_str().split(' ').nth(place) else {
-        return Err(Fail::from("the system tells no pages"));
-    };
-    match word.parse::<u64>() {
-        Ok(pages) => Ok(pages),
-        Err(_) => Err(Fail::from("the pages are no number")),
-    }
-}
 
 /// A post that gives nothing.
 fn nothing(alloc: Global, comm: u32, sig: Signature) -> Posting

@@ -11,8 +11,6 @@ mod chains;
 #[cfg(test)]
 mod checks;
 #[cfg(test)]
-mod dice;
-#[cfg(test)]
 mod digits;
 #[cfg(test)]
 mod halls;

@@ -3,16 +3,17 @@
 ghost use Rattle.std.specs.Prelude.{◌<◌};
 ghost use Rattle.run_model.specs.Known.{HasKnownLabel};
 
-use crate::dice::Dice;
 use crate::replays::{Case, is_replayed_under};
 use crate::scripts::policy_of;
-use crate::walls::{FOUR, WALL};
+use crate::walls::FOUR;
 use hall_core::Hall;
 use hall_script::{read_call, write_reply};
 use run_model::Call;
 use std::alloc::{AllocError, Global};
 use std::process::Abort;
 use std::test::Fail;
+use trial_kit::Random;
+use trial_kit::policies::BANKS_AND_OIL;
 use wall_labels::NoMemory;
 use wall_labels::memory::Fuse;
 
@@ -25,7 +26,7 @@ pub(crate) struct Parties {
 
 /// Banks and oil firms: most is denied.
 pub(crate) const RIVALS: Parties = Parties {
-    wall: WALL,
+    wall: BANKS_AND_OIL,
     labels: ["alpha", "beta", "crude", "crude"],
 };
 
@@ -114,19 +115,19 @@ fn seat(group: u64, process: u64, halvings: u64) -> (u64, u64) {
 
 // How many numbers are given: as many as readers and writers take at once, one less and one more,
 // and now and then so many that the line of a delivery has 1,000 to 1,100 bytes.
-fn count_of(dice: &mut Dice, words: &str, is_long: bool) -> u64 {
+fn count_of(dice: &mut Random, words: &str, is_long: bool) -> u64 {
     if !is_long {
         return dice.pick(&[0, 1, 7, 8, 9]);
     }
     match words {
-        "gather" | "allgather" | "allgatherv" => 25 + dice.below(3),
-        _ => 99 + dice.below(10),
+        "gather" | "allgather" | "allgatherv" => 25 + dice.below(3) as u64,
+        _ => 99 + dice.below(10) as u64,
     }
 }
 
 // The collective of this number.
 fn collective_of(seed: u64, number: u64) -> Collective {
-    let mut dice = Dice::new(seed, number);
+    let mut dice = Random::new(0, seed, number);
     let group = dice.pick(&[0, 0, 0, 0, 0, 1, 2, 3, 4]);
     let (words, form) = dice.pick(&KINDS);
     let is_long = dice.is_one_in(10);
@@ -134,7 +135,7 @@ fn collective_of(seed: u64, number: u64) -> Collective {
         group,
         words,
         form,
-        root: dice.below(if group < 3 { 4 } else { 2 }),
+        root: dice.below(if group < 3 { 4 } else { 2 }) as u64,
         elem_type: dice.pick(&["int64", "uint64"]),
         count: count_of(&mut dice, words, is_long),
         is_long,
@@ -166,12 +167,12 @@ impl Collective {
     }
 
     // A number behind a space.
-    fn put_number(&self, dice: &mut Dice, text: &mut String) -> Result<(), AllocError> {
+    fn put_number(&self, dice: &mut Random, text: &mut String) -> Result<(), AllocError> {
         text.push_str(" ")?;
         if self.is_long {
             return dice.put_digits(9, text);
         }
-        let number = dice.bits() >> dice.below(64);
+        let number = dice.bits() >> dice.below(64) as u64;
         if self.elem_type == "uint64" {
             return write!(text, "{number}");
         }
@@ -189,7 +190,7 @@ struct Made {
     parties: Parties,
     seed: u64,
     halvings: u64,
-    dice: Dice,
+    dice: Random,
     text: String,
 }
 
@@ -247,8 +248,8 @@ impl Made {
 
     // Puts a take of a request for a collective up to this number, or a little above.
     fn take_any(&mut self, number: u64) -> Result<(), AllocError> {
-        let process = self.dice.below(4);
-        let number = self.dice.below(number.saturating_add(3));
+        let process = self.dice.below(4) as u64;
+        let number = self.dice.below(number.saturating_add(3) as usize) as u64;
         self.take(process, self.request(number))
     }
 
@@ -270,7 +271,7 @@ impl Made {
             self.take_any(number)?;
         }
         if self.dice.is_one_in(2) {
-            let back = self.dice.below(4);
+            let back = self.dice.below(4) as u64;
             self.take(process, self.request(number).saturating_sub(back))?;
         }
         if self.dice.is_one_in(32) {
@@ -286,10 +287,10 @@ impl Made {
     {
         let one = self.dice.below(4);
         let other = self.dice.below(4);
-        if next[one as usize] <= next[other as usize] {
-            one
+        if next[one] <= next[other] {
+            one as u64
         } else {
-            other
+            other as u64
         }
     }
 
@@ -335,7 +336,7 @@ pub(crate) fn made_script(
         parties,
         seed,
         halvings,
-        dice: Dice::new(seed, u64::MAX),
+        dice: Random::new(0, seed, u64::MAX),
         text: String::from_str(alloc, FRONT)?,
     };
     made.put_halvings()?;

@@ -9,7 +9,6 @@ ghost use Rattle.std.specs.List.{All};
 ghost use Rattle.run_model.specs.Known.{HasKnownLabel, IsKnownReply, IsKnownEntry};
 
 use crate::runs::{ASKED_IN_BETWEEN, DENIED, GRIDS, GROUPS, Run, SPLIT, SUMMED};
-use crate::walls::WALL;
 use crate::worked::{all_hold_as_said, has};
 use audit_book::*;
 use hall_core::Hall;
@@ -17,6 +16,7 @@ use hall_script::{LineFault, read_call, write_reply};
 use run_model::{Call, Refusal, Reply};
 use run_state::Book;
 use std::process::Abort;
+use trial_kit::policies::BANKS_AND_OIL;
 use wall_labels::memory::{ExpectingSink, Fuse};
 use wall_labels::{NoMemory, Op};
 use wall_policy::{Policy, PolicyFault, read_policy};
@@ -363,7 +363,7 @@ end 5
 
 #[test]
 fn a_policy_and_its_books_are_read(rt: HostRuntime) {
-    let policy = policy_of(&rt, WALL);
+    let policy = policy_of(&rt, BANKS_AND_OIL);
     assert!(&rt; policy.processes() == 4 && policy.datasets() == 4);
     assert!(&rt; policy.least(Op::Sum) == Some(3) && policy.least(Op::Max).is_none());
     expect_book(&rt, &policy, DENIED_BOOK, Ok(()));

@@ -1,7 +1,6 @@
 //! Worked runs: each call with its reply, and who has had access to what at the end. All of it was
 //! worked by hand from the rules.
-
-use crate::walls::{ALONE, BANK, WALL, WALL_IN_VERSION_2};
+use trial_kit::policies::{ALONE, BANKS_AND_OIL, FOUR_OF_A_BANK, SUMS_OF_THREE_FIRMS};
 
 /// The datasets of the policies, in order.
 pub(crate) const ALPHA: u32 = 0;
@@ -35,7 +34,7 @@ pub(crate) const HOMES_OF_THE_BANK: &[(u32, u32)] = &[
 
 /// a0's numbers would reach its rival b0.
 pub(crate) const DENIED: Run = Run {
-    wall: WALL,
+    wall: BANKS_AND_OIL,
     in_groups: false,
     calls: &[
         ("post 0 0 bcast 0 int32 2 as alpha 7 -1", "posted 0"),
@@ -53,7 +52,7 @@ pub(crate) const DENIED: Run = Run {
 
 /// A sum of three contributors is sanitised: it is charged to nobody.
 pub(crate) const SUMMED: Run = Run {
-    wall: WALL,
+    wall: BANKS_AND_OIL,
     in_groups: false,
     calls: &[
         ("post 0 0 allreduce sum int32 1 as alpha 5", "posted 0"),
@@ -71,7 +70,7 @@ pub(crate) const SUMMED: Run = Run {
 
 /// A communicator for each colour, in the order of colours.
 pub(crate) const SPLIT: Run = Run {
-    wall: BANK,
+    wall: FOUR_OF_A_BANK,
     in_groups: false,
     calls: &[
         ("post 0 0 split 2 0", "posted 0"),
@@ -88,7 +87,7 @@ pub(crate) const SPLIT: Run = Run {
 
 /// A grid that is too large, one of no dimensions, and one of two by two with its rows.
 pub(crate) const GRIDS: Run = Run {
-    wall: BANK,
+    wall: FOUR_OF_A_BANK,
     in_groups: false,
     calls: &[
         ("post 0 0 cart_create 5 0", "refused BadDims"),
@@ -119,7 +118,7 @@ pub(crate) const GRIDS: Run = Run {
 
 /// c0 and n0 get what a0 sends to them, taken or not.
 pub(crate) const SENT: Run = Run {
-    wall: WALL,
+    wall: BANKS_AND_OIL,
     in_groups: true,
     calls: &[
         ("post 0 1 bcast 0 int32 2 as alpha 7 -1", "posted 5"),
@@ -135,7 +134,7 @@ pub(crate) const SENT: Run = Run {
 /// As before, and then c0 would give its own number to the two who hold data of a rival: its write is
 /// barred, and all are told why they get nothing.
 pub(crate) const SENT_AND_BARRED: Run = Run {
-    wall: WALL,
+    wall: BANKS_AND_OIL,
     in_groups: true,
     calls: &[
         ("post 0 1 bcast 0 int32 2 as alpha 7 -1", "posted 5"),
@@ -154,7 +153,7 @@ pub(crate) const SENT_AND_BARRED: Run = Run {
 /// n0 would get of two rivals at once: it is named, with the second of them. A denial charges nobody:
 /// n0 may write as public afterwards.
 pub(crate) const GATHERED: Run = Run {
-    wall: WALL,
+    wall: BANKS_AND_OIL,
     in_groups: true,
     calls: &[
         ("post 0 2 gather 2 int32 1 as alpha 1", "posted 5"),
@@ -170,7 +169,7 @@ pub(crate) const GATHERED: Run = Run {
 
 /// The same of all four.
 pub(crate) const GATHERED_OF_ALL: Run = Run {
-    wall: WALL,
+    wall: BANKS_AND_OIL,
     in_groups: false,
     calls: &[
         ("post 0 0 gather 3 int32 1 as alpha 1", "posted 0"),
@@ -187,7 +186,7 @@ pub(crate) const GATHERED_OF_ALL: Run = Run {
 
 /// n0 asks a0 before b0: it gets a0's number, and may then not have b0's.
 pub(crate) const ASKED_IN_TURN: Run = Run {
-    wall: WALL,
+    wall: BANKS_AND_OIL,
     in_groups: true,
     calls: &[
         ("post 0 3 bcast 0 int32 1 as alpha 10", "posted 5"),
@@ -205,7 +204,7 @@ pub(crate) const ASKED_IN_TURN: Run = Run {
 /// n0 asks b0 before a0: it gets b0's number, and may then not have a0's. The verdict goes by what
 /// was granted, taken or not.
 pub(crate) const ASKED_OF_BOTH: Run = Run {
-    wall: WALL,
+    wall: BANKS_AND_OIL,
     in_groups: true,
     calls: &[
         ("post 0 3 bcast 0 int32 1 as alpha 10", "posted 5"),
@@ -223,7 +222,7 @@ pub(crate) const ASKED_OF_BOTH: Run = Run {
 /// n0 asks both before either has posted: the verdict goes by its history once the last member has
 /// posted, and not by the one that it had at its own post.
 pub(crate) const ASKED_FIRST: Run = Run {
-    wall: WALL,
+    wall: BANKS_AND_OIL,
     in_groups: true,
     calls: &[
         ("post 3 3 bcast 0 int32 1", "posted 5"),
@@ -239,7 +238,7 @@ pub(crate) const ASKED_FIRST: Run = Run {
 /// What n0 gave to a gather passed the star rule when it was posted; what it got since doesn't
 /// matter.
 pub(crate) const ASKED_IN_BETWEEN: Run = Run {
-    wall: WALL,
+    wall: BANKS_AND_OIL,
     in_groups: true,
     calls: &[
         ("post 3 3 gather 0 int32 1 as alpha 7", "posted 5"),
@@ -253,7 +252,7 @@ pub(crate) const ASKED_IN_BETWEEN: Run = Run {
 
 /// A write is an access at once: who gave alpha to a gather that waits may not have beta.
 pub(crate) const GIVEN_AND_WAITING: Run = Run {
-    wall: WALL,
+    wall: BANKS_AND_OIL,
     in_groups: true,
     calls: &[
         ("post 3 3 gather 0 int32 1 as alpha 7", "posted 5"),
@@ -267,7 +266,7 @@ pub(crate) const GIVEN_AND_WAITING: Run = Run {
 
 /// A number goes from a0 through n0 to c0, and not to b0.
 pub(crate) const RELAYED: Run = Run {
-    wall: WALL,
+    wall: BANKS_AND_OIL,
     in_groups: true,
     calls: &[
         ("post 0 3 bcast 0 int32 1 as alpha 10", "posted 5"),
@@ -286,7 +285,7 @@ pub(crate) const RELAYED: Run = Run {
 /// Labels without elements are none: nobody is barred, nothing is charged, and each gets an empty
 /// block of each.
 pub(crate) const NOTHING_GIVEN: Run = Run {
-    wall: WALL,
+    wall: BANKS_AND_OIL,
     in_groups: false,
     calls: &[
         ("post 0 0 allgather int32 0 as alpha", "posted 0"),
@@ -314,14 +313,14 @@ pub(crate) const SCANNED: &[(&str, &str)] = &[
 ];
 
 pub(crate) const SCANNED_IN_VERSION_1: Run = Run {
-    wall: WALL,
+    wall: BANKS_AND_OIL,
     in_groups: false,
     calls: SCANNED,
     held: HOMES,
 };
 
 pub(crate) const SCANNED_IN_VERSION_2: Run = Run {
-    wall: WALL_IN_VERSION_2,
+    wall: SUMS_OF_THREE_FIRMS,
     in_groups: false,
     calls: SCANNED,
     held: HOMES,
@@ -330,7 +329,7 @@ pub(crate) const SCANNED_IN_VERSION_2: Run = Run {
 /// A sum and a greatest number are out at once. Who posts the second first is refused, and posts
 /// both in order then.
 pub(crate) const TWO_AT_ONCE: Run = Run {
-    wall: BANK,
+    wall: FOUR_OF_A_BANK,
     in_groups: false,
     calls: &[
         ("post 0 0 allreduce sum int32 1 as alpha 1", "posted 0"),
@@ -354,7 +353,7 @@ pub(crate) const TWO_AT_ONCE: Run = Run {
 
 /// What no communicator or group allows, and who is in what.
 pub(crate) const REFUSED_IN_GROUPS: Run = Run {
-    wall: WALL,
+    wall: BANKS_AND_OIL,
     in_groups: true,
     calls: &[
         ("post 1 3 bcast 9 int32 1", "refused NotMember"),

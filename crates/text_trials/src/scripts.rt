@@ -8,7 +8,6 @@ ghost use Rattle.wall_policy.specs.Policy.{ChineseWall};
 ghost use Rattle.run_model.specs.Known.{HasKnownLabel, IsKnownReply, ScriptsHaveKnownLabels};
 ghost use Rattle.run_model.specs.Known.{IsKnownLabel};
 
-use crate::walls::WALL;
 use coll_text::{label_text, put, put_decimal, put_spaced, write_statement};
 use hall_script::*;
 use mpi_elems::{Buffer, ElemType};
@@ -16,6 +15,7 @@ use run_model::{Act, Block, Call, Delivery, Integers, Posting, Refusal, Reply, R
 use std::alloc::{AllocError, Global};
 use std::process::Abort;
 use std::test::Fail;
+use trial_kit::policies::BANKS_AND_OIL;
 use wall_labels::memory::{Fuse, MemorySource};
 use wall_labels::{DatasetId, Label, NoMemory, ProcessId};
 use wall_policy::{Policy, read_policy};
@@ -29,7 +29,7 @@ pub(crate) fn policy_of(rt: &(impl AllocGlobal + Abort), text: &str) -> Policy {
 }
 
 pub(crate) fn wall(rt: &(impl AllocGlobal + Abort)) -> Policy {
-    policy_of(rt, WALL)
+    policy_of(rt, BANKS_AND_OIL)
 }
 
 // Lines that are no call, and their first fault.

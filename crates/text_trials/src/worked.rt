@@ -7,12 +7,12 @@ use crate::runs::{
     SENT, SENT_AND_BARRED, SPLIT, SUMMED, TWO_AT_ONCE,
 };
 use crate::scripts::policy_of;
-use crate::walls::{ALONE, BANK};
 use hall_core::Hall;
 use hall_script::replay;
 use std::alloc::{AllocError, Global};
 use std::process::Abort;
 use std::test::Fail;
+use trial_kit::policies::{ALONE, FOUR_OF_A_BANK};
 use wall_labels::memory::{ExpectingSink, Fuse, MemorySource};
 use wall_labels::{DatasetId, ProcessId};
 
@@ -248,7 +248,7 @@ fn put_full_window(texts: &mut Texts) -> Result<(), AllocError> {
 fn a_request_that_was_taken_leaves_its_place(rt: HostRuntime) -> Result<(), Fail> {
     let mut texts = no_texts(rt.alloc());
     put_full_window(&mut texts)?;
-    assert!(&rt; is_told(&rt, BANK, &texts, HOMES_OF_THE_BANK));
+    assert!(&rt; is_told(&rt, FOUR_OF_A_BANK, &texts, HOMES_OF_THE_BANK));
     Ok(())
 }
 

@@ -10,9 +10,9 @@ use crate::collective::{Collective, Kind, Op};
 use crate::desk::{Case, Desk};
 use crate::groups::{Group, split_world};
 use crate::policy::{Homes, Wall};
-use crate::random::Random;
 use crate::text::Element;
 use std::alloc::{AllocError, Global};
+use trial_kit::Random;
 
 const PROCESSES: usize = 256;
 

@@ -2,10 +2,10 @@
 
 use crate::collective::Collective;
 use crate::policy::Wall;
-use crate::random::Random;
 use crate::script::{Gift, Script};
 use crate::text::{Element, Text};
 use std::alloc::{AllocError, Global};
+use trial_kit::Random;
 
 // By how much the last collective may take a script beyond its size.
 const SPARE: usize = 700_000;

@@ -3,9 +3,9 @@ ghost use Rattle.std.specs.Prelude.{◌<◌};
 
 use crate::collective::{Collective, Kind, Op};
 use crate::desk::Desk;
-use crate::random::Random;
 use crate::text::Element;
 use std::alloc::{AllocError, Global};
+use trial_kit::Random;
 
 /// A communicator and its members, in the order of their ranks.
 #[derive(Drop)]

@@ -2,10 +2,8 @@
 
 use crate::denials::denials;
 use crate::desk::Case;
-use crate::devices::{Kept, source};
 use crate::digest::Digest;
 use crate::grids::grids;
-use crate::random::Random;
 use crate::small::small;
 use crate::threads::threads;
 use crate::waiting::waiting;
@@ -15,6 +13,8 @@ use program_commands::{audit_on, replay_on, run_on};
 use std::alloc::{AllocError, Global};
 use std::sync::Wait;
 use std::thread::Threads;
+use trial_kit::{Kept, Random};
+use wall_labels::memory::{Fuse, MemorySource};
 
 /// What is run.
 #[derive(Clone, Copy, PartialEq)]
@@ -72,7 +72,11 @@ impl Job {
 
     /// The inputs of a round.
     pub fn case(self, alloc: Global, extent: Extent, round: u32) -> Result<Case, AllocError> {
-        let random = Random::new(extent.seed, self.number(), round);
+        let random = Random::new(
+            u64::from(extent.seed),
+            u64::from(self.number()),
+            u64::from(round),
+        );
         match self {
             Job::Small => small(alloc, random, extent.size),
             Job::Wide => wide(alloc, random, extent.size),
@@ -81,6 +85,14 @@ impl Job {
             Job::Waiting => waiting(alloc, random, extent.size),
             Job::Threads => threads(alloc, random, extent.size),
         }
+    }
+}
+
+// A reader of these bytes.
+fn source(bytes: &[u8]) -> MemorySource<'_> {
+    MemorySource {
+        rest: bytes,
+        fuse: Fuse::Whole,
     }
 }
 

@@ -1,9 +1,9 @@
 //! Random elements as scripts spell them, in store: so a post takes its elements from here by few
 //! copies, and next to no time goes into the making of inputs.
 
-use crate::random::Random;
 use crate::text::{Element, Text};
 use std::alloc::{AllocError, Global};
+use trial_kit::Random;
 
 // How many elements there are of a type.
 const STORE: usize = 2048;

@@ -2,9 +2,9 @@
 
 use crate::policy::Wall;
 use crate::pool::Pool;
-use crate::random::Random;
 use crate::text::{Element, Text};
 use std::alloc::{AllocError, Global};
+use trial_kit::Random;
 
 /// What a post gives: so many elements of a type, labelled with the process's home; or, if it is
 /// stray, with a dataset of another class.

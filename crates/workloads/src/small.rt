@@ -4,8 +4,8 @@
 use crate::desk::{Case, Desk};
 use crate::groups::{nested_groups, small_collectives};
 use crate::policy::{Homes, Wall};
-use crate::random::Random;
 use std::alloc::{AllocError, Global};
+use trial_kit::Random;
 
 /// A case of about so many bytes.
 pub fn small(alloc: Global, random: Random, size: usize) -> Result<Case, AllocError> {

@@ -5,8 +5,8 @@
 use crate::desk::{Case, Desk};
 use crate::groups::{nested_groups, small_collectives};
 use crate::policy::{Homes, Wall};
-use crate::random::Random;
 use std::alloc::{AllocError, Global};
+use trial_kit::Random;
 
 /// A case of about so many bytes.
 pub fn threads(alloc: Global, random: Random, size: usize) -> Result<Case, AllocError> {

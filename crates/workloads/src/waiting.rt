@@ -6,9 +6,9 @@ use crate::collective::{Collective, Kind, Op};
 use crate::constructors::{Comms, GRID, PROCESSES, construct};
 use crate::desk::{Case, Desk};
 use crate::policy::{Homes, Wall};
-use crate::random::Random;
 use crate::text::{Element, Text};
 use std::alloc::{AllocError, Global};
+use trial_kit::Random;
 
 // The copies of the world that the waits are spread over: the communicators 1 to 25.
 const COPIES: usize = 25;

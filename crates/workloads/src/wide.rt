@@ -3,9 +3,9 @@
 use crate::collective::{Collective, Kind, Op};
 use crate::desk::{Case, Desk};
 use crate::policy::{Homes, Wall};
-use crate::random::Random;
 use crate::text::Element;
 use std::alloc::{AllocError, Global};
+use trial_kit::Random;
 
 const PROCESSES: usize = 16;
 

@@ -1,4 +1,4 @@
-//! Numbers and words by chance.
+//! A generator of pseudo-random numbers: SplitMix64.
 ghost use Rattle.std.specs.Prelude.{◌<◌, length};
 
 use std::alloc::AllocError;
@@ -13,58 +13,60 @@ fn mix(number: u64) -> u64 {
     z ^ (z >> 31)
 }
 
-/// A generator of numbers (SplitMix64). What it gives depends on its two seeds alone.
+/// A generator. What it gives depends on its three seeds alone.
 #[derive(Drop)]
-pub(crate) struct Dice {
+pub struct Random {
     state: u64,
 }
 
-impl Dice {
-    pub(crate) fn new(seed: u64, second: u64) -> Dice {
-        Dice {
-            state: mix(mix(seed) ^ second),
+impl Random {
+    /// The generator of these seeds.
+    pub fn new(seed: u64, second: u64, third: u64) -> Random {
+        let pair = mix(seed ^ GAMMA) ^ second;
+        Random {
+            state: mix(mix(pair) ^ third),
         }
     }
 
-    /// A number of 64 bits.
-    pub(crate) fn bits(&mut self) -> u64 {
+    /// A number of 64 random bits.
+    pub fn bits(&mut self) -> u64 {
         self.state = self.state.wrapping_add(GAMMA);
         mix(self.state)
     }
 
     /// A number below the bound.
-    pub(crate) fn below(&mut self, bound: u64) -> u64
+    pub fn below(&mut self, bound: usize) -> usize
         requires { 0 < bound }
         ensures { result < bound }
     {
-        self.bits() % bound
+        self.bits() as usize % bound
     }
 
     /// Whether one of so many chances comes.
-    pub(crate) fn is_one_in(&mut self, chances: u64) -> bool
+    pub fn is_one_in(&mut self, chances: usize) -> bool
         requires { 0 < chances }
     {
         self.below(chances) == 0
     }
 
     /// One of the items.
-    pub(crate) fn pick<T: Copy>(&mut self, items: &[T]) -> T
+    pub fn pick<T: Copy>(&mut self, items: &[T]) -> T
         requires { 0 < length items.now }
     {
-        items[self.below(items.len() as u64) as usize]
+        items[self.below(items.len())]
     }
 
     /// One of the items, if there is one.
-    pub(crate) fn choose<'a, T>(&mut self, items: &'a [T]) -> Option<&'a T> {
-        let count = items.len() as u64;
+    pub fn choose<'a, T>(&mut self, items: &'a [T]) -> Option<&'a T> {
+        let count = items.len();
         if count == 0 {
             return None;
         }
-        items.get(self.below(count) as usize)
+        items.get(self.below(count))
     }
 
     /// Puts so many digits, the first of which is a 1 or a 9.
-    pub(crate) fn put_digits(&mut self, count: u64, text: &mut String) -> Result<(), AllocError> {
+    pub fn put_digits(&mut self, count: u64, text: &mut String) -> Result<(), AllocError> {
         let first = self.pick(&[1, 9]);
         write!(text, "{first}")?;
         for _ in 1..count {
@@ -72,5 +74,15 @@ impl Dice {
             write!(text, "{digit}")?;
         }
         Ok(())
+    }
+
+    /// Puts the items into a random order.
+    pub fn shuffle(&mut self, items: &mut [usize]) {
+        for last in 1..items.len() {
+            let other = self.below(last + 1);
+            if last < items.len() {
+                items.swap(last, other);
+            }
+        }
     }
 }
