@@ -2,3 +2,4 @@
 pub mod WordLemmas
 -- a walk through a sound book
 pub mod WalkLemmas
+pub mod ReportTextLemmas

@@ -148,7 +148,9 @@ fn put_simple(
     }
 }
 
-fn put_reason(
+/// Why an instance was denied, for which the rule names this process. What has no room in 98
+/// columns is folded.
+pub fn put_reason(
     alloc: Global,
     text: &mut Vec<u8>,
     policy: &Policy,

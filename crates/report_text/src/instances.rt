@@ -61,7 +61,8 @@ fn put_made(text: &mut Vec<u8>, first: u32, number: u32) -> Result<(), AllocErro
     put_behind(text, b' ', u64::from(number))
 }
 
-fn put_outcome(text: &mut Vec<u8>, policy: &Policy, outcome: &Outcome) -> Result<(), AllocError>
+/// An outcome, in the words of a book.
+pub fn put_outcome(text: &mut Vec<u8>, policy: &Policy, outcome: &Outcome) -> Result<(), AllocError>
     ensures { OnOk result
         (text.new.items ≡ text.old.items ++ outcome_text policy.now outcome.now) }
 {

@@ -2,7 +2,8 @@
 //!
 //! [`report_text`] writes who holds what and how each came to it, the members of the communicators,
 //! the instances with their outcomes, and why posts were barred and instances denied. What a line
-//! says is told by `book_report`; here it gets its words, with names in place of numbers.
+//! says is told by `book_report`; here it gets its words, with names in place of numbers. The words
+//! serve `report_page` too.
 #![tactic(auto)]
 
 mod bars;
@@ -16,4 +17,9 @@ mod whole;
 mod words;
 
 pub use book_report::{Book, BookFault};
+pub use denials::put_reason;
+pub use instances::put_outcome;
+pub use rows::put_way;
+pub use walk::state_at_last;
 pub use whole::report_text;
+pub use words::{kind_at, put_dataset, put_label, put_pair, put_process};

@@ -51,7 +51,13 @@ fn put_delivery(
     put_process(text, policy, from)
 }
 
-fn put_way(text: &mut Vec<u8>, policy: &Policy, book: &Book, row: &Row) -> Result<(), AllocError>
+/// How the process of this row came to hold its dataset.
+pub fn put_way(
+    text: &mut Vec<u8>,
+    policy: &Policy,
+    book: &Book,
+    row: &Row,
+) -> Result<(), AllocError>
     ensures { OnOk result (text.new.items ≡ text.old.items ++ way_text policy.now book.now.list
         row.now.process row.now.dataset row.now.entry row.now.way) }
 {

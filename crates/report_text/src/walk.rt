@@ -81,11 +81,7 @@ fn follow_all(
 }
 
 /// A state that stands for all posts of a sound book.
-pub(crate) fn state_at_last(
-    alloc: Global,
-    policy: &Policy,
-    book: &Book,
-) -> Result<PostState<()>, NoMemory>
+pub fn state_at_last(alloc: Global, policy: &Policy, book: &Book) -> Result<PostState<()>, NoMemory>
     requires { IsSound policy.now book.now.list }
     ensures { IfOk result (λ post_state.
         Stands policy.now post_state (posts_to book.now.list (length book.now.list))) }

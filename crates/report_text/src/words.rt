@@ -12,7 +12,7 @@ use wall_policy::Policy;
 
 /// The name of a process. A number that is no process of the policy has none.
 #[tactic(auto, using(crate::proofs::WordLemmas::name_is, crate::proofs::WordLemmas::name_none))]
-pub(crate) fn put_process(
+pub fn put_process(
     text: &mut Vec<u8>,
     policy: &Policy,
     process: ProcessId,
@@ -27,7 +27,7 @@ pub(crate) fn put_process(
 
 /// The name of a dataset. A number that is no dataset of the policy has none.
 #[tactic(auto, using(crate::proofs::WordLemmas::name_is, crate::proofs::WordLemmas::name_none))]
-pub(crate) fn put_dataset(
+pub fn put_dataset(
     text: &mut Vec<u8>,
     policy: &Policy,
     dataset: DatasetId,
@@ -41,11 +41,7 @@ pub(crate) fn put_dataset(
 }
 
 /// A label.
-pub(crate) fn put_label(
-    text: &mut Vec<u8>,
-    policy: &Policy,
-    label: &Label,
-) -> Result<(), AllocError>
+pub fn put_label(text: &mut Vec<u8>, policy: &Policy, label: &Label) -> Result<(), AllocError>
     ensures { OnOk result (text.new.items
         ≡ text.old.items ++ label_word policy.now.dataset_names label.now) }
 {
@@ -56,7 +52,7 @@ pub(crate) fn put_label(
 }
 
 /// Instance `k` of a communicator.
-pub(crate) fn put_pair(text: &mut Vec<u8>, comm: u32, k: u64) -> Result<(), AllocError>
+pub fn put_pair(text: &mut Vec<u8>, comm: u32, k: u64) -> Result<(), AllocError>
     ensures { OnOk result (text.new.items ≡ text.old.items ++ pair_text comm k) }
 {
     put_decimal(text, u64::from(comm))?;
@@ -65,7 +61,7 @@ pub(crate) fn put_pair(text: &mut Vec<u8>, comm: u32, k: u64) -> Result<(), Allo
 
 /// The name of the kind of collective that an entry states, counted from 1; none where it is no
 /// post.
-pub(crate) fn kind_at(book: &Book, entry: u64) -> &'static str
+pub fn kind_at(book: &Book, entry: u64) -> &'static str
     ensures { result.now ≡ kind_at book.now.list entry }
 {
     let place = entry.saturating_sub(1);

@@ -1,6 +1,6 @@
 //! The tests of what policies mean, where policies, scripts and books are at fault and what books
 //! tell, through the public calls of `policy_meaning`, `meaning_text`, `policy_places`,
-//! `script_places`, `check_text`, `book_places`, `book_report` and `report_text`.
+//! `script_places`, `check_text`, `book_places`, `book_report`, `report_text` and `report_page`.
 //!
 //! They stand in a crate of their own, since a check of a crate's tests proves the crate once more.
 #![tactic(auto)]
@@ -11,6 +11,8 @@ mod book_lines;
 mod fault_lines;
 #[cfg(test)]
 mod meanings;
+#[cfg(test)]
+mod pages;
 #[cfg(test)]
 mod places;
 #[cfg(test)]

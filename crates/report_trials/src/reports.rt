@@ -8,7 +8,7 @@ use std::test::Fail;
 use wall_policy::Policy;
 
 // The run of `docs/policies/consultants.txt`.
-const OF_CONSULTANTS: &str = "book 2
+pub(crate) const OF_CONSULTANTS: &str = "book 2
 post 0 0 create 0,3 gives 0 as none passed
 post 1 0 create 0,3 gives 0 as none passed
 post 2 0 create 0,3 gives 0 as none passed
@@ -74,7 +74,7 @@ end 4
 
 // Without a home, n0 writes under a label that it chooses, and d0 may not do so. The gather would
 // bring the data of two rivals to n0.
-const OF_FOUR_BANKS: &str = "book 2
+pub(crate) const OF_FOUR_BANKS: &str = "book 2
 post 4 0 gather 4 int32 1 gives 1 as public passed
 post 0 0 gather 4 int32 1 gives 1 as alpha passed
 post 1 0 gather 4 int32 1 gives 1 as beta passed

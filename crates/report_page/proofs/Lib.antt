@@ -1,0 +1,4 @@
+-- escaped text
+pub mod EscapeLemmas
+-- texts that are written piece by piece
+pub mod PieceLemmas
