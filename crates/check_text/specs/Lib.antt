@@ -6,3 +6,5 @@ pub mod Sentences
 pub mod Lines
 -- what holds of all lines
 pub mod Laws
+-- the line of a policy's fault
+pub mod Policies

@@ -62,7 +62,8 @@ fn put_shown(text: &mut Vec<u8>, bytes: &[u8]) -> Result<(), AllocError>
     Ok(())
 }
 
-fn put_word(text: &mut Vec<u8>, word: &[u8]) -> Result<(), AllocError>
+/// Appends the word as it is shown.
+pub(crate) fn put_word(text: &mut Vec<u8>, word: &[u8]) -> Result<(), AllocError>
     ensures { OnOk result (text.new.items ≡ text.old.items ++ shown_word word.now) }
 {
     if word.len() <= MOST {

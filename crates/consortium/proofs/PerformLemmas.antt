@@ -4,13 +4,16 @@ use Rattle.std.proofs.Common.{get_or, Option, Some, None, Bor, sym, ap, subst}
 use Rattle.std.proofs.lemmas.List.{get_or_default, map_push, take_all, take_more}
 use Rattle.clap.specs.Words.{Text}
 use Rattle.hall_script.specs.Devices.{Used}
-use Rattle.program_words.specs.Grammar.{RunFiles}
+use Rattle.program_words.specs.Grammar.{RunFiles, ReportFiles}
 use Rattle.program_commands.specs.Endings.{EndsSo}
 use Rattle.program_commands.specs.declared.earlier.Earlier.{Earlier}
 use Rattle.program_commands.specs.Continuing.{RunAfterEnds}
+use Rattle.program_commands.specs.Reporting.{ReportEnds}
 use Rattle.consortium.specs.Performing.{FileKind, FileUse, used_file, path_unopened, RunsFiles}
 use Rattle.consortium.specs.Performing.{AreListed, EarlierUse, used_earlier}
+use Rattle.consortium.specs.Performing.{Causes, ReportsFiles}
 use Rattle.program_commands.proofs.ProgramCommandsLemmas.{kept_nowhere}
+use Rattle.program_commands.proofs.ReportLemmas.{unpaged}
 
 -- a device that is not opened has its path
 pub at_path : {F : Type 0} {file : Option F} {path want : Text}
@@ -81,3 +84,20 @@ module _ {P D S O A B E : Type 0} (policies : FileKind P) (olds : FileKind D)
       let script' = used_file seconds script in
       let run = kept_nowhere policy' earlier' script' out ended.0 {A = A} {B = B} ended.1 in
       rw none (policy, earlier, script, tt, (ended.0, run, ended.2, ended.3))
+
+-- a report whose page no file was named for
+module _ {P D S O A B E : Type 0} (policies : FileKind P) (olds : FileKind D)
+    (seconds : FileKind S) (pages : FileKind B) (files : ReportFiles) (out : Used O)
+    (err : Used E) (status : ℕ) where
+  pub reported_unpaged : (policy : FileUse policies files.policy)
+      (earlier : EarlierUse olds files.after) (book : FileUse seconds files.book)
+      (causes : Causes P D S) → files.html ≡ None
+      → EndsSo (ReportEnds {W = A} files.policy (causes.of_policy policy.new)
+      (used_file policies policy) causes.of_listed (used_earlier olds earlier)
+      files.book (causes.of_second book.new) (used_file seconds book) out None)
+      err status → ReportsFiles policies olds seconds pages files out err status
+  reported_unpaged policy earlier book causes none ended =
+      let report = unpaged files.policy (causes.of_policy policy.new) (used_file policies policy)
+      causes.of_listed (used_earlier olds earlier) files.book (causes.of_second book.new)
+      (used_file seconds book) out ended.0 {A = A} {W = B} ended.1 in
+      rw none (policy, earlier, book, tt, causes, (ended.0, report, ended.2, ended.3))

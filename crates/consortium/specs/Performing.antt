@@ -26,6 +26,7 @@ use Rattle.program_commands.specs.Continuing.{ReplayAfterEnds, RunAfterEnds, Aud
 use Rattle.program_commands.specs.Sealing.{SealEnds}
 use Rattle.program_commands.specs.Reporting.{ReportEnds}
 use Rattle.program_commands.specs.Checking.{IfAny, if_any, CheckEnds}
+use Rattle.program_files.specs.declared.cause.Cause.{Cause}
 
 -- how the program ends where its words are refused
 abbrev pub refusal_ending : ArgFault → Ending
@@ -103,8 +104,15 @@ pub record UseIfAny {D : Type 0} (kind : FileKind D) (path : Option Text) : Type
   pub listed : IsListedIfAny kind path device
 
 abbrev pub used_if_any : {D : Type 0} {path : Option Text}
-    → (kind : FileKind D) → UseIfAny kind path → IfAny D
-used_if_any kind file = if_any kind.failures kind.bytes file.device
+    → (kind : FileKind D) → (cause : D → Option Cause) → UseIfAny kind path → IfAny D
+used_if_any kind cause file = if_any kind.failures kind.bytes cause file.device
+
+-- Why reads failed, as the devices of three kinds tell it. (What the system tells them no contract
+-- can say.)
+pub record Causes (P D S : Type 0) : Type 0 where
+  pub of_policy : P → Option Cause
+  pub of_listed : D → Option Cause
+  pub of_second : S → Option Cause
 
 -- a replay of these files, with this status
 abbrev pub ReplaysFiles : {P D S B O E : Type 0} → FileKind P → FileKind D → FileKind S
@@ -142,23 +150,27 @@ SealsFiles policies olds seconds seals files out err status =
     × EndsSo (SealEnds (used_file policies policy) (used_earlier olds earlier)
     (used_file seconds book) (used_file seals sealed) out) err status
 
--- a report on these files, with this status
-abbrev pub ReportsFiles : {P D S O E : Type 0} → FileKind P → FileKind D → FileKind S
-    → ReportFiles → Used O → Used E → (status : ℕ) → Type 0
-ReportsFiles policies olds seconds files out err status =
+-- a report on these files, with this status, and its page, where one is asked for
+abbrev pub ReportsFiles : {P D S B O E : Type 0} → FileKind P → FileKind D → FileKind S
+    → FileKind B → ReportFiles → Used O → Used E → (status : ℕ) → Type 0
+ReportsFiles {P} {D} {S} policies olds seconds pages files out err status =
     (policy : FileUse policies files.policy) × (earlier : EarlierUse olds files.after)
-    × (book : FileUse seconds files.book)
-    × EndsSo (ReportEnds (used_file policies policy) (used_earlier olds earlier)
-    (used_file seconds book) out) err status
+    × (book : FileUse seconds files.book) × (page : BookUse pages files.html)
+    × (causes : Causes P D S)
+    × EndsSo (ReportEnds files.policy (causes.of_policy policy.new) (used_file policies policy)
+    causes.of_listed (used_earlier olds earlier)
+    files.book (causes.of_second book.new) (used_file seconds book)
+    out (used_book pages files.html page)) err status
 
 -- a check of these files, with this status
 abbrev pub ChecksFiles : {P D O E : Type 0} → FileKind P → FileKind D → CheckFiles → Used O
     → Used E → (status : ℕ) → Type 0
-ChecksFiles policies others files out err status =
+ChecksFiles {P} {D} policies others files out err status =
     (policy : FileUse policies files.policy) × (script : UseIfAny others files.script)
-    × (book : UseIfAny others files.book)
+    × (book : UseIfAny others files.book) × (causes : Causes P D D)
     × EndsSo (CheckEnds files.policy (unwrap_or files.script []) (unwrap_or files.book [])
-    (used_file policies policy) (used_if_any others script) (used_if_any others book) out)
+    (used_file policies policy) (causes.of_policy policy.new)
+    (used_if_any others causes.of_listed script) (used_if_any others causes.of_second book) out)
     err status
 
 -- nothing was done but to tell this ending
@@ -206,7 +218,7 @@ IsDone policies olds seconds books seals (Some (to_audit files)) out err status 
 IsDone policies olds seconds books seals (Some (to_seal files)) out err status =
     OrNoMemory (SealsFiles policies olds seconds seals files) out err status
 IsDone policies olds seconds books seals (Some (to_report files)) out err status =
-    OrNoMemory (ReportsFiles policies olds seconds files) out err status
+    OrNoMemory (ReportsFiles policies olds seconds books files) out err status
 IsDone policies olds seconds books seals (Some (to_check files)) out err status =
     OrNoMemory (ChecksFiles policies olds files) out err status
 IsDone policies olds seconds books seals (Some (to_usage command)) out err status =

@@ -48,6 +48,7 @@ pub(crate) fn listed_at<'a, F: Files>(files: &'a F, path: &'a str) -> ListedFile
         path,
         file: None,
         has_failed: false,
+        cause: None,
     }
 }
 
@@ -82,6 +83,7 @@ pub(crate) fn unopened<'a, F: Files, L: Ledger>(
         path,
         file: None,
         failures,
+        cause: None,
     }
 }
 

@@ -1,14 +1,17 @@
 //! The commands that look at files and write to their output alone.
-ghost use Rattle.std.specs.Prelude.{option_map};
+ghost use Rattle.std.specs.Prelude.{option_map, Some};
 ghost use Rattle.hall_script.specs.Devices.{used};
+ghost use Rattle.program_commands.specs.Earlier.{earlier_books};
+ghost use Rattle.program_commands.specs.Endings.{EndsSo};
+ghost use Rattle.program_commands.specs.Reporting.{ReportEnds};
 ghost use Rattle.program_words.specs.Grammar.{report_files, check_files};
 ghost use Rattle.consortium.specs.Performing.{file_kind, path_unopened, OrNoMemory};
 ghost use Rattle.consortium.specs.Performing.{ReportsFiles, ChecksFiles, TellsUsage};
 
 use crate::commands::Counts;
-use crate::devices::{listed, listed_if_any, unopened};
-use program_commands::{Ending, check_on, end, report_on, text_on};
-use program_files::{FileSource, ListedFile};
+use crate::devices::{listed, listed_if_any, unmade, unopened};
+use program_commands::{Earlier, Ending, check_on, end, report_on, text_on};
+use program_files::{Explains, FileSink, FileSource, ListedFile};
 use program_words::{CheckPaths, ReportPaths, usage_text};
 use std::alloc::Global;
 use std::rt::Files;
@@ -33,18 +36,97 @@ pub(crate) fn report_files<'a, F: Files, P: Ledger, S: Ledger, B: Ledger, O: Sin
         let seconds = file_kind ⟦<FileSource<'a, F, S> as Source>⟧.failures
         ⟦<FileSource<'a, F, S> as Source>⟧.remaining
         (λ d. path_unopened d.path.now d.file) counts.second in
+        let pages = file_kind ⟦<FileSink<'a, F, B> as Sink>⟧.failures
+        ⟦<FileSink<'a, F, B> as Sink>⟧.contents
+        (λ d. path_unopened d.path.now d.file) counts.kept in
         let outs = used O.failures O.contents out.old out.new in
         let errs = used E.failures E.contents err.old err.new in
-        OrNoMemory (ReportsFiles policies earlier seconds (report_files paths.entry))
+        OrNoMemory (ReportsFiles policies earlier seconds pages (report_files paths.entry))
         outs errs result }
 {
-    let Counts { policy, second, .. } = counts;
+    let Counts {
+        policy,
+        second,
+        kept,
+    } = counts;
     let Ok(earlier) = listed(alloc, files, &paths.after) else {
         return end(err, Ending::NoMemory);
     };
     let mut policy = unopened(files, paths.policy, policy);
     let mut book = unopened(files, paths.book, second);
-    report_on(alloc, &mut policy, earlier, &mut book, out, err)
+    match paths.html {
+        Some(path) => {
+            let mut page = unmade(files, path, kept);
+            report_to(
+                alloc,
+                &mut policy,
+                paths.policy,
+                earlier,
+                &mut book,
+                paths.book,
+                out,
+                err,
+                &mut page,
+            )
+        }
+        None => {
+            let (policy, book) = (&mut policy, &mut book);
+            report_on::<_, _, _, _, _, O>(
+                alloc,
+                policy,
+                paths.policy,
+                earlier,
+                book,
+                paths.book,
+                out,
+                err,
+                None,
+            )
+        }
+    }
+}
+
+fn report_to<
+    P: Source + Explains,
+    D: Source + Explains + Drop,
+    B: Source + Explains,
+    O: Sink,
+    E: Sink,
+    W: Sink,
+>(
+    alloc: Global,
+    policy: &mut P,
+    policy_path: &str,
+    earlier: Vec<Earlier<D>>,
+    book: &mut B,
+    path: &str,
+    out: &mut O,
+    err: &mut E,
+    page: &mut W,
+) -> u8
+    ensures { EndsSo
+        (ReportEnds
+        policy_path.now (P.cause policy.new)
+        (used P.failures P.remaining policy.old policy.new)
+        D.cause (earlier_books D.failures D.remaining earlier.entry.items)
+        path.now (B.cause book.new)
+        (used B.failures B.remaining book.old book.new)
+        (used O.failures O.contents out.old out.new)
+        (Some (used W.failures W.contents page.old page.new)))
+        (used E.failures E.contents err.old err.new)
+        result }
+{
+    report_on(
+        alloc,
+        policy,
+        policy_path,
+        earlier,
+        book,
+        path,
+        out,
+        err,
+        Some(page),
+    )
 }
 
 /// A check of the files that the words name.

@@ -5,7 +5,8 @@
 //! FILE] [--sync]` serves the processes of the policy live, each at two named pipes in DIR; with
 //! `--sync` the file of its book is synced behind each post that settles an instance. `consortium
 //! seal POLICY BOOK OUT` makes a whole book of one that was cut, in a new file, and `consortium
-//! report POLICY BOOK` tells who came to hold what by a book, and how. Each goes on after earlier
+//! report POLICY BOOK` tells who came to hold what by a book, and how, with `--html FILE` also as a
+//! page. Each goes on after earlier
 //! books where it has `--after BOOK`, any number of times, the oldest first. `consortium check
 //! POLICY [SCRIPT] [--book BOOK]` tells what a policy means, and what of a script and a book is at
 //! fault; `consortium usage [COMMAND]` how it is used, and `consortium version` its version.
@@ -39,6 +40,8 @@ mod disk;
 mod disk_tests;
 #[cfg(test)]
 mod files_tests;
+#[cfg(test)]
+mod looking_tests;
 #[cfg(test)]
 mod words_tests;
 

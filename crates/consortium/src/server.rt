@@ -213,6 +213,7 @@ fn policy_at<'a, L: Ledger>(
         path: &paths.policy,
         file: None,
         failures: Count::<L>::new(blank),
+        cause: None,
     };
     let Ok(after) = texts(alloc, &paths.after) else {
         return Err(Ending::NoMemory);

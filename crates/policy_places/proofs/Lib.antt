@@ -14,3 +14,5 @@ mod LawLemmas
 mod MissingLemmas
 -- each fault has its line, or what is missing has none
 mod FoundLemmas
+-- where a sign is shown, its word is named
+mod NamedLemmas

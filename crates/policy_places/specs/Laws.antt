@@ -1,5 +1,5 @@
 -- What holds of all documents.
-use Rattle.std.specs.Prelude.{◌≡◌, ℕ, List, Some, None, codes}
+use Rattle.std.specs.Prelude.{◌≡◌, ℕ, Bool, true, false, List, Some, None, is_some, codes}
 use Rattle.toml.specs.Data.{Members, get_member}
 use Rattle.wall_policy.specs.declared.fault.PolicyFault.{PolicyFault}
 use Rattle.wall_policy.specs.declared.fault.PolicyFault.TheVariants as faults
@@ -11,9 +11,12 @@ use Rattle.policy_places.specs.declared.sign.Sign.{Sign}
 use Rattle.policy_places.specs.declared.sign.Sign.TheVariants.{UnknownKey, BadName, DuplicateName}
 use Rattle.policy_places.specs.declared.sign.Sign.TheVariants.{UnknownDataset, BadOp, BadLeast}
 use Rattle.policy_places.specs.declared.sign.Sign.TheVariants.{TooMany}
+use Rattle.policy_places.specs.declared.sign.Sign.TheVariants.{NotToml, Version, OtherKind}
+use Rattle.policy_places.specs.declared.place.Found.{Found}
 use Rattle.policy_places.specs.declared.place.Place.{Place}
 use Rattle.policy_places.specs.Places.{IsPlace}
 use Rattle.policy_places.specs.Signs.{known_of, shows, sign_of}
+use Rattle.policy_places.specs.Named.{named_at}
 
 -- the document shows the sign exactly where it has the fault
 abbrev pub IsSignOf : Members → Sign → PolicyFault → Type 0
@@ -49,3 +52,15 @@ IsAbsent ms _ = ⊥
 abbrev pub NowhereIsAbsent : Type 0
 NowhereIsAbsent = (text : List ℕ) (place : Place) → IsPlace text place → place.found ≡ None →
     (ms : Members) × (tree_of text ≡ Some ms) × IsAbsent ms place.fault
+
+-- a word of it is named
+abbrev pub has_word : Sign → Bool
+has_word NotToml = false
+has_word Version = false
+has_word OtherKind = false
+has_word sign = true
+
+-- Where a fault has its line, and a word of it is named, there is one.
+abbrev pub WordsAreNamed : Type 0
+WordsAreNamed = (text : List ℕ) (place : Place) (found : Found) → IsPlace text place →
+    place.found ≡ Some found → has_word found.sign ≡ true → is_some (named_at text found) ≡ true

@@ -1,5 +1,6 @@
 //! What holds of all documents. These functions do nothing.
 ghost use Rattle.policy_places.specs.Laws.{SignsAreFaults, MissingIsFound, NowhereIsAbsent};
+ghost use Rattle.policy_places.specs.Laws.{WordsAreNamed};
 
 /// In a document that lacks no key, and whose keys hold their kinds of value, the signs of its
 /// names and numbers are there exactly where it has their faults.
@@ -17,4 +18,10 @@ pub fn missing_is_found()
 /// `process`.
 pub fn nowhere_is_absent()
     ensures { NowhereIsAbsent }
+{}
+
+/// Where a fault has its line there is a word of it, but of a text that is no TOML, of a version
+/// that is not read and of a key with another kind of value.
+pub fn words_are_named()
+    ensures { WordsAreNamed }
 {}

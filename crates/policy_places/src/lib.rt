@@ -9,13 +9,17 @@ mod fronts;
 mod known;
 pub mod laws;
 mod look;
+mod named;
 mod names;
 mod part;
 mod place;
 mod sign;
 mod texts;
 
+pub use named::{Named, named_at};
+pub use part::Part;
 pub use place::{Found, Place, place_of};
 pub use sign::Sign;
+pub use texts::Word;
 pub use wall_labels::NoMemory;
 pub use wall_policy::PolicyFault;

@@ -20,7 +20,7 @@ use toml::{Table, Value};
 use wall_labels::PROCESS_LIMIT;
 
 // Whether the file may have the key.
-fn is_known_of_file(key: &str) -> bool
+pub(crate) fn is_known_of_file(key: &str) -> bool
     ensures { result ≡ is_file_key key.now }
 {
     key == "version" || key == "class" || key == "process" || key == "sanitise"
@@ -38,7 +38,7 @@ fn is_known_of_rule(two: bool, key: &str) -> bool
 }
 
 // Whether a table of the part may have the key.
-fn is_known(version: u32, part: Part, key: &str) -> bool
+pub(crate) fn is_known(version: u32, part: Part, key: &str) -> bool
     ensures { result ≡ is_key_of version part key.now }
 {
     match part {
@@ -295,7 +295,7 @@ fn is_good_distinct(least: i64, number: i64) -> bool
     1 <= number && number <= least
 }
 
-fn has_bad_least(value: &Value) -> bool
+pub(crate) fn has_bad_least(value: &Value) -> bool
     ensures { result ≡ has_bad_least (view value.now) }
 {
     match number_in(value, "least") {
@@ -304,7 +304,7 @@ fn has_bad_least(value: &Value) -> bool
     }
 }
 
-fn has_bad_distinct(value: &Value) -> bool
+pub(crate) fn has_bad_distinct(value: &Value) -> bool
     ensures { result ≡ has_bad_distinct (view value.now) }
 {
     let most = number_in(value, "least").unwrap_or(i64::from(PROCESS_LIMIT));

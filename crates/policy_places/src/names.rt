@@ -28,7 +28,7 @@ fn all_may_follow(bytes: &[u8]) -> bool
     bytes.iter().all(|byte| may_follow(*byte))
 }
 
-fn is_good_name(name: &str) -> bool
+pub(crate) fn is_good_name(name: &str) -> bool
     ensures { result ≡ is_name name.now }
 {
     match name.as_bytes() {
@@ -39,7 +39,7 @@ fn is_good_name(name: &str) -> bool
     }
 }
 
-fn is_good_dataset(name: &Word) -> bool
+pub(crate) fn is_good_dataset(name: &Word) -> bool
     ensures { result ≡ is_dataset_name name.now }
 {
     let name = name.as_str();
@@ -60,7 +60,7 @@ pub(crate) fn are_good_datasets(names: &[Word]) -> bool
     names.iter().all(|name| is_good_dataset(name))
 }
 
-fn is_known_op(name: &Word) -> bool
+pub(crate) fn is_known_op(name: &Word) -> bool
     ensures { result ≡ is_some (op_of name.now) }
 {
     Op::named(name.as_str().as_bytes()).is_some()
@@ -79,7 +79,7 @@ fn is_same(left: &str, right: &str) -> bool
     left == right
 }
 
-fn is_in(names: &[Word], name: &Word) -> bool
+pub(crate) fn is_in(names: &[Word], name: &Word) -> bool
     ensures { result ≡ is_in names.now name.now }
 {
     names

@@ -4,7 +4,7 @@ ghost use Rattle.policy_places.specs.Parts.{key_of};
 
 /// The arrays of tables that a policy file has.
 #[derive(Clone, Copy, Debug, PartialEq, Eq)]
-pub(crate) enum Part {
+pub enum Part {
     Class,
     Process,
     Rule,

@@ -5,7 +5,7 @@ use std::alloc::{AllocError, Global};
 use std::marker::Model;
 
 /// A text, seen as its bytes.
-pub(crate) struct Word {
+pub struct Word {
     pub(crate) text: String,
 }
 
@@ -34,7 +34,7 @@ impl Word {
         })
     }
 
-    pub(crate) fn as_str(&self) -> &str
+    pub fn as_str(&self) -> &str
         ensures { result.now ≡ self.now }
     {
         self.text.as_str()

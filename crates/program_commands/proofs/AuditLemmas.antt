@@ -31,3 +31,4 @@ module _ {B : Type 0} (wall : ChineseWall) (device : Used B) (bytes text : List 
   is_no_book (Err endings.NoThread) h = absurd h
   is_no_book (Err endings.Exhausted) h = absurd h
   is_no_book (Err endings.BadArguments) h = absurd h
+  is_no_book (Err (endings.Unread p w)) h = absurd h

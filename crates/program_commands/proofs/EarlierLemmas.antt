@@ -35,6 +35,7 @@ no_link was device path endings.WriteFault h = absurd h
 no_link was device path endings.NoThread h = absurd h
 no_link was device path endings.Exhausted h = absurd h
 no_link was device path endings.BadArguments h = absurd h
+no_link was device path (endings.Unread p w) h = absurd h
 
 module _ {D : Type 0} (failures : D → ℕ) (bytes : D → Option (List ℕ)) where
   -- no book was read

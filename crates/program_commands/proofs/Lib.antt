@@ -5,3 +5,4 @@ pub mod AuditLemmas
 pub mod ServeLemmas
 pub mod EarlierLemmas
 pub mod SealLemmas
+pub mod ReportLemmas

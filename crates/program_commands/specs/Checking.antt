@@ -1,13 +1,14 @@
 -- How a check ends.
 use Rattle.std.specs.Prelude.{◌≡◌, ℕ, ◌<◌, ◌⊎◌, List, [], ◌++◌, length, codes, Ok, Err}
 use Rattle.std.specs.Prelude.{Option, Some, None}
-use Rattle.std.specs.Fmt.{decimal}
 use Rattle.wall_policy.specs.declared.fault.PolicyFault.{PolicyFault}
 use Rattle.wall_policy.specs.Policy.{ChineseWall}
 use Rattle.wall_policy.specs.Answer.{answer_to}
 use Rattle.policy_places.specs.declared.place.Found.{Found}
 use Rattle.policy_places.specs.declared.place.Place.{Place}
 use Rattle.policy_places.specs.Places.{IsPlace}
+use Rattle.policy_places.specs.Named.{named_at}
+use Rattle.program_files.specs.declared.cause.Cause.{Cause}
 use Rattle.coll_text.specs.declared.fault.LineFault.{LineFault}
 use Rattle.book_places.specs.declared.place.Found.{Found as BookFound}
 use Rattle.book_places.specs.declared.place.Found.TheVariants as books
@@ -16,14 +17,15 @@ use Rattle.book_places.specs.Sentences.{found_line}
 use Rattle.meaning_text.specs.Sentences.{IsMeaning}
 use Rattle.check_text.specs.declared.faults.ScriptFaults.{ScriptFaults}
 use Rattle.check_text.specs.Lines.{AreLines}
+use Rattle.check_text.specs.Policies.{policy_line}
 use Rattle.hall_script.specs.Devices.{Used, used, IsUntouched, NeverFailed, IsRead}
 use Rattle.hall_script.specs.Devices.{IsUnreadable, IsWritten, BrokeOff}
 use Rattle.hall_script.specs.Scripts.{script_limit}
 use Rattle.program_commands.specs.declared.ending.Ending.{Ending}
 use Rattle.program_commands.specs.declared.ending.Ending.TheVariants.{Done, BadPolicy, BadLine}
 use Rattle.program_commands.specs.declared.ending.Ending.TheVariants.{BadBookLine, CutBook, Unsound}
-use Rattle.program_commands.specs.declared.ending.Ending.TheVariants.{ReadFault, WriteFault, NoMemory}
-use Rattle.program_commands.specs.Endings.{policy_fault_text}
+use Rattle.program_commands.specs.declared.ending.Ending.TheVariants.{WriteFault, NoMemory}
+use Rattle.program_commands.specs.Unreading.{IsUnread}
 use Rattle.program_commands.specs.Auditing.{book_limit}
 
 -- the first of two that is at fault
@@ -34,6 +36,11 @@ first_ending first second = first
 -- nothing is told, and it ends so
 abbrev pub TellsNone : (how : Ending) → (text : List ℕ) → Ending → Type 0
 TellsNone how text ending = (text ≡ []) × (ending ≡ how)
+
+-- nothing is told of the file at this path, which was not read
+abbrev pub TellsUnread : (path : List ℕ) → Option Cause → (limit : ℕ) → (text : List ℕ) → Ending
+    → Type 0
+TellsUnread path cause limit text ending = (text ≡ []) × IsUnread path cause limit ending
 
 -- ---- what is told of each file
 
@@ -53,13 +60,13 @@ TellsLines wall path script text ending =
     × (text ≡ said.text.items) × (ending ≡ script_ending said.first))
     ⊎ TellsNone NoMemory text ending
 
--- it was read, and this is told of it; or it was not read
-abbrev pub TellsScript : {S : Type 0}
-    → ChineseWall → (path : List ℕ) → Used S → (text : List ℕ) → Ending → Type 0
-TellsScript wall path script text ending =
+-- It was read, and this is told of it; or it was not read, and its reader tells this cause.
+abbrev pub TellsScript : {S : Type 0} → ChineseWall → (path : List ℕ) → Used S → Option Cause
+    → (text : List ℕ) → Ending → Type 0
+TellsScript wall path script cause text ending =
     ((bytes : List ℕ) × IsRead script script_limit bytes
     × TellsLines wall path bytes text ending)
-    ⊎ (IsUnreadable script script_limit × TellsNone ReadFault text ending)
+    ⊎ (IsUnreadable script script_limit × TellsUnread path cause script_limit text ending)
     ⊎ (NeverFailed script × TellsNone NoMemory text ending)
 
 -- how it ends by what is found of a book
@@ -76,40 +83,45 @@ TellsFound wall path book text ending =
     × (text ≡ found_line wall path found) × (ending ≡ found_ending found))
     ⊎ TellsNone NoMemory text ending
 
--- it was read, and this is told of it; or it was not read
-abbrev pub TellsBook : {B : Type 0}
-    → ChineseWall → (path : List ℕ) → Used B → (text : List ℕ) → Ending → Type 0
-TellsBook wall path book text ending =
+-- It was read, and this is told of it; or it was not read, and its reader tells this cause.
+abbrev pub TellsBook : {B : Type 0} → ChineseWall → (path : List ℕ) → Used B → Option Cause
+    → (text : List ℕ) → Ending → Type 0
+TellsBook wall path book cause text ending =
     ((bytes : List ℕ) × IsRead book book_limit bytes × TellsFound wall path bytes text ending)
-    ⊎ (IsUnreadable book book_limit × TellsNone ReadFault text ending)
+    ⊎ (IsUnreadable book book_limit × TellsUnread path cause book_limit text ending)
     ⊎ (NeverFailed book × TellsNone NoMemory text ending)
 
 -- A reader, if there is one, as it is given; it is let go after its use.
 pub record IfAny (D : Type 0) : Type 0 where
   pub failures : D → ℕ
   pub bytes : D → Option (List ℕ)
+  -- why its last read that failed did so
+  pub cause : D → Option Cause
   pub device : Option D
 
-abbrev pub if_any : {D : Type 0} → (D → ℕ) → (D → Option (List ℕ)) → Option D → IfAny D
-if_any failures bytes device =
-    record { failures = failures; bytes = bytes; device = device }
+abbrev pub if_any : {D : Type 0} → (D → ℕ) → (D → Option (List ℕ)) → (D → Option Cause)
+    → Option D → IfAny D
+if_any failures bytes cause device =
+    record { failures = failures; bytes = bytes; cause = cause; device = device }
 
 -- what is told of a reader that was used, or, where there is none, nothing
-abbrev pub Tells : {D : Type 0} → (D → ℕ) → (D → Option (List ℕ))
-    → (Used D → Type 0) → (none : Type 0) → Option D → Type 0
-Tells failures bytes told none None = none
-Tells {D} failures bytes told none (Some device) =
-    (left : D) × told (used failures bytes device left)
+abbrev pub Tells : {D : Type 0} → (D → ℕ) → (D → Option (List ℕ)) → (D → Option Cause)
+    → (Used D → Option Cause → Type 0) → (none : Type 0) → Option D → Type 0
+Tells failures bytes cause told none None = none
+Tells {D} failures bytes cause told none (Some device) =
+    (left : D) × told (used failures bytes device left) (cause left)
 
 abbrev pub TellsScriptIfAny : {S : Type 0}
     → ChineseWall → (path : List ℕ) → IfAny S → (text : List ℕ) → Ending → Type 0
-TellsScriptIfAny wall path script text ending = Tells script.failures script.bytes
-    (λ device. TellsScript wall path device text ending) (TellsNone Done text ending) script.device
+TellsScriptIfAny wall path script text ending = Tells script.failures script.bytes script.cause
+    (λ device cause. TellsScript wall path device cause text ending) (TellsNone Done text ending)
+    script.device
 
 abbrev pub TellsBookIfAny : {B : Type 0}
     → ChineseWall → (path : List ℕ) → IfAny B → (text : List ℕ) → Ending → Type 0
-TellsBookIfAny wall path book text ending = Tells book.failures book.bytes
-    (λ device. TellsBook wall path device text ending) (TellsNone Done text ending) book.device
+TellsBookIfAny wall path book text ending = Tells book.failures book.bytes book.cause
+    (λ device cause. TellsBook wall path device cause text ending) (TellsNone Done text ending)
+    book.device
 
 -- ---- the command
 
@@ -136,24 +148,19 @@ Checks wall path book_path script book out ending =
     (text : List ℕ) × (due : Ending) × IsChecked wall path script book_path book text due
     × ((IsWritten out text × (ending ≡ due)) ⊎ (BrokeOff out text × (ending ≡ WriteFault)))
 
--- `PATH:LINE: NAME`, with the name of a policy's fault
-abbrev pub place_line : (path : List ℕ) → (line : ℕ) → PolicyFault → List ℕ
-place_line path n fault =
-    path ++ (codes ":" ++ (decimal n ++ (codes ": " ++ policy_fault_text fault)))
-
--- the line of a fault was told, or memory ran out
-abbrev pub TellsLine : {O : Type 0} → (path : List ℕ) → (line : ℕ) → PolicyFault → Used O → Ending
+-- the line of a fault was told, with what is named there, or memory ran out
+abbrev pub TellsLine : {O : Type 0} → (path text : List ℕ) → Found → PolicyFault → Used O → Ending
     → Type 0
-TellsLine path n fault out ending =
-    (IsWritten out (place_line path n fault) × (ending ≡ BadPolicy fault))
-    ⊎ (BrokeOff out (place_line path n fault) × (ending ≡ WriteFault))
+TellsLine path text found fault out ending =
+    (IsWritten out (policy_line path found (named_at text found)) × (ending ≡ BadPolicy fault))
+    ⊎ (BrokeOff out (policy_line path found (named_at text found)) × (ending ≡ WriteFault))
     ⊎ ((ending ≡ NoMemory) × IsUntouched out)
 
 -- the same of a fault that may stand on no line
-abbrev pub TellsPlace : {O : Type 0} → (path : List ℕ) → PolicyFault → Option Found → Used O
+abbrev pub TellsPlace : {O : Type 0} → (path text : List ℕ) → PolicyFault → Option Found → Used O
     → Ending → Type 0
-TellsPlace path fault None out ending = (ending ≡ BadPolicy fault) × IsUntouched out
-TellsPlace path fault (Some found) out ending = TellsLine path found.line fault out ending
+TellsPlace path text fault None out ending = (ending ≡ BadPolicy fault) × IsUntouched out
+TellsPlace path text fault (Some found) out ending = TellsLine path text found fault out ending
 
 -- the most bytes of a policy for whose fault a line is looked for
 abbrev pub place_limit : ℕ
@@ -163,7 +170,8 @@ place_limit = 262144
 abbrev pub TellsRefused : {O : Type 0} → (path text : List ℕ) → PolicyFault → Used O → Ending
     → Type 0
 TellsRefused path text fault out ending =
-    ((place : Place) × IsPlace text place × TellsPlace path place.fault place.found out ending)
+    ((place : Place) × IsPlace text place
+    × TellsPlace path text place.fault place.found out ending)
     ⊎ ((place_limit < length text) × (ending ≡ BadPolicy fault) × IsUntouched out)
     ⊎ ((ending ≡ NoMemory) × IsUntouched out)
 
@@ -178,17 +186,17 @@ ChecksText text policy_path path book_path script book out ending =
     × TellsRefused policy_path text fault out ending)
     ⊎ ((ending ≡ NoMemory) × IsUntouched out)
 
--- no policy was read, and this is why
-abbrev pub IsUnread : {P : Type 0} → Used P → Ending → Type 0
-IsUnread policy ReadFault = IsUnreadable policy script_limit
-IsUnread policy NoMemory = NeverFailed policy
-IsUnread policy ending = ⊥
+-- no policy was read from the file at this path, and this is why
+abbrev pub IsNoText : {P : Type 0} → (path : List ℕ) → Used P → Option Cause → Ending → Type 0
+IsNoText path policy cause NoMemory = NeverFailed policy
+IsNoText path policy cause ending =
+    IsUnreadable policy script_limit × IsUnread path cause script_limit ending
 
 -- How `check` ends: no policy was read, and nothing was written; or its text was judged, and script
 -- and book were checked under it, as far as there are any.
 abbrev pub CheckEnds : {P S B O : Type 0} → (policy_path path book_path : List ℕ) → Used P
-    → IfAny S → IfAny B → Used O → Ending → Type 0
-CheckEnds policy_path path book_path policy script book out ending =
-    (IsUnread policy ending × IsUntouched out)
+    → Option Cause → IfAny S → IfAny B → Used O → Ending → Type 0
+CheckEnds policy_path path book_path policy cause script book out ending =
+    (IsNoText policy_path policy cause ending × IsUntouched out)
     ⊎ ((text : List ℕ) × IsRead policy script_limit text
     × ChecksText text policy_path path book_path script book out ending)

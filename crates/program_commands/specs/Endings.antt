@@ -6,6 +6,10 @@ use Rattle.wall_policy.specs.declared.fault.PolicyFault.{PolicyFault}
 use Rattle.wall_policy.specs.declared.fault.PolicyFault.TheVariants as policies
 use Rattle.coll_text.specs.declared.fault.LineFault.{LineFault}
 use Rattle.coll_text.specs.declared.fault.LineFault.TheVariants as lines
+use Rattle.program_files.specs.declared.cause.Cause.{Cause}
+use Rattle.program_files.specs.declared.cause.Cause.TheVariants as causes
+use Rattle.program_commands.specs.declared.ending.Why.{Why}
+use Rattle.program_commands.specs.declared.ending.Why.TheVariants.{Failed, LongerThan}
 use Rattle.program_commands.specs.declared.ending.EarlierFault.{EarlierFault}
 use Rattle.program_commands.specs.declared.ending.EarlierFault.TheVariants as earlier
 use Rattle.program_commands.specs.declared.ending.Ending.{Ending}
@@ -13,6 +17,7 @@ use Rattle.program_commands.specs.declared.ending.Ending.TheVariants.{Done, BadP
 use Rattle.program_commands.specs.declared.ending.Ending.TheVariants.{BadBookLine, CutBook, Unsound}
 use Rattle.program_commands.specs.declared.ending.Ending.TheVariants.{BadEarlier}
 use Rattle.program_commands.specs.declared.ending.Ending.TheVariants.{ReadFault, WriteFault}
+use Rattle.program_commands.specs.declared.ending.Ending.TheVariants.{Unread}
 use Rattle.program_commands.specs.declared.ending.Ending.TheVariants.{NoThread}
 use Rattle.program_commands.specs.declared.ending.Ending.TheVariants.{Exhausted, NoMemory}
 use Rattle.program_commands.specs.declared.ending.Ending.TheVariants.{BadArguments}
@@ -26,6 +31,7 @@ status_of CutBook = 2
 status_of (Unsound n) = 2
 status_of (BadEarlier path fault) = 2
 status_of ReadFault = 3
+status_of (Unread path why) = 3
 status_of WriteFault = 3
 status_of NoThread = 4
 status_of Exhausted = 4
@@ -68,6 +74,18 @@ earlier_fault_text (earlier.BadLine n) = numbered_line (codes ": line ") n
 earlier_fault_text earlier.Cut = codes ": cut\n"
 earlier_fault_text (earlier.Unsound n) = numbered_line (codes ": unsound at entry ") n
 
+-- why a read failed, behind the path of its file
+abbrev pub cause_text : Cause → List ℕ
+cause_text causes.NoFile = codes ": no such file\n"
+cause_text causes.Denied = codes ": permission denied\n"
+cause_text causes.Folder = codes ": is a directory\n"
+cause_text causes.Other = codes ": the read failed\n"
+
+-- why a file was not read, behind its path
+abbrev pub why_text : Why → List ℕ
+why_text (Failed cause) = cause_text cause
+why_text (LongerThan most) = (codes ": longer than " ++ decimal most) ++ codes " bytes\n"
+
 -- the line on standard error, none where all was done, nor where a book was read and is unsound
 abbrev pub error_line : Ending → List ℕ
 error_line Done = []
@@ -80,6 +98,7 @@ error_line (Unsound n) = []
 error_line (BadEarlier path fault) =
     (codes "after " ++ path.now) ++ earlier_fault_text fault
 error_line ReadFault = codes "read fault\n"
+error_line (Unread path why) = (codes "cannot read " ++ path.now) ++ why_text why
 error_line WriteFault = codes "write fault\n"
 error_line NoThread = codes "no thread\n"
 error_line Exhausted = codes "exhausted\n"

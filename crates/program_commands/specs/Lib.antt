@@ -1,4 +1,5 @@
 pub mod Endings
+pub mod Unreading
 pub mod Walls
 pub mod Replaying
 pub mod Running

@@ -1,24 +1,27 @@
 //! Tells what a policy means, and what of a script and of a book is at fault, over any devices.
-ghost use Rattle.std.specs.Prelude.{◌≡◌, ◌++◌, [], OnOk, OnErr, Err, codes};
+ghost use Rattle.std.specs.Prelude.{◌≡◌, ◌++◌, [], OnOk, OnErr, IfOk, Err};
 ghost use Rattle.hall_script.specs.Devices.{used, IsWritten, BrokeOff};
 ghost use Rattle.program_commands.specs.Endings.{EndsSo};
 ghost use Rattle.program_commands.specs.Checking.{first_ending, script_ending, TellsMeaning};
 ghost use Rattle.program_commands.specs.Checking.{TellsLines, TellsScript, TellsFound, found_ending};
 ghost use Rattle.program_commands.specs.Checking.{TellsBook, TellsScriptIfAny, TellsBookIfAny};
-ghost use Rattle.program_commands.specs.Checking.{if_any, Checks, place_line, TellsLine};
+ghost use Rattle.program_commands.specs.Checking.{if_any, Checks, TellsLine};
 ghost use Rattle.program_commands.specs.Checking.{TellsRefused, ChecksText, CheckEnds};
 ghost use Rattle.wall_policy.specs.Answer.{answer_to};
+ghost use Rattle.policy_places.specs.Named.{named_at};
+ghost use Rattle.check_text.specs.Policies.{policy_line};
 
 use crate::audit::BOOK_LIMIT;
-use crate::ending::{Ending, end, policy_fault, write_two};
+use crate::ending::{Ending, end, write_two};
+use crate::unread::unread;
 use book_places::{Found, found_in, put_found};
-use check_text::{LineFault, ScriptFaults, script_lines};
-use coll_text::{put, put_decimal};
+use check_text::{LineFault, ScriptFaults, put_policy_line, script_lines};
 use hall_script::{DeviceFault, SCRIPT_LIMIT, read_device};
 use meaning_text::meaning_text;
-use policy_places::place_of;
-use std::alloc::{AllocError, Global};
-use wall_labels::{Failed, Sink, Source, write_all};
+use policy_places::{Found as FoundInPolicy, named_at, place_of};
+use program_files::Explains;
+use std::alloc::Global;
+use wall_labels::{Failed, NoMemory, Sink, Source, write_all};
 use wall_policy::{Policy, PolicyFault, read_policy};
 
 /// The most bytes of a policy for whose fault a line is looked for.
@@ -26,13 +29,13 @@ pub const PLACE_LIMIT: usize = 262144;
 
 // What is told of a file, and how the check ends by it.
 #[derive(Drop)]
-struct Told {
+struct Told<'a> {
     text: Vec<u8>,
-    ending: Ending<'static>,
+    ending: Ending<'a>,
 }
 
 // No line is told.
-fn untold(alloc: Global, ending: Ending<'static>) -> Told
+fn untold<'a>(alloc: Global, ending: Ending<'a>) -> Told<'a>
     ensures text { result.text.items ≡ [] }
     ensures ending { result.ending ≡ ending.entry }
 {
@@ -40,7 +43,7 @@ fn untold(alloc: Global, ending: Ending<'static>) -> Told
     Told { text, ending }
 }
 
-fn first_ending(first: Ending<'static>, second: Ending<'static>) -> Ending<'static>
+fn first_ending<'a>(first: Ending<'a>, second: Ending<'a>) -> Ending<'a>
     ensures { result ≡ first_ending first.entry second.entry }
 {
     match first {
@@ -50,7 +53,7 @@ fn first_ending(first: Ending<'static>, second: Ending<'static>) -> Ending<'stat
 }
 
 // What the policy means.
-fn tell_meaning(alloc: Global, wall: &Policy) -> Told
+fn tell_meaning(alloc: Global, wall: &Policy) -> Told<'static>
     ensures { TellsMeaning wall.now result.text.items result.ending }
 {
     match meaning_text(alloc, wall) {
@@ -72,7 +75,7 @@ fn script_ending(first: Option<(u64, LineFault)>) -> Ending<'static>
 }
 
 // What of the text of a script is at fault.
-fn tell_lines(alloc: Global, wall: &Policy, path: &str, script: &[u8]) -> Told
+fn tell_lines(alloc: Global, wall: &Policy, path: &str, script: &[u8]) -> Told<'static>
     ensures { TellsLines wall.now path.now script.now result.text.items result.ending }
 {
     match script_lines(alloc, wall, path, script) {
@@ -86,9 +89,15 @@ fn tell_lines(alloc: Global, wall: &Policy, path: &str, script: &[u8]) -> Told
 }
 
 // The same of a script that is still to be read.
-fn tell_script<S: Source>(alloc: Global, wall: &Policy, path: &str, script: &mut S) -> Told
+fn tell_script<'a, S: Source + Explains>(
+    alloc: Global,
+    wall: &Policy,
+    path: &'a str,
+    script: &mut S,
+) -> Told<'a>
     ensures { TellsScript wall.now path.now
         (used S.failures S.remaining script.old script.new)
+        (S.cause script.new)
         result.text.items result.ending }
 {
     match read_device(alloc, script, SCRIPT_LIMIT) {
@@ -97,7 +106,7 @@ fn tell_script<S: Source>(alloc: Global, wall: &Policy, path: &str, script: &mut
             drop(bytes);
             told
         }
-        Err(DeviceFault::Read) => untold(alloc, Ending::ReadFault),
+        Err(DeviceFault::Read) => untold(alloc, unread(path, script.cause(), SCRIPT_LIMIT)),
         Err(DeviceFault::NoMemory) => untold(alloc, Ending::NoMemory),
     }
 }
@@ -114,7 +123,7 @@ fn found_ending(found: &Found) -> Ending<'static>
 }
 
 // What is found of the text of a book.
-fn tell_found(alloc: Global, wall: &Policy, path: &str, book: &[u8]) -> Told
+fn tell_found(alloc: Global, wall: &Policy, path: &str, book: &[u8]) -> Told<'static>
     ensures { TellsFound wall.now path.now book.now result.text.items result.ending }
 {
     let found = match found_in(alloc, wall, book) {
@@ -132,9 +141,15 @@ fn tell_found(alloc: Global, wall: &Policy, path: &str, book: &[u8]) -> Told
 }
 
 // The same of a book that is still to be read.
-fn tell_book<B: Source>(alloc: Global, wall: &Policy, path: &str, book: &mut B) -> Told
+fn tell_book<'a, B: Source + Explains>(
+    alloc: Global,
+    wall: &Policy,
+    path: &'a str,
+    book: &mut B,
+) -> Told<'a>
     ensures { TellsBook wall.now path.now
         (used B.failures B.remaining book.old book.new)
+        (B.cause book.new)
         result.text.items result.ending }
 {
     match read_device(alloc, book, BOOK_LIMIT) {
@@ -143,19 +158,19 @@ fn tell_book<B: Source>(alloc: Global, wall: &Policy, path: &str, book: &mut B) 
             drop(bytes);
             told
         }
-        Err(DeviceFault::Read) => untold(alloc, Ending::ReadFault),
+        Err(DeviceFault::Read) => untold(alloc, unread(path, book.cause(), BOOK_LIMIT)),
         Err(DeviceFault::NoMemory) => untold(alloc, Ending::NoMemory),
     }
 }
 
-fn tell_script_if_any<S: Source + Drop>(
+fn tell_script_if_any<'a, S: Source + Explains + Drop>(
     alloc: Global,
     wall: &Policy,
-    path: &str,
+    path: &'a str,
     script: Option<S>,
-) -> Told
+) -> Told<'a>
     ensures { TellsScriptIfAny wall.now path.now
-        (if_any S.failures S.remaining script)
+        (if_any S.failures S.remaining S.cause script)
         result.text.items result.ending }
 {
     match script {
@@ -167,14 +182,14 @@ fn tell_script_if_any<S: Source + Drop>(
     }
 }
 
-fn tell_book_if_any<B: Source + Drop>(
+fn tell_book_if_any<'a, B: Source + Explains + Drop>(
     alloc: Global,
     wall: &Policy,
-    path: &str,
+    path: &'a str,
     book: Option<B>,
-) -> Told
+) -> Told<'a>
     ensures { TellsBookIfAny wall.now path.now
-        (if_any B.failures B.remaining book)
+        (if_any B.failures B.remaining B.cause book)
         result.text.items result.ending }
 {
     match book {
@@ -203,18 +218,18 @@ fn write_three<O: Sink>(out: &mut O, a: &[u8], b: &[u8], c: &[u8]) -> Result<(),
 }
 
 // Checks script and book under the policy, and writes all that there is to tell.
-fn check_under<S: Source + Drop, B: Source + Drop, O: Sink>(
+fn check_under<'a, S: Source + Explains + Drop, B: Source + Explains + Drop, O: Sink>(
     alloc: Global,
     wall: &Policy,
-    path: &str,
+    path: &'a str,
     script: Option<S>,
-    book_path: &str,
+    book_path: &'a str,
     book: Option<B>,
     out: &mut O,
-) -> Ending<'static>
+) -> Ending<'a>
     ensures { Checks wall.now path.now book_path.now
-        (if_any S.failures S.remaining script)
-        (if_any B.failures B.remaining book)
+        (if_any S.failures S.remaining S.cause script)
+        (if_any B.failures B.remaining B.cause book)
         (used O.failures O.contents out.old out.new)
         result }
 {
@@ -233,39 +248,41 @@ fn check_under<S: Source + Drop, B: Source + Drop, O: Sink>(
     }
 }
 
-// Appends `PATH:LINE: NAME`.
-fn put_place(
-    text: &mut Vec<u8>,
+// The line of the fault of a policy.
+fn line_of(
+    alloc: Global,
     path: &str,
-    line: u64,
-    fault: PolicyFault,
-) -> Result<(), AllocError>
-    ensures { OnOk result (text.new.items ≡ text.old.items ++ place_line path.now line fault) }
+    policy: &[u8],
+    found: FoundInPolicy,
+) -> Result<Vec<u8>, NoMemory>
+    ensures { IfOk result (λ text.
+        text.items ≡ policy_line path.now found (named_at policy.now found)) }
 {
-    put(text, path)?;
-    put(text, ":")?;
-    put_decimal(text, line)?;
-    put(text, ": ")?;
-    put(text, policy_fault(fault))
+    let named = named_at(alloc, policy, found)?;
+    let mut text = Vec::new(alloc);
+    put_policy_line(&mut text, path, found, &named)?;
+    Ok(text)
 }
 
-// Tells the line on which the fault of a policy stands.
+// Tells the line on which the fault of a policy stands, and what is wrong there.
 fn tell_line<O: Sink>(
     alloc: Global,
     path: &str,
-    line: u64,
+    policy: &[u8],
+    found: FoundInPolicy,
     fault: PolicyFault,
     out: &mut O,
 ) -> Ending<'static>
-    ensures { TellsLine path.now line fault (used O.failures O.contents out.old out.new) result }
+    ensures { TellsLine path.now policy.now found fault
+        (used O.failures O.contents out.old out.new)
+        result }
 {
-    let mut text = Vec::new(alloc);
-    if put_place(&mut text, path, line, fault).is_err() {
-        return Ending::NoMemory;
-    }
-    match write_all(out, &text) {
-        Ok(()) => Ending::BadPolicy(fault),
-        Err(_) => Ending::WriteFault,
+    match line_of(alloc, path, policy, found) {
+        Ok(text) => match write_all(out, &text) {
+            Ok(()) => Ending::BadPolicy(fault),
+            Err(_) => Ending::WriteFault,
+        },
+        Err(_) => Ending::NoMemory,
     }
 }
 
@@ -288,7 +305,7 @@ fn tell_refused<O: Sink>(
     }
     match place_of(alloc, policy) {
         Ok(Some(place)) => match place.found {
-            Some(found) => tell_line(alloc, path, found.line, place.fault, out),
+            Some(found) => tell_line(alloc, path, policy, found, place.fault, out),
             None => Ending::BadPolicy(place.fault),
         },
         Ok(None) => Ending::BadPolicy(fault),
@@ -297,19 +314,19 @@ fn tell_refused<O: Sink>(
 }
 
 // Judges the bytes of a policy, and then checks script and book under it.
-fn check_policy<S: Source + Drop, B: Source + Drop, O: Sink>(
+fn check_policy<'a, S: Source + Explains + Drop, B: Source + Explains + Drop, O: Sink>(
     alloc: Global,
     text: &[u8],
     policy_path: &str,
-    path: &str,
+    path: &'a str,
     script: Option<S>,
-    book_path: &str,
+    book_path: &'a str,
     book: Option<B>,
     out: &mut O,
-) -> Ending<'static>
+) -> Ending<'a>
     ensures { ChecksText text.now policy_path.now path.now book_path.now
-        (if_any S.failures S.remaining script)
-        (if_any B.failures B.remaining book)
+        (if_any S.failures S.remaining S.cause script)
+        (if_any B.failures B.remaining B.cause book)
         (used O.failures O.contents out.old out.new)
         result }
 {
@@ -325,20 +342,27 @@ fn check_policy<S: Source + Drop, B: Source + Drop, O: Sink>(
 }
 
 // Reads the policy, and then checks all under it.
-fn check_devices<P: Source, S: Source + Drop, B: Source + Drop, O: Sink>(
+fn check_devices<
+    'a,
+    P: Source + Explains,
+    S: Source + Explains + Drop,
+    B: Source + Explains + Drop,
+    O: Sink,
+>(
     alloc: Global,
     policy: &mut P,
-    policy_path: &str,
-    path: &str,
+    policy_path: &'a str,
+    path: &'a str,
     script: Option<S>,
-    book_path: &str,
+    book_path: &'a str,
     book: Option<B>,
     out: &mut O,
-) -> Ending<'static>
+) -> Ending<'a>
     ensures { CheckEnds policy_path.now path.now book_path.now
         (used P.failures P.remaining policy.old policy.new)
-        (if_any S.failures S.remaining script)
-        (if_any B.failures B.remaining book)
+        (P.cause policy.new)
+        (if_any S.failures S.remaining S.cause script)
+        (if_any B.failures B.remaining B.cause book)
         (used O.failures O.contents out.old out.new)
         result }
 {
@@ -357,7 +381,7 @@ fn check_devices<P: Source, S: Source + Drop, B: Source + Drop, O: Sink>(
             drop(text);
             ending
         }
-        Err(DeviceFault::Read) => Ending::ReadFault,
+        Err(DeviceFault::Read) => unread(policy_path, policy.cause(), SCRIPT_LIMIT),
         Err(DeviceFault::NoMemory) => Ending::NoMemory,
     }
 }
@@ -370,10 +394,18 @@ fn check_devices<P: Source, S: Source + Drop, B: Source + Drop, O: Sink>(
 /// sound, and all was written.
 ///
 /// What is told of one file does not hang on the others. Where the policy is refused the others are
-/// not looked at, and `PATH:LINE: NAME` is written to `out`, with `policy_path` as its PATH, the
-/// line on which its fault stands, if it stands on one, and its name. Of a policy of more than
-/// `PLACE_LIMIT` bytes no line is looked for.
-pub fn check_on<P: Source, S: Source + Drop, B: Source + Drop, O: Sink, E: Sink>(
+/// not looked at, and `PATH:LINE: ..` is written to `out`, with `policy_path` as its PATH, the line
+/// on which its fault stands, if it stands on one, and what is wrong there. Of a policy of more than
+/// `PLACE_LIMIT` bytes no line is looked for. A file that was not read is told by its path and why:
+/// for the cause that its reader tells, or since it has more than `SCRIPT_LIMIT` or `BOOK_LIMIT`
+/// bytes.
+pub fn check_on<
+    P: Source + Explains,
+    S: Source + Explains + Drop,
+    B: Source + Explains + Drop,
+    O: Sink,
+    E: Sink,
+>(
     alloc: Global,
     policy: &mut P,
     policy_path: &str,
@@ -387,8 +419,9 @@ pub fn check_on<P: Source, S: Source + Drop, B: Source + Drop, O: Sink, E: Sink>
     ensures { EndsSo
         (CheckEnds policy_path.now path.now book_path.now
         (used P.failures P.remaining policy.old policy.new)
-        (if_any S.failures S.remaining script)
-        (if_any B.failures B.remaining book)
+        (P.cause policy.new)
+        (if_any S.failures S.remaining S.cause script)
+        (if_any B.failures B.remaining B.cause book)
         (used O.failures O.contents out.old out.new))
         (used E.failures E.contents err.old err.new)
         result }

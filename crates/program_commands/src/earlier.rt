@@ -2,8 +2,9 @@
 ghost use Rattle.std.specs.Prelude.{◌≡◌, IfOk, IfErr, ℕ, List, []};
 ghost use Rattle.run_model.specs.Chains.{Link};
 ghost use Rattle.hall_script.specs.Devices.{used};
-ghost use Rattle.program_commands.specs.Earlier.{earlier_books, IsAfter, IsBroken, IsWallAfter};
+ghost use Rattle.program_commands.specs.Earlier.{earlier_books, IsAfter, IsWallAfter};
 ghost use Rattle.program_commands.specs.Earlier.{IsNoWallAfter, earlier_ending, IsLink, IsNoLink};
+ghost use Rattle.program_commands.specs.Earlier.{IsBrokenBy};
 
 use crate::audit::read_entries;
 use crate::ending::{EarlierFault, Ending};
@@ -71,24 +72,39 @@ fn read_link<'a, D: Source>(
     }
 }
 
-// Reads and checks all books, the oldest first.
-fn read_links<'a, D: Source + Drop>(
+/// An earlier book that gave no policy, as its reader was left, and how that ends.
+#[derive(Drop)]
+pub(crate) struct Broken<'a, D> {
+    pub(crate) path: &'a str,
+    pub(crate) device: D,
+    pub(crate) ending: Ending<'a>,
+}
+
+/// Reads and checks all books, the oldest first.
+pub(crate) fn read_links<'a, D: Source + Drop>(
     alloc: Global,
     first: Policy,
     earlier: Vec<Earlier<'a, D>>,
-) -> Result<Policy, Ending<'a>>
+) -> Result<Policy, Broken<'a, D>>
     ensures after { let books = earlier_books D.failures D.remaining earlier.entry.items in
         IfOk result (λ wall. (links : List Link) × ((least : ℕ)
         × IsAfter first books links (record { wall = wall; least = least }))) }
     ensures ending { let books = earlier_books D.failures D.remaining earlier.entry.items in
-        IfErr result (IsBroken first books) }
+        IfErr result (λ broken.
+        IsBrokenBy first books broken.path.now broken.device broken.ending) }
 {
     let mut chain = Chain::begin(first);
     for one in earlier {
         let Earlier { path, mut device } = one;
         match read_link(alloc, chain, path, &mut device) {
             Ok(longer) => chain = longer,
-            Err(ending) => return Err(ending),
+            Err(ending) => {
+                return Err(Broken {
+                    path,
+                    device,
+                    ending,
+                });
+            }
         }
     }
     Ok(chain.policy())
@@ -122,7 +138,11 @@ pub fn read_wall_after<'a, P: Source, D: Source + Drop>(
     };
     let wall = match read_links(alloc, first, earlier) {
         Ok(wall) => wall,
-        Err(ending) => return Err(ending),
+        Err(broken) => {
+            let ending = broken.ending;
+            drop(broken);
+            return Err(ending);
+        }
     };
     let _ = wall.processes();
     Ok(wall)

@@ -3,9 +3,10 @@ ghost use Rattle.std.specs.Prelude.{◌≡◌, ◌++◌, OnOk, OnErr, codes};
 ghost use Rattle.hall_script.specs.Devices.{used, IsWritten, BrokeOff};
 ghost use Rattle.program_commands.specs.Endings.{status_of, error_line, numbered_line};
 ghost use Rattle.program_commands.specs.Endings.{policy_fault_text, earlier_fault_text};
-ghost use Rattle.program_commands.specs.Endings.{line_fault_text, IsTold};
+ghost use Rattle.program_commands.specs.Endings.{line_fault_text, IsTold, cause_text, why_text};
 
 use coll_text::LineFault;
+use program_files::Cause;
 use wall_labels::{Failed, Sink, write_all};
 use wall_policy::PolicyFault;
 
@@ -18,6 +19,15 @@ pub enum EarlierFault {
     Cut,
     /// The entry of this number is the first that is not what the posts of the book give.
     Unsound(u64),
+}
+
+/// Why a file was not read, as people are told.
+#[derive(Clone, Copy, Debug, PartialEq, Eq)]
+pub enum Why {
+    /// A read failed.
+    Failed(Cause),
+    /// It has more bytes than these.
+    LongerThan(u64),
 }
 
 /// How the program ends. Lines and entries count from 1.
@@ -40,6 +50,8 @@ pub enum Ending<'a> {
     BadEarlier(&'a str, EarlierFault),
     /// A reader failed, or a file is too long.
     ReadFault,
+    /// The same of the file at this path, told to people.
+    Unread(&'a str, Why),
     /// The writer failed.
     WriteFault,
     /// A thread was refused.
@@ -63,6 +75,7 @@ fn status(ending: Ending) -> u8
         Ending::Unsound(_) => 2,
         Ending::BadEarlier(..) => 2,
         Ending::ReadFault | Ending::WriteFault => 3,
+        Ending::Unread(..) => 3,
         Ending::NoThread | Ending::Exhausted => 4,
         Ending::NoMemory => 4,
         Ending::BadArguments => 5,
@@ -70,7 +83,7 @@ fn status(ending: Ending) -> u8
 }
 
 // The fault's name, and the end of the line.
-pub(crate) fn policy_fault(fault: PolicyFault) -> &'static str
+fn policy_fault(fault: PolicyFault) -> &'static str
     ensures { result.now ≡ policy_fault_text fault }
 {
     match fault {
@@ -203,6 +216,67 @@ fn write_bad_earlier<W: Sink>(sink: &mut W, path: &str, fault: EarlierFault) -> 
     }
 }
 
+// What is told of the cause, behind the path.
+fn cause_text(cause: Cause) -> &'static str
+    ensures { result.now ≡ cause_text cause }
+{
+    match cause {
+        Cause::NoFile => ": no such file\n",
+        Cause::Denied => ": permission denied\n",
+        Cause::Folder => ": is a directory\n",
+        Cause::Other => ": the read failed\n",
+    }
+}
+
+// Writes that a file has more bytes than these, behind its path.
+fn write_longer<W: Sink>(sink: &mut W, most: u64) -> Result<(), Failed>
+    ensures written { let device = used W.failures W.contents sink.old sink.new in
+        OnOk result (IsWritten device (why_text (Why.LongerThan most))) }
+    ensures broken { let device = used W.failures W.contents sink.old sink.new in
+        OnErr result (BrokeOff device (why_text (Why.LongerThan most))) }
+{
+    let mut buffer = itoa::Buffer::new();
+    let digits = buffer.format(most);
+    match write_two(sink, b": longer than ", digits.as_bytes()) {
+        Ok(()) => match write_all(sink, b" bytes\n") {
+            Ok(()) => Ok(()),
+            Err(_) => Err(Failed),
+        },
+        Err(_) => Err(Failed),
+    }
+}
+
+// Writes why a file was not read, behind its path.
+fn write_why<W: Sink>(sink: &mut W, why: Why) -> Result<(), Failed>
+    ensures written { let device = used W.failures W.contents sink.old sink.new in
+        OnOk result (IsWritten device (why_text why)) }
+    ensures broken { let device = used W.failures W.contents sink.old sink.new in
+        OnErr result (BrokeOff device (why_text why)) }
+{
+    match why {
+        Why::Failed(cause) => write_all(sink, cause_text(cause).as_bytes()),
+        Why::LongerThan(most) => write_longer(sink, most),
+    }
+}
+
+// Writes `cannot read PATH: ` and why.
+fn write_unread<W: Sink>(sink: &mut W, path: &str, why: Why) -> Result<(), Failed>
+    ensures written { let device = used W.failures W.contents sink.old sink.new in
+        let line = (codes "cannot read " ++ path.now) ++ why_text why in
+        OnOk result (IsWritten device line) }
+    ensures broken { let device = used W.failures W.contents sink.old sink.new in
+        let line = (codes "cannot read " ++ path.now) ++ why_text why in
+        OnErr result (BrokeOff device line) }
+{
+    match write_two(sink, b"cannot read ", path.as_bytes()) {
+        Ok(()) => match write_why(sink, why) {
+            Ok(()) => Ok(()),
+            Err(_) => Err(Failed),
+        },
+        Err(_) => Err(Failed),
+    }
+}
+
 // Writes the ending's line, if it has one.
 fn write_ending<W: Sink>(sink: &mut W, ending: Ending) -> Result<(), Failed>
     ensures written { let device = used W.failures W.contents sink.old sink.new in
@@ -218,6 +292,7 @@ fn write_ending<W: Sink>(sink: &mut W, ending: Ending) -> Result<(), Failed>
         Ending::CutBook => write_all(sink, b"book: cut\n"),
         Ending::BadEarlier(path, fault) => write_bad_earlier(sink, path, fault),
         Ending::ReadFault => write_all(sink, b"read fault\n"),
+        Ending::Unread(path, why) => write_unread(sink, path, why),
         Ending::WriteFault => write_all(sink, b"write fault\n"),
         Ending::NoThread => write_all(sink, b"no thread\n"),
         Ending::Exhausted => write_all(sink, b"exhausted\n"),

@@ -12,13 +12,14 @@ mod run;
 mod seal;
 mod serve;
 mod text;
+mod unread;
 mod unready;
 mod wall;
 
 pub use audit::{BOOK_LIMIT, audit_after, audit_on};
 pub use check::check_on;
 pub use earlier::{Earlier, read_wall_after};
-pub use ending::{EarlierFault, Ending, end};
+pub use ending::{EarlierFault, Ending, Why, end};
 pub use replay::{replay_after, replay_on};
 pub use report::report_on;
 pub use run::{run_after, run_on};

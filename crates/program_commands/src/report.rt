@@ -1,18 +1,38 @@
 //! Tells what a book tells, over any devices.
+ghost use Rattle.std.specs.Prelude.{IfOk, IfErr, Some};
 ghost use Rattle.hall_script.specs.Devices.{used};
+ghost use Rattle.program_commands.specs.Auditing.{IsBookOf};
 ghost use Rattle.program_commands.specs.Endings.{EndsSo};
-ghost use Rattle.program_commands.specs.Earlier.{earlier_books};
-ghost use Rattle.program_commands.specs.Reporting.{ReportsEntries, Reports, ReportEnds};
+ghost use Rattle.program_commands.specs.Earlier.{earlier_books, IsWallAfter};
+ghost use Rattle.program_commands.specs.Replaying.{perhaps, no_book};
+ghost use Rattle.program_commands.specs.Reporting.{ReportsEntries, ReportEnds, WritesBoth};
+ghost use Rattle.program_commands.specs.Reporting.{IsNoWallTold, IsNoBookTold, IsNoReading};
+ghost use Rattle.program_commands.specs.Reporting.{TellsFault};
 
-use crate::audit::{Finding, read_entries, tell};
-use crate::earlier::{Earlier, read_wall_after};
+use crate::audit::{BOOK_LIMIT, Finding, read_entries, tell};
+use crate::earlier::{Earlier, read_links};
 use crate::ending::{Ending, end};
 use crate::text::write_text;
+use crate::unread::explained;
+use crate::wall::read_wall;
 use audit_book::{Book, BookFault};
+use hall_script::SCRIPT_LIMIT;
+use program_files::Explains;
+use report_page::report_page;
 use report_text::report_text;
 use std::alloc::Global;
-use wall_labels::{Sink, Source};
+use wall_labels::{Sink, Source, write_all};
 use wall_policy::Policy;
+
+// Tells of a book that its check refused.
+fn tell_fault<O: Sink>(out: &mut O, fault: BookFault) -> Ending<'static>
+    ensures { TellsFault fault (used O.failures O.contents out.old out.new) result }
+{
+    match fault {
+        BookFault::BadEntry(number) => tell(out, Finding::Unsound(number)),
+        BookFault::NoMemory => Ending::NoMemory,
+    }
+}
 
 // Checks a book, and writes its report; or tells that it is unsound, as an audit would.
 fn report_entries<O: Sink>(
@@ -23,6 +43,7 @@ fn report_entries<O: Sink>(
 ) -> Ending<'static>
     ensures { ReportsEntries wall.now book.now.list
         (used O.failures O.contents out.old out.new)
+        no_book
         result }
 {
     match report_text(alloc, wall, book) {
@@ -31,80 +52,265 @@ fn report_entries<O: Sink>(
             drop(text);
             ending
         }
-        Err(BookFault::BadEntry(number)) => tell(out, Finding::Unsound(number)),
-        Err(BookFault::NoMemory) => Ending::NoMemory,
+        Err(fault) => tell_fault(out, fault),
     }
 }
 
-// Reads a book, and reports on it.
-fn report_under<B: Source, O: Sink>(
-    alloc: Global,
-    wall: &Policy,
-    book: &mut B,
+// Writes the text of a report, and then its page.
+fn write_both<O: Sink, W: Sink>(
     out: &mut O,
+    text: &[u8],
+    file: &mut W,
+    page: &[u8],
 ) -> Ending<'static>
-    ensures { Reports wall.now
-        (used B.failures B.remaining book.old book.new)
+    ensures { WritesBoth text.now page.now
         (used O.failures O.contents out.old out.new)
+        (used W.failures W.contents file.old file.new)
         result }
 {
-    let entries = match read_entries(alloc, wall, book) {
-        Ok(entries) => entries,
-        Err(ending) => return ending,
+    match write_all(out, text) {
+        Ok(()) => write_text(file, page),
+        Err(_) => Ending::WriteFault,
+    }
+}
+
+// The same as `report_entries`, with a page behind the report.
+fn page_entries<O: Sink, W: Sink>(
+    alloc: Global,
+    wall: &Policy,
+    book: &Book,
+    out: &mut O,
+    file: &mut W,
+) -> Ending<'static>
+    ensures { ReportsEntries wall.now book.now.list
+        (used O.failures O.contents out.old out.new)
+        (Some (used W.failures W.contents file.old file.new))
+        result }
+{
+    let text = match report_text(alloc, wall, book) {
+        Ok(text) => text,
+        Err(fault) => return tell_fault(out, fault),
     };
-    let ending = report_entries(alloc, wall, &entries, out);
-    drop(entries);
+    let page = match report_page(alloc, wall, book) {
+        Ok(page) => page,
+        Err(fault) => {
+            drop(text);
+            return tell_fault(out, fault);
+        }
+    };
+    let ending = write_both(out, &text, file, &page);
+    drop(text);
+    drop(page);
     ending
 }
 
-// Reads and judges the policy and the earlier books, and then reports on the book.
-fn report_devices<'a, P: Source, D: Source + Drop, B: Source, O: Sink>(
+// Reads and judges the policy and the earlier books; or how that ends, as people are told.
+fn wall_told<'a, P: Source + Explains, D: Source + Explains + Drop>(
     alloc: Global,
     policy: &mut P,
+    policy_path: &'a str,
+    earlier: Vec<Earlier<'a, D>>,
+) -> Result<Policy, Ending<'a>>
+    ensures policy { let device = used P.failures P.remaining policy.old policy.new in
+        let books = earlier_books D.failures D.remaining earlier.entry.items in
+        IfOk result (IsWallAfter device books) }
+    ensures ending { let device = used P.failures P.remaining policy.old policy.new in
+        let books = earlier_books D.failures D.remaining earlier.entry.items in
+        IfErr result (IsNoWallTold policy_path.now (P.cause policy.new) device D.cause books) }
+{
+    let first = match read_wall(alloc, policy) {
+        Ok(first) => first,
+        Err(ending) => return Err(explained(ending, policy_path, policy.cause(), SCRIPT_LIMIT)),
+    };
+    let wall = match read_links(alloc, first, earlier) {
+        Ok(wall) => wall,
+        Err(broken) => {
+            let cause = broken.device.cause();
+            let ending = explained(broken.ending, broken.path, cause, BOOK_LIMIT);
+            drop(broken);
+            return Err(ending);
+        }
+    };
+    let _ = wall.processes();
+    Ok(wall)
+}
+
+// Reads a book; or how that ends, as people are told.
+fn book_told<'a, B: Source + Explains>(
+    alloc: Global,
+    wall: &Policy,
+    book: &mut B,
+    path: &'a str,
+) -> Result<Book, Ending<'a>>
+    ensures book { let device = used B.failures B.remaining book.old book.new in
+        IfOk result (λ entries. IsBookOf wall.now device entries.list) }
+    ensures ending { let device = used B.failures B.remaining book.old book.new in
+        IfErr result (IsNoBookTold wall.now path.now (B.cause book.new) device) }
+{
+    match read_entries(alloc, wall, book) {
+        Ok(entries) => Ok(entries),
+        Err(ending) => Err(explained(ending, path, book.cause(), BOOK_LIMIT)),
+    }
+}
+
+// What a report reads: the policy after the earlier books, and its book.
+#[derive(Drop)]
+struct Reading {
+    wall: Policy,
+    entries: Book,
+}
+
+// Reads and judges all but the book itself, which is read.
+fn read_all<'a, P: Source + Explains, D: Source + Explains + Drop, B: Source + Explains>(
+    alloc: Global,
+    policy: &mut P,
+    policy_path: &'a str,
     earlier: Vec<Earlier<'a, D>>,
     book: &mut B,
+    path: &'a str,
+) -> Result<Reading, Ending<'a>>
+    ensures wall { let device = used P.failures P.remaining policy.old policy.new in
+        let books = earlier_books D.failures D.remaining earlier.entry.items in
+        IfOk result (λ reading. IsWallAfter device books reading.wall) }
+    ensures book { let device = used B.failures B.remaining book.old book.new in
+        IfOk result (λ reading. IsBookOf reading.wall device reading.entries.list) }
+    ensures ending { IfErr result (IsNoReading
+        policy_path.now (P.cause policy.new)
+        (used P.failures P.remaining policy.old policy.new)
+        D.cause (earlier_books D.failures D.remaining earlier.entry.items)
+        path.now (B.cause book.new)
+        (used B.failures B.remaining book.old book.new)) }
+{
+    let wall = match wall_told(alloc, policy, policy_path, earlier) {
+        Ok(wall) => wall,
+        Err(ending) => return Err(ending),
+    };
+    match book_told(alloc, &wall, book, path) {
+        Ok(entries) => Ok(Reading { wall, entries }),
+        Err(ending) => Err(ending),
+    }
+}
+
+// Reads policy, earlier books and book, and reports on the book.
+fn report_devices<
+    'a,
+    P: Source + Explains,
+    D: Source + Explains + Drop,
+    B: Source + Explains,
+    O: Sink,
+>(
+    alloc: Global,
+    policy: &mut P,
+    policy_path: &'a str,
+    earlier: Vec<Earlier<'a, D>>,
+    book: &mut B,
+    path: &'a str,
     out: &mut O,
 ) -> Ending<'a>
     ensures { ReportEnds
+        policy_path.now (P.cause policy.new)
         (used P.failures P.remaining policy.old policy.new)
-        (earlier_books D.failures D.remaining earlier.entry.items)
+        D.cause (earlier_books D.failures D.remaining earlier.entry.items)
+        path.now (B.cause book.new)
         (used B.failures B.remaining book.old book.new)
         (used O.failures O.contents out.old out.new)
+        no_book
         result }
 {
-    let wall = match read_wall_after(alloc, policy, earlier) {
-        Ok(wall) => wall,
+    let reading = match read_all(alloc, policy, policy_path, earlier, book, path) {
+        Ok(reading) => reading,
         Err(ending) => return ending,
     };
-    let ending = report_under(alloc, &wall, book, out);
-    drop(wall);
+    let ending = report_entries(alloc, &reading.wall, &reading.entries, out);
+    drop(reading);
+    ending
+}
+
+// The same with a page behind the report.
+fn page_devices<
+    'a,
+    P: Source + Explains,
+    D: Source + Explains + Drop,
+    B: Source + Explains,
+    O: Sink,
+    W: Sink,
+>(
+    alloc: Global,
+    policy: &mut P,
+    policy_path: &'a str,
+    earlier: Vec<Earlier<'a, D>>,
+    book: &mut B,
+    path: &'a str,
+    out: &mut O,
+    file: &mut W,
+) -> Ending<'a>
+    ensures { ReportEnds
+        policy_path.now (P.cause policy.new)
+        (used P.failures P.remaining policy.old policy.new)
+        D.cause (earlier_books D.failures D.remaining earlier.entry.items)
+        path.now (B.cause book.new)
+        (used B.failures B.remaining book.old book.new)
+        (used O.failures O.contents out.old out.new)
+        (Some (used W.failures W.contents file.old file.new))
+        result }
+{
+    let reading = match read_all(alloc, policy, policy_path, earlier, book, path) {
+        Ok(reading) => reading,
+        Err(ending) => return ending,
+    };
+    let ending = page_entries(alloc, &reading.wall, &reading.entries, out, file);
+    drop(reading);
     ending
 }
 
 /// Reads the policy, the earlier books and a book, checks the book as `audit_after` does, and
 /// writes to `out` what it tells: who came to hold what, by which entry and how, what became of
-/// each instance, and why posts were barred and instances denied. It writes the line of a fault to
-/// `err`, and gives the status: 0 exactly where the book is sound and its whole report was written.
+/// each instance, and why posts were barred and instances denied. Where there is a `file`, it then
+/// writes the same to it as a page. It writes the line of a fault to `err`, and gives the status: 0
+/// exactly where the book is sound and its whole report was written, and the page.
 ///
-/// Of a book that is unsound it writes `unsound at entry N`, and no report. A book of more than
-/// `BOOK_LIMIT` bytes is a read fault.
-pub fn report_on<P: Source, D: Source + Drop, B: Source, O: Sink, E: Sink>(
+/// Of a book that is unsound it writes `unsound at entry N`, and no report and no page. A file that
+/// was not read is told by its path, which for the policy is `policy_path` and for the book `path`,
+/// and why: for the cause that its reader tells, or since it has more than `SCRIPT_LIMIT` or
+/// `BOOK_LIMIT` bytes.
+pub fn report_on<
+    P: Source + Explains,
+    D: Source + Explains + Drop,
+    B: Source + Explains,
+    O: Sink,
+    E: Sink,
+    W: Sink,
+>(
     alloc: Global,
     policy: &mut P,
+    policy_path: &str,
     earlier: Vec<Earlier<D>>,
     book: &mut B,
+    path: &str,
     out: &mut O,
     err: &mut E,
+    file: Option<&mut W>,
 ) -> u8
     ensures { EndsSo
         (ReportEnds
+        policy_path.now (P.cause policy.new)
         (used P.failures P.remaining policy.old policy.new)
-        (earlier_books D.failures D.remaining earlier.entry.items)
+        D.cause (earlier_books D.failures D.remaining earlier.entry.items)
+        path.now (B.cause book.new)
         (used B.failures B.remaining book.old book.new)
-        (used O.failures O.contents out.old out.new))
+        (used O.failures O.contents out.old out.new)
+        (perhaps W.failures W.contents file.entry file.exit))
         (used E.failures E.contents err.old err.new)
         result }
 {
-    let ending = report_devices(alloc, policy, earlier, book, out);
-    end(err, ending)
+    match file {
+        Some(file) => {
+            let ending = page_devices(alloc, policy, policy_path, earlier, book, path, out, file);
+            end(err, ending)
+        }
+        None => {
+            let ending = report_devices(alloc, policy, policy_path, earlier, book, path, out);
+            end(err, ending)
+        }
+    }
 }

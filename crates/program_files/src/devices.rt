@@ -5,6 +5,7 @@ ghost use Rattle.std.specs.Fs.{new_options, with_write, with_create_new};
 ghost use Rattle.std.specs.Io.KnownBytes.{ReadConsumes, WriteAppends};
 ghost use Rattle.program_files.specs.Files.{bytes_of};
 
+use crate::cause::{Cause, Explains, cause_of};
 use std::fs::{File, OpenOptions};
 use std::io;
 use std::io::{Read, Write};
@@ -58,6 +59,8 @@ pub struct FileSource<'a, R: Files, L: Ledger> {
     pub path: &'a str,
     pub file: Option<R::File>,
     pub failures: Count<L>,
+    /// Why the last read that failed did so; none where none did.
+    pub cause: Option<Cause>,
 }
 
 // Reads from a file that was opened, or opens it first.
@@ -100,14 +103,25 @@ impl<'a, R: Files, L: Ledger> Source for FileSource<'a, R, L> {
         ensures opened { OnOk result (IsSome self.new.file) }
         ensures stays { IsSome self.old.file → IsSome self.new.file }
         ensures path { self.new.path ≡ self.old.path }
+        ensures silent { OnOk result (self.new.cause ≡ self.old.cause) }
+        ensures told { OnErr result (IsSome self.new.cause) }
     {
         match read_opened(self.rt, self.path, &mut self.file, buffer) {
             Ok(n) => Ok(n),
-            Err(_) => {
+            Err(error) => {
+                self.cause = Some(cause_of(error.kind()));
                 self.failures.rise();
                 Err(Failed)
             }
         }
+    }
+}
+
+impl<'a, R: Files, L: Ledger> Explains for FileSource<'a, R, L> {
+    ghost cause = { λ s. s.cause };
+
+    fn cause(&self) -> Option<Cause> {
+        self.cause
     }
 }
 
@@ -120,6 +134,8 @@ pub struct ListedFile<'a, R: Files> {
     pub path: &'a str,
     pub file: Option<R::File>,
     pub has_failed: bool,
+    /// Why the read that failed did so; none where none did.
+    pub cause: Option<Cause>,
 }
 
 impl<'a, R: Files> Source for ListedFile<'a, R> {
@@ -141,17 +157,28 @@ impl<'a, R: Files> Source for ListedFile<'a, R> {
         ensures nothing { self.old.has_failed ≡ true →
             (result ≡ Ok 0) × (self.new.file ≡ self.old.file) }
         ensures path { self.new.path ≡ self.old.path }
+        ensures silent { OnOk result (self.new.cause ≡ self.old.cause) }
+        ensures told { OnErr result (IsSome self.new.cause) }
     {
         if self.has_failed {
             return Ok(0);
         }
         match read_opened(self.rt, self.path, &mut self.file, buffer) {
             Ok(n) => Ok(n),
-            Err(_) => {
+            Err(error) => {
+                self.cause = Some(cause_of(error.kind()));
                 self.has_failed = true;
                 Err(Failed)
             }
         }
+    }
+}
+
+impl<'a, R: Files> Explains for ListedFile<'a, R> {
+    ghost cause = { λ s. s.cause };
+
+    fn cause(&self) -> Option<Cause> {
+        self.cause
     }
 }
 

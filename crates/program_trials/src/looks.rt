@@ -2,10 +2,13 @@
 //! its line, and devices that fail.
 use crate::chains::{ALPHA, ALPHA_TO_N0, BETA_TO_N0, WALL, books};
 use crate::endings::{sink, source};
-use program_commands::{check_on, report_on, text_on};
+use audit_book::read_book;
+use program_commands::{Earlier, check_on, report_on, text_on};
+use report_page::report_page;
 use std::process::Abort;
 use std::test::Fail;
-use wall_labels::memory::{Fuse, MemorySource};
+use wall_labels::memory::{ExpectingSink, Fuse, MemorySource};
+use wall_policy::read_policy;
 
 const MEANING: &str = "alpha is in one class with beta
 beta is in one class with alpha
@@ -139,8 +142,15 @@ fn checks_end_by_the_first_fault(rt: HostRuntime) -> Result<(), Fail> {
     let other = "book 1\nend 4\n";
     assert!(&rt; checks_so(&rt, WALL, None, Some(other), &told, "book: line 2\n", 2));
     let none = "# a comment\nversion = 3\n";
-    let (told, line) = ("policy.toml:2: BadVersion\n", "policy: BadVersion\n");
+    let told = "policy.toml:2: the version is neither 1 nor 2\n";
+    let line = "policy: BadVersion\n";
     assert!(&rt; checks_so(&rt, none, Some(ALPHA), None, told, line, 1));
+    let typo = WALL.replace(rt.alloc(), "home = \"beta\"", "hme = \"beta\"")?;
+    let (told, line) = (
+        "policy.toml:10: unknown key \"hme\" in [[process]]\n",
+        "policy: UnknownKey\n",
+    );
+    assert!(&rt; checks_so(&rt, typo.as_str(), None, None, told, line, 1));
     Ok(())
 }
 
@@ -158,13 +168,16 @@ fn reports_so(
     let mut out = sink(said.as_bytes(), Fuse::Whole);
     let mut err = sink(line.as_bytes(), Fuse::Whole);
     let earlier = books(rt.alloc(), earlier)?;
-    let ended = report_on(
+    let ended = report_on::<_, _, _, _, _, ExpectingSink>(
         rt.alloc(),
         &mut policy,
+        "policy.toml",
         earlier,
         &mut book,
+        "calls.book",
         &mut out,
         &mut err,
+        None,
     );
     let is_all = out.rest.is_empty() && err.rest.is_empty();
     Ok(ended == status && is_all && out.is_same && err.is_same)
@@ -181,6 +194,112 @@ fn reports_tell_of_sound_books(rt: HostRuntime) -> Result<(), Fail> {
     let earlier = &[("monday.book", ALPHA_TO_N0), ("tuesday.book", BETA_TO_N0)];
     assert!(&rt; reports_so(&rt, earlier, ALPHA_TO_N0, "", line, 2)?);
     assert!(&rt; reports_so(&rt, &[], "book 1\n", "", "book: cut\n", 2)?);
+    Ok(())
+}
+
+// The fuses of a report's devices: policy, an earlier book, book, output and page.
+type Fuses = [Fuse; 5];
+
+const SOUND: Fuses = [Fuse::Whole; 5];
+
+// Whether a report with a page over devices with these fuses writes this, and this page, as far as
+// the writers take them, and the line, with this status.
+fn pages_so(
+    rt: &impl AllocGlobal,
+    fuses: Fuses,
+    book: &str,
+    texts: [&[u8]; 3],
+    status: u8,
+) -> Result<bool, Fail> {
+    let [of_policy, of_earlier, of_book, of_out, of_page] = fuses;
+    let [said, page, line] = texts;
+    let mut policy = source(WALL.as_bytes(), of_policy);
+    let mut book = source(book.as_bytes(), of_book);
+    let mut out = sink(said, of_out);
+    let mut file = sink(page, of_page);
+    let mut err = sink(line, Fuse::Whole);
+    let mut earlier = Vec::new(rt.alloc());
+    earlier.push(Earlier {
+        path: "monday.book",
+        device: source(b"book 1\nend 0\n", of_earlier),
+    })?;
+    let ended = report_on(
+        rt.alloc(),
+        &mut policy,
+        "policy.toml",
+        earlier,
+        &mut book,
+        "calls.book",
+        &mut out,
+        &mut err,
+        Some(&mut file),
+    );
+    let is_out = out.is_same && (out.rest.is_empty() || of_out != Fuse::Whole);
+    let is_page = file.is_same && (file.rest.is_empty() || of_page != Fuse::Whole);
+    let is_all = is_out && is_page && err.is_same && err.rest.is_empty();
+    Ok(ended == status && is_all)
+}
+
+// A page is written behind the report of its book, and only there.
+#[test]
+fn pages_are_written_behind_reports(rt: HostRuntime) -> Result<(), Fail> {
+    let wall = match read_policy(rt.alloc(), WALL.as_bytes()) {
+        Ok(wall) => wall,
+        Err(_) => return Err(Fail::from("no policy")),
+    };
+    let book = match read_book(rt.alloc(), &wall, ALPHA_TO_N0.as_bytes()) {
+        Ok(book) => book,
+        Err(_) => return Err(Fail::from("no book")),
+    };
+    let page = match report_page(rt.alloc(), &wall, &book) {
+        Ok(page) => page,
+        Err(_) => return Err(Fail::from("no page")),
+    };
+    let (said, page, none) = (REPORT.as_bytes(), page.as_slice(), b"".as_slice());
+    assert!(&rt; pages_so(&rt, SOUND, ALPHA_TO_N0, [said, page, none], 0)?);
+    let unsound = ALPHA_TO_N0.replace(rt.alloc(), "made 1 2", "made 1 1")?;
+    let told = b"unsound at entry 5\n".as_slice();
+    assert!(&rt; pages_so(&rt, SOUND, unsound.as_str(), [told, none, none], 2)?);
+    let cut = b"book: cut\n".as_slice();
+    assert!(&rt; pages_so(&rt, SOUND, "book 1\n", [none, none, cut], 2)?);
+    let fault = b"write fault\n".as_slice();
+    let broken = [
+        Fuse::Whole,
+        Fuse::Whole,
+        Fuse::Whole,
+        Fuse::After(0),
+        Fuse::Whole,
+    ];
+    assert!(&rt; pages_so(&rt, broken, ALPHA_TO_N0, [said, none, fault], 3)?);
+    let broken = [
+        Fuse::Whole,
+        Fuse::Whole,
+        Fuse::Whole,
+        Fuse::Whole,
+        Fuse::After(0),
+    ];
+    assert!(&rt; pages_so(&rt, broken, ALPHA_TO_N0, [said, page, fault], 3)?);
+    Ok(())
+}
+
+// The file that was not read is told by its path.
+#[test]
+fn unread_files_are_told_by_their_paths(rt: HostRuntime) -> Result<(), Fail> {
+    let none = b"".as_slice();
+    for (place, line) in [
+        (0, "cannot read policy.toml: the read failed\n"),
+        (1, "cannot read monday.book: the read failed\n"),
+        (2, "cannot read calls.book: the read failed\n"),
+    ] {
+        for fuse in [Fuse::After(0), Fuse::After(1)] {
+            let mut fuses = SOUND;
+            fuses[place] = fuse;
+            assert!(&rt;
+                pages_so(&rt, fuses, ALPHA_TO_N0, [none, none, line.as_bytes()], 3)?,
+                "{line}"
+            );
+        }
+    }
     Ok(())
 }
 

@@ -71,9 +71,10 @@ check_app =
     let with_script = with_rule with_policy (new_rule (codes "script")) in
     with_rule with_script (optional_rule (codes "book"))
 
--- report POLICY BOOK [--after BOOK]..
+-- report POLICY BOOK [--after BOOK].. [--html FILE]
 abbrev pub report_app : App
-report_app = files_app (codes "report") (codes "book")
+report_app =
+    with_rule (files_app (codes "report") (codes "book")) (optional_rule (codes "html"))
 
 -- usage [COMMAND]
 abbrev pub usage_app : App
@@ -145,6 +146,8 @@ pub record ReportFiles : Type 0 where
   pub policy : Text
   pub after : List Text
   pub book : Text
+  -- where the page goes, if it is wanted
+  pub html : Option Text
 
 -- a command and its files
 pub data Asked : Type 0 where
@@ -221,8 +224,12 @@ check_in rows =
 abbrev pub report_in : List Row → Option ReportFiles
 report_in rows =
     option_and_then (λ p. option_and_then (λ b.
-    Some (record { policy = p; after = every_of (codes "after") rows; book = b }))
-    (first_of (codes "book") rows)) (first_of (codes "policy") rows)
+    Some (record {
+      policy = p;
+      after = every_of (codes "after") rows;
+      book = b;
+      html = first_of (codes "html") rows;
+    })) (first_of (codes "book") rows)) (first_of (codes "policy") rows)
 
 -- the command of this name
 abbrev pub command_in : Text → List Row → Option Asked
@@ -299,8 +306,12 @@ check_files r = record {
 }
 
 abbrev pub report_files : ReportPaths → ReportFiles
-report_files r =
-    record { policy = r.policy.now; after = texts_of r.after.items; book = r.book.now }
+report_files r = record {
+  policy = r.policy.now;
+  after = texts_of r.after.items;
+  book = r.book.now;
+  html = option_map (λ h. h.now) r.html;
+}
 
 abbrev pub asked_by : Command → Asked
 asked_by (Replay r) = to_replay (replay_files r)

@@ -4,7 +4,7 @@ ghost use Rattle.clap.specs.Words.{app_of, new_app, rule_of, with_subcommand};
 ghost use Rattle.clap.specs.declared.builder.Command.TheViews.{out-Command as fields_of};
 ghost use Rattle.program_words.specs.Grammar.{required_rule, repeated_rule, files_app, keeping_app};
 ghost use Rattle.program_words.specs.Grammar.{plain_app, flag_rule, serve_app, seal_app, check_app};
-ghost use Rattle.program_words.specs.Grammar.{usage_app, program_app};
+ghost use Rattle.program_words.specs.Grammar.{report_app, usage_app, program_app};
 
 use clap::{Arg, ArgAction};
 use std::alloc::{AllocError, Global};
@@ -117,6 +117,17 @@ fn check_command<'a>(alloc: Global) -> Result<clap::Command<'a>, AllocError>
     command.arg(Arg::new(alloc, "book").long("book"))
 }
 
+// The command `report POLICY BOOK [--after BOOK].. [--html FILE]`.
+fn report_command<'a>(alloc: Global) -> Result<clap::Command<'a>, AllocError>
+    ensures app { IfOk result (λ c. app_of c ≡ report_app) }
+    ensures globals { IfOk result (λ c. (fields_of c).has_globals ≡ false) }
+{
+    let Ok(command) = files_command(alloc, "report", "book") else {
+        return Err(AllocError);
+    };
+    command.arg(Arg::new(alloc, "html").long("html"))
+}
+
 // The command `usage [COMMAND]`.
 fn usage_command<'a>(alloc: Global) -> Result<clap::Command<'a>, AllocError>
     ensures app { IfOk result (λ c. app_of c ≡ usage_app) }
@@ -175,7 +186,7 @@ pub(crate) fn program_command<'a>(alloc: Global) -> Result<clap::Command<'a>, Al
     let Ok(program) = with_command(program, check_command(alloc)) else {
         return Err(AllocError);
     };
-    let Ok(program) = with_command(program, files_command(alloc, "report", "book")) else {
+    let Ok(program) = with_command(program, report_command(alloc)) else {
         return Err(AllocError);
     };
     let Ok(program) = with_command(program, usage_command(alloc)) else {

@@ -91,11 +91,18 @@ const ASKED: &[(&[&str], &str)] = &[
     (&["check", "w", "s"], "check w s none"),
     (&["check", "w", "--book", "b"], "check w none b"),
     (&["check", "--book=b", "w", "s"], "check w s b"),
-    (&["report", "w", "b"], "report w b"),
+    (&["report", "w", "b"], "report w b none"),
     (
         &["report", "--after", "x", "w", "--after=y", "b"],
-        "report w b x y",
+        "report w b none x y",
     ),
+    (&["report", "w", "b", "--html", "h"], "report w b h"),
+    (&["report", "--html=-h", "w", "b"], "report w b -h"),
+    (
+        &["report", "w", "--after=x", "--html", "h", "b"],
+        "report w b h x",
+    ),
+    (&["report", "--", "w", "--html"], "report w --html none"),
     (&["usage"], "usage none"),
     (&["usage", "replay"], "usage replay"),
     (&["usage", "nothing"], "usage nothing"),
@@ -171,6 +178,12 @@ const BAD: &[&[&str]] = &[
     &["report", "w"],
     &["report", "w", "b", "c"],
     &["report", "w", "b", "--book", "c"],
+    &["report", "w", "b", "--html"],
+    &["report", "w", "--html", "b"],
+    &["report", "w", "b", "--html", "h", "--html", "h"],
+    &["report", "w", "b", "--htm", "h"],
+    &["audit", "w", "b", "--html", "h"],
+    &["check", "w", "--html", "h"],
     &["usage", "replay", "run"],
     &["usage", "--help"],
     &["version", "replay"],
@@ -239,7 +252,8 @@ fn told(alloc: Global, words: &[&str]) -> Result<String, Fail> {
             paths.after
         }
         Ok(Command::Report(paths)) => {
-            write!(text, "report {} {}", paths.policy, paths.book)?;
+            let html = paths.html.unwrap_or("none");
+            write!(text, "report {} {} {html}", paths.policy, paths.book)?;
             paths.after
         }
         Ok(command) => {

@@ -20,7 +20,7 @@ usage: consortium COMMAND WORDS
       makes a whole book of one that was cut, in a new file
   check POLICY [SCRIPT] [--book BOOK]
       tells what a policy means, and where a policy, a script or a book is at fault
-  report POLICY BOOK [--after BOOK]..
+  report POLICY BOOK [--after BOOK].. [--html FILE]
       tells who came to hold what by a book, and why posts were barred and instances denied
   usage [COMMAND]
       this text, or that of one command
@@ -141,26 +141,27 @@ status  0  all of it reads, and the book is sound
         2  a line of the script is no call                   script: line N: NAME
         2  the book is unsound                               PATH:LINE: .., on standard output
         2  the file is no book                               book: line N, book: cut
-        3  a file could not be read, or is too long          read fault
+        3  a file could not be read, or is too long          cannot read PATH: ..
         3  a line could not be written                       write fault
         4  memory was refused                                out of memory
         5  the words are bad                                 bad arguments
 ";
 
 const REPORT: &str = "\
-usage: consortium report POLICY BOOK [--after BOOK]..
+usage: consortium report POLICY BOOK [--after BOOK].. [--html FILE]
 
 Tells who came to hold what by BOOK, by which entry and how, what became of each instance, and for
-each post that was barred and each instance that was denied the reason. With --after, any number of
-times, the oldest first, the book is one that goes on after earlier ones.
+each post that was barred and each instance that was denied the reason. With --html it then writes
+the same with a picture, as a page by itself, to FILE; an older FILE is replaced. With --after, any
+number of times, the oldest first, the book is one that goes on after earlier ones.
 
-status  0  the book is sound, and the report was written
+status  0  the book is sound, and the report was written, and the page if it was asked for
         1  the policy is refused                             policy: NAME
         2  an earlier book is no book, or not sound          after PATH: ..
         2  the book is unsound                               unsound at entry N, on standard output
         2  the file is no book                               book: line N, book: cut
-        3  a file could not be read, or is too long          read fault
-        3  the report could not be written                   write fault
+        3  a file could not be read, or is too long          cannot read PATH: ..
+        3  the report or the page could not be written       write fault
         4  memory was refused                                out of memory
         5  the words are bad                                 bad arguments
 ";

@@ -89,6 +89,8 @@ pub struct ReportPaths<'a> {
     /// The earlier books, the oldest first.
     pub after: Vec<&'a str>,
     pub book: &'a str,
+    /// Where the page goes, if it is wanted.
+    pub html: Option<&'a str>,
 }
 
 /// What the program is asked to do.
@@ -264,10 +266,12 @@ fn report_asked<'a>(matches: &ArgMatches<'a>, after: Vec<&'a str>) -> Option<Com
 {
     let policy = value_of(matches, "policy")?;
     let book = value_of(matches, "book")?;
+    let html = value_of(matches, "html");
     let paths = ReportPaths {
         policy,
         after,
         book,
+        html,
     };
     Some(Command::Report(paths))
 }
@@ -341,9 +345,9 @@ fn matches_of<'a>(alloc: Global, words: &'a [&'a str]) -> Result<ArgMatches<'a>,
 
 /// What the words after the program's name ask for: `replay POLICY SCRIPT [--book FILE]`, `run
 /// POLICY SCRIPT [--book FILE]`, `audit POLICY BOOK`, `serve POLICY DIR [--book FILE] [--sync]`,
-/// `seal POLICY BOOK OUT` or `report POLICY BOOK`, each with `--after BOOK` any number of times;
-/// `check POLICY [SCRIPT] [--book BOOK]`, `usage [COMMAND]` or `version`. They are bad arguments
-/// exactly where `clap` refuses them for another cause than memory.
+/// `seal POLICY BOOK OUT` or `report POLICY BOOK [--html FILE]`, each with `--after BOOK` any
+/// number of times; `check POLICY [SCRIPT] [--book BOOK]`, `usage [COMMAND]` or `version`. They are
+/// bad arguments exactly where `clap` refuses them for another cause than memory.
 #[tactic(auto, unfolding(crate::specs::Grammar::asked))]
 pub fn read_words<'a>(alloc: Global, words: &'a [&'a str]) -> Result<Command<'a>, ArgFault>
     ensures { SaysCommand result (asked (map (λ w. w.now) words.entry.now)) }

@@ -29,5 +29,10 @@ returns g c =
         device = c.listed_if_any-book.result;
         listed = c.listed_if_any-book.ensures;
       },
+      record {
+        of_policy = λ d. d.cause;
+        of_listed = λ d. d.cause;
+        of_second = λ d. d.cause;
+      },
       rw (path, book_path) at c.check_on.ensures,
     )

@@ -1,4 +1,4 @@
-use Rattle.std.proofs.Common.{◌∙◌, ◌++◌, ◌∷◌, [], ap, sym, subst, append_assoc}
+use Rattle.std.proofs.Common.{◌∙◌, ◌++◌, ◌∷◌, [], ap, sym, subst, append_assoc, refl}
 use Rattle.std.specs.Vec.Iter.{into_iter_items}
 use Rattle.book_chain.specs.Chain.{ChainValue}
 use Rattle.program_commands.specs.Earlier.{earlier_books, IsAfter}
@@ -33,18 +33,21 @@ loop-one-preserved g c =
 pub returns-in-Err-clause-ending : goal.returns-in-Err-clause-ending
 returns-in-Err-clause-ending g c =
     let i = c.loop-one.invariant in
-    let done = c.loop-one.yielded in
-    record {
-      before = done;
-      one = c.in-Some.one;
-      behind = into_iter_items c.next.new.self;
-      are = ap (λ l. done ++ l) (sym c.in-Some.ensures.steps.0) ∙ i.whole;
-      links = i.after.0;
-      was = c.loop-one.chain;
-      after = i.after.1;
-      left = c.read_link.new.device;
-      fault = c.in-Err.ensures.ending;
-    }
+    let done = c.loop-one.yielded in (
+      record {
+        before = done;
+        one = c.in-Some.one;
+        behind = into_iter_items c.next.new.self;
+        are = ap (λ l. done ++ l) (sym c.in-Some.ensures.steps.0) ∙ i.whole;
+        links = i.after.0;
+        was = c.loop-one.chain;
+        after = i.after.1;
+        left = c.read_link.new.device;
+        fault = c.in-Err.ensures.ending;
+      },
+      refl,
+      refl,
+    )
 
 pub returns-clause-after : goal.returns-clause-after
 returns-clause-after g c =

@@ -47,9 +47,9 @@ returns c =
     (Ok c.in-Ok-with_command-5.program)
     _ check_app seal c.check_command.ensures.app c.check_command.ensures.globals
     c.in-Ok-with_command-5.ensures in
-    let report = joined c.in-Ok-with_command-5.program c.files_command-2.result
+    let report = joined c.in-Ok-with_command-5.program c.report_command.result
     (Ok c.in-Ok-with_command-6.program)
-    _ report_app check c.files_command-2.ensures.app c.files_command-2.ensures.globals
+    _ report_app check c.report_command.ensures.app c.report_command.ensures.globals
     c.in-Ok-with_command-6.ensures in
     let usage = joined c.in-Ok-with_command-6.program c.usage_command.result
     (Ok c.in-Ok-with_command-7.program)

@@ -1,0 +1,60 @@
+-- Reports: faults that are told, and reports without a page.
+use Rattle.std.proofs.Common.{◌≡◌, inl, inr, ℕ, List, Option, Some, None, sym, ap, ◌∙◌, subst}
+use Rattle.wall_policy.specs.Policy.{ChineseWall}
+use Rattle.run_model.specs.declared.entry.Entry.{Entry}
+use Rattle.audit_book.specs.declared.check_fault.BookFault.{BookFault}
+use Rattle.audit_book.specs.declared.check_fault.BookFault.TheVariants as checks
+use Rattle.audit_book.specs.Checks.{IsFaultOf}
+use Rattle.program_files.specs.declared.cause.Cause.{Cause}
+use Rattle.hall_script.specs.Devices.{Used}
+use Rattle.program_commands.specs.declared.ending.Ending.{Ending}
+use Rattle.program_commands.specs.Earlier.{EarlierBooks}
+use Rattle.program_commands.specs.Unreading.{IsExplained}
+use Rattle.program_commands.specs.Replaying.{IsUnkept}
+use Rattle.program_commands.specs.Reporting.{ReportsEntries, ReportEnds, TellsFault}
+
+-- a fault of the check of a book is told, and no page is touched
+pub told_fault : {O W : Type 0} (wall : ChineseWall) (entries : List Entry) (fault : BookFault)
+    (out : Used O) (file : Option (Used W)) (ending : Ending) → IsFaultOf wall entries fault →
+    TellsFault fault out ending → IsUnkept file → ReportsEntries wall entries out file ending
+told_fault wall entries (checks.BadEntry n) out file ending bad told unkept =
+    inr (inl (n, bad, told, unkept))
+told_fault wall entries checks.NoMemory out file ending bad told unkept =
+    inr (inr (told.0, told.1, unkept))
+
+-- the same path and the same cause
+pub explained_so : {D : Type 0} (causes : D → Option Cause) (plain ending : Ending)
+    (path named : List ℕ) (left device : D) (cause : Option Cause) (limit : ℕ) → named ≡ path →
+    left ≡ device → cause ≡ causes device → IsExplained plain path cause limit ending →
+    IsExplained plain named (causes left) limit ending
+explained_so causes plain ending path named left device cause limit same is told h =
+    subst (λ c. IsExplained plain named c limit ending) (told ∙ ap causes (sym is))
+    (subst (λ p. IsExplained plain p cause limit ending) (sym same) h)
+
+-- a report without a page, whichever kind of writer there is none of
+unpaged_entries : {O : Type 0} {A B : Type 0} (wall : ChineseWall) (entries : List Entry)
+    (out : Used O) (ending : Ending) → ReportsEntries {W = A} wall entries out None ending →
+    ReportsEntries {W = B} wall entries out None ending
+unpaged_entries wall entries out ending (inl r) = inl (record {
+  sound = r.sound;
+  keeps = r.keeps;
+  text = r.text;
+  report = r.report;
+  written = r.written;
+})
+unpaged_entries wall entries out ending (inr other) = inr other
+
+module _ {P D B O : Type 0} (policy_path : List ℕ) (policy_cause : Option Cause) (policy : Used P)
+    (causes : D → Option Cause) (earlier : EarlierBooks D) (path : List ℕ)
+    (cause : Option Cause) (book : Used B) (out : Used O) (ending : Ending) where
+  pub unpaged : {A W : Type 0} →
+      ReportEnds {W = A} policy_path policy_cause policy causes earlier path cause book out None
+      ending →
+      ReportEnds {W = W} policy_path policy_cause policy causes earlier path cause book out None
+      ending
+  unpaged (inl unread) = inl unread
+  unpaged {A = A} {W = W} (inr a) = inr (
+    a.0,
+    a.1,
+    (a.2.0, a.2.1, unpaged_entries {A = A} {B = W} a.0 a.2.0 out ending a.2.2),
+  )
