@@ -208,11 +208,12 @@ fn pages_so(
     rt: &impl AllocGlobal,
     fuses: Fuses,
     book: &str,
-    texts: [&[u8]; 3],
+    said: &[u8],
+    page: &[u8],
+    line: &[u8],
     status: u8,
 ) -> Result<bool, Fail> {
     let [of_policy, of_earlier, of_book, of_out, of_page] = fuses;
-    let [said, page, line] = texts;
     let mut policy = source(WALL.as_bytes(), of_policy);
     let mut book = source(book.as_bytes(), of_book);
     let mut out = sink(said, of_out);
@@ -255,13 +256,15 @@ fn pages_are_written_behind_reports(rt: HostRuntime) -> Result<(), Fail> {
         Ok(page) => page,
         Err(_) => return Err(Fail::from("no page")),
     };
-    let (said, page, none) = (REPORT.as_bytes(), page.as_slice(), b"".as_slice());
-    assert!(&rt; pages_so(&rt, SOUND, ALPHA_TO_N0, [said, page, none], 0)?);
+    let said = REPORT.as_bytes();
+    let page = page.as_slice();
+    let none = b"".as_slice();
+    assert!(&rt; pages_so(&rt, SOUND, ALPHA_TO_N0, said, page, none, 0)?);
     let unsound = ALPHA_TO_N0.replace(rt.alloc(), "made 1 2", "made 1 1")?;
     let told = b"unsound at entry 5\n".as_slice();
-    assert!(&rt; pages_so(&rt, SOUND, unsound.as_str(), [told, none, none], 2)?);
+    assert!(&rt; pages_so(&rt, SOUND, unsound.as_str(), told, none, none, 2)?);
     let cut = b"book: cut\n".as_slice();
-    assert!(&rt; pages_so(&rt, SOUND, "book 1\n", [none, none, cut], 2)?);
+    assert!(&rt; pages_so(&rt, SOUND, "book 1\n", none, none, cut, 2)?);
     let fault = b"write fault\n".as_slice();
     let broken = [
         Fuse::Whole,
@@ -270,7 +273,7 @@ fn pages_are_written_behind_reports(rt: HostRuntime) -> Result<(), Fail> {
         Fuse::After(0),
         Fuse::Whole,
     ];
-    assert!(&rt; pages_so(&rt, broken, ALPHA_TO_N0, [said, none, fault], 3)?);
+    assert!(&rt; pages_so(&rt, broken, ALPHA_TO_N0, said, none, fault, 3)?);
     let broken = [
         Fuse::Whole,
         Fuse::Whole,
@@ -278,7 +281,7 @@ fn pages_are_written_behind_reports(rt: HostRuntime) -> Result<(), Fail> {
         Fuse::Whole,
         Fuse::After(0),
     ];
-    assert!(&rt; pages_so(&rt, broken, ALPHA_TO_N0, [said, page, fault], 3)?);
+    assert!(&rt; pages_so(&rt, broken, ALPHA_TO_N0, said, page, fault, 3)?);
     Ok(())
 }
 
@@ -295,7 +298,7 @@ fn unread_files_are_told_by_their_paths(rt: HostRuntime) -> Result<(), Fail> {
             let mut fuses = SOUND;
             fuses[place] = fuse;
             assert!(&rt;
-                pages_so(&rt, fuses, ALPHA_TO_N0, [none, none, line.as_bytes()], 3)?,
+                pages_so(&rt, fuses, ALPHA_TO_N0, none, none, line.as_bytes(), 3)?,
                 "{line}"
             );
         }
