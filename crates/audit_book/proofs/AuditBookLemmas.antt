@@ -5,7 +5,7 @@ pub use Rattle.audit_book.proofs.BookLemmas.{ended_lines, header_step, line_text
 pub use Rattle.audit_book.proofs.BookLemmas.{lines_more, more_found, text_in_lines}
 pub use Rattle.audit_book.proofs.CheckLemmas.{accepted_is, bare_posts, few_is, word_is}
 pub use Rattle.audit_book.proofs.FaultLemmas.{cut_found, parts_lines, parts_more, some_parts}
-pub use Rattle.audit_book.proofs.StepLemmas.{bad_end, length_front, post_counts, posts_few}
-pub use Rattle.audit_book.proofs.StepLemmas.{take_more}
+pub use Rattle.audit_book.proofs.StepLemmas.{bad_end, length_front, ok_more, post_counts, posts_few}
+pub use Rattle.audit_book.proofs.StepLemmas.{err_more, take_more}
 pub use Rattle.audit_book.proofs.TextAgainLemmas.{book_again, entries_again, header_again}
 pub use Rattle.audit_book.proofs.TextAgainLemmas.{lines_whole, parts_ended, step_again}

@@ -4,6 +4,9 @@ use Rattle.std.proofs.Common.{arith, not, Some, None}
 use Rattle.std.specs.Option.{option_map}
 use Rattle.wall_policy.specs.Policy.{ChineseWall}
 use Rattle.wall_rules.specs.Histories.{has}
+use Rattle.mpi_elems.specs.declared.elem_type.ElemType.{ElemType}
+use Rattle.coll_routes.specs.declared.signature.Signature.{Signature}
+use Rattle.coll_routes.specs.declared.statement.Own.{Own}
 use Rattle.coll_routes.specs.declared.statement.Stated.{Stated}
 use Rattle.coll_routes.specs.Faults.{stated_type}
 use Rattle.wall_verdict.specs.Star.{star}
@@ -15,7 +18,8 @@ use Rattle.run_model.specs.Books.{IsCounted, outcome_entry}
 use Rattle.run_state.specs.declared.entered.Entered.{Entered}
 use Rattle.run_state.specs.declared.entered.Entered.TheVariants.{Waiting, Settled}
 use Rattle.run_model.specs.Contributions.{posts_of}
-use Rattle.run_state.specs.Views.{PostStateView, IsPostState, fault_of, place_of}
+use Rattle.run_state.specs.declared.seat.Seat.{Seat}
+use Rattle.run_state.specs.Views.{PostStateView, IsPostState, fault_of, LookedAt}
 use Rattle.run_state.specs.Stands.{StandsForPosts, Tells}
 use Rattle.audit_book.specs.Checks.{bare, due_after, entry_of, post_of}
 use Rattle.run_state.proofs.RunStateLemmas.{fault_is, place_is_small}
@@ -28,29 +32,42 @@ bare_length : (posts : List Post) → length (bare posts) ≡ length posts
 bare_length [] = refl
 bare_length (x ∷ posts) = ap suc (bare_length posts)
 
-module _ (wall : ChineseWall) (seen : PostStateView (Unit {0})) (past : List Post)
-    (post_state : IsPostState seen) (stands : StandsForPosts wall seen (bare past)) (p c : ℕ)
-    (s stated : Stated) (same : s ≡ stated) where
-  -- a post that counts meets no refusal by what is seen
-  pub accepted_is : IsCounted wall (post_of p c stated) past →
-      fault_of wall seen p c s.sig s.own (stated_type s.sig) s.given ≡ None
-  accepted_is taken =
-      fault_is wall seen (bare past) stands post_state p c s.sig s.own (stated_type s.sig) s.given
-      ∙ ((λ i. fault wall (bare_posts past i) p c (same i).sig (same i).own
-      (stated_type (same i).sig) (same i).given) ∙ taken.accepted)
+-- a post that counts meets no refusal by what is seen
+pub accepted_is : (wall : ChineseWall) (seen : PostStateView (Unit {0})) (past : List Post) →
+    IsPostState seen → StandsForPosts wall seen (bare past) → (p c : ℕ) (s : Stated) →
+    IsCounted wall (post_of p c s) past →
+    fault_of wall seen p c s.sig s.own (stated_type s.sig) s.given ≡ None
+accepted_is wall seen past post_state stands p c s taken =
+    fault_is wall seen (bare past) stands post_state p c s.sig s.own (stated_type s.sig) s.given
+    ∙ ((λ i. fault wall (bare_posts past i) p c s.sig s.own (stated_type s.sig) s.given)
+    ∙ taken.accepted)
 
-  -- and has the right word
-  pub word_is : IsCounted wall (post_of p c stated) past →
-      s.barred ≡ not (star (has seen.accesses) p s.label)
+module _ (wall : ChineseWall) (seen : PostStateView (Unit {0})) (past : List Post)
+    (stands : StandsForPosts wall seen (bare past)) (seat : Seat) (s stated : Stated)
+    (same : s ≡ stated) where
+  -- what was looked at, of an equal statement
+  pub looked_is : LookedAt seen seat stated.sig stated.own (stated_type stated.sig) stated.given →
+      LookedAt seen seat s.sig s.own (stated_type s.sig) s.given
+  looked_is looked = subst
+      (λ (q : Stated). LookedAt seen seat q.sig q.own (stated_type q.sig) q.given) (sym same)
+      looked
+
+  -- and its word is right
+  pub word_is : IsCounted wall (post_of seat.process seat.meeting.comm stated) past →
+      s.barred ≡ not (star (has seen.accesses) seat.process s.label)
   word_is taken =
       let held : histories wall past ≡ has seen.accesses = ap (λ posts. histories wall posts)
       (sym (bare_posts past)) ∙ sym stands.histories in
       ap (λ (q : Stated). q.barred) same
-      ∙ (taken.word ∙ (λ i. not (star (held i) p (sym same i).label)))
+      ∙ (taken.word ∙ (λ i. not (star (held i) seat.process (sym same i).label)))
 
-  pub few_is : length past < 4611686018427387904 → place_of seen p c < 4611686018427387904
-  few_is few = (let low = place_is_small wall seen (bare past) stands post_state p c in
-      let n = bare_length past in omega (arith, low, n, few))
+pub few_is : (wall : ChineseWall) (seen : PostStateView (Unit {0})) (past : List Post) →
+    StandsForPosts wall seen (bare past) → (seat : Seat) (sig : Signature) (own : Own)
+    (ty : ElemType) (given : ℕ) → LookedAt seen seat sig own ty given →
+    length past < 4611686018427387904 → seat.meeting.k < 4611686018427387904
+few_is wall seen past stands seat sig own ty given looked few = (
+    let low = place_is_small wall seen (bare past) stands seat sig own ty given looked in
+    let n = bare_length past in omega (arith, low, n, few))
 
 -- what is told of a post is its settlement
 told_by : (wall : ChineseWall) (x : Post) (past posts : List Post) (e : Entered (Unit {0})) →

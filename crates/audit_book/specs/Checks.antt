@@ -4,6 +4,7 @@ use Rattle.std.specs.Prelude.{◌≡◌, ℕ, ◌<◌, ◌^◌, List, ◌∷◌,
 use Rattle.std.specs.Option.{option_map, option_to_list}
 use Rattle.wall_policy.specs.Policy.{ChineseWall}
 use Rattle.coll_routes.specs.declared.statement.Stated.{Stated}
+use Rattle.coll_routes.specs.Faults.{stated_type}
 use Rattle.run_model.specs.declared.entry.Entry.{Entry}
 use Rattle.run_model.specs.declared.entry.Entry.TheVariants.{Posted, Settled}
 use Rattle.run_model.specs.Posts.{Post, outcome}
@@ -12,7 +13,8 @@ use Rattle.run_model.specs.Books.{book, posts_in, outcome_entry, IsCounted, AreC
 use Rattle.run_state.specs.declared.entered.Entered.{Entered}
 use Rattle.run_state.specs.declared.entered.Entered.TheVariants.{Waiting as waits}
 use Rattle.run_state.specs.declared.entered.Entered.TheVariants.{Settled as settles}
-use Rattle.run_state.specs.Views.{PostStateValue, view_of}
+use Rattle.run_state.specs.declared.seat.Seat.{Seat}
+use Rattle.run_state.specs.Views.{PostStateValue, view_of, LookedAt}
 use Rattle.run_state.specs.Stands.{StandsForPosts}
 use Rattle.audit_book.specs.declared.due.Due.{Due}
 use Rattle.audit_book.specs.declared.check_fault.BookFault.{BookFault}
@@ -39,14 +41,16 @@ abbrev pub due_after : (c : ℕ) → Entered (Unit {0}) → Option Due
 due_after c (waits k) = None
 due_after c (settles full k o) = Some (record { comm = c; k = k; outcome = o })
 
--- it stands for some posts, fewer than 2^62, and the post counts after each list of posts that it
--- stands for
-pub record MayEnter (wall : ChineseWall) (post_state : PostStateValue (Unit {0})) (x : Post)
-    : Type 0 where
+-- it stands for some posts, fewer than 2^62; the post of this seat has been looked at, and counts
+-- after each list of posts that the state stands for
+pub record MayEnter (wall : ChineseWall) (post_state : PostStateValue (Unit {0})) (seat : Seat)
+    (s : Stated) : Type 0 where
   pub past : List Post
   pub stood : Stands wall post_state past
   pub few : length past < 2 ^ 62
-  pub counts : (posts : List Post) → Stands wall post_state posts → IsCounted wall x posts
+  pub looked : LookedAt (view_of post_state) seat s.sig s.own (stated_type s.sig) s.given
+  pub counts : (posts : List Post) → Stands wall post_state posts →
+      IsCounted wall (post_of seat.process seat.meeting.comm s) posts
 
 -- it now stands for the posts with this one, and the outcome of the instance that the post fills is
 -- due, if it fills one

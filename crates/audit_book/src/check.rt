@@ -1,7 +1,9 @@
 //! The check of a book.
 ghost use Rattle.std.specs.Prelude.{◌≡◌, ◌<◌, ◌^◌, ◌∷◌, ◌++◌, [], List, length, IfOk, IfErr};
 ghost use Rattle.std.specs.Prelude.{OnOk, true};
+ghost use Rattle.std.specs.Result.{result_err};
 ghost use Rattle.wall_policy.specs.Policy.{ChineseWall};
+ghost use Rattle.coll_routes.specs.Faults.{stated_type};
 ghost use Rattle.wall_verdict.specs.Star.{star};
 ghost use Rattle.run_model.specs.declared.entry.Entry.{Entry};
 ghost use Rattle.run_model.specs.Posts.{Post, histories};
@@ -9,6 +11,7 @@ ghost use Rattle.run_model.specs.Refusals.{post_fault};
 ghost use Rattle.run_model.specs.PostLaws.{KeepsTheWall};
 ghost use Rattle.run_model.specs.Books.{IsSound, Begins, IsCounted, is_labelled, posts_in};
 ghost use Rattle.run_model.specs.EntryForms.{HasForm};
+ghost use Rattle.run_state.specs.Views.{LookedAt, view_of};
 ghost use Rattle.audit_book.specs.declared.check.Stopped.TheVariants.{Wrong};
 ghost use Rattle.audit_book.specs.declared.check.Stopped.TheVariants.{NoMemory as WantsMemory};
 ghost use Rattle.audit_book.specs.Checks.{post_of, due_after, Stands, MayEnter, HasEntered};
@@ -19,9 +22,8 @@ ghost use Rattle.audit_book.specs.Dues.{IsFaultWithin};
 use crate::check_fault::BookFault;
 use crate::due::Due;
 use coll_routes::Stated;
-use mpi_elems::ElemType;
 use run_model::{Entry, Refusal};
-use run_state::{Book, Entered, PostState};
+use run_state::{Book, Entered, Next, PostState, Seat, Terms};
 use std::alloc::Global;
 use wall_labels::{Label, NoMemory, ProcessId};
 use wall_policy::Policy;
@@ -162,69 +164,66 @@ fn count(
         Stands policy.now post_state.old past →
         IsCounted policy.now (post_of process comm stated.now) past) }
 {
-    if refusal(policy, post_state, process, comm, stated).is_some() {
-        return Err(Stopped::Wrong);
-    }
-    if stated.barred == passes(post_state, process, &stated.label) {
-        return Err(Stopped::Wrong);
-    }
-    match enter(alloc, policy, post_state, process, comm, stated) {
-        Ok(due) => Ok(due),
-        Err(_) => Err(Stopped::NoMemory),
+    match look(policy, post_state, process, comm, stated) {
+        Err(_) => Err(Stopped::Wrong),
+        Ok(seat) => {
+            if stated.barred == passes(post_state, &seat, &stated.label) {
+                return Err(Stopped::Wrong);
+            }
+            match enter(alloc, policy, post_state, seat, stated) {
+                Ok(due) => Ok(due),
+                Err(_) => Err(Stopped::NoMemory),
+            }
+        }
     }
 }
 
-// Why a post would be refused, for the posts so far.
-fn refusal(
+// What a post meets, for the posts so far, or why it would be refused.
+fn look(
     policy: &Policy,
     post_state: &PostState<()>,
     process: ProcessId,
     comm: u32,
     stated: &Stated,
-) -> Option<Refusal>
-    ensures { (past : List Post) → Stands policy.now post_state.now past →
-        result ≡ post_fault policy.now past (post_of process comm stated.now) }
+) -> Result<Seat, Refusal>
+    ensures fault { (past : List Post) → Stands policy.now post_state.now past →
+        result_err result ≡ post_fault policy.now past (post_of process comm stated.now) }
+    ensures process { IfOk result (λ seat. seat.process ≡ process) }
+    ensures comm { IfOk result (λ seat. seat.meeting.comm ≡ comm) }
+    ensures looked { IfOk result (λ seat. LookedAt (view_of post_state.now) seat stated.now.sig
+        stated.now.own (stated_type stated.now.sig) stated.now.given) }
 {
-    let elem_type = stated.sig.elem_type().unwrap_or(ElemType::Int8);
-    post_state.refusal(
-        policy,
-        process.number(),
-        comm,
-        &stated.sig,
-        &stated.own,
-        elem_type,
-        stated.given as usize,
-    )
+    post_state.look(policy, process.number(), comm, Terms::of(stated))
 }
 
-// Whether the star rule lets the process post elements with this label.
-fn passes(post_state: &PostState<()>, process: ProcessId, label: &Option<Label>) -> bool
+// Whether the star rule lets the process of the seat post elements with this label.
+fn passes(post_state: &PostState<()>, seat: &Seat, label: &Option<Label>) -> bool
     ensures { (wall : ChineseWall) (past : List Post) → Stands wall post_state.now past →
-        result ≡ star (histories wall past) process label.now }
+        result ≡ star (histories wall past) seat.now.process label.now }
 {
-    post_state.passes(process, label)
+    post_state.passes(seat, label)
 }
 
-// Enters a post that counts, and tells which entry is due after it.
+// Enters a post that counts, as a look found it, and tells which entry is due after it.
 fn enter(
     alloc: Global,
     policy: &Policy,
     post_state: &mut PostState<()>,
-    process: ProcessId,
-    comm: u32,
+    seat: Seat,
     stated: &Stated,
 ) -> Result<Option<Due>, NoMemory>
-    requires { MayEnter policy.now post_state.old (post_of process comm stated.now) }
+    requires { MayEnter policy.now post_state.old seat stated.now }
     ensures { IfOk result (HasEntered policy.now post_state.old post_state.new
-        (post_of process comm stated.now)) }
+        (post_of seat.process seat.meeting.comm stated.now)) }
 {
     let stated = stated.copy(alloc)?;
-    let _ = post_state.len();
-    if post_state.joins(policy, process, comm, &stated) {
-        post_state.join(policy, process, comm, stated, ());
+    let comm = seat.meeting.comm;
+    let does = seat.meeting.does;
+    if let Next::Joins = does {
+        post_state.join(seat, stated, ());
         return Ok(None);
     }
-    match post_state.enter(policy, process, comm, stated, ()) {
+    match post_state.enter(policy, seat, stated, ()) {
         Ok(entered) => Ok(due_after(comm, &entered)),
         Err(_) => Err(NoMemory),
     }

@@ -1,6 +1,5 @@
 -- What is found of a book is found of its text.
-use Rattle.std.proofs.Common.{◌≡◌, ℕ, List, Result, Ok, Err}
-use Rattle.std.specs.Prelude.{IfOk}
+use Rattle.std.proofs.Common.{◌≡◌, ℕ, List, Ok}
 use Rattle.wall_policy.specs.Policy.{ChineseWall}
 use Rattle.run_model.specs.declared.entry.Entry.{Entry}
 use Rattle.audit_book.specs.Reading.{book_in}
@@ -8,11 +7,6 @@ use Rattle.book_places.specs.declared.place.Found.{Found}
 use Rattle.book_places.specs.declared.place.Found.TheVariants.{Sound, Line, Cut, Entry as BadEntry}
 use Rattle.book_places.specs.Books.{IsFoundOf, IsFoundIn}
 use Rattle.book_places.proofs.EntryLemmas.{stands_on}
-
-pub ok_more : {X E : Type 0} (r : Result X E) (P Q : X → Type 0) → ((x : X) → P x → Q x) →
-    IfOk r P → IfOk r Q
-ok_more (Ok x) P Q more h = more x h
-ok_more (Err e) P Q more h = h
 
 pub found_is : (wall : ChineseWall) (text : List ℕ) (entries : List Entry) →
     book_in wall text ≡ Ok entries → (found : Found) → IsFoundOf wall entries found →

@@ -1,27 +1,24 @@
 -- What a grant brings, receiver by receiver and dataset by dataset.
-use Rattle.std.proofs.Common.{◌≡◌, ◌≢◌, ℕ, ◌+◌, ◌<◌, ◌≤◌, Bool, true, false, ◌&&◌, not, List, length}
-use Rattle.std.proofs.Common.{Option, Some, None, refl, sym, ap, ◌∙◌, subst, arith, slice_get}
-use Rattle.std.proofs.Common.{eqb-true, get_or}
-use Rattle.std.specs.Prelude.{◌==◌}
+use Rattle.std.proofs.Common.{◌≡◌, ◌≢◌, ℕ, ◌<◌, Bool, true, false, not, List, length}
+use Rattle.std.proofs.Common.{Option, Some, None, refl, ap, ◌∙◌, slice_get}
+use Rattle.std.proofs.Common.{get_or}
 use Rattle.std.proofs.lemmas.Bool.{false≢true, and_parts}
-use Rattle.std.proofs.lemmas.List.Quantifiers.{position-Some}
 use Rattle.std.proofs.lemmas.Option.{slice_get-get_or}
 use Rattle.wall_labels.specs.declared.label.Label.{Label}
 use Rattle.wall_labels.specs.declared.label.Label.TheVariants.{Public, Of}
 use Rattle.wall_labels.specs.Labels.{dataset_of}
 use Rattle.wall_policy.specs.Policy.{ChineseWall}
 use Rattle.mpi_group.specs.Groups.{IsGroup, rank_in}
-use Rattle.mpi_group.proofs.MpiGroupLemmas.{rank_present, slice_get-member, one_place}
+use Rattle.mpi_group.proofs.MpiGroupLemmas.{rank_is}
+use Rattle.mpi_group.proofs.MpiGroupLemmas.{ranked}
 use Rattle.coll_routes.specs.declared.roll.Roll.{Roll}
-use Rattle.coll_routes.specs.Rolls.{label_of, routed}
+use Rattle.coll_routes.specs.Rolls.{routed}
 use Rattle.wall_verdict.specs.Charges.{dataset_in, sanitised, charged}
 use Rattle.wall_verdict.specs.Grants.{charged_at, charged_to}
-use Rattle.wall_verdict.specs.Meanings.{IsChargedFrom}
 use Rattle.wall_verdict.proofs.WallVerdictLemmas.{charges_are_labels}
 use Rattle.run_model.specs.declared.entry.Entry.{Entry}
-use Rattle.book_report.specs.declared.row.Row.{Row}
 use Rattle.book_report.specs.declared.row.Way.TheVariants.{Delivered}
-use Rattle.book_report.specs.Held.{IsFirstAfter, IsDelivery, IsRow}
+use Rattle.book_report.specs.Held.{IsFirstAfter, IsRow}
 use Rattle.book_report.specs.Walk.{GivesTo, IsGrantAt}
 
 ---- labels
@@ -34,21 +31,6 @@ pub its_name : (l : Label) (d : ℕ) → Some l ≡ Some (Of d) → dataset_of l
 its_name l d h = ap dataset_in h
 
 ---- ranks and members
-
-rank_is : (members : List ℕ) (p j : ℕ) → rank_in members p ≡ Some j →
-    (slice_get members j ≡ Some p) × (j < length members)
-rank_is members p j e =
-    let at = position-Some (λ m. m == p) members j 0 e in
-    (slice_get-get_or members j 0 at.0 ∙ ap (λ (m : ℕ). Some m) (eqb-true (get_or members j 0) p at.1), at.0)
-
--- no process is a member at two ranks
-pub ranked : (members : List ℕ) (j p : ℕ) → IsGroup members → slice_get members j ≡ Some p →
-    rank_in members p ≡ Some j
-ranked members j p group at =
-    let there = rank_present members p (slice_get-member members j p at) in
-    there
-    ∙ ap (λ (i : ℕ). Some i)
-    (one_place members _ j p group.distinct (rank_is members p _ there).0 at)
 
 -- d is charged to the rank of p
 abbrev pub IsMemberCharged : ChineseWall → Roll → (p d : ℕ) → Type 0

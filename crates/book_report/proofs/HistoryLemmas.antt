@@ -1,5 +1,5 @@
 -- The histories that a book gives, entry by entry.
-use Rattle.std.proofs.Common.{◌≡◌, ◌⊎◌, ℕ, zero, suc, ◌+◌, ◌-◌, ◌<◌, ◌≤◌, Bool, true, false, ◌&&◌}
+use Rattle.std.proofs.Common.{◌≡◌, ◌⊎◌, ℕ, ◌+◌, ◌-◌, ◌<◌, ◌≤◌, Bool, true, false, ◌&&◌}
 use Rattle.std.proofs.Common.{◌||◌}
 use Rattle.std.proofs.Common.{not, List, [], ◌∷◌, ◌++◌, length, take, drop, Option, Some, None}
 use Rattle.std.proofs.Common.{refl}
@@ -8,7 +8,6 @@ use Rattle.std.specs.Option.{option_map}
 use Rattle.std.proofs.lemmas.Bool.{or_left, or_right, or_cases, and_parts, cases_Bool, false≢true}
 use Rattle.std.proofs.lemmas.Bool.{eqb-true, eq-eqb}
 use Rattle.std.proofs.lemmas.List.{take-take, take-append-drop}
-use Rattle.std.proofs.lemmas.Option.{slice_get_within}
 use Rattle.wall_labels.specs.declared.label.Label.{Label}
 use Rattle.wall_labels.specs.declared.label.Label.TheVariants.{Public, Of}
 use Rattle.wall_policy.specs.Policy.{ChineseWall}
@@ -18,13 +17,13 @@ use Rattle.wall_verdict.specs.Charges.{dataset_in, is_that}
 use Rattle.wall_verdict.specs.Star.{with_label}
 use Rattle.wall_verdict.specs.Grants.{charged_to}
 use Rattle.run_model.specs.declared.outcome.Outcome.{Outcome}
-use Rattle.run_model.specs.declared.outcome.Outcome.TheVariants.{Granted, Denied, Made, NoRoom}
+use Rattle.run_model.specs.declared.outcome.Outcome.TheVariants.{Granted}
 use Rattle.run_model.specs.declared.entry.Entry.{Entry}
 use Rattle.run_model.specs.declared.entry.Entry.TheVariants.{Settled}
 use Rattle.run_model.specs.Posts.{Post, comms, filled, histories, outcome, outcome_of, labelled}
 use Rattle.run_model.specs.Posts.{is_granted, with_delivery}
 use Rattle.run_model.specs.Books.{posted, posts_in}
-use Rattle.run_model.proofs.RunModelLemmas.{posts_in-append}
+use Rattle.run_model.proofs.RunModelLemmas.{posts_in-append, granted_is}
 use Rattle.audit_book.proofs.AuditBookLemmas.{take_more}
 use Rattle.book_report.specs.Held.{posts_to, histories_after, IsFirstAfter}
 
@@ -102,11 +101,6 @@ first_after wall entries n p d low before after = record {
 }
 
 ---- what a post makes of the histories
-
-pub label_is : (o : Option Label) (d : ℕ) → dataset_in o ≡ Some d → o ≡ Some (Of d)
-label_is (Some (Of e)) d h = let same : e ≡ d = cc in ap (λ (k : ℕ). Some (Of k)) same
-label_is (Some Public) d h = absurd cc
-label_is None d h = absurd cc
 
 -- the pairs that a label enters
 pub label_cases : (has : History) (p : ℕ) (label : Option Label) (passed : Bool) (q d : ℕ) →
@@ -202,12 +196,6 @@ module _ (wall : ChineseWall) (x : Post) (past : List Post) where
             absurd (false≢true (sym not_granted
             ∙ ap is_granted (sym (outcome_is roll o fills came)) ∙ yes))
       ]
-
-granted_is : (o : Outcome) → is_granted o ≡ true → o ≡ Granted
-granted_is Granted h = refl
-granted_is (Denied rule p label) h = absurd (false≢true h)
-granted_is (Made first number) h = absurd (false≢true h)
-granted_is NoRoom h = absurd (false≢true h)
 
 pub granted_came : (o : Outcome) (v : Option Outcome) → is_granted o ≡ true → v ≡ Some o →
     v ≡ Some Granted

@@ -16,7 +16,7 @@ use Rattle.wall_verdict.specs.Meanings.{IsChargedFrom, IsHeldBefore, Offends, Is
 use Rattle.wall_verdict.specs.Meanings.{NamesOffence}
 use Rattle.book_report.specs.Walk.{GivesTo}
 use Rattle.book_report.specs.Reasons.{GivesRival, IsBeside}
-use Rattle.book_report.proofs.GrantLemmas.{ranked}
+use Rattle.mpi_group.proofs.MpiGroupLemmas.{ranked}
 
 rivals_turned : (classes : List ℕ) (d e : ℕ) → AreRivals classes d e → AreRivals classes e d
 rivals_turned classes d e r = (λ same. r.0 (sym same), (r.1.0, r.1.2, r.1.1))

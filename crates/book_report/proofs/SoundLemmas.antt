@@ -1,5 +1,5 @@
 -- Where the outcomes of a sound book stand: behind the posts that filled their instances.
-use Rattle.std.proofs.Common.{◌≡◌, ◌⊎◌, ℕ, zero, suc, ◌+◌, ◌-◌, ◌<◌, ◌≤◌, List, [], ◌∷◌, ◌++◌}
+use Rattle.std.proofs.Common.{◌≡◌, ℕ, zero, suc, ◌+◌, ◌-◌, List, [], ◌∷◌, ◌++◌}
 use Rattle.std.proofs.Common.{length, take, Option, Some, None, refl, sym, ap, ◌∙◌, subst, arith}
 use Rattle.std.proofs.Common.{slice_get, inl, inr}
 use Rattle.std.specs.Option.{option_to_list}
@@ -12,27 +12,10 @@ use Rattle.run_model.specs.declared.entry.Entry.{Entry}
 use Rattle.run_model.specs.declared.entry.Entry.TheVariants.{Settled}
 use Rattle.run_model.specs.Posts.{Post, place, outcome}
 use Rattle.run_model.specs.Books.{posted, outcome_entry, entries_for, book, posts_in, IsSound}
-use Rattle.run_model.proofs.RunModelLemmas.{posts_in-book}
+use Rattle.run_model.proofs.RunModelLemmas.{posts_in-book, before_seam, after_seam, get_front}
 use Rattle.book_report.specs.Held.{posts_to}
 
 ---- places in joined lists
-
-before_seam : (xs ys : List Entry) (i : ℕ) → i < length xs → slice_get (xs ++ ys) i ≡ slice_get xs i
-before_seam [] ys i h = absurd (omega arith)
-before_seam (x ∷ xs) ys zero h = refl
-before_seam (x ∷ xs) ys (suc i) h = before_seam xs ys i (omega arith)
-
-after_seam : (xs ys : List Entry) (i k : ℕ) → i ≡ length xs + k →
-    slice_get (xs ++ ys) i ≡ slice_get ys k
-after_seam [] ys i k e = ap (slice_get ys) (let z : i ≡ k = omega arith in z)
-after_seam (x ∷ xs) ys zero k e = absurd (omega arith)
-after_seam (x ∷ xs) ys (suc i) k e = after_seam xs ys i k (omega arith)
-
-get_front : (xs ys : List Entry) (k : ℕ) (x : Entry) → slice_get xs k ≡ Some x →
-    slice_get (xs ++ ys) k ≡ Some x
-get_front [] ys k x e = absurd (cc)
-get_front (y ∷ xs) ys zero x e = e
-get_front (y ∷ xs) ys (suc k) x e = get_front xs ys k x e
 
 -- the entry of a post is the post's alone
 pub post_is : (x y : Post) → posted x ≡ posted y → x ≡ y

@@ -5,7 +5,7 @@ ghost use Rattle.audit_book.specs.Checks.{post_of, Stands};
 ghost use Rattle.book_report.specs.Walk.{MayBeEntered, IsTold};
 
 use coll_routes::Stated;
-use run_state::{Entered, PostState};
+use run_state::{Entered, PostState, Terms};
 use std::alloc::Global;
 use wall_labels::{NoMemory, ProcessId};
 use wall_policy::Policy;
@@ -26,8 +26,11 @@ pub(crate) fn enter(
 {
     let stated = stated.copy(alloc)?;
     let _ = post_state.len();
-    match post_state.enter(policy, process, comm, stated, ()) {
-        Ok(entered) => Ok(entered),
-        Err(_) => Err(NoMemory),
+    match post_state.look(policy, process.number(), comm, Terms::of(&stated)) {
+        Err(_) => unreachable!(),
+        Ok(seat) => match post_state.enter(policy, seat, stated, ()) {
+            Ok(entered) => Ok(entered),
+            Err(_) => Err(NoMemory),
+        },
     }
 }

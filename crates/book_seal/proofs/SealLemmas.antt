@@ -2,7 +2,7 @@
 use Rattle.std.proofs.Common.{◌≡◌, ◌⊎◌, inl, inr, ⊎_elim, ℕ, ◌+◌, ◌≤◌, Bool, true, false, List, []}
 use Rattle.std.proofs.Common.{◌∷◌, ◌++◌, ◌<◌, length, Result, Ok, Err, refl, sym, ap, subst, ◌∙◌}
 use Rattle.std.proofs.Common.{arith}
-use Rattle.std.specs.Prelude.{Some, None, IsOk, IfOk, IfErr}
+use Rattle.std.specs.Prelude.{Some, None, IsOk}
 use Rattle.std.specs.Option.{option_to_list}
 use Rattle.std.specs.List.{AllByRecursion}
 use Rattle.std.proofs.lemmas.Bool.{false≢true}
@@ -149,16 +149,6 @@ module _ (wall : ChineseWall) (text : List ℕ) where
   uncompleted_is es ended faults.NoMemory begun h = good_lines ended begun.ends
 
 -- ---- answers in part
-
-pub ok_more : {X E : Type 0} (r : Result X E) (P Q : X → Type 0) → ((x : X) → P x → Q x) →
-    IfOk r P → IfOk r Q
-ok_more (Ok x) P Q more h = more x h
-ok_more (Err e) P Q more h = h
-
-pub err_more : {X E : Type 0} (r : Result X E) (P Q : E → Type 0) → ((e : E) → P e → Q e) →
-    IfErr r P → IfErr r Q
-err_more (Ok x) P Q more h = h
-err_more (Err e) P Q more h = more e h
 
 ---- The completion of entries.
 

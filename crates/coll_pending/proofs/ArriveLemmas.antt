@@ -1,9 +1,9 @@
 -- What callers see after a member has posted to an instance that waits.
 use Rattle.std.proofs.Common.{◌≡◌, ◌≢◌, ℕ, zero, suc, ◌+◌, ◌-◌, ◌<◌, ◌≤◌, ◌^◌, true, false}
-use Rattle.std.proofs.Common.{List, [], ◌∷◌, length, set, map, get_or}
+use Rattle.std.proofs.Common.{List, [], ◌∷◌, length, set, map, get_or, Bool}
 use Rattle.std.proofs.Common.{Option, Some, None, IsSome, is_some, refl, sym, ap, ◌∙◌, subst, arith}
 use Rattle.std.proofs.Common.{inl, inr, nat_lt, length-set}
-use Rattle.std.specs.Prelude.{IfSome, IsSomeAnd}
+use Rattle.std.specs.Prelude.{IfSome, IsSomeAnd, if◌then◌else◌}
 use Rattle.std.proofs.lemmas.Bool.{cases_eq, false≢true}
 use Rattle.std.proofs.lemmas.Bool.Decides.{nat_tests}
 use Rattle.std.proofs.lemmas.List.{get_or_default, get_or-set_same, get_or-set_other}
@@ -13,7 +13,7 @@ use Rattle.coll_routes.specs.declared.signature.Signature.{Signature}
 use Rattle.coll_routes.specs.declared.statement.Stated.{Stated}
 use Rattle.coll_pending.specs.declared.arrival.Arrived.{Arrived}
 use Rattle.coll_pending.specs.declared.arrival.Arrived.TheVariants.{Waiting, Full}
-use Rattle.coll_pending.specs.declared.arrival.Next.TheVariants.{Joins, Mismatch}
+use Rattle.coll_pending.specs.declared.arrival.Next.TheVariants.{Opens, Joins, Mismatch}
 use Rattle.coll_pending.specs.Instances.{Instance, Communicator, is_full, joined, roll_in, IsAgreed}
 use Rattle.coll_pending.specs.Instances.{next_by, is_full_but_for}
 use Rattle.coll_pending.specs.declared.slot.Slot.{Slot}
@@ -21,7 +21,7 @@ use Rattle.coll_pending.specs.Queues.{Queue, Queues, communicator, count, counte
 use Rattle.coll_pending.specs.Queues.{queue_at, key_in, known_in, count_in, slot_in, key_of}
 use Rattle.coll_pending.specs.Queues.{slot_of, instance_of, instance_in, IsFree}
 use Rattle.coll_pending.specs.Queues.{IsOf, IsOfIn, IsQueues, CanTell, CanPost, Posts, PostsTo}
-use Rattle.coll_pending.specs.Queues.{posted, has_posted, lacks_one, WaitsOn}
+use Rattle.coll_pending.specs.Queues.{posted, has_posted, lacks_one, Enters}
 use Rattle.coll_pending.specs.Waiting.{updated_at, PendingView, seen, next, before, after}
 use Rattle.coll_pending.specs.Waiting.{HasArrived, CanArrive, IsKnownAs}
 use Rattle.coll_pending.proofs.KeyLemmas.{key_within, key_there, popped_here, popped_other}
@@ -66,44 +66,144 @@ some_and : {A : Type 0} (v : Option A) (P : A → Type 0) → IsSomeAnd v P → 
 some_and None P h = absurd h
 some_and (Some x) P h = (x, refl, h)
 
--- the slot to which the key leads
-pub led : {X : Type 0} (q : Queue) (slots : Slab (Slot X)) (rank key : ℕ) →
-    CanPost q slots rank → key_at q (count q rank) ≡ Some key → (o : Slot X)
+-- the key and the slot
+to_free : {X : Type 0} (slots : Slab (Slot X)) (w : Option ℕ) (rank : ℕ) →
+    IsSomeAnd (slot_in slots w) (IsFree rank) → (key : ℕ) × (o : Slot X) × (w ≡ Some key)
     × (get slots key ≡ Some o) × IsFree rank o
-led q slots rank key can leads =
-    some_and (get slots key) (IsFree rank)
-    (subst (λ w. IsSomeAnd (slot_in slots w) (IsFree rank)) leads can.waits)
+to_free slots None rank h = absurd h
+to_free slots (Some key) rank h =
+    let it = some_and (get slots key) (IsFree rank) h in (key, it.0, refl, it.1, it.2)
 
 pub stands_there : {X : Type 0} (slots : Slab (Slot X)) (key : ℕ) (o : Slot X) →
     get slots key ≡ Some o → IsSome (get slots key)
 stands_there slots key o at = ap (λ w. is_some w) at
 
--- a post, and then the slot is empty
-pub taken_out : {X : Type 0} (q p r : Queue) (slots entered out : Slab (Slot X)) (rank key : ℕ)
-    (stated : Stated) (part : X) (removed : Slot X) (full : FullOf X) →
-    key_at q (count q rank) ≡ Some key →
-    ((o : Slot X) → get slots key ≡ Some o → true ≡ lacks_one o) →
-    ((o : Slot X) → get slots key ≡ Some o →
-    Updates slots entered key (Some (posted rank stated part o))) → p ≡ counted q rank →
-    r ≡ popped p r.room → get entered key ≡ Some removed → Updates entered out key None →
+-- a post that is not the last one
+none_more : (b : Bool) (key : ℕ) → None ≡ (if b then Some key else None) → b ≡ false
+none_more true key e = absurd (cc)
+none_more false key e = refl
+
+abbrev pub HasEntered : {X : Type 0} → (row new : Option Queue) → (slots slots' : Slab (Slot X)) →
+    (rank : ℕ) → Stated → X → (last : Option ℕ) → Type 0
+HasEntered row new slots slots' rank stated part last =
+    (q : Queue) → row ≡ Some q → (new ≡ Some (counted q rank))
+    × Enters q slots slots' rank stated part last
+
+abbrev pub HasPosted : {X : Type 0} → (row new : Option Queue) → (slots slots' : Slab (Slot X)) →
+    (rank : ℕ) → Stated → X → Arrived X → Type 0
+HasPosted row new slots slots' rank stated part arrived =
+    (q : Queue) → row ≡ Some q → (p : Queue) × (new ≡ Some p)
+    × PostsTo q p slots slots' rank stated part arrived
+
+pub goes_on : {X : Type 0} (row new : Option Queue) (slots slots' : Slab (Slot X)) (rank : ℕ)
+    (stated : Stated) (part : X) (last : Option ℕ) →
+    HasEntered row new slots slots' rank stated part last →
+    ((q : Queue) → row ≡ Some q → (key : ℕ) (o : Slot X) → key_at q (count q rank) ≡ Some key →
+    get slots key ≡ Some o → lacks_one o ≡ false) →
+    HasPosted row new slots slots' rank stated part Waiting
+goes_on row new slots slots' rank stated part last entered more = λ q at.
+    let it = entered q at in (
+      counted q rank,
+      it.0,
+      λ key o leads found. (more q at key o leads found, refl, (it.1 key o leads found).1),
+    )
+
+pub none_waits : {X : Type 0} (row new : Option Queue) (slots slots' : Slab (Slot X)) (rank : ℕ)
+    (stated : Stated) (part : X) (last : Option ℕ) → last ≡ None →
+    HasEntered row new slots slots' rank stated part last →
+    HasPosted row new slots slots' rank stated part Waiting
+none_waits row new slots slots' rank stated part last none entered =
+    goes_on row new slots slots' rank stated part last entered
+    (λ q at key o leads found. none_more (lacks_one o) key
+    (sym none ∙ ((entered q at).1 key o leads found).0))
+
+-- the last post
+some_last : (b : Bool) (key other : ℕ) → Some key ≡ (if b then Some other else None) → (b ≡ true)
+    × (key ≡ other)
+some_last true key other e = (refl, cc)
+some_last false key other e = absurd (cc)
+
+pub record Filled {X : Type 0} (row now : Option Queue) (slots entered : Slab (Slot X))
+    (rank key : ℕ) (stated : Stated) (part : X) : Type 0 where
+  pub queue : Queue
+  pub at : row ≡ Some queue
+  pub low : queue.first < 2 ^ 62
+  pub counts : now ≡ Some (counted queue rank)
+  pub slot : Slot X
+  pub leads : key_at queue (count queue rank) ≡ Some key
+  pub found : get slots key ≡ Some slot
+  pub free : IsFree rank slot
+  pub last : lacks_one slot ≡ true
+  pub updates : Updates slots entered key (Some (posted rank stated part slot))
+
+pub filled_by : {X : Type 0} (row now : Option Queue) (slots entered : Slab (Slot X))
+    (rank k key : ℕ) (stated : Stated) (part : X) (last : Option ℕ) →
+    IsSomeAnd row (λ q. CanPost q slots rank k) → last ≡ Some key →
+    HasEntered row now slots entered rank stated part last →
+    Filled row now slots entered rank key stated part
+filled_by {X} row now slots entered rank k key stated part last can told enters =
+    let it = some_and row (λ q. CanPost q slots rank k) can in
+    let q = it.0 in
+    let so = to_free slots (key_at q k) rank it.2.waits in
+    let leads = subst (λ n. key_at q n ≡ Some so.0) it.2.number so.2 in
+    let all = enters q it.1 in
+    let got = all.1 so.0 so.1 leads so.3 in
+    let is = some_last (lacks_one so.1) key so.0 (sym told ∙ got.0) in
+    record {
+      queue = q;
+      at = it.1;
+      low = it.2.low;
+      counts = all.0;
+      slot = so.1;
+      leads = leads ∙ ap (λ n. Some n) (sym is.1);
+      found = ap (λ n. get slots n) is.1 ∙ so.3;
+      free = so.4;
+      last = is.0;
+      updates = subst (λ n. Updates slots entered n (Some (posted rank stated part so.1)))
+          (sym is.1) got.1;
+    }
+
+pub filled_low : {X : Type 0} (row now : Option Queue) (slots entered : Slab (Slot X))
+    (rank key : ℕ) (stated : Stated) (part : X) →
+    Filled row now slots entered rank key stated part → IfSome now (λ q. q.first < 2 ^ 62)
+filled_low row now slots entered rank key stated part filled =
+    subst (λ w. IfSome w (λ q. q.first < 2 ^ 62)) (sym filled.counts) filled.low
+
+-- then the slot is empty
+pub taken_out : {X : Type 0} (row now new : Option Queue) (slots entered out : Slab (Slot X))
+    (rank key : ℕ) (stated : Stated) (part : X) (removed : Slot X) (full : FullOf X) →
+    Filled row now slots entered rank key stated part →
+    ((q : Queue) → now ≡ Some q → (room : ℕ) × (new ≡ Some (popped q room))) →
+    get entered key ≡ Some removed → Updates entered out key None →
     full.roll ≡ removed.roll → map (λ x. Some x) full.parts ≡ removed.parts →
-    PostsTo q r slots out rank stated part (Full full)
-taken_out {X} q p r slots entered out rank key stated part removed full leads last enters counts
-    pops removes empties roll parts = λ key' o leads' found'.
-    let same : key ≡ key' = (let both = sym leads ∙ leads' in cc) in
-    let found : get slots key ≡ Some o = subst (λ n. get slots n ≡ Some o) (sym same) found' in
-    let updates = enters o found in
-    let it : removed ≡ posted rank stated part o =
-    (let both = sym removes ∙ updates.changed in cc) in (
-      sym (last o found),
+    HasPosted row new slots out rank stated part (Full full)
+taken_out {X} row now new slots entered out rank key stated part removed full filled pops removes
+    empties roll parts = λ q at.
+    let own : filled.queue ≡ q = (let both = sym filled.at ∙ at in cc) in
+    let popping = pops (counted filled.queue rank) filled.counts in
+    let it : removed ≡ posted rank stated part filled.slot =
+    (let both = sym removes ∙ filled.updates.changed in cc) in
+    let posts : PostsTo filled.queue (popped (counted filled.queue rank) popping.0) slots out rank
+    stated part (Full full) =
+    (λ other o leads found.
+    let same : key ≡ other = (let both = sym filled.leads ∙ leads in cc) in
+    let there' : get slots key ≡ Some o = subst (λ n. get slots n ≡ Some o) (sym same) found in
+    let its : filled.slot ≡ o = (let both = sym filled.found ∙ there' in cc) in
+    subst (λ n. Posts filled.queue (popped (counted filled.queue rank) popping.0) slots out n rank
+    stated part o (Full full)) same
+    (subst (λ z. Posts filled.queue (popped (counted filled.queue rank) popping.0) slots out key
+    rank stated part z (Full full)) its (
+      filled.last,
       roll ∙ ap (λ (z : Slot X). z.roll) it,
       parts ∙ ap (λ (z : Slot X). z.parts) it,
-      pops ∙ ap (λ z. popped z r.room) counts,
-      subst (λ n. Updates slots out n None) same (record {
+      refl,
+      record {
         changed = empties.changed;
-        others = λ other off. empties.others other off ∙ updates.others other off;
-      }),
-    )
+        others = λ other' off. empties.others other' off ∙ filled.updates.others other' off;
+      },
+    ))) in
+    subst (λ z. (p : Queue) × (new ≡ Some p) × PostsTo z p slots out rank stated part (Full full))
+    own (popped (counted filled.queue rank) popping.0, popping.1, posts)
 
 -- ## the post
 
@@ -470,22 +570,25 @@ met_by {X} s c rank sig known can =
       row = row_within s.queues c q it.1;
     }
 
-pub can_post : {X : Type 0} (s : Queues X) (is : IsQueues s) (c rank : ℕ) (stated : Stated)
+pub can_post : {X : Type 0} (s : Queues X) (is : IsQueues s) (c rank k : ℕ) (stated : Stated)
     (part : X) (row : Option Queue) → row ≡ get_or s.queues c row → Met s c rank stated.sig →
-    count_in (queue_at s.queues c) rank < 2 ^ 62 → IsSomeAnd row (λ q. CanPost q s.slots rank)
-can_post {X} s is c rank stated part row read met few =
+    k ≡ count_in (queue_at s.queues c) rank → k < 2 ^ 62 →
+    IsSomeAnd row (λ q. CanPost q s.slots rank k)
+can_post {X} s is c rank k stated part row read met its few =
     let here : Some met.queue ≡ row =
     sym met.at ∙ (get_or_default s.queues c None row met.row ∙ sym read) in
     let stands = there s c met.queue is met.at in
-    let count_is = stands.counts rank in
+    let count_is : k ≡ count met.queue rank = its ∙ stands.counts rank in
     let it =
     free s is c met.queue met.at rank met.member met.key met.slot met.leads met.found stated
     part met.agrees met.row in
-    let slot_is : slot_in s.slots (key_at met.queue (count met.queue rank)) ≡ Some met.slot =
-    ap (λ w. slot_in s.slots w) met.leads ∙ met.found in
-    subst (λ w. IsSomeAnd w (λ q. CanPost q s.slots rank)) here (record {
+    let slot_is : slot_in s.slots (key_at met.queue k) ≡ Some met.slot =
+    ap (λ n. slot_in s.slots (key_at met.queue n)) count_is
+    ∙ (ap (λ w. slot_in s.slots w) met.leads ∙ met.found) in
+    subst (λ w. IsSomeAnd w (λ q. CanPost q s.slots rank k)) here (record {
       member = omega (arith, met.member, stands.queue.sized);
-      few = omega (arith, few, count_is);
+      number = count_is;
+      few = few;
       low = omega (arith, few, count_is, stands.queue.low rank met.member);
       waits = subst (λ w. IsSomeAnd w (IsFree rank)) (sym slot_is) it;
     })
@@ -530,8 +633,7 @@ pub arrived_at : {X : Type 0} (s now : Queues X) (view : s ≡ now) (is : IsQueu
     IsSome (known_in (queue_at now.queues c)) →
     ((of : Communicator) → known_in (queue_at now.queues c) ≡ Some of →
     CanArrive now c rank of stated.sig) →
-    ((q : Queue) → row ≡ Some q → (p : Queue) × (new ≡ Some p)
-    × PostsTo q p s.slots slots rank stated part arrived) →
+    HasPosted row new s.slots slots rank stated part arrived →
     IsQueues (record { queues = set s.queues c new; slots = slots })
     × ((of : Communicator) → known_in (queue_at now.queues c) ≡ Some of →
     HasArrived (seen now) (seen (record { queues = set s.queues c new; slots = slots })) c
@@ -555,46 +657,50 @@ arrived_at {X} s now view is c rank stated part row new slots arrived read known
           (communicator was.queue) stated part arrived) view so.1),
     )
 
-pub can_post_at : {X : Type 0} (s now : Queues X) (view : s ≡ now) (is : IsQueues s) (c rank : ℕ)
-    (stated : Stated) (part : X) (row : Option Queue) → row ≡ get_or s.queues c row →
+pub can_post_at : {X : Type 0} (s now : Queues X) (view : s ≡ now) (is : IsQueues s)
+    (c rank k : ℕ) (stated : Stated) (part : X) (row : Option Queue) → row ≡ get_or s.queues c row →
     IsSome (known_in (queue_at now.queues c)) →
     ((of : Communicator) → known_in (queue_at now.queues c) ≡ Some of →
-    CanArrive now c rank of stated.sig) → count_in (queue_at now.queues c) rank < 2 ^ 62 →
-    IsSomeAnd row (λ q. CanPost q s.slots rank)
-can_post_at {X} s now view is c rank stated part row read known can few =
+    CanArrive now c rank of stated.sig) → k ≡ count_in (queue_at now.queues c) rank →
+    k < 2 ^ 62 → IsSomeAnd row (λ q. CanPost q s.slots rank k)
+can_post_at {X} s now view is c rank k stated part row read known can its few =
     let was =
     subst (λ (v : Queues X). Met v c rank stated.sig) (sym view)
     (met_by now c rank stated.sig known can) in
-    can_post s is c rank stated part row read was
-    (subst (λ (v : Queues X). count_in (queue_at v.queues c) rank < 2 ^ 62) (sym view) few)
+    can_post s is c rank k stated part row read was
+    (subst (λ (v : Queues X). k ≡ count_in (queue_at v.queues c) rank) (sym view) its) few
 
-pub waits_on_at : {X : Type 0} (s now : Queues X) (view : s ≡ now) (is : IsQueues s) (c rank : ℕ)
-    (stated : Stated) (part : X) (row : Option Queue) → row ≡ get_or s.queues c row →
+pub joined_at : {X : Type 0} (s now : Queues X) (view : s ≡ now) (is : IsQueues s) (c rank : ℕ)
+    (stated : Stated) (part : X) (row new : Option Queue) (slots : Slab (Slot X))
+    (last : Option ℕ) → row ≡ get_or s.queues c row →
     IsSome (known_in (queue_at now.queues c)) →
     ((of : Communicator) → known_in (queue_at now.queues c) ≡ Some of →
     CanArrive now c rank of stated.sig) → next (seen now) c rank stated.sig ≡ Joins →
-    (q : Queue) → row ≡ Some q → WaitsOn q s.slots rank
-waits_on_at {X} s now view is c rank stated part row read known can joins q at =
+    HasEntered row new s.slots slots rank stated part last →
+    HasPosted row new s.slots slots rank stated part Waiting
+joined_at {X} s now view is c rank stated part row new slots last read known can joins entered =
     let met = subst (λ (v : Queues X). Met v c rank stated.sig) (sym view)
     (met_by now c rank stated.sig known can) in
     let here : row ≡ Some met.queue =
     sym (get_or_default s.queues c None row met.row ∙ sym read) ∙ met.at in
-    let same : met.queue ≡ q = (let both = sym here ∙ at in cc) in
-    let more : lacks_one met.slot ≡ false = leaves_one s is c met.queue met.at rank met.member met.key
-    met.slot met.leads met.found stated part met.agrees met.row
+    let more : lacks_one met.slot ≡ false = leaves_one s is c met.queue met.at rank met.member
+    met.key met.slot met.leads met.found stated part met.agrees met.row
     (subst (λ (v : Queues X). next (seen v) c rank stated.sig ≡ Joins) (sym view) joins) in
-    subst (λ p. WaitsOn p s.slots rank) same (λ key o leads found.
+    goes_on row new s.slots slots rank stated part last entered (λ q at.
+    let same : met.queue ≡ q = (let both = sym here ∙ at in cc) in
+    subst (λ (p : Queue). (key : ℕ) (o : Slot X) → key_at p (count p rank) ≡ Some key →
+    get s.slots key ≡ Some o → lacks_one o ≡ false) same (λ key o leads found.
     let its : met.key ≡ key = (let both = sym met.leads ∙ leads in cc) in
     let there' : get s.slots met.key ≡ Some o = subst (λ n. get s.slots n ≡ Some o) (sym its) found
     in
     let it : met.slot ≡ o = (let both = sym met.found ∙ there' in cc) in
-    subst (λ z. lacks_one z ≡ false) it more)
+    subst (λ z. lacks_one z ≡ false) it more))
 
--- who joins meets an instance that waits
+-- who opens none, and mismatches none, meets an instance that waits
 waits_by : {X : Type 0} (w : Option (Slot X)) (rank : ℕ) (sig : Signature) →
-    next_by (roll_in (instance_in w)) rank sig ≡ Joins → IsSome w
-waits_by None rank sig e = absurd (cc)
-waits_by (Some o) rank sig e = refl
+    next_by (roll_in (instance_in w)) rank sig ≢ Opens → IsSome w
+waits_by None rank sig other = absurd (other refl)
+waits_by (Some o) rank sig other = refl
 
 -- and its communicator is known
 known_row : {X : Type 0} (slots : Slab (Slot X)) (w : Option Queue) (k : ℕ) →
@@ -602,35 +708,25 @@ known_row : {X : Type 0} (slots : Slab (Slot X)) (w : Option Queue) (k : ℕ) �
 known_row slots None k some = absurd (false≢true some)
 known_row slots (Some q) k some = refl
 
-if_known : (w : Option Communicator) (P : Communicator → Type 0) → IfSome w P →
-    (comm : Communicator) → w ≡ Some comm → P comm
-if_known None P all comm e = absurd (cc)
-if_known (Some first) P all comm e = (let same : first ≡ comm = cc in subst P same all)
-
-is_known : (w : Option Communicator) (comm : Communicator) → IsSome w → IsKnownAs comm w →
+pub is_known : (w : Option Communicator) (comm : Communicator) → IsSome w → IsKnownAs comm w →
     w ≡ Some comm
 is_known None comm some known = absurd (false≢true some)
 is_known (Some first) comm some known = ap (λ m. Some m) known
 
+pub member_of : (w : Option Communicator) (rank : ℕ) → IfSome w (λ of. rank < length of.members) →
+    (comm : Communicator) → w ≡ Some comm → rank < length comm.members
+member_of None rank member comm e = absurd (cc)
+member_of (Some first) rank member comm e =
+    (let same : first ≡ comm = cc in subst (λ m. rank < length m.members) same member)
+
 module _ {X : Type 0} (s : Queues X) (c rank : ℕ) (sig : Signature)
-    (joins : next (seen s) c rank sig ≡ Joins) where
-  waits : IsSome (slot_of s c (count_in (queue_at s.queues c) rank))
-  waits = waits_by (slot_of s c (count_in (queue_at s.queues c) rank)) rank sig joins
+    (stays : next (seen s) c rank sig ≢ Opens) (agrees : next (seen s) c rank sig ≢ Mismatch) where
+  pub waits : IsSome (slot_of s c (count_in (queue_at s.queues c) rank))
+  waits = waits_by (slot_of s c (count_in (queue_at s.queues c) rank)) rank sig stays
 
-  pub joins_known : IsSome (known_in (queue_at s.queues c))
-  joins_known =
-      known_row s.slots (queue_at s.queues c) (count_in (queue_at s.queues c) rank) waits
+  pub waits_known : IsSome (known_in (queue_at s.queues c))
+  waits_known = known_row s.slots (queue_at s.queues c) (count_in (queue_at s.queues c) rank) waits
 
-  pub joins_can : IfSome (known_in (queue_at s.queues c)) (λ of. rank < length of.members) →
-      (comm : Communicator) → known_in (queue_at s.queues c) ≡ Some comm →
-      CanArrive s c rank comm sig
-  joins_can member comm e = record {
-    meets = (e, waits);
-    member =
-        if_known (known_in (queue_at s.queues c)) (λ m. rank < length m.members) member comm e;
-    agrees = λ bad. (let both = sym joins ∙ bad in absurd (cc));
-  }
-
-  pub joins_as : (comm : Communicator) → IsKnownAs comm (known_in (queue_at s.queues c)) →
-      known_in (queue_at s.queues c) ≡ Some comm
-  joins_as comm known = is_known (known_in (queue_at s.queues c)) comm joins_known known
+  pub waits_can : (comm : Communicator) → rank < length comm.members →
+      known_in (queue_at s.queues c) ≡ Some comm → CanArrive s c rank comm sig
+  waits_can comm member e = record { meets = (e, waits); member = member; agrees = agrees }

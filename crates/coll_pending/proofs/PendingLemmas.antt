@@ -2,7 +2,7 @@
 use Rattle.std.proofs.Common.{◌≡◌, ◌≢◌, ℕ, ◌+◌, ◌<◌, ◌≤◌, Bool, true, false, length}
 use Rattle.std.proofs.Common.{Option, Some, None, IsSome, is_some, refl, sym, ap, ◌∙◌, subst, arith}
 use Rattle.std.proofs.Common.{inl, inr, Result, Ok, Err, nat_le}
-use Rattle.std.specs.Prelude.{IfOk, OnOk, OnErr}
+use Rattle.std.specs.Prelude.{IfOk, OnOk, OnErr, IfSome, if◌then◌else◌}
 use Rattle.std.proofs.lemmas.Bool.{cases_eq, false≢true, and_from, and_parts, leb-true}
 use Rattle.std.proofs.lemmas.Bool.{le-leb}
 use Rattle.coll_routes.specs.declared.signature.Signature.{Signature}
@@ -13,6 +13,8 @@ use Rattle.coll_routes.specs.Signatures.{same_signature, numbers, flags}
 use Rattle.coll_routes.proofs.CollRoutesLemmas.{same_signatures_are_equal}
 use Rattle.coll_pending.specs.declared.arrival.Arrived.{Arrived}
 use Rattle.coll_pending.specs.declared.arrival.Arrived.TheVariants.{Waiting, Full}
+use Rattle.coll_pending.specs.declared.arrival.Meeting.{Meeting}
+use Rattle.coll_pending.specs.declared.arrival.Next.{Next}
 use Rattle.coll_pending.specs.declared.arrival.Next.TheVariants as nexts
 use Rattle.coll_pending.specs.declared.arrival.Unarrived.{Unarrived}
 use Rattle.coll_pending.specs.declared.slot.Slot.{Slot}
@@ -21,13 +23,15 @@ use Rattle.coll_pending.specs.Instances.{next_by, roll_in, vacant}
 use Rattle.coll_pending.specs.Keyed.{updated}
 use Rattle.coll_pending.specs.Lists.{ListRoom, fits, room_by}
 use Rattle.coll_pending.specs.Queues.{Queue, Queues, communicator, queue_at, known_in, count_in}
-use Rattle.coll_pending.specs.Queues.{slot_of, slot_in, key_in, instance_in, IsVacant}
+use Rattle.coll_pending.specs.Queues.{slot_of, instance_in, IsVacant}
 use Rattle.coll_pending.specs.Spares.{Spare, members_of, IsQueueOf, IsQueueFor, IsSlotFor}
 use Rattle.coll_pending.specs.Spares.{AreListsFor}
 use Rattle.coll_pending.specs.Waiting.{updated_at, PendingView, State, view_of_pending, seen, next}
 use Rattle.coll_pending.specs.Waiting.{before, after, place, Arrives, HasArrived, IsKnownAs}
-use Rattle.coll_pending.specs.Waiting.{HasPlace, CanOpen, Meets, HasRoom, Opens, CanArrive}
-use Rattle.coll_pending.specs.Waiting.{IsOpened}
+use Rattle.coll_pending.specs.Waiting.{HasPlace, CanOpen, HasRoom, Opens, CanArrive}
+use Rattle.coll_pending.specs.Waiting.{IsOpened, IsMeetingOf, meeting_of}
+use Rattle.coll_pending.proofs.ArriveLemmas.{waits, waits_known, waits_can, is_known}
+use Rattle.coll_pending.proofs.ArriveLemmas.{member_of}
 use Rattle.coll_pending.proofs.TableLemmas.{updated_here, updated_other, updated_twice}
 use Rattle.coll_pending.proofs.TableLemmas.{updated_at_here, updated_at_twice}
 
@@ -114,29 +118,6 @@ some_instance : {X : Type 0} (w : Option (Slot X)) → IsSome (instance_in w) �
 some_instance None some = absurd (false≢true some)
 some_instance (Some o) some = refl
 
--- a communicator with an instance is known
-known_by : {X : Type 0} (s : Queues X) (c k : ℕ) (comm : Communicator) (fresh : Option Queue) →
-    IsQueueOf comm (queue_at s.queues c) fresh → IsSome (slot_of s c k) →
-    known_in (queue_at s.queues c) ≡ Some comm
-known_by {X} s c k comm fresh of some = by_row (queue_at s.queues c) of some
-  where
-    by_row : (w : Option Queue) → IsQueueOf comm w fresh →
-        IsSome (slot_in s.slots (key_in w k)) → known_in w ≡ Some comm
-    by_row None it some' = absurd (false≢true some')
-    by_row (Some q) it some' = ap (λ m. Some m) it
-
-pub room_meets : {X : Type 0} (s : State X) (c rank : ℕ) (comm : Communicator) →
-    HasRoom s c rank comm →
-    IsSome (slot_of s.queues c (count_in (queue_at s.queues.queues c) rank)) →
-    Meets s.queues c rank comm
-unfolding HasRoom
-room_meets s c rank comm (inl meets) some = meets
-room_meets s c rank comm (inr can) some = (
-  known_by s.queues c (count_in (queue_at s.queues.queues c) rank) comm s.spare.queue
-      can.queue some,
-  some,
-)
-
 pub room_opens : {X : Type 0} (s : State X) (c rank : ℕ) (comm : Communicator) →
     HasRoom s c rank comm →
     slot_of s.queues c (count_in (queue_at s.queues.queues c) rank) ≡ None → CanOpen s c comm
@@ -145,28 +126,67 @@ room_opens s c rank comm (inl meets) none =
     some_not_none (slot_of s.queues c (count_in (queue_at s.queues.queues c) rank)) meets.1 none
 room_opens s c rank comm (inr can) none = can
 
--- the instance waits already
-module _ {X : Type 0} (s t : State X) (c rank : ℕ) (comm : Communicator) (sig : Signature)
-    (same : view_of_pending t ≡ view_of_pending s) (room : HasRoom t c rank comm)
-    (agrees : next (view_of_pending s) c rank sig ≢ nexts.Mismatch)
-    (some : IsSome (slot_of t.queues c (count_in (queue_at t.queues.queues c) rank))) where
-  pub waits_opened : IsOpened (view_of_pending s) (view_of_pending t) c rank comm sig
+-- what a look told of the instance
+opens_by : (same full : Bool) →
+    (if same then (if full then nexts.Fills else nexts.Joins) else nexts.Mismatch) ≡ nexts.Opens → ⊥
+opens_by true true e = absurd (cc)
+opens_by true false e = absurd (cc)
+opens_by false full e = absurd (cc)
+
+opens_none : {X : Type 0} (w : Option (Slot X)) (rank : ℕ) (sig : Signature) →
+    next_by (roll_in (instance_in w)) rank sig ≡ nexts.Opens → w ≡ None
+opens_none None rank sig e = refl
+opens_none (Some o) rank sig e = absurd (opens_by (same_signature o.roll.sig sig)
+    (is_full_but_for o.roll.stated rank) e)
+
+-- it is to be opened, and there is room
+module _ {X : Type 0} (s inside : State X) (view : inside ≡ s) (comm : Communicator)
+    (sig : Signature) (m : Meeting) (met : IsMeetingOf (view_of_pending s) sig m)
+    (opens : m.does ≡ nexts.Opens) where
+  pub free_inside : slot_of inside.queues m.comm
+      (count_in (queue_at inside.queues.queues m.comm) m.rank) ≡ None
+  unfolding view_of_pending
+  free_inside =
+      subst (λ (v : State X). slot_of v.queues m.comm
+      (count_in (queue_at v.queues.queues m.comm) m.rank) ≡ None) (sym view)
+      (opens_none (slot_of s.queues m.comm (count_in (queue_at s.queues.queues m.comm) m.rank))
+      m.rank sig (sym (ap (λ (z : Meeting). z.does) met) ∙ opens))
+
+  pub can_open : HasRoom s m.comm m.rank comm → CanOpen inside m.comm comm
+  can_open room = room_opens inside m.comm m.rank comm
+      (subst (λ (v : State X). HasRoom v m.comm m.rank comm) (sym view) room) free_inside
+
+-- it waits already
+module _ {X : Type 0} (s : State X) (comm : Communicator) (sig : Signature) (m : Meeting)
+    (met : IsMeetingOf (view_of_pending s) sig m) (stays : m.does ≢ nexts.Opens)
+    (agrees : m.does ≢ nexts.Mismatch)
+    (known : IsKnownAs comm ((view_of_pending s).known m.comm)) where
+  does : m.does ≡ next (view_of_pending s) m.comm m.rank sig
+  does = ap (λ (z : Meeting). z.does) met
+
+  other : (n : Next) → m.does ≢ n → next (view_of_pending s) m.comm m.rank sig ≢ n
+  other n off = λ e. off (does ∙ e)
+
+  pub waits_as : known_in (queue_at s.queues.queues m.comm) ≡ Some comm
+  unfolding view_of_pending
+  waits_as = is_known (known_in (queue_at s.queues.queues m.comm)) comm
+      (waits_known s.queues m.comm m.rank sig (other nexts.Opens stays)
+      (other nexts.Mismatch agrees)) known
+
+  pub waits_meets : m.rank < length comm.members → CanArrive s.queues m.comm m.rank comm sig
+  unfolding view_of_pending
+  waits_meets lt = waits_can s.queues m.comm m.rank sig (other nexts.Opens stays)
+      (other nexts.Mismatch agrees) comm lt waits_as
+
+  pub waits_opened : IsOpened (view_of_pending s) (view_of_pending s) m.comm m.rank comm sig
   unfolding view_of_pending
   waits_opened = inl (
-    subst (λ (v : PendingView X). IsSome (before v c rank)) same
-        (some_slot (slot_of t.queues c (count_in (queue_at t.queues.queues c) rank)) some),
-    subst (λ (v : PendingView X). v.known c ≡ Some comm) same
-        (room_meets t c rank comm room some).0,
-    same,
+    some_slot (slot_of s.queues m.comm (count_in (queue_at s.queues.queues m.comm) m.rank))
+        (waits s.queues m.comm m.rank sig (other nexts.Opens stays)
+        (other nexts.Mismatch agrees)),
+    waits_as,
+    refl,
   )
-
-  pub waits_meets : rank < length comm.members → CanArrive t.queues c rank comm sig
-  unfolding view_of_pending
-  waits_meets lt = record {
-    meets = room_meets t c rank comm room some;
-    member = lt;
-    agrees = subst (λ (v : PendingView X). next v c rank sig ≢ nexts.Mismatch) (sym same) agrees;
-  }
 
 joins : (b : Bool) (roll : Roll) (rank : ℕ) (sig : Signature) →
     is_full_but_for roll.stated rank ≡ b → same_signature roll.sig sig ≡ true →
@@ -208,6 +228,99 @@ module _ {X : Type 0} (s : Queues X) (t : Queues X) (old : PendingView X) (c ran
         (joins _ (vacant {X = X} comm sig).roll rank sig refl
         ((same_signatures_are_equal sig sig).1 refl));
   }
+
+-- ## what a look told, within the queues
+
+module _ {X : Type 0} (s inside : State X) (view : inside ≡ s) (sig : Signature) (m : Meeting)
+    (met : IsMeetingOf (view_of_pending s) sig m) where
+  pub number_inside : m.k ≡ count_in (queue_at inside.queues.queues m.comm) m.rank
+  unfolding view_of_pending
+  number_inside = ap (λ (z : Meeting). z.k) met
+      ∙ sym (ap (λ (v : State X). count_in (queue_at v.queues.queues m.comm) m.rank) view)
+
+  does_inside : m.does ≡ next (seen inside.queues) m.comm m.rank sig
+  unfolding view_of_pending
+  does_inside = ap (λ (z : Meeting). z.does) met
+      ∙ sym (ap (λ (v : State X). next (seen v.queues) m.comm m.rank sig) view)
+
+  not_inside : (n : Next) → m.does ≢ n → next (seen inside.queues) m.comm m.rank sig ≢ n
+  not_inside n off = λ e. off (does_inside ∙ e)
+
+  -- it waits already
+  module _ (stays : m.does ≢ nexts.Opens) (agrees : m.does ≢ nexts.Mismatch) where
+    pub inside_known : IsSome (known_in (queue_at inside.queues.queues m.comm))
+    inside_known = waits_known inside.queues m.comm m.rank sig (not_inside nexts.Opens stays)
+        (not_inside nexts.Mismatch agrees)
+
+    pub inside_as : (of : Communicator) → IsKnownAs of ((view_of_pending s).known m.comm) →
+        known_in (queue_at inside.queues.queues m.comm) ≡ Some of
+    unfolding view_of_pending
+    inside_as of known = is_known (known_in (queue_at inside.queues.queues m.comm)) of inside_known
+        (subst (λ (v : State X). IsKnownAs of (known_in (queue_at v.queues.queues m.comm)))
+        (sym view) known)
+
+    pub inside_can : ((of : Communicator) →
+        known_in (queue_at inside.queues.queues m.comm) ≡ Some of → m.rank < length of.members) →
+        (of : Communicator) → known_in (queue_at inside.queues.queues m.comm) ≡ Some of →
+        CanArrive inside.queues m.comm m.rank of sig
+    inside_can member of e = waits_can inside.queues m.comm m.rank sig
+        (not_inside nexts.Opens stays) (not_inside nexts.Mismatch agrees) of (member of e) e
+
+    pub arrives_as : (of : Communicator) (known : IsKnownAs of ((view_of_pending s).known m.comm)) →
+        m.rank < length of.members → (other : Communicator) →
+        known_in (queue_at inside.queues.queues m.comm) ≡ Some other →
+        CanArrive inside.queues m.comm m.rank other sig
+    arrives_as of known lt = inside_can (λ other e.
+        let same : of ≡ other = (let both = sym (inside_as of known) ∙ e in cc) in
+        subst (λ (z : Communicator). m.rank < length z.members) same lt)
+
+  -- it waits for others too
+  module _ (joins : m.does ≡ nexts.Joins) where
+    pub joins_stays : m.does ≢ nexts.Opens
+    joins_stays e = (let both = sym joins ∙ e in absurd (cc))
+
+    pub joins_agrees : m.does ≢ nexts.Mismatch
+    joins_agrees e = (let both = sym joins ∙ e in absurd (cc))
+
+    pub joins_inside : next (seen inside.queues) m.comm m.rank sig ≡ nexts.Joins
+    joins_inside = sym does_inside ∙ joins
+
+    pub joins_can : IfSome ((view_of_pending s).known m.comm) (λ of. m.rank < length of.members) →
+        (of : Communicator) → known_in (queue_at inside.queues.queues m.comm) ≡ Some of →
+        CanArrive inside.queues m.comm m.rank of sig
+    unfolding view_of_pending
+    joins_can member = inside_can joins_stays joins_agrees
+        (member_of (known_in (queue_at inside.queues.queues m.comm)) m.rank
+        (subst (λ (v : State X). IfSome (known_in (queue_at v.queues.queues m.comm))
+        (λ of. m.rank < length of.members)) (sym view) member))
+
+-- it waits now
+module _ {X : Type 0} (s mid inside : State X) (view : inside ≡ mid) (comm : Communicator)
+    (sig : Signature) (m : Meeting) (met : IsMeetingOf (view_of_pending s) sig m)
+    (opened : IsOpened (view_of_pending s) (view_of_pending mid) m.comm m.rank comm sig) where
+  pub opened_number : m.k ≡ count_in (queue_at inside.queues.queues m.comm) m.rank
+  unfolding view_of_pending
+  opened_number = ap (λ (z : Meeting). z.k) met
+      ∙ (sym (opened_place (view_of_pending s) (view_of_pending mid) m.comm m.rank comm sig opened)
+      ∙ sym (ap (λ (v : State X). count_in (queue_at v.queues.queues m.comm) m.rank) view))
+
+pub arrived_by : {X : Type 0} (s mid inside : State X) (view : inside ≡ mid) (new : PendingView X)
+    (comm : Communicator) (m : Meeting) (stated : Stated) (part : X) (a : Arrived X) →
+    IsMeetingOf (view_of_pending s) stated.sig m → m.does ≢ nexts.Mismatch →
+    IsOpened (view_of_pending s) (view_of_pending mid) m.comm m.rank comm stated.sig →
+    HasArrived (seen inside.queues) new m.comm m.rank comm stated part a →
+    HasArrived (view_of_pending s) new m.comm m.rank comm stated part a
+unfolding view_of_pending
+arrived_by {X} s mid inside view new comm m stated part a met agrees opened arrived =
+    opened_arrives (view_of_pending s) (view_of_pending mid) new m.comm m.rank comm stated part a
+    (λ e. agrees (ap (λ (z : Meeting). z.does) met ∙ e)) opened
+    (subst (λ (v : State X). HasArrived (seen v.queues) new m.comm m.rank comm stated part a) view
+    arrived)
+
+pub is_meeting : {X : Type 0} (v : PendingView X) (c rank : ℕ) (sig : Signature) (m : Meeting) →
+    m ≡ meeting_of v c rank sig → IsMeetingOf v sig m
+is_meeting v c rank sig m e =
+    subst (λ (z : Meeting). z ≡ meeting_of v z.comm z.rank sig) (sym e) refl
 
 -- ## room for it
 
@@ -298,13 +411,6 @@ room_kept {X} {P} s queues spare c rank comm known view room free now same is go
     (still_none (queue_at queues.queues c) (queue_at now.queues c)
     (ap (λ (v : PendingView X). v.known c) same) (none_of _ (sym is ∙ e)))
     can.queue)
-
-pub next_opens : {X : Type 0} (s : Queues X) (old : PendingView X) (c rank : ℕ) (sig : Signature) →
-    seen s ≡ old → slot_of s c (count_in (queue_at s.queues c) rank) ≡ None →
-    next old c rank sig ≡ nexts.Opens
-next_opens {X} s old c rank sig same none =
-    subst (λ (v : PendingView X). next v c rank sig ≡ nexts.Opens) same
-    (ap (λ w. next_by (roll_in (instance_in w)) rank sig) none)
 
 -- what is handed to the queues, where an instance is opened
 pub record Opening {X : Type 0} (queues : Queues X) (c : ℕ) (comm : Communicator) (o : Slot X)

@@ -38,7 +38,7 @@ past_told o rank is past =
 
 -- ## a vacant one
 
-stated_none : (n i : ℕ) (t : Stated) → stated_in (slice_get (replicate n None) i) ≡ Some t → ⊥
+pub stated_none : (n i : ℕ) (t : Stated) → stated_in (slice_get (replicate n None) i) ≡ Some t → ⊥
 stated_none zero i t e = absurd (cc)
 stated_none (suc n) zero t e = absurd (cc)
 stated_none (suc n) (suc i) t e = stated_none n i t e

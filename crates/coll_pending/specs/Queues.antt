@@ -161,17 +161,21 @@ pub record CanTell {X : Type 0} (rank : ℕ) (o : Slot X) : Type 0 where
   pub slot : IsSlot o
   pub free : rank < length o.roll.members → has_posted o.roll.stated rank ≡ false
 
--- this rank is a member, and the instance that it meets waits
-pub record CanPost {X : Type 0} (q : Queue) (slots : Slab (Slot X)) (rank : ℕ) : Type 0 where
+-- this rank is a member, and the instance that it meets, the k-th, waits
+pub record CanPost {X : Type 0} (q : Queue) (slots : Slab (Slot X)) (rank k : ℕ) : Type 0 where
   pub member : rank < length q.counts
-  pub few : count q rank < 2 ^ 62
+  pub number : k ≡ count q rank
+  pub few : k < 2 ^ 62
   pub low : q.first < 2 ^ 62
-  pub waits : IsSomeAnd (slot_in slots (key_at q (count q rank))) (IsFree rank)
+  pub waits : IsSomeAnd (slot_in slots (key_at q k)) (IsFree rank)
 
--- the instance that this rank meets waits on after its post
-abbrev pub WaitsOn : {X : Type 0} → Queue → Slab (Slot X) → (rank : ℕ) → Type 0
-WaitsOn {X} q slots rank = (key : ℕ) (o : Slot X) → key_at q (count q rank) ≡ Some key →
-    get slots key ≡ Some o → lacks_one o ≡ false
+-- a post of this rank is entered in the slots: the key of its slot is told if it was the last one
+abbrev pub Enters : {X : Type 0} → Queue → (slots slots' : Slab (Slot X)) → (rank : ℕ) → Stated →
+    X → (last : Option ℕ) → Type 0
+Enters {X} q slots slots' rank stated part last =
+    (key : ℕ) (o : Slot X) → key_at q (count q rank) ≡ Some key → get slots key ≡ Some o →
+    (last ≡ (if lacks_one o then Some key else None))
+    × Updates slots slots' key (Some (posted rank stated part o))
 
 -- what a post makes of a queue and of the slots, where the instance has this key and this slot
 abbrev pub Posts : {X : Type 0} → (old new : Queue) → (slots slots' : Slab (Slot X)) →

@@ -7,6 +7,7 @@ use Rattle.coll_routes.specs.declared.signature.Signature.{Signature}
 use Rattle.coll_routes.specs.declared.statement.Stated.{Stated}
 use Rattle.coll_pending.specs.declared.arrival.Arrived.{Arrived}
 use Rattle.coll_pending.specs.declared.arrival.Arrived.TheVariants.{Waiting, Full}
+use Rattle.coll_pending.specs.declared.arrival.Meeting.{Meeting}
 use Rattle.coll_pending.specs.declared.arrival.Next.{Next}
 use Rattle.coll_pending.specs.declared.arrival.Next.TheVariants.{Mismatch}
 use Rattle.coll_pending.specs.declared.arrival.ArrivalFault.{ArrivalFault}
@@ -67,6 +68,15 @@ before seen c rank = seen.pending c (place seen c rank)
 -- what the next arrival of a rank with this signature would do
 abbrev pub next : {X : Type 0} → PendingView X → (comm rank : ℕ) → Signature → Next
 next seen c rank sig = next_by (roll_in (before seen c rank)) rank sig
+
+-- what a look finds for that arrival
+abbrev pub meeting_of : {X : Type 0} → PendingView X → (comm rank : ℕ) → Signature → Meeting
+meeting_of seen c rank sig =
+    record { comm = c; rank = rank; k = place seen c rank; does = next seen c rank sig }
+
+-- this is what a look finds, for an arrival with this signature
+abbrev pub IsMeetingOf : {X : Type 0} → PendingView X → Signature → Meeting → Type 0
+IsMeetingOf seen sig meeting = meeting ≡ meeting_of seen meeting.comm meeting.rank sig
 
 -- the instance after that arrival
 abbrev pub after : {X : Type 0} → PendingView X → (comm rank : ℕ) → Communicator → Stated → X →

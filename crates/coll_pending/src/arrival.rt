@@ -17,6 +17,17 @@ pub enum Next {
     Mismatch,
 }
 
+/// What a look finds for the next arrival of a rank on a communicator: the step that takes it looks
+/// nothing up again. It holds until the next arrival at these instances.
+#[derive(Clone, Copy, Debug, PartialEq, Eq)]
+pub struct Meeting {
+    pub comm: u32,
+    pub rank: u32,
+    /// The number of the instance.
+    pub k: u64,
+    pub does: Next,
+}
+
 /// The answer to an arrival.
 #[derive(Drop)]
 pub enum Arrived<X> {

@@ -15,6 +15,6 @@ mod queues;
 mod slot;
 mod spare;
 
-pub use arrival::{ArrivalFault, Arrived, Next, Unarrived};
+pub use arrival::{ArrivalFault, Arrived, Meeting, Next, Unarrived};
 pub use pending::Pending;
 pub use wall_labels::NoMemory;

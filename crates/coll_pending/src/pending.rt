@@ -6,7 +6,7 @@ ghost use Rattle.coll_pending.specs.declared.arrival.Arrived.TheVariants.{Waitin
 ghost use Rattle.coll_pending.specs.declared.arrival.Next.TheVariants.{Opens, Joins, Mismatch};
 ghost use Rattle.coll_pending.specs.Instances.{made_of};
 
-use crate::arrival::{ArrivalFault, Arrived, Next, Unarrived};
+use crate::arrival::{ArrivalFault, Arrived, Meeting, Next, Unarrived};
 use crate::queues::Queues;
 use crate::spare::Spare;
 use coll_routes::{Roll, Shape, Signature, Stated};
@@ -44,7 +44,7 @@ impl<X: Drop> Pending<X> {
     ghost use Rattle.coll_pending.specs.Lists.{fits, room_by};
     ghost use Rattle.coll_pending.specs.Waiting.{view_of_pending, next, HasRoom, HasArrived};
     ghost use Rattle.coll_pending.specs.Waiting.{IsKnownAs, IsOpened, CanArrive, fault_at};
-    ghost use Rattle.coll_pending.specs.Queues.{slot_of, count_in, queue_at};
+    ghost use Rattle.coll_pending.specs.Waiting.{meeting_of, IsMeetingOf};
 
     /// Nobody has arrived.
     #[tactic(auto, unfolding(crate::specs::Waiting::view_of_pending))]
@@ -68,21 +68,20 @@ impl<X: Drop> Pending<X> {
         self.queues.arrivals(comm, rank)
     }
 
-    /// What the next arrival of a rank on a communicator would do, if it has this signature.
+    /// What the next arrival of a rank on a communicator meets, if it has this signature: `join`
+    /// and `arrive_ready` take it.
     #[tactic(auto, unfolding(crate::specs::Waiting::view_of_pending))]
+    pub fn look(&self, comm: u32, rank: u32, sig: &Signature) -> Meeting
+        ensures { result ≡ meeting_of (view_of_pending self.now) comm rank sig.now }
+    {
+        self.queues.look(comm, rank, sig)
+    }
+
+    /// What the next arrival of a rank on a communicator would do, if it has this signature.
     pub fn next(&self, comm: u32, rank: u32, sig: &Signature) -> Next
         ensures { result ≡ next (view_of_pending self.now) comm rank sig.now }
     {
-        self.queues.next(comm, rank, sig)
-    }
-
-    /// The same, where that is known to be no mismatch. Compares no signatures.
-    #[tactic(auto, unfolding(crate::specs::Waiting::view_of_pending))]
-    pub fn next_agreed(&self, comm: u32, rank: u32, sig: &Signature) -> Next
-        requires { next (view_of_pending self.now) comm rank sig.now ≢ Mismatch }
-        ensures { result ≡ next (view_of_pending self.now) comm rank sig.now }
-    {
-        self.queues.next_agreed(comm, rank, sig)
+        self.look(comm, rank, sig).does
     }
 
     /// The roll of the k-th instance of a communicator, if it waits for members.
@@ -114,7 +113,8 @@ impl<X: Drop> Pending<X> {
         ensures room { OnOk result (HasRoom self.new comm rank (made_of group.now shape.now)) }
         ensures memory { HasRoom self.old comm rank (made_of group.now shape.now) → OnErr result ⊥ }
     {
-        if self.queues.meets(comm, rank) {
+        let number = self.queues.arrivals(comm, rank);
+        if self.queues.waits(comm, number) {
             return Ok(());
         }
         self.queues.reserve(comm)?;
@@ -153,8 +153,9 @@ impl<X: Drop> Pending<X> {
             fits (room_by shape.now) stated.sig ≡ true) →
             IfErr result (λ refused. refused.fault ≢ ArrivalFault.NoMemory) }
     {
-        match self.meet(comm, rank, group, shape, &stated.sig) {
-            Ok(()) => Ok(self.queues.arrive(comm, rank, stated, part)),
+        let meeting = self.look(comm, rank, &stated.sig);
+        match self.meet(meeting, group, shape, &stated.sig) {
+            Ok(()) => Ok(self.queues.arrive(meeting, stated, part)),
             Err(fault) => Err(Unarrived {
                 fault,
                 stated,
@@ -163,157 +164,145 @@ impl<X: Drop> Pending<X> {
         }
     }
 
-    /// A member arrives with its statement and its part at an instance of its own signature, for
-    /// which there is room. Compares no signatures, and takes no memory.
+    /// A member arrives with its statement and its part as a look told, at an instance of its own
+    /// signature; where it opens one there is room for it. Takes no memory.
     pub fn arrive_ready(
         &mut self,
-        comm: u32,
-        rank: u32,
+        meeting: Meeting,
         group: &Group,
         shape: &Shape,
         stated: Stated,
         part: X,
     ) -> Arrived<X>
-        requires rank { rank < length group.now }
-        requires few { (view_of_pending self.old).arrivals comm rank < 2 ^ 62 }
-        requires agrees { next (view_of_pending self.old) comm rank stated.sig ≢ Mismatch }
-        requires room { HasRoom self.old comm rank (made_of group.now shape.now) }
-        requires fits { next (view_of_pending self.old) comm rank stated.sig ≡ Opens →
-            fits (room_by shape.now) stated.sig ≡ true }
-        ensures { HasArrived (view_of_pending self.old) (view_of_pending self.new) comm rank
-            (made_of group.now shape.now) stated part result }
+        requires met { IsMeetingOf (view_of_pending self.old) stated.sig meeting }
+        requires agrees { meeting.does ≢ Mismatch }
+        requires rank { meeting.rank < length group.now }
+        requires known { IsKnownAs (made_of group.now shape.now)
+            ((view_of_pending self.old).known meeting.comm) }
+        requires few { meeting.k < 2 ^ 62 }
+        requires room { meeting.does ≡ Opens →
+            HasRoom self.old meeting.comm meeting.rank (made_of group.now shape.now) }
+        requires fits { meeting.does ≡ Opens → fits (room_by shape.now) stated.sig ≡ true }
+        ensures { HasArrived (view_of_pending self.old) (view_of_pending self.new) meeting.comm
+            meeting.rank (made_of group.now shape.now) stated part result }
     {
-        self.meet_ready(comm, rank, group, shape, &stated.sig);
-        self.queues.arrive(comm, rank, stated, part)
-    }
-
-    /// A member arrives with its statement and its part at an instance that waits for others too,
-    /// as `next` tells; it waits on. Compares no signatures, and takes no memory.
-    pub fn join(&mut self, comm: u32, rank: u32, stated: Stated, part: X)
-        requires rank { IfSome ((view_of_pending self.old).known comm)
-            (λ of. rank < length of.members) }
-        requires few { (view_of_pending self.old).arrivals comm rank < 2 ^ 62 }
-        requires joins { next (view_of_pending self.old) comm rank stated.sig ≡ Joins }
-        ensures { (of : Communicator) → IsKnownAs of ((view_of_pending self.old).known comm) →
-            HasArrived (view_of_pending self.old) (view_of_pending self.new) comm rank of stated
-            part Waiting }
-    {
-        self.queues.join(comm, rank, stated, part);
-    }
-
-    // Sees to it that the instance which an arrival of a rank meets waits, for which there is room.
-    fn meet_ready(&mut self, comm: u32, rank: u32, group: &Group, shape: &Shape, sig: &Signature)
-        requires rank { rank < length group.now }
-        requires agrees { next (view_of_pending self.old) comm rank sig.now ≢ Mismatch }
-        requires room { HasRoom self.old comm rank (made_of group.now shape.now) }
-        requires fits { next (view_of_pending self.old) comm rank sig.now ≡ Opens →
-            fits (room_by shape.now) sig.now ≡ true }
-        ensures opened { IsOpened (view_of_pending self.old) (view_of_pending self.new) comm rank
-            (made_of group.now shape.now) sig.now }
-        ensures meets { CanArrive self.new.queues comm rank (made_of group.now shape.now) sig.now }
-    {
-        if self.queues.meets(comm, rank) {
-            return;
-        }
-        match self.open_new(comm, rank, group, shape, sig) {
-            Ok(()) => {}
-            Err(_) => unreachable!(),
+        match meeting.does {
+            Next::Opens => {
+                let Ok(()) = self.open_new(meeting, group, shape, &stated.sig) else {
+                    unreachable!()
+                };
+                self.queues.arrive(meeting, stated, part)
+            }
+            _ => self.queues.arrive(meeting, stated, part),
         }
     }
 
-    // Sees to it that the instance which an arrival of a rank meets waits and is of this signature.
+    /// A member arrives with its statement and its part, as a look told, at an instance that waits
+    /// for others too; it waits on. Takes no memory.
+    pub fn join(&mut self, meeting: Meeting, stated: Stated, part: X)
+        requires met { IsMeetingOf (view_of_pending self.old) stated.sig meeting }
+        requires joins { meeting.does ≡ Joins }
+        requires rank { IfSome ((view_of_pending self.old).known meeting.comm)
+            (λ of. meeting.rank < length of.members) }
+        requires few { meeting.k < 2 ^ 62 }
+        ensures { (of : Communicator) →
+            IsKnownAs of ((view_of_pending self.old).known meeting.comm) →
+            HasArrived (view_of_pending self.old) (view_of_pending self.new) meeting.comm
+            meeting.rank of stated part Waiting }
+    {
+        self.queues.join(meeting, stated, part);
+    }
+
+    // Sees to it that the instance which an arrival meets waits and is of this signature.
     fn meet(
         &mut self,
-        comm: u32,
-        rank: u32,
+        meeting: Meeting,
         group: &Group,
         shape: &Shape,
         sig: &Signature,
     ) -> Result<(), ArrivalFault>
-        requires rank { rank < length group.now }
+        requires met { IsMeetingOf (view_of_pending self.old) sig.now meeting }
+        requires rank { meeting.rank < length group.now }
         requires known { IsKnownAs (made_of group.now shape.now)
-            ((view_of_pending self.old).known comm) }
-        ensures agrees { OnOk result
-            (next (view_of_pending self.old) comm rank sig.now ≢ Mismatch) }
+            ((view_of_pending self.old).known meeting.comm) }
+        ensures agrees { OnOk result (meeting.does ≢ Mismatch) }
         ensures opened { OnOk result
-            (IsOpened (view_of_pending self.old) (view_of_pending self.new) comm rank
-            (made_of group.now shape.now) sig.now) }
+            (IsOpened (view_of_pending self.old) (view_of_pending self.new) meeting.comm
+            meeting.rank (made_of group.now shape.now) sig.now) }
         ensures meets { OnOk result
-            (CanArrive self.new.queues comm rank (made_of group.now shape.now) sig.now) }
+            (CanArrive self.new.queues meeting.comm meeting.rank (made_of group.now shape.now)
+            sig.now) }
         ensures unchanged { OnErr result (view_of_pending self.new ≡ view_of_pending self.old) }
-        ensures fault { IfErr result (λ fault.
-            fault ≡ fault_at (next (view_of_pending self.old) comm rank sig.now)) }
-        ensures memory { HasRoom self.old comm rank (made_of group.now shape.now) →
-            (next (view_of_pending self.old) comm rank sig.now ≡ Opens →
-            fits (room_by shape.now) sig.now ≡ true) →
+        ensures fault { IfErr result (λ fault. fault ≡ fault_at meeting.does) }
+        ensures memory { HasRoom self.old meeting.comm meeting.rank
+            (made_of group.now shape.now) →
+            (meeting.does ≡ Opens → fits (room_by shape.now) sig.now ≡ true) →
             IfErr result (λ fault. fault ≢ ArrivalFault.NoMemory) }
     {
-        match self.next(comm, rank, sig) {
+        match meeting.does {
             Next::Mismatch => Err(ArrivalFault::Mismatch),
-            _ => match self.open(comm, rank, group, shape, sig) {
+            Next::Opens => match self.open(meeting, group, shape, sig) {
                 Ok(()) => Ok(()),
                 Err(_) => Err(ArrivalFault::NoMemory),
             },
+            _ => Ok(()),
         }
     }
 
-    // Opens the instance that an arrival of a rank meets, if it does not wait yet.
+    // Makes room for the instance that an arrival opens, and opens it.
     fn open(
         &mut self,
-        comm: u32,
-        rank: u32,
+        meeting: Meeting,
         group: &Group,
         shape: &Shape,
         sig: &Signature,
     ) -> Result<(), NoMemory>
-        requires rank { rank < length group.now }
+        requires met { IsMeetingOf (view_of_pending self.old) sig.now meeting }
+        requires opens { meeting.does ≡ Opens }
+        requires rank { meeting.rank < length group.now }
         requires known { IsKnownAs (made_of group.now shape.now)
-            ((view_of_pending self.old).known comm) }
-        requires agrees { next (view_of_pending self.old) comm rank sig.now ≢ Mismatch }
+            ((view_of_pending self.old).known meeting.comm) }
         ensures opened { OnOk result
-            (IsOpened (view_of_pending self.old) (view_of_pending self.new) comm rank
-            (made_of group.now shape.now) sig.now) }
+            (IsOpened (view_of_pending self.old) (view_of_pending self.new) meeting.comm
+            meeting.rank (made_of group.now shape.now) sig.now) }
         ensures meets { OnOk result
-            (CanArrive self.new.queues comm rank (made_of group.now shape.now) sig.now) }
+            (CanArrive self.new.queues meeting.comm meeting.rank (made_of group.now shape.now)
+            sig.now) }
         ensures unchanged { OnErr result (view_of_pending self.new ≡ view_of_pending self.old) }
-        ensures memory { HasRoom self.old comm rank (made_of group.now shape.now) →
-            (next (view_of_pending self.old) comm rank sig.now ≡ Opens →
-            fits (room_by shape.now) sig.now ≡ true) →
-            OnErr result ⊥ }
+        ensures memory { HasRoom self.old meeting.comm meeting.rank
+            (made_of group.now shape.now) →
+            fits (room_by shape.now) sig.now ≡ true → OnErr result ⊥ }
     {
-        self.ready(comm, rank, group, shape)?;
-        if self.queues.meets(comm, rank) {
-            return Ok(());
-        }
-        self.open_new(comm, rank, group, shape, sig)
+        self.ready(meeting.comm, meeting.rank, group, shape)?;
+        self.open_new(meeting, group, shape, sig)
     }
 
-    // Opens the instance that an arrival of a rank meets, which does not wait yet, and for which
-    // there is room.
+    // Opens the instance that an arrival opens, for which there is room.
     fn open_new(
         &mut self,
-        comm: u32,
-        _rank: u32,
+        meeting: Meeting,
         _group: &Group,
         _shape: &Shape,
         sig: &Signature,
     ) -> Result<(), NoMemory>
-        requires rank { _rank < length _group.now }
-        requires room { HasRoom self.old comm _rank (made_of _group.now _shape.now) }
-        requires free { slot_of self.old.queues comm
-            (count_in (queue_at self.old.queues.queues comm) _rank) ≡ None }
+        requires met { IsMeetingOf (view_of_pending self.old) sig.now meeting }
+        requires opens { meeting.does ≡ Opens }
+        requires rank { meeting.rank < length _group.now }
+        requires room { HasRoom self.old meeting.comm meeting.rank
+            (made_of _group.now _shape.now) }
         ensures opened { OnOk result
-            (IsOpened (view_of_pending self.old) (view_of_pending self.new) comm _rank
-            (made_of _group.now _shape.now) sig.now) }
+            (IsOpened (view_of_pending self.old) (view_of_pending self.new) meeting.comm
+            meeting.rank (made_of _group.now _shape.now) sig.now) }
         ensures meets { OnOk result
-            (CanArrive self.new.queues comm _rank (made_of _group.now _shape.now) sig.now) }
+            (CanArrive self.new.queues meeting.comm meeting.rank (made_of _group.now _shape.now)
+            sig.now) }
         ensures unchanged { OnErr result (view_of_pending self.new ≡ view_of_pending self.old) }
         ensures memory { fits (room_by _shape.now) sig.now ≡ true → OnErr result ⊥ }
     {
-        let is_known = self.queues.knows(comm);
+        let is_known = self.queues.knows(meeting.comm);
         let slot = self.spare.take_slot(self.alloc, sig)?;
         let fresh = self.spare.take_queue(is_known);
-        self.queues.open(comm, fresh, slot);
+        self.queues.open(meeting.comm, fresh, slot);
         Ok(())
     }
 }

@@ -7,13 +7,13 @@ ghost use Rattle.coll_pending.specs.Instances.{Communicator, next_by, roll_in};
 ghost use Rattle.coll_pending.specs.Queues.{Queue, instance_in, count};
 ghost use Rattle.coll_pending.specs.Queues.{queue_at, slot_in, or_fresh, pushed, CanTell, CanPost};
 ghost use Rattle.coll_pending.specs.Queues.{IsFree, IsRoomier, PostsTo, posted, lacks_one};
-ghost use Rattle.coll_pending.specs.Queues.{WaitsOn};
+ghost use Rattle.coll_pending.specs.Queues.{Enters, counted, popped};
 ghost use Rattle.coll_pending.specs.declared.arrival.Arrived.TheVariants.{Waiting};
 ghost use Rattle.coll_pending.specs.Waiting.{HasPlaceIn};
 ghost use Rattle.coll_pending.specs.declared.slot.Slot.{Slot};
-ghost use Rattle.coll_pending.specs.declared.arrival.Next.TheVariants.{Mismatch, Joins};
+ghost use Rattle.coll_pending.specs.declared.arrival.Next.TheVariants.{Joins};
 
-use crate::arrival::{Arrived, Next};
+use crate::arrival::{Arrived, Meeting, Next};
 use crate::queue::Queue;
 use crate::slot::Slot;
 use coll_routes::{Signature, Stated};
@@ -46,8 +46,8 @@ impl<X: Drop> Queues<X> {
     ghost use Rattle.coll_pending.specs.Queues.{queue_at, known_in, count_in, slot_of};
     ghost use Rattle.coll_pending.specs.Queues.{IsVacant};
     ghost use Rattle.coll_pending.specs.Spares.{IsQueueOf, members_of};
-    ghost use Rattle.coll_pending.specs.Waiting.{seen, next, HasArrived, HasPlace, Opens};
-    ghost use Rattle.coll_pending.specs.Waiting.{CanArrive};
+    ghost use Rattle.coll_pending.specs.Waiting.{seen, next, meeting_of, HasArrived, HasPlace};
+    ghost use Rattle.coll_pending.specs.Waiting.{CanArrive, Opens};
 
     /// No communicator, and no instance.
     pub fn new(alloc: Global) -> Queues<X>
@@ -93,29 +93,35 @@ impl<X: Drop> Queues<X> {
         }
     }
 
-    /// Whether the instance that the next arrival of a rank meets waits.
-    pub fn meets(&self, comm: u32, rank: u32) -> bool
-        ensures { result ≡ is_some
-            (slot_of self.now comm (count_in (queue_at self.now.queues comm) rank)) }
+    /// Whether an instance waits.
+    pub fn waits(&self, comm: u32, number: u64) -> bool
+        ensures { result ≡ is_some (slot_of self.now comm number) }
     {
-        self.slot(comm, self.arrivals(comm, rank)).is_some()
+        self.slot(comm, number).is_some()
     }
 
-    /// What the next arrival of a rank would do, if it has this signature.
-    pub fn next(&self, comm: u32, rank: u32, sig: &Signature) -> Next
-        ensures { result ≡ next (seen self.now) comm rank sig.now }
+    /// What the next arrival of a rank meets, if it has this signature.
+    pub fn look(&self, comm: u32, rank: u32, sig: &Signature) -> Meeting
+        ensures { result ≡ meeting_of (seen self.now) comm rank sig.now }
     {
         let _ = &self.by_comm;
-        next_of(self.slot(comm, self.arrivals(comm, rank)), rank, sig)
-    }
-
-    /// The same, where that is no mismatch.
-    pub fn next_agreed(&self, comm: u32, rank: u32, sig: &Signature) -> Next
-        requires { next (seen self.now) comm rank sig.now ≢ Mismatch }
-        ensures { result ≡ next (seen self.now) comm rank sig.now }
-    {
-        let _ = &self.by_comm;
-        next_of_agreed(self.slot(comm, self.arrivals(comm, rank)), rank, sig)
+        match self.queue(comm) {
+            None => Meeting {
+                comm,
+                rank,
+                k: 0,
+                does: Next::Opens,
+            },
+            Some(queue) => {
+                let k = queue.count(rank);
+                Meeting {
+                    comm,
+                    rank,
+                    k,
+                    does: next_of(slot_at(&self.slots, queue.key(k)), rank, sig),
+                }
+            }
+        }
     }
 
     /// Makes room for one more instance of a communicator.
@@ -146,37 +152,47 @@ impl<X: Drop> Queues<X> {
     }
 
     /// A member arrives at an instance that waits.
-    pub fn arrive(&mut self, comm: u32, rank: u32, stated: Stated, part: X) -> Arrived<X>
-        requires known { IsSome (known_in (queue_at self.old.queues comm)) }
-        requires ready { (of : Communicator) → known_in (queue_at self.old.queues comm) ≡ Some of →
-            CanArrive self.old comm rank of stated.sig }
-        requires few { count_in (queue_at self.old.queues comm) rank < 2 ^ 62 }
-        ensures { (of : Communicator) → known_in (queue_at self.old.queues comm) ≡ Some of →
-            HasArrived (seen self.old) (seen self.new) comm rank of stated part result }
+    pub fn arrive(&mut self, meeting: Meeting, stated: Stated, part: X) -> Arrived<X>
+        requires known { IsSome (known_in (queue_at self.old.queues meeting.comm)) }
+        requires ready { (of : Communicator) →
+            known_in (queue_at self.old.queues meeting.comm) ≡ Some of →
+            CanArrive self.old meeting.comm meeting.rank of stated.sig }
+        requires number { meeting.k
+            ≡ count_in (queue_at self.old.queues meeting.comm) meeting.rank }
+        requires few { meeting.k < 2 ^ 62 }
+        ensures { (of : Communicator) →
+            known_in (queue_at self.old.queues meeting.comm) ≡ Some of →
+            HasArrived (seen self.old) (seen self.new) meeting.comm meeting.rank of stated part
+            result }
     {
-        post_in(
-            &mut self.by_comm[comm as usize],
+        post(
+            &mut self.by_comm[meeting.comm as usize],
             &mut self.slots,
-            rank,
+            meeting,
             stated,
             part,
         )
     }
 
-    /// A member arrives at an instance that waits, and waits on.
-    pub fn join(&mut self, comm: u32, rank: u32, stated: Stated, part: X)
-        requires known { IsSome (known_in (queue_at self.old.queues comm)) }
-        requires ready { (of : Communicator) → known_in (queue_at self.old.queues comm) ≡ Some of →
-            CanArrive self.old comm rank of stated.sig }
-        requires joins { next (seen self.old) comm rank stated.sig ≡ Joins }
-        requires few { count_in (queue_at self.old.queues comm) rank < 2 ^ 62 }
-        ensures { (of : Communicator) → known_in (queue_at self.old.queues comm) ≡ Some of →
-            HasArrived (seen self.old) (seen self.new) comm rank of stated part Waiting }
+    /// A member arrives at an instance that waits for others too, and waits on.
+    pub fn join(&mut self, meeting: Meeting, stated: Stated, part: X)
+        requires known { IsSome (known_in (queue_at self.old.queues meeting.comm)) }
+        requires ready { (of : Communicator) →
+            known_in (queue_at self.old.queues meeting.comm) ≡ Some of →
+            CanArrive self.old meeting.comm meeting.rank of stated.sig }
+        requires number { meeting.k
+            ≡ count_in (queue_at self.old.queues meeting.comm) meeting.rank }
+        requires few { meeting.k < 2 ^ 62 }
+        requires joins { next (seen self.old) meeting.comm meeting.rank stated.sig ≡ Joins }
+        ensures { (of : Communicator) →
+            known_in (queue_at self.old.queues meeting.comm) ≡ Some of →
+            HasArrived (seen self.old) (seen self.new) meeting.comm meeting.rank of stated part
+            Waiting }
     {
-        join_in(
-            &mut self.by_comm[comm as usize],
+        let _ = enter(
+            &mut self.by_comm[meeting.comm as usize],
             &mut self.slots,
-            rank,
+            meeting,
             stated,
             part,
         );
@@ -213,25 +229,6 @@ fn next_of<X: Drop>(slot: Option<&Slot<X>>, rank: u32, sig: &Signature) -> Next
             if !slot.roll.sig.is_same(sig) {
                 Next::Mismatch
             } else if slot.lacks_only(rank) {
-                Next::Fills
-            } else {
-                Next::Joins
-            }
-        }
-    }
-}
-
-// The same, where it is of the signature of the instance, if there is one.
-fn next_of_agreed<X: Drop>(slot: Option<&Slot<X>>, rank: u32, _sig: &Signature) -> Next
-    requires tell { IfSome (option_copied slot) (CanTell rank) }
-    requires agrees { next_by (roll_in (instance_in (option_copied slot))) rank _sig.now
-        ≢ Mismatch }
-    ensures { result ≡ next_by (roll_in (instance_in (option_copied slot.entry))) rank _sig.now }
-{
-    match slot {
-        None => Next::Opens,
-        Some(slot) => {
-            if slot.lacks_only(rank) {
                 Next::Fills
             } else {
                 Next::Joins
@@ -302,81 +299,63 @@ fn pushed_to(fresh: Option<Queue>, key: usize) -> Option<Queue>
 }
 
 // A member posts to the instance that it meets, which waits. The last one takes the instance out.
-fn post_in<X: Drop>(
+fn post<X: Drop>(
     row: &mut Option<Queue>,
     slots: &mut Slab<Slot<X>>,
-    rank: u32,
+    meeting: Meeting,
     stated: Stated,
     part: X,
 ) -> Arrived<X>
-    requires { IsSomeAnd row.old (λ q. CanPost q slots.old rank) }
+    requires { IsSomeAnd row.old (λ q. CanPost q slots.old meeting.rank meeting.k) }
     ensures { (q : Queue) → row.old ≡ Some q → (new : Queue) × (row.new ≡ Some new)
-        × PostsTo q new slots.old slots.new rank stated part result }
+        × PostsTo q new slots.old slots.new meeting.rank stated part result }
 {
-    match row {
-        Some(queue) => post(queue, slots, rank, stated, part),
-        None => unreachable!(),
-    }
-}
-
-fn post<X: Drop>(
-    queue: &mut Queue,
-    slots: &mut Slab<Slot<X>>,
-    rank: u32,
-    stated: Stated,
-    part: X,
-) -> Arrived<X>
-    requires { CanPost queue.old slots.old rank }
-    ensures { PostsTo queue.old queue.new slots.old slots.new rank stated part result }
-{
-    match queue.key(queue.count(rank)) {
+    match enter(row, slots, meeting, stated, part) {
+        None => Arrived::Waiting,
         Some(key) => {
-            queue.arrive(rank);
-            if !enter(slots, key, rank, stated, part) {
-                return Arrived::Waiting;
-            }
-            queue.pop();
+            pop(row);
             Arrived::Full(slots.remove(key).into_full())
         }
-        None => unreachable!(),
     }
 }
 
-// A member posts to the instance that it meets, which waits on.
-fn join_in<X: Drop>(
+// Enters a member's post in the slot of the instance that it meets, which waits. The last one is
+// told the key of the slot.
+fn enter<X: Drop>(
     row: &mut Option<Queue>,
     slots: &mut Slab<Slot<X>>,
-    rank: u32,
+    meeting: Meeting,
     stated: Stated,
     part: X,
-)
-    requires can { IsSomeAnd row.old (λ q. CanPost q slots.old rank) }
-    requires more { (q : Queue) → row.old ≡ Some q → WaitsOn q slots.old rank }
-    ensures { (q : Queue) → row.old ≡ Some q → (new : Queue) × (row.new ≡ Some new)
-        × PostsTo q new slots.old slots.new rank stated part Waiting }
+) -> Option<usize>
+    requires { IsSomeAnd row.old (λ q. CanPost q slots.old meeting.rank meeting.k) }
+    ensures { (q : Queue) → row.old ≡ Some q → (row.new ≡ Some (counted q meeting.rank))
+        × Enters q slots.old slots.new meeting.rank stated part result }
 {
     match row {
-        Some(queue) => join(queue, slots, rank, stated, part),
-        None => unreachable!(),
-    }
-}
-
-fn join<X: Drop>(queue: &mut Queue, slots: &mut Slab<Slot<X>>, rank: u32, stated: Stated, part: X)
-    requires can { CanPost queue.old slots.old rank }
-    requires more { WaitsOn queue.old slots.old rank }
-    ensures { PostsTo queue.old queue.new slots.old slots.new rank stated part Waiting }
-{
-    match queue.key(queue.count(rank)) {
-        Some(key) => {
-            queue.arrive(rank);
-            let _ = enter(slots, key, rank, stated, part);
-        }
+        Some(queue) => match queue.key(meeting.k) {
+            Some(key) => {
+                queue.arrive(meeting.rank);
+                if enter_slot(slots, key, meeting.rank, stated, part) {
+                    Some(key)
+                } else {
+                    None
+                }
+            }
+            None => unreachable!(),
+        },
         None => unreachable!(),
     }
 }
 
 // Enters a post in the slot of that key, and tells whether it was the last one.
-fn enter<X: Drop>(slots: &mut Slab<Slot<X>>, key: usize, rank: u32, stated: Stated, part: X) -> bool
+fn enter_slot<X: Drop>(
+    slots: &mut Slab<Slot<X>>,
+    key: usize,
+    rank: u32,
+    stated: Stated,
+    part: X,
+) -> bool
     requires { IsSomeAnd (get slots.old key) (IsFree rank) }
     ensures last { (o : Slot X) → get slots.old key ≡ Some o → result ≡ lacks_one o }
     ensures entered { (o : Slot X) → get slots.old key ≡ Some o →
@@ -385,5 +364,16 @@ fn enter<X: Drop>(slots: &mut Slab<Slot<X>>, key: usize, rank: u32, stated: Stat
     match slots.get_mut(key) {
         Some(slot) => slot.enter(rank, stated, part),
         None => unreachable!(),
+    }
+}
+
+// The first instance in the queue no longer waits.
+fn pop(row: &mut Option<Queue>)
+    requires { IfSome row.old (λ q. q.first < 2 ^ 62) }
+    ensures { (q : Queue) → row.old ≡ Some q → (room : ℕ) × (row.new ≡ Some (popped q room)) }
+{
+    match row {
+        Some(queue) => queue.pop(),
+        None => {}
     }
 }

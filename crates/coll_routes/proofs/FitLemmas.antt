@@ -12,18 +12,15 @@ use Rattle.coll_routes.proofs.SignatureLemmas.{same_signatures_are_equal}
 use Rattle.coll_routes.proofs.AnyLemmas.{any_at, any_none}
 use Rattle.coll_routes.specs.declared.roll.Roll.{Roll}
 use Rattle.coll_routes.specs.declared.statement.Stated.{Stated}
-use Rattle.coll_routes.specs.Rolls.{stated_in, stated_by, given, given_in, own_counts_in, counts_in}
+use Rattle.coll_routes.specs.Rolls.{stated_in, stated_by, given, given_in, counts_in}
 use Rattle.coll_routes.specs.Rolls.{sends, ranks}
 use Rattle.coll_routes.specs.Faults.{shape_fault, stated_type, stated_fault}
-use Rattle.coll_routes.specs.Fit.{IsFit, IsSized, IsSizedGrid, IsStatement, is_fit, is_unfit}
+use Rattle.coll_routes.specs.Fit.{IsFit, IsSizedGrid, IsStatement, is_fit, is_unfit}
 use Rattle.coll_routes.specs.Fit.{is_unfit_at, is_statement, is_sized_grid}
 use Rattle.coll_routes.specs.Lanes.{sends_by}
 
 pub is_there : (roll : Roll) (i : ℕ) → IsFit roll → i < roll.shape.size → IsSome (stated_by roll i)
 is_there roll i fit h = fit.full i h
-
-pub sized : (roll : Roll) → IsFit roll → IsSized roll.shape
-sized roll fit = fit.sound.grid
 
 pub no_fault : (roll : Roll) (i : ℕ) (s : Stated) → IsFit roll → stated_by roll i ≡ Some s →
     shape_fault roll.shape i roll.sig s.own (stated_type roll.sig) s.given ≡ None
@@ -36,18 +33,12 @@ pub given_is : (roll : Roll) (i : ℕ) (s : Stated) → stated_by roll i ≡ Som
     given roll i ≡ s.given
 given_is roll i s e = ap given_in e
 
-pub counts_are : (roll : Roll) (i : ℕ) (s : Stated) → stated_by roll i ≡ Some s →
-    own_counts_in (stated_by roll i) ≡ counts_in s.own
-counts_are roll i s e = ap own_counts_in e
-
 pub sends_is : (roll : Roll) (i j t : ℕ) (s : Stated) → stated_by roll i ≡ Some s →
     sends roll i j t ≡ sends_by roll.sig roll.shape (counts_in s.own) s.given i j t
 unfolding sends_by
 sends_is roll i j t s e = rw e refl
 
 pub ruleset of_rank = (is_there)
-
-pub ruleset of_roll = (sized, no_fault, given_is, counts_are, sends_is)
 
 -- ## the test of a roll
 

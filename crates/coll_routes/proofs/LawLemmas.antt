@@ -22,7 +22,6 @@ use Rattle.coll_routes.specs.declared.signature.Signature.TheVariants.{NeighborA
 use Rattle.coll_routes.specs.declared.signature.Signature.TheVariants.{Split, Create, CartCreate}
 use Rattle.coll_routes.specs.declared.signature.Signature.TheVariants.{CartSub}
 use Rattle.coll_routes.specs.declared.roll.Shape.{Shape}
-use Rattle.coll_routes.specs.declared.roll.Roll.{Roll}
 use Rattle.coll_routes.specs.Signatures.{reduction, is_neighbourly, is_constructor}
 use Rattle.coll_routes.specs.Rolls.{goes_by, places_by, in_block, slots, slots_in, neighbour_in}
 use Rattle.coll_routes.specs.Rolls.{is_it, is_neighbour, stated_by, own_counts_in, given, goes}
@@ -86,16 +85,6 @@ between Split shape counts i x j t b e = absurd (cc)
 between (Create ranks) shape counts i x j t b e = absurd (cc)
 between (CartCreate dims periods) shape counts i x j t b e = absurd (cc)
 between (CartSub keep) shape counts i x j t b e = absurd (cc)
-
--- a rank that isn't the neighbour there sends nothing there
-pub only_neighbour : (roll : Roll) (i j t : ℕ) → is_neighbourly roll.sig ≡ true
-    → is_neighbour roll.shape i j t ≡ false → sends roll i j t ≡ false
-only_neighbour roll i j t b e = any_none (λ x. goes roll i x j t) 0 (given roll i) (λ x h. ⊎_elim
-    (λ some. let there =
-    between roll.sig roll.shape (own_counts_in (stated_by roll i)) i x j t b some in
-    absurd (cc))
-    (λ no. no)
-    (cases_Bool (goes roll i x j t)))
 
 pub journeys_end_at_places : NobodyPastTheLastSlot → JourneysEndAtPlaces
 journeys_end_at_places past roll i x j t h e = ⊎_elim

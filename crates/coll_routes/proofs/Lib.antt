@@ -1,10 +1,10 @@
 pub mod AnyLemmas
 pub mod BlockLemmas
-pub mod CutLemmas
 pub mod FitLemmas
-pub mod GatheringLemmas
 pub mod KindLemmas
+pub mod LaneLemmas
 pub mod LawLemmas
 pub mod RouteLemmas
+pub mod SenderLemmas
 pub mod SignatureLemmas
 pub mod CollRoutesLemmas

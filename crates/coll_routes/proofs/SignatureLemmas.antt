@@ -32,77 +32,47 @@ use Rattle.coll_routes.specs.declared.signature.Signature.TheVariants.{Split, Cr
 use Rattle.coll_routes.specs.declared.signature.Signature.TheVariants.{CartSub}
 use Rattle.coll_routes.specs.Kinds.{kind_number, all_kinds}
 use Rattle.coll_routes.specs.Signatures.{kind, root, reduction, elem_type, count, numbers, flags}
-use Rattle.coll_routes.specs.Signatures.{same_by, same_flags, same_signature}
+use Rattle.coll_routes.specs.Signatures.{same_by, same_flags, same_signature, fields_of}
+use Rattle.coll_routes.specs.Signatures.{signature_from, signature_by}
 use Rattle.coll_routes.specs.Laws.{SameSignaturesAreEqual}
 
--- the signature of a kind with these fields
-rebuilt : Kind → Option ℕ → Option Op → Option ElemType → Option ℕ → List ℕ → List Bool → Signature
-rebuilt kinds.Barrier r op ty n ns fs = Barrier
-rebuilt kinds.Bcast r op ty n ns fs = Bcast (unwrap_or r 0) (unwrap_or ty Int8) (unwrap_or n 0)
-rebuilt kinds.Gather r op ty n ns fs = Gather (unwrap_or r 0) (unwrap_or ty Int8) (unwrap_or n 0)
-rebuilt kinds.Gatherv r op ty n ns fs = Gatherv (unwrap_or r 0) (unwrap_or ty Int8)
-rebuilt kinds.Scatter r op ty n ns fs = Scatter (unwrap_or r 0) (unwrap_or ty Int8) (unwrap_or n 0)
-rebuilt kinds.Scatterv r op ty n ns fs = Scatterv (unwrap_or r 0) (unwrap_or ty Int8)
-rebuilt kinds.Allgather r op ty n ns fs = Allgather (unwrap_or ty Int8) (unwrap_or n 0)
-rebuilt kinds.Allgatherv r op ty n ns fs = Allgatherv (unwrap_or ty Int8)
-rebuilt kinds.Alltoall r op ty n ns fs = Alltoall (unwrap_or ty Int8) (unwrap_or n 0)
-rebuilt kinds.Alltoallv r op ty n ns fs = Alltoallv (unwrap_or ty Int8)
-rebuilt kinds.Reduce r op ty n ns fs =
-    Reduce (unwrap_or r 0) (unwrap_or op Max) (unwrap_or ty Int8) (unwrap_or n 0)
-rebuilt kinds.Allreduce r op ty n ns fs =
-    Allreduce (unwrap_or op Max) (unwrap_or ty Int8) (unwrap_or n 0)
-rebuilt kinds.ReduceScatter r op ty n ns fs =
-    ReduceScatter (unwrap_or op Max) (unwrap_or ty Int8) ns
-rebuilt kinds.ReduceScatterBlock r op ty n ns fs =
-    ReduceScatterBlock (unwrap_or op Max) (unwrap_or ty Int8) (unwrap_or n 0)
-rebuilt kinds.Scan r op ty n ns fs = Scan (unwrap_or op Max) (unwrap_or ty Int8) (unwrap_or n 0)
-rebuilt kinds.Exscan r op ty n ns fs = Exscan (unwrap_or op Max) (unwrap_or ty Int8) (unwrap_or n 0)
-rebuilt kinds.NeighborAllgather r op ty n ns fs =
-    NeighborAllgather (unwrap_or ty Int8) (unwrap_or n 0)
-rebuilt kinds.NeighborAllgatherv r op ty n ns fs = NeighborAllgatherv (unwrap_or ty Int8)
-rebuilt kinds.NeighborAlltoall r op ty n ns fs =
-    NeighborAlltoall (unwrap_or ty Int8) (unwrap_or n 0)
-rebuilt kinds.NeighborAlltoallv r op ty n ns fs = NeighborAlltoallv (unwrap_or ty Int8)
-rebuilt kinds.Dup r op ty n ns fs = Dup
-rebuilt kinds.Split r op ty n ns fs = Split
-rebuilt kinds.Create r op ty n ns fs = Create ns
-rebuilt kinds.CartCreate r op ty n ns fs = CartCreate ns fs
-rebuilt kinds.CartSub r op ty n ns fs = CartSub fs
-
-rebuilt_is : (s : Signature) →
-    rebuilt (kind s) (root s) (reduction s) (elem_type s) (count s) (numbers s) (flags s) ≡ s
-unfolding rebuilt kind root reduction elem_type count numbers flags
-rebuilt_is Barrier = refl
-rebuilt_is (Bcast r ty n) = refl
-rebuilt_is (Gather r ty n) = refl
-rebuilt_is (Gatherv r ty) = refl
-rebuilt_is (Scatter r ty n) = refl
-rebuilt_is (Scatterv r ty) = refl
-rebuilt_is (Allgather ty n) = refl
-rebuilt_is (Allgatherv ty) = refl
-rebuilt_is (Alltoall ty n) = refl
-rebuilt_is (Alltoallv ty) = refl
-rebuilt_is (Reduce r op ty n) = refl
-rebuilt_is (Allreduce op ty n) = refl
-rebuilt_is (ReduceScatter op ty sizes) = refl
-rebuilt_is (ReduceScatterBlock op ty n) = refl
-rebuilt_is (Scan op ty n) = refl
-rebuilt_is (Exscan op ty n) = refl
-rebuilt_is (NeighborAllgather ty n) = refl
-rebuilt_is (NeighborAllgatherv ty) = refl
-rebuilt_is (NeighborAlltoall ty n) = refl
-rebuilt_is (NeighborAlltoallv ty) = refl
-rebuilt_is Dup = refl
-rebuilt_is Split = refl
-rebuilt_is (Create ranks) = refl
-rebuilt_is (CartCreate dims periods) = refl
-rebuilt_is (CartSub keep) = refl
+-- a signature is the one of its fields
+pub signature_is : (s : Signature) → signature_from (fields_of s) (numbers s) (flags s) ≡ s
+unfolding signature_by kind root reduction elem_type count numbers flags
+signature_is Barrier = refl
+signature_is (Bcast r ty n) = refl
+signature_is (Gather r ty n) = refl
+signature_is (Gatherv r ty) = refl
+signature_is (Scatter r ty n) = refl
+signature_is (Scatterv r ty) = refl
+signature_is (Allgather ty n) = refl
+signature_is (Allgatherv ty) = refl
+signature_is (Alltoall ty n) = refl
+signature_is (Alltoallv ty) = refl
+signature_is (Reduce r op ty n) = refl
+signature_is (Allreduce op ty n) = refl
+signature_is (ReduceScatter op ty sizes) = refl
+signature_is (ReduceScatterBlock op ty n) = refl
+signature_is (Scan op ty n) = refl
+signature_is (Exscan op ty n) = refl
+signature_is (NeighborAllgather ty n) = refl
+signature_is (NeighborAllgatherv ty) = refl
+signature_is (NeighborAlltoall ty n) = refl
+signature_is (NeighborAlltoallv ty) = refl
+signature_is Dup = refl
+signature_is Split = refl
+signature_is (Create ranks) = refl
+signature_is (CartCreate dims periods) = refl
+signature_is (CartSub keep) = refl
 
 pub from_fields : (a b : Signature) → kind a ≡ kind b → root a ≡ root b →
     reduction a ≡ reduction b → elem_type a ≡ elem_type b → count a ≡ count b →
     numbers a ≡ numbers b → flags a ≡ flags b → a ≡ b
 from_fields a b k r o t n ns fs =
-    sym (rebuilt_is a) ∙ ((λ i. rebuilt (k i) (r i) (o i) (t i) (n i) (ns i) (fs i)) ∙ rebuilt_is b)
+    sym (signature_is a)
+    ∙ ((λ i. signature_by (k i) (unwrap_or (r i) 0) (unwrap_or (o i) Max) (unwrap_or (t i) Int8)
+    (unwrap_or (n i) 0) (ns i) (fs i))
+    ∙ signature_is b)
 
 -- numbers tell kinds, operations and types
 kind_back : (k : Kind) → slice_get all_kinds (kind_number k) ≡ Some k

@@ -135,18 +135,6 @@ bad_count shape rank sig own ty given =
     || not (is_listed shape sig)
     || not (is_met (asked shape sig) (gives sig rank) own given)
 
--- the same of a rank that states nothing for itself, by what its signature asks (`bad_count` for
--- each kind that lists no counts)
-abbrev pub is_miscounted : Option ElemType → (count : ℕ) → Asked → (giving : Bool) → ElemType →
-    (given : ℕ) → Bool
-is_miscounted wanted count asked giving ty given =
-    not (is_of_type wanted ty)
-    || is_above_limit given
-    || is_above_limit count
-    || is_asked_above_limit asked
-    || false
-    || not (is_met asked giving Plain given)
-
 -- a negative colour (7.4.2)
 abbrev pub bad_colour : Own → Bool
 bad_colour (SplitBy (Some colour) key) = int_lt colour (pos 0)

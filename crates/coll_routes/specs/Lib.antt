@@ -1,9 +1,9 @@
 pub mod Faults
 pub mod Fit
-pub mod Gatherings
 pub mod Kinds
 pub mod Lanes
 pub mod Laws
 pub mod Rolls
+pub mod Senders
 pub mod Signatures
 pub mod Owns

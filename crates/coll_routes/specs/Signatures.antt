@@ -1,10 +1,13 @@
 -- What all members of an instance state alike: a kind with its fields. (The arguments that MPI 4.1
 -- wants to match, chapters 6 to 8.)
 use Rattle.std.specs.Prelude.{ℕ, List, [], ◌∷◌, Bool, true, false, ◌&&◌, ◌==◌, Option, Some, None}
+use Rattle.std.specs.Prelude.{unwrap_or}
 use Rattle.std.specs.Str.{bytes_eq}
 use Rattle.wall_labels.specs.declared.op.Op.{Op}
+use Rattle.wall_labels.specs.declared.op.Op.TheVariants.{Max}
 use Rattle.wall_labels.specs.Ops.{op_number}
 use Rattle.mpi_elems.specs.declared.elem_type.ElemType.{ElemType}
+use Rattle.mpi_elems.specs.declared.elem_type.ElemType.TheVariants.{Int8}
 use Rattle.mpi_elems.specs.Types.{type_number}
 use Rattle.coll_routes.specs.declared.kind.Kind.{Kind}
 use Rattle.coll_routes.specs.declared.kind.Kind.TheVariants as kinds
@@ -21,6 +24,7 @@ use Rattle.coll_routes.specs.declared.signature.Signature.TheVariants.{NeighborA
 use Rattle.coll_routes.specs.declared.signature.Signature.TheVariants.{NeighborAlltoallv, Dup}
 use Rattle.coll_routes.specs.declared.signature.Signature.TheVariants.{Split, Create, CartCreate}
 use Rattle.coll_routes.specs.declared.signature.Signature.TheVariants.{CartSub}
+use Rattle.coll_routes.specs.declared.fields.Fields.{Fields}
 use Rattle.coll_routes.specs.Kinds.{kind_number}
 
 unfoldable pub kind : Signature → Kind
@@ -122,14 +126,6 @@ flags (CartCreate dims periods) = periods
 flags (CartSub keep) = keep
 flags _ = []
 
--- a field is a list
-unfoldable pub has_list : Signature → Bool
-has_list (ReduceScatter op ty counts) = true
-has_list (Create ranks) = true
-has_list (CartCreate dims periods) = true
-has_list (CartSub keep) = true
-has_list _ = false
-
 -- the kind makes communicators and moves no element (7.4.2, 8.5.1, 8.5.7)
 unfoldable pub is_constructor : Signature → Bool
 is_constructor Dup = true
@@ -146,6 +142,35 @@ is_neighbourly (NeighborAllgatherv ty) = true
 is_neighbourly (NeighborAlltoall ty n) = true
 is_neighbourly (NeighborAlltoallv ty) = true
 is_neighbourly _ = false
+
+-- the signature of that kind with these fields, of which it takes those that the kind has
+unfoldable pub signature_by : Kind → (root : ℕ) → Op → ElemType → (count : ℕ) → List ℕ → List Bool →
+    Signature
+signature_by kinds.Barrier r op ty n ns fs = Barrier
+signature_by kinds.Bcast r op ty n ns fs = Bcast r ty n
+signature_by kinds.Gather r op ty n ns fs = Gather r ty n
+signature_by kinds.Gatherv r op ty n ns fs = Gatherv r ty
+signature_by kinds.Scatter r op ty n ns fs = Scatter r ty n
+signature_by kinds.Scatterv r op ty n ns fs = Scatterv r ty
+signature_by kinds.Allgather r op ty n ns fs = Allgather ty n
+signature_by kinds.Allgatherv r op ty n ns fs = Allgatherv ty
+signature_by kinds.Alltoall r op ty n ns fs = Alltoall ty n
+signature_by kinds.Alltoallv r op ty n ns fs = Alltoallv ty
+signature_by kinds.Reduce r op ty n ns fs = Reduce r op ty n
+signature_by kinds.Allreduce r op ty n ns fs = Allreduce op ty n
+signature_by kinds.ReduceScatter r op ty n ns fs = ReduceScatter op ty ns
+signature_by kinds.ReduceScatterBlock r op ty n ns fs = ReduceScatterBlock op ty n
+signature_by kinds.Scan r op ty n ns fs = Scan op ty n
+signature_by kinds.Exscan r op ty n ns fs = Exscan op ty n
+signature_by kinds.NeighborAllgather r op ty n ns fs = NeighborAllgather ty n
+signature_by kinds.NeighborAllgatherv r op ty n ns fs = NeighborAllgatherv ty
+signature_by kinds.NeighborAlltoall r op ty n ns fs = NeighborAlltoall ty n
+signature_by kinds.NeighborAlltoallv r op ty n ns fs = NeighborAlltoallv ty
+signature_by kinds.Dup r op ty n ns fs = Dup
+signature_by kinds.Split r op ty n ns fs = Split
+signature_by kinds.Create r op ty n ns fs = Create ns
+signature_by kinds.CartCreate r op ty n ns fs = CartCreate ns fs
+signature_by kinds.CartSub r op ty n ns fs = CartSub fs
 
 -- ## the same signature, as a test
 
@@ -171,3 +196,25 @@ same_signature a b =
     && same_by (λ n. n) (count a) (count b)
     && bytes_eq (numbers a) (numbers b)
     && same_flags (flags a) (flags b)
+
+-- ---- words of private contracts
+
+-- a kind without such fields
+abbrev pub bare : Kind → Fields
+bare k = record { kind = k; root = None; op = None; elem_type = None; count = None }
+
+-- the kind, and the fields that are no lists
+abbrev pub fields_of : Signature → Fields
+fields_of s = record {
+  kind = kind s;
+  root = root s;
+  op = reduction s;
+  elem_type = elem_type s;
+  count = count s;
+}
+
+-- the same by the fields: one that is missing is 0, max or int8
+abbrev pub signature_from : Fields → List ℕ → List Bool → Signature
+signature_from f ns fs =
+    signature_by f.kind (unwrap_or f.root 0) (unwrap_or f.op Max) (unwrap_or f.elem_type Int8)
+    (unwrap_or f.count 0) ns fs

@@ -1,11 +1,9 @@
 //! What is wrong with a post by itself.
-ghost use Rattle.std.specs.Prelude.{◌≡◌, ◌*◌, ◌==◌, ◌&&◌, length, sum, not, true, IsTrue, Some, None};
-ghost use Rattle.std.specs.Prelude.{nat_le};
+ghost use Rattle.std.specs.Prelude.{◌≡◌, ◌*◌, ◌==◌, ◌&&◌, length, sum};
 ghost use Rattle.coll_routes.specs.Faults.{asked, gives, is_met, is_of_type, is_asked_above_limit};
-ghost use Rattle.coll_routes.specs.Faults.{is_listed, no_topology, bad_root, bad_op, bad_count};
-ghost use Rattle.coll_routes.specs.Faults.{bad_colour, not_subgroup, bad_dims, is_refused};
-ghost use Rattle.coll_routes.specs.Faults.{is_ill_kept, shape_fault as first_fault, is_miscounted};
-ghost use Rattle.coll_routes.specs.declared.fault.Asked.TheVariants.{Exactly, AnyNumber};
+ghost use Rattle.coll_routes.specs.Faults.{is_listed, no_topology, is_past, is_refused, bad_count};
+ghost use Rattle.coll_routes.specs.Faults.{bad_colour, not_subgroup, bad_dims, is_ill_kept};
+ghost use Rattle.coll_routes.specs.Faults.{shape_fault as first_fault};
 
 use super::roll::Shape;
 use super::signature::Signature;
@@ -61,11 +59,11 @@ fn lacks_topology(shape: &Shape, sig: &Signature) -> bool
     }
 }
 
-fn has_bad_root(shape: &Shape, sig: &Signature) -> bool
-    ensures { result ≡ bad_root shape.now sig.now }
+fn is_past(size: u32, root: Option<u32>) -> bool
+    ensures { result ≡ is_past size root }
 {
-    match sig.root() {
-        Some(root) => root >= shape.size,
+    match root {
+        Some(root) => root >= size,
         None => false,
     }
 }
@@ -77,12 +75,6 @@ fn is_refused_on(op: Option<Op>, elem_type: Option<ElemType>) -> bool
         (Some(op), Some(elem_type)) => !allowed(op, elem_type),
         _ => false,
     }
-}
-
-fn has_bad_op(sig: &Signature) -> bool
-    ensures { result ≡ bad_op sig.now }
-{
-    is_refused_on(sig.op(), sig.elem_type())
 }
 
 fn has_type(wanted: Option<ElemType>, elem_type: ElemType) -> bool
@@ -223,9 +215,10 @@ fn has_bad_count(
 {
     let asked = asked_of(shape, sig);
     let giving = is_giver(sig, rank);
-    !has_type(sig.elem_type(), elem_type)
+    let fields = sig.fields();
+    !has_type(fields.elem_type, elem_type)
         || given > ELEMENT_LIMIT as usize
-        || sig.count().unwrap_or(0) > ELEMENT_LIMIT
+        || fields.count.unwrap_or(0) > ELEMENT_LIMIT
         || is_above(asked)
         || !lists_all(shape, sig)
         || !meets(asked, giving, own, given)
@@ -278,210 +271,6 @@ fn has_bad_dims(shape: &Shape, sig: &Signature) -> bool
     }
 }
 
-// Whether a rank that states nothing for itself gives as many elements as are asked of those that
-// give, of the type and below the limit.
-fn gives_exactly(
-    wanted: ElemType,
-    count: u32,
-    number: u128,
-    giving: bool,
-    elem_type: ElemType,
-    given: usize,
-) -> bool
-    ensures { result
-        ≡ not (is_miscounted (Some wanted) count (Exactly number) giving elem_type given) }
-{
-    wanted == elem_type
-        && count <= ELEMENT_LIMIT
-        && number <= u128::from(ELEMENT_LIMIT)
-        && given as u128 == if giving { number } else { 0 }
-}
-
-// The same where any number may be given.
-fn gives_any(wanted: ElemType, elem_type: ElemType, given: usize) -> bool
-    ensures { result ≡ not (is_miscounted (Some wanted) 0 AnyNumber true elem_type given) }
-{
-    wanted == elem_type && given <= ELEMENT_LIMIT as usize
-}
-
-fn is_plain(own: &Own) -> bool
-    ensures { IsTrue result → own.now ≡ Own.Plain }
-{
-    match own {
-        Own::Plain => true,
-        _ => false,
-    }
-}
-
-fn is_rank(shape: &Shape, root: u32) -> bool
-    ensures { result ≡ not (nat_le shape.now.size root) }
-{
-    root < shape.size
-}
-
-// Whether a post that states nothing for itself, and whose signature lists nothing, is seen to have
-// no fault by one look at its signature.
-#[tactic(auto, unfolding(crate::specs::Faults::shape_fault, crate::specs::Faults::no_topology, crate::specs::Faults::bad_count, crate::specs::Faults::not_subgroup, crate::specs::Faults::bad_dims, crate::specs::Faults::asked, crate::specs::Faults::gives, crate::specs::Faults::is_listed, crate::specs::Signatures::root, crate::specs::Signatures::reduction, crate::specs::Signatures::elem_type, crate::specs::Signatures::count, crate::specs::Signatures::is_neighbourly))]
-fn is_plainly_sound(
-    shape: &Shape,
-    rank: u32,
-    sig: &Signature,
-    given_type: ElemType,
-    given: usize,
-) -> bool
-    ensures { IsTrue result →
-        first_fault shape.now rank sig.now Own.Plain given_type given ≡ None }
-{
-    match sig {
-        Signature::Bcast {
-            root,
-            elem_type,
-            count,
-        } => is_rank(shape, *root)
-            && gives_exactly(
-                *elem_type,
-                *count,
-                u128::from(*count),
-                rank == *root,
-                given_type,
-                given,
-            ),
-        Signature::Gather {
-            root,
-            elem_type,
-            count,
-        } => is_rank(shape, *root)
-            && gives_exactly(
-                *elem_type,
-                *count,
-                u128::from(*count),
-                true,
-                given_type,
-                given,
-            ),
-        Signature::Gatherv { root, elem_type } => is_rank(shape, *root)
-            && gives_any(*elem_type, given_type, given),
-        Signature::Scatter {
-            root,
-            elem_type,
-            count,
-        } => is_rank(shape, *root)
-            && gives_exactly(
-                *elem_type,
-                *count,
-                times(shape.size, *count),
-                rank == *root,
-                given_type,
-                given,
-            ),
-        Signature::Allgather { elem_type, count } => gives_exactly(
-            *elem_type,
-            *count,
-            u128::from(*count),
-            true,
-            given_type,
-            given,
-        ),
-        Signature::Allgatherv { elem_type } => gives_any(*elem_type, given_type, given),
-        Signature::Alltoall { elem_type, count } => gives_exactly(
-            *elem_type,
-            *count,
-            times(shape.size, *count),
-            true,
-            given_type,
-            given,
-        ),
-        Signature::Reduce {
-            root,
-            op,
-            elem_type,
-            count,
-        } => is_rank(shape, *root)
-            && allowed(*op, *elem_type)
-            && gives_exactly(
-                *elem_type,
-                *count,
-                u128::from(*count),
-                true,
-                given_type,
-                given,
-            ),
-        Signature::Allreduce {
-            op,
-            elem_type,
-            count,
-        } => allowed(*op, *elem_type)
-            && gives_exactly(
-                *elem_type,
-                *count,
-                u128::from(*count),
-                true,
-                given_type,
-                given,
-            ),
-        Signature::ReduceScatterBlock {
-            op,
-            elem_type,
-            count,
-        } => allowed(*op, *elem_type)
-            && gives_exactly(
-                *elem_type,
-                *count,
-                times(shape.size, *count),
-                true,
-                given_type,
-                given,
-            ),
-        Signature::Scan {
-            op,
-            elem_type,
-            count,
-        } => allowed(*op, *elem_type)
-            && gives_exactly(
-                *elem_type,
-                *count,
-                u128::from(*count),
-                true,
-                given_type,
-                given,
-            ),
-        Signature::Exscan {
-            op,
-            elem_type,
-            count,
-        } => allowed(*op, *elem_type)
-            && gives_exactly(
-                *elem_type,
-                *count,
-                u128::from(*count),
-                true,
-                given_type,
-                given,
-            ),
-        Signature::NeighborAllgather { elem_type, count } => shape.grid.is_some()
-            && gives_exactly(
-                *elem_type,
-                *count,
-                u128::from(*count),
-                true,
-                given_type,
-                given,
-            ),
-        Signature::NeighborAllgatherv { elem_type } => shape.grid.is_some()
-            && gives_any(*elem_type, given_type, given),
-        Signature::NeighborAlltoall { elem_type, count } => shape.grid.is_some()
-            && gives_exactly(
-                *elem_type,
-                *count,
-                times(shape.slots(), *count),
-                true,
-                given_type,
-                given,
-            ),
-        _ => false,
-    }
-}
-
 /// The first fault that holds of a rank's post, which gives so many elements of this type. Takes no
 /// memory.
 #[tactic(auto, unfolding(crate::specs::Faults::shape_fault))]
@@ -495,16 +284,14 @@ pub fn shape_fault(
 ) -> Option<ShapeFault>
     ensures { result ≡ first_fault shape.now rank sig.now own.now elem_type given }
 {
-    if is_plain(own) && is_plainly_sound(shape, rank, sig, elem_type, given) {
-        return None;
-    }
+    let fields = sig.fields();
     if lacks_topology(shape, sig) {
         return Some(ShapeFault::NoTopology);
     }
-    if has_bad_root(shape, sig) {
+    if is_past(shape.size, fields.root) {
         return Some(ShapeFault::BadRoot);
     }
-    if has_bad_op(sig) {
+    if is_refused_on(fields.op, fields.elem_type) {
         return Some(ShapeFault::BadOp);
     }
     if has_bad_count(shape, rank, sig, own, elem_type, given) {

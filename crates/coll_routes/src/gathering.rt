@@ -1,15 +1,13 @@
 //! What the ranks send to one rank in a kind that reduces, without a look at each of them.
-ghost use Rattle.std.specs.Prelude.{◌≡◌, ℕ, ◌+◌, ◌<◌, ◌≤◌, ◌&&◌, nat_lt, sum, IsSome};
-ghost use Rattle.std.specs.Prelude.{Some, []};
+ghost use Rattle.std.specs.Prelude.{◌≡◌, ℕ, ◌+◌, ◌<◌, ◌≤◌, ◌&&◌, nat_lt, IsSome, Some};
 ghost use Rattle.coll_routes.specs.Signatures.{reduction};
 ghost use Rattle.coll_routes.specs.Rolls.{given, goes};
 ghost use Rattle.coll_routes.specs.Fit.{IsFit};
-ghost use Rattle.coll_routes.specs.Lanes.{covers, sizes_by};
-ghost use Rattle.coll_routes.specs.Gatherings.{until_by, share_by, share_start, share_end};
+ghost use Rattle.coll_routes.specs.Lanes.{covers};
+ghost use Rattle.coll_routes.specs.Senders.{until_by};
 
-use super::lane::{Lane, Piece, block};
+use super::lane::{Piece, lane_to, part_of};
 use super::roll::{Roll, Shape};
-use super::route::stated;
 use super::signature::Signature;
 
 /// What the ranks send to one rank in a kind that reduces: each rank below `until` the same piece,
@@ -22,46 +20,21 @@ pub struct Gathering {
     pub piece: Piece,
 }
 
-// The first rank that doesn't send to a rank, in a kind that reduces.
-#[tactic(auto, unfolding(crate::specs::Gatherings::until_by))]
-fn until(sig: &Signature, shape: &Shape, to: u32) -> u32
+// The first rank that doesn't send to a rank, in a kind that reduces; else 0.
+#[tactic(auto, unfolding(crate::specs::Senders::until_by))]
+pub(crate) fn until(sig: &Signature, shape: &Shape, to: u32) -> u32
     requires { to < shape.now.size }
     ensures { result ≡ until_by sig.now shape.now to }
 {
     let size = shape.size;
     match sig {
         Signature::Reduce { root, .. } => { if to == *root { size } else { 0 } }
+        Signature::Allreduce { .. } => size,
+        Signature::ReduceScatter { .. } => size,
+        Signature::ReduceScatterBlock { .. } => size,
         Signature::Scan { .. } => to + 1,
         Signature::Exscan { .. } => to,
-        _ => size,
-    }
-}
-
-// What each of the senders sends, in a kind that reduces.
-#[tactic(auto, unfolding(crate::specs::Gatherings::share_by))]
-fn share(sig: &Signature, to: u32) -> Lane
-    ensures { result ≡ share_by sig.now to }
-{
-    match sig {
-        Signature::ReduceScatter { .. } => Lane::Block(to),
-        Signature::ReduceScatterBlock { .. } => Lane::Block(to),
-        _ => Lane::Whole,
-    }
-}
-
-// That piece of what each gave.
-fn piece_of(sig: &Signature, shape: &Shape, lane: Lane, given: u32) -> Piece
-    requires { sum (sizes_by sig.now shape.now []) ≤ given }
-    ensures start { result.start ≡ share_start lane (sizes_by sig.now shape.now []) given }
-    ensures end { result.start + result.len ≡ share_end lane (sizes_by sig.now shape.now []) given }
-{
-    match lane {
-        Lane::Nowhere => Piece { start: 0, len: 0 },
-        Lane::Whole => Piece {
-            start: 0,
-            len: given,
-        },
-        Lane::Block(b) => block(sig, shape, &[], b),
+        _ => 0,
     }
 }
 
@@ -77,9 +50,8 @@ pub fn gathered(roll: &Roll, to: u32) -> Gathering
         → result.piece.start + result.piece.len ≤ given roll.now i }
     ensures ranks { result.until ≤ roll.now.shape.size }
 {
-    let receiver = stated(roll, to);
     Gathering {
         until: until(&roll.sig, &roll.shape, to),
-        piece: piece_of(&roll.sig, &roll.shape, share(&roll.sig, to), receiver.given),
+        piece: part_of(roll, to, lane_to(&roll.sig, to, 0)),
     }
 }

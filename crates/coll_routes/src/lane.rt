@@ -1,16 +1,15 @@
 //! Pieces of what a rank gave.
 ghost use Rattle.std.specs.Prelude.{◌≡◌, ℕ, ◌+◌, ◌<◌, ◌≤◌, ◌^◌, sum, take, replicate, get_or};
-ghost use Rattle.std.specs.Prelude.{IfSome, None, true, if◌then◌else◌};
-ghost use Rattle.mpi_cart.specs.Grids.{opposite};
-ghost use Rattle.coll_routes.specs.Rolls.{goes_by, counts_in, slots, is_neighbour};
-ghost use Rattle.coll_routes.specs.Signatures.{is_neighbourly};
-ghost use Rattle.coll_routes.specs.Faults.{shape_fault, stated_type};
-ghost use Rattle.coll_routes.specs.Fit.{IsSized};
-ghost use Rattle.coll_routes.specs.Lanes.{lane_by, sizes_by, covers, sends_by};
+ghost use Rattle.std.specs.Prelude.{Some, true};
+ghost use Rattle.std.specs.List.{list_any};
+ghost use Rattle.mpi_cart.specs.Grids.{below, opposite};
+ghost use Rattle.coll_routes.specs.Rolls.{stated_by, own_counts_in, given};
+ghost use Rattle.coll_routes.specs.Faults.{gives};
+ghost use Rattle.coll_routes.specs.Fit.{IsFit};
+ghost use Rattle.coll_routes.specs.Lanes.{lane_by, sizes_by, covers, holds};
 
-use super::roll::{Roll, Shape};
+use super::roll::{Roll, Shape, stated};
 use super::signature::Signature;
-use super::statement::Own;
 
 /// Consecutive elements of what a rank gave.
 #[derive(Clone, Copy, Debug, PartialEq, Eq)]
@@ -21,29 +20,20 @@ pub struct Piece {
     pub len: u32,
 }
 
-// What of a rank goes to a place: nothing, all that it gave, or a block of it.
+/// Where a block comes from that is a copy.
+#[derive(Clone, Copy, Debug, PartialEq, Eq)]
+pub struct Source {
+    /// The rank that gave its elements.
+    pub from: u32,
+    /// Which of that rank's elements they are. There may be none.
+    pub piece: Piece,
+}
+
+// What of a rank goes to a place that it sends to: all that it gave, or a block of it.
 #[derive(Clone, Copy)]
 pub(crate) enum Lane {
-    Nowhere,
     Whole,
     Block(u32),
-}
-
-fn lane_if(goes: bool, lane: Lane) -> Lane
-    ensures { result ≡ (if goes then lane else Lane.Nowhere) }
-{
-    if goes { lane } else { Lane::Nowhere }
-}
-
-pub(crate) fn has_neighbour(shape: &Shape, from: u32, to: u32, slot: u32) -> bool
-    requires grid { IsSized shape.now }
-    requires rank { to < shape.now.size }
-    ensures { result ≡ is_neighbour shape.now from to slot }
-{
-    match shape.neighbour(to, slot) {
-        Some(rank) => rank == from,
-        None => false,
-    }
 }
 
 fn opposite_of(slot: u32) -> u32
@@ -52,53 +42,21 @@ fn opposite_of(slot: u32) -> u32
     if slot % 2 == 0 { slot + 1 } else { slot - 1 }
 }
 
-// What of a rank goes to a place.
+// What goes to a place of each rank that sends there.
 #[tactic(auto, unfolding(crate::specs::Lanes::lane_by))]
-fn lane_of(sig: &Signature, shape: &Shape, from: u32, to: u32, place: u32) -> Lane
-    requires grid { IsSized shape.now }
-    requires rank { to < shape.now.size }
-    ensures { result ≡ lane_by sig.now shape.now from to place }
+pub(crate) fn lane_to(sig: &Signature, to: u32, place: u32) -> Lane
+    ensures { result ≡ lane_by sig.now to place }
 {
     match sig {
-        Signature::Bcast { root, .. } => lane_if(
-            from == *root && to != *root && place == 0,
-            Lane::Whole,
-        ),
-        Signature::Gather { root, .. } => lane_if(to == *root && place == from, Lane::Whole),
-        Signature::Gatherv { root, .. } => lane_if(to == *root && place == from, Lane::Whole),
-        Signature::Scatter { root, .. } => lane_if(from == *root && place == 0, Lane::Block(to)),
-        Signature::Scatterv { root, .. } => lane_if(from == *root && place == 0, Lane::Block(to)),
-        Signature::Allgather { .. } => lane_if(place == from, Lane::Whole),
-        Signature::Allgatherv { .. } => lane_if(place == from, Lane::Whole),
-        Signature::Alltoall { .. } => lane_if(place == from, Lane::Block(to)),
-        Signature::Alltoallv { .. } => lane_if(place == from, Lane::Block(to)),
-        Signature::Reduce { root, .. } => lane_if(to == *root && place == 0, Lane::Whole),
-        Signature::Allreduce { .. } => lane_if(place == 0, Lane::Whole),
-        Signature::ReduceScatter { .. } => lane_if(place == 0, Lane::Block(to)),
-        Signature::ReduceScatterBlock { .. } => lane_if(place == 0, Lane::Block(to)),
-        Signature::Scan { .. } => lane_if(from <= to && place == 0, Lane::Whole),
-        Signature::Exscan { .. } => lane_if(from < to && place == 0, Lane::Whole),
-        Signature::NeighborAllgather { .. } => lane_if(
-            has_neighbour(shape, from, to, place),
-            Lane::Whole,
-        ),
-        Signature::NeighborAllgatherv { .. } => lane_if(
-            has_neighbour(shape, from, to, place),
-            Lane::Whole,
-        ),
-        Signature::NeighborAlltoall { .. } => {
-            lane_if(
-                has_neighbour(shape, from, to, place),
-                Lane::Block(opposite_of(place)),
-            )
-        }
-        Signature::NeighborAlltoallv { .. } => {
-            lane_if(
-                has_neighbour(shape, from, to, place),
-                Lane::Block(opposite_of(place)),
-            )
-        }
-        _ => Lane::Nowhere,
+        Signature::Scatter { .. } => Lane::Block(to),
+        Signature::Scatterv { .. } => Lane::Block(to),
+        Signature::Alltoall { .. } => Lane::Block(to),
+        Signature::Alltoallv { .. } => Lane::Block(to),
+        Signature::ReduceScatter { .. } => Lane::Block(to),
+        Signature::ReduceScatterBlock { .. } => Lane::Block(to),
+        Signature::NeighborAlltoall { .. } => Lane::Block(opposite_of(place)),
+        Signature::NeighborAlltoallv { .. } => Lane::Block(opposite_of(place)),
+        _ => Lane::Whole,
     }
 }
 
@@ -140,7 +98,7 @@ fn even_block(n: u32, size: u32, b: u32) -> Piece
 
 // The b-th block of what a rank gives, which stated these counts for itself.
 #[tactic(auto, unfolding(crate::specs::Lanes::sizes_by))]
-pub(crate) fn block(sig: &Signature, shape: &Shape, counts: &[u32], b: u32) -> Piece
+fn block(sig: &Signature, shape: &Shape, counts: &[u32], b: u32) -> Piece
     requires { sum (sizes_by sig.now shape.now counts.now) < 2 ^ 32 }
     ensures start { result.start ≡ sum (take b (sizes_by sig.now shape.now counts.now)) }
     ensures end { result.start + result.len
@@ -195,124 +153,38 @@ fn block_size(sig: &Signature, shape: &Shape, counts: &[u32], b: u32) -> u32
     }
 }
 
-// What of the neighbour in a slot goes to it, in a kind that goes between neighbours.
-#[tactic(auto, unfolding(crate::specs::Lanes::lane_by, crate::specs::Signatures::is_neighbourly))]
-fn lane_near(sig: &Signature, _shape: &Shape, _from: u32, _to: u32, slot: u32) -> Lane
-    requires between { is_neighbourly sig.now ≡ true }
-    requires near { is_neighbour _shape.now _from _to slot ≡ true }
-    ensures { result ≡ lane_by sig.now _shape.now _from _to slot }
+// The elements along a lane of what a rank gave.
+pub(crate) fn part_of(roll: &Roll, rank: u32, lane: Lane) -> Piece
+    requires fit { IsFit roll.now }
+    requires rank { rank < roll.now.shape.size }
+    requires gives { gives roll.now.sig rank ≡ true }
+    ensures covers { (x : ℕ) → x < given roll.now rank → covers (Some result) x
+        ≡ holds lane (sizes_by roll.now.sig roll.now.shape
+        (own_counts_in (stated_by roll.now rank))) x }
+    ensures within { result.start + result.len ≤ given roll.now rank }
 {
-    match sig {
-        Signature::NeighborAllgather { .. } => Lane::Whole,
-        Signature::NeighborAllgatherv { .. } => Lane::Whole,
-        Signature::NeighborAlltoall { .. } => Lane::Block(opposite_of(slot)),
-        Signature::NeighborAlltoallv { .. } => Lane::Block(opposite_of(slot)),
-        _ => unreachable!(),
-    }
-}
-
-// The elements of the neighbour in a slot that go to it, where its post has no fault.
-pub(crate) fn cut_near(
-    roll: &Roll,
-    own: &Own,
-    given: u32,
-    from: u32,
-    to: u32,
-    slot: u32,
-) -> Option<Piece>
-    requires sound { shape_fault roll.now.shape from roll.now.sig own.now
-        (stated_type roll.now.sig) given ≡ None }
-    requires between { is_neighbourly roll.now.sig ≡ true }
-    requires near { is_neighbour roll.now.shape from to slot ≡ true }
-    ensures covers { (x : ℕ) → x < given → covers result x ≡
-        goes_by roll.now.sig roll.now.shape (counts_in own.now) from x to slot }
-    ensures within { IfSome result (λ p. p.start + p.len ≤ given) }
-{
-    cut_along(
-        roll,
-        own,
-        given,
-        from,
-        to,
-        slot,
-        lane_near(&roll.sig, &roll.shape, from, to, slot),
-    )
-}
-
-// The elements of a rank that go to a place, where its post has no fault.
-pub(crate) fn cut(
-    roll: &Roll,
-    own: &Own,
-    given: u32,
-    from: u32,
-    to: u32,
-    place: u32,
-) -> Option<Piece>
-    requires sound { shape_fault roll.now.shape from roll.now.sig own.now
-        (stated_type roll.now.sig) given ≡ None }
-    requires grid { IsSized roll.now.shape }
-    requires rank { to < roll.now.shape.size }
-    ensures covers { (x : ℕ) → x < given → covers result x ≡
-        goes_by roll.now.sig roll.now.shape (counts_in own.now) from x to place }
-    ensures within { IfSome result (λ p. p.start + p.len ≤ given) }
-{
-    cut_along(
-        roll,
-        own,
-        given,
-        from,
-        to,
-        place,
-        lane_of(&roll.sig, &roll.shape, from, to, place),
-    )
-}
-
-// The same by the lane that leads there.
-fn cut_along(
-    roll: &Roll,
-    own: &Own,
-    given: u32,
-    _from: u32,
-    _to: u32,
-    _place: u32,
-    lane: Lane,
-) -> Option<Piece>
-    requires sound { shape_fault roll.now.shape _from roll.now.sig own.now
-        (stated_type roll.now.sig) given ≡ None }
-    requires lane { lane ≡ lane_by roll.now.sig roll.now.shape _from _to _place }
-    ensures covers { (x : ℕ) → x < given → covers result x ≡
-        goes_by roll.now.sig roll.now.shape (counts_in own.now) _from x _to _place }
-    ensures within { IfSome result (λ p. p.start + p.len ≤ given) }
-{
+    let giver = stated(roll, rank);
     match lane {
-        Lane::Nowhere => None,
-        Lane::Whole => Some(Piece {
+        Lane::Whole => Piece {
             start: 0,
-            len: given,
-        }),
-        Lane::Block(b) => Some(block(&roll.sig, &roll.shape, own.counts(), b)),
+            len: giver.given,
+        },
+        Lane::Block(b) => block(&roll.sig, &roll.shape, giver.own.counts(), b),
     }
 }
 
-// Whether some element of a rank goes to a place, where its post has no fault.
-pub(crate) fn has_element(
-    roll: &Roll,
-    own: &Own,
-    given: u32,
-    from: u32,
-    to: u32,
-    place: u32,
-) -> bool
-    requires sound { shape_fault roll.now.shape from roll.now.sig own.now
-        (stated_type roll.now.sig) given ≡ None }
-    requires grid { IsSized roll.now.shape }
-    requires rank { to < roll.now.shape.size }
-    ensures { result ≡ sends_by roll.now.sig roll.now.shape (counts_in own.now) given from to
-        place }
+// Whether there is an element along a lane of what a rank gave. Adds nothing.
+pub(crate) fn has_part(roll: &Roll, rank: u32, lane: Lane) -> bool
+    requires fit { IsFit roll.now }
+    requires rank { rank < roll.now.shape.size }
+    requires gives { gives roll.now.sig rank ≡ true }
+    ensures { result
+        ≡ list_any (holds lane (sizes_by roll.now.sig roll.now.shape
+        (own_counts_in (stated_by roll.now rank)))) (below (given roll.now rank)) }
 {
-    match lane_of(&roll.sig, &roll.shape, from, to, place) {
-        Lane::Nowhere => false,
-        Lane::Whole => given > 0,
-        Lane::Block(b) => block_size(&roll.sig, &roll.shape, own.counts(), b) > 0,
+    let giver = stated(roll, rank);
+    match lane {
+        Lane::Whole => giver.given > 0,
+        Lane::Block(b) => block_size(&roll.sig, &roll.shape, giver.own.counts(), b) > 0,
     }
 }

@@ -6,6 +6,7 @@
 #![tactic(auto)]
 
 mod fault;
+mod fields;
 mod gathering;
 mod kind;
 mod lane;
@@ -19,9 +20,9 @@ mod statement;
 pub use fault::{ELEMENT_LIMIT, ShapeFault, shape_fault};
 pub use gathering::{Gathering, gathered};
 pub use kind::Kind;
-pub use lane::Piece;
+pub use lane::{Piece, Source};
 pub use lists::{Flags, Numbers};
 pub use roll::{Roll, Shape, Statements};
-pub use route::{is_missing, piece, piece_near, places, routed};
+pub use route::{is_missing, piece, places, routed, source};
 pub use signature::Signature;
 pub use statement::{Own, Stated};

@@ -55,8 +55,18 @@ impl Numbers {
         ensures made { IfOk result (λ copy. copy ≡ self.now) }
         ensures memory { IsErr result → 0 < length self.now }
     {
+        Numbers::of(self.as_slice(), alloc)
+    }
+
+    // A list of these numbers. None take no memory.
+    pub(crate) fn of(numbers: &[u32], alloc: Global) -> Result<Numbers, NoMemory>
+        ensures made { IfOk result (λ list. list ≡ numbers.now) }
+        ensures memory { IsErr result → 0 < length numbers.now }
+    {
         let mut items = Vec::new(alloc);
-        items.extend_from_slice(self.as_slice())?;
+        if !numbers.is_empty() {
+            items.extend_from_slice(numbers)?;
+        }
         Ok(Numbers { items })
     }
 }
@@ -111,8 +121,18 @@ impl Flags {
         ensures made { IfOk result (λ copy. copy ≡ self.now) }
         ensures memory { IsErr result → 0 < length self.now }
     {
+        Flags::of(self.as_slice(), alloc)
+    }
+
+    // A list of these truth values. None take no memory.
+    pub(crate) fn of(flags: &[bool], alloc: Global) -> Result<Flags, NoMemory>
+        ensures made { IfOk result (λ list. list ≡ flags.now) }
+        ensures memory { IsErr result → 0 < length flags.now }
+    {
         let mut values = Vec::new(alloc);
-        values.extend_from_slice(self.as_slice())?;
+        if !flags.is_empty() {
+            values.extend_from_slice(flags)?;
+        }
         Ok(Flags { values })
     }
 }

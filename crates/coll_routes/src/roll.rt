@@ -4,8 +4,8 @@ ghost use Rattle.std.specs.Prelude.{Some, None, IfSome, IfOk, IsErr};
 ghost use Rattle.std.specs.Option.{option_copied};
 ghost use Rattle.std.specs.List.{list_any};
 ghost use Rattle.mpi_cart.specs.Grids.{below};
-ghost use Rattle.coll_routes.specs.Fit.{is_sized_grid};
-ghost use Rattle.coll_routes.specs.Rolls.{stated_in};
+ghost use Rattle.coll_routes.specs.Fit.{IsFit, is_sized_grid};
+ghost use Rattle.coll_routes.specs.Rolls.{stated_in, stated_by};
 
 use super::signature::Signature;
 use super::statement::Stated;
@@ -249,4 +249,14 @@ fn has_size(grid: &Option<Grid>, size: u32) -> bool
         Some(grid) => grid.size() == size,
         None => true,
     }
+}
+
+// What a rank stated.
+#[tactic(auto, using(crate::proofs::FitLemmas::of_rank))]
+pub(crate) fn stated(roll: &Roll, rank: u32) -> &Stated
+    requires fit { IsFit roll.now }
+    requires rank { rank < roll.now.shape.size }
+    ensures { stated_by roll.now rank ≡ Some result.now }
+{
+    roll.stated.get(rank).unwrap()
 }

@@ -1,33 +1,92 @@
 //! Which elements of a rank go to which place of another.
-ghost use Rattle.std.specs.Prelude.{◌≡◌, ℕ, ◌+◌, ◌<◌, ◌≤◌, IfSome, Some, true};
+ghost use Rattle.std.specs.Prelude.{◌≡◌, ℕ, ◌+◌, ◌<◌, ◌≤◌, IfSome, Some, None, is_none, true};
+ghost use Rattle.std.specs.Prelude.{if◌then◌else◌};
 ghost use Rattle.std.specs.List.{list_any};
 ghost use Rattle.mpi_cart.specs.Grids.{below};
-ghost use Rattle.coll_routes.specs.Rolls.{stated_by, given, goes, places as places_of};
+ghost use Rattle.coll_routes.specs.Rolls.{given, goes, places as places_of};
 ghost use Rattle.coll_routes.specs.Rolls.{routed as is_routed, sends, slots};
-ghost use Rattle.coll_routes.specs.Rolls.{is_missing as is_missing_at, is_neighbour};
-ghost use Rattle.coll_routes.specs.Signatures.{is_neighbourly};
+ghost use Rattle.coll_routes.specs.Rolls.{is_missing as is_missing_at};
+ghost use Rattle.coll_routes.specs.Signatures.{is_neighbourly, reduction};
 ghost use Rattle.coll_routes.specs.Fit.{IsFit, IsSized};
 ghost use Rattle.coll_routes.specs.Lanes.{place_by, covers};
+ghost use Rattle.coll_routes.specs.Senders.{sender_by, reaches_by, comes};
 
-use super::lane::{Piece, cut, cut_near, has_element, has_neighbour};
+use super::gathering::until;
+use super::lane::{Piece, Source, has_part, lane_to, part_of};
 use super::roll::Roll;
 use super::signature::Signature;
-use super::statement::Stated;
 
-// What a rank stated.
-#[tactic(auto, using(crate::proofs::FitLemmas::of_rank))]
-pub(crate) fn stated(roll: &Roll, rank: u32) -> &Stated
-    requires fit { IsFit roll.now }
-    requires rank { rank < roll.now.shape.size }
-    ensures { stated_by roll.now rank ≡ Some result.now }
+// The only rank that sends to a place, in a kind that doesn't reduce.
+#[tactic(auto, unfolding(crate::specs::Senders::sender_by, crate::specs::Signatures::is_neighbourly))]
+fn sender(roll: &Roll, to: u32, place: u32) -> Option<u32>
+    requires grid { IsSized roll.now.shape }
+    requires rank { to < roll.now.shape.size }
+    ensures same { result ≡ sender_by roll.now.sig roll.now.shape to place }
+    ensures below { IfSome result
+        (λ q. is_neighbourly roll.now.sig ≡ true → q < roll.now.shape.size) }
 {
-    roll.stated.get(rank).unwrap()
+    match &roll.sig {
+        Signature::Bcast { root, .. } => sent_if(to != *root && place == 0, *root),
+        Signature::Gather { root, .. } => sent_if(to == *root, place),
+        Signature::Gatherv { root, .. } => sent_if(to == *root, place),
+        Signature::Scatter { root, .. } => sent_if(place == 0, *root),
+        Signature::Scatterv { root, .. } => sent_if(place == 0, *root),
+        Signature::Allgather { .. } => Some(place),
+        Signature::Allgatherv { .. } => Some(place),
+        Signature::Alltoall { .. } => Some(place),
+        Signature::Alltoallv { .. } => Some(place),
+        Signature::NeighborAllgather { .. } => roll.shape.neighbour(to, place),
+        Signature::NeighborAllgatherv { .. } => roll.shape.neighbour(to, place),
+        Signature::NeighborAlltoall { .. } => roll.shape.neighbour(to, place),
+        Signature::NeighborAlltoallv { .. } => roll.shape.neighbour(to, place),
+        _ => None,
+    }
+}
+
+fn sent_if(sends: bool, from: u32) -> Option<u32>
+    ensures { result ≡ (if sends then Some from else None) }
+{
+    if sends { Some(from) } else { None }
+}
+
+/// Where the block at a place of rank `to` comes from, in a kind that doesn't reduce; none where
+/// the slot has no neighbour. The work doesn't grow with the elements. Where counts are stated for
+/// blocks it adds those before the block.
+pub fn source(roll: &Roll, to: u32, place: u32) -> Option<Source>
+    requires fit { IsFit roll.now }
+    requires to { to < roll.now.shape.size }
+    requires copies { reduction roll.now.sig ≡ None }
+    requires place { place < places_of roll.now to }
+    ensures missing { is_none result ≡ is_missing_at roll.now to place }
+    ensures from { IfSome result (λ s. s.from < roll.now.shape.size) }
+    ensures comes { (i x : ℕ) → i < roll.now.shape.size → x < given roll.now i
+        → comes result i x ≡ goes roll.now i x to place }
+    ensures within { IfSome result (λ s. s.piece.start + s.piece.len ≤ given roll.now s.from) }
+{
+    match sender(roll, to, place) {
+        Some(from) => Some(Source {
+            from,
+            piece: part_of(roll, from, lane_to(&roll.sig, to, place)),
+        }),
+        None => None,
+    }
+}
+
+// Whether a rank sends to a place what its lane has there.
+fn reaches(roll: &Roll, from: u32, to: u32, place: u32) -> bool
+    requires grid { IsSized roll.now.shape }
+    requires rank { to < roll.now.shape.size }
+    ensures { result ≡ reaches_by roll.now.sig roll.now.shape from to place }
+{
+    match sender(roll, to, place) {
+        Some(rank) => rank == from,
+        None => from < until(&roll.sig, &roll.shape, to) && place == 0,
+    }
 }
 
 /// The elements of rank `from` that go to place `place` of rank `to`: never an empty piece, but
 /// none where it sends nothing there. The work doesn't grow with the elements. Where counts are
 /// stated for blocks, by each rank or by the signature, it adds those before the block.
-#[tactic(auto, using(crate::proofs::FitLemmas::of_roll))]
 pub fn piece(roll: &Roll, from: u32, to: u32, place: u32) -> Option<Piece>
     requires fit { IsFit roll.now }
     requires from { from < roll.now.shape.size }
@@ -37,32 +96,11 @@ pub fn piece(roll: &Roll, from: u32, to: u32, place: u32) -> Option<Piece>
     ensures within { IfSome result (λ p. p.start + p.len ≤ given roll.now from) }
     ensures filled { IfSome result (λ p. 0 < p.len) }
 {
-    let sender = stated(roll, from);
-    match cut(roll, &sender.own, sender.given, from, to, place) {
-        Some(piece) => if piece.len > 0 { Some(piece) } else { None },
-        None => None,
+    if !reaches(roll, from, to, place) {
+        return None;
     }
-}
-
-/// `piece` between neighbours, where rank `from` is the neighbour of rank `to` in a slot. Looks for no
-/// neighbour.
-#[tactic(auto, using(crate::proofs::FitLemmas::of_roll))]
-pub fn piece_near(roll: &Roll, from: u32, to: u32, slot: u32) -> Option<Piece>
-    requires fit { IsFit roll.now }
-    requires from { from < roll.now.shape.size }
-    requires to { to < roll.now.shape.size }
-    requires between { is_neighbourly roll.now.sig ≡ true }
-    requires near { is_neighbour roll.now.shape from to slot ≡ true }
-    ensures covers { (x : ℕ) → x < given roll.now from →
-        covers result x ≡ goes roll.now from x to slot }
-    ensures within { IfSome result (λ p. p.start + p.len ≤ given roll.now from) }
-    ensures filled { IfSome result (λ p. 0 < p.len) }
-{
-    let neighbour = stated(roll, from);
-    match cut_near(roll, &neighbour.own, neighbour.given, from, to, slot) {
-        Some(part) => if part.len > 0 { Some(part) } else { None },
-        None => None,
-    }
+    let piece = part_of(roll, from, lane_to(&roll.sig, to, place));
+    if piece.len > 0 { Some(piece) } else { None }
 }
 
 /// How many blocks rank `to` gets; none from a constructor. (A rank gets no broadcast of its own,
@@ -124,27 +162,14 @@ fn place_from(sig: &Signature, from: u32) -> u32
 }
 
 // Whether some element of a rank goes to a place.
-#[tactic(auto, using(crate::proofs::FitLemmas::of_roll))]
 fn sends_to(roll: &Roll, from: u32, to: u32, place: u32) -> bool
     requires fit { IsFit roll.now }
     requires from { from < roll.now.shape.size }
     requires to { to < roll.now.shape.size }
     ensures { result ≡ sends roll.now from to place }
 {
-    let giver = stated(roll, from);
-    has_element(roll, &giver.own, giver.given, from, to, place)
-}
-
-// Whether some element of a rank goes to a slot of another: only its neighbour's there can.
-fn sends_to_slot(roll: &Roll, from: u32, to: u32, slot: u32) -> bool
-    requires fit { IsFit roll.now }
-    requires from { from < roll.now.shape.size }
-    requires to { to < roll.now.shape.size }
-    requires between { is_neighbourly roll.now.sig ≡ true }
-    ensures { result ≡ sends roll.now from to slot }
-{
-    if has_neighbour(&roll.shape, from, to, slot) {
-        sends_to(roll, from, to, slot)
+    if reaches(roll, from, to, place) {
+        has_part(roll, from, lane_to(&roll.sig, to, place))
     } else {
         false
     }
@@ -155,11 +180,10 @@ fn sends_to_slots(roll: &Roll, from: u32, to: u32) -> bool
     requires fit { IsFit roll.now }
     requires from { from < roll.now.shape.size }
     requires to { to < roll.now.shape.size }
-    requires between { is_neighbourly roll.now.sig ≡ true }
     ensures { result ≡ list_any (λ t. sends roll.now from to t) (below (slots roll.now.shape)) }
 {
     for slot in 0..roll.shape.slots() {
-        if sends_to_slot(roll, from, to, slot) {
+        if sends_to(roll, from, to, slot) {
             return true;
         }
     }

@@ -1,11 +1,9 @@
 //! What all members of an instance state alike.
-ghost use Rattle.std.specs.Prelude.{◌≡◌, ◌==◌, ◌&&◌, ◌↔◌, ◌<◌, ◌+◌, length, IsTrue, false, IsErr};
-ghost use Rattle.std.specs.Prelude.{IfOk};
-ghost use Rattle.wall_labels.specs.Ops.{op_number};
-ghost use Rattle.coll_routes.specs.Kinds.{kind_number};
-ghost use Rattle.coll_routes.specs.Signatures.{same_by, same_flags};
-ghost use Rattle.mpi_elems.specs.Types.{type_number};
+ghost use Rattle.std.specs.Prelude.{◌≡◌, ◌↔◌, ◌&&◌, ◌<◌, ◌+◌, [], length, IsTrue, IsErr, IfOk};
+ghost use Rattle.std.specs.Str.{bytes_eq};
+ghost use Rattle.coll_routes.specs.Signatures.{same_flags};
 
+use super::fields::{is_same_kind, is_same_number, is_same_op, is_same_type};
 use super::kind::Kind;
 use super::lists::{Flags, Numbers};
 use mpi_elems::ElemType;
@@ -141,128 +139,48 @@ pub enum Signature {
 impl Signature {
     ghost use Rattle.coll_routes.specs.Signatures.{kind, root, reduction, elem_type, count};
     ghost use Rattle.coll_routes.specs.Signatures.{numbers, flags, is_constructor, is_neighbourly};
-    ghost use Rattle.coll_routes.specs.Signatures.{same_signature, has_list};
+    ghost use Rattle.coll_routes.specs.Signatures.{same_signature};
 
     /// The kind alone.
-    #[tactic(auto, unfolding(crate::specs::Signatures::kind))]
+    #[inline(always)]
     pub fn kind(&self) -> Kind
         ensures { result ≡ kind self.now }
     {
-        match self {
-            Signature::Barrier => Kind::Barrier,
-            Signature::Bcast { .. } => Kind::Bcast,
-            Signature::Gather { .. } => Kind::Gather,
-            Signature::Gatherv { .. } => Kind::Gatherv,
-            Signature::Scatter { .. } => Kind::Scatter,
-            Signature::Scatterv { .. } => Kind::Scatterv,
-            Signature::Allgather { .. } => Kind::Allgather,
-            Signature::Allgatherv { .. } => Kind::Allgatherv,
-            Signature::Alltoall { .. } => Kind::Alltoall,
-            Signature::Alltoallv { .. } => Kind::Alltoallv,
-            Signature::Reduce { .. } => Kind::Reduce,
-            Signature::Allreduce { .. } => Kind::Allreduce,
-            Signature::ReduceScatter { .. } => Kind::ReduceScatter,
-            Signature::ReduceScatterBlock { .. } => Kind::ReduceScatterBlock,
-            Signature::Scan { .. } => Kind::Scan,
-            Signature::Exscan { .. } => Kind::Exscan,
-            Signature::NeighborAllgather { .. } => Kind::NeighborAllgather,
-            Signature::NeighborAllgatherv { .. } => Kind::NeighborAllgatherv,
-            Signature::NeighborAlltoall { .. } => Kind::NeighborAlltoall,
-            Signature::NeighborAlltoallv { .. } => Kind::NeighborAlltoallv,
-            Signature::Dup => Kind::Dup,
-            Signature::Split => Kind::Split,
-            Signature::Create { .. } => Kind::Create,
-            Signature::CartCreate { .. } => Kind::CartCreate,
-            Signature::CartSub { .. } => Kind::CartSub,
-        }
+        self.fields().kind
     }
 
     /// The root, where the kind has one.
-    #[tactic(auto, unfolding(crate::specs::Signatures::root))]
     pub fn root(&self) -> Option<u32>
         ensures { result ≡ root self.now }
     {
-        match self {
-            Signature::Bcast { root, .. } => Some(*root),
-            Signature::Gather { root, .. } => Some(*root),
-            Signature::Gatherv { root, .. } => Some(*root),
-            Signature::Scatter { root, .. } => Some(*root),
-            Signature::Scatterv { root, .. } => Some(*root),
-            Signature::Reduce { root, .. } => Some(*root),
-            _ => None,
-        }
+        self.fields().root
     }
 
     /// The operation, where the kind reduces.
-    #[tactic(auto, unfolding(crate::specs::Signatures::reduction))]
     pub fn op(&self) -> Option<Op>
         ensures { result ≡ reduction self.now }
     {
-        match self {
-            Signature::Reduce { op, .. } => Some(*op),
-            Signature::Allreduce { op, .. } => Some(*op),
-            Signature::ReduceScatter { op, .. } => Some(*op),
-            Signature::ReduceScatterBlock { op, .. } => Some(*op),
-            Signature::Scan { op, .. } => Some(*op),
-            Signature::Exscan { op, .. } => Some(*op),
-            _ => None,
-        }
+        self.fields().op
     }
 
     /// The type of the elements; a barrier and the constructors have none.
-    #[tactic(auto, unfolding(crate::specs::Signatures::elem_type))]
     pub fn elem_type(&self) -> Option<ElemType>
         ensures { result ≡ elem_type self.now }
     {
-        match self {
-            Signature::Bcast { elem_type, .. } => Some(*elem_type),
-            Signature::Gather { elem_type, .. } => Some(*elem_type),
-            Signature::Gatherv { elem_type, .. } => Some(*elem_type),
-            Signature::Scatter { elem_type, .. } => Some(*elem_type),
-            Signature::Scatterv { elem_type, .. } => Some(*elem_type),
-            Signature::Allgather { elem_type, .. } => Some(*elem_type),
-            Signature::Allgatherv { elem_type } => Some(*elem_type),
-            Signature::Alltoall { elem_type, .. } => Some(*elem_type),
-            Signature::Alltoallv { elem_type } => Some(*elem_type),
-            Signature::Reduce { elem_type, .. } => Some(*elem_type),
-            Signature::Allreduce { elem_type, .. } => Some(*elem_type),
-            Signature::ReduceScatter { elem_type, .. } => Some(*elem_type),
-            Signature::ReduceScatterBlock { elem_type, .. } => Some(*elem_type),
-            Signature::Scan { elem_type, .. } => Some(*elem_type),
-            Signature::Exscan { elem_type, .. } => Some(*elem_type),
-            Signature::NeighborAllgather { elem_type, .. } => Some(*elem_type),
-            Signature::NeighborAllgatherv { elem_type } => Some(*elem_type),
-            Signature::NeighborAlltoall { elem_type, .. } => Some(*elem_type),
-            Signature::NeighborAlltoallv { elem_type } => Some(*elem_type),
-            _ => None,
-        }
+        self.fields().elem_type
     }
 
     /// The size of each block, where all blocks have one.
-    #[tactic(auto, unfolding(crate::specs::Signatures::count))]
     pub fn count(&self) -> Option<u32>
         ensures { result ≡ count self.now }
     {
-        match self {
-            Signature::Bcast { count, .. } => Some(*count),
-            Signature::Gather { count, .. } => Some(*count),
-            Signature::Scatter { count, .. } => Some(*count),
-            Signature::Allgather { count, .. } => Some(*count),
-            Signature::Alltoall { count, .. } => Some(*count),
-            Signature::Reduce { count, .. } => Some(*count),
-            Signature::Allreduce { count, .. } => Some(*count),
-            Signature::ReduceScatterBlock { count, .. } => Some(*count),
-            Signature::Scan { count, .. } => Some(*count),
-            Signature::Exscan { count, .. } => Some(*count),
-            Signature::NeighborAllgather { count, .. } => Some(*count),
-            Signature::NeighborAlltoall { count, .. } => Some(*count),
-            _ => None,
-        }
+        self.fields().count
     }
 
     /// The counts of `ReduceScatter`, the ranks of `Create`, the dimensions of `CartCreate`; else
     /// none.
     #[tactic(auto, unfolding(crate::specs::Signatures::numbers))]
+    #[inline(always)]
     pub fn numbers(&self) -> &[u32]
         ensures { result.now ≡ numbers self.now }
     {
@@ -276,6 +194,7 @@ impl Signature {
 
     /// The periods of `CartCreate`, the dimensions that `CartSub` keeps; else none.
     #[tactic(auto, unfolding(crate::specs::Signatures::flags))]
+    #[inline(always)]
     pub fn flags(&self) -> &[bool]
         ensures { result.now ≡ flags self.now }
     {
@@ -320,402 +239,63 @@ impl Signature {
         ensures equal { IsTrue result ↔ (self.now ≡ other.now) }
         ensures test { result ≡ same_signature self.now other.now }
     {
-        self.is_alike(other)
-    }
-
-    // The same: where neither has a list, by one look at each.
-    #[tactic(auto, unfolding(crate::specs::Signatures::same_signature, crate::specs::Signatures::kind, crate::specs::Signatures::root, crate::specs::Signatures::reduction, crate::specs::Signatures::elem_type, crate::specs::Signatures::count, crate::specs::Signatures::numbers, crate::specs::Signatures::flags))]
-    fn is_alike(&self, other: &Signature) -> bool
-        ensures { result ≡ same_signature self.now other.now }
-    {
-        match self {
-            Signature::Bcast {
-                root,
-                elem_type,
-                count,
-            } => match other {
-                Signature::Bcast {
-                    root: r,
-                    elem_type: t,
-                    count: n,
-                } => *root == *r && are_same_blocks(*elem_type, *count, *t, *n),
-                _ => self.has_fields_of(other),
-            },
-            Signature::Gather {
-                root,
-                elem_type,
-                count,
-            } => match other {
-                Signature::Gather {
-                    root: r,
-                    elem_type: t,
-                    count: n,
-                } => *root == *r && are_same_blocks(*elem_type, *count, *t, *n),
-                _ => self.has_fields_of(other),
-            },
-            Signature::Gatherv { root, elem_type } => match other {
-                Signature::Gatherv {
-                    root: r,
-                    elem_type: t,
-                } => *root == *r && *elem_type == *t,
-                _ => self.has_fields_of(other),
-            },
-            Signature::Scatter {
-                root,
-                elem_type,
-                count,
-            } => match other {
-                Signature::Scatter {
-                    root: r,
-                    elem_type: t,
-                    count: n,
-                } => *root == *r && are_same_blocks(*elem_type, *count, *t, *n),
-                _ => self.has_fields_of(other),
-            },
-            Signature::Scatterv { root, elem_type } => match other {
-                Signature::Scatterv {
-                    root: r,
-                    elem_type: t,
-                } => *root == *r && *elem_type == *t,
-                _ => self.has_fields_of(other),
-            },
-            Signature::Allgather { elem_type, count } => match other {
-                Signature::Allgather {
-                    elem_type: t,
-                    count: n,
-                } => are_same_blocks(*elem_type, *count, *t, *n),
-                _ => self.has_fields_of(other),
-            },
-            Signature::Allgatherv { elem_type } => match other {
-                Signature::Allgatherv { elem_type: t } => *elem_type == *t,
-                _ => self.has_fields_of(other),
-            },
-            Signature::Alltoall { elem_type, count } => match other {
-                Signature::Alltoall {
-                    elem_type: t,
-                    count: n,
-                } => are_same_blocks(*elem_type, *count, *t, *n),
-                _ => self.has_fields_of(other),
-            },
-            Signature::Alltoallv { elem_type } => match other {
-                Signature::Alltoallv { elem_type: t } => *elem_type == *t,
-                _ => self.has_fields_of(other),
-            },
-            Signature::Reduce {
-                root,
-                op,
-                elem_type,
-                count,
-            } => match other {
-                Signature::Reduce {
-                    root: r,
-                    op: o,
-                    elem_type: t,
-                    count: n,
-                } => *root == *r && are_same_folds(*op, *elem_type, *count, *o, *t, *n),
-                _ => self.has_fields_of(other),
-            },
-            Signature::Allreduce {
-                op,
-                elem_type,
-                count,
-            } => match other {
-                Signature::Allreduce {
-                    op: o,
-                    elem_type: t,
-                    count: n,
-                } => are_same_folds(*op, *elem_type, *count, *o, *t, *n),
-                _ => self.has_fields_of(other),
-            },
-            Signature::ReduceScatterBlock {
-                op,
-                elem_type,
-                count,
-            } => match other {
-                Signature::ReduceScatterBlock {
-                    op: o,
-                    elem_type: t,
-                    count: n,
-                } => are_same_folds(*op, *elem_type, *count, *o, *t, *n),
-                _ => self.has_fields_of(other),
-            },
-            Signature::Scan {
-                op,
-                elem_type,
-                count,
-            } => match other {
-                Signature::Scan {
-                    op: o,
-                    elem_type: t,
-                    count: n,
-                } => are_same_folds(*op, *elem_type, *count, *o, *t, *n),
-                _ => self.has_fields_of(other),
-            },
-            Signature::Exscan {
-                op,
-                elem_type,
-                count,
-            } => match other {
-                Signature::Exscan {
-                    op: o,
-                    elem_type: t,
-                    count: n,
-                } => are_same_folds(*op, *elem_type, *count, *o, *t, *n),
-                _ => self.has_fields_of(other),
-            },
-            Signature::NeighborAllgather { elem_type, count } => match other {
-                Signature::NeighborAllgather {
-                    elem_type: t,
-                    count: n,
-                } => are_same_blocks(*elem_type, *count, *t, *n),
-                _ => self.has_fields_of(other),
-            },
-            Signature::NeighborAllgatherv { elem_type } => match other {
-                Signature::NeighborAllgatherv { elem_type: t } => *elem_type == *t,
-                _ => self.has_fields_of(other),
-            },
-            Signature::NeighborAlltoall { elem_type, count } => match other {
-                Signature::NeighborAlltoall {
-                    elem_type: t,
-                    count: n,
-                } => are_same_blocks(*elem_type, *count, *t, *n),
-                _ => self.has_fields_of(other),
-            },
-            Signature::NeighborAlltoallv { elem_type } => match other {
-                Signature::NeighborAlltoallv { elem_type: t } => *elem_type == *t,
-                _ => self.has_fields_of(other),
-            },
-            _ => self.has_fields_of(other),
-        }
+        self.has_fields_of(other)
     }
 
     #[tactic(auto, unfolding(crate::specs::Signatures::same_signature))]
     fn has_fields_of(&self, other: &Signature) -> bool
         ensures { result ≡ same_signature self.now other.now }
     {
-        is_same_kind(self.kind(), other.kind())
-            && is_same_number(self.root(), other.root())
-            && is_same_op(self.op(), other.op())
-            && is_same_type(self.elem_type(), other.elem_type())
-            && is_same_number(self.count(), other.count())
-            && self.numbers() == other.numbers()
-            && are_same_flags(self.flags(), other.flags())
+        if !is_same_kind(self.kind(), other.kind()) {
+            return false;
+        }
+        let fields = self.fields();
+        let others = other.fields();
+        is_same_number(fields.root, others.root)
+            && is_same_op(fields.op, others.op)
+            && is_same_type(fields.elem_type, others.elem_type)
+            && is_same_number(fields.count, others.count)
+            && self.has_lists_of(other)
+    }
+
+    // Whether both have the same lists. Most have none, and are seen to have none at once.
+    #[inline(always)]
+    #[tactic(auto, unfolding(crate::specs::Signatures::numbers, crate::specs::Signatures::flags))]
+    fn has_lists_of(&self, other: &Signature) -> bool
+        ensures { result ≡ (bytes_eq (numbers self.now) (numbers other.now)
+            && same_flags (flags self.now) (flags other.now)) }
+    {
+        if self.is_without_list() && other.is_without_list() {
+            return true;
+        }
+        self.numbers() == other.numbers() && are_same_flags(self.flags(), other.flags())
+    }
+
+    // Whether no field is a list.
+    #[inline(always)]
+    #[tactic(auto, unfolding(crate::specs::Signatures::numbers, crate::specs::Signatures::flags))]
+    fn is_without_list(&self) -> bool
+        ensures numbers { IsTrue result → numbers self.now ≡ [] }
+        ensures flags { IsTrue result → flags self.now ≡ [] }
+    {
+        match self {
+            Signature::ReduceScatter { .. } => false,
+            Signature::Create { .. } => false,
+            Signature::CartCreate { .. } => false,
+            Signature::CartSub { .. } => false,
+            _ => true,
+        }
     }
 
     /// An equal signature. Takes memory only for numbers and flags.
-    #[tactic(auto, unfolding(crate::specs::Signatures::numbers, crate::specs::Signatures::flags, crate::specs::Signatures::has_list))]
+    #[tactic(auto, using(crate::proofs::SignatureLemmas::signature_is))]
     pub fn copy(&self, alloc: Global) -> Result<Signature, NoMemory>
         ensures made { IfOk result (λ sig. sig ≡ self.now) }
         ensures memory { IsErr result → 0 < length (numbers self.now) + length (flags self.now) }
     {
-        match self {
-            Signature::ReduceScatter {
-                op,
-                elem_type,
-                counts,
-            } => Ok(Signature::ReduceScatter {
-                op: *op,
-                elem_type: *elem_type,
-                counts: counts.copy(alloc)?,
-            }),
-            Signature::Create { ranks } => Ok(Signature::Create {
-                ranks: ranks.copy(alloc)?,
-            }),
-            Signature::CartCreate { dims, periods } => Ok(Signature::CartCreate {
-                dims: dims.copy(alloc)?,
-                periods: periods.copy(alloc)?,
-            }),
-            Signature::CartSub { keep } => Ok(Signature::CartSub {
-                keep: keep.copy(alloc)?,
-            }),
-            _ => Ok(self.without_lists()),
-        }
-    }
-
-    // Whether some field is a list.
-    #[tactic(auto, unfolding(crate::specs::Signatures::has_list))]
-    pub(crate) fn has_list(&self) -> bool
-        ensures { result ≡ has_list self.now }
-    {
-        match self {
-            Signature::CartSub { .. }
-            | Signature::CartCreate { .. }
-            | Signature::Create { .. }
-            | Signature::ReduceScatter { .. } => true,
-            _ => false,
-        }
-    }
-
-    // An equal signature, where no field is a list.
-    #[tactic(auto, unfolding(crate::specs::Signatures::has_list))]
-    pub(crate) fn without_lists(&self) -> Signature
-        requires { has_list self.now ≡ false }
-        ensures { result ≡ self.now }
-    {
-        match self {
-            Signature::Barrier => Signature::Barrier,
-            Signature::Bcast {
-                root,
-                elem_type,
-                count,
-            } => Signature::Bcast {
-                root: *root,
-                elem_type: *elem_type,
-                count: *count,
-            },
-            Signature::Gather {
-                root,
-                elem_type,
-                count,
-            } => Signature::Gather {
-                root: *root,
-                elem_type: *elem_type,
-                count: *count,
-            },
-            Signature::Gatherv { root, elem_type } => Signature::Gatherv {
-                root: *root,
-                elem_type: *elem_type,
-            },
-            Signature::Scatter {
-                root,
-                elem_type,
-                count,
-            } => Signature::Scatter {
-                root: *root,
-                elem_type: *elem_type,
-                count: *count,
-            },
-            Signature::Scatterv { root, elem_type } => Signature::Scatterv {
-                root: *root,
-                elem_type: *elem_type,
-            },
-            Signature::Allgather { elem_type, count } => Signature::Allgather {
-                elem_type: *elem_type,
-                count: *count,
-            },
-            Signature::Allgatherv { elem_type } => Signature::Allgatherv {
-                elem_type: *elem_type,
-            },
-            Signature::Alltoall { elem_type, count } => Signature::Alltoall {
-                elem_type: *elem_type,
-                count: *count,
-            },
-            Signature::Alltoallv { elem_type } => Signature::Alltoallv {
-                elem_type: *elem_type,
-            },
-            Signature::Reduce {
-                root,
-                op,
-                elem_type,
-                count,
-            } => Signature::Reduce {
-                root: *root,
-                op: *op,
-                elem_type: *elem_type,
-                count: *count,
-            },
-            Signature::Allreduce {
-                op,
-                elem_type,
-                count,
-            } => Signature::Allreduce {
-                op: *op,
-                elem_type: *elem_type,
-                count: *count,
-            },
-            Signature::ReduceScatterBlock {
-                op,
-                elem_type,
-                count,
-            } => Signature::ReduceScatterBlock {
-                op: *op,
-                elem_type: *elem_type,
-                count: *count,
-            },
-            Signature::Scan {
-                op,
-                elem_type,
-                count,
-            } => Signature::Scan {
-                op: *op,
-                elem_type: *elem_type,
-                count: *count,
-            },
-            Signature::Exscan {
-                op,
-                elem_type,
-                count,
-            } => Signature::Exscan {
-                op: *op,
-                elem_type: *elem_type,
-                count: *count,
-            },
-            Signature::NeighborAllgather { elem_type, count } => Signature::NeighborAllgather {
-                elem_type: *elem_type,
-                count: *count,
-            },
-            Signature::NeighborAllgatherv { elem_type } => Signature::NeighborAllgatherv {
-                elem_type: *elem_type,
-            },
-            Signature::NeighborAlltoall { elem_type, count } => Signature::NeighborAlltoall {
-                elem_type: *elem_type,
-                count: *count,
-            },
-            Signature::NeighborAlltoallv { elem_type } => Signature::NeighborAlltoallv {
-                elem_type: *elem_type,
-            },
-            Signature::Dup => Signature::Dup,
-            Signature::Split => Signature::Split,
-            _ => unreachable!(),
-        }
-    }
-}
-
-fn are_same_blocks(t: ElemType, n: u32, u: ElemType, m: u32) -> bool
-    ensures { result ≡ (type_number t == type_number u && n == m) }
-{
-    t == u && n == m
-}
-
-fn are_same_folds(o: Op, t: ElemType, n: u32, p: Op, u: ElemType, m: u32) -> bool
-    ensures { result ≡ (op_number o == op_number p && type_number t == type_number u && n == m) }
-{
-    o == p && t == u && n == m
-}
-
-fn is_same_kind(left: Kind, right: Kind) -> bool
-    ensures { result ≡ (kind_number left == kind_number right) }
-{
-    left == right
-}
-
-fn is_same_number(left: Option<u32>, right: Option<u32>) -> bool
-    ensures { result ≡ same_by (λ n. n) left right }
-{
-    match (left, right) {
-        (Some(left), Some(right)) => left == right,
-        (None, None) => true,
-        _ => false,
-    }
-}
-
-fn is_same_op(left: Option<Op>, right: Option<Op>) -> bool
-    ensures { result ≡ same_by op_number left right }
-{
-    match (left, right) {
-        (Some(left), Some(right)) => left == right,
-        (None, None) => true,
-        _ => false,
-    }
-}
-
-fn is_same_type(left: Option<ElemType>, right: Option<ElemType>) -> bool
-    ensures { result ≡ same_by type_number left right }
-{
-    match (left, right) {
-        (Some(left), Some(right)) => left == right,
-        (None, None) => true,
-        _ => false,
+        let numbers = Numbers::of(self.numbers(), alloc)?;
+        let flags = Flags::of(self.flags(), alloc)?;
+        Ok(Signature::of(self.fields(), numbers, flags))
     }
 }
 

@@ -1,5 +1,5 @@
 //! What a member states of an instance, without its elements.
-ghost use Rattle.std.specs.Prelude.{◌≡◌, ◌<◌, length, IsErr, IfOk, false};
+ghost use Rattle.std.specs.Prelude.{◌≡◌, ◌<◌, length, IsErr, IfOk};
 
 use super::fault::{ShapeFault, shape_fault};
 use super::lists::Numbers;
@@ -65,7 +65,6 @@ pub struct Stated {
 impl Stated {
     ghost use Rattle.coll_routes.specs.Rolls.{listed};
     ghost use Rattle.coll_routes.specs.Faults.{stated_fault};
-    ghost use Rattle.coll_routes.specs.Signatures.{has_list};
 
     /// The first fault that holds of this statement of a rank, where its elements have the
     /// signature's type. Takes no memory.
@@ -88,14 +87,6 @@ impl Stated {
         ensures made { IfOk result (λ stated. stated ≡ self.now) }
         ensures memory { IsErr result → 0 < listed self.now }
     {
-        match self.own {
-            Own::Plain => {
-                if !self.sig.has_list() {
-                    return Ok(self.plain());
-                }
-            }
-            _ => {}
-        }
         Ok(Stated {
             sig: self.sig.copy(alloc)?,
             own: self.own.copy(alloc)?,
@@ -103,21 +94,5 @@ impl Stated {
             label: self.label,
             barred: self.barred,
         })
-    }
-
-    // An equal statement, of a signature without lists and of nothing for itself.
-    fn plain(&self) -> Stated
-        requires own { self.now.own ≡ Own.Plain }
-        requires lists { has_list self.now.sig ≡ false }
-        ensures { result ≡ self.now }
-    {
-        let barred = self.barred;
-        Stated {
-            sig: self.sig.without_lists(),
-            own: Own::Plain,
-            given: self.given,
-            label: self.label,
-            barred,
-        }
     }
 }

@@ -20,11 +20,12 @@ use Rattle.mpi_elems.specs.Types.{type_name, type_of}
 use Rattle.coll_routes.specs.declared.kind.Kind.{Kind}
 use Rattle.coll_routes.specs.declared.kind.Kind.TheVariants as kinds
 use Rattle.coll_routes.specs.declared.signature.Signature.{Signature}
-use Rattle.coll_routes.specs.declared.signature.Signature.TheVariants as signatures
 use Rattle.coll_routes.specs.declared.statement.Own.{Own}
 use Rattle.coll_routes.specs.declared.statement.Own.TheVariants as owns
 use Rattle.coll_routes.specs.Kinds.{kind_name, kind_of}
 use Rattle.coll_routes.specs.Signatures.{kind, root, reduction, elem_type, count, numbers, flags}
+use Rattle.coll_routes.specs.Signatures.{signature_by}
+use Rattle.coll_routes.proofs.CollRoutesLemmas.{signature_is}
 use Rattle.coll_text.specs.declared.fault.LineFault.TheVariants.{BadField}
 use Rattle.coll_text.specs.declared.table.Form.{Form}
 use Rattle.coll_text.specs.declared.table.Form.TheVariants.{Root, Operation, Typed, Count, Counts}
@@ -245,7 +246,7 @@ fields_again (s ∷ ss) f g rest h =
 -- the fields of a kind make its signature
 pub signature_again : (k : Kind) (f : Fields) →
     signature_of k (put_all (forms_of k) f no_fields) ≡ signature_of k f
-unfolding forms_of signature_of
+unfolding forms_of signature_by
 signature_again kinds.Barrier f = refl
 signature_again kinds.Bcast f = refl
 signature_again kinds.Gather f = refl
@@ -303,32 +304,7 @@ own_again kinds.CartSub f = refl
 -- ---- statements
 
 signature_back : (sig : Signature) (own : Own) → signature_of (kind sig) (fields_of sig own) ≡ sig
-unfolding kind signature_of root reduction elem_type count numbers flags
-signature_back signatures.Barrier _ = refl
-signature_back (signatures.Bcast r ty n) _ = refl
-signature_back (signatures.Gather r ty n) _ = refl
-signature_back (signatures.Gatherv r ty) _ = refl
-signature_back (signatures.Scatter r ty n) _ = refl
-signature_back (signatures.Scatterv r ty) _ = refl
-signature_back (signatures.Allgather ty n) _ = refl
-signature_back (signatures.Allgatherv ty) _ = refl
-signature_back (signatures.Alltoall ty n) _ = refl
-signature_back (signatures.Alltoallv ty) _ = refl
-signature_back (signatures.Reduce r op ty n) _ = refl
-signature_back (signatures.Allreduce op ty n) _ = refl
-signature_back (signatures.ReduceScatter op ty ns) _ = refl
-signature_back (signatures.ReduceScatterBlock op ty n) _ = refl
-signature_back (signatures.Scan op ty n) _ = refl
-signature_back (signatures.Exscan op ty n) _ = refl
-signature_back (signatures.NeighborAllgather ty n) _ = refl
-signature_back (signatures.NeighborAllgatherv ty) _ = refl
-signature_back (signatures.NeighborAlltoall ty n) _ = refl
-signature_back (signatures.NeighborAlltoallv ty) _ = refl
-signature_back signatures.Dup _ = refl
-signature_back signatures.Split _ = refl
-signature_back (signatures.Create ns) _ = refl
-signature_back (signatures.CartCreate ns bs) _ = refl
-signature_back (signatures.CartSub bs) _ = refl
+signature_back sig own = signature_is sig
 
 own_back : (k : Kind) (sig : Signature) (own : Own) → is_own_of k own ≡ true →
     own_of k (fields_of sig own) ≡ own

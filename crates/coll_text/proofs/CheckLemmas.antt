@@ -10,7 +10,7 @@ use Rattle.mpi_elems.specs.Types.{type_of}
 use Rattle.coll_routes.specs.declared.kind.Kind.{Kind}
 use Rattle.coll_routes.specs.declared.kind.Kind.TheVariants as kinds
 use Rattle.coll_routes.specs.Kinds.{kind_of}
-use Rattle.coll_routes.specs.Signatures.{elem_type}
+use Rattle.coll_routes.specs.Signatures.{elem_type, signature_by}
 use Rattle.coll_text.specs.declared.fault.LineFault.{LineFault}
 use Rattle.coll_text.specs.declared.fault.LineFault.TheVariants.{BadField, BadKind, BadType}
 use Rattle.coll_text.specs.declared.fault.LineFault.TheVariants.{UnknownOp}
@@ -239,7 +239,7 @@ fields_type told (s ∷ ss) f ws =
 
 kind_type : (kind : Kind) (f : Fields) →
     if_stated (states_type (forms_of kind)) f.elem_type ≡ elem_type (signature_of kind f)
-unfolding forms_of signature_of elem_type
+unfolding forms_of signature_by elem_type
 kind_type kinds.Barrier f = refl
 kind_type kinds.Bcast f = refl
 kind_type kinds.Gather f = refl

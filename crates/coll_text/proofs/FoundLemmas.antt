@@ -19,6 +19,7 @@ use Rattle.coll_routes.specs.declared.signature.Signature.{Signature}
 use Rattle.coll_routes.specs.declared.statement.Own.{Own}
 use Rattle.coll_routes.specs.Kinds.{kind_name, kind_of, all_kinds}
 use Rattle.coll_routes.specs.Signatures.{kind, root, reduction, elem_type, count, numbers, flags}
+use Rattle.coll_routes.specs.Signatures.{signature_by}
 use Rattle.coll_text.specs.declared.fault.LineFault.{LineFault}
 use Rattle.coll_text.specs.declared.fault.LineFault.TheVariants.{BadShape, BadField, BadKind}
 use Rattle.coll_text.specs.declared.fault.LineFault.TheVariants.{BadType, UnknownOp}
@@ -434,7 +435,7 @@ kind_found k g h ws rest e = fields_found (forms_of k) g h ws rest (distinct k) 
 -- ---- statements
 
 kind_made : (k : Kind) (f : Fields) → kind (signature_of k f) ≡ k
-unfolding kind signature_of
+unfolding kind signature_by
 kind_made kinds.Barrier f = refl
 kind_made kinds.Bcast f = refl
 kind_made kinds.Gather f = refl
@@ -464,7 +465,7 @@ kind_made kinds.CartSub f = refl
 -- a kind's statement has in its fields what it was made of
 words_made : (k : Kind) (f : Fields) →
     words_of (forms_of k) f ≡ words_of (forms_of k) (fields_of (signature_of k f) (own_of k f))
-unfolding forms_of signature_of own_of word_of root reduction elem_type count numbers flags
+unfolding forms_of signature_by own_of word_of root reduction elem_type count numbers flags
 words_made kinds.Barrier f = refl
 words_made kinds.Bcast f = refl
 words_made kinds.Gather f = refl

@@ -7,6 +7,7 @@ use Rattle.mpi_elems.specs.Types.{type_of}
 use Rattle.coll_routes.specs.declared.kind.Kind.{Kind}
 use Rattle.coll_routes.specs.declared.kind.Kind.TheVariants as kinds
 use Rattle.coll_routes.specs.declared.signature.Signature.{Signature}
+use Rattle.coll_routes.specs.Signatures.{signature_by}
 use Rattle.coll_routes.specs.declared.statement.Own.{Own}
 use Rattle.coll_routes.specs.declared.statement.Own.TheVariants as owns
 use Rattle.coll_text.specs.declared.fault.LineFault.{LineFault}
@@ -186,7 +187,7 @@ of_rooted r = record no_fields { root = r.0; elem_type = r.1; count = r.2 }
 -- what is read straight is what the fields make
 pub plain_is : (kind : Kind) (ws : List Word) → is_plain kind ≡ true →
     stated_at kind ws ≡ alone (plain_at kind ws)
-unfolding plain_at stated_at forms_of signature_of own_of fields_at
+unfolding plain_at stated_at forms_of signature_by own_of fields_at
 plain_is kinds.Barrier ws h = refl
 plain_is kinds.Dup ws h = refl
 plain_is kinds.Bcast ws h =

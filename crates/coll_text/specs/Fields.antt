@@ -152,7 +152,16 @@ is_plain kinds.CartCreate = false
 is_plain kinds.CartSub = false
 is_plain _ = true
 
--- the same of these, read field by field
+-- those among these that reduce
+abbrev pub reduces : Kind → Bool
+reduces kinds.Reduce = true
+reduces kinds.Allreduce = true
+reduces kinds.ReduceScatterBlock = true
+reduces kinds.Scan = true
+reduces kinds.Exscan = true
+reduces _ = false
+
+-- the same of plain kinds, read field by field
 unfoldable pub plain_at : Kind → List Word → Result (Signature × List Word) LineFault
 plain_at kinds.Barrier ws = Ok (signatures.Barrier, ws)
 plain_at kinds.Bcast ws = rooted_at ws >>= λ r. Ok (signatures.Bcast r.0.0 r.0.1 r.0.2, r.1)

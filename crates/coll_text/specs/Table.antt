@@ -7,10 +7,10 @@ use Rattle.mpi_elems.specs.declared.elem_type.ElemType.TheVariants as types
 use Rattle.coll_routes.specs.declared.kind.Kind.{Kind}
 use Rattle.coll_routes.specs.declared.kind.Kind.TheVariants as kinds
 use Rattle.coll_routes.specs.declared.signature.Signature.{Signature}
-use Rattle.coll_routes.specs.declared.signature.Signature.TheVariants as signatures
 use Rattle.coll_routes.specs.declared.statement.Own.{Own}
 use Rattle.coll_routes.specs.declared.statement.Own.TheVariants as owns
 use Rattle.coll_routes.specs.Signatures.{root, reduction, elem_type, count, numbers, flags}
+use Rattle.coll_routes.specs.Signatures.{signature_by}
 use Rattle.coll_routes.specs.Rolls.{counts_in}
 use Rattle.coll_text.specs.declared.table.Form.{Form}
 use Rattle.coll_text.specs.declared.table.Form.TheVariants.{Root, Operation, Typed, Count, Counts}
@@ -44,32 +44,9 @@ forms_of kinds.Create = Listed ∷ []
 forms_of kinds.CartCreate = Listed ∷ Flagged ∷ []
 forms_of kinds.CartSub = Flagged ∷ []
 
-unfoldable pub signature_of : Kind → Fields → Signature
-signature_of kinds.Barrier f = signatures.Barrier
-signature_of kinds.Bcast f = signatures.Bcast f.root f.elem_type f.count
-signature_of kinds.Gather f = signatures.Gather f.root f.elem_type f.count
-signature_of kinds.Gatherv f = signatures.Gatherv f.root f.elem_type
-signature_of kinds.Scatter f = signatures.Scatter f.root f.elem_type f.count
-signature_of kinds.Scatterv f = signatures.Scatterv f.root f.elem_type
-signature_of kinds.Allgather f = signatures.Allgather f.elem_type f.count
-signature_of kinds.Allgatherv f = signatures.Allgatherv f.elem_type
-signature_of kinds.Alltoall f = signatures.Alltoall f.elem_type f.count
-signature_of kinds.Alltoallv f = signatures.Alltoallv f.elem_type
-signature_of kinds.Reduce f = signatures.Reduce f.root f.op f.elem_type f.count
-signature_of kinds.Allreduce f = signatures.Allreduce f.op f.elem_type f.count
-signature_of kinds.ReduceScatter f = signatures.ReduceScatter f.op f.elem_type f.list
-signature_of kinds.ReduceScatterBlock f = signatures.ReduceScatterBlock f.op f.elem_type f.count
-signature_of kinds.Scan f = signatures.Scan f.op f.elem_type f.count
-signature_of kinds.Exscan f = signatures.Exscan f.op f.elem_type f.count
-signature_of kinds.NeighborAllgather f = signatures.NeighborAllgather f.elem_type f.count
-signature_of kinds.NeighborAllgatherv f = signatures.NeighborAllgatherv f.elem_type
-signature_of kinds.NeighborAlltoall f = signatures.NeighborAlltoall f.elem_type f.count
-signature_of kinds.NeighborAlltoallv f = signatures.NeighborAlltoallv f.elem_type
-signature_of kinds.Dup f = signatures.Dup
-signature_of kinds.Split f = signatures.Split
-signature_of kinds.Create f = signatures.Create f.list
-signature_of kinds.CartCreate f = signatures.CartCreate f.list f.flags
-signature_of kinds.CartSub f = signatures.CartSub f.flags
+-- what all members state alike
+abbrev pub signature_of : Kind → Fields → Signature
+signature_of kind f = signature_by kind f.root f.op f.elem_type f.count f.list f.flags
 
 -- what a poster states for itself alone
 unfoldable pub own_of : Kind → Fields → Own

@@ -7,6 +7,7 @@ ghost use Rattle.coll_routes.specs.Owns.{is_own_of};
 ghost use Rattle.coll_text.specs.Fields.{colour_of, with_field, fields_at, statement_at};
 ghost use Rattle.coll_text.specs.Fields.{elem_type_at, op_at, block_at, folded_at, rooted_at};
 ghost use Rattle.coll_text.specs.Fields.{stated_at, is_plain, plain_at, reduced_at, gathered_at};
+ghost use Rattle.coll_text.specs.Fields.{reduces};
 
 use crate::fault::LineFault;
 use crate::lists::{flags_in, numbers_in};
@@ -149,7 +150,60 @@ fn is_plain(kind: Kind) -> bool
     }
 }
 
-// Reads the fields of such a kind straight into its signature.
+// Reads the fields of such a kind that reduces, straight into its signature.
+#[tactic(auto, unfolding(crate::specs::Fields::plain_at, coll_routes::specs::Signatures::kind))]
+fn next_reduction(kind: Kind, words: &mut Parts) -> Result<Signature, LineFault>
+    requires { reduces kind ≡ true }
+    ensures statement { Takes (λ s. s) result words.new (plain_at kind words.old) }
+    ensures form { IfOk result (λ s. is_own_of (kind_of_signature s) Own.Plain ≡ true) }
+{
+    match kind {
+        Kind::Allreduce => {
+            let (op, elem_type, count) = next_folded(words)?;
+            Ok(Signature::Allreduce {
+                op,
+                elem_type,
+                count,
+            })
+        }
+        Kind::ReduceScatterBlock => {
+            let (op, elem_type, count) = next_folded(words)?;
+            Ok(Signature::ReduceScatterBlock {
+                op,
+                elem_type,
+                count,
+            })
+        }
+        Kind::Scan => {
+            let (op, elem_type, count) = next_folded(words)?;
+            Ok(Signature::Scan {
+                op,
+                elem_type,
+                count,
+            })
+        }
+        Kind::Exscan => {
+            let (op, elem_type, count) = next_folded(words)?;
+            Ok(Signature::Exscan {
+                op,
+                elem_type,
+                count,
+            })
+        }
+        Kind::Reduce => {
+            let (root, op, elem_type, count) = next_reduced(words)?;
+            Ok(Signature::Reduce {
+                root,
+                op,
+                elem_type,
+                count,
+            })
+        }
+        _ => unreachable!(),
+    }
+}
+
+// The same of each such kind.
 #[tactic(auto, unfolding(crate::specs::Fields::plain_at, coll_routes::specs::Signatures::kind))]
 fn next_signature(kind: Kind, words: &mut Parts) -> Result<Signature, LineFault>
     ensures statement { Takes (λ s. s) result words.new (plain_at kind words.old) }
@@ -197,47 +251,6 @@ fn next_signature(kind: Kind, words: &mut Parts) -> Result<Signature, LineFault>
             let (elem_type, count) = next_block(words)?;
             Ok(Signature::NeighborAlltoall { elem_type, count })
         }
-        Kind::Allreduce => {
-            let (op, elem_type, count) = next_folded(words)?;
-            Ok(Signature::Allreduce {
-                op,
-                elem_type,
-                count,
-            })
-        }
-        Kind::ReduceScatterBlock => {
-            let (op, elem_type, count) = next_folded(words)?;
-            Ok(Signature::ReduceScatterBlock {
-                op,
-                elem_type,
-                count,
-            })
-        }
-        Kind::Scan => {
-            let (op, elem_type, count) = next_folded(words)?;
-            Ok(Signature::Scan {
-                op,
-                elem_type,
-                count,
-            })
-        }
-        Kind::Exscan => {
-            let (op, elem_type, count) = next_folded(words)?;
-            Ok(Signature::Exscan {
-                op,
-                elem_type,
-                count,
-            })
-        }
-        Kind::Reduce => {
-            let (root, op, elem_type, count) = next_reduced(words)?;
-            Ok(Signature::Reduce {
-                root,
-                op,
-                elem_type,
-                count,
-            })
-        }
         Kind::Gatherv => {
             let (root, elem_type) = next_gathered(words)?;
             Ok(Signature::Gatherv { root, elem_type })
@@ -251,6 +264,8 @@ fn next_signature(kind: Kind, words: &mut Parts) -> Result<Signature, LineFault>
             Ok(Signature::NeighborAllgatherv { elem_type })
         }
         Kind::Dup => Ok(Signature::Dup),
+        Kind::Reduce | Kind::Allreduce | Kind::ReduceScatterBlock | Kind::Scan | Kind::Exscan =>
+            next_reduction(kind, words),
         _ => Err(LineFault::BadKind),
     }
 }

@@ -101,7 +101,7 @@ pub(crate) fn forms(kind: Kind) -> &'static [Form]
 
 /// What the fields of a kind with lists, or with a colour and a key, make: what all members state
 /// alike, and what the poster states for itself.
-#[tactic(auto, unfolding(crate::specs::Table::signature_of, crate::specs::Table::own_of, coll_routes::specs::Signatures::kind))]
+#[tactic(auto, unfolding(coll_routes::specs::Signatures::signature_by, crate::specs::Table::own_of, coll_routes::specs::Signatures::kind))]
 pub(crate) fn made_of(kind: Kind, fields: Fields) -> (Signature, Own)
     requires { is_plain kind ≡ false }
     ensures signature { result.0 ≡ signature_of kind fields }

@@ -6,7 +6,7 @@ ghost use Rattle.coll_pending.specs.Lists.{fits, room_by};
 
 use crate::parties::{flags, lowest, numbers, plain};
 use coll_pending::laws::faultless_signatures_fit;
-use coll_pending::{ArrivalFault, Arrived, Next, NoMemory, Pending, Unarrived};
+use coll_pending::{ArrivalFault, Arrived, Meeting, Next, NoMemory, Pending, Unarrived};
 use coll_routes::{Numbers, Own, Roll, Shape, Signature, Stated, shape_fault};
 use coll_values::Full;
 use mpi_elems::ElemType;
@@ -63,7 +63,7 @@ impl Model for Table {
 }
 
 impl Table {
-    ghost use Rattle.coll_pending.specs.Waiting.{view_of_pending, next};
+    ghost use Rattle.coll_pending.specs.Waiting.{view_of_pending, IsMeetingOf};
 
     fn new(rt: &impl Abort, alloc: Global, size: u32, calls: Calls) -> Table {
         Table {
@@ -178,21 +178,19 @@ impl Table {
         parts: &[u64],
     ) -> Result<(), NoMemory> {
         let (comm, rank) = place;
-        let found = self.pending.next(comm, rank, &sig);
-        assert_eq!(rt; found, next);
-        if found == Next::Mismatch {
+        let meeting = self.pending.look(comm, rank, &sig);
+        assert_eq!(rt; meeting.does, next);
+        if meeting.does == Next::Mismatch {
             drop(sig);
             return Ok(());
         }
-        let agreed = self.pending.next_agreed(comm, rank, &sig);
-        assert_eq!(rt; agreed, next);
         let stated = stated_for(sig);
-        if agreed == Next::Joins {
+        if meeting.does == Next::Joins {
             assert!(rt; parts.is_empty());
-            self.join_others(rt, place, stated, part);
+            self.join_others(rt, meeting, stated, part);
             return Ok(());
         }
-        let answer = self.enter(rt, place, stated, part);
+        let answer = self.enter(rt, meeting, stated, part);
         let ended = expect_answer(rt, &answer, part, next, parts);
         expect_little_room(rt, answer);
         ended
@@ -200,31 +198,32 @@ impl Table {
 
     // A post to an instance that waits for others too.
     #[tactic(auto, using(crate::proofs::KnownLemmas::member_known))]
-    fn join_others(&mut self, rt: &impl Abort, place: (u32, u32), stated: Stated, part: u64)
-        requires { next (view_of_pending self.old) place.0 place.1 stated.sig ≡ Joins }
+    fn join_others(&mut self, rt: &impl Abort, meeting: Meeting, stated: Stated, part: u64)
+        requires met { IsMeetingOf (view_of_pending self.old) stated.sig meeting }
+        requires joins { meeting.does ≡ Joins }
     {
-        let (comm, rank) = place;
-        assert!(rt; rank < self.group.size() && self.pending.arrivals(comm, rank) < 100_000);
-        self.pending.join(comm, rank, stated, part);
+        assert!(rt; meeting.rank < self.group.size() && meeting.k < 100_000);
+        self.pending.join(meeting, stated, part);
     }
 
     // A post that opens an instance, or fills one.
     fn enter(
         &mut self,
         rt: &impl Abort,
-        place: (u32, u32),
+        meeting: Meeting,
         stated: Stated,
         part: u64,
     ) -> Result<Arrived<u64>, Unarrived<u64>>
-        requires { next (view_of_pending self.old) place.0 place.1 stated.sig ≢ Mismatch }
+        requires met { IsMeetingOf (view_of_pending self.old) stated.sig meeting }
+        requires agrees { meeting.does ≢ Mismatch }
     {
-        let (comm, rank) = place;
-        assert!(rt; rank < self.group.size() && self.pending.arrivals(comm, rank) < 100_000);
+        let Meeting { comm, rank, k, .. } = meeting;
+        assert!(rt; rank < self.group.size() && k < 100_000);
         assert!(rt; is_faultless(&self.shape, rank, &stated));
         match self.pending.ready(comm, rank, &self.group, &self.shape) {
             Ok(()) => Ok(
                 self.pending
-                    .arrive_ready(comm, rank, &self.group, &self.shape, stated, part),
+                    .arrive_ready(meeting, &self.group, &self.shape, stated, part),
             ),
             Err(_) => Err(Unarrived {
                 fault: ArrivalFault::NoMemory,

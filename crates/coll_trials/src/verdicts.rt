@@ -9,10 +9,10 @@ use mpi_elems::ElemType;
 use std::alloc::{AllocError, Global};
 use std::process::Abort;
 use trial_kit::policies::BANKS_AND_OIL;
-use wall_labels::{DATASET_LIMIT, DatasetId, Label, Op, PROCESS_LIMIT};
+use wall_labels::{DATASET_LIMIT, DatasetId, Label, Op, PROCESS_LIMIT, ProcessId};
 use wall_policy::Policy;
 use wall_rules::Histories;
-use wall_verdict::{Rule, Verdict, charged, decide, enter_label, passes_star, sanitised, settle};
+use wall_verdict::{Rule, Verdict, charged, decide, enter_passed, passes_star, sanitised, settle};
 
 const WORLD: [u32; 4] = [0, 1, 2, 3];
 
@@ -718,14 +718,21 @@ fn a_grant_between_rivals_looks_at_neighbours(rt: HostRuntime) {
     drop(policy);
 }
 
+// Whether the process may post elements with this label. Its history has the label then.
+fn enters(histories: &mut Histories, process: ProcessId, label: &Option<Label>) -> bool {
+    let passed = passes_star(histories, process, label);
+    enter_passed(histories, process, label, passed);
+    passed
+}
+
 // Public data passes for n0 until it has posted of crude; for a0 neither passes.
 fn posts(rt: &impl Abort, histories: &mut Histories) {
     let (public, crude) = (Some(Label::Public), Some(Label::Of(dataset(2))));
     assert!(rt; passes_star(histories, process(3), &public));
     assert!(rt; passes_star(histories, process(0), &None));
-    assert!(rt; !enter_label(histories, process(0), &public));
-    assert!(rt; !enter_label(histories, process(0), &crude));
-    assert!(rt; enter_label(histories, process(3), &crude));
+    assert!(rt; !enters(histories, process(0), &public));
+    assert!(rt; !enters(histories, process(0), &crude));
+    assert!(rt; enters(histories, process(3), &crude));
     assert!(rt; histories.has(process(3), dataset(2)) && !histories.has(process(0), dataset(2)));
     assert!(rt; !passes_star(histories, process(3), &public));
 }

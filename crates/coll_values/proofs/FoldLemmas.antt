@@ -15,6 +15,7 @@ use Rattle.mpi_elems.specs.declared.elem_type.ElemType.{ElemType}
 use Rattle.mpi_elems.specs.declared.elem_type.ElemType.TheVariants.{Int8}
 use Rattle.wall_labels.specs.declared.op.Op.{Op}
 use Rattle.mpi_cart.specs.Grids.{below}
+use Rattle.mpi_cart.proofs.MpiCartLemmas.{below_more}
 use Rattle.coll_routes.specs.declared.roll.Roll.{Roll}
 use Rattle.coll_routes.specs.Signatures.{elem_type}
 use Rattle.coll_routes.specs.Faults.{stated_type}
@@ -26,9 +27,6 @@ range_more a (suc n) = rw add-one (ap (λ xs. a ∷ xs) (ap (range_with_len (a +
     ∙ (range_more (a + 1) n
     ∙ ap (λ x. range_with_len (a + 1) n ++ x ∷ [])
     (let e : a + 1 + n ≡ a + suc n = omega arith in e))))
-
-below_more : (n : ℕ) → below (n + 1) ≡ below n ++ n ∷ []
-below_more n = range_more 0 n ∙ ap (λ x. below n ++ x ∷ []) (let e : 0 + n ≡ n = omega arith in e)
 
 -- how many elements the longest of so many rows has
 abbrev pub broadest : {E : Type 0} → ℕ → (ℕ → List E) → ℕ

@@ -27,7 +27,7 @@ use Rattle.coll_values.proofs.RoomLemmas.{map_map}
 
 -- ## forms of lists
 
-map_cons_option : {X Y : Type 0} (f : X → Y) (o : Option X) (xs : List X) →
+pub map_cons_option : {X Y : Type 0} (f : X → Y) (o : Option X) (xs : List X) →
     map f (cons_option o xs) ≡ cons_option (option_map f o) (map f xs)
 map_cons_option f None xs = refl
 map_cons_option f (Some x) xs = refl

@@ -15,7 +15,7 @@ use Rattle.mpi_cart.specs.Grids.{below}
 use Rattle.coll_routes.specs.Signatures.{elem_type}
 use Rattle.coll_routes.specs.Rolls.{goes, given}
 use Rattle.coll_values.specs.declared.full.Full.{Full}
-use Rattle.coll_values.specs.Instances.{elements_in, IsWhole}
+use Rattle.coll_values.specs.Instances.{part, elements_in, IsWhole}
 use Rattle.coll_values.specs.Values.{sent}
 
 module _ {E : Type 0} (test : ℕ → Bool) where
@@ -130,7 +130,7 @@ there_is [] i h = absurd (omega arith)
 there_is (x ∷ xs) zero h = (x, refl)
 there_is (x ∷ xs) (suc i) h = there_is xs i (omega arith)
 
-length_range : {X : Type 0} (xs : List X) (start len : ℕ) → start + len ≤ length xs →
+pub length_range : {X : Type 0} (xs : List X) (start len : ℕ) → start + len ≤ length xs →
     length (slice_range xs start (start + len)) ≡ len
 length_range xs start len h =
     let cut : length (take (start + len - start) (drop start xs)) ≡ start + len - start =
@@ -180,3 +180,16 @@ module _ (F : Full Contents) (i j t : ℕ) (p : Contents) (whole : IsWhole F)
         len ≡ length (sent F i j t)
     piece_length c = sym (length_range (elements p) start len piece_within)
         ∙ ap length (sent_some F i j t p whole there start len c)
+
+-- a piece is what is sent
+module _ (F : Full Contents) (i j t : ℕ) (whole : IsWhole F) (h : i < F.roll.shape.size) where
+  pub all_sent : (start len : ℕ) → ((x : ℕ) → x < given F.roll i →
+      (nat_le start x && nat_lt x (start + len)) ≡ goes F.roll i x j t) →
+      slice_range (part F i) start (start + len) ≡ sent F i j t
+  all_sent start len c =
+      let p = its_part F i j t whole h in
+      ap (λ o. slice_range (elements_in o) start (start + len)) p.1
+      ∙ sent_some F i j t p.0 whole p.1 start len c
+
+  pub none_sent : ((x : ℕ) → x < given F.roll i → false ≡ goes F.roll i x j t) → sent F i j t ≡ []
+  none_sent c = let p = its_part F i j t whole h in sym (sent_none F i j t p.0 whole p.1 c)

@@ -1,18 +1,18 @@
 -- Where a block comes from, and what type it has.
 use Rattle.std.proofs.Common.{◌≡◌, ℕ, zero, suc, ◌+◌, ◌<◌, ◌≤◌, List, [], ◌∷◌, ◌∙◌, ap, sym, refl}
-use Rattle.std.proofs.Common.{arith, Bool, true, false, not, ◌&&◌, Option, Some, None, nat_eq}
-use Rattle.std.proofs.Common.{replicate, flat_map, filter, filter_map, ⊎_elim, inl, inr}
+use Rattle.std.proofs.Common.{arith, Bool, true, false, ◌&&◌, Option, Some, None, nat_eq}
+use Rattle.std.proofs.Common.{nat_le, nat_lt, length, slice_range, flat_map, ⊎_elim, inl, inr}
 use Rattle.std.specs.Prelude.{unwrap_or, IsSome}
 use Rattle.std.specs.List.{range_with_len}
 use Rattle.std.proofs.lemmas.List.{append-nil}
-use Rattle.std.proofs.lemmas.Bool.{eqb-true, and_parts, cases_Bool, cases_lt, not-false}
+use Rattle.std.specs.Prelude.{if◌then◌else◌}
+use Rattle.std.proofs.lemmas.Bool.{eqb-true, eq-eqb, cases_Bool, cases_lt, not-false}
 use Rattle.wall_labels.specs.declared.op.Op.{Op}
 use Rattle.mpi_elems.specs.declared.elem_type.ElemType.{ElemType}
 use Rattle.mpi_elems.specs.declared.elem_type.ElemType.TheVariants.{Int8}
 use Rattle.mpi_elems.specs.Elements.{Element}
-use Rattle.mpi_elems.specs.Contents.{Contents}
+use Rattle.mpi_elems.specs.Contents.{Contents, elements}
 use Rattle.mpi_elems.specs.Operations.{is_allowed}
-use Rattle.mpi_cart.specs.Grids.{below, opposite}
 use Rattle.coll_routes.specs.declared.signature.Signature.{Signature}
 use Rattle.coll_routes.specs.declared.signature.Signature.TheVariants.{Barrier, Bcast, Gather}
 use Rattle.coll_routes.specs.declared.signature.Signature.TheVariants.{Gatherv, Scatter, Scatterv}
@@ -39,63 +39,17 @@ use Rattle.coll_routes.specs.Faults.{shape_fault, first_that, bad_count, bad_roo
 use Rattle.coll_routes.specs.Faults.{bad_colour, not_subgroup, bad_dims, no_topology, is_refused}
 use Rattle.coll_routes.specs.Faults.{stated_type}
 use Rattle.coll_routes.specs.Fit.{IsFit}
-use Rattle.coll_routes.proofs.CollRoutesLemmas.{no_fault, it_is}
-use Rattle.coll_routes.specs.Rolls.{goes_by, places_by, in_block, slots, neighbour_in}
-use Rattle.coll_routes.specs.Rolls.{is_neighbour, stated_by, own_counts_in, given, goes, places}
-use Rattle.coll_routes.specs.Rolls.{ranks}
+use Rattle.coll_routes.proofs.CollRoutesLemmas.{no_fault}
+use Rattle.coll_routes.specs.Rolls.{places_by, stated_by, given, goes, places, is_missing}
+use Rattle.coll_routes.specs.declared.lane.Source.{Source}
+use Rattle.coll_routes.specs.Senders.{comes}
 use Rattle.coll_values.specs.declared.full.Full.{Full}
-use Rattle.coll_values.specs.Instances.{element}
-use Rattle.coll_values.specs.Sources.{source_by}
-use Rattle.coll_values.specs.Values.{sent, copied}
-
-some_root : (i r : ℕ) → nat_eq i r ≡ true → Some r ≡ Some i
-some_root i r e = ap (λ (n : ℕ). Some n) (sym (eqb-true i r e))
-
-some_sender : (i t : ℕ) → nat_eq t i ≡ true → Some t ≡ Some i
-some_sender i t e = ap (λ (n : ℕ). Some n) (eqb-true t i e)
-
--- what goes to a place comes from its source
-source_is : (sig : Signature) (shape : Shape) (counts : List ℕ) (i x j t : ℕ) →
-    reduction sig ≡ None → goes_by sig shape counts i x j t ≡ true →
-    source_by sig shape j t ≡ Some i
-unfolding reduction goes_by source_by
-source_is Barrier shape counts i x j t d e = absurd (cc)
-source_is (Bcast r ty n) shape counts i x j t d e = some_root i r (and_parts (nat_eq i r)
-    (not (nat_eq j r)) (and_parts (nat_eq i r && not (nat_eq j r)) (nat_eq t 0) e).0).0
-source_is (Gather r ty n) shape counts i x j t d e =
-    some_sender i t (and_parts (nat_eq j r) (nat_eq t i) e).1
-source_is (Gatherv r ty) shape counts i x j t d e =
-    some_sender i t (and_parts (nat_eq j r) (nat_eq t i) e).1
-source_is (Scatter r ty n) shape counts i x j t d e = some_root i r (and_parts (nat_eq i r)
-    (nat_eq t 0)
-    (and_parts (nat_eq i r && nat_eq t 0) (in_block (replicate shape.size n) j x) e).0).0
-source_is (Scatterv r ty) shape counts i x j t d e = some_root i r (and_parts (nat_eq i r)
-    (nat_eq t 0) (and_parts (nat_eq i r && nat_eq t 0) (in_block counts j x) e).0).0
-source_is (Allgather ty n) shape counts i x j t d e = some_sender i t e
-source_is (Allgatherv ty) shape counts i x j t d e = some_sender i t e
-source_is (Alltoall ty n) shape counts i x j t d e =
-    some_sender i t (and_parts (nat_eq t i) (in_block (replicate shape.size n) j x) e).0
-source_is (Alltoallv ty) shape counts i x j t d e =
-    some_sender i t (and_parts (nat_eq t i) (in_block counts j x) e).0
-source_is (Reduce r op ty n) shape counts i x j t d e = absurd (cc)
-source_is (Allreduce op ty n) shape counts i x j t d e = absurd (cc)
-source_is (ReduceScatter op ty sizes) shape counts i x j t d e = absurd (cc)
-source_is (ReduceScatterBlock op ty n) shape counts i x j t d e = absurd (cc)
-source_is (Scan op ty n) shape counts i x j t d e = absurd (cc)
-source_is (Exscan op ty n) shape counts i x j t d e = absurd (cc)
-source_is (NeighborAllgather ty n) shape counts i x j t d e =
-    it_is (neighbour_in shape.grid j t) i e
-source_is (NeighborAllgatherv ty) shape counts i x j t d e = it_is (neighbour_in shape.grid j t) i e
-source_is (NeighborAlltoall ty n) shape counts i x j t d e =
-    it_is (neighbour_in shape.grid j t) i
-    (and_parts (is_neighbour shape i j t) (in_block (replicate (slots shape) n) (opposite t) x) e).0
-source_is (NeighborAlltoallv ty) shape counts i x j t d e = it_is (neighbour_in shape.grid j t) i
-    (and_parts (is_neighbour shape i j t) (in_block counts (opposite t) x) e).0
-source_is Dup shape counts i x j t d e = absurd (cc)
-source_is Split shape counts i x j t d e = absurd (cc)
-source_is (Create ranks) shape counts i x j t d e = absurd (cc)
-source_is (CartCreate dims periods) shape counts i x j t d e = absurd (cc)
-source_is (CartSub keep) shape counts i x j t d e = absurd (cc)
+use Rattle.coll_values.specs.Instances.{elements_in, IsWhole}
+use Rattle.coll_values.specs.Rooms.{size_of}
+use Rattle.coll_values.specs.Stretches.{elements_from}
+use Rattle.coll_values.specs.Values.{sent, copied, block_by}
+use Rattle.coll_values.proofs.RoomLemmas.{at_place}
+use Rattle.coll_values.proofs.SentLemmas.{all_sent, none_sent, its_part, part_has, length_range}
 
 -- a kind without a type gives no block
 pub no_place : (sig : Signature) (shape : Shape) (j : ℕ) → elem_type sig ≡ None →
@@ -197,73 +151,69 @@ allowed roll j op ty fit h reduces typed =
 
 -- ## copies
 
-filter_none : (test : ℕ → Bool) (xs : List ℕ) → ((x : ℕ) → test x ≡ false) → filter test xs ≡ []
-filter_none test [] h = refl
-filter_none test (x ∷ xs) h = rw (h x) (filter_none test xs h)
-
-sent_nothing : (F : Full Contents) (i j t : ℕ) → ((x : ℕ) → goes F.roll i x j t ≡ false) →
-    sent F i j t ≡ []
-unfolding sent
-sent_nothing F i j t h = ap (filter_map (element F i))
-    (filter_none (λ x. goes F.roll i x j t) (below (given F.roll i)) h)
-
 -- only one row has elements
-flat_none : (rows : ℕ → List Element) (a n : ℕ) → ((i : ℕ) → i < a + n → rows i ≡ []) →
-    flat_map rows (range_with_len a n) ≡ []
-flat_none rows a zero h = refl
-flat_none rows a (suc n) h =
-    rw (h a (omega arith)) (flat_none rows (a + 1) n (λ i low. h i (omega arith)))
+flat_past : (rows : ℕ → List Element) (a n : ℕ) →
+    ((i : ℕ) → a ≤ i → i < a + n → rows i ≡ []) → flat_map rows (range_with_len a n) ≡ []
+flat_past rows a zero h = refl
+flat_past rows a (suc n) h = rw (h a (omega arith) (omega arith))
+    (flat_past rows (a + 1) n (λ i low high. h i (omega arith) (omega arith)))
 
-flat_past : (rows : ℕ → List Element) (a n s : ℕ) → ((i : ℕ) → (i ≡ s → ⊥) → rows i ≡ []) → s < a →
-    flat_map rows (range_with_len a n) ≡ []
-flat_past rows a zero s h low = refl
-flat_past rows a (suc n) s h low =
-    rw (h a (λ same. omega arith)) (flat_past rows (a + 1) n s h (omega arith))
-
-flat_only : (rows : ℕ → List Element) (a n s : ℕ) → ((i : ℕ) → (i ≡ s → ⊥) → rows i ≡ []) → a ≤ s →
-    s < a + n → flat_map rows (range_with_len a n) ≡ rows s
+flat_only : (rows : ℕ → List Element) (a n s : ℕ) →
+    ((i : ℕ) → i < a + n → (i ≡ s → ⊥) → rows i ≡ []) → a ≤ s → s < a + n →
+    flat_map rows (range_with_len a n) ≡ rows s
 flat_only rows a zero s h low high = absurd (omega arith)
 flat_only rows a (suc n) s h low high =
     elim (cases_lt a s) as (λ _. flat_map rows (range_with_len a (suc n)) ≡ rows s) [
       | inl before
-          ↦ rw (h a (λ same. omega arith)) (flat_only rows (a + 1) n s h (omega arith) (omega
-          arith))
+          ↦ rw (h a (omega arith) (λ same. omega arith))
+          (flat_only rows (a + 1) n s (λ i inside. h i (omega arith)) (omega arith) (omega arith))
       | inr here
           ↦ (let same : a ≡ s = omega arith in
-          rw (flat_past rows (a + 1) n s h (omega arith)) (append-nil (rows a) ∙ ap rows same))
+          rw (flat_past rows (a + 1) n
+          (λ i past inside. h i (omega arith) (λ is. omega arith)))
+          (append-nil (rows a) ∙ ap rows same))
     ]
 
+-- the block at a place comes from its source
 module _ (F : Full Contents) (j t : ℕ) (copies : reduction F.roll.sig ≡ None) where
-  abbrev rows : ℕ → List Element
-  rows i = sent F i j t
+  abbrev its_block : Bool → Option (List Element)
+  its_block missing =
+      if missing then None else Some (copied F.roll (λ i t. sent F i j t) t)
 
-  other : (s i x : ℕ) → source_by F.roll.sig F.roll.shape j t ≡ Some s → (i ≡ s → ⊥) →
-      goes F.roll i x j t ≡ false
-  other s i x e differs = ⊎_elim
-      (λ some. let from = source_is F.roll.sig F.roll.shape (own_counts_in (stated_by F.roll i)) i x
-      j t copies some in absurd (differs (cc)))
-      (λ no. no)
-      (cases_Bool (goes F.roll i x j t))
+  block_is : at_place F j t ≡ its_block (is_missing F.roll j t)
+  block_is = ap (λ o. block_by o F.roll (λ i t. sent F i j t) j t) copies
 
-  nobody : (i x : ℕ) → source_by F.roll.sig F.roll.shape j t ≡ None → goes F.roll i x j t ≡ false
-  nobody i x e = ⊎_elim
-      (λ some. let from = source_is F.roll.sig F.roll.shape (own_counts_in (stated_by F.roll i)) i x
-      j t copies some in absurd (cc))
-      (λ no. no)
-      (cases_Bool (goes F.roll i x j t))
+  pub none_there : true ≡ is_missing F.roll j t → at_place F j t ≡ None
+  none_there e = block_is ∙ ap its_block (sym e)
 
-  -- the block is what its source sends
-  pub from_source : (s : ℕ) → source_by F.roll.sig F.roll.shape j t ≡ Some s →
-      s < F.roll.shape.size → copied F.roll (λ i t. sent F i j t) t ≡ sent F s j t
-  from_source s e h = flat_only rows 0 F.roll.shape.size s
-      (λ i differs. sent_nothing F i j t (λ x. other s i x e differs)) (omega arith) (omega arith)
+  module _ (s : Source) (whole : IsWhole F) (low : s.from < F.roll.shape.size)
+      (from : (i x : ℕ) → i < F.roll.shape.size → x < given F.roll i →
+      comes (Some s) i x ≡ goes F.roll i x j t)
+      (within : s.piece.start + s.piece.len ≤ given F.roll s.from) where
+    elsewhere : (i : ℕ) → i < F.roll.shape.size → (i ≡ s.from → ⊥) → sent F i j t ≡ []
+    elsewhere i inside differs = none_sent F i j t whole inside (λ x h. ⊎_elim
+        (λ same. absurd (differs (sym (eqb-true s.from i same))))
+        (λ no. ap (λ b. b && (nat_le s.piece.start x && nat_lt x (s.piece.start + s.piece.len)))
+        (sym no) ∙ from i x inside h)
+        (cases_Bool (nat_eq s.from i)))
 
-  pub from_outside : (s : ℕ) → source_by F.roll.sig F.roll.shape j t ≡ Some s →
-      F.roll.shape.size ≤ s → copied F.roll (λ i t. sent F i j t) t ≡ []
-  from_outside s e h = flat_none rows 0 F.roll.shape.size
-      (λ i low. sent_nothing F i j t (λ x. other s i x e (λ same. omega arith)))
+    copied_is : elements_from F s ≡ copied F.roll (λ i t. sent F i j t) t
+    copied_is =
+        all_sent F s.from j t whole low s.piece.start s.piece.len
+        (λ x h. ap (λ b. b && (nat_le s.piece.start x && nat_lt x (s.piece.start + s.piece.len)))
+        (sym (eq-eqb s.from s.from refl)) ∙ from s.from x low h)
+        ∙ sym (flat_only (λ i. sent F i j t) 0 F.roll.shape.size s.from
+        (λ i inside differs. elsewhere i (omega arith) differs) (omega arith) (omega arith))
 
-  pub from_nobody : source_by F.roll.sig F.roll.shape j t ≡ None →
-      copied F.roll (λ i t. sent F i j t) t ≡ []
-  from_nobody e =
-      flat_none rows 0 F.roll.shape.size (λ i low. sent_nothing F i j t (λ x. nobody i x e))
+    pub some_there : false ≡ is_missing F.roll j t → at_place F j t ≡ Some (elements_from F s)
+    some_there e = block_is ∙ (ap its_block (sym e)
+        ∙ ap (λ (es : List Element). Some es) (sym copied_is))
+
+    pub size_there : false ≡ is_missing F.roll j t → s.piece.len ≡ size_of (at_place F j t)
+    size_there e =
+        let p = its_part F s.from j t whole low in
+        let long = part_has F s.from p.0 whole p.1 in
+        sym (length_range (elements p.0) s.piece.start s.piece.len (omega arith))
+        ∙ (ap (λ o. length (slice_range (elements_in o) s.piece.start
+        (s.piece.start + s.piece.len))) (sym p.1)
+        ∙ ap size_of (sym (some_there e)))

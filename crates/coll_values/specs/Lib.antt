@@ -3,7 +3,6 @@ pub mod Instances
 pub mod Laws
 pub mod Lines
 pub mod Rooms
-pub mod Sources
 pub mod Spaces
 pub mod Stretches
 pub mod Values

@@ -1,11 +1,14 @@
 -- Where the blocks of a rank stand among what the ranks gave.
 use Rattle.std.specs.Prelude.{◌<◌, ◌≤◌, ℕ, ℤ, List, [], Option, Some, None, take, drop, length}
-use Rattle.std.specs.Prelude.{slice_get}
+use Rattle.std.specs.Prelude.{◌+◌, slice_get, slice_range}
+use Rattle.mpi_elems.specs.Elements.{Element}
 use Rattle.mpi_elems.specs.Contents.{Contents}
+use Rattle.coll_routes.specs.declared.lane.Source.{Source}
 use Rattle.coll_values.specs.declared.full.Full.{Full}
 use Rattle.coll_values.specs.declared.delivery.Block.{Block}
 use Rattle.coll_values.specs.declared.delivery.Block.TheVariants.{Missing, Numbers}
 use Rattle.coll_values.specs.declared.stretch.Stretch.{Stretch}
+use Rattle.coll_values.specs.Instances.{part}
 
 abbrev pub numbers_in : Option Contents → List ℤ
 numbers_in (Some part) = part.numbers
@@ -29,3 +32,8 @@ pub record IsAlong (F : Full Contents) (s : Stretch) : Type 0 where
   pub source : s.source < F.roll.shape.size
   pub order : s.from ≤ s.to
   pub within : s.to ≤ length (numbers_given F s.source)
+
+-- the elements that come from a source
+abbrev pub elements_from : Full Contents → Source → List Element
+elements_from F s =
+    slice_range (part F s.from) s.piece.start (s.piece.start + s.piece.len)

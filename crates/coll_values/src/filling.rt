@@ -1,45 +1,39 @@
 //! Deliveries.
-ghost use Rattle.std.specs.Prelude.{◌≡◌, ◌<◌, ◌≤◌, ◌+◌, IfOk, IsErr, [], map, length, vec_len};
-ghost use Rattle.std.specs.Prelude.{vec_capacity, Some, None};
+ghost use Rattle.std.specs.Prelude.{◌≡◌, ◌<◌, ◌≤◌, ◌+◌, IfOk, IsErr, [], map, vec_len};
+ghost use Rattle.std.specs.Prelude.{vec_capacity, Some};
 ghost use Rattle.mpi_elems.specs.Contents.{contents};
 ghost use Rattle.mpi_elems.specs.Elements.{numbers_of};
-ghost use Rattle.coll_routes.specs.Rolls.{places as places_of};
+ghost use Rattle.coll_routes.specs.Rolls.{given, places as places_of};
 ghost use Rattle.coll_routes.specs.Signatures.{reduction, elem_type};
 ghost use Rattle.coll_routes.specs.Faults.{stated_type};
 ghost use Rattle.coll_values.specs.Instances.{IsWhole};
-ghost use Rattle.coll_values.specs.Values.{sent, copied, reduced, breadth, block_by, block_of};
+ghost use Rattle.coll_values.specs.Values.{sent, reduced, breadth, block_by, block_of};
 ghost use Rattle.coll_values.specs.Values.{value};
 ghost use Rattle.coll_values.specs.Rooms.{space_for, sizes, size_of};
 ghost use Rattle.coll_values.specs.Lines.{AreLines};
+ghost use Rattle.coll_values.specs.Stretches.{elements_from};
 
 use super::delivery::{Block, Delivery, Integers};
 use super::full::Full;
 use super::sizes::size_at;
-use super::source::{append_sent, source_of};
 use super::space::{Room, parts_of, room_of};
-use coll_routes::{gathered, is_missing, places};
+use coll_routes::{Source, gathered, places, source};
 use mpi_elems::{Buffer, ElemType};
 use std::alloc::Global;
 use wall_labels::{NoMemory, Op};
 
-// Fills an empty line with the block at a place, in a kind that doesn't reduce. Takes no memory.
-fn fill_copied(line: &mut Buffer, full: &Full<Buffer>, to: u32, place: u32)
+// Fills an empty line with what comes from a source. Takes no memory.
+fn fill_copied(line: &mut Buffer, full: &Full<Buffer>, source: Source)
     requires whole { IsWhole full.now }
-    requires rank { to < full.now.roll.shape.size }
-    requires copies { reduction full.now.roll.sig ≡ None }
+    requires from { source.from < full.now.roll.shape.size }
+    requires within { source.piece.start + source.piece.len ≤ given full.now.roll source.from }
     requires one_type { elem_type full.now.roll.sig ≡ Some line.old.elem_type }
     requires empty { line.old.numbers ≡ [] }
-    requires room { length (copied full.now.roll (λ i t. sent full.now i to t) place)
-        ≤ line.old.room }
-    ensures { line.new.numbers
-        ≡ numbers_of (copied full.now.roll (λ i t. sent full.now i to t) place) }
+    requires room { source.piece.len ≤ line.old.room }
+    ensures { line.new.numbers ≡ numbers_of (elements_from full.now source) }
 {
-    match source_of(&full.roll, to, place) {
-        Some(from) => if from < full.roll.shape.size {
-            append_sent(line, full, from, to, place);
-        },
-        None => {}
-    }
+    let part = full.parts.get(source.from);
+    line.append_range(part, source.piece.start as usize, source.piece.len as usize);
 }
 
 // Fills an empty line with the block of a kind that reduces. Takes no memory.
@@ -64,6 +58,7 @@ fn fill_reduced(line: &mut Buffer, full: &Full<Buffer>, op: Op, to: u32)
 fn fill_place(full: &Full<Buffer>, to: u32, place: u32, line: Buffer) -> Block
     requires whole { IsWhole full.now }
     requires rank { to < full.now.roll.shape.size }
+    requires place { place < places_of full.now.roll to }
     requires one_type { elem_type full.now.roll.sig ≡ Some line.elem_type }
     requires empty { line.numbers ≡ [] }
     requires room { size_of (block_by (reduction full.now.roll.sig) full.now.roll
@@ -78,13 +73,13 @@ fn fill_place(full: &Full<Buffer>, to: u32, place: u32, line: Buffer) -> Block
             fill_reduced(&mut line, full, op, to);
             Block::Numbers(Integers::from(line))
         }
-        None => {
-            if is_missing(&full.roll, to, place) {
-                return Block::Missing;
+        None => match source(&full.roll, to, place) {
+            Some(source) => {
+                fill_copied(&mut line, full, source);
+                Block::Numbers(Integers::from(line))
             }
-            fill_copied(&mut line, full, to, place);
-            Block::Numbers(Integers::from(line))
-        }
+            None => Block::Missing,
+        },
     }
 }
 

@@ -12,7 +12,6 @@ mod full;
 pub mod laws;
 mod parts;
 mod sizes;
-mod source;
 mod space;
 mod stretch;
 

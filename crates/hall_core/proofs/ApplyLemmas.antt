@@ -1,7 +1,6 @@
 -- One call, from what a hall stands for to runs.
 use Rattle.std.proofs.Common.{◌≡◌, ℕ, List, [], ◌∷◌, refl, sym, ap, ◌∙◌, subst, All, length}
-use Rattle.std.proofs.Common.{Option, Some, None, slice_get}
-use Rattle.std.specs.Prelude.{IfSome, IfNone}
+use Rattle.std.proofs.Common.{Some, slice_get}
 use Rattle.wall_policy.specs.Policy.{ChineseWall, IsPolicy}
 use Rattle.wall_rules.specs.Histories.{History, NobodyHoldsRivals}
 use Rattle.run_model.specs.Posts.{histories}
@@ -11,32 +10,26 @@ use Rattle.run_model.specs.PostLaws.{IsWhatIsHeld, NobodyHoldsBoth}
 use Rattle.run_model.proofs.RunModelLemmas.{book_is_sound, posts_in-book, posts_keep_the_wall}
 use Rattle.run_model.proofs.RunModelLemmas.{legal_proper, nobody_holds_two_rivals_in_runs}
 use Rattle.run_model.proofs.RunModelLemmas.{holding_is_history_in_runs, posts_but_for_room}
-use Rattle.run_model.proofs.RunModelLemmas.{proper_but_for_room, reply_but_for_room}
+use Rattle.run_model.proofs.RunModelLemmas.{proper_but_for_room, reply_but_for_room, book_named}
 use Rattle.run_model.proofs.RunModelLemmas.{after_but_for_room}
-use Rattle.coll_values.specs.Values.{value}
 use Rattle.run_model.specs.Contributions.{posts_of}
 use Rattle.run_state.specs.Stands.{StandsForPosts}
-use Rattle.run_model.specs.declared.call.Act.TheVariants.{Take}
 use Rattle.run_model.specs.declared.call.Call.{Call}
-use Rattle.run_model.specs.declared.refusal.Refusal.TheVariants.{NoSuchRequest}
 use Rattle.run_model.specs.declared.reply.Reply.{Reply}
-use Rattle.run_model.specs.declared.reply.Reply.TheVariants.{Delivered, Refused}
 use Rattle.run_model.specs.Runs.{Entry, effects, posts, entry, requests, after_entry}
 use Rattle.run_model.specs.Replies.{IsAnswer, Legal, posts_in, reply}
 use Rattle.hall_core.specs.declared.claims.Claim.{Claim}
-use Rattle.hall_core.specs.declared.claims.LeanClaim.{LeanClaim}
 use Rattle.hall_core.specs.declared.requests.Request.{Request}
-use Rattle.hall_core.specs.Claims.{HoldsWhatIsKept, Claims, LeanHoldsWhatIsKept, LeanClaims}
-use Rattle.hall_core.specs.Claims.{to_take, IsTakenUnread, GetsNoBlock}
-use Rattle.hall_core.proofs.TakeLemmas.{open_at, refused_due}
-use Rattle.hall_core.proofs.ClaimLemmas.{held_claims, lean_claims, share_claimed, no_block}
+use Rattle.hall_core.specs.Claims.{HoldsWhatIsKept, Claims}
+use Rattle.hall_core.proofs.TakeLemmas.{open_at}
+use Rattle.hall_core.proofs.ClaimLemmas.{held_claims}
 use Rattle.hall_core.specs.Halls.{HallValue, StandsForEffects, StandsForRun, StandsFor, view_of}
 use Rattle.hall_core.specs.Asking.{opened, requests_of}
 use Rattle.hall_core.specs.Settling.{KeepsCount}
 use Rattle.hall_core.specs.Invariant.{IsHallValue}
-use Rattle.hall_core.specs.Moves.{Steps, TakesUnread, HoldsNoBlock}
+use Rattle.hall_core.specs.Moves.{Steps}
 use Rattle.run_model.specs.Known.{HasKnownLabel, IsKnownEntry}
-use Rattle.hall_core.proofs.NamedLemmas.{is_hall_after, book_named}
+use Rattle.hall_core.proofs.NamedLemmas.{is_hall_after}
 
 pub stands_for : (hall : HallValue) (run : List Entry) → StandsFor hall run →
     StandsForRun (view_of hall) run
@@ -109,14 +102,6 @@ pub claimed : (old : HallValue) (p r : ℕ) (claim : Claim) → HoldsWhatIsKept 
 claimed old p r claim holds run legal stands =
     let of = stands_for old run stands in
     held_claims (view_of old) of.kept (effects run) of.stands of.same p r claim holds
-
-pub lean_claimed : (old : HallValue) (p r : ℕ) (claim : LeanClaim)
-    → LeanHoldsWhatIsKept (view_of old) p r claim
-    → (run : List Entry) → Legal old.policy run → StandsFor old run
-    → LeanClaims old.policy (effects run) p r claim
-lean_claimed old p r claim holds run legal stands =
-    let of = stands_for old run stands in
-    lean_claims (view_of old) of.kept (effects run) of.stands of.same p r claim holds
 
 -- ## what is shown of a hall
 
@@ -195,65 +180,3 @@ asked_in hall run p r q stands waits =
     ap (λ past. slice_get (requests p past) r)
     (sym (posts_but_for_room hall.policy of.kept (effects run) of.same))
     ∙ open_at (view_of hall) of.kept of.stands p r q waits
-
--- a take of any other is refused
-pub refused_in : (hall : HallValue) (run : List Entry) (p r : ℕ) → StandsFor hall run →
-    opened (requests_of hall.asked p) r ≡ None →
-    reply hall.policy run (to_take p r) ≡ Refused NoSuchRequest
-unfolding reply
-refused_in hall run p r stands none =
-    let of = stands_for hall run stands in
-    sym (reply_but_for_room hall.policy of.kept (effects run) of.same p (Take r))
-    ∙ refused_due (view_of hall) of.kept of.stands p r none
-
--- ## takes of what is known
-
-pub taken_unread : (old new : HallValue) (p r rank : ℕ) → new.policy ≡ old.policy →
-    TakesUnread (view_of old) (view_of new) p r rank →
-    (run : List Entry) → Legal old.policy run → StandsFor old run →
-    IsTakenUnread old new p r rank run
-taken_unread old new p r rank same takes run legal stands =
-    let of = stands_for old run stands in
-    let after = applied old new (to_take p r) (Delivered (value takes.full rank)) same takes.steps
-    run legal stands in
-    record {
-      full = takes.full;
-      claimed = share_claimed (view_of old) of.kept (effects run) of.stands of.same p r takes.full
-          rank takes.held;
-      place = takes.place;
-      legal = after.0;
-      stands = after.1;
-    }
-
--- the same of the answer
-pub taken_by : (old new : HallValue) (p r : ℕ) (o : Option ℕ) → new.policy ≡ old.policy →
-    IfSome o (λ rank. TakesUnread (view_of old) (view_of new) p r rank) →
-    IfSome o (λ rank. (run : List Entry) → Legal old.policy run → StandsFor old run →
-    IsTakenUnread old new p r rank run)
-taken_by old new p r (Some rank) same takes = taken_unread old new p r rank same takes
-taken_by old new p r None same takes = tt
-
-pub none_by : (old : HallValue) (p r : ℕ) (o : Option ℕ) →
-    IfNone o (HoldsNoBlock (view_of old) p r) →
-    IfNone o ((run : List Entry) → StandsFor old run → GetsNoBlock old.policy (effects run) p r)
-none_by old p r (Some rank) none = tt
-none_by old p r None none = λ run stands.
-    let of = stands_for old run stands in
-    no_block (view_of old) of.kept (effects run) of.stands of.same p r none
-
--- it is a hall in either case
-pub hall_by : (old new : HallValue) (p r : ℕ) (o : Option ℕ) → IsHallValue old →
-    new.policy ≡ old.policy → length new.asked ≡ length old.asked →
-    KeepsCount (requests_of new.asked) (length new.asked) new.settled →
-    IfSome o (λ rank. TakesUnread (view_of old) (view_of new) p r rank) →
-    IfNone o (new ≡ old) → IsHallValue new
-hall_by old new p r (Some rank) is same each counted takes none =
-    kept_after old new (to_take p r) (Delivered (value takes.full rank)) is same each counted tt
-    takes.steps
-hall_by old new p r None is same each counted takes none = subst IsHallValue (sym none) is
-
--- what is unchanged is seen unchanged
-pub same_by : {A B X : Type 0} (f : A → B) (o : Option X) (new old : A) →
-    IfNone o (new ≡ old) → IfNone o (f new ≡ f old)
-same_by f (Some x) new old same = tt
-same_by f None new old same = ap f same

@@ -1,9 +1,9 @@
 -- What a post answers, and what it makes of a hall.
 use Rattle.std.proofs.Common.{◌≡◌, ℕ, ◌<◌, ◌≤◌, Bool, true, false, not, List, ◌++◌, length, refl}
-use Rattle.std.proofs.Common.{sym, ap, ◌∙◌, subst, Option, Some, None, slice_get, option_map}
-use Rattle.std.proofs.Common.{⊎_elim, inl, inr, cond, ltb-true, lt-ltb}
+use Rattle.std.proofs.Common.{sym, ap, ◌∙◌, subst, Option, Some, None, slice_get}
+use Rattle.std.proofs.Common.{⊎_elim, inl, inr, cond, ltb-true}
 use Rattle.std.specs.Prelude.{nat_lt, if◌then◌else◌}
-use Rattle.std.proofs.lemmas.Bool.{cases_Bool, cond-true, cond-false, and_from}
+use Rattle.std.proofs.lemmas.Bool.{cases_Bool, cond-false, and_from}
 use Rattle.wall_labels.specs.declared.label.Label.{Label}
 use Rattle.wall_policy.specs.Policy.{ChineseWall}
 use Rattle.mpi_elems.specs.Contents.{Contents}
@@ -12,7 +12,6 @@ use Rattle.mpi_group.specs.Groups.{rank_in}
 use Rattle.coll_routes.specs.declared.signature.Signature.{Signature}
 use Rattle.coll_routes.specs.declared.statement.Own.{Own}
 use Rattle.coll_routes.specs.declared.statement.Stated.{Stated}
-use Rattle.coll_routes.specs.declared.fault.ShapeFault.{ShapeFault}
 use Rattle.coll_routes.specs.Faults.{shape_fault, stated_type}
 use Rattle.wall_verdict.specs.Star.{star}
 use Rattle.run_model.specs.declared.refusal.Refusal.{Refusal}
@@ -21,7 +20,7 @@ use Rattle.run_model.specs.declared.refusal.Refusal.TheVariants.{NoMemory}
 use Rattle.run_model.specs.declared.entry.Entry.TheVariants.{Posted as EntryPosted}
 use Rattle.run_model.specs.Comms.{Comm, processes, shape_of}
 use Rattle.run_model.specs.Posts.{place, histories}
-use Rattle.run_model.specs.Refusals.{refused_for, or_else, fault}
+use Rattle.run_model.specs.Refusals.{or_else, fault}
 use Rattle.run_model.specs.EntryForms.{HasForm}
 use Rattle.run_model.proofs.RunModelLemmas.{accepted as accepted_by, no_fault_has, fault_spared}
 use Rattle.run_model.proofs.RunModelLemmas.{taken, given_of, entry_of, after_posted, after_barred}
@@ -29,7 +28,8 @@ use Rattle.run_model.proofs.RunModelLemmas.{after_refused}
 use Rattle.run_state.specs.declared.entered.Entered.{Entered}
 use Rattle.run_state.specs.declared.entered.Entered.TheVariants.{Waiting, Settled}
 use Rattle.run_model.specs.Contributions.{Contribution, posts_of}
-use Rattle.run_state.specs.Views.{PostStateView, fault_of, fault_on, fault_as}
+use Rattle.run_state.specs.declared.seat.Seat.{Seat}
+use Rattle.run_state.specs.Views.{PostStateView, fault_of, fault_on, LookedAt}
 use Rattle.run_state.specs.Stands.{Tells}
 use Rattle.run_model.specs.declared.call.Posting.{Posting}
 use Rattle.run_model.specs.declared.call.Act.TheVariants.{Post as ToPost}
@@ -52,15 +52,6 @@ or_both : (o m : Option Refusal) → or_else o m ≡ None → (o ≡ None) × (m
 or_both (Some f) m h = absurd (cc)
 or_both None m h = (refl, h)
 
-or_other : (o q m : Option Refusal) → or_else o m ≡ None → q ≡ None → or_else q m ≡ None
-or_other (Some f) q m h e = absurd (cc)
-or_other None (Some g) m h e = absurd (cc)
-or_other None None m h e = h
-
-mapped_none : (o : Option ShapeFault) → option_map refused_for o ≡ None → o ≡ None
-mapped_none None e = refl
-mapped_none (Some f) e = absurd (cc)
-
 pub refusal_is : (hall : HallView) (m : Effects) → StandsForEffects hall m →
     (p : ℕ) (posting : Posting) →
     fault hall.policy (posts_in m) p posting.comm posting.sig posting.own posting.elements.elem_type
@@ -73,119 +64,68 @@ refusal_is hall m stands p posting none =
 
 -- ## a posting that the state does not refuse
 
--- whose post it is, and on which communicator
-pub record IsSpot (wall : ChineseWall) (seen : PostStateView Contents) (p c : ℕ) (sig : Signature)
-    (own : Own) (ty : ElemType) (given : ℕ) : Type 0 where
-  pub comm : Comm
-  pub rank : ℕ
-  pub process : p < processes wall
-  pub at : slice_get seen.comms c ≡ Some comm
-  pub is_member : rank_in comm.members p ≡ Some rank
-  pub fits : shape_fault (shape_of comm) rank sig own ty given ≡ None
-  -- elements of another type would be refused for that alone
-  pub others : (other : ElemType) → shape_fault (shape_of comm) rank sig own other given ≡ None →
-      fault_of wall seen p c sig own other given ≡ None
-
-module _ (wall : ChineseWall) (seen : PostStateView Contents) (p c : ℕ) (sig : Signature)
-    (own : Own) (given : ℕ) where
-  fault_at : p < processes wall → (comm : Comm) → slice_get seen.comms c ≡ Some comm → (rank : ℕ) →
-      rank_in comm.members p ≡ Some rank → (ty : ElemType) →
-      fault_of wall seen p c sig own ty given
-      ≡ fault_as seen.waiting c comm (Some rank) sig own ty given
-  fault_at low comm at rank is ty =
-      cond-true (nat_lt p (processes wall))
-      (fault_on seen.waiting p c (slice_get seen.comms c) sig own ty given) (Some NoSuchProcess)
-      (lt-ltb p (processes wall) low)
-      ∙ (ap (λ o. fault_on seen.waiting p c o sig own ty given) at
-      ∙ ap (λ o. fault_as seen.waiting c comm o sig own ty given) is)
-
-  spot_as : p < processes wall → (comm : Comm) → slice_get seen.comms c ≡ Some comm →
-      (ty : ElemType) → (o : Option ℕ) → rank_in comm.members p ≡ o →
-      fault_as seen.waiting c comm o sig own ty given ≡ None → IsSpot wall seen p c sig own ty given
-  spot_as low comm at ty None is e = absurd (cc)
-  spot_as low comm at ty (Some rank) is e =
-      let parts = or_both
-      (option_map refused_for (shape_fault (shape_of comm) rank sig own ty given)) _ e in
-      record {
-        comm = comm;
-        rank = rank;
-        process = low;
-        at = at;
-        is_member = is;
-        fits = mapped_none _ parts.0;
-        others = λ other fits. fault_at low comm at rank is other
-            ∙ or_other
-            (option_map refused_for (shape_fault (shape_of comm) rank sig own ty given))
-            (option_map refused_for
-            (shape_fault (shape_of comm) rank sig own other given)) _ e
-            (ap (option_map refused_for) fits);
-      }
-
-  spot_on : p < processes wall → (ty : ElemType) → (o : Option Comm) → slice_get seen.comms c ≡ o →
-      fault_on seen.waiting p c o sig own ty given ≡ None → IsSpot wall seen p c sig own ty given
-  spot_on low ty None at e = absurd (cc)
-  spot_on low ty (Some comm) at e = spot_as low comm at ty (rank_in comm.members p) refl e
-
-  pub spot : (ty : ElemType) → fault_of wall seen p c sig own ty given ≡ None →
-      IsSpot wall seen p c sig own ty given
-  spot ty e = ⊎_elim
-      (λ t. spot_on (ltb-true p (processes wall) t) ty (slice_get seen.comms c) refl
-      (sym (cond-true (nat_lt p (processes wall))
-      (fault_on seen.waiting p c (slice_get seen.comms c) sig own ty given)
-      (Some NoSuchProcess) t) ∙ e))
-      (λ f. let some = sym (cond-false (nat_lt p (processes wall))
-      (fault_on seen.waiting p c (slice_get seen.comms c) sig own ty given)
-      (Some NoSuchProcess) f) ∙ e in absurd (cc))
-      (cases_Bool (nat_lt p (processes wall)))
+-- its process is one of the policy
+pub known_process : (wall : ChineseWall) (seen : PostStateView Contents) (p c : ℕ)
+    (sig : Signature) (own : Own) (ty : ElemType) (given : ℕ) →
+    fault_of wall seen p c sig own ty given ≡ None → p < processes wall
+known_process wall seen p c sig own ty given e = ⊎_elim
+    (λ t. ltb-true p (processes wall) t)
+    (λ f. let some = sym (cond-false (nat_lt p (processes wall))
+    (fault_on seen.waiting p c (slice_get seen.comms c) sig own ty given)
+    (Some NoSuchProcess) f) ∙ e in absurd (cc))
+    (cases_Bool (nat_lt p (processes wall)))
 
 -- the same, where its elements are of the signature's own type
-pub free_stated : (hall : HallView) (m : Effects) → StandsForEffects hall m →
-    (p : ℕ) (posting : Posting) → refusal hall.policy m p posting ≡ None →
-    fault_of hall.policy hall.post_state p posting.comm posting.sig posting.own
-    posting.elements.elem_type (given_in posting) ≡ None →
-    fault_of hall.policy hall.post_state p posting.comm posting.sig posting.own
-    (stated_type posting.sig) (given_in posting) ≡ None
-free_stated hall m stands p posting none e =
-    let s = spot hall.policy hall.post_state p posting.comm posting.sig posting.own
-    (given_in posting) posting.elements.elem_type e in
+pub looked_stated : (hall : HallView) (m : Effects) → StandsForEffects hall m → (seat : Seat)
+    (posting : Posting) → refusal hall.policy m seat.process posting ≡ None →
+    seat.meeting.comm ≡ posting.comm →
+    LookedAt hall.post_state seat posting.sig posting.own posting.elements.elem_type
+    (given_in posting) →
+    LookedAt hall.post_state seat posting.sig posting.own (stated_type posting.sig)
+    (given_in posting)
+looked_stated hall m stands seat posting none on s =
+    let p = seat.process in
     let a = accepted_by hall.policy (posts_in m) p posting.comm posting.sig posting.own
     (stated_type posting.sig) (given_in posting)
     (fault_spared hall.policy (posts_in m) p posting.comm posting.sig posting.own
     posting.elements.elem_type (given_in posting) (or_both _ _ none).0) in
     let same : a.comm ≡ s.comm = (let both : Some a.comm ≡ Some s.comm = sym a.at ∙
-    (ap (λ t. slice_get t posting.comm) (sym stands.post_state.comms) ∙ s.at) in cc) in
-    let rank : a.rank ≡ s.rank = (let both : Some a.rank ≡ Some s.rank = sym a.is_member ∙
-    (ap (λ (n : Comm). rank_in n.members p) same ∙ s.is_member) in cc) in
-    s.others (stated_type posting.sig) ((λ i. shape_fault (shape_of (sym same i)) (sym rank i)
-    posting.sig posting.own (stated_type posting.sig) (given_in posting)) ∙ a.fits)
+    ((λ i. slice_get (sym stands.post_state.comms i) (sym on i)) ∙ s.there) in cc) in
+    let rank : a.rank ≡ seat.meeting.rank = (let both : Some a.rank ≡ Some seat.meeting.rank = sym
+    a.is_member ∙ (ap (λ (n : Comm). rank_in n.members p) same ∙ s.rank) in cc) in
+    record {
+      comm = s.comm;
+      there = s.there;
+      rank = s.rank;
+      faultless = (λ i. shape_fault (shape_of (sym same i)) (sym rank i) posting.sig posting.own
+          (stated_type posting.sig) (given_in posting)) ∙ a.fits;
+      met = s.met;
+      agrees = s.agrees;
+    }
 
 -- few elements are given
-pub few_elements : (wall : ChineseWall) (seen : PostStateView Contents) (p c : ℕ) (sig : Signature)
-    (own : Own) (ty : ElemType) (given : ℕ) →
-    fault_of wall seen p c sig own ty given ≡ None → given ≤ 65536
-few_elements wall seen p c sig own ty given e =
-    let s = spot wall seen p c sig own given ty e in
-    few_given (shape_of s.comm) s.rank sig own ty given
-    (no_fault_has (shape_of s.comm) s.rank sig own ty given s.fits).count
+pub few_elements : (seen : PostStateView Contents) (seat : Seat) (sig : Signature) (own : Own)
+    (ty : ElemType) (given : ℕ) → LookedAt seen seat sig own ty given → given ≤ 65536
+few_elements seen seat sig own ty given s =
+    few_given (shape_of s.comm) seat.meeting.rank sig own ty given
+    (no_fault_has (shape_of s.comm) seat.meeting.rank sig own ty given s.faultless).count
 
 -- its statement is in form for the book
-pub has_form_of : (hall : HallView) (m : Effects) → StandsForEffects hall m →
-    (p : ℕ) (posting : Posting) (barred : Bool) → refusal hall.policy m p posting ≡ None →
-    barred ≡ not (star (histories hall.policy (posts_in m)) p (label_in posting)) →
-    fault_of hall.policy hall.post_state p posting.comm posting.sig posting.own
-    posting.elements.elem_type (given_in posting) ≡ None →
-    HasForm (EntryPosted p posting.comm (statement posting barred))
-has_form_of hall m stands p posting barred none word e =
-    let s = spot hall.policy hall.post_state p posting.comm posting.sig posting.own
-    (given_in posting) posting.elements.elem_type e in
-    let count = (no_fault_has (shape_of s.comm) s.rank posting.sig posting.own
-    posting.elements.elem_type (given_in posting) s.fits).count in
+pub has_form_of : (hall : HallView) (m : Effects) → StandsForEffects hall m → (seat : Seat)
+    (posting : Posting) (barred : Bool) → refusal hall.policy m seat.process posting ≡ None →
+    barred ≡ not (star (histories hall.policy (posts_in m)) seat.process (label_in posting)) →
+    LookedAt hall.post_state seat posting.sig posting.own posting.elements.elem_type
+    (given_in posting) →
+    HasForm (EntryPosted seat.process posting.comm (statement posting barred))
+has_form_of hall m stands seat posting barred none word s =
+    let count = (no_fault_has (shape_of s.comm) seat.meeting.rank posting.sig posting.own
+    posting.elements.elem_type (given_in posting) s.faultless).count in
     and_from (Rattle.run_model.specs.EntryForms.is_formed posting.sig posting.own)
     (Rattle.run_model.specs.Books.is_labelled (statement posting barred))
     (formed (shape_of s.comm) posting.sig _ posting.own (given_in posting)
-    (met (shape_of s.comm) s.rank posting.sig posting.own posting.elements.elem_type
+    (met (shape_of s.comm) seat.meeting.rank posting.sig posting.own posting.elements.elem_type
     (given_in posting) count))
-    (taken hall.policy m p posting barred none word).label
+    (taken hall.policy m seat.process posting barred none word).label
 
 -- ## places
 

@@ -28,7 +28,8 @@ use Rattle.hall_core.specs.Halls.{HallView, StandsForEffects, instance_of, settl
 use Rattle.hall_core.specs.Halls.{settlement_in}
 use Rattle.hall_core.specs.Moves.{number_in, entries_of, IsSettledBy, IsRecorded}
 use Rattle.run_model.proofs.RunModelLemmas.{request_new}
-use Rattle.hall_core.proofs.RequestLemmas.{get_front, updated_same, updated_other, same_or_not}
+use Rattle.hall_core.proofs.RequestLemmas.{updated_same, updated_other, same_or_not}
+use Rattle.run_model.proofs.RunModelLemmas.{get_front}
 use Rattle.hall_core.proofs.RequestLemmas.{taken_more, opened_more}
 use Rattle.hall_core.proofs.PlaceLemmas.{unsettled}
 

@@ -32,12 +32,6 @@ set_apart (y ∷ xs) zero (suc m) x apart = refl
 set_apart (y ∷ xs) (suc n) zero x apart = refl
 set_apart (y ∷ xs) (suc n) (suc m) x apart = set_apart xs n m x (λ e. apart (ap suc e))
 
-pub get_front : {X : Type 0} (xs ys : List X) (k : ℕ) (x : X) → slice_get xs k ≡ Some x →
-    slice_get (xs ++ ys) k ≡ Some x
-get_front [] ys k x e = absurd (cc)
-get_front (y ∷ xs) ys zero x e = e
-get_front (y ∷ xs) ys (suc k) x e = get_front xs ys k x e
-
 -- ## one process's list, changed
 
 pub updated_same :

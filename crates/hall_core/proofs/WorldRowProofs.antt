@@ -16,15 +16,14 @@ use Rattle.coll_routes.specs.declared.statement.Own.{Own}
 use Rattle.coll_routes.specs.declared.statement.Own.TheVariants.{Plain}
 use Rattle.coll_routes.specs.Faults.{stated_type}
 use Rattle.run_model.specs.declared.refusal.Refusal.TheVariants.{NoMemory}
-use Rattle.run_model.specs.declared.call.Act.{Act}
-use Rattle.run_model.specs.declared.call.Act.TheVariants.{Post as ToPost, Take, Info as ToInfo}
 use Rattle.run_model.specs.declared.call.Call.{Call}
 use Rattle.run_model.specs.declared.reply.Reply.{Reply}
 use Rattle.run_model.specs.declared.reply.Reply.TheVariants.{Posted, Barred, Refused}
 use Rattle.run_model.specs.Runs.{Entry, run_of}
 use Rattle.run_model.specs.RunRows.{alpha, gave, summed, relayed}
-use Rattle.run_model.specs.Worlds.{SameActButForValues, SameCallButForValues, NobodyLacksMemory}
+use Rattle.run_model.specs.Worlds.{SameCallButForValues, NobodyLacksMemory}
 use Rattle.run_model.specs.WorldRows.{told}
+use Rattle.run_model.proofs.RunModelLemmas.{same_self}
 use Rattle.hall_core.specs.Worlds.{called, DifferAsListed}
 
 is_want : Reply → Bool
@@ -41,21 +40,6 @@ none_wanted [] h = tt
 none_wanted (e ∷ run) h =
     let parts = and_parts (not (is_want e.reply)) (list_all (λ f. not (is_want f.reply)) run) h in
     (none_wanted run parts.1, λ is. false≢true (ap not (sym (wanted e.reply is)) ∙ parts.0))
-
-same_act : (act : Act) → SameActButForValues act act
-same_act (ToPost a) = record {
-  comm = refl;
-  sig = refl;
-  own = refl;
-  label = refl;
-  elements =
-      record { of_type = refl; number = refl };
-}
-same_act (Take r) = refl
-same_act (ToInfo c) = refl
-
-same_self : (call : Call) → SameCallButForValues call call
-same_self call = record { process = refl; act = same_act call.act }
 
 -- the same calls in both
 same_calls : (calls : List Call) → AllZip SameCallButForValues calls calls

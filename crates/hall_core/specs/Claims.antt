@@ -1,11 +1,9 @@
 -- Claims: takes that leave the filling to their caller.
-use Rattle.std.specs.Prelude.{◌≡◌, ◌≢◌, ℕ, ◌<◌, false, List, ◌∷◌, Some, None, slice_get}
+use Rattle.std.specs.Prelude.{◌≡◌, ℕ, ◌<◌, Some, slice_get}
 use Rattle.std.specs.Arc.{arc_value}
 use Rattle.wall_policy.specs.Policy.{ChineseWall}
 use Rattle.mpi_elems.specs.Contents.{Contents}
 use Rattle.mpi_group.specs.Groups.{rank_in}
-use Rattle.coll_routes.specs.Rolls.{places}
-use Rattle.coll_routes.specs.Signatures.{reduction}
 use Rattle.coll_values.specs.declared.full.Full.{Full}
 use Rattle.coll_values.specs.Instances.{IsWhole}
 use Rattle.coll_values.specs.Spaces.{Space}
@@ -22,15 +20,12 @@ use Rattle.run_model.specs.declared.reply.Reply.TheVariants.{NewComm, NullComm, 
 use Rattle.run_model.specs.declared.reply.Reply.TheVariants.{Info, Refused}
 use Rattle.run_model.specs.Runs.{Entry, Effects, effects, requests, entry}
 use Rattle.run_model.specs.Buffers.{SameInstanceButForRoom}
-use Rattle.run_model.specs.Replies.{posts_in, comm_at, Legal}
+use Rattle.run_model.specs.Replies.{posts_in, comm_at}
 use Rattle.hall_core.specs.declared.claims.Claim.{Claim}
 use Rattle.hall_core.specs.declared.claims.Claim.TheVariants.{Done, Ready}
-use Rattle.hall_core.specs.declared.claims.LeanClaim.{LeanClaim}
-use Rattle.hall_core.specs.declared.claims.LeanClaim.TheVariants.{Claimed, Copied}
 use Rattle.hall_core.specs.declared.requests.Request.{Request}
-use Rattle.hall_core.specs.declared.settled.Settlement.{Settlement}
 use Rattle.hall_core.specs.Asking.{opened}
-use Rattle.hall_core.specs.Halls.{HallValue, HallView, StandsFor, settlement}
+use Rattle.hall_core.specs.Halls.{HallView, settlement}
 
 -- the call of a take
 abbrev pub to_take : (p request : ℕ) → Call
@@ -90,17 +85,7 @@ Claims wall effects p request (Done reply) = IsNoDelivery reply
 Claims wall effects p request (Ready full rank room) =
     IsClaimed wall effects p request (arc_value full) rank
 
--- ## the same of an instance in hand
-
--- this instance was granted, and p has this rank in it
-pub record IsShare (s : Settlement) (p : ℕ) (shared : Full Contents) (rank : ℕ) : Type 0 where
-  pub granted : s ≡ settlement shared Granted
-  pub is_member : rank_in shared.roll.members p ≡ Some rank
-
--- a claim of p that is ready holds this instance, which was granted
-abbrev pub IsClaimOn : Settlement → (p : ℕ) → Claim → Type 0
-IsClaimOn s p (Done reply) = IsNoDelivery reply
-IsClaimOn s p (Ready shared rank room) = IsShare s p (arc_value shared) rank
+-- ## the same of what is kept
 
 -- what such a claim holds stands in the hall
 pub record IsHeld (hall : HallView) (p request : ℕ) (full : Full Contents) (rank : ℕ) : Type 0 where
@@ -113,70 +98,3 @@ abbrev pub HoldsWhatIsKept : HallView → (p request : ℕ) → Claim → Type 0
 HoldsWhatIsKept hall p request (Done reply) = IsNoDelivery reply
 HoldsWhatIsKept hall p request (Ready shared rank room) =
     IsHeld hall p request (arc_value shared) rank
-
--- ## claims that make no room where none is needed
-
--- the reply that such a claim comes to
-abbrev pub lean_reply : LeanClaim → Reply
-lean_reply (Claimed claim) = claim_reply claim
-lean_reply (Copied full rank) = Delivered (value (arc_value full) rank)
-
--- its entry: the take, with that reply
-abbrev pub lean_entry : (p request : ℕ) → LeanClaim → Entry
-lean_entry p request claim = entry (to_take p request) (lean_reply claim)
-
--- What reading blocks where they stand asks: the instance is whole, the rank is in it, and the kind
--- doesn't reduce.
-pub record CanRead (full : Full Contents) (rank : ℕ) : Type 0 where
-  pub whole : IsWhole full
-  pub low : rank < full.roll.shape.size
-  pub copies : reduction full.roll.sig ≡ None
-
--- its reply may be told
-abbrev pub CanTell : LeanClaim → Type 0
-CanTell (Claimed claim) = CanFinish claim
-CanTell (Copied full rank) = CanRead (arc_value full) rank
-
--- it is a claim like any other
-abbrev pub IsUsual : LeanClaim → Type 0
-IsUsual (Claimed claim) = Unit {0}
-IsUsual (Copied full rank) = ⊥
-
--- what it holds
-abbrev pub LeanClaims : ChineseWall → Effects → (p request : ℕ) → LeanClaim → Type 0
-LeanClaims wall effects p request (Claimed claim) = Claims wall effects p request claim
-LeanClaims wall effects p request (Copied full rank) =
-    IsClaimed wall effects p request (arc_value full) rank
-
-abbrev pub IsLeanClaimOn : Settlement → (p : ℕ) → LeanClaim → Type 0
-IsLeanClaimOn s p (Claimed claim) = IsClaimOn s p claim
-IsLeanClaimOn s p (Copied shared rank) = IsShare s p (arc_value shared) rank
-
-abbrev pub LeanHoldsWhatIsKept : HallView → (p request : ℕ) → LeanClaim → Type 0
-LeanHoldsWhatIsKept hall p request (Claimed claim) = HoldsWhatIsKept hall p request claim
-LeanHoldsWhatIsKept hall p request (Copied shared rank) =
-    IsHeld hall p request (arc_value shared) rank
-
--- ## takes of what is known
-
--- the instance was granted, p has this rank in it and gets a block
-pub record IsServed (s : Settlement) (p rank : ℕ) : Type 0 where
-  pub share : IsShare s p s.full rank
-  pub place : places s.full.roll rank ≢ 0
-
--- The request of p is for an instance that was granted, as the run has it, in which p has this rank
--- and gets a block. The run goes on legally with a take that is delivered that, and the hall then
--- stands for it.
-pub record IsTakenUnread (old new : HallValue) (p request rank : ℕ) (run : List Entry) : Type 0
-  where
-    pub full : Full Contents
-    pub claimed : IsClaimed old.policy (effects run) p request full rank
-    pub place : places full.roll rank ≢ 0
-    pub legal : Legal new.policy (entry (to_take p request) (Delivered (value full rank)) ∷ run)
-    pub stands : StandsFor new (entry (to_take p request) (Delivered (value full rank)) ∷ run)
-
--- Of the instance that the request of p is for, if that was granted, as the run has it, p gets no
--- block; or the request is taken.
-abbrev pub GetsNoBlock : ChineseWall → Effects → (p request : ℕ) → Type 0
-GetsNoBlock wall effects p request = effects.taken p request ≡ false → (full : Full Contents) →
-    (rank : ℕ) → IsClaimed wall effects p request full rank → places full.roll rank ≡ 0

@@ -4,6 +4,7 @@ pub mod Claims
 pub mod Halls
 pub mod Invariant
 pub mod Ledgers
+pub mod Looks
 pub mod Moves
 pub mod Settling
 pub mod Sharing

@@ -1,31 +1,37 @@
 -- What a call makes of a hall, by what callers can tell. (The contracts of the hall's own steps.)
-use Rattle.std.specs.Prelude.{◌≡◌, ◌≢◌, ◌==◌, ◌&&◌, ◌+◌, ◌≤◌, ◌<◌, ◌^◌, ℕ, List, [], ◌∷◌, ◌++◌, Option}
-use Rattle.std.specs.Prelude.{Some, length, slice_get, take, drop, nat_lt, if◌then◌else◌}
+use Rattle.std.specs.Prelude.{◌≡◌, ◌≢◌, ◌==◌, ◌&&◌, ◌+◌, ◌≤◌, ◌<◌, ◌^◌, ℕ, List, [], ◌∷◌, ◌++◌}
+use Rattle.std.specs.Prelude.{Option, Some, length, slice_get, take, drop, nat_lt, if◌then◌else◌}
+use Rattle.std.specs.Arc.{arc_value}
 use Rattle.mpi_elems.specs.Contents.{Contents}
+use Rattle.mpi_group.specs.Groups.{rank_in}
 use Rattle.coll_routes.specs.declared.statement.Stated.{Stated}
-use Rattle.coll_routes.specs.Rolls.{places}
 use Rattle.coll_values.specs.declared.full.Full.{Full}
 use Rattle.coll_values.specs.Instances.{IsWhole}
-use Rattle.coll_values.specs.Values.{value}
 use Rattle.run_model.specs.declared.outcome.Outcome.TheVariants.{Granted, Made}
 use Rattle.run_model.specs.declared.entry.Entry.{Entry as BookEntry}
 use Rattle.run_model.specs.declared.entry.Entry.TheVariants.{Posted as EntryPosted}
 use Rattle.run_model.specs.declared.entry.Entry.TheVariants.{Settled as EntrySettled}
-use Rattle.run_model.specs.declared.refusal.Refusal.TheVariants.{NoSuchProcess}
+use Rattle.run_model.specs.declared.refusal.Refusal.TheVariants.{NoMemory, NoSuchProcess}
 use Rattle.run_model.specs.Comms.{Comm, processes, new_comms}
 use Rattle.run_state.specs.declared.entered.Entered.{Entered}
 use Rattle.run_state.specs.declared.entered.Entered.TheVariants.{Waiting, Settled}
 use Rattle.run_model.specs.declared.call.Act.{Act}
 use Rattle.run_model.specs.declared.call.Act.TheVariants.{Take}
 use Rattle.run_model.specs.declared.reply.Reply.{Reply}
-use Rattle.run_model.specs.declared.reply.Reply.TheVariants.{Delivered, Refused}
-use Rattle.run_model.specs.Runs.{after_entry, with_contribution, Effects}
-use Rattle.run_model.specs.Replies.{info_on, reply_by, IsAnswer, posts_in}
+use Rattle.run_model.specs.declared.reply.Reply.TheVariants.{Refused}
+use Rattle.run_model.specs.Runs.{after_entry, with_contribution, Effects, MakesNothing}
+use Rattle.run_model.specs.Replies.{info_on, reply_by, reply_by_outcome, IsAnswer, posts_in}
+use Rattle.hall_core.specs.declared.claims.Claim.{Claim}
+use Rattle.hall_core.specs.declared.claims.Claim.TheVariants.{Done, Ready}
+use Rattle.hall_core.specs.declared.looks.Due.{Due}
+use Rattle.hall_core.specs.declared.looks.Due.TheVariants as dues
+use Rattle.hall_core.specs.declared.looks.Open.{Open}
 use Rattle.hall_core.specs.declared.settled.Settlement.{Settlement}
 use Rattle.hall_core.specs.declared.requests.Request.{Request}
 use Rattle.hall_core.specs.Asking.{opened, room_of, requests_of, with_request, with_closed}
-use Rattle.hall_core.specs.Claims.{IsHeld}
+use Rattle.hall_core.specs.Claims.{IsNoDelivery}
 use Rattle.hall_core.specs.Halls.{HallView, StandsForEffects, settlement}
+use Rattle.hall_core.specs.Looks.{IsOf, IsOpen, IsOutcome, CanDeliver}
 use Rattle.run_model.specs.Proper.{IsProper}
 use Rattle.run_model.specs.Books.{IsCounted}
 use Rattle.run_model.specs.Contributions.{Contribution}
@@ -114,14 +120,33 @@ Steps old new p act got = (m : Effects) → IsProper old.policy m → StandsForE
     × StandsForEffects new
     (after_entry m (record { call = record { process = p; act = act }; reply = got }))
 
--- a take of p that is delivered what it gets at this rank of an instance that stands in the hall
-pub record TakesUnread (old new : HallView) (p request rank : ℕ) : Type 0 where
-  pub full : Full Contents
-  pub held : IsHeld old p request full rank
-  pub place : places full.roll rank ≢ 0
-  pub steps : Steps old new p (Take request) (Delivered (value full rank))
+-- ## looks
 
--- of the instance of this open request, if that was granted, p gets no block
-abbrev pub HoldsNoBlock : HallView → (p request : ℕ) → Type 0
-HoldsNoBlock hall p request = (full : Full Contents) → (rank : ℕ) →
-    IsHeld hall p request full rank → places full.roll rank ≡ 0
+-- p's request is due what this rank gets of an instance that stands in the hall
+pub record IsGrantIn (hall : HallView) (p request : ℕ) (full : Full Contents) (rank : ℕ)
+    (it : Open) : Type 0 where
+  pub of : IsOf it p request
+  pub is_open : IsOpen hall it (settlement full Granted)
+  pub is_member : rank_in full.roll.members p ≡ Some rank
+  pub can : CanDeliver full rank
+
+-- the claim has room for this rank, and is on the instance that the request is for
+abbrev pub HoldsGrant : HallView → Open → (rank : ℕ) → Claim → Type 0
+HoldsGrant hall it rank (Done got) = ⊥
+HoldsGrant hall it rank (Ready full its room) = (its ≡ rank)
+    × (hall.settled it.comm it.k ≡ Some (settlement (arc_value full) Granted))
+
+-- What a look at a request of p finds: a reply that changes nothing, or what came of the instance.
+abbrev pub FindsIn : HallView → (p request : ℕ) → Due → Type 0
+FindsIn hall p request (dues.Told got) = Steps hall hall p (Take request) got
+    × MakesNothing got × IsNoDelivery got × (got ≢ Refused NoMemory)
+FindsIn hall p request (dues.Outcome got it) = IsOutcome hall p request got it
+FindsIn hall p request (dues.Granted full rank it) = IsGrantIn hall p request full.now rank it
+
+-- It is what came of this instance, for p's request.
+abbrev pub FindsOn : Settlement → (p : ℕ) → Open → Due → Type 0
+FindsOn s p it (dues.Told got) = ⊥
+FindsOn s p it (dues.Outcome got found) = (found ≡ it)
+    × (got ≡ reply_by_outcome p s.full (Some s.outcome)) × IsNoDelivery got
+FindsOn s p it (dues.Granted full rank found) = (found ≡ it) × (s ≡ settlement full.now Granted)
+    × (rank_in full.now.roll.members p ≡ Some rank) × CanDeliver full.now rank

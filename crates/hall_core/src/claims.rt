@@ -23,20 +23,6 @@ pub enum Claim {
     },
 }
 
-/// The answer to a claim that makes no room where none is needed.
-#[derive(Drop)]
-pub enum LeanClaim {
-    /// It is a claim like any other.
-    Claimed(Claim),
-    /// The reply is a delivery of copies, which can be read where the members' numbers stand.
-    Copied {
-        /// The instance, which never changes again.
-        full: Arc<Full<Buffer>>,
-        /// The caller's rank in it.
-        rank: u32,
-    },
-}
-
 /// The reply to a claim: what it is, or the delivery, filled in the claim's own room. Takes no
 /// memory, and needs no hall.
 pub fn finish(claim: Claim) -> Reply

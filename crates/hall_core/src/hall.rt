@@ -1,9 +1,9 @@
 //! The hall: one call at a time.
-ghost use Rattle.std.specs.Prelude.{◌≡◌, List, [], ◌∷◌, All, IfOk, IfSome, IfNone, Some, slice_get};
+ghost use Rattle.std.specs.Prelude.{◌≡◌, ◌≢◌, List, [], ◌∷◌, All, IfOk};
 
-use crate::claims::{Claim, LeanClaim};
+use crate::claims::Claim;
+use crate::looks::{Due, Open};
 use crate::records::Records;
-use crate::requests;
 use run_model::{Call, Reply};
 use run_state::Book;
 use std::alloc::Global;
@@ -47,15 +47,14 @@ impl Hall {
     ghost use Rattle.run_model.specs.Comms.{processes};
     ghost use Rattle.run_model.specs.Books.{book, posts_in, IsSound};
     ghost use Rattle.run_model.specs.PostLaws.{IsWhatIsHeld, NobodyHoldsBoth};
-    ghost use Rattle.run_model.specs.Runs.{Entry, posts, effects, entry, requests, MakesNothing};
-    ghost use Rattle.run_model.specs.Replies.{Legal, reply};
+    ghost use Rattle.run_model.specs.declared.refusal.Refusal.TheVariants.{NoMemory as OutOfMemory};
+    ghost use Rattle.run_model.specs.declared.reply.Reply.{Reply};
     ghost use Rattle.run_model.specs.declared.reply.Reply.TheVariants.{Refused};
-    ghost use Rattle.run_model.specs.declared.refusal.Refusal.TheVariants.{NoSuchRequest};
+    ghost use Rattle.run_model.specs.Runs.{Entry, posts, effects, entry, MakesNothing};
+    ghost use Rattle.run_model.specs.Replies.{Legal};
     ghost use Rattle.hall_core.specs.Halls.{StandsFor, view_of};
     ghost use Rattle.hall_core.specs.Claims.{to_take, claim_reply, claim_entry, Claims, CanFinish};
-    ghost use Rattle.hall_core.specs.Claims.{lean_reply, lean_entry, LeanClaims, CanTell};
-    ghost use Rattle.hall_core.specs.Claims.{IsTakenUnread, GetsNoBlock};
-    ghost use Rattle.hall_core.specs.Asking.{open_for};
+    ghost use Rattle.hall_core.specs.Looks.{Finds, GoesOn, IsDue, due_reply};
     ghost use Rattle.run_model.specs.Known.{HasKnownLabel, IsKnownReply, IsKnownEntry};
 
     /// A hall that stands for the empty run. `NoMemory` is answered only where a growth was
@@ -115,60 +114,30 @@ impl Hall {
         self.records.claim(process, request)
     }
 
-    /// `claim` for those who only read what is delivered. Where the kind doesn't reduce it makes no
-    /// room, for the blocks can be read where the members' numbers stand
-    /// (`coll_values::stretch_at`); so it needs less memory, and all else is as there.
-    pub fn claim_lean(&mut self, process: u32, request: u64) -> LeanClaim
+    /// What a take of a request is due: who reads what is delivered reads it from the instance
+    /// itself. A look takes no memory. Told the reply, one that has an open request closes it;
+    /// where there is no memory to deliver what was granted, the take may be refused for that, and
+    /// nothing is closed.
+    pub fn look(&self, process: u32, request: u64) -> Due<'_>
+        ensures found { Finds self.now process request result }
+        ensures memory { due_reply result ≢ Refused OutOfMemory }
+        ensures named { IsKnownReply self.now.policy (due_reply result) }
+    {
+        self.records.look(process, request)
+    }
+
+    /// Closes a request whose outcome was due, as a look finds now: it is taken. With the last that
+    /// is open for its instance, that is let go. Takes no memory.
+    pub fn close(&mut self, it: Open)
+        requires { (got : Reply) × IsDue (view_of self.old) it got }
         ensures policy { self.new.policy ≡ self.old.policy }
-        ensures runs { (run : List Entry) → Legal self.old.policy run → StandsFor self.old run →
-            Legal self.new.policy (lean_entry process request result ∷ run)
-            × StandsFor self.new (lean_entry process request result ∷ run) }
-        ensures apart { (run : List Entry) → Legal self.old.policy run → StandsFor self.old run →
-            NobodyHoldsBoth self.new.policy (posts (lean_entry process request result ∷ run)) }
-        ensures claims { (run : List Entry) → Legal self.old.policy run → StandsFor self.old run →
-            LeanClaims self.old.policy (effects run) process request result }
-        ensures can { CanTell result }
-        ensures unchanged { MakesNothing (lean_reply result) →
-            view_of self.new ≡ view_of self.old }
-        ensures named { IsKnownReply self.new.policy (lean_reply result) }
+        ensures runs { (got : Reply) → IsDue (view_of self.old) it got →
+            GoesOn self.old self.new (to_take it.process it.request) got }
+        ensures apart { (got : Reply) → IsDue (view_of self.old) it got → (run : List Entry) →
+            Legal self.old.policy run → StandsFor self.old run → NobodyHoldsBoth self.new.policy
+            (posts (entry (to_take it.process it.request) got ∷ run)) }
     {
-        self.records.claim_lean(process, request)
-    }
-
-    /// A take for who knows already what is delivered: where the instance was granted and the
-    /// process gets a block of it, the request is marked as taken, and the process's rank there is
-    /// the answer. Else nothing changes. Takes no memory.
-    pub fn take_unread(&mut self, process: u32, request: u64) -> Option<u32>
-        ensures policy { self.new.policy ≡ self.old.policy }
-        ensures taken { IfSome result (λ rank. (run : List Entry) → Legal self.old.policy run →
-            StandsFor self.old run → IsTakenUnread self.old self.new process request rank run) }
-        ensures none { IfNone result ((run : List Entry) → StandsFor self.old run →
-            GetsNoBlock self.old.policy (effects run) process request) }
-        ensures unchanged { IfNone result (self.new ≡ self.old) }
-    {
-        self.records.take_unread(process, request)
-    }
-
-    /// The instance that a request of a process is for: its communicator, and its number there.
-    /// None only where a take of it is refused. Of a request that was taken no clause says that.
-    pub fn instance_of(&self, process: u32, request: u64) -> Option<(u32, u64)>
-        ensures asked { (run : List Entry) → StandsFor self.now run → IfSome result (λ at.
-            slice_get (requests process (posts run)) request ≡ Some at) }
-        ensures refused { (run : List Entry) → StandsFor self.now run → IfNone result
-            (reply self.now.policy run (to_take process request) ≡ Refused NoSuchRequest) }
-    {
-        match requests::opened_by(&self.records.requests, process, request as usize) {
-            Some(asked) => Some((asked.comm, asked.k)),
-            None => None,
-        }
-    }
-
-    /// How many requests for instance k of a communicator are open, of all processes. An instance
-    /// is let go with the last of them.
-    pub fn open_for(&self, comm: u32, k: u64) -> u64
-        ensures { result ≡ open_for (view_of self.now).asked (processes self.now.policy) comm k }
-    {
-        self.records.settled.waiting(comm, k)
+        self.records.close(it);
     }
 
     /// The policy that the hall was opened with.

@@ -61,11 +61,19 @@ impl Instance {
         }
     }
 
-    /// The form that it is kept in.
-    pub fn form(&self) -> &Form
-        ensures { full_in result.now ≡ self.now }
+    /// Whether the hall alone has it. Contracts see no difference.
+    pub fn is_plain(&self) -> bool {
+        self.form.is_plain()
+    }
+
+    /// The instance itself, in either form.
+    pub fn full(&self) -> &Full<Buffer>
+        ensures { result.now ≡ self.now }
     {
-        &self.form
+        match &self.form {
+            Form::Plain(full) => full,
+            Form::Shared(shared) => shared,
+        }
     }
 
     /// The shared form of it; the plain one again where memory runs out.

@@ -2,14 +2,16 @@
 //! a process from the first on that it has not taken. So its tables do not grow with the calls, and
 //! all other memory is given back.
 
-ghost use Rattle.std.specs.Prelude.{◌≡◌, ℕ};
+ghost use Rattle.std.specs.Prelude.{◌≡◌, ℕ, IfSome};
+ghost use Rattle.hall_core.specs.Halls.{view_of};
+ghost use Rattle.hall_core.specs.Looks.{IsDue};
 ghost use Rattle.hall_core.specs.Settling.{nothing, place_at};
 
 use crate::settled::Settlements;
 use crate::tests::Doing::{Cast, Sum, Take, Trade};
 use crate::tests::{FRIENDS, Line, RIVALS, SUM_OF_FOUR, answers, at_a_hall, runs};
 use crate::worlds_tests::{AT_ONCE, Looked, both};
-use crate::{Hall, finish};
+use crate::{Due, Hall, Open, Refusal, Reply, finish};
 use std::alloc::Global;
 use std::fs;
 use std::process::Abort;
@@ -178,35 +180,56 @@ fn what_one_has_not_taken_is_kept(rt: HostRuntime) -> Result<(), Fail> {
     Ok(())
 }
 
-/// Whether the request of that number is for that instance of the world.
-fn is_for(hall: &Hall, process: u32, request: u64, k: u64) -> bool {
-    match hall.instance_of(process, request) {
-        Some((comm, number)) => comm == 0 && number == k,
+/// The rank and the request of what a look finds due, if that is a delivery.
+fn grant_due(hall: &Hall, process: u32) -> Option<(u32, Open)>
+    ensures { IfSome result (λ due. (got : Reply) × IsDue (view_of hall.now) due.1 got) }
+{
+    match hall.look(process, 0) {
+        Due::Told(reply) => {
+            drop(reply);
+            None
+        }
+        Due::Outcome(reply, _) => {
+            drop(reply);
+            None
+        }
+        Due::Granted { rank, open, .. } => Some((rank, open)),
+    }
+}
+
+/// Whether a look finds this rank's delivery of the world's first instance due, for which so many
+/// other requests are open. The request is then closed.
+fn is_closed(hall: &mut Hall, process: u32, others: u64) -> bool {
+    match grant_due(hall, process) {
+        Some((rank, open)) => {
+            hall.close(open);
+            rank == process && open.comm == 0 && open.k == 0 && open.others == others
+        }
         None => false,
     }
 }
 
-/// Whether two take a broadcast unread, once each, and its root doesn't, which gets nothing.
-fn two_take_unread(hall: &mut Hall) -> bool {
-    let open = is_for(hall, 1, 0, 0) && is_for(hall, 3, 0, 0);
-    let taken = hall.take_unread(1, 0) == Some(1) && hall.take_unread(3, 0) == Some(3);
-    let again = hall.take_unread(1, 0).is_some() || is_for(hall, 1, 0, 0);
-    let root = hall.take_unread(0, 0).is_some();
-    open && taken && !again && !root && is_for(hall, 0, 0, 0)
+/// Whether a look finds nothing but that there is no such request.
+fn is_unknown(hall: &Hall, process: u32) -> bool {
+    matches!(
+        hall.look(process, 0),
+        Due::Told(Reply::Refused(Refusal::NoSuchRequest))
+    )
 }
 
-/// Whether they do, and the others are told it still.
-fn some_take_unread(alloc: Global, hall: &mut Hall) -> Result<bool, NoMemory> {
+/// Whether two requests for a broadcast are closed, once each, and the others are told it still.
+fn two_are_closed(alloc: Global, hall: &mut Hall) -> Result<bool, NoMemory> {
     asks_all(alloc, hall, BROADCAST)?;
-    let taken = two_take_unread(hall) && hall.kept_places(0) == 1;
+    let closed = is_closed(hall, 1, 3) && is_closed(hall, 3, 2);
+    let known = is_unknown(hall, 1) && !is_unknown(hall, 0) && hall.kept_places(0) == 1;
     let other = answers(alloc, hall, &(2, Take(0), "delivered [5]"))?;
-    let root = answers(alloc, hall, &(0, Take(0), "delivered none"))?;
-    Ok(taken && other && root && keeps(hall, 0))
+    let root = is_closed(hall, 0, 0);
+    Ok(closed && known && other && root && keeps(hall, 0))
 }
 
 #[test]
-fn a_known_delivery_is_taken_unread(rt: HostRuntime) -> Result<(), Fail> {
-    assert!(rt; at_a_hall(rt.alloc(), FRIENDS, some_take_unread)?);
+fn a_request_is_closed_once(rt: HostRuntime) -> Result<(), Fail> {
+    assert!(rt; at_a_hall(rt.alloc(), FRIENDS, two_are_closed)?);
     Ok(())
 }
 

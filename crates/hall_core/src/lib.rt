@@ -2,9 +2,10 @@
 //!
 //! A hall stands for the run of all calls so far (`specs/Halls.antt`): each reply of `apply` is the
 //! one that `run_model` says is due, or out of memory where a post would count or something be
-//! delivered. `claim` is the part of a take that needs the hall, `finish` the rest; `claim_lean` is
-//! for those who only read what is delivered. `run_calls` answers a list of calls, and `run_two`
-//! two lists under one policy, for the laws on two worlds.
+//! delivered. A take is `look`, which finds what is due, and `close`, once that was told. `claim`
+//! is the part of a take that needs the hall, for those who fill what is delivered elsewhere, and
+//! `finish` the rest. `run_calls` answers a list of calls, and `run_two` two lists under one
+//! policy, for the laws on two worlds.
 //!
 //! It stands on `run_state` for the posts and the book, and keeps beside them the requests and what
 //! came of the instances that were filled.
@@ -18,6 +19,7 @@ mod instance;
 #[cfg(test)]
 mod kept_tests;
 mod ledger;
+mod looks;
 mod posts;
 mod records;
 mod requests;
@@ -32,8 +34,9 @@ mod worlds;
 mod worlds_tests;
 
 pub use brief::BriefHall;
-pub use claims::{Claim, LeanClaim, finish};
+pub use claims::{Claim, finish};
 pub use hall::Hall;
+pub use looks::{Due, Open};
 pub use run_model::{
     Act, Acts, Block, Call, Delivery, Integers, Posting, Refusal, Reply, Rule, Scripts,
 };

@@ -1,43 +1,49 @@
 //! All that a hall keeps.
 ghost use Rattle.std.specs.Prelude.{◌≡◌, ◌<◌, ◌+◌, ◌^◌, ◌++◌, ◌==◌, ◌&&◌, if◌then◌else◌, [], ◌∷◌};
-ghost use Rattle.std.specs.Prelude.{ℕ, length, not, IfOk, OnOk, IfNone, IsTrue, IsFalse, Some};
-ghost use Rattle.std.specs.Prelude.{None, IfSome, OnErr};
-ghost use Rattle.std.specs.Option.{is_some, option_map};
+ghost use Rattle.std.specs.Prelude.{ℕ, length, not, IfOk, OnOk, IsTrue, IsFalse, Some};
+ghost use Rattle.std.specs.Prelude.{None, OnErr};
+ghost use Rattle.std.specs.Option.{option_map};
+ghost use Rattle.std.specs.Result.{result_err};
 ghost use Rattle.wall_policy.specs.Policy.{IsPolicy};
 ghost use Rattle.wall_rules.specs.Histories.{has};
 ghost use Rattle.mpi_cart.specs.Grids.{Topology};
+ghost use Rattle.mpi_elems.specs.Contents.{Contents};
 ghost use Rattle.coll_routes.specs.Faults.{stated_type};
+ghost use Rattle.coll_values.specs.declared.full.Full.{Full};
 ghost use Rattle.wall_verdict.specs.Star.{star};
 ghost use Rattle.run_model.specs.declared.entry.Entry.TheVariants.{Posted as EntryPosted};
 ghost use Rattle.run_model.specs.declared.entry.Entry.TheVariants.{Settled as EntrySettled};
 ghost use Rattle.run_model.specs.Comms.{processes};
 ghost use Rattle.run_model.specs.EntryForms.{HasForm};
 ghost use Rattle.run_model.specs.Contributions.{contribution};
-ghost use Rattle.run_state.specs.Views.{fault_of, view_of as seen};
+ghost use Rattle.run_state.specs.Views.{LookedAt, view_of as seen};
 ghost use Rattle.run_model.specs.declared.call.Act.TheVariants.{Take as ToTake, Post as ToPost};
 ghost use Rattle.run_model.specs.declared.reply.Reply.TheVariants.{Info};
 ghost use Rattle.run_model.specs.Runs.{effects, given_in, Effects, MakesNothing};
 ghost use Rattle.run_model.specs.Replies.{refusal};
-ghost use Rattle.hall_core.specs.Claims.{claim_reply, CanFinish, HoldsWhatIsKept, lean_reply};
-ghost use Rattle.hall_core.specs.Claims.{CanTell, LeanHoldsWhatIsKept, IsUsual};
+ghost use Rattle.hall_core.specs.Claims.{claim_reply, CanFinish, HoldsWhatIsKept};
 ghost use Rattle.hall_core.specs.Asking.{opened, requests_of, with_request};
-ghost use Rattle.hall_core.specs.Settling.{HasPlace, open_at, settlement_at};
+ghost use Rattle.hall_core.specs.declared.settled.Settlement.{Settlement};
+ghost use Rattle.hall_core.specs.Looks.{IsOpen};
+ghost use Rattle.hall_core.specs.Settling.{HasPlace, open_at, place_at, settlement_at};
 ghost use Rattle.hall_core.specs.Halls.{StandsForEffects};
 ghost use Rattle.hall_core.specs.Invariant.{AreCounted, IsHallView, view_in};
 ghost use Rattle.hall_core.specs.Moves.{info_of, number_in, IsRecorded, HasRoom, Counts, Closes};
-ghost use Rattle.hall_core.specs.Moves.{Steps, TakesUnread, HoldsNoBlock};
+ghost use Rattle.hall_core.specs.Moves.{Steps, FindsIn, IsGrantIn, HoldsGrant};
 
-use crate::claims::{Claim, LeanClaim, finish};
+use crate::claims::Claim;
 use crate::instance::Instance;
 use crate::ledger::Ledger;
+use crate::looks::{Due, Open};
 use crate::requests::{Request, Requests};
-use crate::settled::{Settlement, Settlements};
-use crate::takes::{claimed, rank_served};
+use crate::settled::{Place, Settlement, Settlements};
+use crate::takes::found;
 use crate::{posts, requests};
 use coll_routes::{Shape, Stated};
+use coll_values::{deliver, room};
 use mpi_elems::Buffer;
 use run_model::{Act, Entry, Posting, Refusal, Reply};
-use run_state::{Entered, PostState};
+use run_state::{Entered, Next, PostState, Seat, Terms};
 use std::alloc::Global;
 use wall_labels::{NoMemory, ProcessId};
 use wall_policy::Policy;
@@ -137,6 +143,68 @@ impl Records {
         }
     }
 
+    /// What a take of a request is due.
+    pub fn look(&self, process: u32, request: u64) -> Due<'_>
+        requires policy { IsPolicy self.now.policy }
+        requires each { length self.now.requests.items ≡ processes self.now.policy }
+        requires counted { AreCounted self.now }
+        requires hall { IsHallView (view_in self.now) }
+        ensures { FindsIn (view_in self.now) process request result }
+    {
+        let Some(asked) = requests::opened_by(&self.requests, process, request as usize) else {
+            return Due::Told(Reply::Refused(Refusal::NoSuchRequest));
+        };
+        match self.settled.place(asked.comm, asked.k) {
+            Some(place) => self.look_at(process, request, asked, place),
+            None => Due::Told(Reply::Pending),
+        }
+    }
+
+    // What a take of an open request for the instance at this place is due.
+    fn look_at<'a>(
+        &'a self,
+        process: u32,
+        request: u64,
+        asked: Request,
+        place: &'a Place,
+    ) -> Due<'a>
+        requires policy { IsPolicy self.now.policy }
+        requires each { length self.now.requests.items ≡ processes self.now.policy }
+        requires counted { AreCounted self.now }
+        requires hall { IsHallView (view_in self.now) }
+        requires process { process < length self.now.requests.items }
+        requires waits { opened (requests_of self.now.requests.items process) request ≡ Some asked }
+        requires there { place_at self.now.settled asked.comm asked.k ≡ place.now }
+        ensures { FindsIn (view_in self.now) process request result }
+    {
+        let Some(settlement) = &place.settlement else {
+            return Due::Told(Reply::Pending);
+        };
+        let it = Open {
+            process,
+            request,
+            comm: asked.comm,
+            k: asked.k,
+            others: place.waiting - 1,
+        };
+        found(&self.post_state, posts::member(process), settlement, it)
+    }
+
+    /// An open request is taken whose outcome was due; with the last that is open for its instance,
+    /// that is let go.
+    pub fn close(&mut self, it: Open)
+        requires open { (s : Settlement) × IsOpen (view_in self.old) it s }
+        requires counted { AreCounted self.old }
+        ensures policy { self.new.policy ≡ self.old.policy }
+        ensures each { length self.new.requests.items ≡ length self.old.requests.items }
+        ensures counted { AreCounted self.new }
+        ensures closes { Closes (view_in self.old) (view_in self.new) it.process it.request }
+        ensures gone { self.new.book.gone ≡ self.old.book.gone }
+    {
+        requests::take(&mut self.requests, it.process, it.request as usize);
+        self.settled.leave(it.comm, it.k);
+    }
+
     /// The outcome of a request, which is then marked as taken.
     pub fn take(&mut self, process: u32, request: u64) -> Reply
         requires policy { IsPolicy self.old.policy }
@@ -151,7 +219,24 @@ impl Records {
         ensures unchanged { MakesNothing result → view_in self.new ≡ view_in self.old }
         ensures gone { self.new.book.gone ≡ self.old.book.gone }
     {
-        finish(self.claim(process, request))
+        match self.look(process, request) {
+            Due::Told(reply) => reply,
+            Due::Outcome(reply, it) => {
+                self.close(it);
+                reply
+            }
+            Due::Granted {
+                full,
+                rank,
+                open: it,
+            } => match deliver(self.alloc, full, rank) {
+                Ok(delivery) => {
+                    self.close(it);
+                    Reply::Delivered(delivery)
+                }
+                Err(_) => Reply::Refused(Refusal::NoMemory),
+            },
+        }
     }
 
     /// The part of a take for which the hall is needed; it also marks the request as taken.
@@ -171,140 +256,74 @@ impl Records {
         ensures holds { HoldsWhatIsKept (view_in self.old) process request result }
         ensures gone { self.new.book.gone ≡ self.old.book.gone }
     {
-        // As in `claim_lean`, and not by it: a rank that waits comes here at each of its tries.
-        let number = request as usize;
-        let Some(asked) = requests::opened_by(&self.requests, process, number) else {
-            return Claim::Done(Reply::Refused(Refusal::NoSuchRequest));
-        };
-        if !self.freeze(asked.comm, asked.k) {
-            return Claim::Done(Reply::Pending);
-        }
-        match self.claim_of(process, request, asked, false) {
-            LeanClaim::Claimed(claim) => claim,
-            LeanClaim::Copied { .. } => unreachable!(),
+        match self.look(process, request) {
+            Due::Told(reply) => Claim::Done(reply),
+            Due::Outcome(reply, it) => {
+                self.close(it);
+                Claim::Done(reply)
+            }
+            Due::Granted { rank, open: it, .. } => self.claim_granted(rank, it),
         }
     }
 
-    /// The same, without room for copies.
-    pub fn claim_lean(&mut self, process: u32, request: u64) -> LeanClaim
+    // A claim of this rank for an open request whose instance was granted.
+    fn claim_granted(&mut self, rank: u32, it: Open) -> Claim
         requires policy { IsPolicy self.old.policy }
         requires each { length self.old.requests.items ≡ processes self.old.policy }
         requires counted { AreCounted self.old }
         requires hall { IsHallView (view_in self.old) }
+        requires granted { (full : Full Contents)
+            × IsGrantIn (view_in self.old) it.process it.request full rank it }
         ensures policy { self.new.policy ≡ self.old.policy }
         ensures each { length self.new.requests.items ≡ length self.old.requests.items }
         ensures counted { AreCounted self.new }
-        ensures steps { Steps (view_in self.old) (view_in self.new) process (ToTake request)
-            (lean_reply result) }
-        ensures unchanged { MakesNothing (lean_reply result) →
+        ensures steps { Steps (view_in self.old) (view_in self.new) it.process
+            (ToTake it.request) (claim_reply result) }
+        ensures unchanged { MakesNothing (claim_reply result) →
             view_in self.new ≡ view_in self.old }
-        ensures can { CanTell result }
-        ensures holds { LeanHoldsWhatIsKept (view_in self.old) process request result }
+        ensures can { CanFinish result }
+        ensures holds { HoldsWhatIsKept (view_in self.old) it.process it.request result }
         ensures gone { self.new.book.gone ≡ self.old.book.gone }
     {
-        let number = request as usize;
-        let Some(asked) = requests::opened_by(&self.requests, process, number) else {
-            return LeanClaim::Claimed(Claim::Done(Reply::Refused(Refusal::NoSuchRequest)));
-        };
-        if !self.freeze(asked.comm, asked.k) {
-            return LeanClaim::Claimed(Claim::Done(Reply::Pending));
-        }
-        self.claim_of(process, request, asked, true)
-    }
-
-    /// Takes an open request without a look at what is delivered, where its instance was granted
-    /// and the process gets a block of it.
-    pub fn take_unread(&mut self, process: u32, request: u64) -> Option<u32>
-        requires policy { IsPolicy self.old.policy }
-        requires each { length self.old.requests.items ≡ processes self.old.policy }
-        requires counted { AreCounted self.old }
-        ensures policy { self.new.policy ≡ self.old.policy }
-        ensures each { length self.new.requests.items ≡ length self.old.requests.items }
-        ensures counted { AreCounted self.new }
-        ensures taken { IfSome result (λ rank.
-            TakesUnread (view_in self.old) (view_in self.new) process request rank) }
-        ensures none { IfNone result (HoldsNoBlock (view_in self.old) process request) }
-        ensures unchanged { IfNone result (self.new ≡ self.old) }
-        ensures gone { self.new.book.gone ≡ self.old.book.gone }
-    {
-        let number = request as usize;
-        let Some(asked) = requests::opened_by(&self.requests, process, number) else {
-            return None;
-        };
-        let Some(settlement) = self.settled.get(asked.comm, asked.k) else {
-            return None;
-        };
-        let member = posts::member(process);
-        match rank_served(settlement, member) {
-            Some(rank) => {
-                self.close(process, number, asked);
-                Some(rank)
+        self.freeze(it.comm, it.k);
+        match self.ready(rank, it) {
+            Ok(claim) => {
+                self.close(it);
+                claim
             }
-            None => None,
+            Err(_) => Claim::Done(Reply::Refused(Refusal::NoMemory)),
         }
     }
 
-    // Shares an instance, where it was granted and there is memory, and says whether it was filled
-    // and not let go. Callers can tell no difference.
+    // Shares an instance, where it was granted and there is memory. Callers can tell no difference.
     #[tactic(auto, using(crate::proofs::CountLemmas::counted_ready, crate::proofs::CountLemmas::settled_same))]
-    fn freeze(&mut self, comm: u32, k: u64) -> bool
+    fn freeze(&mut self, comm: u32, k: u64)
         requires counted { AreCounted self.old }
         ensures policy { self.new.policy ≡ self.old.policy }
         ensures requests { self.new.requests ≡ self.old.requests }
         ensures counted { AreCounted self.new }
         ensures same { view_in self.new ≡ view_in self.old }
-        ensures settled { result ≡ is_some (settlement_at self.old.settled comm k) }
         ensures gone { self.new.book.gone ≡ self.old.book.gone }
     {
-        self.settled.freeze(comm, k)
+        self.settled.freeze(comm, k);
     }
 
-    // A claim for an open request of this instance. A lean one makes no room for copies.
-    fn claim_of(&mut self, process: u32, request: u64, asked: Request, lean: bool) -> LeanClaim
-        requires policy { IsPolicy self.old.policy }
-        requires each { length self.old.requests.items ≡ processes self.old.policy }
-        requires counted { AreCounted self.old }
-        requires hall { IsHallView (view_in self.old) }
-        requires process { process < length self.old.requests.items }
-        requires waits { opened (requests_of self.old.requests.items process) request ≡ Some asked }
-        ensures policy { self.new.policy ≡ self.old.policy }
-        ensures each { length self.new.requests.items ≡ length self.old.requests.items }
-        ensures counted { AreCounted self.new }
-        ensures steps { Steps (view_in self.old) (view_in self.new) process (ToTake request)
-            (lean_reply result) }
-        ensures unchanged { MakesNothing (lean_reply result) →
-            view_in self.new ≡ view_in self.old }
-        ensures can { CanTell result }
-        ensures holds { LeanHoldsWhatIsKept (view_in self.old) process request result }
-        ensures usual { IsFalse lean → IsUsual result }
-        ensures gone { self.new.book.gone ≡ self.old.book.gone }
+    // A share of an instance that was granted, and room for what this rank gets of it.
+    fn ready(&self, rank: u32, it: Open) -> Result<Claim, NoMemory>
+        requires granted { (full : Full Contents)
+            × IsGrantIn (view_in self.now) it.process it.request full rank it }
+        ensures can { IfOk result CanFinish }
+        ensures holds { IfOk result (HoldsGrant (view_in self.now) it rank) }
     {
-        let Some(settlement) = self.settled.get(asked.comm, asked.k) else {
-            return LeanClaim::Claimed(Claim::Done(Reply::Pending));
+        let Some(place) = self.settled.place(it.comm, it.k) else {
+            unreachable!()
         };
-        let member = posts::member(process);
-        match claimed(self.alloc, &self.post_state, member, settlement, lean) {
-            Err(_) => LeanClaim::Claimed(Claim::Done(Reply::Refused(Refusal::NoMemory))),
-            Ok(claim) => {
-                self.close(process, request as usize, asked);
-                claim
-            }
-        }
-    }
-
-    // An open request is taken; with the last that is open for its instance, that is let go.
-    fn close(&mut self, process: u32, number: usize, asked: Request)
-        requires process { process < length self.old.requests.items }
-        requires waits { opened (requests_of self.old.requests.items process) number ≡ Some asked }
-        requires counted { AreCounted self.old }
-        ensures policy { self.new.policy ≡ self.old.policy }
-        ensures each { length self.new.requests.items ≡ length self.old.requests.items }
-        ensures counted { AreCounted self.new }
-        ensures closes { Closes (view_in self.old) (view_in self.new) process number }
-        ensures gone { self.new.book.gone ≡ self.old.book.gone }
-    {
-        requests::take(&mut self.requests, process, number);
-        self.settled.leave(asked.comm, asked.k);
+        let Some(settlement) = &place.settlement else {
+            unreachable!()
+        };
+        let full = settlement.full.share()?;
+        let room = room(self.alloc, &full, rank)?;
+        Ok(Claim::Ready { full, rank, room })
     }
 
     /// Counts a post, or says why it is refused.
@@ -321,69 +340,77 @@ impl Records {
         ensures unchanged { MakesNothing result → view_in self.new ≡ view_in self.old }
         ensures gone { self.new.book.gone ≡ self.old.book.gone }
     {
-        match self.refusal(process, &posting) {
-            Some(refusal) => {
+        match self.seat_of(process, &posting) {
+            Err(refusal) => {
                 drop(posting);
                 Reply::Refused(refusal)
             }
-            None => self.accept(process, posting),
+            Ok(seat) => self.accept(process, seat, posting),
         }
     }
 
-    // The first refusal of a post that holds.
-    fn refusal(&self, process: u32, posting: &Posting) -> Option<Refusal>
+    // What a post meets, or the first refusal of it that holds.
+    fn seat_of(&self, process: u32, posting: &Posting) -> Result<Seat, Refusal>
         requires each { length self.now.requests.items ≡ processes self.now.policy }
         ensures first { (m : Effects) → StandsForEffects (view_in self.now) m →
-            result ≡ refusal self.now.policy m process posting.now }
-        ensures free { IfNone result (fault_of self.now.policy (seen self.now.post_state) process
-            posting.now.comm posting.now.sig posting.now.own posting.now.elements.elem_type
-            (given_in posting.now) ≡ None) }
-        ensures process { IfNone result (process < processes self.now.policy) }
-        ensures few { IfNone result
-            (length (requests_of self.now.requests.items process) < 2 ^ 62) }
+            result_err result ≡ refusal self.now.policy m process posting.now }
+        ensures process { IfOk result (λ seat. seat.process ≡ process) }
+        ensures comm { IfOk result (λ seat. seat.meeting.comm ≡ posting.now.comm) }
+        ensures looked { IfOk result (λ seat. LookedAt (seen self.now.post_state) seat
+            posting.now.sig posting.now.own posting.now.elements.elem_type
+            (given_in posting.now)) }
+        ensures known { IfOk result (λ seat. seat.process < processes self.now.policy) }
+        ensures few { IfOk result (λ seat.
+            length (requests_of self.now.requests.items seat.process) < 2 ^ 62) }
     {
-        let fault = self.post_state.refusal(
+        let looked = self.post_state.look(
             &self.policy,
             process,
             posting.comm,
-            &posting.sig,
-            &posting.own,
-            posting.elements.elem_type(),
-            posts::given(posting),
+            Terms {
+                sig: &posting.sig,
+                own: &posting.own,
+                elem_type: posting.elements.elem_type(),
+                given: posts::given(posting),
+            },
         );
-        match fault {
-            Some(refusal) => Some(refusal),
-            None => requests::refusal(&self.requests, process),
+        match looked {
+            Err(refusal) => Err(refusal),
+            Ok(seat) => match requests::refusal(&self.requests, process) {
+                Some(refusal) => Err(refusal),
+                None => Ok(seat),
+            },
         }
     }
 
-    // Counts a post that is not refused.
-    fn accept(&mut self, process: u32, posting: Posting) -> Reply
+    // Counts a post that is not refused, as a look found it.
+    fn accept(&mut self, process: u32, seat: Seat, posting: Posting) -> Reply
         requires policy { IsPolicy self.old.policy }
         requires each { length self.old.requests.items ≡ processes self.old.policy }
         requires counted { AreCounted self.old }
         requires hall { IsHallView (view_in self.old) }
         requires none { (m : Effects) → StandsForEffects (view_in self.old) m →
-            refusal self.old.policy m process posting ≡ None }
-        requires free { fault_of self.old.policy (seen self.old.post_state) process posting.comm
-            posting.sig posting.own posting.elements.elem_type (given_in posting) ≡ None }
-        requires process { process < processes self.old.policy }
-        requires few { length (requests_of self.old.requests.items process) < 2 ^ 62 }
+            refusal self.old.policy m seat.process posting ≡ None }
+        requires own { process ≡ seat.process }
+        requires comm { seat.meeting.comm ≡ posting.comm }
+        requires looked { LookedAt (seen self.old.post_state) seat posting.sig posting.own
+            posting.elements.elem_type (given_in posting) }
+        requires process { seat.process < processes self.old.policy }
+        requires few { length (requests_of self.old.requests.items seat.process) < 2 ^ 62 }
         ensures policy { self.new.policy ≡ self.old.policy }
         ensures each { length self.new.requests.items ≡ length self.old.requests.items }
         ensures counted { AreCounted self.new }
-        ensures steps { Steps (view_in self.old) (view_in self.new) process (ToPost posting)
+        ensures steps { Steps (view_in self.old) (view_in self.new) seat.process (ToPost posting)
             result }
         ensures unchanged { MakesNothing result → view_in self.new ≡ view_in self.old }
         ensures gone { self.new.book.gone ≡ self.old.book.gone }
     {
-        let member = posts::member(process);
         let label = posts::label(&posting);
-        let passed = self.post_state.passes(member, &label);
+        let passed = self.post_state.passes(&seat, &label);
         let request = requests::given_to(&self.requests, process);
         let given = posts::given(&posting) as u32;
         let Posting {
-            comm,
+            comm: _,
             sig,
             own,
             label: told,
@@ -397,29 +424,29 @@ impl Records {
             barred: !passed,
         };
         let part = posts::kept(self.alloc, elements, !passed);
-        let entered = self.enter(member, comm, stated, part);
+        let entered = self.enter(seat, stated, part);
         posts::answer(entered, passed, request as u64, told)
     }
 
-    // Counts a post with what it states and its part; false, and nothing has changed, where memory
-    // runs out.
-    fn enter(&mut self, member: ProcessId, comm: u32, stated: Stated, part: Buffer) -> bool
+    // Counts a post as a look found it, with what it states and its part; false, and nothing has
+    // changed, where memory runs out.
+    fn enter(&mut self, seat: Seat, stated: Stated, part: Buffer) -> bool
         requires policy { IsPolicy self.old.policy }
         requires each { length self.old.requests.items ≡ processes self.old.policy }
         requires counted { AreCounted self.old }
         requires hall { IsHallView (view_in self.old) }
-        requires process { member < processes self.old.policy }
-        requires free { fault_of self.old.policy (seen self.old.post_state) member comm stated.sig
-            stated.own (stated_type stated.sig) stated.given ≡ None }
+        requires process { seat.process < processes self.old.policy }
+        requires looked { LookedAt (seen self.old.post_state) seat stated.sig stated.own
+            (stated_type stated.sig) stated.given }
         requires word { stated.barred
-            ≡ not (star (has self.old.post_state.accesses) member stated.label) }
-        requires few { length (requests_of self.old.requests.items member) < 2 ^ 62 }
-        requires form { HasForm (EntryPosted member comm stated) }
+            ≡ not (star (has self.old.post_state.accesses) seat.process stated.label) }
+        requires few { length (requests_of self.old.requests.items seat.process) < 2 ^ 62 }
+        requires form { HasForm (EntryPosted seat.process seat.meeting.comm stated) }
         ensures policy { self.new.policy ≡ self.old.policy }
         ensures each { length self.new.requests.items ≡ length self.old.requests.items }
         ensures counted { AreCounted self.new }
-        ensures entered { IsTrue result →
-            Counts (view_in self.old) (view_in self.new) (contribution member comm stated part) }
+        ensures entered { IsTrue result → Counts (view_in self.old) (view_in self.new)
+            (contribution seat.process seat.meeting.comm stated part) }
         ensures unchanged { IsFalse result → view_in self.new ≡ view_in self.old }
         ensures gone { self.new.book.gone ≡ self.old.book.gone }
     {
@@ -429,23 +456,22 @@ impl Records {
             drop(part);
             return false;
         };
-        let k = self.post_state.place(member, comm);
+        let member = seat.process;
+        let comm = seat.meeting.comm;
+        let k = seat.meeting.k;
+        let does = seat.meeting.does;
         let Ok(()) = self.make_room(member.number(), comm, k) else {
             drop(copy);
             drop(stated);
             drop(part);
             return false;
         };
-        if self.post_state.joins(&self.policy, member, comm, &stated) {
-            self.post_state
-                .join(&self.policy, member, comm, stated, part);
+        if let Next::Joins = does {
+            self.post_state.join(seat, stated, part);
             self.note(member, comm, k, copy);
             return true;
         }
-        match self
-            .post_state
-            .enter(&self.policy, member, comm, stated, part)
-        {
+        match self.post_state.enter(&self.policy, seat, stated, part) {
             Err(unentered) => {
                 drop(copy);
                 drop(unentered);

@@ -1,12 +1,12 @@
 //! The places of instances, each with what came of it.
 ghost use Rattle.std.specs.Prelude.{◌≡◌, ◌<◌, ◌≤◌, ◌==◌, ◌+◌, ◌^◌, ◌∷◌, ◌++◌, ℕ, None, Some};
 ghost use Rattle.std.specs.Prelude.{length, replicate, drop, min, max, OnOk, OnErr, IsTrue};
-ghost use Rattle.std.specs.Prelude.{if◌then◌else◌};
-ghost use Rattle.std.specs.Option.{is_some, option_copied};
+ghost use Rattle.std.specs.Prelude.{if◌then◌else◌, unwrap_or};
+ghost use Rattle.std.specs.Option.{option_copied};
 ghost use Rattle.std.specs.VecDeque.{deque_len};
 ghost use Rattle.run_model.specs.declared.outcome.Outcome.TheVariants.{Granted};
 ghost use Rattle.hall_core.specs.Settling.{nothing, no_places, place_in, place_at};
-ghost use Rattle.hall_core.specs.Settling.{open_at, settlement_at, HasPlace, one_more, one_fewer};
+ghost use Rattle.hall_core.specs.Settling.{open_at, HasPlace, one_more, one_fewer};
 ghost use Rattle.hall_core.specs.Settling.{settled_as, with_place, AreSame, IsPlaced};
 
 use crate::instance::Instance;
@@ -36,7 +36,7 @@ impl Settlement {
     fn is_unshared_grant(&self) -> bool
         ensures { IsTrue result → self.now.outcome ≡ Granted }
     {
-        matches!(&self.outcome, Outcome::Granted) && self.full.form().is_plain()
+        matches!(&self.outcome, Outcome::Granted) && self.full.is_plain()
     }
 
     // With its instance shared, where there is memory.
@@ -97,20 +97,17 @@ impl Place {
     }
 }
 
-// Shares the instance at the place, if it was granted and there is memory, and says whether there
-// is an instance.
-fn freeze_place(alloc: Global, place: &mut Place) -> bool
-    ensures same { place.new ≡ place.old }
-    ensures settled { result ≡ is_some place.old.settlement }
+// Shares the instance at the place, if there is one that was granted, and memory.
+fn freeze_place(alloc: Global, place: &mut Place)
+    ensures { place.new ≡ place.old }
 {
     let waits = match &place.settlement {
         Some(settlement) => settlement.is_unshared_grant(),
-        None => return false,
+        None => false,
     };
     if waits {
         share_in(alloc, place);
     }
-    true
 }
 
 // Shares the instance at the place, if there is one and memory for it.
@@ -193,32 +190,15 @@ impl Row {
         }
     }
 
-    // What came of the instance of that number.
+    // The place of the instance of that number, if there is one.
     #[tactic(auto, using(crate::proofs::SettlingLemmas::place_behind, crate::proofs::SettlingLemmas::place_ahead))]
-    fn settlement(&self, k: usize) -> Option<&Settlement>
-        ensures { option_copied result ≡ (place_in self.now.list k).settlement }
+    fn place(&self, k: usize) -> Option<&Place>
+        ensures { unwrap_or (option_copied result) nothing ≡ place_in self.now.list k }
     {
         if k < self.first {
             return None;
         }
-        match self.places.get(k - self.first) {
-            Some(place) => place.settlement.as_ref(),
-            None => None,
-        }
-    }
-
-    // How many requests for the instance of that number are open.
-    #[tactic(auto, using(crate::proofs::SettlingLemmas::place_behind, crate::proofs::SettlingLemmas::place_ahead))]
-    fn waiting(&self, k: usize) -> u64
-        ensures { result ≡ (place_in self.now.list k).waiting }
-    {
-        if k < self.first {
-            return 0;
-        }
-        match self.places.get(k - self.first) {
-            Some(place) => place.waiting,
-            None => 0,
-        }
+        self.places.get(k - self.first)
     }
 
     // Makes a place for the instance of that number. Of those that were dropped it takes back only
@@ -286,21 +266,17 @@ impl Row {
         self.places[at].settlement = Some(settlement);
     }
 
-    // Shares the instance of that number, where it was granted and there is memory, and says
-    // whether it was filled and not let go.
-    #[tactic(auto, using(crate::proofs::SettlingLemmas::row_unchanged, crate::proofs::SettlingLemmas::place_behind, crate::proofs::SettlingLemmas::place_ahead))]
-    fn freeze(&mut self, alloc: Global, k: usize) -> bool
-        ensures same { self.new ≡ self.old }
-        ensures settled { result ≡ is_some (place_in self.old.list k).settlement }
+    // Shares the instance of that number, where it was granted and there is memory.
+    #[tactic(auto, using(crate::proofs::SettlingLemmas::row_unchanged))]
+    fn freeze(&mut self, alloc: Global, k: usize)
+        ensures { self.new ≡ self.old }
     {
         if k < self.first {
-            return false;
+            return;
         }
         let at = k - self.first;
         if at < self.places.len() {
-            freeze_place(alloc, &mut self.places[at])
-        } else {
-            false
+            freeze_place(alloc, &mut self.places[at]);
         }
     }
 
@@ -352,18 +328,11 @@ impl Settlements {
         }
     }
 
-    /// What came of instance k of a communicator, if it was filled and was not let go.
-    pub fn get(&self, comm: u32, k: u64) -> Option<&Settlement>
-        ensures { option_copied result ≡ settlement_at self.now comm k }
+    /// The place of instance k of a communicator, if there is one.
+    pub fn place(&self, comm: u32, k: u64) -> Option<&Place>
+        ensures { unwrap_or (option_copied result) nothing ≡ place_at self.now comm k }
     {
-        settlement_of(&self.rows, comm as usize, k as usize)
-    }
-
-    /// How many requests for instance k of a communicator are open.
-    pub fn waiting(&self, comm: u32, k: u64) -> u64
-        ensures { result ≡ open_at self.now comm k }
-    {
-        waiting_at(&self.rows, comm as usize, k as usize)
+        place_of(&self.rows, comm as usize, k as usize)
     }
 
     /// Makes a place for instance k of a communicator. Takes no memory where there is one.
@@ -397,13 +366,12 @@ impl Settlements {
         put_at(&mut self.rows, comm as usize, k as usize, settlement);
     }
 
-    /// Shares instance k of a communicator, where it was granted and there is memory, and says
-    /// whether it was filled and not let go. Callers can tell no difference.
-    pub fn freeze(&mut self, comm: u32, k: u64) -> bool
-        ensures same { AreSame self.old self.new }
-        ensures settled { result ≡ is_some (settlement_at self.old comm k) }
+    /// Shares instance k of a communicator, where it was granted and there is memory. Callers can
+    /// tell no difference.
+    pub fn freeze(&mut self, comm: u32, k: u64)
+        ensures { AreSame self.old self.new }
     {
-        freeze_at(self.alloc, &mut self.rows, comm as usize, k as usize)
+        freeze_at(self.alloc, &mut self.rows, comm as usize, k as usize);
     }
 
     /// An open request for instance k of a communicator was taken. With the last of them the
@@ -436,24 +404,13 @@ impl Settlements {
 }
 
 #[tactic(auto, using(crate::proofs::SettlingLemmas::rows_read, crate::proofs::SettlingLemmas::rows_past))]
-fn settlement_of(rows: &[Row], comm: usize, k: usize) -> Option<&Settlement>
-    ensures { option_copied result ≡ settlement_at rows.now comm k }
+fn place_of(rows: &[Row], comm: usize, k: usize) -> Option<&Place>
+    ensures { unwrap_or (option_copied result) nothing ≡ place_at rows.now comm k }
 {
     if comm < rows.len() {
-        rows[comm].settlement(k)
+        rows[comm].place(k)
     } else {
         None
-    }
-}
-
-#[tactic(auto, using(crate::proofs::SettlingLemmas::rows_read, crate::proofs::SettlingLemmas::rows_past))]
-fn waiting_at(rows: &[Row], comm: usize, k: usize) -> u64
-    ensures { result ≡ open_at rows.now comm k }
-{
-    if comm < rows.len() {
-        rows[comm].waiting(k)
-    } else {
-        0
     }
 }
 
@@ -501,15 +458,12 @@ fn put_at(rows: &mut Vec<Row>, comm: usize, k: usize, settlement: Settlement)
     rows[comm].put(k, settlement);
 }
 
-#[tactic(auto, using(crate::proofs::SettlingLemmas::rows_same, crate::proofs::SettlingLemmas::rows_read, crate::proofs::SettlingLemmas::rows_past))]
-fn freeze_at(alloc: Global, rows: &mut Vec<Row>, comm: usize, k: usize) -> bool
-    ensures same { AreSame rows.old.items rows.new.items }
-    ensures settled { result ≡ is_some (settlement_at rows.old.items comm k) }
+#[tactic(auto, using(crate::proofs::SettlingLemmas::rows_same))]
+fn freeze_at(alloc: Global, rows: &mut Vec<Row>, comm: usize, k: usize)
+    ensures { AreSame rows.old.items rows.new.items }
 {
     if comm < rows.len() {
-        rows[comm].freeze(alloc, k)
-    } else {
-        false
+        rows[comm].freeze(alloc, k);
     }
 }
 

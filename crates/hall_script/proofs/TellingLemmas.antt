@@ -1,8 +1,7 @@
 -- Who is told the same.
 use Rattle.std.proofs.Common.{◌≡◌, ◌≢◌, ℕ, List, ◌∷◌, ◌++◌, Bool, true, false, cond, Option, Some}
 use Rattle.std.proofs.Common.{length, take, drop, ◌-◌, arith, slice_get, None, ◌&&◌, not, refl, sym, ap, ◌∙◌, subst, map, filter, filter_map, eqb}
-use Rattle.std.specs.Prelude.{IfSome, OnOk, Result, Ok, Err, slice_index_or}
-use Rattle.std.specs.Arc.{arc_value}
+use Rattle.std.specs.Prelude.{slice_index_or, Result, Ok, Err, OnOk}
 use Rattle.std.specs.List.{cons_option, range_with_len}
 use Rattle.std.proofs.lemmas.Bool.{false≢true}
 use Rattle.std.proofs.lemmas.List.{length-append, take_all}
@@ -27,22 +26,21 @@ use Rattle.run_model.specs.Books.{AreCounted}
 use Rattle.run_model.specs.Contributions.{Contribution, posts_of}
 use Rattle.run_model.specs.Buffers.{SameInstanceButForRoom}
 use Rattle.run_model.specs.Runs.{Entry, contribution_in, contributions, effects, entry, posts, requests}
+use Rattle.run_model.specs.declared.reply.Reply.{Reply}
 use Rattle.run_model.specs.declared.reply.Reply.TheVariants.{Delivered}
 use Rattle.run_model.specs.Replies.{Legal}
 use Rattle.run_model.proofs.RunModelLemmas.{settled_stays, instance_stays, legal_proper, same_value}
-use Rattle.hall_core.specs.declared.claims.Claim.TheVariants.{Done, Ready}
-use Rattle.hall_core.specs.declared.claims.LeanClaim.{LeanClaim}
-use Rattle.hall_core.specs.declared.claims.LeanClaim.TheVariants.{Claimed, Copied}
-use Rattle.hall_core.specs.Claims.{to_take, lean_reply, lean_entry, IsClaimed, LeanClaims}
-use Rattle.hall_core.specs.Claims.{IsTakenUnread}
+use Rattle.hall_core.specs.declared.looks.Open.{Open}
+use Rattle.hall_core.specs.Claims.{to_take, IsClaimed}
+use Rattle.hall_core.specs.Looks.{GoesOn, IsOf}
 use Rattle.hall_core.specs.Halls.{HallValue, StandsFor}
 use Rattle.hall_script.specs.declared.kept.KeptLine.{KeptLine}
 use Rattle.hall_script.specs.declared.kept.KeptLines.{KeptLines}
 use Rattle.hall_script.specs.declared.teller.Teller.{Teller}
-use Rattle.hall_script.specs.Answering.{AnswersCall, IsAnswered}
+use Rattle.hall_script.specs.Answering.{AnswersCall}
 use Rattle.hall_script.specs.Replies.{reply_line, reply_text}
 use Rattle.hall_script.specs.Telling.{tells_alike, IsToldAlike, told_line, instance_at, IsRight}
-use Rattle.hall_script.specs.Telling.{IsAlike, IsShown, IsClaimFor, IsClaimAt, AreRight, TellsRun}
+use Rattle.hall_script.specs.Telling.{IsShown, AreRight, TellsRun}
 use Rattle.hall_script.specs.Telling.{IsRightLine}
 
 -- ## the kinds of the table
@@ -163,22 +161,30 @@ module _ (wall : ChineseWall) (past : List (Contribution Contents)) (c k : ℕ) 
         ∙ same_value F (instance_at wall past c k) j same);
   }
 
--- ## claims
+-- ## lines of deliveries
 
--- the line of a claim is right for its instance
-pub right_by_claim : (policy wall : ChineseWall) (past : List (Contribution Contents)) (c k : ℕ)
-    (claim : LeanClaim) (line : List ℕ) → IsAlike claim → IsClaimFor wall past (c, k) claim →
-    line ≡ reply_line policy (lean_reply claim) → IsRight wall past c k line
+-- what a rank is told that gets what each gets that gets any is right for its instance
+pub right_by_line : (policy wall : ChineseWall) (past : List (Contribution Contents)) (c k : ℕ)
+    (full : Full Contents) (rank : ℕ) (line : List ℕ) → IsToldAlike full rank →
+    IsShown wall past (c, k) full → line ≡ reply_line policy (Delivered (value full rank)) →
+    IsRight wall past c k line
 unfolding reply_text
-right_by_claim policy wall past c k (Claimed (Done reply)) line alike for e = absurd alike
-right_by_claim policy wall past c k (Claimed (Ready full rank room)) line alike for e =
-    is_right wall past c k (arc_value full) rank for.same line alike for.granted e
-right_by_claim policy wall past c k (Copied full rank) line alike for e =
-    is_right wall past c k (arc_value full) rank for.same line alike for.granted e
+right_by_line policy wall past c k full rank line alike at e =
+    is_right wall past c k full rank at.same line alike at.granted e
+
+-- a line that is right is that of a rank that gets a block
+pub told_by_line : (policy wall : ChineseWall) (past : List (Contribution Contents)) (c k : ℕ)
+    (full : Full Contents) (rank : ℕ) (line : List ℕ) → IsToldAlike full rank →
+    IsShown wall past (c, k) full → IsRight wall past c k line →
+    line ≡ reply_line policy (Delivered (value full rank))
+unfolding reply_text
+told_by_line policy wall past c k full rank line alike at right =
+    is_told wall past c k full rank at.same line alike.has_place right
 
 -- ## runs
 
-shown : (wall : ChineseWall) (run : List Entry) (p r : ℕ) (at : ℕ × ℕ) (full : Full Contents)
+-- what a grant holds is the instance that the request is for
+pub shown : (wall : ChineseWall) (run : List Entry) (p r : ℕ) (at : ℕ × ℕ) (full : Full Contents)
     (rank : ℕ) → slice_get (requests p (posts run)) r ≡ Some at →
     IsClaimed wall (effects run) p r full rank → IsShown wall (contributions run) at full
 shown wall run p r at full rank asked claimed =
@@ -190,18 +196,6 @@ shown wall run p r at full rank asked claimed =
       same = subst (λ (it : ℕ × ℕ). SameInstanceButForRoom full
           (instance_at wall (contributions run) it.0 it.1)) same claimed.is_full;
     }
-
--- a claim holds the instance that the request is for
-pub claim_at : (wall : ChineseWall) (run : List Entry) (p r : ℕ) (at : Option (ℕ × ℕ))
-    (claim : LeanClaim) →
-    IfSome at (λ it. slice_get (requests p (posts run)) r ≡ Some it) →
-    LeanClaims wall (effects run) p r claim → IsClaimAt wall (contributions run) at claim
-claim_at wall run p r None claim asked claims = tt
-claim_at wall run p r (Some at) (Claimed (Done reply)) asked claims = tt
-claim_at wall run p r (Some at) (Claimed (Ready full rank room)) asked claims =
-    shown wall run p r at (arc_value full) rank asked claims
-claim_at wall run p r (Some at) (Copied full rank) asked claims =
-    shown wall run p r at (arc_value full) rank asked claims
 
 -- what is kept stays right with one entry more
 line_stays : (wall : ChineseWall) (run : List Entry) (e : Entry) (place : Option KeptLine) →
@@ -234,56 +228,36 @@ teller_after old new lines run e same after right =
       },
     )
 
--- a take is answered whose line was written
-pub take_answered : {X E : Type 0} (r : Result X E) (wall : ChineseWall) (old new : Teller)
-    (before after : List ℕ) (p request : ℕ) (claim : LeanClaim) →
-    ((run : List Entry) → Legal wall run → TellsRun old run →
-    Legal wall (lean_entry p request claim ∷ run)
-    × TellsRun new (lean_entry p request claim ∷ run))
-    → OnOk r (after ≡ before ++ reply_line wall (lean_reply claim))
-    → OnOk r (AnswersCall TellsRun wall old new before after (to_take p request))
-take_answered (Ok x) wall old new before after p request claim h e = λ run legal tells.
-    let it = h run legal tells in
-    record { reply = lean_reply claim; legal = it.0; standing = it.1; text = e }
-take_answered (Err f) wall old new before after p request claim h e = tt
+-- the call that takes a request, by its process and number
+pub goes_of : (old new : HallValue) (p r : ℕ) (it : Open) (got : Reply) → IsOf it p r →
+    GoesOn old new (to_take it.process it.request) got → GoesOn old new (to_take p r) got
+goes_of old new p r it got of goes =
+    subst (λ q. GoesOn old new (to_take q r) got) of.process
+    (subst (λ n. GoesOn old new (to_take it.process n) got) of.number goes)
 
--- so is one that is told a line which is kept
-module _ (old new : Teller) (before after line : List ℕ) (p r c k rank : ℕ)
-    (same : new.hall.policy ≡ old.hall.policy)
-    (asked : (run : List Entry) → StandsFor old.hall run →
-    slice_get (requests p (posts run)) r ≡ Some (c, k))
-    (right : (wall : ChineseWall) (past : List (Contribution Contents)) →
-    AreRight wall past old.lines → IsRight wall past c k line)
-    (takes : (run : List Entry) → Legal old.hall.policy run → StandsFor old.hall run →
-    IsTakenUnread old.hall new.hall p r rank run)
-    (stay : (wall : ChineseWall) (past : List (Contribution Contents)) →
-    AreRight wall past old.lines → AreRight wall past new.lines) where
-  again : after ≡ before ++ line → (run : List Entry) → Legal old.hall.policy run →
-      TellsRun old run →
-      IsAnswered TellsRun old.hall.policy new before after (to_take p r) run
-  unfolding reply_text
-  again e run legal tells =
-      let wall = old.hall.policy in
-      let past = contributions run in
-      let t = takes run legal tells.stands in
-      let at = shown wall run p r (c, k) t.full rank (asked run tells.stands) t.claimed in
-      let reply = Delivered (value t.full rank) in
-      record {
-        reply = reply;
-        legal = subst (λ (w : ChineseWall). Legal w (entry (to_take p r) reply ∷ run)) same t.legal;
-        standing = record {
-          stands = t.stands;
-          right = subst (λ (w : ChineseWall). AreRight w past new.lines) (sym same)
-              (stay wall past tells.right);
-        };
-        text = e ∙ ap (λ (l : List ℕ). before ++ l) (is_told wall past c k t.full rank at.same line
-            t.place (right wall past tells.right));
-      }
+-- a take is answered whose line was written, with lines that are right after it
+pub take_answered : (old new : Teller) (before after : List ℕ) (p r : ℕ) (got : Reply) →
+    new.hall.policy ≡ old.hall.policy → GoesOn old.hall new.hall (to_take p r) got →
+    ((run : List Entry) → TellsRun old run →
+    AreRight old.hall.policy (contributions run) new.lines) →
+    ((run : List Entry) → TellsRun old run →
+    after ≡ before ++ reply_line old.hall.policy got) →
+    AnswersCall TellsRun old.hall.policy old new before after (to_take p r)
+take_answered old new before after p r got same goes right e = λ run legal tells.
+    let it = teller_after old.hall new.hall new.lines run (entry (to_take p r) got) same
+    (goes run legal tells.stands) (λ longer. right run tells) in
+    record { reply = got; legal = it.0; standing = it.1; text = e run tells }
 
-  pub again_answered : {X E : Type 0} (done : Result X E) → OnOk done (after ≡ before ++ line) →
-      OnOk done (AnswersCall TellsRun old.hall.policy old new before after (to_take p r))
-  again_answered (Ok x) e = again e
-  again_answered (Err f) e = tt
+-- so is one that changes nothing, if its line was written
+pub told_answered : {X E : Type 0} (done : Result X E) (teller : Teller) (policy : ChineseWall)
+    (before after : List ℕ) (p r : ℕ) (got : Reply) → policy ≡ teller.hall.policy →
+    GoesOn teller.hall teller.hall (to_take p r) got →
+    OnOk done (after ≡ before ++ reply_line policy got) →
+    OnOk done (AnswersCall TellsRun teller.hall.policy teller teller before after (to_take p r))
+told_answered (Ok x) teller policy before after p r got same goes e =
+    take_answered teller teller before after p r got refl goes (λ run tells. tells.right)
+    (λ run tells. e ∙ ap (λ (w : ChineseWall). before ++ reply_line w got) same)
+told_answered (Err f) teller policy before after p r got same goes e = tt
 
 -- what stands behind a text
 pub behind : (before line now : List ℕ) (n : ℕ) → n ≡ length before → now ≡ before ++ line →

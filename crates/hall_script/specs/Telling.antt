@@ -1,7 +1,6 @@
 -- Lines that were told, and are told again.
 use Rattle.std.specs.Prelude.{◌≡◌, ◌≢◌, ℕ, List, ◌++◌, codes, Bool, true, false, Option, Some, None}
 use Rattle.std.specs.Prelude.{All, IfSome}
-use Rattle.std.specs.Arc.{arc_value}
 use Rattle.wall_policy.specs.Policy.{ChineseWall}
 use Rattle.mpi_elems.specs.Contents.{Contents}
 use Rattle.coll_routes.specs.declared.signature.Signature.{Signature}
@@ -17,9 +16,9 @@ use Rattle.run_model.specs.Contributions.{Contribution, posts_of, full_at}
 use Rattle.run_model.specs.Buffers.{SameInstanceButForRoom}
 use Rattle.run_model.specs.Runs.{Entry, contributions}
 use Rattle.run_model.specs.Replies.{comm_at}
-use Rattle.hall_core.specs.declared.claims.Claim.TheVariants.{Done, Ready}
-use Rattle.hall_core.specs.declared.claims.LeanClaim.{LeanClaim}
-use Rattle.hall_core.specs.declared.claims.LeanClaim.TheVariants.{Claimed, Copied}
+use Rattle.run_model.specs.declared.refusal.Refusal.TheVariants.{NoMemory}
+use Rattle.run_model.specs.declared.reply.Reply.{Reply}
+use Rattle.run_model.specs.declared.reply.Reply.TheVariants.{Delivered, Refused}
 use Rattle.hall_core.specs.Halls.{StandsFor}
 use Rattle.hall_script.specs.declared.kept.KeptLine.{KeptLine}
 use Rattle.hall_script.specs.declared.kept.KeptLines.{KeptLines}
@@ -77,30 +76,18 @@ IsRightLine wall past place = IfSome place (λ kept. IsRight wall past kept.comm
 abbrev pub AreRight : ChineseWall → List (Contribution Contents) → KeptLines → Type 0
 AreRight wall past lines = All (IsRightLine wall past) lines.places.items
 
--- ## claims
+-- ## what is delivered
 
--- the claim is of a delivery, of what each gets that gets any
-abbrev pub IsAlike : LeanClaim → Type 0
-IsAlike (Claimed (Done reply)) = ⊥
-IsAlike (Claimed (Ready full rank room)) = IsToldAlike (arc_value full) rank
-IsAlike (Copied full rank) = IsToldAlike (arc_value full) rank
+-- the reply to a take of what a rank gets, by whether there was memory for it
+abbrev pub delivery_if : Bool → Full Contents → (rank : ℕ) → Reply
+delivery_if true full rank = Delivered (value full rank)
+delivery_if false full rank = Refused NoMemory
 
 -- this is instance `at` but for the room of buffers, and it was granted
 pub record IsShown (wall : ChineseWall) (past : List (Contribution Contents)) (at : ℕ × ℕ)
     (full : Full Contents) : Type 0 where
   pub granted : outcome_at wall at.0 at.1 (posts_of past) ≡ Some Granted
   pub same : SameInstanceButForRoom full (instance_at wall past at.0 at.1)
-
--- the claim holds that instance, if it is of a delivery
-abbrev pub IsClaimFor : ChineseWall → List (Contribution Contents) → (at : ℕ × ℕ) → LeanClaim →
-    Type 0
-IsClaimFor wall past at (Claimed (Done reply)) = Unit {0}
-IsClaimFor wall past at (Claimed (Ready full rank room)) = IsShown wall past at (arc_value full)
-IsClaimFor wall past at (Copied full rank) = IsShown wall past at (arc_value full)
-
-abbrev pub IsClaimAt : ChineseWall → List (Contribution Contents) → Option (ℕ × ℕ) → LeanClaim →
-    Type 0
-IsClaimAt wall past at claim = IfSome at (λ it. IsClaimFor wall past it claim)
 
 -- ## tellers
 

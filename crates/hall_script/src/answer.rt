@@ -68,7 +68,7 @@ fn take_of(call: &Call) -> Option<u64>
 }
 
 // Answers a call, and appends the line of its reply. Where there is no memory for that line the
-// text is as it was; the call is answered nevertheless.
+// text is as it was; a take has then taken nothing, any other call is answered nevertheless.
 fn answer_call<M: Machine>(machine: &mut M, call: Call, text: &mut Vec<u8>) -> Result<(), NoMemory>
     requires { HasKnownLabel (M.wall machine.old) call.act }
     ensures wall { M.wall machine.new ≡ M.wall machine.old }

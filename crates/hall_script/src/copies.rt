@@ -1,21 +1,21 @@
 //! Writes what a take is delivered. Copies are written from where the members' numbers stand.
-ghost use Rattle.std.specs.Prelude.{◌≡◌, ◌++◌, ◌<◌, IfSome, None, OnOk, OnErr, codes};
-ghost use Rattle.coll_routes.specs.Rolls.{places as places_of};
+ghost use Rattle.std.specs.Prelude.{◌≡◌, ◌++◌, IfSome, IfOk, None, OnOk, OnErr, codes};
+ghost use Rattle.coll_routes.specs.Signatures.{reduction};
 ghost use Rattle.coll_values.specs.Instances.{IsWhole};
 ghost use Rattle.coll_values.specs.Stretches.{IsAlong, block_along};
 ghost use Rattle.coll_values.specs.Values.{value};
-ghost use Rattle.run_model.specs.Known.{IsKnownReply};
-ghost use Rattle.hall_core.specs.Claims.{CanRead, CanTell, lean_reply};
+ghost use Rattle.hall_core.specs.Looks.{CanDeliver};
 ghost use Rattle.coll_text.specs.Writing.{IsFront};
 ghost use Rattle.hall_script.specs.Replies.{block_text, blocks_text, delivery_text, reply_line};
+ghost use Rattle.hall_script.specs.Telling.{delivery_if};
 
 use crate::reply::{put_numbers_between, write_reply};
 use coll_routes::places;
 use coll_text::put;
 use coll_values::laws::values_fill_places;
-use coll_values::{Full, Stretch, stretch_at};
-use hall_core::{LeanClaim, finish};
+use coll_values::{Full, Stretch, deliver, stretch_at};
 use mpi_elems::Buffer;
+use run_model::{Refusal, Reply};
 use std::alloc::AllocError;
 use wall_labels::NoMemory;
 use wall_policy::Policy;
@@ -43,7 +43,8 @@ fn put_stretch(
 
 // The blocks of a rank, each behind a space.
 fn put_copies(line: &mut Vec<u8>, full: &Full<Buffer>, rank: u32) -> Result<(), AllocError>
-    requires { CanRead full.now rank }
+    requires can { CanDeliver full.now rank }
+    requires copies { reduction full.now.roll.sig ≡ None }
     ensures ok { OnOk result
         (line.new.items ≡ line.old.items ++ blocks_text (value full.now rank)) }
     ensures front { IsFront line.old.items line.new.items }
@@ -59,7 +60,8 @@ fn put_copies(line: &mut Vec<u8>, full: &Full<Buffer>, rank: u32) -> Result<(), 
 
 // The line of the delivery of a rank.
 fn put_copied(line: &mut Vec<u8>, full: &Full<Buffer>, rank: u32) -> Result<(), AllocError>
-    requires { CanRead full.now rank }
+    requires can { CanDeliver full.now rank }
+    requires copies { reduction full.now.roll.sig ≡ None }
     ensures ok { OnOk result (line.new.items
         ≡ line.old.items ++ delivery_text (value full.now rank) ++ codes "\n") }
     ensures front { IsFront line.old.items line.new.items }
@@ -75,7 +77,8 @@ fn put_copied(line: &mut Vec<u8>, full: &Full<Buffer>, rank: u32) -> Result<(), 
 
 // Appends the line of the delivery of a rank. Where memory ran out the bytes are as they were.
 fn write_copied(full: &Full<Buffer>, rank: u32, bytes: &mut Vec<u8>) -> Result<(), NoMemory>
-    requires { CanRead full.now rank }
+    requires can { CanDeliver full.now rank }
+    requires copies { reduction full.now.roll.sig ≡ None }
     ensures ok { OnOk result (bytes.new.items
         ≡ bytes.old.items ++ delivery_text (value full.now rank) ++ codes "\n") }
     ensures err { OnErr result (bytes.new.items ≡ bytes.old.items) }
@@ -90,22 +93,49 @@ fn write_copied(full: &Full<Buffer>, rank: u32, bytes: &mut Vec<u8>) -> Result<(
     }
 }
 
-/// Appends the line of the reply that a claim comes to. Where memory ran out the bytes are as they
-/// were.
+// Appends the line of the delivery of a rank, whose blocks are folded first. False where there was
+// no memory for them, which the line then says.
 #[tactic(auto, unfolding(crate::specs::Replies::reply_text))]
-pub(crate) fn write_claim(
+fn write_folded(
     policy: &Policy,
-    claim: LeanClaim,
+    full: &Full<Buffer>,
+    rank: u32,
     bytes: &mut Vec<u8>,
-) -> Result<(), NoMemory>
-    requires can { CanTell claim }
-    requires known { IsKnownReply policy.now (lean_reply claim) }
-    ensures ok { OnOk result
-        (bytes.new.items ≡ bytes.old.items ++ reply_line policy.now (lean_reply claim)) }
+) -> Result<bool, NoMemory>
+    requires { CanDeliver full.now rank }
+    ensures ok { IfOk result (λ done. bytes.new.items
+        ≡ bytes.old.items ++ reply_line policy.now (delivery_if done full.now rank)) }
     ensures err { OnErr result (bytes.new.items ≡ bytes.old.items) }
 {
-    match claim {
-        LeanClaim::Claimed(claim) => write_reply(policy, &finish(claim), bytes),
-        LeanClaim::Copied { full, rank } => write_copied(&full, rank, bytes),
+    match deliver(*bytes.allocator(), full, rank) {
+        Ok(delivery) => {
+            write_reply(policy, &Reply::Delivered(delivery), bytes)?;
+            Ok(true)
+        }
+        Err(_) => {
+            write_reply(policy, &Reply::Refused(Refusal::NoMemory), bytes)?;
+            Ok(false)
+        }
     }
+}
+
+/// Appends the line of what a rank is delivered. False where there was no memory for the delivery,
+/// which the line then says. Where there is none for the line the bytes are as they were.
+#[tactic(auto, unfolding(crate::specs::Replies::reply_text))]
+pub(crate) fn write_delivery(
+    policy: &Policy,
+    full: &Full<Buffer>,
+    rank: u32,
+    bytes: &mut Vec<u8>,
+) -> Result<bool, NoMemory>
+    requires { CanDeliver full.now rank }
+    ensures ok { IfOk result (λ done. bytes.new.items
+        ≡ bytes.old.items ++ reply_line policy.now (delivery_if done full.now rank)) }
+    ensures err { OnErr result (bytes.new.items ≡ bytes.old.items) }
+{
+    if full.roll.sig.op().is_some() {
+        return write_folded(policy, full, rank, bytes);
+    }
+    write_copied(full, rank, bytes)?;
+    Ok(true)
 }

@@ -30,11 +30,12 @@ pub(crate) trait Machine {
         ensures carries { Carries stands (wall self.old) self.old self.new call result }
         ensures named { IsKnownReply (wall self.new) result };
 
-    /// Answers a take, and adds the line of its reply to the text, which is as it was where it
-    /// can't grow.
+    /// Answers a take, and adds the line of its reply to the text. Where that can't grow nothing is
+    /// taken, and all is as it was.
     fn take(&mut self, process: u32, request: u64, text: &mut Vec<u8>) -> Result<(), NoMemory>
         ensures wall { wall self.new ≡ wall self.old }
         ensures answered { OnOk result (AnswersCall stands (wall self.old) self.old self.new
             text.old.items text.new.items (to_take process request)) }
-        ensures err { OnErr result (text.new.items ≡ text.old.items) };
+        ensures err { OnErr result (text.new.items ≡ text.old.items) }
+        ensures untaken { OnErr result (self.new ≡ self.old) };
 }

@@ -1,27 +1,28 @@
 //! Answers calls from a hall, and tells the members of an instance that get the same one line.
 ghost use Rattle.std.specs.Prelude.{◌≡◌, ◌≢◌, ◌++◌, ◌<◌, ◌≤◌, List, [], length, IfOk, IfErr, OnOk};
-ghost use Rattle.std.specs.Prelude.{OnErr, IfSome, IfNone, Some, slice_get};
+ghost use Rattle.std.specs.Prelude.{OnErr};
 ghost use Rattle.wall_policy.specs.Policy.{ChineseWall};
 ghost use Rattle.mpi_elems.specs.Contents.{Contents};
 ghost use Rattle.run_model.specs.Contributions.{Contribution};
-ghost use Rattle.run_model.specs.Known.{IsKnownReply};
-ghost use Rattle.run_model.specs.Runs.{Entry, posts, requests};
-ghost use Rattle.hall_core.specs.Halls.{HallValue, StandsFor};
-ghost use Rattle.hall_core.specs.Claims.{CanTell, lean_reply, to_take};
-ghost use Rattle.hall_script.specs.Answering.{AnswersCall, HasFinished, HasStopped};
+ghost use Rattle.run_model.specs.declared.reply.Reply.{Reply};
+ghost use Rattle.hall_core.specs.Halls.{HallValue, StandsFor, view_of};
+ghost use Rattle.hall_core.specs.Claims.{to_take};
+ghost use Rattle.hall_core.specs.Looks.{CanDeliver, GoesOn, IsDue};
+ghost use Rattle.hall_script.specs.Answering.{HasFinished, HasStopped};
 ghost use Rattle.hall_script.specs.Replies.{reply_line};
 ghost use Rattle.hall_script.specs.Scripts.{script_of};
-ghost use Rattle.hall_script.specs.Telling.{tells_alike as alike, IsToldAlike, IsAlike, AreRight};
-ghost use Rattle.hall_script.specs.Telling.{IsClaimAt, IsClaimFor, TellsRun};
+ghost use Rattle.hall_script.specs.Telling.{tells_alike as alike, IsToldAlike, AreRight, IsShown};
+ghost use Rattle.hall_script.specs.Telling.{delivery_if, IsRight, TellsRun};
 
 use crate::answer::answered;
-use crate::copies::write_claim;
+use crate::copies::write_delivery;
 use crate::fault::ScriptFault;
 use crate::kept::KeptLines;
 use crate::machine::Machine;
+use crate::reply::write_reply;
 use coll_routes::{Signature, places};
 use coll_values::Full;
-use hall_core::{Claim, Hall, LeanClaim};
+use hall_core::{Due, Hall, Open};
 use mpi_elems::Buffer;
 use run_model::{Call, Reply};
 use std::alloc::Global;
@@ -97,60 +98,21 @@ pub(crate) fn answered_from<W: Sink>(
 }
 
 impl Teller {
-    // Takes a request for an instance whose line is kept, and appends that line. Nothing changes
-    // where no line is kept, or the process gets nothing.
-    fn take_again(
-        &mut self,
-        process: u32,
-        request: u64,
-        at: Option<(u32, u64)>,
-        text: &mut Vec<u8>,
-    ) -> Option<Result<(), NoMemory>>
-        requires asked { (run : List Entry) → StandsFor self.old.hall run → IfSome at (λ it.
-            slice_get (requests process (posts run)) request ≡ Some it) }
+    // Closes a request that was told what it is due. The line that is kept for its instance goes
+    // with the last.
+    fn close(&mut self, it: Open)
+        requires { (got : Reply) × IsDue (view_of self.old.hall) it got }
         ensures wall { self.new.hall.policy ≡ self.old.hall.policy }
-        ensures answered { IfSome result (λ done. OnOk done (AnswersCall TellsRun
-            self.old.hall.policy self.old self.new text.old.items text.new.items
-            (to_take process request))) }
-        ensures err { IfSome result (λ done. OnErr done (text.new.items ≡ text.old.items)) }
-        ensures unchanged { IfNone result (self.new ≡ self.old) }
-        ensures text { IfNone result (text.new.items ≡ text.old.items) }
+        ensures runs { (got : Reply) → IsDue (view_of self.old.hall) it got →
+            GoesOn self.old.hall self.new.hall (to_take it.process it.request) got }
+        ensures right { (wall : ChineseWall) (past : List (Contribution Contents)) →
+            AreRight wall past self.old.lines → AreRight wall past self.new.lines }
     {
-        let Some((comm, k)) = at else {
-            return None;
-        };
-        let Some(line) = self.lines.find(comm, k) else {
-            return None;
-        };
-        match self.hall.take_unread(process, request) {
-            Some(_) => {
-                let done = put_told(text, line);
-                told(&mut self.lines, &self.hall, comm, k);
-                Some(done)
-            }
-            None => None,
+        self.hall.close(it);
+        if it.others != 0 {
+            return;
         }
-    }
-
-    // Takes a request, and appends the line of its reply. It is kept where others are still to be
-    // told it.
-    fn take_first(
-        &mut self,
-        process: u32,
-        request: u64,
-        at: Option<(u32, u64)>,
-        text: &mut Vec<u8>,
-    ) -> Result<(), NoMemory>
-        requires asked { (run : List Entry) → StandsFor self.old.hall run → IfSome at (λ it.
-            slice_get (requests process (posts run)) request ≡ Some it) }
-        ensures wall { self.new.hall.policy ≡ self.old.hall.policy }
-        ensures answered { OnOk result (AnswersCall TellsRun self.old.hall.policy self.old self.new
-            text.old.items text.new.items (to_take process request)) }
-        ensures err { OnErr result (text.new.items ≡ text.old.items) }
-    {
-        let claim = self.hall.claim_lean(process, request);
-        let open = open_at(&self.hall, at);
-        tell(&mut self.lines, self.hall.policy(), at, open, claim, text)
+        self.lines.let_go(it.comm, it.k);
     }
 }
 
@@ -168,10 +130,25 @@ impl Machine for Teller {
     }
 
     fn take(&mut self, process: u32, request: u64, text: &mut Vec<u8>) -> Result<(), NoMemory> {
-        let at = self.hall.instance_of(process, request);
-        match self.take_again(process, request, at, text) {
-            Some(done) => done,
-            None => self.take_first(process, request, at, text),
+        match self.hall.look(process, request) {
+            Due::Told(reply) => write_reply(self.hall.policy(), &reply, text),
+            Due::Outcome(reply, it) => {
+                write_reply(self.hall.policy(), &reply, text)?;
+                self.close(it);
+                Ok(())
+            }
+            Due::Granted {
+                full,
+                rank,
+                open: it,
+            } => {
+                let policy = self.hall.policy();
+                if !tell(&mut self.lines, policy, full, rank, it, text)? {
+                    return Ok(());
+                }
+                self.close(it);
+                Ok(())
+            }
         }
     }
 }
@@ -210,40 +187,6 @@ fn others_in(full: &Full<Buffer>, rank: u32) -> u32
     }
 }
 
-// How many others get the same as the one who made the claim.
-fn others(claim: &LeanClaim) -> u32
-    requires { CanTell claim.now }
-    ensures { result ≢ 0 → IsAlike claim.now }
-{
-    match claim {
-        LeanClaim::Claimed(claim) => match claim {
-            Claim::Done(_) => 0,
-            Claim::Ready { full, rank, .. } => others_in(full, *rank),
-        },
-        LeanClaim::Copied { full, rank } => others_in(full, *rank),
-    }
-}
-
-fn open_at(hall: &Hall, at: Option<(u32, u64)>) -> u64 {
-    match at {
-        Some((comm, k)) => hall.open_for(comm, k),
-        None => 0,
-    }
-}
-
-// One more was told the line of an instance. It goes with the last, at the latest when no request
-// for the instance is open any more.
-fn told(lines: &mut KeptLines, hall: &Hall, comm: u32, k: u64)
-    ensures { (wall : ChineseWall) (past : List (Contribution Contents)) →
-        AreRight wall past lines.old → AreRight wall past lines.new }
-{
-    if hall.open_for(comm, k) == 0 {
-        lines.let_go(comm, k);
-    } else {
-        lines.told(comm, k);
-    }
-}
-
 // Appends a line.
 fn put_told(text: &mut Vec<u8>, line: &[u8]) -> Result<(), NoMemory>
     ensures ok { OnOk result (text.new.items ≡ text.old.items ++ line.now) }
@@ -255,65 +198,81 @@ fn put_told(text: &mut Vec<u8>, line: &[u8]) -> Result<(), NoMemory>
     }
 }
 
-// Appends the line of the reply that a claim on this instance comes to, for which so many requests
-// are open. Where others are still to be told the same, a copy is kept; where no request is open,
-// none is.
+// Appends the line of what a rank gets of an instance that was granted: the one that is kept for
+// all who get the same, if there is one. False where there was no memory for the delivery, which
+// the line then says.
 fn tell(
     lines: &mut KeptLines,
     policy: &Policy,
-    at: Option<(u32, u64)>,
-    open: u64,
-    claim: LeanClaim,
+    full: &Full<Buffer>,
+    rank: u32,
+    it: Open,
     text: &mut Vec<u8>,
-) -> Result<(), NoMemory>
-    requires can { CanTell claim }
-    requires known { IsKnownReply policy.now (lean_reply claim) }
-    ensures told { OnOk result
-        (text.new.items ≡ text.old.items ++ reply_line policy.now (lean_reply claim)) }
+) -> Result<bool, NoMemory>
+    requires { CanDeliver full.now rank }
+    ensures told { (wall : ChineseWall) (past : List (Contribution Contents)) →
+        AreRight wall past lines.old → IsShown wall past (it.comm, it.k) full.now →
+        IfOk result (λ done. text.new.items
+        ≡ text.old.items ++ reply_line policy.now (delivery_if done full.now rank)) }
     ensures right { (wall : ChineseWall) (past : List (Contribution Contents)) →
-        AreRight wall past lines.old → IsClaimAt wall past at claim →
+        AreRight wall past lines.old → IsShown wall past (it.comm, it.k) full.now →
         AreRight wall past lines.new }
     ensures err { OnErr result (text.new.items ≡ text.old.items) }
+    ensures unchanged { OnErr result (lines.new ≡ lines.old) }
 {
-    let Some((comm, k)) = at else {
-        return write_claim(policy, claim, text);
-    };
-    if open == 0 {
-        lines.let_go(comm, k);
-        return write_claim(policy, claim, text);
-    }
-    let others = others(&claim);
+    let others = others_in(full, rank);
     if others == 0 {
-        return write_claim(policy, claim, text);
+        return write_delivery(policy, full, rank, text);
     }
-    // Whose requests are open is not known: that of one who gets nothing may be among them.
-    let left = open.min(u64::from(others));
-    tell_first(lines, policy, comm, k, left, claim, text)
+    match lines.find(it.comm, it.k) {
+        Some(line) => {
+            put_told(text, line)?;
+            lines.told(it.comm, it.k);
+            Ok(true)
+        }
+        None => tell_first(lines, policy, full, rank, it, u64::from(others), text),
+    }
 }
 
-// The same where at most so many others are still to be told the same.
+// The same where no line is kept. Its own is, for so many others at most, where requests are still
+// open.
 fn tell_first(
     lines: &mut KeptLines,
     policy: &Policy,
-    comm: u32,
-    k: u64,
-    left: u64,
-    claim: LeanClaim,
+    full: &Full<Buffer>,
+    rank: u32,
+    it: Open,
+    others: u64,
     text: &mut Vec<u8>,
-) -> Result<(), NoMemory>
-    requires can { CanTell claim }
-    requires alike { IsAlike claim }
-    requires known { IsKnownReply policy.now (lean_reply claim) }
-    ensures told { OnOk result
-        (text.new.items ≡ text.old.items ++ reply_line policy.now (lean_reply claim)) }
+) -> Result<bool, NoMemory>
+    requires can { CanDeliver full.now rank }
+    requires alike { IsToldAlike full.now rank }
+    ensures told { IfOk result (λ done. text.new.items
+        ≡ text.old.items ++ reply_line policy.now (delivery_if done full.now rank)) }
     ensures right { (wall : ChineseWall) (past : List (Contribution Contents)) →
-        AreRight wall past lines.old → IsClaimFor wall past (comm, k) claim →
+        AreRight wall past lines.old → IsShown wall past (it.comm, it.k) full.now →
         AreRight wall past lines.new }
     ensures err { OnErr result (text.new.items ≡ text.old.items) }
+    ensures unchanged { OnErr result (lines.new ≡ lines.old) }
 {
     let len = text.len();
-    write_claim(policy, claim, text)?;
-    let line = &text[len..];
-    lines.keep(comm, k, left, line);
-    Ok(())
+    let done = write_delivery(policy, full, rank, text)?;
+    if !done {
+        return Ok(false);
+    }
+    // Whose requests are open is not known: that of one who gets nothing may be among them.
+    keep_for(lines, it, it.others.min(others), &text[len..]);
+    Ok(true)
+}
+
+// Keeps the line of a request's instance for so many others at most, if there are any.
+fn keep_for(lines: &mut KeptLines, it: Open, left: u64, line: &[u8])
+    ensures { (wall : ChineseWall) (past : List (Contribution Contents)) →
+        AreRight wall past lines.old → IsRight wall past it.comm it.k line.now →
+        AreRight wall past lines.new }
+{
+    if left == 0 {
+        return;
+    }
+    lines.keep(it.comm, it.k, left, line);
 }

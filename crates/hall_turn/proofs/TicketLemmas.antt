@@ -20,7 +20,7 @@ use Rattle.hall_turn.proofs.DistinctLemmas.{apart_all, any_at, each_number}
 
 ---- Turns.
 
-calls_grow : (p : ℕ) (run : List Entry) (e : Entry)
+pub calls_grow : (p : ℕ) (run : List Entry) (e : Entry)
     → length (calls_of p run) ≤ length (calls_of p (e ∷ run))
 calls_grow p run e = elim (ℕ_discrete e.call.process p) [
   | yes is ↦ (let more = ap length (calls_of-own p run e is) in omega arith)

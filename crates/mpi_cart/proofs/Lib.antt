@@ -1,3 +1,4 @@
+pub mod BelowLemmas
 pub mod CellLemmas
 pub mod GridLemmas
 pub mod KeptLemmas

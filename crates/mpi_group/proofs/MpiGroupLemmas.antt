@@ -2,3 +2,4 @@
 pub use Rattle.mpi_group.proofs.GroupLemmas.{IsGroup-members_at, is_distinct-filter}
 pub use Rattle.mpi_group.proofs.GroupLemmas.{length_distinct, no_fault, one_place, rank_present}
 pub use Rattle.mpi_group.proofs.GroupLemmas.{ranks_within, slice_get-member}
+pub use Rattle.mpi_group.proofs.RankLemmas.{rank_is, ranked}

@@ -1,26 +1,16 @@
 -- Lists over the numbers below n, by one number more.
-use Rattle.std.proofs.Common.{◌≡◌, ℕ, zero, suc, ◌+◌, ◌<◌, ◌≤◌, Bool, true, false, List, [], ◌∷◌}
-use Rattle.std.proofs.Common.{◌++◌, length, sym, ap, ◌∙◌, subst, ◌||◌, cond, arith, add-one, inl}
+use Rattle.std.proofs.Common.{◌≡◌, ℕ, zero, suc, ◌+◌, ◌<◌, Bool, true, false, [], ◌∷◌}
+use Rattle.std.proofs.Common.{sym, ap, ◌∙◌, subst, ◌||◌, cond, arith, add-one, inl}
 use Rattle.std.proofs.Common.{inr}
 use Rattle.std.proofs.Common.{refl}
 use Rattle.std.specs.Prelude.{count_by}
-use Rattle.std.specs.List.{range_with_len, list_any}
+use Rattle.std.specs.List.{list_any}
 use Rattle.std.proofs.Math.Bool.{or-false}
 use Rattle.std.proofs.lemmas.Bool.{cases_lt}
 use Rattle.std.proofs.lemmas.List.Folds.{list_any-append}
 use Rattle.std.proofs.lemmas.List.Sums.{sum_by-append}
 use Rattle.mpi_cart.specs.Grids.{below}
-
-range_more : (a n : ℕ) → range_with_len a (suc n) ≡ range_with_len a n ++ (a + n) ∷ []
-range_more a zero = let e : a ≡ a + zero = omega arith in ap (λ (k : ℕ). k ∷ []) e
-range_more a (suc n) = let e : (a + 1) + n ≡ a + suc n = omega arith in
-    ap (λ (r : List ℕ). a ∷ r)
-    (range_more (a + 1) n ∙ ap (λ (k : ℕ). range_with_len (a + 1) n ++ k ∷ []) e)
-
-below_more : (n : ℕ) → below (n + 1) ≡ below n ++ n ∷ []
-below_more n = let e : 0 + n ≡ n = omega arith in
-    subst (λ m. below m ≡ below n ++ n ∷ []) (sym (add-one n))
-    (range_more 0 n ∙ ap (λ (k : ℕ). below n ++ k ∷ []) e)
+use Rattle.mpi_cart.proofs.MpiCartLemmas.{below_more}
 
 any_more : (p : ℕ → Bool) (n : ℕ) → list_any p (below (n + 1)) ≡ (list_any p (below n) || p n)
 any_more p n = ap (λ xs. list_any p xs) (below_more n)

@@ -9,7 +9,7 @@ ghost use Rattle.report_text.specs.Walk.{MayBeEntered};
 use book_report::Book;
 use coll_routes::Stated;
 use run_model::Entry;
-use run_state::PostState;
+use run_state::{PostState, Terms};
 use std::alloc::Global;
 use wall_labels::{NoMemory, ProcessId};
 use wall_policy::Policy;
@@ -29,12 +29,15 @@ fn enter(
 {
     let stated = stated.copy(alloc)?;
     let _ = post_state.len();
-    match post_state.enter(policy, process, comm, stated, ()) {
-        Ok(entered) => {
-            drop(entered);
-            Ok(())
-        }
-        Err(_) => Err(NoMemory),
+    match post_state.look(policy, process.number(), comm, Terms::of(&stated)) {
+        Err(_) => unreachable!(),
+        Ok(seat) => match post_state.enter(policy, seat, stated, ()) {
+            Ok(entered) => {
+                drop(entered);
+                Ok(())
+            }
+            Err(_) => Err(NoMemory),
+        },
     }
 }
 

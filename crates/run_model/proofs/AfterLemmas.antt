@@ -23,7 +23,7 @@ use Rattle.run_model.specs.Holding.{IsMoment, Reaches}
 use Rattle.run_model.specs.Known.{IsKnownIfAny, IsKnownEntry, PostsHaveKnownLabels}
 use Rattle.run_model.specs.Chains.{GrewFrom, IsPolicyAfter}
 use Rattle.run_model.proofs.BookLemmas.{posts_in-append}
-use Rattle.run_model.proofs.CommLemmas.{rank_is}
+use Rattle.mpi_group.proofs.MpiGroupLemmas.{rank_is}
 use Rattle.run_model.proofs.PostLemmas.{IsFilled, filled_is, stated_at, kth_from}
 use Rattle.run_model.proofs.CountedLemmas.{taken_accepted, taken_at}
 use Rattle.run_model.proofs.FitLemmas.{filled_is_fit}

@@ -194,12 +194,12 @@ books_of_posts_are_sound wall past taken = (book_is_sound wall past taken, posts
 
 ---- Words.
 
-before_seam : (xs ys : List Entry) (i : ℕ) → i < length xs → slice_get (xs ++ ys) i ≡ slice_get xs i
+pub before_seam : (xs ys : List Entry) (i : ℕ) → i < length xs → slice_get (xs ++ ys) i ≡ slice_get xs i
 before_seam [] ys i h = absurd (omega arith)
 before_seam (x ∷ xs) ys zero h = refl
 before_seam (x ∷ xs) ys (suc i) h = before_seam xs ys i (omega arith)
 
-after_seam : (xs ys : List Entry) (i k : ℕ) → i ≡ length xs + k →
+pub after_seam : (xs ys : List Entry) (i k : ℕ) → i ≡ length xs + k →
     slice_get (xs ++ ys) i ≡ slice_get ys k
 after_seam [] ys i k e = ap (slice_get ys) (let z : i ≡ k = omega arith in z)
 after_seam (x ∷ xs) ys zero k e = absurd (omega arith)

@@ -35,7 +35,9 @@ use Rattle.run_model.specs.Proper.{AreAsStated, IsProper}
 use Rattle.run_model.specs.Buffers.{bare, bare_contribution, SameInstanceButForRoom}
 use Rattle.run_model.specs.Buffers.{SameButForRoom}
 use Rattle.run_model.specs.Worlds.{SamePostingButForValues}
-use Rattle.run_model.proofs.SeenLemmas.{View, seen, seen_all, same_posts, map_map, map_cons_option}
+use Rattle.run_model.proofs.SeenLemmas.{View, seen, seen_all, same_posts}
+use Rattle.coll_values.proofs.CollValuesLemmas.{map_map}
+use Rattle.coll_values.proofs.CollValuesLemmas.{map_cons_option}
 use Rattle.run_model.proofs.SeenLemmas.{pairs, parts_are, own_parts_are}
 use Rattle.run_model.proofs.WorldsLemmas.{LookTheSame, posts_told, infos_told}
 

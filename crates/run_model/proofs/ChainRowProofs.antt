@@ -34,7 +34,7 @@ use Rattle.run_model.specs.Chains.{IsPolicyAfter, IsChain}
 use Rattle.run_model.specs.ChainRows.{alpha_for_n0, one_book, banks_after, banks_grown, beta}
 use Rattle.run_model.specs.ChainRows.{beta_for_n0}
 use Rattle.run_model.proofs.BookLemmas.{begins_given}
-use Rattle.run_model.proofs.CommLemmas.{rank_is}
+use Rattle.mpi_group.proofs.MpiGroupLemmas.{rank_is}
 use Rattle.run_model.proofs.HoldingLemmas.{history_is_held}
 use Rattle.run_model.proofs.AfterLemmas.{is_policy_after}
 

@@ -8,15 +8,13 @@ use Rattle.std.specs.Prelude.{filter, filter_map, All, is_some, ◌==◌}
 use Rattle.std.specs.List.{range_with_len, items_where_true}
 use Rattle.std.proofs.lemmas.Bool.{cases_Bool, cond-true, cond-false, false≢true, and_parts}
 use Rattle.std.proofs.lemmas.Bool.{and_from, cases_lt}
-use Rattle.std.proofs.lemmas.Option.{slice_get_within, slice_get-get_or}
-use Rattle.std.proofs.lemmas.List.Quantifiers.{position-Some}
+use Rattle.std.proofs.lemmas.Option.{slice_get_within}
 use Rattle.std.proofs.lemmas.List.FromFn.{get_or-range_with_len}
 use Rattle.wall_labels.specs.declared.ids.TheConstants.{PROCESS_LIMIT}
 use Rattle.wall_policy.specs.Policy.{ChineseWall, IsPolicy}
-use Rattle.mpi_group.specs.Groups.{IsGroup, rank_in, is_distinct, are_ranks, members_at}
+use Rattle.mpi_group.specs.Groups.{IsGroup, is_distinct, are_ranks, members_at}
 use Rattle.mpi_group.specs.Groups.{ranks_fault}
-use Rattle.mpi_group.proofs.MpiGroupLemmas.{IsGroup-members_at, is_distinct-filter, rank_present}
-use Rattle.mpi_group.proofs.MpiGroupLemmas.{slice_get-member, one_place}
+use Rattle.mpi_group.proofs.MpiGroupLemmas.{IsGroup-members_at, is_distinct-filter}
 use Rattle.mpi_comm.specs.Comms.{dup_groups, create_groups, subset_groups}
 use Rattle.mpi_comm.specs.Splits.{split_groups, colours_of, ranks_for}
 use Rattle.mpi_comm.proofs.MpiCommLemmas.{is_distinct-range_with_len, is_subgroup-ranks_for}
@@ -62,21 +60,6 @@ at_front (x ∷ xs) ys zero y e = e
 at_front (x ∷ xs) ys (suc i) y e = at_front xs ys i y e
 
 ---- Ranks of members.
-
-pub rank_is : (members : List ℕ) (p j : ℕ) → rank_in members p ≡ Some j →
-    (slice_get members j ≡ Some p) × (j < length members)
-rank_is members p j e =
-    let at = position-Some (λ m. m == p) members j 0 e in
-    (slice_get-get_or members j 0 at.0 ∙ ap (λ (m : ℕ). Some m) (eqb-true _ p at.1), at.0)
-
--- no process is a member at two ranks
-pub ranked : (members : List ℕ) (j p : ℕ) → IsGroup members → slice_get members j ≡ Some p →
-    rank_in members p ≡ Some j
-ranked members j p group at =
-    let there = rank_present members p (slice_get-member members j p at) in
-    there
-    ∙ ap (λ (i : ℕ). Some i)
-    (one_place members _ j p group.distinct (rank_is members p _ there).0 at)
 
 ---- Groups by ranks.
 

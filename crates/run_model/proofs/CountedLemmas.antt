@@ -39,7 +39,7 @@ or_else_none : (o other : Option Refusal) → or_else o other ≡ None → (o �
 or_else_none None other e = (refl, e)
 or_else_none (Some r) other e = absurd (cc)
 
-mapped_none : (o : Option ShapeFault) → option_map refused_for o ≡ None → o ≡ None
+pub mapped_none : (o : Option ShapeFault) → option_map refused_for o ≡ None → o ≡ None
 mapped_none None e = refl
 mapped_none (Some f) e = absurd (cc)
 

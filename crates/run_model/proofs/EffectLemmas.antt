@@ -3,13 +3,14 @@ use Rattle.std.proofs.Common.{◌≡◌, ◌≢◌, ℕ, zero, suc, ◌+◌, ◌
 use Rattle.std.proofs.Common.{refl, sym, ap, ◌∙◌, arith, Bool, true, false, not, ◌&&◌, ◌||◌, ⊎_elim}
 use Rattle.std.proofs.Common.{◌⊎◌, inl, inr, Option, None, cond, eqb-true, eq-eqb, ne_eqb}
 use Rattle.std.specs.Prelude.{◌==◌, count_by}
-use Rattle.std.specs.List.{range_with_len, cons_option}
+use Rattle.std.specs.List.{cons_option}
 use Rattle.std.proofs.lemmas.Bool.{cases_Bool, false≢true}
 use Rattle.std.proofs.lemmas.Bool.{and_from, and_left, and_right, or_right}
 use Rattle.std.proofs.lemmas.List.Sums.{sum_by-append}
 use Rattle.wall_labels.specs.declared.label.Label.{Label}
 use Rattle.mpi_elems.specs.Contents.{Contents}
 use Rattle.mpi_cart.specs.Grids.{below}
+use Rattle.mpi_cart.proofs.MpiCartLemmas.{range_more}
 use Rattle.run_model.specs.declared.refusal.Refusal.{Refusal}
 use Rattle.run_model.specs.Contributions.{Contribution, contribution}
 use Rattle.run_model.specs.declared.call.Posting.{Posting}
@@ -149,12 +150,6 @@ after_asked m p c got = λ i. record {
 }
 
 -- ## how many requests wait
-
-range_more : (a n : ℕ) → range_with_len a (suc n) ≡ range_with_len a n ++ (a + n) ∷ []
-range_more a zero = ap (λ m. m ∷ []) (let z : a ≡ a + zero = omega arith in z)
-range_more a (suc n) = ap (λ rest. a ∷ rest) (range_more (a + 1) n
-    ∙ ap (λ m. range_with_len (a + 1) n ++ m ∷ [])
-    (let z : (a + 1) + n ≡ a + suc n = omega arith in z))
 
 below_more : (n : ℕ) → below (suc n) ≡ below n ++ n ∷ []
 below_more n = range_more 0 n ∙ ap (λ m. below n ++ m ∷ []) (let z : 0 + n ≡ n = omega arith in z)

@@ -29,7 +29,9 @@ use Rattle.run_model.specs.Books.{IsCounted, AreCounted}
 use Rattle.run_model.specs.PostLaws.{FilledInstancesAreFit}
 use Rattle.run_model.proofs.PostLemmas.{filled_is, kth_from, get_either}
 use Rattle.run_model.proofs.CommLemmas.{IsComm, AreComms, both_comms, world_is, new_are_comms}
-use Rattle.run_model.proofs.CommLemmas.{at_one, ranked, rank_is}
+use Rattle.run_model.proofs.CommLemmas.{at_one}
+use Rattle.mpi_group.proofs.MpiGroupLemmas.{ranked}
+use Rattle.mpi_group.proofs.MpiGroupLemmas.{rank_is}
 use Rattle.run_model.proofs.CountedLemmas.{taken_accepted, no_fault_has, taken_at, comm_later}
 
 ---- Signatures within an instance.

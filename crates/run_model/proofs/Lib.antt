@@ -32,4 +32,5 @@ pub mod TypeRowProofs
 pub mod RoomRowProofs
 pub mod WorldRowProofs
 pub mod HeadlineRowProofs
+pub mod KnownLemmas
 pub mod RunModelLemmas

@@ -10,13 +10,13 @@ use Rattle.wall_labels.specs.declared.ids.TheConstants.{DATASET_LIMIT}
 use Rattle.wall_labels.specs.declared.label.Label.{Label}
 use Rattle.wall_labels.specs.declared.label.Label.TheVariants.{Public, Of}
 use Rattle.wall_policy.specs.Policy.{ChineseWall, IsPolicy}
-use Rattle.wall_policy.specs.Rivals.{are_rivals, is_one_class}
+use Rattle.wall_policy.specs.Rivals.{are_rivals}
 use Rattle.wall_policy.proofs.WallPolicyLemmas.{are_rivals-Decides}
 use Rattle.wall_rules.specs.Rules.{HoldsNoRivals, PassesSimple, first_other, is_held_other}
 use Rattle.wall_rules.specs.Rules.{passes_star}
 use Rattle.wall_rules.specs.Histories.{History, NobodyHoldsRivals}
 use Rattle.wall_rules.proofs.WallRulesLemmas.{least-none, no_rivals-grows, no_rivals-part}
-use Rattle.wall_rules.proofs.WallRulesLemmas.{opening-apart}
+use Rattle.wall_rules.proofs.WallRulesLemmas.{opening-apart, second_class}
 use Rattle.mpi_group.specs.Groups.{rank_in}
 use Rattle.coll_routes.specs.declared.roll.Roll.{Roll}
 use Rattle.coll_routes.specs.Signatures.{is_constructor}
@@ -35,7 +35,7 @@ use Rattle.run_model.specs.Posts.{Post, filled, comms, constructor_outcome, by_v
 use Rattle.run_model.specs.Posts.{labelled, is_granted, with_delivery, histories}
 use Rattle.run_model.specs.Books.{IsCounted}
 use Rattle.run_model.specs.PostLaws.{HistoriesGrow, CommunicatorsStay, PostsKeepTheWall}
-use Rattle.run_model.proofs.CommLemmas.{rank_is}
+use Rattle.mpi_group.proofs.MpiGroupLemmas.{rank_is}
 use Rattle.run_model.proofs.CountedLemmas.{comms_stay}
 use Rattle.run_model.proofs.FitLemmas.{filled_is_fit}
 
@@ -64,11 +64,6 @@ histories_grow wall later past p d h = grow wall later past p d h
 
 that_one : (o : Option ℕ) (own d : ℕ) → o ≡ Some own → is_that o d ≡ true → d ≡ own
 that_one o own d is h = sym (eqb-true own d (subst (λ q. is_that q d ≡ true) is h))
-
-second_class : (a b : Option ℕ) → is_one_class a b ≡ true → (class : ℕ) × (b ≡ Some class)
-second_class (Some c) (Some k) h = (k, refl)
-second_class (Some c) None h = absurd (false≢true h)
-second_class None b h = absurd (false≢true h)
 
 pub rival_parts : (classes : List ℕ) (d e : ℕ) → are_rivals classes d e ≡ true →
     (d ≢ e) × (e < length classes)

@@ -1,9 +1,10 @@
 -- Which reply is due to a post, by its parts, over `Made`.
-use Rattle.std.proofs.Common.{◌≡◌, ℕ, ◌+◌, ◌<◌, ◌≤◌, ◌^◌, List, [], ◌∷◌, ◌++◌, length, refl, sym}
-use Rattle.std.proofs.Common.{ap, ◌∙◌, arith, Bool, true, false, ◌&&◌, ◌||◌, ⊎_elim, Option, Some}
+use Rattle.std.proofs.Common.{◌≡◌, ℕ, ◌+◌, ◌<◌, ◌≤◌, ◌^◌, List, [], ◌∷◌, ◌++◌, length}
+use Rattle.std.proofs.Common.{ap, ◌∙◌, arith, true, false, ◌&&◌, ⊎_elim, Option, Some}
 use Rattle.std.proofs.Common.{None, slice_get, nat_le, leb-false, length-append}
 use Rattle.std.specs.Prelude.{◌==◌, if◌then◌else◌}
-use Rattle.std.proofs.lemmas.Bool.{cases_Bool, cond-true, cond-false, false≢true, and_right}
+use Rattle.std.proofs.lemmas.Bool.{cases_Bool, cond-true, cond-false, and_right}
+use Rattle.std.proofs.lemmas.Bool.{or_parts}
 use Rattle.wall_policy.specs.Policy.{ChineseWall}
 use Rattle.mpi_elems.specs.Contents.{Contents}
 use Rattle.wall_verdict.specs.Star.{star}
@@ -67,15 +68,11 @@ module _ (wall : ChineseWall) (m : Effects) (p : ℕ) (posting : Posting) where
 
 -- ## numbers
 
-neither : (a b : Bool) → (a || b) ≡ false → (a ≡ false) × (b ≡ false)
-neither false b f = (refl, f)
-neither true b f = absurd (false≢true (sym f))
-
 -- who may post has fewer requests than the limits
 pub few_requests : (m : Effects) (p : ℕ) → too_many p m ≡ false →
     (open_requests p m < 256) × (length (requests p (posts_in m)) < 2 ^ 62)
 few_requests m p f =
-    let parts = neither (nat_le 256 (open_requests p m))
+    let parts = or_parts (nat_le 256 (open_requests p m))
     (nat_le (2 ^ 62) (length (requests p (posts_in m)))) f in (
       leb-false 256 (open_requests p m) parts.0,
       leb-false (2 ^ 62) (length (requests p (posts_in m))) parts.1,

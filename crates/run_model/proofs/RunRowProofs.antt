@@ -14,7 +14,7 @@ use Rattle.mpi_comm.specs.Splits.{colours_of, ranks_for, split_groups}
 use Rattle.mpi_cart.specs.Grids.{cells, rank_named, shifted, neighbour}
 use Rattle.coll_routes.specs.Rolls.{goes_by, places_by, routed, is_missing}
 use Rattle.coll_routes.specs.Signatures.{kind, root, reduction, elem_type, count, numbers, flags}
-use Rattle.coll_routes.specs.Signatures.{has_list, is_constructor, is_neighbourly, same_signature}
+use Rattle.coll_routes.specs.Signatures.{is_constructor, is_neighbourly, same_signature}
 use Rattle.coll_routes.specs.Faults.{shape_fault, is_listed, bad_count, not_subgroup, bad_dims}
 use Rattle.coll_routes.specs.Faults.{asked, gives, no_topology}
 use Rattle.coll_values.specs.Values.{sent, folded_at, blocks, value}
@@ -50,9 +50,9 @@ unfoldable pub opened : Unit {0}
 unfolding are_rivals least first_rival first_other elements_of pairs_of numbers_of combine
     is_allowed is_number_of members_at colours_of ranks_for split_groups cells rank_named shifted
     neighbour goes_by places_by routed is_missing kind root reduction elem_type count numbers flags
-    has_list is_constructor is_neighbourly same_signature shape_fault is_listed bad_count
-    not_subgroup bad_dims asked gives no_topology sent folded_at blocks value sanitised verdict
-    new_comms_by filled fault reply int_wrap
+    is_constructor is_neighbourly same_signature shape_fault is_listed bad_count not_subgroup
+    bad_dims asked gives no_topology sent folded_at blocks value sanitised verdict new_comms_by
+    filled fault reply int_wrap
 opened = tt
 
 -- the same calls, each with the reply that is due

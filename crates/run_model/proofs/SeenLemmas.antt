@@ -2,26 +2,17 @@
 use Rattle.std.proofs.Common.{◌≡◌, ℕ, List, [], ◌∷◌, ◌++◌, map, refl, sym, ap, ◌∙◌, Bool, true}
 use Rattle.std.proofs.Common.{false, ◌&&◌, cond, Option, Some, None, slice_get, option_map}
 use Rattle.std.specs.Prelude.{◌==◌, is_some}
-use Rattle.std.specs.List.{list_all, cons_option}
+use Rattle.std.specs.List.{list_all}
 use Rattle.std.proofs.lemmas.Bool.{false≢true}
 use Rattle.std.proofs.lemmas.Option.{slice_get-map}
 use Rattle.std.proofs.lemmas.List.{map-append, map-id}
 use Rattle.coll_routes.specs.declared.statement.Stated.{Stated}
+use Rattle.coll_values.proofs.CollValuesLemmas.{map_map}
 use Rattle.run_model.specs.Comms.{Comm}
 use Rattle.run_model.specs.Posts.{posts_on, kth_posts, is_full}
 use Rattle.run_model.specs.Contributions.{Contribution, posts_of, parts_on, kth_parts, parts_in}
 
 -- ## lists
-
-pub map_map : {X Y Z : Type 0} (f : Y → Z) (g : X → Y) (xs : List X) → map f (map g xs)
-    ≡ map (λ x. f (g x)) xs
-map_map f g [] = refl
-map_map f g (x ∷ xs) = ap (λ rest. f (g x) ∷ rest) (map_map f g xs)
-
-pub map_cons_option : {X Y : Type 0} (f : X → Y) (o : Option X) (xs : List X) →
-    map f (cons_option o xs) ≡ cons_option (option_map f o) (map f xs)
-map_cons_option f None xs = refl
-map_cons_option f (Some x) xs = refl
 
 -- ## views
 

@@ -19,7 +19,7 @@ use Rattle.run_model.specs.Posts.{Post, posts_on, kth_posts, roll_by, instance, 
 use Rattle.run_model.specs.Posts.{filled, comms, outcome, outcome_at}
 use Rattle.run_model.specs.Books.{IsCounted, AreCounted}
 use Rattle.run_model.specs.Holding.{IsMoment}
-use Rattle.run_model.proofs.CommLemmas.{rank_is}
+use Rattle.mpi_group.proofs.MpiGroupLemmas.{rank_is}
 use Rattle.run_model.proofs.PostLemmas.{get_front, filled_is}
 use Rattle.run_model.proofs.CountedLemmas.{taken_accepted, comm_stays}
 use Rattle.run_model.specs.Contributions.{Contribution, posts_of, parts_on, kth_parts, parts_in}

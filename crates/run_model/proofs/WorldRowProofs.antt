@@ -45,7 +45,7 @@ none_wanted (e ∷ run) h =
     let parts = and_parts (not (is_want e.reply)) (list_all (λ f. not (is_want f.reply)) run) h in
     (none_wanted run parts.1, λ is. false≢true (ap not (sym (wanted e.reply is)) ∙ parts.0))
 
-same_act : (act : Act) → SameActButForValues act act
+pub same_act : (act : Act) → SameActButForValues act act
 same_act (ToPost a) = record {
   comm = refl;
   sig = refl;
@@ -57,7 +57,7 @@ same_act (ToPost a) = record {
 same_act (Take r) = refl
 same_act (ToInfo c) = refl
 
-same_self : (call : Call) → SameCallButForValues call call
+pub same_self : (call : Call) → SameCallButForValues call call
 same_self call = record { process = refl; act = same_act call.act }
 
 -- a run beside itself

@@ -46,7 +46,8 @@ use Rattle.run_model.specs.Worlds.{SameCallButForValues, AreTwoWorlds, form_of_r
 use Rattle.run_model.specs.Worlds.{SameButForNumbers, RepliesSameButForNumbers, WallSeesOne}
 use Rattle.run_model.specs.Worlds.{AtEachTurn, ValuesDecideNothing, FrontsOfWorldsAreWorlds}
 use Rattle.run_model.proofs.RunLemmas.{one_reply_is_due}
-use Rattle.run_model.proofs.SeenLemmas.{View, seen, seen_all, same_posts, map_cons_option, pairs}
+use Rattle.run_model.proofs.SeenLemmas.{View, seen, seen_all, same_posts, pairs}
+use Rattle.coll_values.proofs.CollValuesLemmas.{map_cons_option}
 use Rattle.run_model.proofs.SeenLemmas.{of_pair, parts_are, own_parts_are}
 
 -- ## what two runs have made that look the same

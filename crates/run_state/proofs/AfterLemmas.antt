@@ -27,7 +27,8 @@ use Rattle.run_state.specs.Entering.{Spot, IsAt, place_at, after, fills}
 use Rattle.run_state.specs.Stands.{StandsForPosts, arrivals_in, arrivals_as, waiting_by, waiting_in}
 use Rattle.run_state.proofs.RowLemmas.{rows-own, row-empty, not_full, none_begun}
 use Rattle.run_state.proofs.RowLemmas.{begun_alike, sig_joined, sig_opened}
-use Rattle.run_state.proofs.ContributionLemmas.{posts-grow, parts-grow, lengths}
+use Rattle.run_state.proofs.ContributionLemmas.{posts-grow, parts-grow}
+use Rattle.run_model.proofs.RunModelLemmas.{lengths}
 
 -- the member at a process's rank
 pub member_at : (members : List ℕ) (p r : ℕ) → rank_in members p ≡ Some r →

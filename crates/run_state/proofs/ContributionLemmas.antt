@@ -1,11 +1,11 @@
 -- One more post, with its part.
-use Rattle.std.proofs.Common.{◌≡◌, ◌≢◌, ℕ, suc, List, [], ◌∷◌, ◌++◌, length, refl, sym, ap, ◌∙◌}
-use Rattle.std.proofs.Common.{true, false, ◌&&◌, ⊎_elim, eq-eqb, ne_eqb}
+use Rattle.std.proofs.Common.{◌≡◌, ◌≢◌, ℕ, List, [], ◌∷◌, ◌++◌, refl}
+use Rattle.std.proofs.Common.{true, false, ◌&&◌, eq-eqb, ne_eqb}
 use Rattle.std.specs.Prelude.{◌==◌}
-use Rattle.std.proofs.lemmas.Bool.{cases_Bool, and_from, and_left, and_right, cond-true, cond-false}
+use Rattle.std.proofs.lemmas.Bool.{and_from, and_left, and_right, cond-true, cond-false}
 use Rattle.run_model.specs.Posts.{Post, posts_on}
-use Rattle.run_model.specs.Contributions.{Contribution, posts_of, parts_on}
-use Rattle.run_state.proofs.RowLemmas.{length_snoc, Grows}
+use Rattle.run_model.specs.Contributions.{Contribution, parts_on}
+use Rattle.run_state.proofs.RowLemmas.{Grows}
 
 own_test : (x : Post) → (x.comm == x.comm && x.process == x.process) ≡ true
 own_test x = and_from (x.comm == x.comm) (x.process == x.process) (eq-eqb x.comm x.comm refl)
@@ -47,24 +47,3 @@ pub parts-elsewhere : {X : Type 0} (c m : ℕ) (g : Contribution X) (past : List
 parts-elsewhere c m g past apart = cond-false (g.post.comm == c && g.post.process == m)
     (parts_on c m past ++ g.part ∷ []) (parts_on c m past)
     (and_left (g.post.comm == c) (g.post.process == m) (ne_eqb g.post.comm c apart))
-
--- there are as many parts as statements
-pub lengths : {X : Type 0} (c m : ℕ) (past : List (Contribution X)) →
-    length (parts_on c m past) ≡ length (posts_on c m (posts_of past))
-lengths c m [] = refl
-lengths c m (g ∷ past) = ⊎_elim
-    (λ t. ap length (cond-true (g.post.comm == c && g.post.process == m)
-    (parts_on c m past ++ g.part ∷ []) (parts_on c m past) t)
-    ∙ (length_snoc (parts_on c m past) g.part
-    ∙
-    (ap suc (lengths c m past) ∙ (sym (length_snoc (posts_on c m (posts_of past)) g.post.stated)
-    ∙ sym (ap length (cond-true (g.post.comm == c && g.post.process == m)
-    (posts_on c m (posts_of past) ++ g.post.stated ∷ []) (posts_on c m (posts_of past))
-    t))))))
-    (λ f. ap length (cond-false (g.post.comm == c && g.post.process == m)
-    (parts_on c m past ++ g.part ∷ []) (parts_on c m past) f)
-    ∙ (lengths c m past
-    ∙ sym (ap length (cond-false (g.post.comm == c && g.post.process == m)
-    (posts_on c m (posts_of past) ++ g.post.stated ∷ []) (posts_on c m (posts_of past))
-    f))))
-    (cases_Bool (g.post.comm == c && g.post.process == m))

@@ -18,7 +18,9 @@ use Rattle.mpi_cart.specs.Laws.{IsCell}
 use Rattle.mpi_cart.proofs.MpiCartLemmas.{length-cells, cell_has_digits, digits, digits_in_range}
 use Rattle.run_model.specs.Comms.{grid_parts, ranks_apart}
 use Rattle.run_state.specs.Parts.{apart_of}
-use Rattle.run_state.proofs.BelowLemmas.{below_more, map_more}
+use Rattle.run_state.proofs.BelowLemmas.{map_more}
+use Rattle.mpi_cart.proofs.MpiCartLemmas.{below_more}
+use Rattle.coll_values.proofs.CollValuesLemmas.{map_map}
 
 -- ## the numbers below one are a subgroup
 
@@ -359,11 +361,6 @@ places_range (x ∷ xs) f a at =
     λ i. (ap f (let z : a ≡ a + 0 = omega arith in z) ∙ at 0 x refl) i
     ∷ places_range xs f (a + 1)
     (λ k y e. ap f (let z : (a + 1) + k ≡ a + suc k = omega arith in z) ∙ at (suc k) y e) i
-
-map_map : {A B C : Type 0} (f : B → C) (h : A → B) (xs : List A) →
-    map f (map h xs) ≡ map (λ x. f (h x)) xs
-map_map f h [] = refl
-map_map f h (x ∷ xs) = ap (λ rest. f (h x) ∷ rest) (map_map f h xs)
 
 -- the parts of a grid, by the ranks of the grid of the dimensions that are not kept
 pub parts_by_rank : (g : Topology) (keep : List Bool) (apart : Topology) →

@@ -26,11 +26,13 @@ use Rattle.coll_routes.specs.Signatures.{same_signature}
 use Rattle.coll_routes.specs.Rolls.{stated_by, stated_in}
 use Rattle.coll_routes.specs.Faults.{shape_fault, stated_fault, stated_type}
 use Rattle.coll_routes.specs.Fit.{IsSized, IsSound, IsStatement, IsFit}
+use Rattle.coll_pending.specs.declared.arrival.Meeting.{Meeting}
 use Rattle.coll_pending.specs.declared.arrival.Next.{Next}
 use Rattle.coll_pending.specs.declared.arrival.Next.TheVariants.{Opens, Joins, Fills, Mismatch}
 use Rattle.coll_pending.specs.Instances.{Instance, is_begun, is_full, is_full_but_for, next_by}
 use Rattle.coll_pending.specs.Instances.{roll_in}
 use Rattle.coll_pending.specs.Waiting.{PendingView, next, before}
+use Rattle.coll_pending.proofs.CollPendingLemmas.{stated_none}
 use Rattle.wall_verdict.specs.Star.{star}
 use Rattle.run_model.specs.Comms.{Comm, shape_of, processes, ask_by, ask_in, asks}
 use Rattle.run_model.specs.Posts.{Post, posts_on, kth_posts, signature_in}
@@ -38,9 +40,9 @@ use Rattle.run_model.specs.Refusals.{refused_for, differs, mismatches, or_else, 
 use Rattle.run_model.specs.Refusals.{fault_as as told_as, fault_on as told_on}
 use Rattle.run_model.specs.declared.refusal.Refusal.TheVariants as refusals
 use Rattle.run_model.specs.Contributions.{Contribution, posts_of, kth_parts}
-use Rattle.run_state.specs.Views.{PostStateView, IsPostState, communicator_of, place_as, place_on}
-use Rattle.run_state.specs.Views.{place_of, is_mismatch, fault_after, fault_as, fault_on}
-use Rattle.run_state.specs.Views.{fault_among, fault_of}
+use Rattle.run_state.specs.declared.seat.Seat.{Seat}
+use Rattle.run_state.specs.Views.{PostStateView, IsPostState, communicator_of, is_mismatch}
+use Rattle.run_state.specs.Views.{fault_after, fault_as, fault_on, fault_of, LookedAt}
 use Rattle.run_state.specs.Stands.{StandsForPosts, arrivals_in, arrivals_as, waiting_by, waiting_in}
 use Rattle.run_state.specs.Upcoming.{IsNext, roll_with, roll_next, is_last}
 use Rattle.run_state.specs.Upcoming.{stated_in as stated_among, ask_of, asks_with}
@@ -92,6 +94,16 @@ mismatch_by roll rank sig = ⊎_elim
     none true = refl
     none false = refl
 
+-- how often a member has arrived is how often it has posted
+arrivals_are : {X : Type 0} (wall : ChineseWall) (seen : PostStateView X)
+    (past : List (Contribution X)) → StandsForPosts wall seen past →
+    (c p rank : ℕ) (comm : Comm) → slice_get seen.comms c ≡ Some comm →
+    rank_in comm.members p ≡ Some rank →
+    seen.waiting.arrivals c rank ≡ length (posts_on c p (posts_of past))
+arrivals_are wall seen past stands c p rank comm there at = stands.arrivals c rank
+    ∙ (ap (λ o. arrivals_in o c rank (posts_of past)) there
+    ∙ ap (λ o. arrivals_as o c (posts_of past)) (member_at comm.members p rank at))
+
 module _ {X : Type 0} (wall : ChineseWall) (seen : PostStateView X) (past : List (Contribution X))
     (stands : StandsForPosts wall seen past) (post_state : IsPostState seen) where
   abbrev posts : List Post
@@ -108,9 +120,8 @@ module _ {X : Type 0} (wall : ChineseWall) (seen : PostStateView X) (past : List
     own : slice_get comm.members rank ≡ Some p
     own = member_at comm.members p rank at
 
-    pub arrivals_is : seen.waiting.arrivals c rank ≡ count
-    arrivals_is = stands.arrivals c rank
-        ∙ (ap (λ o. arrivals_in o c rank posts) there ∙ ap (λ o. arrivals_as o c posts) own)
+    arrivals_is : seen.waiting.arrivals c rank ≡ count
+    arrivals_is = arrivals_are wall seen past stands c p rank comm there at
 
     waits_is : before seen.waiting c rank ≡ waiting_by comm rows (kth_parts comm c count past)
     waits_is = ap (λ k. seen.waiting.pending c k) arrivals_is
@@ -172,64 +183,45 @@ module _ {X : Type 0} (wall : ChineseWall) (seen : PostStateView X) (past : List
       (on_is c p sig own ty given (slice_get seen.comms c) refl
       ∙ ap (λ table. told_on posts p c (slice_get table c) sig own ty given) stands.comms)
 
-  -- how often a member has posted
-  pub place_is_count : (p c : ℕ) (comm : Comm) → slice_get seen.comms c ≡ Some comm →
-      IsSome (rank_in comm.members p) → place_of seen p c ≡ length (posts_on c p posts)
-  place_is_count p c comm there member =
-      ap (λ o. place_on seen.waiting p c o) there ∙ by (rank_in comm.members p) refl member
-    where
-      by : (o : Option ℕ) → rank_in comm.members p ≡ o → IsSome o →
-          place_as seen.waiting c o ≡ length (posts_on c p posts)
-      by (Some rank) at some = arrivals_is c p rank comm there at
-      by None at some = absurd (false≢true some)
+-- ## places
 
-  posts_few : (c m : ℕ) (xs : List Post) → length (posts_on c m xs) ≤ length xs
-  posts_few c m [] = omega arith
-  posts_few c m (x ∷ xs) =
-      let less = posts_few c m xs in
-      ⊎_elim
-      (λ t. subst (λ ys. length ys ≤ suc (length xs)) (sym (cond-true
-      (x.comm == c && x.process == m) (posts_on c m xs ++ x.stated ∷ [])
-      (posts_on c m xs) t)) (let one = Rattle.run_state.proofs.RowLemmas.length_snoc
-      (posts_on c m xs) x.stated in omega (arith, less, one)))
-      (λ f. subst (λ ys. length ys ≤ suc (length xs)) (sym (cond-false
-      (x.comm == c && x.process == m) (posts_on c m xs ++ x.stated ∷ [])
-      (posts_on c m xs) f)) (omega (arith, less)))
-      (cases_Bool (x.comm == c && x.process == m))
+posts_few : (c m : ℕ) (xs : List Post) → length (posts_on c m xs) ≤ length xs
+posts_few c m [] = omega arith
+posts_few c m (x ∷ xs) =
+    let less = posts_few c m xs in
+    ⊎_elim
+    (λ t. subst (λ ys. length ys ≤ suc (length xs)) (sym (cond-true
+    (x.comm == c && x.process == m) (posts_on c m xs ++ x.stated ∷ [])
+    (posts_on c m xs) t)) (let one = Rattle.run_state.proofs.RowLemmas.length_snoc
+    (posts_on c m xs) x.stated in omega (arith, less, one)))
+    (λ f. subst (λ ys. length ys ≤ suc (length xs)) (sym (cond-false
+    (x.comm == c && x.process == m) (posts_on c m xs ++ x.stated ∷ [])
+    (posts_on c m xs) f)) (omega (arith, less)))
+    (cases_Bool (x.comm == c && x.process == m))
 
-  length_posts : (xs : List (Contribution X)) → length (posts_of xs) ≡ length xs
-  length_posts [] = refl
-  length_posts (x ∷ xs) = ap suc (length_posts xs)
+length_posts : {X : Type 0} (xs : List (Contribution X)) → length (posts_of xs) ≡ length xs
+length_posts [] = refl
+length_posts (x ∷ xs) = ap suc (length_posts xs)
 
-  pub place_is_small : (p c : ℕ) → place_of seen p c ≤ length past
-  place_is_small p c = on (slice_get seen.comms c) refl
-    where
-      ranked : (comm : Comm) (o : Option ℕ) → slice_get seen.comms c ≡ Some comm →
-          rank_in comm.members p ≡ o → place_as seen.waiting c o ≤ length past
-      ranked comm None there at = omega arith
-      ranked comm (Some rank) there at =
-          let is = arrivals_is c p rank comm there at in
-          let few = posts_few c p posts in
-          let all = length_posts past in
-          omega (arith, is, few, all)
+module _ {X : Type 0} (wall : ChineseWall) (seen : PostStateView X) (past : List (Contribution X))
+    (stands : StandsForPosts wall seen past) (seat : Seat) (sig : Signature) (own : Own)
+    (ty : ElemType) (given : ℕ) (at : LookedAt seen seat sig own ty given) where
+  -- the number of its instance is how often its member has posted
+  pub place_is_count :
+      seat.meeting.k ≡ length (posts_on seat.meeting.comm seat.process (posts_of past))
+  place_is_count = ap (λ (m : Meeting). m.k) at.met ∙ arrivals_are wall seen past stands
+      seat.meeting.comm seat.process seat.meeting.rank at.comm at.there at.rank
 
-      on : (o : Option Comm) → slice_get seen.comms c ≡ o →
-          place_on seen.waiting p c o ≤ length past
-      on None there = omega arith
-      on (Some comm) there = ranked comm (rank_in comm.members p) there refl
+  pub place_is_small : seat.meeting.k ≤ length past
+  place_is_small = (let is = place_is_count in
+      let few = posts_few seat.meeting.comm seat.process (posts_of past) in
+      let all = length_posts past in
+      omega (arith, is, few, all))
 
 -- ## a post that meets no refusal
 
-pub record IsAccepted {X : Type 0} (table : List Comm) (waiting : PendingView X) (p c : ℕ)
-    (sig : Signature) (own : Own) (ty : ElemType) (given : ℕ) : Type 0 where
-  pub comm : Comm
-  pub rank : ℕ
-  pub there : slice_get table c ≡ Some comm
-  pub at : rank_in comm.members p ≡ Some rank
-  pub faultless : shape_fault (shape_of comm) rank sig own ty given ≡ None
-  pub agrees : next waiting c rank sig ≢ Mismatch
-
-no_fault_after : (fault : Option ShapeFault) (upcoming : Next) → fault_after fault upcoming ≡ None →
+pub no_fault_after : (fault : Option ShapeFault) (upcoming : Next) → fault_after fault upcoming ≡
+    None →
     (fault ≡ None) × (upcoming ≢ Mismatch)
 no_fault_after (Some f) upcoming e = absurd (cc)
 no_fault_after None Opens e = (refl, λ is. absurd (cc))
@@ -237,71 +229,30 @@ no_fault_after None Joins e = (refl, λ is. absurd (cc))
 no_fault_after None Fills e = (refl, λ is. absurd (cc))
 no_fault_after None Mismatch e = absurd (cc)
 
-module _ {X : Type 0} (table : List Comm) (waiting : PendingView X) (p c : ℕ) (sig : Signature)
-    (own : Own) (ty : ElemType) (given : ℕ) where
-  abbrev Accepted : Type 0
-  Accepted = IsAccepted table waiting p c sig own ty given
-
-  accepted_as : (comm : Comm) (o : Option ℕ) → slice_get table c ≡ Some comm →
-      rank_in comm.members p ≡ o → fault_as waiting c comm o sig own ty given ≡ None → Accepted
-  accepted_as comm None there at e = absurd (cc)
-  accepted_as comm (Some rank) there at e =
-      let parts = no_fault_after (shape_fault (shape_of comm) rank sig own ty given)
-      (next waiting c rank sig) e in
-      record {
-        comm = comm;
-        rank = rank;
-        there = there;
-        at = at;
-        faultless = parts.0;
-        agrees = parts.1;
-      }
-
-  accepted_on : (o : Option Comm) → slice_get table c ≡ o →
-      fault_on waiting p c o sig own ty given ≡ None → Accepted
-  accepted_on None there e = absurd (cc)
-  accepted_on (Some comm) there e = accepted_as comm (rank_in comm.members p) there refl e
-
-  pub accepted : (number : ℕ) → fault_among number table waiting p c sig own ty given ≡ None →
-      Accepted
-  accepted number e = ⊎_elim
-      (λ t. accepted_on (slice_get table c) refl (sym (cond-true (nat_lt p number)
-      (fault_on waiting p c (slice_get table c) sig own ty given)
-      (Some refusals.NoSuchProcess) t) ∙ e))
-      (λ f. let bad = sym (cond-false (nat_lt p number)
-      (fault_on waiting p c (slice_get table c) sig own ty given)
-      (Some refusals.NoSuchProcess) f) ∙ e in absurd (cc))
-      (cases_Bool (nat_lt p number))
-
 -- what is barred has a label
 barred_labelled : (held : History) (p : ℕ) (label : Option Label) (barred : Bool) →
     barred ≡ not (star held p label) → barred ≡ true → IsSome label
 barred_labelled held p None barred word t = absurd (false≢true (sym word ∙ t))
 barred_labelled held p (Some label) barred word t = refl
 
-pub is_next : {X : Type 0} (seen : PostStateView X) (number p c rank : ℕ) (comm : Comm)
-    (stated : Stated) → IsPostState seen →
-    fault_among number seen.comms seen.waiting p c stated.sig stated.own (stated_type stated.sig)
-    stated.given ≡ None →
-    stated.barred ≡ not (star (has seen.accesses) p stated.label) →
-    slice_get seen.comms c ≡ Some comm → rank_in comm.members p ≡ Some rank →
-    IsSized (shape_of comm) →
-    IsNext seen.waiting c rank comm stated
-is_next seen number p c rank comm stated post_state none word there at sized =
-    let a = accepted seen.comms seen.waiting p c stated.sig stated.own (stated_type stated.sig)
-    stated.given number none in
-    let same : a.comm ≡ comm = some_same a.comm comm (sym a.there ∙ there) in
-    let at_same : a.rank ≡ rank = some_same a.rank rank
-    (sym a.at ∙ (ap (λ (k : Comm). rank_in k.members p) same ∙ at)) in
+pub is_next : {X : Type 0} (seen : PostStateView X) (seat : Seat) (stated : Stated) →
+    IsPostState seen → (at : LookedAt seen seat stated.sig stated.own (stated_type stated.sig)
+    stated.given) → stated.barred ≡ not (star (has seen.accesses) seat.process stated.label) →
+    IsSized (shape_of at.comm) →
+    IsNext seen.waiting seat.meeting.comm seat.meeting.rank at.comm stated
+is_next seen seat stated post_state at word sized =
+    let c = seat.meeting.comm in
+    let rank = seat.meeting.rank in
     record {
-      member = slice_get_within comm.members rank p (member_at comm.members p rank at);
+      member = slice_get_within at.comm.members rank seat.process
+          (member_at at.comm.members seat.process rank at.rank);
       sized = sized;
-      known = post_state.known c comm there;
-      sound = λ inst e. post_state.sound c (seen.waiting.arrivals c rank) comm inst there e;
-      agrees = subst (λ r. next seen.waiting c r stated.sig ≢ Mismatch) at_same a.agrees;
-      faultless = (λ i. shape_fault (shape_of (sym same i)) (sym at_same i) stated.sig stated.own
-          (stated_type stated.sig) stated.given) ∙ a.faultless;
-      labelled = barred_labelled (has seen.accesses) p stated.label stated.barred word;
+      known = post_state.known c at.comm at.there;
+      sound = λ inst e.
+          post_state.sound c (seen.waiting.arrivals c rank) at.comm inst at.there e;
+      agrees = λ e. at.agrees (ap (λ (m : Meeting). m.does) at.met ∙ e);
+      faultless = at.faultless;
+      labelled = barred_labelled (has seen.accesses) seat.process stated.label stated.barred word;
     }
 
 -- ## its instance
@@ -415,11 +366,6 @@ stated_set (row ∷ rest) (suc r) zero s t e = inr e
 stated_set (row ∷ rest) (suc r) (suc i) s t e = ⊎_elim
     (λ (own : (i ≡ r) × (s ≡ t)). inl (ap suc own.0, own.1)) (λ old. inr old)
     (stated_set rest r i s t e)
-
-stated_none : (n i : ℕ) (t : Stated) → stated_in (slice_get (replicate n None) i) ≡ Some t → ⊥
-stated_none zero i t e = absurd (cc)
-stated_none (suc n) zero t e = absurd (cc)
-stated_none (suc n) (suc i) t e = stated_none n i t e
 
 pub sound_next : {X : Type 0} (waiting : PendingView X) (c rank : ℕ) (comm : Comm) (s : Stated) →
     IsNext waiting c rank comm s → IsSound (roll_next waiting c rank comm s)
@@ -575,24 +521,6 @@ asks_are {X} waiting c rank comm s is = by (before waiting c rank) refl
         row_at (row ∷ rows) (suc k) lt = row_at rows k (omega (arith, lt))
 
 -- ## for the steps
-
-pub accepted_there : {X : Type 0} (number : ℕ) (table : List Comm) (waiting : PendingView X)
-    (p c : ℕ) (s : Stated) →
-    fault_among number table waiting p c s.sig s.own (stated_type s.sig) s.given ≡ None →
-    c < length table
-accepted_there number table waiting p c s none =
-    let a = accepted table waiting p c s.sig s.own (stated_type s.sig) s.given number none in
-    slice_get_within table c a.comm a.there
-
-pub not_absent : {X : Type 0} (number : ℕ) (table : List Comm) (waiting : PendingView X) (p c : ℕ)
-    (s : Stated) (members : List ℕ) →
-    fault_among number table waiting p c s.sig s.own (stated_type s.sig) s.given ≡ None →
-    ((found : Comm) → slice_get table c ≡ Some found → members ≡ found.members) →
-    None ≡ rank_in members p → ⊥
-not_absent number table waiting p c s members none group gone =
-    let a = accepted table waiting p c s.sig s.own (stated_type s.sig) s.given number none in
-    let bad = gone ∙ (ap (λ ms. rank_in ms p) (group a.comm a.there) ∙ a.at) in
-    absurd (cc)
 
 pub asks_length : {X : Type 0} (waiting : PendingView X) (c rank : ℕ) (comm : Comm) (s : Stated) →
     IsNext waiting c rank comm s →

@@ -30,7 +30,8 @@ use Rattle.run_state.specs.Stands.{waiting_in}
 use Rattle.run_state.proofs.RowLemmas.{length_snoc, get-front, map-same, rows-other, begun_nothing}
 use Rattle.run_state.proofs.RowLemmas.{parts_back}
 use Rattle.run_state.proofs.ContributionLemmas.{posts-grow, parts-grow, posts-elsewhere}
-use Rattle.run_state.proofs.ContributionLemmas.{parts-elsewhere, lengths}
+use Rattle.run_state.proofs.ContributionLemmas.{parts-elsewhere}
+use Rattle.run_model.proofs.RunModelLemmas.{lengths}
 use Rattle.run_state.proofs.AfterLemmas.{instance_by, own_rank, once, place_is, rows-now, after_is}
 use Rattle.run_state.proofs.AfterLemmas.{filled_is}
 

@@ -26,7 +26,9 @@ use Rattle.coll_pending.specs.declared.arrival.Next.TheVariants.{Opens, Joins, F
 use Rattle.coll_pending.specs.declared.arrival.ArrivalFault.{ArrivalFault}
 use Rattle.coll_pending.specs.declared.arrival.ArrivalFault.TheVariants as faults
 use Rattle.coll_pending.specs.Instances.{Communicator, is_full}
+use Rattle.coll_pending.specs.declared.arrival.Meeting.{Meeting}
 use Rattle.coll_pending.specs.Waiting.{PendingView, IsKnownAs, HasArrived, fault_at, before, next}
+use Rattle.coll_pending.specs.Waiting.{meeting_of}
 use Rattle.wall_verdict.specs.declared.verdict.Verdict.{Verdict}
 use Rattle.wall_verdict.specs.declared.verdict.Verdict.TheVariants as verdicts
 use Rattle.wall_verdict.specs.Verdicts.{verdict}
@@ -39,11 +41,10 @@ use Rattle.run_state.specs.declared.entered.Entered.TheVariants.{Settled}
 use Rattle.run_model.specs.Contributions.{Contribution}
 use Rattle.run_model.specs.declared.refusal.Refusal.TheVariants as refusals
 use Rattle.run_state.specs.Views.{PostStateView, communicator_of, fault_after, fault_as, fault_on}
-use Rattle.run_state.specs.Views.{fault_among, place_as, place_on, JoinsAs, JoinsOn}
+use Rattle.run_state.specs.Views.{fault_among, LookedAmong}
 use Rattle.run_state.specs.Entering.{Answers, after, written}
 use Rattle.run_state.specs.Upcoming.{IsNext, roll_next, constructed}
-use Rattle.run_state.proofs.RowLemmas.{some_same}
-use Rattle.run_state.proofs.SeenLemmas.{roll_is, fit_next, accepted}
+use Rattle.run_state.proofs.SeenLemmas.{roll_is, fit_next, no_fault_after}
 
 -- ## verdicts
 
@@ -152,7 +153,7 @@ module _ {X : Type 0} (wall : ChineseWall) (count : ℕ) (old : PostStateView X)
     fit_full,
   )
 
--- ## refusals and places, by the parts of a state
+-- ## refusals, by the parts of a state
 
 module _ {X : Type 0} (number : ℕ) (table : List Comm) (waiting : PendingView X) (p c : ℕ)
     (members : List ℕ) (lt : c < length table)
@@ -186,34 +187,22 @@ module _ {X : Type 0} (number : ℕ) (table : List Comm) (waiting : PendingView 
       ∙ sym (cond-true (nat_lt p number) (fault_on waiting p c (slice_get table c) sig own ty given)
       (Some refusals.NoSuchProcess) (lt-ltb p number low)))
 
-  pub place_some : (rank : ℕ) → Some rank ≡ rank_in members p →
-      waiting.arrivals c rank ≡ place_on waiting p c (slice_get table c)
-  place_some rank at = ap (λ o. place_as waiting c o) (sym (rank_here (Some rank) at))
-      ∙ ap (λ o. place_on waiting p c o) (sym here.1)
-
-  pub place_none : None ≡ rank_in members p → 0 ≡ place_on waiting p c (slice_get table c)
-  place_none at = ap (λ o. place_as waiting c o) (sym (rank_here None at))
-      ∙ ap (λ o. place_on waiting p c o) (sym here.1)
-
-  pub joins_some : (rank : ℕ) (sig : Signature) → Some rank ≡ rank_in members p →
-      next waiting c rank sig ≡ Joins → JoinsOn waiting p c (slice_get table c) sig
-  joins_some rank sig at joins =
-      subst (λ o. JoinsOn waiting p c o sig) (sym here.1)
-      (subst (λ o. JoinsAs waiting c o sig) (sym (rank_here (Some rank) at)) joins)
-
-  pub joins_told : (rank : ℕ) (sig : Signature) → Some rank ≡ rank_in members p →
-      JoinsOn waiting p c (slice_get table c) sig → next waiting c rank sig ≡ Joins
-  joins_told rank sig at joins =
-      subst (λ o. JoinsAs waiting c o sig) (rank_here (Some rank) at)
-      (subst (λ o. JoinsOn waiting p c o sig) here.1 joins)
-
-  pub agrees_told : (rank : ℕ) (sig : Signature) (own : Own) (ty : ElemType) (given : ℕ) →
-      Some rank ≡ rank_in members p →
-      fault_among number table waiting p c sig own ty given ≡ None →
-      next waiting c rank sig ≢ Mismatch
-  agrees_told rank sig own ty given at none =
-      let a = accepted table waiting p c sig own ty given number none in
-      let same : a.comm ≡ here.0 = some_same a.comm here.0 (sym a.there ∙ here.1) in
-      let at_same : a.rank ≡ rank = some_same a.rank rank
-      (sym a.at ∙ (ap (λ (k : Comm). rank_in k.members p) same ∙ rank_here (Some rank) at)) in
-      subst (λ r. next waiting c r sig ≢ Mismatch) at_same a.agrees
+  pub looked_some : (shape : Shape) (meeting : Meeting) (rank : ℕ) (sig : Signature) (own : Own)
+      (ty : ElemType) (given : ℕ) →
+      ((found : Comm) → slice_get table c ≡ Some found → shape ≡ shape_of found) →
+      Some rank ≡ rank_in members p → meeting ≡ meeting_of waiting c rank sig →
+      None ≡ fault_after (shape_fault shape rank sig own ty given) meeting.does →
+      LookedAmong table waiting (record { process = p; meeting = meeting }) sig own ty given
+  looked_some shape meeting rank sig own ty given shapes at is none =
+      let both = no_fault_after (shape_fault shape rank sig own ty given) meeting.does (sym none) in
+      let place = ap (λ (m : Meeting). m.comm) is in
+      let own_rank = ap (λ (m : Meeting). m.rank) is in
+      record {
+        comm = here.0;
+        there = ap (λ n. slice_get table n) place ∙ here.1;
+        rank = rank_here (Some rank) at ∙ ap (λ n. Some n) (sym own_rank);
+        faultless = (λ i. shape_fault (sym (shapes here.0 here.1) i) (own_rank i) sig own ty
+            given) ∙ both.0;
+        met = is ∙ (λ i. meeting_of waiting (sym place i) (sym own_rank i) sig);
+        agrees = both.1;
+      }

@@ -1,6 +1,6 @@
 -- What contracts see of a state: look-ups, and what follows from them for the next post.
-use Rattle.std.specs.Prelude.{◌≡◌, ◌≤◌, ℕ, List, Bool, true, false, length, slice_get, Option, Some}
-use Rattle.std.specs.Prelude.{None, nat_lt, if◌then◌else◌}
+use Rattle.std.specs.Prelude.{◌≡◌, ◌≢◌, ◌≤◌, ℕ, List, Bool, true, false, length, slice_get}
+use Rattle.std.specs.Prelude.{Option, Some, None, nat_lt, if◌then◌else◌}
 use Rattle.std.specs.Option.{option_map}
 use Rattle.wall_policy.specs.Policy.{ChineseWall}
 use Rattle.wall_rules.specs.Histories.{Accesses}
@@ -15,11 +15,13 @@ use Rattle.coll_pending.specs.declared.arrival.Next.{Next}
 use Rattle.coll_pending.specs.declared.arrival.Next.TheVariants as nexts
 use Rattle.coll_pending.specs.Instances.{Instance, Communicator}
 use Rattle.coll_pending.specs.Waiting.{PendingView, State, view_of_pending, next, IsKnownAs}
+use Rattle.coll_pending.specs.Waiting.{IsMeetingOf}
 use Rattle.run_model.specs.Comms.{Comm, processes, shape_of}
 use Rattle.run_model.specs.Refusals.{refused_for, or_else}
 use Rattle.run_model.specs.declared.refusal.Refusal.{Refusal}
 use Rattle.run_model.specs.declared.refusal.Refusal.TheVariants.{NoSuchProcess, NoSuchComm}
 use Rattle.run_model.specs.declared.refusal.Refusal.TheVariants.{NotMember, Mismatch}
+use Rattle.run_state.specs.declared.seat.Seat.{Seat}
 
 -- the value of a state in clauses
 pub record PostStateValue (X : Type 0) : Type 0 where
@@ -46,19 +48,6 @@ abbrev pub communicator_of : Comm → Communicator
 communicator_of comm = record { members = comm.members; shape = shape_of comm }
 
 -- ## the next post
-
--- the number of the instance that the next post of a process on a communicator belongs to: how
--- often it has posted there
-abbrev pub place_as : {X : Type 0} → PendingView X → (c : ℕ) → Option ℕ → ℕ
-place_as waiting c (Some rank) = waiting.arrivals c rank
-place_as waiting c None = 0
-
-abbrev pub place_on : {X : Type 0} → PendingView X → (p c : ℕ) → Option Comm → ℕ
-place_on waiting p c (Some comm) = place_as waiting c (rank_in comm.members p)
-place_on waiting p c None = 0
-
-abbrev pub place_of : {X : Type 0} → PostStateView X → (p c : ℕ) → ℕ
-place_of seen p c = place_on seen.waiting p c (slice_get seen.comms c)
 
 abbrev pub is_mismatch : Next → Bool
 is_mismatch nexts.Opens = false
@@ -93,17 +82,22 @@ abbrev pub fault_of : {X : Type 0} → ChineseWall → PostStateView X → (p c 
 fault_of wall seen p c sig own ty given =
     fault_among (processes wall) seen.comms seen.waiting p c sig own ty given
 
--- it meets an instance that waits for others too
-abbrev pub JoinsAs : {X : Type 0} → PendingView X → (c : ℕ) → Option ℕ → Signature → Type 0
-JoinsAs waiting c (Some rank) sig = next waiting c rank sig ≡ nexts.Joins
-JoinsAs waiting c None sig = ⊥
+-- what a look finds of a post of this signature, by which its member states this for itself and
+-- gives so many elements of this type, among these communicators: the process has this rank, the
+-- post has no fault of its own, and it meets this, which is of its signature
+pub record LookedAmong {X : Type 0} (table : List Comm) (waiting : PendingView X) (seat : Seat)
+    (sig : Signature) (own : Own) (ty : ElemType) (given : ℕ) : Type 0 where
+  pub comm : Comm
+  pub there : slice_get table seat.meeting.comm ≡ Some comm
+  pub rank : rank_in comm.members seat.process ≡ Some seat.meeting.rank
+  pub faultless : shape_fault (shape_of comm) seat.meeting.rank sig own ty given ≡ None
+  pub met : IsMeetingOf waiting sig seat.meeting
+  pub agrees : seat.meeting.does ≢ nexts.Mismatch
 
-abbrev pub JoinsOn : {X : Type 0} → PendingView X → (p c : ℕ) → Option Comm → Signature → Type 0
-JoinsOn waiting p c (Some comm) sig = JoinsAs waiting c (rank_in comm.members p) sig
-JoinsOn waiting p c None sig = ⊥
-
-abbrev pub JoinsOthers : {X : Type 0} → PostStateView X → (p c : ℕ) → Signature → Type 0
-JoinsOthers seen p c sig = JoinsOn seen.waiting p c (slice_get seen.comms c) sig
+abbrev pub LookedAt : {X : Type 0} → PostStateView X → Seat → Signature → Own → ElemType →
+    (given : ℕ) → Type 0
+LookedAt seen seat sig own ty given =
+    LookedAmong seen.comms seen.waiting seat sig own ty given
 
 -- ## what is so of every state
 

@@ -20,10 +20,13 @@ mod entered;
 mod making;
 mod parts;
 mod post_state;
+mod seat;
 mod steps;
 
 pub use book::Book;
+pub use coll_pending::{Meeting, Next};
 pub use entered::{Entered, Unentered};
 pub use post_state::PostState;
 pub use run_model::{Entry, Outcome, Refusal, Rule};
+pub use seat::{Seat, Terms};
 pub use wall_labels::NoMemory;

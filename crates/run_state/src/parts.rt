@@ -11,7 +11,7 @@ use std::alloc::Global;
 use wall_labels::NoMemory;
 
 /// The numbers below this one.
-#[tactic(auto, using(crate::proofs::BelowLemmas::below_more))]
+#[tactic(auto, using(mpi_cart::proofs::MpiCartLemmas::below_more))]
 pub fn numbers_below(alloc: Global, number: u32) -> Result<Vec<u32>, NoMemory>
     ensures { IfOk result (λ list. list.items ≡ below number) }
 {

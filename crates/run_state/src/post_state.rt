@@ -1,9 +1,9 @@
 //! The counted posts so far, in the parts that go on from them.
 ghost use Rattle.std.specs.Prelude.{◌≡◌, ◌<◌, ◌≤◌, ◌^◌, ◌∷◌, [], List, not, length, slice_get};
-ghost use Rattle.std.specs.Prelude.{IfOk, IfErr, OnErr, IsSome, IsTrue, Some, None};
+ghost use Rattle.std.specs.Prelude.{IfOk, IfErr, OnErr, Some};
+ghost use Rattle.std.specs.Result.{result_err};
 ghost use Rattle.wall_policy.specs.Policy.{ChineseWall};
 ghost use Rattle.wall_rules.specs.Histories.{has};
-ghost use Rattle.mpi_group.specs.Groups.{rank_in};
 ghost use Rattle.coll_routes.specs.Faults.{stated_type};
 ghost use Rattle.wall_verdict.specs.Star.{star};
 ghost use Rattle.run_model.specs.Comms.{Comm, shape_of};
@@ -14,10 +14,10 @@ ghost use Rattle.run_state.specs.declared.entered.Entered.TheVariants.{Waiting};
 
 use crate::communicators::Communicators;
 use crate::entered::{Entered, Unentered};
-use crate::steps::{self, MemberPost, Terms};
-use coll_pending::{Next, Pending};
-use coll_routes::{Own, Shape, Signature, Stated};
-use mpi_elems::ElemType;
+use crate::seat::{Seat, Terms};
+use crate::steps;
+use coll_pending::Pending;
+use coll_routes::{Shape, Stated};
 use mpi_group::Group;
 use run_model::Refusal;
 use std::alloc::Global;
@@ -25,7 +25,7 @@ use std::marker::Model;
 use wall_labels::{Label, NoMemory, ProcessId};
 use wall_policy::Policy;
 use wall_rules::Histories;
-use wall_verdict::{enter_label, passes_star};
+use wall_verdict::{enter_passed, passes_star};
 
 /// The communicators with their grids, the instances that wait for members, each with what its
 /// members have brought so far, and who has had access to what.
@@ -71,8 +71,7 @@ impl<X> Model for PostState<X> {
 
 impl<X: Drop> PostState<X> {
     ghost use Rattle.run_model.specs.Contributions.{Contribution, contribution, posts_of};
-    ghost use Rattle.run_state.specs.Views.{IsPostState, view_of, fault_of, place_of};
-    ghost use Rattle.run_state.specs.Views.{JoinsOthers};
+    ghost use Rattle.run_state.specs.Views.{IsPostState, view_of, fault_of, LookedAt};
     ghost use Rattle.run_state.specs.Stands.{StandsForPosts, Tells};
 
     /// A state that stands for no post: the world alone, and each process with access to its home.
@@ -128,109 +127,81 @@ impl<X: Drop> PostState<X> {
         &self.histories
     }
 
-    /// Whether the star rule lets the process post elements with this label; a post of no elements
-    /// has none, and passes.
-    pub fn passes(&self, process: ProcessId, label: &Option<Label>) -> bool
-        ensures test { result ≡ star (has self.now.accesses) process label.now }
-        ensures posts { (wall : ChineseWall) (past : List (Contribution X)) →
-            StandsForPosts wall (view_of self.now) past →
-            result ≡ star (histories wall (posts_of past)) process label.now }
-    {
-        passes_star(&self.histories, process, label)
-    }
-
-    /// The number of the instance that the next post of a process on a communicator belongs to: how
-    /// often it has posted there.
-    pub fn place(&self, process: ProcessId, comm: u32) -> u64
-        ensures value { result ≡ place_of (view_of self.now) process comm }
-        ensures posts { (wall : ChineseWall) (past : List (Contribution X)) (found : Comm) →
-            StandsForPosts wall (view_of self.now) past →
-            slice_get self.now.comms comm ≡ Some found → IsSome (rank_in found.members process) →
-            result ≡ length (posts_on comm process (posts_of past)) }
-        ensures few { (wall : ChineseWall) (past : List (Contribution X)) →
-            StandsForPosts wall (view_of self.now) past → result ≤ length past }
-    {
-        if comm >= self.comms.len() {
-            return 0;
-        }
-        match self.comms.group(comm).rank_of(process) {
-            Some(rank) => self.pending.arrivals(comm, rank),
-            None => 0,
-        }
-    }
-
-    /// Why the next post of a process on a communicator would be refused, which gives so many
-    /// elements of this type: the first refusal that holds, of those that posts alone decide. Takes
-    /// no memory.
-    pub fn refusal(
+    /// What the next post of a process on a communicator meets, if it is of this signature and
+    /// gives so many elements of this type, for `join` and `enter`; or why it would be refused: the
+    /// first refusal that holds, of those that posts alone decide. Takes no memory.
+    pub fn look(
         &self,
         policy: &Policy,
         process: u32,
         comm: u32,
-        sig: &Signature,
-        own: &Own,
-        elem_type: ElemType,
-        given: usize,
-    ) -> Option<Refusal>
-        ensures test { result
-            ≡ fault_of policy.now (view_of self.now) process comm sig.now own.now elem_type given }
+        terms: Terms<'_>,
+    ) -> Result<Seat, Refusal>
+        ensures test { result_err result ≡ fault_of policy.now (view_of self.now) process comm
+            terms.entry.sig.now terms.entry.own.now terms.entry.elem_type terms.entry.given }
         ensures posts { (past : List (Contribution X)) →
             StandsForPosts policy.now (view_of self.now) past →
-            result ≡ fault policy.now (posts_of past) process comm sig.now own.now elem_type given }
+            result_err result ≡ fault policy.now (posts_of past) process comm
+            terms.entry.sig.now terms.entry.own.now terms.entry.elem_type terms.entry.given }
+        ensures process { IfOk result (λ seat. seat.process ≡ process) }
+        ensures comm { IfOk result (λ seat. seat.meeting.comm ≡ comm) }
+        ensures looked { IfOk result (λ seat. LookedAt (view_of self.now) seat
+            terms.entry.sig.now terms.entry.own.now terms.entry.elem_type terms.entry.given) }
+        ensures place { IfOk result (λ seat. (past : List (Contribution X)) →
+            StandsForPosts policy.now (view_of self.now) past →
+            seat.meeting.k
+            ≡ length (posts_on seat.meeting.comm seat.process (posts_of past))) }
     {
-        steps::refusal(
+        steps::look(
             &self.comms,
             &self.pending,
             policy.processes(),
             process,
             comm,
-            Terms {
-                sig,
-                own,
-                elem_type,
-                given,
-            },
+            terms,
         )
     }
 
-    /// Whether the next post of a process on a communicator, which meets no refusal, meets an
-    /// instance that waits for others too: see `join`. Compares no signatures, and takes no memory.
-    pub fn joins(&self, _policy: &Policy, process: ProcessId, comm: u32, stated: &Stated) -> bool
-        requires { fault_of _policy.now (view_of self.now) process comm stated.now.sig
-            stated.now.own (stated_type stated.now.sig) stated.now.given ≡ None }
-        ensures others { IsTrue result → JoinsOthers (view_of self.now) process comm stated.now.sig }
-        ensures all { JoinsOthers (view_of self.now) process comm stated.now.sig → IsTrue result }
+    /// Whether the star rule lets the process of the seat post elements with this label; a post of
+    /// no elements has none, and passes.
+    pub fn passes(&self, seat: &Seat, label: &Option<Label>) -> bool
+        ensures test { result ≡ star (has self.now.accesses) seat.now.process label.now }
+        ensures posts { (wall : ChineseWall) (past : List (Contribution X)) →
+            StandsForPosts wall (view_of self.now) past →
+            result ≡ star (histories wall (posts_of past)) seat.now.process label.now }
     {
-        let Some(rank) = self.comms.group(comm).rank_of(process) else {
-            unreachable!()
-        };
-        is_joining(self.pending.next_agreed(comm, rank, &stated.sig))
+        passes_star(&self.histories, seat.process, label)
     }
 
-    /// Enters a post that meets no refusal, of an instance that waits for others too: it waits on.
+    /// Enters a post as a look found it, of an instance that waits for others too: it waits on.
     /// Takes no memory. The same as `enter` at such a post.
-    pub fn join(&mut self, _policy: &Policy, process: ProcessId, comm: u32, stated: Stated, part: X)
-        requires accepted { fault_of _policy.now (view_of self.old) process comm stated.sig
-            stated.own (stated_type stated.sig) stated.given ≡ None }
-        requires word { stated.barred ≡ not (star (has self.old.accesses) process stated.label) }
-        requires few { place_of (view_of self.old) process comm < 2 ^ 62 }
-        requires joins { JoinsOthers (view_of self.old) process comm stated.sig }
-        ensures entered { (past : List (Contribution X)) →
-            StandsForPosts _policy.now (view_of self.old) past →
-            StandsForPosts _policy.now (view_of self.new)
-            (contribution process comm stated part ∷ past)
-            × Tells _policy.now (contribution process comm stated part) past
-            (Waiting (place_of (view_of self.old) process comm)) }
+    pub fn join(&mut self, seat: Seat, stated: Stated, part: X)
+        requires looked { LookedAt (view_of self.old) seat stated.sig stated.own
+            (stated_type stated.sig) stated.given }
+        requires word { stated.barred
+            ≡ not (star (has self.old.accesses) seat.process stated.label) }
+        requires few { seat.meeting.k < 2 ^ 62 }
+        requires joins { seat.meeting.does ≡ Joins }
+        ensures entered { (wall : ChineseWall) (past : List (Contribution X)) →
+            StandsForPosts wall (view_of self.old) past →
+            StandsForPosts wall (view_of self.new)
+            (contribution seat.process seat.meeting.comm stated part ∷ past)
+            × Tells wall (contribution seat.process seat.meeting.comm stated part) past
+            (Waiting seat.meeting.k) }
         ensures classes { self.new.accesses.classes ≡ self.old.accesses.classes }
     {
-        let Some(rank) = self.comms.group(comm).rank_of(process) else {
-            unreachable!()
-        };
-        let _ = enter_label(&mut self.histories, process, &stated.label);
-        self.pending.join(comm, rank, stated, part);
+        // Called for what is known of each group.
+        let _ = self.comms.group(seat.meeting.comm);
+        enter_passed(
+            &mut self.histories,
+            seat.process,
+            &stated.label,
+            !stated.barred,
+        );
+        self.pending.join(seat.meeting, stated, part);
     }
 
-    /// Enters a post that meets no refusal, and says by its word whether the star rule barred it.
+    /// Enters a post as a look found it, which says by its word whether the star rule barred it.
     /// Where it is the last of its instance, it tells the outcome of the instance, and hands it out
     /// with all parts; a constructor whose communicators do not fit makes none.
     ///
@@ -238,34 +209,33 @@ impl<X: Drop> PostState<X> {
     pub fn enter(
         &mut self,
         policy: &Policy,
-        process: ProcessId,
-        comm: u32,
+        seat: Seat,
         stated: Stated,
         part: X,
     ) -> Result<Entered<X>, Unentered<X>>
         requires policy { self.old.accesses.classes ≡ policy.now.classes }
-        requires accepted { fault_of policy.now (view_of self.old) process comm stated.sig
-            stated.own (stated_type stated.sig) stated.given ≡ None }
-        requires word { stated.barred ≡ not (star (has self.old.accesses) process stated.label) }
-        requires few { place_of (view_of self.old) process comm < 2 ^ 62 }
+        requires looked { LookedAt (view_of self.old) seat stated.sig stated.own
+            (stated_type stated.sig) stated.given }
+        requires word { stated.barred
+            ≡ not (star (has self.old.accesses) seat.process stated.label) }
+        requires few { seat.meeting.k < 2 ^ 62 }
         ensures entered { IfOk result (λ entered. (past : List (Contribution X)) →
             StandsForPosts policy.now (view_of self.old) past →
             StandsForPosts policy.now (view_of self.new)
-            (contribution process comm stated part ∷ past)
-            × Tells policy.now (contribution process comm stated part) past entered) }
+            (contribution seat.process seat.meeting.comm stated part ∷ past)
+            × Tells policy.now (contribution seat.process seat.meeting.comm stated part) past
+            entered) }
         ensures classes { self.new.accesses.classes ≡ self.old.accesses.classes }
         ensures unchanged { OnErr result (view_of self.new ≡ view_of self.old) }
         ensures back { IfErr result (λ refused. (refused.stated ≡ stated) × (refused.part ≡ part)) }
     {
-        let Some(rank) = self.comms.group(comm).rank_of(process) else {
-            unreachable!()
-        };
+        // Called for what is known of each group.
+        let _ = self.comms.group(seat.meeting.comm);
         match steps::prepare(
             self.alloc,
             &mut self.comms,
             &mut self.pending,
-            comm,
-            rank,
+            seat.meeting,
             &stated,
         ) {
             Err(_) => Err(Unentered { stated, part }),
@@ -274,25 +244,11 @@ impl<X: Drop> PostState<X> {
                 &mut self.pending,
                 &mut self.histories,
                 policy,
-                MemberPost {
-                    process,
-                    comm,
-                    rank,
-                    stated,
-                    part,
-                },
+                seat,
+                stated,
+                part,
                 made,
             )),
         }
-    }
-}
-
-fn is_joining(next: Next) -> bool
-    ensures others { IsTrue result → next ≡ Joins }
-    ensures all { next ≡ Joins → IsTrue result }
-{
-    match next {
-        Next::Joins => true,
-        _ => false,
     }
 }

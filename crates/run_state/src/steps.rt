@@ -2,19 +2,20 @@
 ghost use Rattle.std.specs.Prelude.{◌≡◌, ◌<◌, ◌≤◌, ◌^◌, ◌==◌, ℕ, not, length, slice_get, IfOk};
 ghost use Rattle.std.specs.Prelude.{OnOk, OnErr, Some, None, true};
 ghost use Rattle.std.specs.Option.{option_copied};
+ghost use Rattle.std.specs.Result.{result_err};
 ghost use Rattle.wall_labels.specs.declared.ids.TheConstants.{PROCESS_LIMIT};
 ghost use Rattle.wall_rules.specs.Histories.{has};
 ghost use Rattle.mpi_cart.specs.Grids.{below};
 ghost use Rattle.coll_routes.specs.Fit.{IsFit};
 ghost use Rattle.coll_routes.specs.declared.roll.Roll;
 ghost use Rattle.coll_pending.specs.declared.arrival.Next.TheVariants.{Mismatch};
-ghost use Rattle.coll_pending.specs.Waiting.{view_of_pending, next, HasRoom};
+ghost use Rattle.coll_pending.specs.Waiting.{view_of_pending, HasRoom, IsMeetingOf};
 ghost use Rattle.wall_verdict.specs.Star.{star};
 ghost use Rattle.run_model.specs.Comms.{Comm, processes, ask_by, ask_in, asks};
 ghost use Rattle.run_model.specs.Posts.{outcome_of, with_delivery, by_verdict};
 ghost use Rattle.run_model.specs.Refusals.{refused_for};
 ghost use Rattle.run_model.specs.Contributions.{contribution};
-ghost use Rattle.run_state.specs.Views.{seen, communicator_of, fault_among};
+ghost use Rattle.run_state.specs.Views.{seen, communicator_of, fault_among, LookedAmong};
 ghost use Rattle.run_state.specs.Views.{fault_after};
 ghost use Rattle.run_state.specs.Entering.{Changes, Answers};
 ghost use Rattle.run_state.specs.Upcoming.{IsNext, IsPrepared, roll_next, is_last, asks_with};
@@ -22,28 +23,18 @@ ghost use Rattle.run_state.specs.Upcoming.{stated_in, constructed};
 
 use crate::communicators::Communicators;
 use crate::entered::Entered;
+use crate::seat::{Seat, Terms};
 use coll_pending::laws::faultless_signatures_fit;
-use coll_pending::{Arrived, Next, Pending};
-use coll_routes::{Own, Roll, ShapeFault, Signature, Stated, shape_fault};
+use coll_pending::{Arrived, Meeting, Next, Pending};
+use coll_routes::{Own, Roll, ShapeFault, Stated, shape_fault};
 use mpi_comm::Ask;
-use mpi_elems::ElemType;
 use mpi_group::{Group, GroupFault};
 use run_model::{Outcome, Refusal};
 use std::alloc::Global;
 use wall_labels::{NoMemory, ProcessId};
 use wall_policy::Policy;
 use wall_rules::Histories;
-use wall_verdict::{Verdict, enter_label, settle};
-
-/// A post of the member that has this rank on a communicator, with its part.
-#[derive(Drop)]
-pub struct MemberPost<X> {
-    pub process: ProcessId,
-    pub comm: u32,
-    pub rank: u32,
-    pub stated: Stated,
-    pub part: X,
-}
+use wall_verdict::{Verdict, enter_passed, settle};
 
 /// The group of all processes, in order.
 #[tactic(auto, using(crate::proofs::PartLemmas::distinct_below))]
@@ -59,7 +50,7 @@ pub fn world(alloc: Global, processes: u32) -> Result<Group, NoMemory>
     }
 }
 
-#[tactic(auto, using(crate::proofs::BelowLemmas::below_more))]
+#[tactic(auto, using(mpi_cart::proofs::MpiCartLemmas::below_more))]
 fn all_processes(alloc: Global, processes: u32) -> Result<Vec<ProcessId>, NoMemory>
     requires { processes ≤ PROCESS_LIMIT }
     ensures { IfOk result (λ list. list.items ≡ below processes) }
@@ -74,53 +65,55 @@ fn all_processes(alloc: Global, processes: u32) -> Result<Vec<ProcessId>, NoMemo
     Ok(list)
 }
 
-/// What is judged of a post by itself: its signature, what its member states for itself, and that
-/// it gives so many elements of this type.
-#[derive(Clone, Copy)]
-pub struct Terms<'a> {
-    pub sig: &'a Signature,
-    pub own: &'a Own,
-    pub elem_type: ElemType,
-    pub given: usize,
-}
-
-/// The first refusal that holds of the next post of a process on a communicator, where there are so
-/// many processes.
-pub fn refusal<X: Drop>(
+/// What the next post of a process on a communicator meets, where there are so many processes, or
+/// the first refusal that holds.
+pub fn look<X: Drop>(
     comms: &Communicators,
     pending: &Pending<X>,
     processes: u32,
     process: u32,
     comm: u32,
     terms: Terms<'_>,
-) -> Option<Refusal>
+) -> Result<Seat, Refusal>
     requires { processes ≤ PROCESS_LIMIT }
-    ensures { result
+    ensures test { result_err result
         ≡ fault_among processes comms.now (view_of_pending pending.now) process comm
         terms.entry.sig.now terms.entry.own.now terms.entry.elem_type terms.entry.given }
+    ensures process { IfOk result (λ seat. seat.process ≡ process) }
+    ensures comm { IfOk result (λ seat. seat.meeting.comm ≡ comm) }
+    ensures looked { IfOk result (λ seat.
+        LookedAmong comms.now (view_of_pending pending.now) seat terms.entry.sig.now
+        terms.entry.own.now terms.entry.elem_type terms.entry.given) }
 {
     if process >= processes {
-        return Some(Refusal::NoSuchProcess);
+        return Err(Refusal::NoSuchProcess);
     }
     if comm >= comms.len() {
-        return Some(Refusal::NoSuchComm);
+        return Err(Refusal::NoSuchComm);
     }
     let Some(member) = ProcessId::new(process) else {
         unreachable!()
     };
     match comms.group(comm).rank_of(member) {
-        Some(rank) => refusal_after(
-            shape_fault(
+        None => Err(Refusal::NotMember),
+        Some(rank) => {
+            let fault = shape_fault(
                 comms.shape(comm),
                 rank,
                 terms.sig,
                 terms.own,
                 terms.elem_type,
                 terms.given,
-            ),
-            pending.next(comm, rank, terms.sig),
-        ),
-        None => Some(Refusal::NotMember),
+            );
+            let meeting = pending.look(comm, rank, terms.sig);
+            match refusal_after(fault, meeting.does) {
+                Some(refusal) => Err(refusal),
+                None => Ok(Seat {
+                    process: member,
+                    meeting,
+                }),
+            }
+        }
     }
 }
 
@@ -156,23 +149,25 @@ pub fn prepare<X: Drop>(
     alloc: Global,
     comms: &mut Communicators,
     pending: &mut Pending<X>,
-    comm: u32,
-    rank: u32,
+    meeting: Meeting,
     stated: &Stated,
 ) -> Result<Option<Outcome>, NoMemory>
-    requires there { comm < length comms.old }
-    requires upcoming { (found : Comm) → slice_get comms.old comm ≡ Some found →
-        IsNext (view_of_pending pending.old) comm rank found stated.now }
+    requires there { meeting.comm < length comms.old }
+    requires met { IsMeetingOf (view_of_pending pending.old) stated.now.sig meeting }
+    requires upcoming { (found : Comm) → slice_get comms.old meeting.comm ≡ Some found →
+        IsNext (view_of_pending pending.old) meeting.comm meeting.rank found stated.now }
     ensures waiting { view_of_pending pending.new ≡ view_of_pending pending.old }
-    ensures room { OnOk result ((found : Comm) → slice_get comms.old comm ≡ Some found →
-        HasRoom pending.new comm rank (communicator_of found)) }
-    ensures made { IfOk result (λ made. (found : Comm) → slice_get comms.old comm ≡ Some found →
+    ensures room { OnOk result ((found : Comm) → slice_get comms.old meeting.comm ≡ Some found →
+        HasRoom pending.new meeting.comm meeting.rank (communicator_of found)) }
+    ensures made { IfOk result (λ made. (found : Comm) →
+        slice_get comms.old meeting.comm ≡ Some found →
         IsPrepared comms.old comms.new made
-        (roll_next (view_of_pending pending.old) comm rank found stated.now)) }
+        (roll_next (view_of_pending pending.old) meeting.comm meeting.rank found stated.now)) }
     ensures kept { OnErr result (comms.new ≡ comms.old) }
 {
-    pending.ready(comm, rank, comms.group(comm), comms.shape(comm))?;
-    make_if_full(alloc, comms, pending, comm, rank, stated)
+    let comm = meeting.comm;
+    pending.ready(comm, meeting.rank, comms.group(comm), comms.shape(comm))?;
+    make_if_full(alloc, comms, pending, meeting, stated)
 }
 
 // Makes the communicators of a constructor that a member's post fills.
@@ -180,27 +175,34 @@ fn make_if_full<X: Drop>(
     alloc: Global,
     comms: &mut Communicators,
     pending: &Pending<X>,
-    comm: u32,
-    rank: u32,
+    meeting: Meeting,
     stated: &Stated,
 ) -> Result<Option<Outcome>, NoMemory>
-    requires there { comm < length comms.old }
-    requires upcoming { (found : Comm) → slice_get comms.old comm ≡ Some found →
-        IsNext (view_of_pending pending.now) comm rank found stated.now }
-    ensures made { IfOk result (λ made. (found : Comm) → slice_get comms.old comm ≡ Some found →
+    requires there { meeting.comm < length comms.old }
+    requires met { IsMeetingOf (view_of_pending pending.now) stated.now.sig meeting }
+    requires upcoming { (found : Comm) → slice_get comms.old meeting.comm ≡ Some found →
+        IsNext (view_of_pending pending.now) meeting.comm meeting.rank found stated.now }
+    ensures made { IfOk result (λ made. (found : Comm) →
+        slice_get comms.old meeting.comm ≡ Some found →
         IsPrepared comms.old comms.new made
-        (roll_next (view_of_pending pending.now) comm rank found stated.now)) }
+        (roll_next (view_of_pending pending.now) meeting.comm meeting.rank found stated.now)) }
     ensures kept { OnErr result (comms.new ≡ comms.old) }
 {
     if !stated.sig.is_constructor() {
         return Ok(None);
     }
+    let comm = meeting.comm;
     let size = comms.group(comm).size();
-    if !is_last(pending.next_agreed(comm, rank, &stated.sig), size) {
+    if !is_last(meeting.does, size) {
         return Ok(None);
     }
-    let place = pending.arrivals(comm, rank);
-    let asks = all_asks(alloc, pending.roll(comm, place), size, rank, &stated.own)?;
+    let asks = all_asks(
+        alloc,
+        pending.roll(comm, meeting.k),
+        size,
+        meeting.rank,
+        &stated.own,
+    )?;
     let outcome = comms.make(comm, &stated.sig, &asks)?;
     Ok(Some(outcome))
 }
@@ -279,47 +281,39 @@ pub fn change<X: Drop>(
     pending: &mut Pending<X>,
     histories: &mut Histories,
     policy: &Policy,
-    post: MemberPost<X>,
+    seat: Seat,
+    stated: Stated,
+    part: X,
     made: Option<Outcome>,
 ) -> Entered<X>
-    requires there { post.comm < length comms.now }
-    requires upcoming { (found : Comm) → slice_get comms.now post.comm ≡ Some found →
-        IsNext (view_of_pending pending.old) post.comm post.rank found post.stated }
-    requires room { (found : Comm) → slice_get comms.now post.comm ≡ Some found →
-        HasRoom pending.old post.comm post.rank (communicator_of found) }
-    requires word { post.stated.barred
-        ≡ not (star (has histories.old) post.process post.stated.label) }
+    requires there { seat.meeting.comm < length comms.now }
+    requires met { IsMeetingOf (view_of_pending pending.old) stated.sig seat.meeting }
+    requires upcoming { (found : Comm) → slice_get comms.now seat.meeting.comm ≡ Some found →
+        IsNext (view_of_pending pending.old) seat.meeting.comm seat.meeting.rank found stated }
+    requires room { (found : Comm) → slice_get comms.now seat.meeting.comm ≡ Some found →
+        HasRoom pending.old seat.meeting.comm seat.meeting.rank (communicator_of found) }
+    requires word { stated.barred ≡ not (star (has histories.old) seat.process stated.label) }
     requires policy { histories.old.classes ≡ policy.now.classes }
-    requires few { (view_of_pending pending.old).arrivals post.comm post.rank < 2 ^ 62 }
+    requires few { seat.meeting.k < 2 ^ 62 }
     ensures classes { histories.new.classes ≡ histories.old.classes }
-    ensures changes { (found : Comm) (count : ℕ) → slice_get comms.now post.comm ≡ Some found →
+    ensures changes { (found : Comm) (count : ℕ) →
+        slice_get comms.now seat.meeting.comm ≡ Some found →
         made ≡ constructed count
-        (roll_next (view_of_pending pending.old) post.comm post.rank found post.stated) →
+        (roll_next (view_of_pending pending.old) seat.meeting.comm seat.meeting.rank found stated) →
         Changes policy.now count (seen comms.now pending.old histories.old)
-        (seen comms.now pending.new histories.new) (record { rank = post.rank; comm = found })
-        (contribution post.process post.comm post.stated post.part)
+        (seen comms.now pending.new histories.new)
+        (record { rank = seat.meeting.rank; comm = found })
+        (contribution seat.process seat.meeting.comm stated part)
         × Answers policy.now count (seen comms.now pending.old histories.old)
-        (record { rank = post.rank; comm = found })
-        (contribution post.process post.comm post.stated post.part) result }
+        (record { rank = seat.meeting.rank; comm = found })
+        (contribution seat.process seat.meeting.comm stated part) result }
 {
     faultless_signatures_fit();
-    let MemberPost {
-        process,
-        comm,
-        rank,
-        stated,
-        part,
-    } = post;
-    let k = pending.arrivals(comm, rank);
-    let _ = enter_label(histories, process, &stated.label);
-    match pending.arrive_ready(
-        comm,
-        rank,
-        comms.group(comm),
-        comms.shape(comm),
-        stated,
-        part,
-    ) {
+    let meeting = seat.meeting;
+    let comm = meeting.comm;
+    let k = meeting.k;
+    enter_passed(histories, seat.process, &stated.label, !stated.barred);
+    match pending.arrive_ready(meeting, comms.group(comm), comms.shape(comm), stated, part) {
         Arrived::Waiting => Entered::Waiting { k },
         Arrived::Full(full) => {
             let outcome = settle_full(policy, histories, &full.roll, made);

@@ -1,7 +1,7 @@
 -- The two rules and their tests, and which steps keep rivals apart.
 use Rattle.std.proofs.Common.{◌≡◌, ◌≢◌, ℕ, ◌<◌, Bool, true, false, not, ◌||◌, List, length}
 use Rattle.std.proofs.Common.{Option, Some, None, refl, sym, ap, ◌∙◌, ◌⊎◌, inl, inr, nat_eq}
-use Rattle.std.proofs.Common.{slice_get}
+use Rattle.std.proofs.Common.{slice_get, ◌≤◌, arith}
 use Rattle.std.specs.Prelude.{IsTrue, IfSome, IfNone, is_none}
 use Rattle.std.proofs.lemmas.Bool.{eq-eqb, and_parts}
 use Rattle.std.proofs.lemmas.Bool.Decides.{eqb_tells}
@@ -43,7 +43,7 @@ same_number a b h = elim (eqb_tells a b) [ inl e ↦ e.1 | inr e ↦ absurd (tru
 
 ---- simple security
 
-second_class : (a b : Option ℕ) → is_one_class a b ≡ true → (class : ℕ) × (b ≡ Some class)
+pub second_class : (a b : Option ℕ) → is_one_class a b ≡ true → (class : ℕ) × (b ≡ Some class)
 second_class (Some c) (Some k) h = (k, refl)
 second_class (Some c) None h = absurd cc
 second_class None b h = absurd cc
@@ -163,19 +163,20 @@ none_is : {X : Type 0} (o : Option X) → is_none o ≡ true → o ≡ None
 none_is None h = refl
 none_is (Some x) h = absurd cc
 
-star_of_test : (n : ℕ) (held : ℕ → Bool) (label : Label) → ((d : ℕ) → IsTrue (held d) → d < n) →
-    first_other n held label ≡ None → PassesStar held label
+-- what is held of those that the test looks at is the label's
+star_of_test : (n : ℕ) (held : ℕ → Bool) (label : Label) (d : ℕ) →
+    first_other n held label ≡ None → IsTrue (held d) → d < n → dataset_of label ≡ Some d
 unfolding first_other
-star_of_test n held label within none d is =
+star_of_test n held label d none is lt =
     let no_other : is_held_other held label d ≡ false = least-none (is_held_other held label) n none
-    d (within d is) in
+    d lt in
     not_other (dataset_of label) d (rw is at no_other)
 
 pub passes_star-Decides : (n : ℕ) (held : ℕ → Bool) (label : Label) →
     ((d : ℕ) → IsTrue (held d) → d < n) → (passes_star n held label ≡ true → PassesStar held label)
     × (PassesStar held label → passes_star n held label ≡ true)
 passes_star-Decides n held label within = (
-  λ h. star_of_test n held label within (none_is _ h),
+  λ h d is. star_of_test n held label d (none_is _ h) is (within d is),
   λ passes. rw (first_other-none n held label passes) refl,
 )
 
@@ -244,19 +245,21 @@ no_rivals-empty classes held apart = no_rivals-part classes held (joined held em
     [ inl old ↦ old | inr new ↦ absurd (true-false _ new (contains-empty nat_cmp e)) ]
     )
 
--- where the star rule passed, the history and the label's dataset are that dataset alone
-pub no_rivals-star : (classes : List ℕ) (held : ℕ → Bool) (label : Label) (d : ℕ) →
-    PassesStar held label → dataset_of label ≡ Some d →
-    HoldsNoRivals classes (joined held (insert empty d))
-no_rivals-star classes held label d passes is =
-    no_rivals-one classes (joined held (insert empty d)) d (
-    λ e h. elim (or_parts (held e) (contains (insert empty d) e) h) [
-      | inl old ↦ let same : Some e ≡ Some d = sym (passes e old) ∙ is in cc
-      | inr new
-          ↦ elim (member-insert empty d e new) [
-            | inl in_none
-                ↦ absurd (true-false _ in_none (contains-empty nat_cmp e))
-            | inr same ↦ same
-          ]
-    ]
-    )
+-- where the test of the star rule passed for all datasets of the policy, the label's dataset has no
+-- rival in the history
+pub no_rivals-star : (classes : List ℕ) (n : ℕ) (held : ℕ → Bool) (label : Label) (d : ℕ) →
+    length classes ≤ n → HoldsNoRivals classes held → passes_star n held label ≡ true →
+    dataset_of label ≡ Some d → HoldsNoRivals classes (joined held (insert empty d))
+no_rivals-star classes n held label d few apart passed is =
+    no_rivals-insert classes held empty d (no_rivals-empty classes held apart)
+    (none-first_rival classes (joined held empty) d (
+    λ e h.
+    let there : held e ≡ true = elim (or_parts (held e) (contains empty e) h.0)
+    [ inl old ↦ old | inr new ↦ absurd (true-false _ new (contains-empty nat_cmp e)) ] in
+    let low : e < length classes = rival_within classes d e ((are_rivals-Decides classes d e).1 h.1)
+    in
+    let own : dataset_of label ≡ Some e = star_of_test n held label e (none_is _ passed) there
+    (omega (arith, low, few)) in
+    let same : Some d ≡ Some e = sym is ∙ own in
+    h.1.0 cc
+    ))

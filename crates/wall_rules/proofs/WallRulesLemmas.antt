@@ -5,4 +5,4 @@ pub use Rattle.wall_rules.proofs.LeastLemmas.{least-none, none-least}
 pub use Rattle.wall_rules.proofs.RuleLemmas.{first_other-none, first_other-some, first_rival-alike}
 pub use Rattle.wall_rules.proofs.RuleLemmas.{first_rival-none, first_rival-some, no_rivals-empty}
 pub use Rattle.wall_rules.proofs.RuleLemmas.{no_rivals-grows, no_rivals-insert, no_rivals-part}
-pub use Rattle.wall_rules.proofs.RuleLemmas.{no_rivals-star, none-first_rival}
+pub use Rattle.wall_rules.proofs.RuleLemmas.{no_rivals-star, none-first_rival, second_class}

@@ -77,6 +77,7 @@ impl Histories {
     pub fn has(&self, process: ProcessId, dataset: DatasetId) -> bool
         ensures value { result ≡ has self.now process dataset }
         ensures apart { NobodyHoldsRivals self.now.classes (has self.now) }
+        ensures few { length self.now.classes ≤ dataset_limit }
     {
         self.rows[process.number() as usize].contains(dataset)
     }

@@ -1,7 +1,7 @@
 -- Lists over the numbers below n, by one number more.
 use Rattle.std.proofs.Common.{◌≡◌, ℕ, zero, suc, ◌+◌, ◌<◌, ◌≤◌, Bool, true, false, List, [], ◌∷◌}
 use Rattle.std.proofs.Common.{◌++◌, length, map, find, flat_map, Some, None, refl, sym, ap, ◌∙◌}
-use Rattle.std.proofs.Common.{subst, ◌||◌, cond, arith, add-one, ⊎_elim, ◌-◌}
+use Rattle.std.proofs.Common.{subst, ◌||◌, cond, arith, ⊎_elim, ◌-◌}
 use Rattle.std.specs.Prelude.{count_by}
 use Rattle.std.specs.List.{range_with_len, list_any}
 use Rattle.std.specs.Option.{option_or, option_map}
@@ -11,17 +11,7 @@ use Rattle.std.proofs.lemmas.List.Folds.{list_any-append, find-append}
 use Rattle.std.proofs.lemmas.List.Sums.{sum_by-append}
 use Rattle.std.proofs.lemmas.Grind.{flat_map-append}
 use Rattle.mpi_cart.specs.Grids.{below}
-
-range_more : (a n : ℕ) → range_with_len a (suc n) ≡ range_with_len a n ++ (a + n) ∷ []
-range_more a zero = let e : a ≡ a + zero = omega arith in ap (λ (k : ℕ). k ∷ []) e
-range_more a (suc n) = let e : (a + 1) + n ≡ a + suc n = omega arith in
-    ap (λ (r : List ℕ). a ∷ r)
-    (range_more (a + 1) n ∙ ap (λ (k : ℕ). range_with_len (a + 1) n ++ k ∷ []) e)
-
-pub below_more : (n : ℕ) → below (n + 1) ≡ below n ++ n ∷ []
-below_more n = let e : 0 + n ≡ n = omega arith in
-    subst (λ m. below m ≡ below n ++ n ∷ []) (sym (add-one n))
-    (range_more 0 n ∙ ap (λ (k : ℕ). below n ++ k ∷ []) e)
+use Rattle.mpi_cart.proofs.MpiCartLemmas.{below_more}
 
 range_split : (a i m : ℕ) →
     range_with_len a (i + m) ≡ range_with_len a i ++ range_with_len (a + i) m

@@ -1,5 +1,5 @@
 -- A grant, receiver by receiver.
-use Rattle.std.proofs.Common.{◌≡◌, ℕ, ◌+◌, ◌<◌, ◌≤◌, Bool, true, false, List, length, Option, Some}
+use Rattle.std.proofs.Common.{◌≡◌, ℕ, ◌+◌, ◌<◌, ◌≤◌, Bool, true, false, length, Option, Some}
 use Rattle.std.proofs.Common.{None, refl, sym, ap, ◌∙◌, subst, arith, ◌||◌, ◌&&◌, slice_get, inl}
 use Rattle.std.proofs.Common.{inr, ◌⊎◌, ⊎_elim, eqb-true, eq-eqb, ne_eqb, lt-ltb, ltb-true}
 use Rattle.std.specs.Prelude.{nat_lt, nat_eq, ◌==◌}
@@ -7,14 +7,13 @@ use Rattle.std.specs.Ordering.{nat_cmp}
 use Rattle.std.specs.FinSet.{FinSet, contains}
 use Rattle.std.proofs.Math.Bool.{or-false}
 use Rattle.std.proofs.lemmas.Bool.{cases_Bool, false≢true, or_cases, or_left, or_right, and_parts}
-use Rattle.std.proofs.lemmas.Option.{slice_get-get_or}
-use Rattle.std.proofs.lemmas.List.Quantifiers.{position-Some}
 use Rattle.wall_policy.specs.Policy.{ChineseWall}
 use Rattle.wall_rules.specs.Histories.{History, entered}
 use Rattle.wall_rules.specs.Rules.{HoldsNoRivals, joined}
 use Rattle.wall_rules.proofs.WallRulesLemmas.{no_rivals-part}
 use Rattle.mpi_group.specs.Groups.{IsGroup, rank_in}
-use Rattle.mpi_group.proofs.MpiGroupLemmas.{rank_present, slice_get-member, one_place}
+use Rattle.mpi_group.proofs.MpiGroupLemmas.{rank_is}
+use Rattle.mpi_group.proofs.MpiGroupLemmas.{ranked}
 use Rattle.coll_routes.specs.declared.roll.Roll.{Roll}
 use Rattle.wall_verdict.specs.declared.verdict.Verdict.TheVariants.{Granted}
 use Rattle.wall_verdict.specs.Charges.{charged}
@@ -23,21 +22,6 @@ use Rattle.wall_verdict.specs.Grants.{charged_at, charged_to, is_granted, with_c
 use Rattle.wall_verdict.specs.Meanings.{MembersStayApart}
 
 ---- Ranks of members.
-
-rank_is : (members : List ℕ) (p j : ℕ) → rank_in members p ≡ Some j →
-    (slice_get members j ≡ Some p) × (j < length members)
-rank_is members p j e =
-    let at = position-Some (λ m. m == p) members j 0 e in
-    (slice_get-get_or members j 0 at.0 ∙ ap (λ (m : ℕ). Some m) (eqb-true _ p at.1), at.0)
-
--- no process is a member at two ranks
-ranked : (members : List ℕ) (j p : ℕ) → IsGroup members → slice_get members j ≡ Some p →
-    rank_in members p ≡ Some j
-ranked members j p group at =
-    let there = rank_present members p (slice_get-member members j p at) in
-    there
-    ∙ ap (λ (i : ℕ). Some i)
-    (one_place members _ j p group.distinct (rank_is members p _ there).0 at)
 
 ---- The receivers below rank n have got what is charged to them.
 

@@ -21,7 +21,7 @@ use Rattle.wall_verdict.proofs.MeetLemmas.{meets_none}
 
 ---- One contribution.
 
-label_is : (o : Option Label) (d : ℕ) → dataset_in o ≡ Some d → o ≡ Some (Of d)
+pub label_is : (o : Option Label) (d : ℕ) → dataset_in o ≡ Some d → o ≡ Some (Of d)
 label_is (Some (Of e)) d h = let same : e ≡ d = cc in ap (λ (k : ℕ). Some (Of k)) same
 label_is (Some Public) d h = absurd (cc)
 label_is None d h = absurd (cc)

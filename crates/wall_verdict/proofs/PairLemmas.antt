@@ -1,5 +1,5 @@
 -- A search through all pairs of numbers below n, the first number first.
-use Rattle.std.proofs.Common.{◌≡◌, ℕ, zero, suc, ◌+◌, ◌<◌, ◌≤◌, Bool, true, false, List, [], ◌∷◌}
+use Rattle.std.proofs.Common.{◌≡◌, ℕ, zero, suc, ◌+◌, ◌<◌, Bool, true, false, List, [], ◌∷◌}
 use Rattle.std.proofs.Common.{◌++◌, Option, Some, None, refl, sym, ap, ◌∙◌, subst, arith, map, find}
 use Rattle.std.proofs.Common.{flat_map, ◌⊎◌, inl, inr, ⊎_elim, add-one}
 use Rattle.std.specs.Option.{option_or, option_map}
@@ -175,14 +175,3 @@ search_pairs P n (suc m) = subst (λ k. SearchedPairs P n k) (add-one m) (⊎_el
             here = pairs_found P n (m + 1) j i (omega arith) f.rows (first j i f);
           },
         )
-
--- what is found among the first receivers is found among more
-pub pairs_more : (P : ℕ → ℕ → Bool) (n m k : ℕ) (pair : ℕ × ℕ) → m ≤ k →
-    Some pair ≡ found_in P n m → Some pair ≡ found_in P n k
-pairs_more P n m k pair le e = ⊎_elim
-    (λ none. let no = e ∙ none in absurd (cc))
-    (λ found. let low = found.2.receiver in
-    e ∙ found.2.here
-    ∙ sym (pairs_found P n k found.0 found.1 (omega arith) found.2.rows
-    (sym (find_found (P found.0) n found.1 found.2.giver found.2.row found.2.passes))))
-    (search_pairs P n m)

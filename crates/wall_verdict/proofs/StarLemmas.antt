@@ -1,6 +1,6 @@
 -- The star rule as a test of every dataset that there can be, and what a post that passes enters.
 use Rattle.std.proofs.Common.{◌≡◌, ℕ, ◌<◌, List, Bool, true, false, Option, Some, None, refl, ap}
-use Rattle.std.proofs.Common.{sym, ◌∙◌, ◌||◌, ◌&&◌, nat_eq, eqb-true}
+use Rattle.std.proofs.Common.{sym, ◌∙◌, ◌||◌, ◌&&◌, nat_eq, eqb-true, length, ◌≤◌}
 use Rattle.std.proofs.lemmas.Bool.{and_parts}
 use Rattle.std.specs.Prelude.{is_none, ◌==◌}
 use Rattle.std.specs.Ordering.{nat_cmp}
@@ -8,12 +8,12 @@ use Rattle.std.specs.FinSet.{empty, insert, contains, contains-empty}
 use Rattle.std.proofs.Math.Bool.{or-false}
 use Rattle.wall_labels.specs.declared.label.Label.{Label}
 use Rattle.wall_labels.specs.declared.ids.TheConstants.{DATASET_LIMIT}
-use Rattle.wall_rules.specs.Histories.{History, entered}
+use Rattle.wall_rules.specs.Histories.{History, NobodyHoldsRivals, entered}
 use Rattle.wall_rules.specs.Rules.{PassesStar, HoldsNoRivals, IsLowest, IsHeldOther, joined}
 use Rattle.wall_rules.specs.Rules.{passes_star}
 use Rattle.wall_rules.proofs.WallRulesLemmas.{first_other-none, first_other-some, no_rivals-star}
 use Rattle.wall_verdict.specs.Charges.{dataset_in, is_that}
-use Rattle.wall_verdict.specs.Star.{MayPost, with_label}
+use Rattle.wall_verdict.specs.Star.{star, with_label}
 use Rattle.wall_verdict.proofs.ChargeLemmas.{contains_inserted}
 
 pub star_passed : (held : ℕ → Bool) (label : Label) → PassesStar held label →
@@ -25,10 +25,11 @@ pub star_failed : (held : ℕ → Bool) (label : Label) (d : ℕ) → IsLowest (
 star_failed held label d h low = ap is_none (first_other-some DATASET_LIMIT held label d h low)
 
 pub may_enter : (classes : List ℕ) (has : History) (p d : ℕ) (label : Option Label) →
-    MayPost has p label → dataset_in label ≡ Some d →
-    HoldsNoRivals classes (joined (has p) (insert empty d))
-may_enter classes has p d (Some label) may e = no_rivals-star classes (has p) label d may e
-may_enter classes has p d None may e = absurd (cc)
+    length classes ≤ DATASET_LIMIT → NobodyHoldsRivals classes has → star has p label ≡ true →
+    dataset_in label ≡ Some d → HoldsNoRivals classes (joined (has p) (insert empty d))
+may_enter classes has p d (Some label) few apart passed e =
+    no_rivals-star classes DATASET_LIMIT (has p) label d few (apart p) passed e
+may_enter classes has p d None few apart passed e = absurd (cc)
 
 -- the set of one dataset
 alone : (d q : ℕ) → contains {R = nat_cmp} (insert empty d) q ≡ (d == q)

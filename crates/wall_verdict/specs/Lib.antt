@@ -1,4 +1,5 @@
 pub mod Charges
+pub mod Fits
 pub mod Grants
 pub mod Inflows
 pub mod Laws

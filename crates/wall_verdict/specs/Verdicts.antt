@@ -8,7 +8,6 @@ use Rattle.wall_labels.specs.declared.label.Label.TheVariants.{Public}
 use Rattle.wall_policy.specs.Policy.{ChineseWall}
 use Rattle.wall_rules.specs.Histories.{History}
 use Rattle.wall_rules.specs.Rules.{clashes}
-use Rattle.mpi_cart.specs.Grids.{below}
 use Rattle.coll_routes.specs.declared.roll.Roll.{Roll}
 use Rattle.coll_routes.specs.Rolls.{ranks, label_of, is_barred}
 use Rattle.wall_verdict.specs.declared.verdict.Rule.TheVariants.{Star, Simple}
@@ -47,11 +46,6 @@ first_barred roll = find (is_barred roll) (ranks roll)
 abbrev pub first_offence : ChineseWall → History → Roll → Option (ℕ × ℕ)
 first_offence wall has roll =
     find (λ (pair : ℕ × ℕ). offends wall has roll pair.0 pair.1) (pairs roll)
-
--- the least pair that offends, of those whose receiver is below n
-abbrev pub offence_below : ChineseWall → History → Roll → (n : ℕ) → Option (ℕ × ℕ)
-offence_below wall has roll n = find (λ (pair : ℕ × ℕ). offends wall has roll pair.0 pair.1)
-    (flat_map (λ j. map (λ i. (j, i)) (ranks roll)) (below n))
 
 -- the label that a denial names; who is named has one
 abbrev pub told : Option Label → Label

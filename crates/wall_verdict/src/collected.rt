@@ -3,9 +3,8 @@ ghost use Rattle.std.specs.Prelude.{ℕ, List};
 ghost use Rattle.coll_routes.specs.declared.roll.Roll as rolls;
 ghost use Rattle.wall_verdict.specs.Inflows.{IsCollected};
 
+use super::case::Case;
 use super::inflow::Inflow;
-use coll_routes::Roll;
-use wall_rules::Histories;
 
 /// What comes to one receiver after the other, and the labels of all ranks where they are at hand.
 #[derive(Drop)]
@@ -24,13 +23,11 @@ impl Collected {
         }
     }
 
-    /// Takes the labels of all ranks, where there are receivers behind the early ones.
-    pub fn take_labels(&mut self, histories: &Histories, roll: &Roll, early: u32)
-        requires { IsCollected histories.now.classes roll.now self.old }
-        ensures { IsCollected histories.now.classes roll.now self.new }
+    /// Takes the labels of all ranks.
+    pub fn take_labels(&mut self, case: &Case<'_>)
+        requires { IsCollected case.now.histories.now.classes case.now.roll.now self.old }
+        ensures { IsCollected case.now.histories.now.classes case.now.roll.now self.new }
     {
-        if early < roll.shape.size {
-            self.labels = Some(Inflow::of_labels(histories, roll));
-        }
+        self.labels = Some(Inflow::of_labels(case));
     }
 }

@@ -8,26 +8,31 @@ ghost use Rattle.wall_verdict.specs.Grants.{with_charges, settled};
 ghost use Rattle.wall_verdict.specs.Meanings.{MembersStayApart};
 ghost use Rattle.wall_verdict.specs.Inflows.{IsCollected};
 
+use super::case::Case;
 use super::collected::Collected;
-use super::inflow::{charges, is_out_of_reach};
-use super::judge::{judge, keep_apart};
+use super::judge::keep_apart;
 use super::verdict::Verdict;
 use coll_routes::Roll;
 use wall_policy::Policy;
 use wall_rules::Histories;
 
-/// Whether it is known beforehand that the receiver has had access to all that comes to it: by the
-/// labels, where these are at hand; else since no rank reaches it.
-fn has_all(histories: &Histories, roll: &Roll, to: u32, collected: &Collected) -> bool
-    requires fit { IsFit roll.now }
-    requires to { to < roll.now.shape.size }
-    requires collected { IsCollected histories.now.classes roll.now collected.now }
-    ensures { IsTrue result → (d : ℕ) → contributed roll.now to d ≡ true →
-        has histories.now (member roll.now to) d ≡ true }
-{
-    match &collected.labels {
-        Some(labels) => histories.has_all(roll.members.at(to), &labels.datasets),
-        None => is_out_of_reach(roll, to),
+impl Case<'_> {
+    /// Whether it is known beforehand that the receiver has had access to all that comes to it: by
+    /// the labels, where these are at hand; else since no rank reaches it.
+    fn has_all(&self, to: u32, collected: &Collected) -> bool
+        requires to { to < self.now.roll.now.shape.size }
+        requires collected { IsCollected self.now.histories.now.classes self.now.roll.now
+            collected.now }
+        ensures { IsTrue result → (d : ℕ) → contributed self.now.roll.now to d ≡ true →
+            has self.now.histories.now (member self.now.roll.now to) d ≡ true }
+    {
+        match &collected.labels {
+            Some(labels) => {
+                let member = self.roll.members.at(to);
+                self.histories.has_all(member, &labels.datasets)
+            }
+            None => self.is_out_of_reach(to),
+        }
     }
 }
 
@@ -45,9 +50,14 @@ fn grant(policy: &Policy, histories: &mut Histories, roll: &Roll, collected: &mu
     let _ = roll.members.size();
     for to in 0..roll.shape.size {
         let member = roll.members.at(to);
-        if !has_all(histories, roll, to, collected) {
-            collected.inflow.turn_to(histories, roll, to);
-            match charges(policy, roll, to, &collected.inflow) {
+        let case = Case {
+            policy,
+            histories: &*histories,
+            roll,
+        };
+        if !case.has_all(to, collected) {
+            collected.inflow.turn_to(&case, to);
+            match case.charges(to, &collected.inflow) {
                 Some(datasets) => histories.enter(member, datasets),
                 None => {}
             }
@@ -68,7 +78,12 @@ pub fn settle(policy: &Policy, histories: &mut Histories, roll: &Roll) -> Verdic
     ensures apart { NobodyHoldsRivals policy.now.classes (has histories.new) }
 {
     let mut collected = Collected::nothing();
-    let verdict = judge(policy, histories, roll, &mut collected);
+    let case = Case {
+        policy,
+        histories: &*histories,
+        roll,
+    };
+    let verdict = case.judge(&mut collected);
     match verdict {
         Verdict::Granted => grant(policy, histories, roll, &mut collected),
         Verdict::Denied { .. } => {}

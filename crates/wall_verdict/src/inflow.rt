@@ -2,11 +2,8 @@
 ghost use Rattle.std.specs.Prelude.{◌≡◌, ℕ, ◌+◌, ◌<◌, ◌≤◌, ◌^◌, ◌-◌, slice_index_or, if◌then◌else◌};
 ghost use Rattle.std.specs.Prelude.{true, false, IsTrue, IfSome, None};
 ghost use Rattle.std.specs.FinSet as sets;
-ghost use Rattle.coll_routes.specs.Fit.{IsFit};
 ghost use Rattle.coll_routes.specs.Rolls.{places as places_of};
-ghost use Rattle.coll_routes.specs.Signatures.{is_neighbourly};
 ghost use Rattle.wall_rules.specs.Histories.{AddsRivals};
-ghost use Rattle.wall_verdict.specs.Charges.{contributors, different_datasets, contributed};
 ghost use Rattle.wall_verdict.specs.Charges.{charged};
 ghost use Rattle.wall_verdict.specs.Inflows.{start_of, end_of, is_alike, from_root, past_root};
 ghost use Rattle.wall_verdict.specs.Inflows.{past_other_root};
@@ -14,10 +11,10 @@ ghost use Rattle.wall_verdict.specs.Inflows.{all_at, from_slot, IsTaken, IsTaken
 ghost use Rattle.wall_verdict.specs.Inflows.{IsInflowOf, IsLabelled, IsWhole, Serves};
 ghost use Rattle.wall_policy.specs.Rivals.{are_rivals};
 
+use super::case::Case;
 use super::charge::{add_another, contribution, dataset_in, is_enough, label_of};
-use coll_routes::{Roll, Signature, places};
+use coll_routes::{Signature, places};
 use wall_labels::{DatasetId, LabelSet};
-use wall_policy::Policy;
 use wall_rules::Histories;
 
 /// What the ranks below one contribute to a receiver. Between neighbours, what its neighbours do.
@@ -52,24 +49,26 @@ impl Inflow {
     }
 
     /// What all ranks label their elements with, wherever these go. Nothing else comes to anybody.
-    pub fn of_labels(histories: &Histories, roll: &Roll) -> Inflow
-        ensures { IsLabelled histories.now.classes roll.now roll.now.shape.size result }
+    pub fn of_labels(case: &Case<'_>) -> Inflow
+        ensures { IsLabelled case.now.histories.now.classes case.now.roll.now
+            case.now.roll.now.shape.size result }
     {
         let mut labels = Inflow::before(0);
-        for rank in 0..roll.shape.size {
-            labels.take_label(histories, roll, rank);
+        for rank in 0..case.roll.shape.size {
+            labels.take_label(case, rank);
         }
         labels
     }
 
     // Takes the label of the next rank.
-    fn take_label(&mut self, histories: &Histories, roll: &Roll, rank: u32)
+    fn take_label(&mut self, case: &Case<'_>, rank: u32)
         requires few { rank < 2 ^ 32 - 1 }
-        requires inflow { IsLabelled histories.now.classes roll.now rank self.old }
-        ensures { IsLabelled histories.now.classes roll.now (rank + 1) self.new }
+        requires inflow { IsLabelled case.now.histories.now.classes case.now.roll.now rank
+            self.old }
+        ensures { IsLabelled case.now.histories.now.classes case.now.roll.now (rank + 1) self.new }
     {
-        match dataset_in(&label_of(roll, rank)) {
-            Some(dataset) => self.add(histories, dataset),
+        match dataset_in(&label_of(case.roll, rank)) {
+            Some(dataset) => self.add(case.histories, dataset),
             None => {}
         }
     }
@@ -77,95 +76,93 @@ impl Inflow {
     /// Takes what comes to this receiver, keeping what comes to it as to the one before. Between
     /// neighbours asks its neighbours alone, and keeps nothing.
     #[tactic(auto, using(crate::proofs::SpanLemmas::end_within))]
-    pub fn turn_to(&mut self, histories: &Histories, roll: &Roll, to: u32)
-        requires fit { IsFit roll.now }
-        requires to { to < roll.now.shape.size }
-        requires serves { Serves histories.now.classes roll.now self.old }
-        ensures whole { IsWhole histories.now.classes roll.now to self.new }
-        ensures serves { Serves histories.now.classes roll.now self.new }
+    pub fn turn_to(&mut self, case: &Case<'_>, to: u32)
+        requires to { to < case.now.roll.now.shape.size }
+        requires serves { Serves case.now.histories.now.classes case.now.roll.now self.old }
+        ensures whole { IsWhole case.now.histories.now.classes case.now.roll.now to self.new }
+        ensures serves { Serves case.now.histories.now.classes case.now.roll.now self.new }
     {
-        if roll.sig.is_neighbourly() {
-            self.take_slots(histories, roll, to);
+        if case.roll.sig.is_neighbourly() {
+            self.take_slots(case, to);
             return;
         }
-        let end = end_of(&roll.sig, roll.shape.size, to);
-        self.drop_others(histories, roll, to, end);
-        self.grow(histories, roll, to, end);
+        let end = end_of(&case.roll.sig, case.roll.shape.size, to);
+        self.drop_others(case, to, end);
+        self.grow(case, to, end);
     }
 
     // Drops what does not come to this receiver too.
     #[tactic(auto, using(crate::proofs::InflowLemmas::inflow_kept, crate::proofs::SpanLemmas::start_within))]
-    fn drop_others(&mut self, _histories: &Histories, roll: &Roll, to: u32, end: u32)
-        requires to { to < roll.now.shape.size }
-        requires end { end ≡ end_of roll.now.sig roll.now.shape.size to }
-        requires serves { Serves _histories.now.classes roll.now self.old }
+    fn drop_others(&mut self, case: &Case<'_>, to: u32, end: u32)
+        requires to { to < case.now.roll.now.shape.size }
+        requires end { end ≡ end_of case.now.roll.now.sig case.now.roll.now.shape.size to }
+        requires serves { Serves case.now.histories.now.classes case.now.roll.now self.old }
         ensures ranks { self.new.ranks ≤ end }
-        ensures inflow { IsInflowOf _histories.now.classes roll.now to self.new }
-        ensures kept { is_alike roll.now.sig ≡ true →
-            start_of roll.now.sig roll.now.shape.size ≤ self.old.ranks → self.old.ranks ≤ end →
-            self.new ≡ self.old }
+        ensures inflow { IsInflowOf case.now.histories.now.classes case.now.roll.now to self.new }
+        ensures kept { is_alike case.now.roll.now.sig ≡ true →
+            start_of case.now.roll.now.sig case.now.roll.now.shape.size ≤ self.old.ranks →
+            self.old.ranks ≤ end → self.new ≡ self.old }
     {
-        let start = start_of(&roll.sig, roll.shape.size);
-        if is_alike(&roll.sig) && start <= self.ranks && self.ranks <= end {
+        let start = start_of(&case.roll.sig, case.roll.shape.size);
+        if is_alike(&case.roll.sig) && start <= self.ranks && self.ranks <= end {
             return;
         }
         *self = Inflow::before(start);
     }
 
     // Takes what comes to the receiver from the next ranks, up to this one.
-    fn grow(&mut self, histories: &Histories, roll: &Roll, to: u32, end: u32)
-        requires fit { IsFit roll.now }
-        requires to { to < roll.now.shape.size }
-        requires end { end ≤ roll.now.shape.size }
+    fn grow(&mut self, case: &Case<'_>, to: u32, end: u32)
+        requires to { to < case.now.roll.now.shape.size }
+        requires end { end ≤ case.now.roll.now.shape.size }
         requires ranks { self.old.ranks ≤ end }
-        requires inflow { IsInflowOf histories.now.classes roll.now to self.old }
+        requires inflow { IsInflowOf case.now.histories.now.classes case.now.roll.now to self.old }
         ensures ranks { self.new.ranks ≡ end }
-        ensures inflow { IsInflowOf histories.now.classes roll.now to self.new }
+        ensures inflow { IsInflowOf case.now.histories.now.classes case.now.roll.now to self.new }
     {
         for from in self.ranks..end {
-            self.take(histories, roll, from, to);
+            self.take(case, from, to);
         }
         self.ranks = end;
     }
 
     // Takes what comes to the receiver from the next rank.
-    fn take(&mut self, histories: &Histories, roll: &Roll, from: u32, to: u32)
-        requires fit { IsFit roll.now }
-        requires to { to < roll.now.shape.size }
-        requires from { from < roll.now.shape.size }
+    fn take(&mut self, case: &Case<'_>, from: u32, to: u32)
+        requires to { to < case.now.roll.now.shape.size }
+        requires from { from < case.now.roll.now.shape.size }
         requires few { from < 2 ^ 32 - 1 }
-        requires inflow { IsTaken histories.now.classes roll.now to from self.old }
-        ensures { IsTaken histories.now.classes roll.now to (from + 1) self.new }
+        requires inflow { IsTaken case.now.histories.now.classes case.now.roll.now to from
+            self.old }
+        ensures { IsTaken case.now.histories.now.classes case.now.roll.now to (from + 1) self.new }
     {
-        match contribution(roll, from, to) {
-            Some(dataset) => self.add(histories, dataset),
+        match contribution(case.roll, from, to) {
+            Some(dataset) => self.add(case.histories, dataset),
             None => {}
         }
     }
 
     // Takes what comes to the receiver from its neighbours, and nothing else.
-    fn take_slots(&mut self, histories: &Histories, roll: &Roll, to: u32)
-        requires fit { IsFit roll.now }
-        requires to { to < roll.now.shape.size }
-        ensures { IsTakenFromSlots histories.now.classes roll.now to (places_of roll.now to)
-            self.new }
+    fn take_slots(&mut self, case: &Case<'_>, to: u32)
+        requires to { to < case.now.roll.now.shape.size }
+        ensures { IsTakenFromSlots case.now.histories.now.classes case.now.roll.now to
+            (places_of case.now.roll.now to) self.new }
     {
         *self = Inflow::before(0);
-        for slot in 0..places(roll, to) {
-            self.take_slot(histories, roll, slot, to);
+        for slot in 0..places(case.roll, to) {
+            self.take_slot(case, slot, to);
         }
     }
 
     // Takes what comes to the receiver from its neighbour in the next slot.
-    fn take_slot(&mut self, histories: &Histories, roll: &Roll, slot: u32, to: u32)
-        requires fit { IsFit roll.now }
-        requires to { to < roll.now.shape.size }
+    fn take_slot(&mut self, case: &Case<'_>, slot: u32, to: u32)
+        requires to { to < case.now.roll.now.shape.size }
         requires few { slot < 2 ^ 32 - 1 }
-        requires inflow { IsTakenFromSlots histories.now.classes roll.now to slot self.old }
-        ensures { IsTakenFromSlots histories.now.classes roll.now to (slot + 1) self.new }
+        requires inflow { IsTakenFromSlots case.now.histories.now.classes case.now.roll.now to slot
+            self.old }
+        ensures { IsTakenFromSlots case.now.histories.now.classes case.now.roll.now to (slot + 1)
+            self.new }
     {
-        match from_slot(roll, slot, to) {
-            Some(dataset) => self.add(histories, dataset),
+        match case.from_slot(slot, to) {
+            Some(dataset) => self.add(case.histories, dataset),
             None => {}
         }
     }
@@ -192,48 +189,42 @@ impl Inflow {
     }
 }
 
-/// The datasets that are charged to the receiver: those that come to it, or no set where what it
-/// gets is sanitised.
-pub fn charges<'a>(
-    policy: &Policy,
-    roll: &Roll,
-    to: u32,
-    inflow: &'a Inflow,
-) -> Option<&'a LabelSet>
-    requires number { is_neighbourly roll.now.sig ≡ false →
-        inflow.now.number ≡ contributors roll.now to }
-    requires different { is_neighbourly roll.now.sig ≡ false →
-        inflow.now.different ≡ different_datasets roll.now to }
-    requires datasets { (d : ℕ) → sets.contains inflow.now.datasets d ≡ contributed roll.now to d }
-    requires to { to < roll.now.shape.size }
-    ensures some { IfSome result (λ s. (d : ℕ) →
-        sets.contains s.now d ≡ charged policy.now roll.now to d) }
-    ensures none { result ≡ None → (d : ℕ) → charged policy.now roll.now to d ≡ false }
-{
-    if is_enough(policy, roll, inflow.number, inflow.different) {
-        return None;
+impl Case<'_> {
+    /// The datasets that are charged to the receiver: those that come to it, or no set where what
+    /// it gets is sanitised.
+    pub fn charges<'i>(&self, to: u32, inflow: &'i Inflow) -> Option<&'i LabelSet>
+        requires to { to < self.now.roll.now.shape.size }
+        requires whole { IsWhole self.now.histories.now.classes self.now.roll.now to inflow.now }
+        ensures some { IfSome result (λ s. (d : ℕ) →
+            sets.contains s.now d ≡ charged self.now.policy.now self.now.roll.now to d) }
+        ensures none { result ≡ None →
+            (d : ℕ) → charged self.now.policy.now self.now.roll.now to d ≡ false }
+    {
+        if is_enough(self.policy, self.roll, inflow.number, inflow.different) {
+            return None;
+        }
+        Some(&inflow.datasets)
     }
-    Some(&inflow.datasets)
-}
 
-/// Whether no rank reaches the receiver at all.
-pub fn is_out_of_reach(roll: &Roll, to: u32) -> bool
-    requires { to < roll.now.shape.size }
-    ensures { IsTrue result → end_of roll.now.sig roll.now.shape.size to
-        ≤ start_of roll.now.sig roll.now.shape.size }
-{
-    end_of(&roll.sig, roll.shape.size, to) <= start_of(&roll.sig, roll.shape.size)
-}
+    /// Whether no rank reaches the receiver at all.
+    pub fn is_out_of_reach(&self, to: u32) -> bool
+        requires { to < self.now.roll.now.shape.size }
+        ensures { IsTrue result → end_of self.now.roll.now.sig self.now.roll.now.shape.size to
+            ≤ start_of self.now.roll.now.sig self.now.roll.now.shape.size }
+    {
+        let size = self.roll.shape.size;
+        end_of(&self.roll.sig, size, to) <= start_of(&self.roll.sig, size)
+    }
 
-// What the neighbour of the receiver in a slot contributes to it.
-fn from_slot(roll: &Roll, slot: u32, to: u32) -> Option<DatasetId>
-    requires fit { IsFit roll.now }
-    requires to { to < roll.now.shape.size }
-    ensures { result ≡ from_slot roll.now slot to }
-{
-    match roll.shape.neighbour(to, slot) {
-        Some(from) => contribution(roll, from, to),
-        None => None,
+    // What the neighbour of the receiver in a slot contributes to it.
+    fn from_slot(&self, slot: u32, to: u32) -> Option<DatasetId>
+        requires { to < self.now.roll.now.shape.size }
+        ensures { result ≡ from_slot self.now.roll.now slot to }
+    {
+        match self.roll.shape.neighbour(to, slot) {
+            Some(from) => contribution(self.roll, from, to),
+            None => None,
+        }
     }
 }
 

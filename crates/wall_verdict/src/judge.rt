@@ -6,14 +6,15 @@ ghost use Rattle.wall_rules.specs.Rules.{HoldsNoRivals, joined, clashes};
 ghost use Rattle.coll_routes.specs.Fit.{IsFit};
 ghost use Rattle.coll_routes.specs.Rolls.{ranks, label_of, is_barred};
 ghost use Rattle.wall_verdict.specs.Verdicts.{meets, offends, first_barred, first_offence, told};
-ghost use Rattle.wall_verdict.specs.Verdicts.{offence_below, verdict};
+ghost use Rattle.wall_verdict.specs.Verdicts.{verdict};
 ghost use Rattle.wall_verdict.specs.Inflows.{IsWhole, IsCollected};
 ghost use Rattle.wall_verdict.specs.Meanings.{IsVerdict, MembersStayApart};
 ghost use Rattle.wall_verdict.specs.declared.verdict.Verdict.TheVariants.{Granted};
 
+use super::case::Case;
 use super::charge::{contribution, is_enough, label_of};
 use super::collected::Collected;
-use super::inflow::{Inflow, is_out_of_reach};
+use super::inflow::Inflow;
 use super::verdict::{Rule, Verdict};
 use coll_routes::{Roll, Signature};
 use wall_labels::{DatasetId, Label, LabelSet, ProcessId};
@@ -41,33 +42,6 @@ fn clashes(histories: &Histories, process: ProcessId, held: &LabelSet, dataset: 
     !held.contains(dataset) && histories.clash(process, held, dataset).is_some()
 }
 
-/// The lowest rank whose contribution to this one meets a rival, in its history or among those of
-/// lower ranks.
-#[tactic(auto, using(crate::proofs::ChargeLemmas::brought_none, crate::proofs::ChargeLemmas::brought_more, crate::proofs::ChargeLemmas::brought_same, crate::proofs::MeetLemmas::meets_is, crate::proofs::MeetLemmas::meets_none, crate::proofs::MeetLemmas::stays_apart, crate::proofs::BelowLemmas::find_none_more, crate::proofs::BelowLemmas::find_found))]
-fn first_meeting(histories: &Histories, roll: &Roll, to: u32) -> Option<u32>
-    requires fit { IsFit roll.now }
-    requires to { to < roll.now.shape.size }
-    ensures least { result
-        ≡ find (meets histories.now.classes (has histories.now) roll.now to) (ranks roll.now) }
-    ensures within { IfSome result (λ i. i < roll.now.shape.size) }
-{
-    keep_apart(histories);
-    let receiver = roll.members.at(to);
-    let mut held = LabelSet::empty();
-    for from in 0..roll.shape.size {
-        match contribution(roll, from, to) {
-            Some(dataset) => {
-                if clashes(histories, receiver, &held, dataset) {
-                    return Some(from);
-                }
-                held.insert(dataset);
-            }
-            None => {}
-        }
-    }
-    None
-}
-
 /// Whether nothing that comes to the process has a rival in its history, or in what else comes.
 fn is_clear(histories: &Histories, process: ProcessId, inflow: &Inflow) -> bool
     ensures unheld { IsTrue result → ¬ (HoldsOneOf (has histories.now process) inflow.now.rivals) }
@@ -76,100 +50,6 @@ fn is_clear(histories: &Histories, process: ProcessId, inflow: &Inflow) -> bool
         ¬ (Meet inflow.now.datasets inflow.now.rivals) → IsTrue result }
 {
     !histories.has_some(process, &inflow.rivals) && !inflow.datasets.meets(&inflow.rivals)
-}
-
-/// The lowest rank for which a dataset is charged to this one that meets a rival.
-/// All that comes to it is at hand.
-fn first_offender(
-    policy: &Policy,
-    histories: &Histories,
-    roll: &Roll,
-    to: u32,
-    inflow: &Inflow,
-) -> Option<u32>
-    requires fit { IsFit roll.now }
-    requires classes { histories.now.classes ≡ policy.now.classes }
-    requires to { to < roll.now.shape.size }
-    requires whole { IsWhole histories.now.classes roll.now to inflow.now }
-    ensures least { result
-        ≡ find (offends policy.now (has histories.now) roll.now to) (ranks roll.now) }
-    ensures within { IfSome result (λ i. i < roll.now.shape.size) }
-{
-    if is_enough(policy, roll, inflow.number, inflow.different) {
-        return None;
-    }
-    if is_clear(histories, roll.members.at(to), inflow) {
-        return None;
-    }
-    first_meeting(histories, roll, to)
-}
-
-/// Whether it is known beforehand that nothing that comes to the receiver meets a rival: by the
-/// labels, where these are at hand; else since no rank reaches it.
-fn is_spared(histories: &Histories, roll: &Roll, to: u32, collected: &Collected) -> bool
-    requires fit { IsFit roll.now }
-    requires to { to < roll.now.shape.size }
-    requires collected { IsCollected histories.now.classes roll.now collected.now }
-    ensures { IsTrue result → find
-        (meets histories.now.classes (has histories.now) roll.now to) (ranks roll.now) ≡ None }
-{
-    match &collected.labels {
-        Some(labels) => is_clear(histories, roll.members.at(to), labels),
-        None => is_out_of_reach(roll, to),
-    }
-}
-
-/// The lowest rank for which a dataset is charged to this one that meets a rival.
-fn offender(
-    policy: &Policy,
-    histories: &Histories,
-    roll: &Roll,
-    to: u32,
-    collected: &mut Collected,
-) -> Option<u32>
-    requires fit { IsFit roll.now }
-    requires classes { histories.now.classes ≡ policy.now.classes }
-    requires to { to < roll.now.shape.size }
-    requires collected { IsCollected histories.now.classes roll.now collected.old }
-    ensures least { result
-        ≡ find (offends policy.now (has histories.now) roll.now to) (ranks roll.now) }
-    ensures within { IfSome result (λ i. i < roll.now.shape.size) }
-    ensures collected { IsCollected histories.now.classes roll.now collected.new }
-{
-    if is_spared(histories, roll, to, collected) {
-        return None;
-    }
-    collected.inflow.turn_to(histories, roll, to);
-    first_offender(policy, histories, roll, to, &collected.inflow)
-}
-
-/// The least pair of a receiver and a rank that offends, of the receivers below this number. None
-/// offends whose receiver is below the first that is looked at.
-fn search(
-    policy: &Policy,
-    histories: &Histories,
-    roll: &Roll,
-    first: u32,
-    number: u32,
-    collected: &mut Collected,
-) -> Option<(u32, u32)>
-    requires fit { IsFit roll.now }
-    requires classes { histories.now.classes ≡ policy.now.classes }
-    requires first { first ≤ number }
-    requires number { number ≤ roll.now.shape.size }
-    requires none { None ≡ offence_below policy.now (has histories.now) roll.now first }
-    requires collected { IsCollected histories.now.classes roll.now collected.old }
-    ensures least { result ≡ offence_below policy.now (has histories.now) roll.now number }
-    ensures within { IfSome result (λ pair. pair.0 < roll.now.shape.size) }
-    ensures collected { IsCollected histories.now.classes roll.now collected.new }
-{
-    for to in first..number {
-        match offender(policy, histories, roll, to, collected) {
-            Some(from) => return Some((to, from)),
-            None => {}
-        }
-    }
-    None
 }
 
 /// How many receivers are looked at before the labels of all ranks are collected. All of them, but
@@ -198,28 +78,6 @@ fn with_few_neighbours(roll: &Roll) -> u32
     } else {
         (roll.shape.size / slots / 4 + 1).min(roll.shape.size)
     }
-}
-
-/// The least pair of a receiver and a rank that offends.
-fn least_offence(
-    policy: &Policy,
-    histories: &Histories,
-    roll: &Roll,
-    collected: &mut Collected,
-) -> Option<(u32, u32)>
-    requires fit { IsFit roll.now }
-    requires classes { histories.now.classes ≡ policy.now.classes }
-    requires collected { IsCollected histories.now.classes roll.now collected.old }
-    ensures least { result ≡ first_offence policy.now (has histories.now) roll.now }
-    ensures within { IfSome result (λ pair. pair.0 < roll.now.shape.size) }
-    ensures collected { IsCollected histories.now.classes roll.now collected.new }
-{
-    let early = early_receivers(roll);
-    if let Some(pair) = search(policy, histories, roll, 0, early, collected) {
-        return Some(pair);
-    }
-    collected.take_labels(histories, roll, early);
-    search(policy, histories, roll, early, roll.shape.size, collected)
 }
 
 /// The lowest rank whose post was barred.
@@ -252,36 +110,140 @@ fn told(roll: &Roll, rank: u32) -> Label
     label_of(roll, rank).unwrap_or(Label::Public)
 }
 
-/// The verdict. What was collected on the way is at hand afterwards.
-#[tactic(auto, unfolding(crate::specs::Verdicts::verdict))]
-pub fn judge(
-    policy: &Policy,
-    histories: &Histories,
-    roll: &Roll,
-    collected: &mut Collected,
-) -> Verdict
-    requires fit { IsFit roll.now }
-    requires classes { histories.now.classes ≡ policy.now.classes }
-    requires collected { IsCollected histories.now.classes roll.now collected.old }
-    ensures verdict { result ≡ verdict policy.now (has histories.now) roll.now }
-    ensures apart { result ≡ Granted → MembersStayApart policy.now (has histories.now) roll.now }
-    ensures collected { IsCollected histories.now.classes roll.now collected.new }
-{
-    keep_apart(histories);
-    if let Some(rank) = first_barred(roll) {
-        return Verdict::Denied {
-            rule: Rule::Star,
-            process: roll.members.at(rank),
-            label: told(roll, rank),
-        };
+impl Case<'_> {
+    /// The lowest rank whose contribution to this one meets a rival, in its history or among those
+    /// of lower ranks.
+    #[tactic(auto, using(crate::proofs::ChargeLemmas::brought_none, crate::proofs::ChargeLemmas::brought_more, crate::proofs::ChargeLemmas::brought_same, crate::proofs::MeetLemmas::meets_is, crate::proofs::MeetLemmas::meets_none, crate::proofs::MeetLemmas::stays_apart, crate::proofs::BelowLemmas::find_none_more, crate::proofs::BelowLemmas::find_found))]
+    fn first_meeting(&self, to: u32) -> Option<u32>
+        requires { to < self.now.roll.now.shape.size }
+        ensures least { result ≡ find
+            (meets self.now.histories.now.classes (has self.now.histories.now) self.now.roll.now to)
+            (ranks self.now.roll.now) }
+        ensures within { IfSome result (λ i. i < self.now.roll.now.shape.size) }
+    {
+        keep_apart(self.histories);
+        let receiver = self.roll.members.at(to);
+        let mut held = LabelSet::empty();
+        for from in 0..self.roll.shape.size {
+            match contribution(self.roll, from, to) {
+                Some(dataset) => {
+                    if clashes(self.histories, receiver, &held, dataset) {
+                        return Some(from);
+                    }
+                    held.insert(dataset);
+                }
+                None => {}
+            }
+        }
+        None
     }
-    match least_offence(policy, histories, roll, collected) {
-        Some((to, from)) => Verdict::Denied {
-            rule: Rule::Simple,
-            process: roll.members.at(to),
-            label: told(roll, from),
-        },
-        None => Verdict::Granted,
+
+    /// The lowest rank for which a dataset is charged to this one that meets a rival. All that
+    /// comes to it is at hand.
+    fn first_offender(&self, to: u32, inflow: &Inflow) -> Option<u32>
+        requires to { to < self.now.roll.now.shape.size }
+        requires whole { IsWhole self.now.histories.now.classes self.now.roll.now to inflow.now }
+        ensures least { result ≡ find
+            (offends self.now.policy.now (has self.now.histories.now) self.now.roll.now to)
+            (ranks self.now.roll.now) }
+        ensures within { IfSome result (λ i. i < self.now.roll.now.shape.size) }
+    {
+        if is_enough(self.policy, self.roll, inflow.number, inflow.different) {
+            return None;
+        }
+        if is_clear(self.histories, self.roll.members.at(to), inflow) {
+            return None;
+        }
+        self.first_meeting(to)
+    }
+
+    /// Whether it is known beforehand that nothing that comes to the receiver meets a rival: by the
+    /// labels, where these are at hand; else since no rank reaches it.
+    fn is_spared(&self, to: u32, collected: &Collected) -> bool
+        requires to { to < self.now.roll.now.shape.size }
+        requires collected { IsCollected self.now.histories.now.classes self.now.roll.now
+            collected.now }
+        ensures { IsTrue result → find
+            (meets self.now.histories.now.classes (has self.now.histories.now) self.now.roll.now to)
+            (ranks self.now.roll.now) ≡ None }
+    {
+        match &collected.labels {
+            Some(labels) => is_clear(self.histories, self.roll.members.at(to), labels),
+            None => self.is_out_of_reach(to),
+        }
+    }
+
+    /// The lowest rank for which a dataset is charged to this one that meets a rival.
+    fn offender(&self, to: u32, collected: &mut Collected) -> Option<u32>
+        requires to { to < self.now.roll.now.shape.size }
+        requires collected { IsCollected self.now.histories.now.classes self.now.roll.now
+            collected.old }
+        ensures least { result ≡ find
+            (offends self.now.policy.now (has self.now.histories.now) self.now.roll.now to)
+            (ranks self.now.roll.now) }
+        ensures within { IfSome result (λ i. i < self.now.roll.now.shape.size) }
+        ensures collected { IsCollected self.now.histories.now.classes self.now.roll.now
+            collected.new }
+    {
+        if self.is_spared(to, collected) {
+            return None;
+        }
+        collected.inflow.turn_to(self, to);
+        self.first_offender(to, &collected.inflow)
+    }
+
+    /// The least pair of a receiver and a rank that offends. Behind the early receivers the labels
+    /// of all ranks are at hand.
+    fn least_offence(&self, collected: &mut Collected) -> Option<(u32, u32)>
+        requires collected { IsCollected self.now.histories.now.classes self.now.roll.now
+            collected.old }
+        ensures least { result
+            ≡ first_offence self.now.policy.now (has self.now.histories.now) self.now.roll.now }
+        ensures within { IfSome result (λ pair. pair.0 < self.now.roll.now.shape.size) }
+        ensures collected { IsCollected self.now.histories.now.classes self.now.roll.now
+            collected.new }
+    {
+        let early = early_receivers(self.roll);
+        for to in 0..self.roll.shape.size {
+            if to == early {
+                collected.take_labels(self);
+            }
+            match self.offender(to, collected) {
+                Some(from) => return Some((to, from)),
+                None => {}
+            }
+        }
+        None
+    }
+
+    /// The verdict. What was collected on the way is at hand afterwards.
+    #[tactic(auto, unfolding(crate::specs::Verdicts::verdict))]
+    pub fn judge(&self, collected: &mut Collected) -> Verdict
+        requires { IsCollected self.now.histories.now.classes self.now.roll.now
+            collected.old }
+        ensures verdict { result
+            ≡ verdict self.now.policy.now (has self.now.histories.now) self.now.roll.now }
+        ensures apart { result ≡ Granted →
+            MembersStayApart self.now.policy.now (has self.now.histories.now) self.now.roll.now }
+        ensures collected { IsCollected self.now.histories.now.classes self.now.roll.now
+            collected.new }
+    {
+        keep_apart(self.histories);
+        if let Some(rank) = first_barred(self.roll) {
+            return Verdict::Denied {
+                rule: Rule::Star,
+                process: self.roll.members.at(rank),
+                label: told(self.roll, rank),
+            };
+        }
+        match self.least_offence(collected) {
+            Some((to, from)) => Verdict::Denied {
+                rule: Rule::Simple,
+                process: self.roll.members.at(to),
+                label: told(self.roll, from),
+            },
+            None => Verdict::Granted,
+        }
     }
 }
 
@@ -304,5 +266,10 @@ pub fn decide(policy: &Policy, histories: &Histories, roll: &Roll) -> Verdict
     ensures meaning { IsVerdict policy.now (has histories.now) roll.now result }
     ensures apart { result ≡ Granted → MembersStayApart policy.now (has histories.now) roll.now }
 {
-    judge(policy, histories, roll, &mut Collected::nothing())
+    let case = Case {
+        policy,
+        histories,
+        roll,
+    };
+    case.judge(&mut Collected::nothing())
 }

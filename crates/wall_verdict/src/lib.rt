@@ -4,6 +4,7 @@
 //! Ranks count from 0. No call takes memory.
 #![tactic(auto)]
 
+mod case;
 mod charge;
 mod collected;
 mod grant;
@@ -16,5 +17,5 @@ mod verdict;
 pub use charge::{charged, sanitised};
 pub use grant::settle;
 pub use judge::decide;
-pub use star::{enter_label, passes_star};
+pub use star::{enter_passed, passes_star};
 pub use verdict::{Rule, Verdict};

@@ -36,27 +36,30 @@ fn passes(histories: &Histories, process: ProcessId, label: Label) -> bool
     }
 }
 
-/// Enters the dataset of the label in the history of the process if the process may post elements
-/// with it, and tells whether it may. (A write is an access.)
+/// Enters the dataset of the label in the history of the process if the post passed the star rule.
+/// (A write is an access.)
 #[tactic(auto, using(crate::proofs::StarLemmas::nothing_entered))]
-pub fn enter_label(histories: &mut Histories, process: ProcessId, label: &Option<Label>) -> bool
-    ensures passes { result ≡ star (has histories.old) process label.now }
-    ensures pairs { has histories.new ≡ with_label (has histories.old) process label.now result }
+pub fn enter_passed(
+    histories: &mut Histories,
+    process: ProcessId,
+    label: &Option<Label>,
+    passed: bool,
+)
+    requires { passed ≡ star (has histories.old) process label.now }
+    ensures pairs { has histories.new ≡ with_label (has histories.old) process label.now passed }
     ensures processes { histories.new.processes ≡ histories.old.processes }
     ensures classes { histories.new.classes ≡ histories.old.classes }
     ensures apart { NobodyHoldsRivals histories.new.classes (has histories.new) }
 {
-    let passed = passes_star(histories, process, label);
     if passed {
         enter(histories, process, label);
     }
     keep_apart(histories);
-    passed
 }
 
 #[tactic(auto, using(crate::proofs::StarLemmas::may_enter, crate::proofs::StarLemmas::label_entered, crate::proofs::StarLemmas::label_there, crate::proofs::StarLemmas::no_dataset))]
 fn enter(histories: &mut Histories, process: ProcessId, label: &Option<Label>)
-    requires { MayPost (has histories.old) process label.now }
+    requires { star (has histories.old) process label.now ≡ true }
     ensures pairs { has histories.new ≡ with_label (has histories.old) process label.now true }
     ensures processes { histories.new.processes ≡ histories.old.processes }
     ensures classes { histories.new.classes ≡ histories.old.classes }

@@ -7,4 +7,4 @@ use Rattle.audit_book.proofs.check.passes.Goals as goal
 
 pub returns : goal.returns
 returns c = λ wall past stands. c.passes.ensures.posts wall (bare past) stands
-    ∙ ap (λ ps. star (histories wall ps) c.args.process c.args.label.now) (bare_posts past)
+    ∙ ap (λ ps. star (histories wall ps) c.args.seat.now.process c.args.label.now) (bare_posts past)

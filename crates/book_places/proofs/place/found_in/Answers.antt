@@ -1,4 +1,5 @@
-use Rattle.book_places.proofs.PlaceLemmas.{ok_more, found_is}
+use Rattle.book_places.proofs.PlaceLemmas.{found_is}
+use Rattle.audit_book.proofs.AuditBookLemmas.{ok_more}
 use Rattle.book_places.proofs.place.found_in.Goals as goal
 
 pub returns-in-Ok-clause-found : goal.returns-in-Ok-clause-found

@@ -1,5 +1,5 @@
 use Rattle.std.proofs.Common.{◌≡◌, ℕ, Option, Some, None, sym, ◌∙◌}
-use Rattle.book_report.proofs.GrantLemmas.{ranked}
+use Rattle.mpi_group.proofs.MpiGroupLemmas.{ranked}
 use Rattle.book_report.proofs.reason.rank_of.Goals as goal
 
 pub unreachable-requires : goal.unreachable-requires

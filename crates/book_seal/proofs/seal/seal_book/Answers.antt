@@ -2,7 +2,9 @@ use Rattle.std.proofs.Common.{rules}
 use Rattle.std.specs.Prelude.{IfErr}
 use Rattle.book_seal.specs.SealSteps.{IsUnread}
 use Rattle.book_seal.proofs.ExactLemmas.{starts_unsoundly}
-use Rattle.book_seal.proofs.SealLemmas.{ok_more, err_more, seal_is, unread_is, uncompleted_is}
+use Rattle.book_seal.proofs.SealLemmas.{seal_is, unread_is, uncompleted_is}
+use Rattle.audit_book.proofs.AuditBookLemmas.{err_more}
+use Rattle.audit_book.proofs.AuditBookLemmas.{ok_more}
 use Rattle.book_seal.proofs.seal.seal_book.Goals as goal
 
 pub returns-in_err-book-clause-exact : goal.returns-in_err-book-clause-exact

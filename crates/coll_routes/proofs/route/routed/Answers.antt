@@ -6,6 +6,3 @@ pub returns-then-is_neighbourly : goal.returns-then-is_neighbourly
 returns-then-is_neighbourly c = c.sends_to_slots.ensures
     ∙ by_slots c.args.roll.now c.args.from c.args.to
     (sym c.is_neighbourly.ensures ∙ c.if-is_neighbourly.true)
-
-pub sends_to_slots-requires-clause-between : goal.sends_to_slots-requires-clause-between
-sends_to_slots-requires-clause-between c = sym c.is_neighbourly.ensures ∙ c.if-is_neighbourly.true

@@ -4,9 +4,8 @@ use Rattle.wall_verdict.specs.Meanings.{IsVerdict}
 use Rattle.wall_verdict.proofs.LawLemmas.{verdicts_name_the_least}
 use Rattle.wall_verdict.proofs.judge.decide.Goals as goal
 
-pub judge-requires-clause-collected : goal.judge-requires-clause-collected
-judge-requires-clause-collected c =
-    c.nothing.ensures c.args.histories.now.classes c.args.roll.now
+pub judge-requires : goal.judge-requires
+judge-requires c = c.nothing.ensures c.args.histories.now.classes c.args.roll.now
 
 pub returns-clause-meaning : goal.returns-clause-meaning
 returns-clause-meaning c = subst

@@ -11,7 +11,8 @@ enter-requires c =
     subst (λ s. HoldsNoRivals c.args.histories.now.classes
     (joined (has c.args.histories.now c.args.process) s)) (sym one)
     (may_enter c.args.histories.now.classes (has c.args.histories.now) c.args.process
-    c.in-Some.dataset c.args.label.now c.requires (sym c.in-Some.ensures))
+    c.in-Some.dataset c.args.label.now c.has.ensures.few c.has.ensures.apart c.requires
+    (sym c.in-Some.ensures))
 
 pub returns-then-not-has-clause-pairs : goal.returns-then-not-has-clause-pairs
 returns-then-not-has-clause-pairs c =

@@ -3,7 +3,7 @@ use Rattle.wall_verdict.specs.Charges.{dataset_in}
 use Rattle.book_report.specs.Held.{IsRow}
 use Rattle.book_report.specs.Walk.{knows}
 use Rattle.book_report.proofs.KnownLemmas.{ok_then}
-use Rattle.book_report.proofs.HistoryLemmas.{label_is}
+use Rattle.wall_verdict.proofs.WallVerdictLemmas.{label_is}
 use Rattle.book_report.proofs.known.Known.add_label.Goals as goal
 
 pub returns-in-None-clause-there : goal.returns-in-None-clause-there

@@ -1,9 +1,8 @@
-use Rattle.std.proofs.Common.{◌≡◌, ◌∙◌, ◌<◌, sym, ap, subst, length, None}
+use Rattle.std.proofs.Common.{◌∙◌, ◌<◌, sym, ap, subst, length}
 use Rattle.coll_pending.specs.Instances.{Communicator}
-use Rattle.coll_pending.specs.Queues.{queue_at, count_in, slot_of}
-use Rattle.coll_pending.specs.Waiting.{State, view_of_pending, HasRoom}
-use Rattle.coll_pending.proofs.PendingLemmas.{room_opens, new_opened, new_meets, lists_fit}
-use Rattle.coll_pending.proofs.PendingLemmas.{slot_for_some, opening, opens_as}
+use Rattle.coll_pending.specs.Waiting.{State, view_of_pending}
+use Rattle.coll_pending.proofs.PendingLemmas.{free_inside, can_open, new_opened, new_meets}
+use Rattle.coll_pending.proofs.PendingLemmas.{slot_for_some, opening, opens_as, lists_fit}
 use Rattle.coll_pending.proofs.pending.Pending.open_new.Goals as goal
 
 pub take_slot-requires : goal.take_slot-requires
@@ -11,14 +10,8 @@ take_slot-requires g c =
     let comm : Communicator = record { members = c.args._group.now; shape = c.args._shape.now } in
     let inside : State g.row.X.Denot =
     record { queues = c.self.inside.queues; spare = c.self.inside.spare } in
-    let room =
-    subst (λ (v : State g.row.X.Denot). HasRoom v c.args.comm c.args._rank comm)
-    (sym c.self.view_is) c.requires.room in
-    let free =
-    subst (λ (v : State g.row.X.Denot). slot_of v.queues c.args.comm
-    (count_in (queue_at v.queues.queues c.args.comm) c.args._rank) ≡ None)
-    (sym c.self.view_is) c.requires.free in
-    let can = room_opens inside c.args.comm c.args._rank comm room free in
+    let can = can_open c.args.self.now inside c.self.view_is comm c.args.sig.now c.args.meeting
+    c.requires.met c.requires.opens c.requires.room in
     slot_for_some comm c.self.inside.spare.slot can.slot
 
 pub returns-in_err-slot-clause-memory : goal.returns-in_err-slot-clause-memory
@@ -27,14 +20,8 @@ returns-in_err-slot-clause-memory g c = λ fit.
     let comm : Communicator = record { members = c.args._group.now; shape = c.args._shape.now } in
     let inside : State g.row.X.Denot =
     record { queues = c.self.inside.queues; spare = c.self.inside.spare } in
-    let room =
-    subst (λ (v : State g.row.X.Denot). HasRoom v c.args.comm c.args._rank comm)
-    (sym c.self.view_is) c.requires.room in
-    let free =
-    subst (λ (v : State g.row.X.Denot). slot_of v.queues c.args.comm
-    (count_in (queue_at v.queues.queues c.args.comm) c.args._rank) ≡ None)
-    (sym c.self.view_is) c.requires.free in
-    let can = room_opens inside c.args.comm c.args._rank comm room free in
+    let can = can_open c.args.self.now inside c.self.view_is comm c.args.sig.now c.args.meeting
+    c.requires.met c.requires.opens c.requires.room in
     absurd (c.in_err-slot.ensures.memory
     (lists_fit c.args._shape.now c.self.inside.spare.lists c.args.sig.now can.lists fit))
 
@@ -43,14 +30,8 @@ open-requires-clause-place g c =
     let comm : Communicator = record { members = c.args._group.now; shape = c.args._shape.now } in
     let inside : State g.row.X.Denot =
     record { queues = c.self.inside.queues; spare = c.self.inside.spare } in
-    let room =
-    subst (λ (v : State g.row.X.Denot). HasRoom v c.args.comm c.args._rank comm)
-    (sym c.self.view_is) c.requires.room in
-    let free =
-    subst (λ (v : State g.row.X.Denot). slot_of v.queues c.args.comm
-    (count_in (queue_at v.queues.queues c.args.comm) c.args._rank) ≡ None)
-    (sym c.self.view_is) c.requires.free in
-    let can = room_opens inside c.args.comm c.args._rank comm room free in
+    let can = can_open c.args.self.now inside c.self.view_is comm c.args.sig.now c.args.meeting
+    c.requires.met c.requires.opens c.requires.room in
     can.place
 
 pub open-requires-clause-vacant : goal.open-requires-clause-vacant
@@ -58,19 +39,12 @@ open-requires-clause-vacant g c =
     let comm : Communicator = record { members = c.args._group.now; shape = c.args._shape.now } in
     let inside : State g.row.X.Denot =
     record { queues = c.self.inside.queues; spare = c.self.inside.spare } in
-    let room =
-    subst (λ (v : State g.row.X.Denot). HasRoom v c.args.comm c.args._rank comm)
-    (sym c.self.view_is) c.requires.room in
-    let free =
-    subst (λ (v : State g.row.X.Denot). slot_of v.queues c.args.comm
-    (count_in (queue_at v.queues.queues c.args.comm) c.args._rank) ≡ None)
-    (sym c.self.view_is) c.requires.free in
-    let can = room_opens inside c.args.comm c.args._rank comm room free in
-    let is = c.in_ok-slot.ensures.slot comm can.slot in
+    let can = can_open c.args.self.now inside c.self.view_is comm c.args.sig.now c.args.meeting
+    c.requires.met c.requires.opens c.requires.room in
     let it =
-    opening c.self.inside.queues c.self.inside.spare c.args.comm c.args._rank comm
+    opening c.self.inside.queues c.self.inside.spare c.args.meeting.comm c.args.meeting.rank comm
     c.in_ok-slot.slot c.take_queue-fresh.result c.knows-is_known.result c.requires.rank can
-    is c.knows-is_known.ensures
+    (c.in_ok-slot.ensures.slot comm can.slot) c.knows-is_known.ensures
     (λ e. c.take_queue-fresh.ensures e ∙ c.in_ok-slot.ensures.queue) in
     it.vacant
 
@@ -79,19 +53,12 @@ open-requires-clause-some g c =
     let comm : Communicator = record { members = c.args._group.now; shape = c.args._shape.now } in
     let inside : State g.row.X.Denot =
     record { queues = c.self.inside.queues; spare = c.self.inside.spare } in
-    let room =
-    subst (λ (v : State g.row.X.Denot). HasRoom v c.args.comm c.args._rank comm)
-    (sym c.self.view_is) c.requires.room in
-    let free =
-    subst (λ (v : State g.row.X.Denot). slot_of v.queues c.args.comm
-    (count_in (queue_at v.queues.queues c.args.comm) c.args._rank) ≡ None)
-    (sym c.self.view_is) c.requires.free in
-    let can = room_opens inside c.args.comm c.args._rank comm room free in
-    let is = c.in_ok-slot.ensures.slot comm can.slot in
+    let can = can_open c.args.self.now inside c.self.view_is comm c.args.sig.now c.args.meeting
+    c.requires.met c.requires.opens c.requires.room in
     let it =
-    opening c.self.inside.queues c.self.inside.spare c.args.comm c.args._rank comm
+    opening c.self.inside.queues c.self.inside.spare c.args.meeting.comm c.args.meeting.rank comm
     c.in_ok-slot.slot c.take_queue-fresh.result c.knows-is_known.result c.requires.rank can
-    is c.knows-is_known.ensures
+    (c.in_ok-slot.ensures.slot comm can.slot) c.knows-is_known.ensures
     (λ e. c.take_queue-fresh.ensures e ∙ c.in_ok-slot.ensures.queue) in
     it.some
 
@@ -100,19 +67,12 @@ open-requires-clause-queue g c =
     let comm : Communicator = record { members = c.args._group.now; shape = c.args._shape.now } in
     let inside : State g.row.X.Denot =
     record { queues = c.self.inside.queues; spare = c.self.inside.spare } in
-    let room =
-    subst (λ (v : State g.row.X.Denot). HasRoom v c.args.comm c.args._rank comm)
-    (sym c.self.view_is) c.requires.room in
-    let free =
-    subst (λ (v : State g.row.X.Denot). slot_of v.queues c.args.comm
-    (count_in (queue_at v.queues.queues c.args.comm) c.args._rank) ≡ None)
-    (sym c.self.view_is) c.requires.free in
-    let can = room_opens inside c.args.comm c.args._rank comm room free in
-    let is = c.in_ok-slot.ensures.slot comm can.slot in
+    let can = can_open c.args.self.now inside c.self.view_is comm c.args.sig.now c.args.meeting
+    c.requires.met c.requires.opens c.requires.room in
     let it =
-    opening c.self.inside.queues c.self.inside.spare c.args.comm c.args._rank comm
+    opening c.self.inside.queues c.self.inside.spare c.args.meeting.comm c.args.meeting.rank comm
     c.in_ok-slot.slot c.take_queue-fresh.result c.knows-is_known.result c.requires.rank can
-    is c.knows-is_known.ensures
+    (c.in_ok-slot.ensures.slot comm can.slot) c.knows-is_known.ensures
     (λ e. c.take_queue-fresh.ensures e ∙ c.in_ok-slot.ensures.queue) in
     it.queue
 
@@ -122,28 +82,24 @@ returns-clause-opened g c =
     let comm : Communicator = record { members = c.args._group.now; shape = c.args._shape.now } in
     let inside : State g.row.X.Denot =
     record { queues = c.self.inside.queues; spare = c.self.inside.spare } in
-    let room =
-    subst (λ (v : State g.row.X.Denot). HasRoom v c.args.comm c.args._rank comm)
-    (sym c.self.view_is) c.requires.room in
-    let free =
-    subst (λ (v : State g.row.X.Denot). slot_of v.queues c.args.comm
-    (count_in (queue_at v.queues.queues c.args.comm) c.args._rank) ≡ None)
-    (sym c.self.view_is) c.requires.free in
-    let can = room_opens inside c.args.comm c.args._rank comm room free in
-    let is = c.in_ok-slot.ensures.slot comm can.slot in
+    let can = can_open c.args.self.now inside c.self.view_is comm c.args.sig.now c.args.meeting
+    c.requires.met c.requires.opens c.requires.room in
     let it =
-    opening c.self.inside.queues c.self.inside.spare c.args.comm c.args._rank comm
+    opening c.self.inside.queues c.self.inside.spare c.args.meeting.comm c.args.meeting.rank comm
     c.in_ok-slot.slot c.take_queue-fresh.result c.knows-is_known.result c.requires.rank can
-    is c.knows-is_known.ensures
+    (c.in_ok-slot.ensures.slot comm can.slot) c.knows-is_known.ensures
     (λ e. c.take_queue-fresh.ensures e ∙ c.in_ok-slot.ensures.queue) in
     let same = ap (λ (v : State g.row.X.Denot). view_of_pending v) c.self.view_is in
-    let lt =
-    subst (λ (m : Communicator). c.args._rank < length m.members) (sym it.of) c.requires.rank in
+    let free = free_inside c.args.self.now inside c.self.view_is comm c.args.sig.now c.args.meeting
+    c.requires.met c.requires.opens in
+    let lt = subst (λ (m : Communicator). c.args.meeting.rank < length m.members) (sym it.of)
+    c.requires.rank in
     let opens =
-    opens_as c.self.inside.queues c.open.new.self c.args.comm _ c.in_ok-slot.slot comm
-    c.args.sig.now it.of c.in_ok-slot.ensures.sig (c.open.ensures c.args._rank lt free) in
-    new_opened c.self.inside.queues c.open.new.self (view_of_pending c.args.self.now) c.args.comm
-    c.args._rank comm c.args.sig.now same free opens
+    opens_as c.self.inside.queues c.open.new.self c.args.meeting.comm _ c.in_ok-slot.slot comm
+    c.args.sig.now it.of c.in_ok-slot.ensures.sig
+    (c.open.ensures c.args.meeting.rank lt free) in
+    new_opened c.self.inside.queues c.open.new.self (view_of_pending c.args.self.now)
+    c.args.meeting.comm c.args.meeting.rank comm c.args.sig.now same free opens
 
 pub returns-clause-meets : goal.returns-clause-meets
 unfolding view_of_pending
@@ -151,25 +107,21 @@ returns-clause-meets g c =
     let comm : Communicator = record { members = c.args._group.now; shape = c.args._shape.now } in
     let inside : State g.row.X.Denot =
     record { queues = c.self.inside.queues; spare = c.self.inside.spare } in
-    let room =
-    subst (λ (v : State g.row.X.Denot). HasRoom v c.args.comm c.args._rank comm)
-    (sym c.self.view_is) c.requires.room in
-    let free =
-    subst (λ (v : State g.row.X.Denot). slot_of v.queues c.args.comm
-    (count_in (queue_at v.queues.queues c.args.comm) c.args._rank) ≡ None)
-    (sym c.self.view_is) c.requires.free in
-    let can = room_opens inside c.args.comm c.args._rank comm room free in
-    let is = c.in_ok-slot.ensures.slot comm can.slot in
+    let can = can_open c.args.self.now inside c.self.view_is comm c.args.sig.now c.args.meeting
+    c.requires.met c.requires.opens c.requires.room in
     let it =
-    opening c.self.inside.queues c.self.inside.spare c.args.comm c.args._rank comm
+    opening c.self.inside.queues c.self.inside.spare c.args.meeting.comm c.args.meeting.rank comm
     c.in_ok-slot.slot c.take_queue-fresh.result c.knows-is_known.result c.requires.rank can
-    is c.knows-is_known.ensures
+    (c.in_ok-slot.ensures.slot comm can.slot) c.knows-is_known.ensures
     (λ e. c.take_queue-fresh.ensures e ∙ c.in_ok-slot.ensures.queue) in
     let same = ap (λ (v : State g.row.X.Denot). view_of_pending v) c.self.view_is in
-    let lt =
-    subst (λ (m : Communicator). c.args._rank < length m.members) (sym it.of) c.requires.rank in
+    let free = free_inside c.args.self.now inside c.self.view_is comm c.args.sig.now c.args.meeting
+    c.requires.met c.requires.opens in
+    let lt = subst (λ (m : Communicator). c.args.meeting.rank < length m.members) (sym it.of)
+    c.requires.rank in
     let opens =
-    opens_as c.self.inside.queues c.open.new.self c.args.comm _ c.in_ok-slot.slot comm
-    c.args.sig.now it.of c.in_ok-slot.ensures.sig (c.open.ensures c.args._rank lt free) in
-    new_meets c.self.inside.queues c.open.new.self (view_of_pending c.args.self.now) c.args.comm
-    c.args._rank comm c.args.sig.now same free opens c.requires.rank
+    opens_as c.self.inside.queues c.open.new.self c.args.meeting.comm _ c.in_ok-slot.slot comm
+    c.args.sig.now it.of c.in_ok-slot.ensures.sig
+    (c.open.ensures c.args.meeting.rank lt free) in
+    new_meets c.self.inside.queues c.open.new.self (view_of_pending c.args.self.now)
+    c.args.meeting.comm c.args.meeting.rank comm c.args.sig.now same free opens c.requires.rank

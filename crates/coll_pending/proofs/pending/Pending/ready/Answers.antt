@@ -1,5 +1,6 @@
-use Rattle.std.proofs.Common.{◌∙◌, sym, ap, subst}
+use Rattle.std.proofs.Common.{◌∙◌, sym, ap, subst, is_some}
 use Rattle.coll_pending.specs.Instances.{Communicator}
+use Rattle.coll_pending.specs.Queues.{slot_of}
 use Rattle.coll_pending.specs.Waiting.{State, PendingView, view_of_pending, IsKnownAs}
 use Rattle.coll_pending.proofs.PendingLemmas.{room_made, room_kept}
 use Rattle.coll_pending.proofs.pending.Pending.ready.Goals as goal
@@ -20,6 +21,8 @@ pub returns-clause-memory : goal.returns-clause-memory
 returns-clause-memory g c = λ room.
     let comm : Communicator = record { members = c.args.group.now; shape = c.args.shape.now } in
     room_kept c.args.self.now c.self.inside.queues c.self.inside.spare c.args.comm c.args.rank
-    comm c.knows-is_known.result c.self.view_is room (sym c.meets.ensures ∙ c.if-meets.false)
+    comm c.knows-is_known.result c.self.view_is room
+    (sym (c.waits.ensures ∙ ap (λ n. is_some (slot_of c.self.inside.queues c.args.comm n))
+    c.arrivals-number.ensures) ∙ c.if-waits.false)
     c.reserve.new.self c.in_ok-reserve.ensures.unchanged c.knows-is_known.ensures
     c.ready.ensures.memory

@@ -1,22 +1,22 @@
 use Rattle.coll_pending.proofs.ArriveLemmas.{arrived_at, can_post_at}
 use Rattle.coll_pending.proofs.queues.Queues.arrive.Goals as goal
 
-pub post_in-requires : goal.post_in-requires
-post_in-requires g c =
-    can_post_at _ c.args.self.now c.self.view_is c.self.invariant c.args.comm c.args.rank
-    c.args.stated c.args.part c.index_mut.result.now c.index_mut.ensures.value c.requires.known
-    c.requires.ready c.requires.few
+pub post-requires : goal.post-requires
+post-requires g c =
+    can_post_at _ c.args.self.now c.self.view_is c.self.invariant c.args.meeting.comm
+    c.args.meeting.rank c.args.meeting.k c.args.stated c.args.part c.index_mut.result.now
+    c.index_mut.ensures.value c.requires.known c.requires.ready c.requires.number c.requires.few
 
 pub invariant_of-self : goal.invariant_of-self
 invariant_of-self g c =
-    (arrived_at _ c.args.self.now c.self.view_is c.self.invariant c.args.comm c.args.rank
-    c.args.stated c.args.part c.index_mut.result.now c.post_in.new.row c.post_in.new.slots
-    c.post_in.result c.index_mut.ensures.value c.requires.known c.requires.ready
-    c.post_in.ensures).0
+    (arrived_at _ c.args.self.now c.self.view_is c.self.invariant c.args.meeting.comm
+    c.args.meeting.rank c.args.stated c.args.part c.index_mut.result.now c.post.new.row
+    c.post.new.slots c.post.result c.index_mut.ensures.value c.requires.known c.requires.ready
+    c.post.ensures).0
 
 pub returns : goal.returns
 returns g c =
-    (arrived_at _ c.args.self.now c.self.view_is c.self.invariant c.args.comm c.args.rank
-    c.args.stated c.args.part c.index_mut.result.now c.post_in.new.row c.post_in.new.slots
-    c.post_in.result c.index_mut.ensures.value c.requires.known c.requires.ready
-    c.post_in.ensures).1
+    (arrived_at _ c.args.self.now c.self.view_is c.self.invariant c.args.meeting.comm
+    c.args.meeting.rank c.args.stated c.args.part c.index_mut.result.now c.post.new.row
+    c.post.new.slots c.post.result c.index_mut.ensures.value c.requires.known c.requires.ready
+    c.post.ensures).1

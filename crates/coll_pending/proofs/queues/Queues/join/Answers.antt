@@ -1,29 +1,29 @@
 use Rattle.coll_pending.specs.declared.arrival.Arrived.TheVariants.{Waiting}
-use Rattle.coll_pending.proofs.ArriveLemmas.{arrived_at, can_post_at, waits_on_at}
+use Rattle.coll_pending.proofs.ArriveLemmas.{arrived_at, can_post_at, joined_at}
 use Rattle.coll_pending.proofs.queues.Queues.join.Goals as goal
 
-pub join_in-requires-clause-can : goal.join_in-requires-clause-can
-join_in-requires-clause-can g c =
-    can_post_at _ c.args.self.now c.self.view_is c.self.invariant c.args.comm c.args.rank
-    c.args.stated c.args.part c.index_mut.result.now c.index_mut.ensures.value c.requires.known
-    c.requires.ready c.requires.few
-
-pub join_in-requires-clause-more : goal.join_in-requires-clause-more
-join_in-requires-clause-more g c =
-    waits_on_at _ c.args.self.now c.self.view_is c.self.invariant c.args.comm c.args.rank
-    c.args.stated c.args.part c.index_mut.result.now c.index_mut.ensures.value c.requires.known
-    c.requires.ready c.requires.joins
+pub enter-requires : goal.enter-requires
+enter-requires g c =
+    can_post_at _ c.args.self.now c.self.view_is c.self.invariant c.args.meeting.comm
+    c.args.meeting.rank c.args.meeting.k c.args.stated c.args.part c.index_mut.result.now
+    c.index_mut.ensures.value c.requires.known c.requires.ready c.requires.number c.requires.few
 
 pub invariant_of-self : goal.invariant_of-self
 invariant_of-self g c =
-    (arrived_at _ c.args.self.now c.self.view_is c.self.invariant c.args.comm c.args.rank
-    c.args.stated c.args.part c.index_mut.result.now c.join_in.new.row c.join_in.new.slots
-    Waiting c.index_mut.ensures.value c.requires.known c.requires.ready
-    c.join_in.ensures).0
+    (arrived_at _ c.args.self.now c.self.view_is c.self.invariant c.args.meeting.comm
+    c.args.meeting.rank c.args.stated c.args.part c.index_mut.result.now c.enter.new.row
+    c.enter.new.slots Waiting c.index_mut.ensures.value c.requires.known c.requires.ready
+    (joined_at _ c.args.self.now c.self.view_is c.self.invariant c.args.meeting.comm
+    c.args.meeting.rank c.args.stated c.args.part c.index_mut.result.now c.enter.new.row
+    c.enter.new.slots c.enter.result c.index_mut.ensures.value c.requires.known c.requires.ready
+    c.requires.joins c.enter.ensures)).0
 
 pub returns : goal.returns
 returns g c =
-    (arrived_at _ c.args.self.now c.self.view_is c.self.invariant c.args.comm c.args.rank
-    c.args.stated c.args.part c.index_mut.result.now c.join_in.new.row c.join_in.new.slots
-    Waiting c.index_mut.ensures.value c.requires.known c.requires.ready
-    c.join_in.ensures).1
+    (arrived_at _ c.args.self.now c.self.view_is c.self.invariant c.args.meeting.comm
+    c.args.meeting.rank c.args.stated c.args.part c.index_mut.result.now c.enter.new.row
+    c.enter.new.slots Waiting c.index_mut.ensures.value c.requires.known c.requires.ready
+    (joined_at _ c.args.self.now c.self.view_is c.self.invariant c.args.meeting.comm
+    c.args.meeting.rank c.args.stated c.args.part c.index_mut.result.now c.enter.new.row
+    c.enter.new.slots c.enter.result c.index_mut.ensures.value c.requires.known c.requires.ready
+    c.requires.joins c.enter.ensures)).1

@@ -1,4 +1,4 @@
-use Rattle.std.proofs.Common.{◌≡◌, ◌≤◌, List, not, length}
+use Rattle.std.proofs.Common.{◌≡◌, ◌≤◌, not, length}
 use Rattle.std.proofs.Common.{sym, ap, ◌∙◌, subst, arith, ⊎_elim}
 use Rattle.std.proofs.lemmas.Grind.{common_steps}
 use Rattle.std.proofs.lemmas.Bool.{cases_Bool}
@@ -8,51 +8,45 @@ use Rattle.wall_verdict.specs.Star.{star}
 use Rattle.run_model.specs.Posts.{histories}
 use Rattle.run_model.specs.Books.{IsCounted}
 use Rattle.run_model.specs.Contributions.{Contribution, contribution}
-use Rattle.run_state.specs.Views.{fault_of, view_of as seen}
+use Rattle.run_state.specs.Views.{LookedAt, view_of as seen}
 use Rattle.run_model.specs.Runs.{requests, statement, given_in, label_in, with_contribution}
 use Rattle.run_model.specs.Replies.{posts_in}
 use Rattle.run_model.proofs.RunModelLemmas.{taken, given_of}
-use Rattle.hall_core.specs.Asking.{Asked, requests_of}
+use Rattle.hall_core.specs.Asking.{requests_of}
 use Rattle.hall_core.specs.Halls.{HallView, StandsForEffects}
 use Rattle.hall_core.specs.Invariant.{view_in}
-use Rattle.hall_core.proofs.PostLemmas.{few_elements, free_stated, has_form_of, due, post_counted}
-use Rattle.hall_core.proofs.PostLemmas.{post_wanted}
+use Rattle.hall_core.proofs.PostLemmas.{few_elements, looked_stated, has_form_of, due}
+use Rattle.hall_core.proofs.PostLemmas.{post_counted, post_wanted}
 use Rattle.hall_core.proofs.records.Records.accept.Goals as goal
-
-pub member-member-requires : goal.member-member-requires
-member-member-requires c =
-    let few = c.requires.policy.few_processes in
-    let process = c.requires.process in
-    omega (arith, few, process)
 
 pub overflow_cast-given : goal.overflow_cast-given
 overflow_cast-given c =
-    let few = few_elements c.args.self.now.policy (seen c.args.self.now.post_state) c.args.process
-    c.args.posting.comm c.args.posting.sig c.args.posting.own c.args.posting.elements.elem_type
-    (given_in c.args.posting) c.requires.free in
+    let few = few_elements (seen c.args.self.now.post_state) c.args.seat
+    c.args.posting.sig c.args.posting.own c.args.posting.elements.elem_type
+    (given_in c.args.posting) c.requires.looked in
     let low : c.given-given.result ≤ 65536 = subst (λ n. n ≤ 65536) (sym c.given-given.ensures) few
     in
     grind (arith, common_steps, low)
 
-pub enter-entered-requires-clause-free : goal.enter-entered-requires-clause-free
-enter-entered-requires-clause-free c =
-    (λ i. fault_of c.args.self.now.policy (seen c.args.self.now.post_state)
-    (c.member-member.ensures i) c.args.posting.comm c.args.posting.sig c.args.posting.own
-    (stated_type c.args.posting.sig) (c.given-given.ensures i))
-    ∙ free_stated (view_in c.args.self.now) c.requires.hall.effects c.requires.hall.stands
-    c.args.process c.args.posting
-    (c.requires.none c.requires.hall.effects c.requires.hall.stands) c.requires.free
+pub enter-entered-requires-clause-looked : goal.enter-entered-requires-clause-looked
+enter-entered-requires-clause-looked c =
+    subst (λ n. LookedAt (seen c.args.self.now.post_state) c.args.seat c.args.posting.sig
+    c.args.posting.own (stated_type c.args.posting.sig) n) (sym c.given-given.ensures)
+    (looked_stated (view_in c.args.self.now) c.requires.hall.effects c.requires.hall.stands
+    c.args.seat c.args.posting
+    (c.requires.none c.requires.hall.effects c.requires.hall.stands) c.requires.comm
+    c.requires.looked)
 
 pub enter-entered-requires-clause-form : goal.enter-entered-requires-clause-form
 enter-entered-requires-clause-form c =
     let hall = c.requires.hall in
     let word : not c.passes-passed.result ≡ not (star
-    (histories c.args.self.now.policy (posts_in hall.effects)) c.args.process
+    (histories c.args.self.now.policy (posts_in hall.effects)) c.args.seat.process
     (label_in c.args.posting)) =
     ap not (c.passes-passed.ensures.posts c.args.self.now.policy hall.effects.contributions
     hall.stands.post_state
     ∙ (λ i. star (histories c.args.self.now.policy (posts_in hall.effects))
-    (c.member-member.ensures i) (c.label-label.ensures i))) in
+    c.args.seat.process (c.label-label.ensures i))) in
     (λ i. Rattle.std.proofs.Common.◌&&◌
     (Rattle.run_model.specs.EntryForms.is_formed c.args.posting.sig c.args.posting.own)
     (Rattle.run_model.specs.Books.is_labelled (record {
@@ -62,32 +56,35 @@ enter-entered-requires-clause-form c =
       label = c.label-label.ensures i;
       barred = not c.passes-passed.result;
     })))
-    ∙ has_form_of (view_in c.args.self.now) hall.effects hall.stands c.args.process c.args.posting
-    (not c.passes-passed.result) (c.requires.none hall.effects hall.stands) word c.requires.free
+    ∙ has_form_of (view_in c.args.self.now) hall.effects hall.stands c.args.seat c.args.posting
+    (not c.passes-passed.result) (c.requires.none hall.effects hall.stands) word
+    c.requires.looked
 
 pub returns-clause-steps : goal.returns-clause-steps
 returns-clause-steps c = λ m is stands.
     let wall = c.args.self.now.policy in
     let none = c.requires.none m stands in
     let word : c.passes-passed.result ≡ star (histories c.args.self.now.policy (posts_in m))
-    c.args.process (label_in c.args.posting) =
+    c.args.seat.process (label_in c.args.posting) =
     c.passes-passed.ensures.posts c.args.self.now.policy m.contributions stands.post_state
-    ∙ (λ i. star (histories c.args.self.now.policy (posts_in m)) (c.member-member.ensures i)
+    ∙ (λ i. star (histories c.args.self.now.policy (posts_in m)) c.args.seat.process
     (c.label-label.ensures i)) in
-    let number : c.given_to-request.result ≡ length (requests c.args.process (posts_in m)) =
+    let number : c.given_to-request.result ≡ length (requests c.args.seat.process (posts_in m)) =
     c.given_to-request.ensures
-    ∙ (ap (λ (a : List Asked). length (requests_of a c.args.process)) c.deref.ensures.value
-    ∙ stands.given c.args.process) in
-    let owed = due c.args.self.now.policy m c.args.process c.args.posting c.passes-passed.result
+    ∙ ((λ i. length (requests_of (c.deref.ensures.value i) (c.requires.own i)))
+    ∙ stands.given c.args.seat.process) in
+    let owed = due c.args.self.now.policy m c.args.seat.process c.args.posting
+    c.passes-passed.result
     c.given_to-request.result none word number in
     let counts : IsCounted c.args.self.now.policy (record {
-      process = c.args.process;
+      process = c.args.seat.process;
       comm = c.args.posting.comm;
       stated = statement c.args.posting (not c.passes-passed.result);
     }) (posts_in m) =
-    taken c.args.self.now.policy m c.args.process c.args.posting (not c.passes-passed.result) none
+    taken c.args.self.now.policy m c.args.seat.process c.args.posting (not c.passes-passed.result)
+    none
     (ap not word) in
-    let g : Contribution Contents = contribution c.member-member.result c.args.posting.comm
+    let g : Contribution Contents = contribution c.args.seat.process c.args.seat.meeting.comm
     (record {
       sig = c.args.posting.sig;
       own = c.args.posting.own;
@@ -96,8 +93,8 @@ returns-clause-steps c = λ m is stands.
       barred = not c.passes-passed.result;
     })
     c.kept-part.result in
-    let same : g ≡ given_of c.args.process c.args.posting (not c.passes-passed.result) =
-    (λ i. contribution (c.member-member.ensures i) c.args.posting.comm
+    let same : g ≡ given_of c.args.seat.process c.args.posting (not c.passes-passed.result) =
+    (λ i. contribution c.args.seat.process (c.requires.comm i)
     (record {
       sig = c.args.posting.sig;
       own = c.args.posting.own;
@@ -106,14 +103,16 @@ returns-clause-steps c = λ m is stands.
       barred = not c.passes-passed.result;
     }) (c.kept-part.ensures i)) in
     ⊎_elim
-    (λ t. post_counted c.args.self.now.policy (view_in c.enter-entered.new.self) m c.args.process
+    (λ t. post_counted c.args.self.now.policy (view_in c.enter-entered.new.self) m
+    c.args.seat.process
     c.args.posting c.passes-passed.result c.given_to-request.result c.answer.result owed
     (c.answer.ensures.counted t)
     (subst (λ (h : Contribution Contents).
     StandsForEffects (view_in c.enter-entered.new.self) (with_contribution m h)) same
     (c.enter-entered.ensures.entered t m stands (subst (λ (h : Contribution Contents).
     IsCounted c.args.self.now.policy h.post (posts_in m)) (sym same) counts))))
-    (λ f. post_wanted c.args.self.now.policy (view_in c.enter-entered.new.self) m c.args.process
+    (λ f. post_wanted c.args.self.now.policy (view_in c.enter-entered.new.self) m
+    c.args.seat.process
     c.args.posting c.passes-passed.result c.given_to-request.result c.answer.result owed
     (c.answer.ensures.wanted f)
     (subst (λ (h : HallView). StandsForEffects h m) (sym (c.enter-entered.ensures.unchanged f))

@@ -6,7 +6,7 @@ use Rattle.run_model.specs.Posts.{posts_on}
 use Rattle.run_model.specs.Contributions.{Contribution, contribution}
 use Rattle.run_state.specs.declared.entered.Entered.{Entered}
 use Rattle.run_state.specs.declared.entered.Entered.TheVariants.{Waiting}
-use Rattle.run_state.specs.Views.{PostStateValue, view_of as seen, place_of}
+use Rattle.run_state.specs.Views.{PostStateValue, view_of as seen, LookedAt}
 use Rattle.run_state.specs.Stands.{StandsForPosts, Tells}
 use Rattle.run_model.specs.Replies.{posts_in}
 use Rattle.run_model.proofs.RunModelLemmas.{posts_within}
@@ -17,32 +17,31 @@ use Rattle.hall_core.specs.Moves.{HasRoom, IsRecorded, number_in}
 use Rattle.run_model.specs.Comms.{processes}
 use Rattle.run_model.specs.Posts.{place}
 use Rattle.hall_core.proofs.PlaceLemmas.{asked_few, few_processes, none_there, unsettled}
-use Rattle.hall_core.proofs.PostLemmas.{spot, number_told, recorded_from}
+use Rattle.run_state.proofs.RunStateLemmas.{place_is_count}
+use Rattle.hall_core.proofs.PostLemmas.{number_told, recorded_from}
 use Rattle.hall_core.proofs.RecordLemmas.{stands_recorded}
 use Rattle.hall_core.proofs.records.Records.enter.Goals as goal
 
 pub make_room-requires-clause-low : goal.make_room-requires-clause-low
 make_room-requires-clause-low c =
     let hall = c.requires.hall in
-    let s = spot c.args.self.now.policy (seen c.args.self.now.post_state) c.args.member c.args.comm
-    c.args.stated.sig c.args.stated.own c.args.stated.given (stated_type c.args.stated.sig)
-    c.requires.free in
-    let number : c.place-k.result ≡ length
-    (posts_on c.args.comm c.args.member (posts_in hall.effects)) =
-    c.place-k.ensures.posts c.args.self.now.policy hall.effects.contributions s.comm
-    hall.stands.post_state s.at
-    (subst (λ o. Rattle.std.specs.Prelude.IsSome o) (sym s.is_member) refl) in
-    let few = posts_within c.args.comm c.args.member (posts_in hall.effects) in
-    let asked = hall.stands.given c.args.member in
-    let limit : length (requests_of c.args.self.now.requests.items c.args.member) <
+    let number : c.args.seat.meeting.k ≡ length
+    (posts_on c.args.seat.meeting.comm c.args.seat.process (posts_in hall.effects)) =
+    place_is_count c.args.self.now.policy (seen c.args.self.now.post_state)
+    hall.effects.contributions hall.stands.post_state c.args.seat c.args.stated.sig
+    c.args.stated.own (stated_type c.args.stated.sig) c.args.stated.given c.requires.looked in
+    let few = posts_within c.args.seat.meeting.comm c.args.seat.process (posts_in hall.effects) in
+    let asked = hall.stands.given c.args.seat.process in
+    let limit : length (requests_of c.args.self.now.requests.items c.args.seat.process) <
     4611686018427387904 = c.requires.few in
     omega (arith, number, few, asked, limit)
 
 pub make_room-requires-clause-few_open : goal.make_room-requires-clause-few_open
 make_room-requires-clause-few_open c =
     let hall = c.requires.hall in
-    let count = c.requires.counted.waiting c.args.comm c.place-k.result in
-    let few = asked_few c.args.comm c.place-k.result (view_in c.args.self.now) hall.effects
+    let count = c.requires.counted.waiting c.args.seat.meeting.comm c.args.seat.meeting.k in
+    let few = asked_few c.args.seat.meeting.comm c.args.seat.meeting.k (view_in c.args.self.now)
+    hall.effects
     hall.stands (length c.args.self.now.requests.items) in
     let each = c.requires.each in
     let limit : processes c.args.self.now.policy < 4611686018427387904 = few_processes
@@ -52,22 +51,22 @@ make_room-requires-clause-few_open c =
 pub enter-requires-clause-few : goal.enter-requires-clause-few
 enter-requires-clause-few c =
     let hall = c.requires.hall in
-    let s = spot c.args.self.now.policy (seen c.args.self.now.post_state) c.args.member c.args.comm
-    c.args.stated.sig c.args.stated.own c.args.stated.given (stated_type c.args.stated.sig)
-    c.requires.free in
-    let number : c.place-k.result ≡ length
-    (posts_on c.args.comm c.args.member (posts_in hall.effects)) =
-    c.place-k.ensures.posts c.args.self.now.policy hall.effects.contributions s.comm
-    hall.stands.post_state s.at
-    (subst (λ o. Rattle.std.specs.Prelude.IsSome o) (sym s.is_member) refl) in
-    let few = posts_within c.args.comm c.args.member (posts_in hall.effects) in
-    let asked = hall.stands.given c.args.member in
-    let limit : length (requests_of c.args.self.now.requests.items c.args.member) <
+    let number : c.args.seat.meeting.k ≡ length
+    (posts_on c.args.seat.meeting.comm c.args.seat.process (posts_in hall.effects)) =
+    place_is_count c.args.self.now.policy (seen c.args.self.now.post_state)
+    hall.effects.contributions hall.stands.post_state c.args.seat c.args.stated.sig
+    c.args.stated.own (stated_type c.args.stated.sig) c.args.stated.given c.requires.looked in
+    let few = posts_within c.args.seat.meeting.comm c.args.seat.process (posts_in hall.effects) in
+    let asked = hall.stands.given c.args.seat.process in
+    let limit : length (requests_of c.args.self.now.requests.items c.args.seat.process) <
     4611686018427387904 = c.requires.few in
-    let low : c.place-k.result < 4611686018427387904 = omega (arith, number, few, asked, limit) in
-    subst (λ n. n < 4611686018427387904) (c.place-k.ensures.value
-    ∙ ap (λ (k : PostStateValue Contents). place_of (seen k) c.args.member c.args.comm)
-    (sym c.make_room.ensures.post_state)) low
+    omega (arith, number, few, asked, limit)
+
+pub enter-requires-clause-looked : goal.enter-requires-clause-looked
+enter-requires-clause-looked c =
+    subst (λ (k : PostStateValue Contents). LookedAt (seen k) c.args.seat c.args.stated.sig
+    c.args.stated.own (stated_type c.args.stated.sig) c.args.stated.given)
+    (sym c.make_room.ensures.post_state) c.requires.looked
 
 pub record-requires-clause-room : goal.record-requires-clause-room
 record-requires-clause-room c =
@@ -81,26 +80,24 @@ record-requires-clause-room c =
     (subst (λ (k : PostStateValue Contents).
     StandsForPosts c.args.self.now.policy (seen k) hall.effects.contributions)
     (sym c.make_room.ensures.post_state) hall.stands.post_state) in
-    let s = spot c.args.self.now.policy (seen c.args.self.now.post_state) c.args.member c.args.comm
-    c.args.stated.sig c.args.stated.own c.args.stated.given (stated_type c.args.stated.sig)
-    c.requires.free in
-    let number : c.place-k.result ≡ length
-    (posts_on c.args.comm c.args.member (posts_in hall.effects)) =
-    c.place-k.ensures.posts c.args.self.now.policy hall.effects.contributions s.comm
-    hall.stands.post_state s.at
-    (subst (λ o. Rattle.std.specs.Prelude.IsSome o) (sym s.is_member) refl) in
+    let number : c.args.seat.meeting.k ≡ length
+    (posts_on c.args.seat.meeting.comm c.args.seat.process (posts_in hall.effects)) =
+    place_is_count c.args.self.now.policy (seen c.args.self.now.post_state)
+    hall.effects.contributions hall.stands.post_state c.args.seat c.args.stated.sig
+    c.args.stated.own (stated_type c.args.stated.sig) c.args.stated.given c.requires.looked in
     let told : number_in c.in-Ok-enter.entered ≡ length
-    (posts_on c.args.comm c.args.member (posts_in hall.effects)) =
+    (posts_on c.args.seat.meeting.comm c.args.seat.process (posts_in hall.effects)) =
     number_told c.make_room.new.self.policy
-    (contribution c.args.member c.args.comm c.args.stated c.args.part)
+    (contribution c.args.seat.process c.args.seat.meeting.comm c.args.stated c.args.part)
     hall.effects.contributions c.in-Ok-enter.entered
     (c.in-Ok-enter.ensures.entered hall.effects.contributions stood).1 in
-    let k : c.place-k.result ≡ number_in c.in-Ok-enter.entered = number ∙ sym told in
-    let at : HasRoom c.make_room.new.self c.args.member c.args.comm
+    let k : c.args.seat.meeting.k ≡ number_in c.in-Ok-enter.entered = number ∙ sym told in
+    let at : HasRoom c.make_room.new.self c.args.seat.process c.args.seat.meeting.comm
     (number_in c.in-Ok-enter.entered) = (subst (λ (n : ℕ).
-    HasRoom c.make_room.new.self n c.args.comm (number_in c.in-Ok-enter.entered))
+    HasRoom c.make_room.new.self n c.args.seat.meeting.comm (number_in c.in-Ok-enter.entered))
     c.number.ensures.value
-    (subst (λ (n : ℕ). HasRoom c.make_room.new.self c.number.result c.args.comm n) k room))
+    (subst (λ (n : ℕ). HasRoom c.make_room.new.self c.number.result c.args.seat.meeting.comm n) k
+    room))
     in
     record {
       request = at.request;
@@ -123,7 +120,8 @@ returns-in-Ok-enter-clause-entered c = λ done m stands counts.
     StandsForPosts c.args.self.now.policy (seen k) m.contributions)
     (sym c.make_room.ensures.post_state) stands.post_state) in
     let moved = c.in-Ok-enter.ensures.entered m.contributions stood in
-    let g : Contribution Contents = contribution c.args.member c.args.comm c.args.stated c.args.part
+    let g : Contribution Contents = contribution c.args.seat.process c.args.seat.meeting.comm
+    c.args.stated c.args.part
     in
     let post_state : StandsForPosts c.args.self.now.policy (seen c.record.new.self.post_state)
     (g ∷ m.contributions) =
@@ -137,13 +135,14 @@ returns-in-Ok-enter-clause-entered c = λ done m stands counts.
     (λ (w : ChineseWall). Tells w g m.contributions c.in-Ok-enter.entered)
     c.make_room.ensures.policy moved.1 in
     let none = none_there (view_in c.args.self.now) m (length c.args.self.now.requests.items)
-    c.args.self.now.settled stands c.requires.counted refl c.args.comm
+    c.args.self.now.settled stands c.requires.counted refl c.args.seat.meeting.comm
     (place g.post (posts_in m)) (unsettled c.args.self.now.policy g.post (posts_in m) counts) in
     stands_recorded (view_in c.args.self.now) (view_in c.record.new.self) m g c.in-Ok-enter.entered
     stands counts none post_state tells
     (recorded_from (view_in c.args.self.now)
     (view_in (record c.make_room.new.self { post_state = c.enter.new.self }))
-    (view_in c.record.new.self) c.args.member c.args.comm c.in-Ok.copy c.args.stated
+    (view_in c.record.new.self) c.args.seat.process c.args.seat.meeting.comm c.in-Ok.copy
+    c.args.stated
     c.in-Ok-enter.entered
     c.make_room.ensures.policy (ap (λ (h : HallView). h.asked) same)
     (ap (λ (h : HallView). h.settled) same) (ap (λ (h : HallView). h.book) same)
@@ -152,27 +151,28 @@ returns-in-Ok-enter-clause-entered c = λ done m stands counts.
 pub join-requires-clause-few : goal.join-requires-clause-few
 join-requires-clause-few c =
     let hall = c.requires.hall in
-    let s = spot c.args.self.now.policy (seen c.args.self.now.post_state) c.args.member c.args.comm
-    c.args.stated.sig c.args.stated.own c.args.stated.given (stated_type c.args.stated.sig)
-    c.requires.free in
-    let number : c.place-k.result ≡ length
-    (posts_on c.args.comm c.args.member (posts_in hall.effects)) =
-    c.place-k.ensures.posts c.args.self.now.policy hall.effects.contributions s.comm
-    hall.stands.post_state s.at
-    (subst (λ o. Rattle.std.specs.Prelude.IsSome o) (sym s.is_member) refl) in
-    let few = posts_within c.args.comm c.args.member (posts_in hall.effects) in
-    let asked = hall.stands.given c.args.member in
-    let limit : length (requests_of c.args.self.now.requests.items c.args.member) <
+    let number : c.args.seat.meeting.k ≡ length
+    (posts_on c.args.seat.meeting.comm c.args.seat.process (posts_in hall.effects)) =
+    place_is_count c.args.self.now.policy (seen c.args.self.now.post_state)
+    hall.effects.contributions hall.stands.post_state c.args.seat c.args.stated.sig
+    c.args.stated.own (stated_type c.args.stated.sig) c.args.stated.given c.requires.looked in
+    let few = posts_within c.args.seat.meeting.comm c.args.seat.process (posts_in hall.effects) in
+    let asked = hall.stands.given c.args.seat.process in
+    let limit : length (requests_of c.args.self.now.requests.items c.args.seat.process) <
     4611686018427387904 = c.requires.few in
-    let low : c.place-k.result < 4611686018427387904 = omega (arith, number, few, asked, limit) in
-    subst (λ n. n < 4611686018427387904) (c.place-k.ensures.value
-    ∙ ap (λ (k : PostStateValue Contents). place_of (seen k) c.args.member c.args.comm)
-    (sym c.make_room.ensures.post_state)) low
+    omega (arith, number, few, asked, limit)
+
+pub join-requires-clause-looked : goal.join-requires-clause-looked
+join-requires-clause-looked c =
+    subst (λ (k : PostStateValue Contents). LookedAt (seen k) c.args.seat c.args.stated.sig
+    c.args.stated.own (stated_type c.args.stated.sig) c.args.stated.given)
+    (sym c.make_room.ensures.post_state) c.requires.looked
 
 pub note-requires-clause-room : goal.note-requires-clause-room
 note-requires-clause-room c =
-    let at : HasRoom c.make_room.new.self c.args.member c.args.comm c.place-k.result = (subst
-    (λ (n : ℕ). HasRoom c.make_room.new.self n c.args.comm c.place-k.result)
+    let at : HasRoom c.make_room.new.self c.args.seat.process c.args.seat.meeting.comm
+    c.args.seat.meeting.k = (subst
+    (λ (n : ℕ). HasRoom c.make_room.new.self n c.args.seat.meeting.comm c.args.seat.meeting.k)
     c.number.ensures.value c.in-Ok-make_room.ensures.room) in
     record {
       request = at.request;
@@ -182,8 +182,8 @@ note-requires-clause-room c =
       few_open = at.few_open;
     }
 
-pub returns-then-joins-clause-entered : goal.returns-then-joins-clause-entered
-returns-then-joins-clause-entered c = λ done m stands counts.
+pub returns-in-Joins-clause-entered : goal.returns-in-Joins-clause-entered
+returns-in-Joins-clause-entered c = λ done m stands counts.
     let old : HallView = view_in c.args.self.now in
     let same : view_in c.make_room.new.self ≡ view_in c.args.self.now = c.make_room.ensures.same in
     let stood : StandsForPosts c.make_room.new.self.policy (seen c.make_room.new.self.post_state)
@@ -194,14 +194,11 @@ returns-then-joins-clause-entered c = λ done m stands counts.
     (subst (λ (k : PostStateValue Contents).
     StandsForPosts c.args.self.now.policy (seen k) m.contributions)
     (sym c.make_room.ensures.post_state) stands.post_state) in
-    let moved = c.join.ensures.entered m.contributions stood in
-    let g : Contribution Contents = contribution c.args.member c.args.comm c.args.stated c.args.part
+    let moved = c.join.ensures.entered c.make_room.new.self.policy m.contributions stood in
+    let g : Contribution Contents = contribution c.args.seat.process c.args.seat.meeting.comm
+    c.args.stated c.args.part
     in
-    let entered : Entered Contents = Waiting c.place-k.result in
-    let number : place_of (seen c.make_room.new.self.post_state) c.args.member c.args.comm
-    ≡ c.place-k.result =
-    ap (λ (k : PostStateValue Contents). place_of (seen k) c.args.member c.args.comm)
-    c.make_room.ensures.post_state ∙ sym c.place-k.ensures.value in
+    let entered : Entered Contents = Waiting c.args.seat.meeting.k in
     let post_state : StandsForPosts c.args.self.now.policy (seen c.note.new.self.post_state)
     (g ∷ m.contributions) =
     subst (λ (w : ChineseWall).
@@ -211,15 +208,14 @@ returns-then-joins-clause-entered c = λ done m stands counts.
     StandsForPosts c.make_room.new.self.policy (seen k) (g ∷ m.contributions))
     (sym c.note.ensures.post_state) moved.0) in
     let tells : Tells c.args.self.now.policy g m.contributions entered = subst
-    (λ (w : ChineseWall). Tells w g m.contributions entered) c.make_room.ensures.policy
-    (subst (λ (n : ℕ). Tells c.make_room.new.self.policy g m.contributions (Waiting n)) number
-    moved.1) in
+    (λ (w : ChineseWall). Tells w g m.contributions entered) c.make_room.ensures.policy moved.1 in
     let none = none_there (view_in c.args.self.now) m (length c.args.self.now.requests.items)
-    c.args.self.now.settled stands c.requires.counted refl c.args.comm
+    c.args.self.now.settled stands c.requires.counted refl c.args.seat.meeting.comm
     (place g.post (posts_in m)) (unsettled c.args.self.now.policy g.post (posts_in m) counts) in
     let recorded : IsRecorded
     (view_in (record c.make_room.new.self { post_state = c.join.new.self }))
-    (view_in c.note.new.self) c.args.member c.args.comm c.in-Ok.copy entered = record {
+    (view_in c.note.new.self) c.args.seat.process c.args.seat.meeting.comm c.in-Ok.copy entered =
+    record {
       policy = c.note.ensures.policy;
       asked = c.note.ensures.requests;
       settled = c.note.ensures.settled;
@@ -229,7 +225,8 @@ returns-then-joins-clause-entered c = λ done m stands counts.
     stands counts none post_state tells
     (recorded_from (view_in c.args.self.now)
     (view_in (record c.make_room.new.self { post_state = c.join.new.self }))
-    (view_in c.note.new.self) c.args.member c.args.comm c.in-Ok.copy c.args.stated entered
+    (view_in c.note.new.self) c.args.seat.process c.args.seat.meeting.comm c.in-Ok.copy
+    c.args.stated entered
     c.make_room.ensures.policy (ap (λ (h : HallView). h.asked) same)
     (ap (λ (h : HallView). h.settled) same) (ap (λ (h : HallView). h.book) same)
     c.in-Ok.ensures.made recorded)

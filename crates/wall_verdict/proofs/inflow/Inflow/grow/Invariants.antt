@@ -5,4 +5,5 @@ use Rattle.wall_verdict.proofs.inflow.Inflow.grow.Given as goal
 
 abbrev pub invariant-loop-from : goal.invariant-loop-from
 invariant-loop-from l =
-    IsInflow l.histories.classes (λ (i : ℕ). contribution l.roll i l.to) l.from l.self
+    IsInflow l.case.histories.now.classes (λ (i : ℕ). contribution l.case.roll.now i l.to) l.from
+    l.self

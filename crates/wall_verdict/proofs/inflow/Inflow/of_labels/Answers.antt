@@ -6,7 +6,9 @@ use Rattle.wall_verdict.proofs.inflow.Inflow.of_labels.Goals as goal
 
 pub loop-rank-init : goal.loop-rank-init
 loop-rank-init c =
-    inflow_none c.args.histories.now.classes (λ (i : ℕ). dataset_in (label_of c.args.roll.now i))
+    let classes = c.args.case.now.histories.now.classes in
+    let roll = c.args.case.now.roll.now in
+    inflow_none classes (λ (i : ℕ). dataset_in (label_of roll i))
     c.before-labels.result
     c.before-labels.ensures.number c.before-labels.ensures.different
     c.before-labels.ensures.datasets

@@ -8,8 +8,8 @@ add-requires-clause-number c =
     omega (
       arith,
       c.requires.few,
-      few_bring c.args.histories.now.classes
-          (λ (t : ℕ). from_slot c.args.roll.now t c.args.to) c.args.slot c.args.self.now
+      few_bring c.args.case.now.histories.now.classes
+          (λ (t : ℕ). from_slot c.args.case.now.roll.now t c.args.to) c.args.slot c.args.self.now
           c.requires.inflow,
     )
 
@@ -18,20 +18,24 @@ add-requires-clause-different c =
     omega (
       arith,
       c.requires.few,
-      few_differ c.args.histories.now.classes
-          (λ (t : ℕ). from_slot c.args.roll.now t c.args.to) c.args.slot c.args.self.now
+      few_differ c.args.case.now.histories.now.classes
+          (λ (t : ℕ). from_slot c.args.case.now.roll.now t c.args.to) c.args.slot c.args.self.now
           c.requires.inflow,
     )
 
 pub returns-in-Some : goal.returns-in-Some
 returns-in-Some c =
-    inflow_more c.args.histories.now.classes (λ (t : ℕ). from_slot c.args.roll.now t c.args.to)
+    let classes = c.args.case.now.histories.now.classes in
+    let roll = c.args.case.now.roll.now in
+    inflow_more classes (λ (t : ℕ). from_slot roll t c.args.to)
     c.args.slot c.args.self.now c.add.new.self c.requires.inflow
     c.in-Some.dataset (sym c.in-Some.ensures) c.add.ensures.number c.add.ensures.different
     c.add.ensures.datasets c.add.ensures.rivals
 
 pub returns-in-None : goal.returns-in-None
 returns-in-None c =
-    inflow_same c.args.histories.now.classes (λ (t : ℕ). from_slot c.args.roll.now t c.args.to)
+    let classes = c.args.case.now.histories.now.classes in
+    let roll = c.args.case.now.roll.now in
+    inflow_same classes (λ (t : ℕ). from_slot roll t c.args.to)
     c.args.slot c.args.self.now c.args.self.now c.requires.inflow
     (sym c.in-None.ensures) refl refl refl refl

@@ -4,4 +4,5 @@ use Rattle.wall_verdict.proofs.inflow.Inflow.take_slots.Given as goal
 
 abbrev pub invariant-loop-slot : goal.invariant-loop-slot
 invariant-loop-slot l =
-    IsInflow l.histories.classes (λ (t : ℕ). from_slot l.roll t l.to) l.slot l.self
+    IsInflow l.case.histories.now.classes (λ (t : ℕ). from_slot l.case.roll.now t l.to) l.slot
+    l.self
