@@ -17,8 +17,8 @@ use Rattle.wall_policy.specs.Names.{Name, is_letter, is_digit as is_name_digit, 
 use Rattle.wall_policy.specs.Names.{is_name, place_of}
 use Rattle.wall_policy.specs.Policy.{ChineseWall, IsPolicy}
 use Rattle.wall_policy.proofs.WallPolicyLemmas.{place_of-name, list_all-place}
-use Rattle.wall_verdict.specs.declared.verdict.Rule.{Rule}
-use Rattle.wall_verdict.specs.declared.verdict.Rule.TheVariants.{Star, Simple}
+use Rattle.wall_rules.specs.declared.rule.Rule.{Rule}
+use Rattle.wall_rules.specs.declared.rule.Rule.TheVariants.{Star, Simple}
 use Rattle.coll_routes.specs.declared.statement.Stated.{Stated}
 use Rattle.run_model.specs.declared.outcome.Outcome.{Outcome}
 use Rattle.run_model.specs.declared.outcome.Outcome.TheVariants.{Granted, Denied, Made, NoRoom}

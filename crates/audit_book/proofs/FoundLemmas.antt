@@ -9,7 +9,7 @@ use Rattle.std.proofs.lemmas.Slice.Eq.{bytes_eq-Decides}
 use Rattle.wall_labels.specs.declared.label.Label.{Label}
 use Rattle.wall_policy.specs.Names.{place_of}
 use Rattle.wall_policy.specs.Policy.{ChineseWall}
-use Rattle.wall_verdict.specs.declared.verdict.Rule.{Rule}
+use Rattle.wall_rules.specs.declared.rule.Rule.{Rule}
 use Rattle.run_model.specs.declared.outcome.Outcome.{Outcome}
 use Rattle.run_model.specs.declared.outcome.Outcome.TheVariants.{Granted, Denied, Made, NoRoom}
 use Rattle.run_model.specs.declared.entry.Entry.{Entry}
@@ -26,8 +26,8 @@ use Rattle.audit_book.specs.declared.line.Line.{Line}
 use Rattle.audit_book.specs.declared.line.Line.TheVariants.{Said, End}
 use Rattle.audit_book.specs.declared.words.Verb.{Verb}
 use Rattle.audit_book.specs.declared.words.Verb.TheVariants as verbs
-use Rattle.audit_book.specs.declared.words.Came.{Came}
-use Rattle.audit_book.specs.declared.words.Came.TheVariants as came
+use Rattle.audit_book.specs.declared.words.OutcomeWord.{OutcomeWord}
+use Rattle.audit_book.specs.declared.words.OutcomeWord.TheVariants as came
 use Rattle.audit_book.specs.declared.words.Given.{Given}
 use Rattle.coll_text.specs.Words.{name_at, label_word, label_of, rule_word}
 use Rattle.audit_book.specs.Lines.{past_word, known_process, process_at, named_at, label_at}
@@ -325,7 +325,7 @@ made_found wall ws x h =
     (number_at_found 4294967295 small32 f.0.1 n.0 n.1)
     ∙ ap (λ (x : Outcome × List Word). outcome_words wall x.0 ++ x.1) k
 
-abbrev came_word : Came → Word
+abbrev came_word : OutcomeWord → Word
 came_word came.Granted = codes "granted"
 came_word came.Denied = codes "denied"
 came_word came.Made = codes "made"
@@ -337,7 +337,7 @@ plain_found : (wall : ChineseWall) (o : Outcome) (word : Word) (ws : List Word)
 plain_found wall o word ws x e h = let k : (o, ws) ≡ x = ok_is (o, ws) x h in
     ap (λ vs. vs ++ ws) (sym e) ∙ ap (λ (x : Outcome × List Word). outcome_words wall x.0 ++ x.1) k
 
-came_to_found : (wall : ChineseWall) (c : Came) (ws : List Word) (x : Outcome × List Word) →
+came_to_found : (wall : ChineseWall) (c : OutcomeWord) (ws : List Word) (x : Outcome × List Word) →
     came_to wall c ws ≡ Ok x → came_word c ∷ ws ≡ outcome_words wall x.0 ++ x.1
 came_to_found wall came.Granted ws x h = plain_found wall Granted (codes "granted") ws x refl h
 came_to_found wall came.Denied ws x h = denied_found wall ws x h
@@ -357,7 +357,7 @@ module _ {A : Type 0} (name : A → Word) (w : Word) (a : A) where
       let k : c ≡ a = cc in (bytes_eq-Decides w (name c)).0 e ∙ ap name k
   choice c others false e more h = more h
 
-came_found : (w : Word) (c : Came) → came_of w ≡ Some c → w ≡ came_word c
+came_found : (w : Word) (c : OutcomeWord) → came_of w ≡ Some c → w ≡ came_word c
 unfolding came_of
 came_found w c h =
     choice came_word w c came.Granted _ (bytes_eq w (codes "granted")) refl

@@ -25,8 +25,8 @@ use Rattle.audit_book.specs.declared.line.Line.{Line}
 use Rattle.audit_book.specs.declared.line.Line.TheVariants.{Said, End}
 use Rattle.audit_book.specs.declared.words.Verb.{Verb}
 use Rattle.audit_book.specs.declared.words.Verb.TheVariants as verbs
-use Rattle.audit_book.specs.declared.words.Came.{Came}
-use Rattle.audit_book.specs.declared.words.Came.TheVariants as came
+use Rattle.audit_book.specs.declared.words.OutcomeWord.{OutcomeWord}
+use Rattle.audit_book.specs.declared.words.OutcomeWord.TheVariants as came
 use Rattle.audit_book.specs.declared.words.Given.{Given}
 use Rattle.coll_text.specs.Words.{label_of}
 use Rattle.audit_book.specs.Lines.{past_word, known_process, process_at, named_at, label_at}
@@ -252,7 +252,7 @@ module _ (wall : ChineseWall) where
       let k : (Made f.0.0 n.0.0, n.0.1) ≡ x = ok_is (Made f.0.0 n.0.0, n.0.1) x n.2 in
       subst (λ (x : Outcome × List Word). IsKnownOutcome wall x.0) k tt
 
-  came_known : (c : Came) (ws : List Word) (x : Outcome × List Word) → came_to wall c ws ≡ Ok x →
+  came_known : (c : OutcomeWord) (ws : List Word) (x : Outcome × List Word) → came_to wall c ws ≡ Ok x →
       IsKnownOutcome wall x.0
   came_known came.Granted ws x h =
       subst (λ (x : Outcome × List Word). IsKnownOutcome wall x.0) (ok_is (Granted, ws) x h) tt

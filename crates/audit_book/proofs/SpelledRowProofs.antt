@@ -15,7 +15,7 @@ use Rattle.coll_routes.specs.declared.statement.Own.{Own}
 use Rattle.coll_routes.specs.declared.statement.Own.TheVariants.{Plain, Counts}
 use Rattle.coll_routes.specs.declared.statement.Own.TheVariants.{Split as SplitBy}
 use Rattle.coll_routes.specs.Signatures.{kind, root, count, numbers}
-use Rattle.wall_verdict.specs.declared.verdict.Rule.TheVariants.{Star, Simple}
+use Rattle.wall_rules.specs.declared.rule.Rule.TheVariants.{Star, Simple}
 use Rattle.coll_text.specs.Spellings.{IsSpellable}
 use Rattle.coll_text.proofs.SpellableRowProofs as statements
 use Rattle.run_model.specs.declared.outcome.Outcome.{Outcome}

@@ -8,7 +8,7 @@ use Rattle.std.proofs.lemmas.List.Elements.{All-more, recursion_from_All}
 use Rattle.std.proofs.lemmas.Option.{slice_get_within, unwrap_or-slice_get}
 use Rattle.std.proofs.lemmas.Grind.{flat_map-append}
 use Rattle.std.specs.Io.KnownBytes.{Appends}
-use Rattle.wall_labels.specs.Known.{AppendsFront}
+use Rattle.wall_labels.specs.Known.{AppendsPrefix}
 use Rattle.wall_policy.specs.Policy.{ChineseWall, IsPolicy}
 use Rattle.run_model.specs.declared.entry.Entry.{Entry}
 use Rattle.audit_book.specs.Text.{line_of, entry_words, header_words, end_words, entry_lines}
@@ -58,7 +58,7 @@ module _ (wall : ChineseWall) (es : List Entry) (text : List ℕ) where
 
   -- nothing more is written
   pub stops : (a b : Option (List ℕ)) (i : ℕ) (now : List ℕ) → Moves a b (lines i) now →
-      AppendsFront a b all
+      AppendsPrefix a b all
   stops a b i now m =
       moves_stop a b (lines i) now (entry_lines wall (drop i es)) all m (lines_split i)
 
@@ -70,7 +70,7 @@ module _ (wall : ChineseWall) (es : List Entry) (text : List ℕ) where
         (moves_more a b (lines i) now mid (line wall e) m put)
 
     -- a line more was put behind the text, of which a front is written
-    pub breaks : AppendsFront b c mid → AppendsFront a c all
+    pub breaks : AppendsPrefix b c mid → AppendsPrefix a c all
     breaks n = moves_break a b c (lines (i + 1)) mid (entry_lines wall (drop (i + 1) es)) all
         one_more n (lines_split (i + 1))
 
@@ -80,8 +80,8 @@ module _ (wall : ChineseWall) (es : List Entry) (text : List ℕ) where
 
 -- ---- the whole book: begun has its header, and whole its end too
 
-front_more : (a b : Option (List ℕ)) (bytes more whole : List ℕ) → AppendsFront a b bytes →
-    bytes ++ more ≡ whole → AppendsFront a b whole
+front_more : (a b : Option (List ℕ)) (bytes more whole : List ℕ) → AppendsPrefix a b bytes →
+    bytes ++ more ≡ whole → AppendsPrefix a b whole
 front_more a b bytes more whole f e = (
   f.0,
   f.1 ++ more,
@@ -101,14 +101,14 @@ module _ (wall : ChineseWall) (es : List Entry) (empty begun : List ℕ) (none :
       ∙ ap (λ (t : List ℕ). t ++ (entry_lines wall es ++ last))
       (header ∙ ap (λ (t : List ℕ). t ++ line_of (header_words wall.version)) none)
 
-  pub book_broken : (a b : Option (List ℕ)) → AppendsFront a b (begun ++ entry_lines wall es) →
-      AppendsFront a b (book_text wall es)
+  pub book_broken : (a b : Option (List ℕ)) → AppendsPrefix a b (begun ++ entry_lines wall es) →
+      AppendsPrefix a b (book_text wall es)
   book_broken a b f =
       front_more a b (begun ++ entry_lines wall es) last (book_text wall es) f whole_is
 
   module _ (a b : Option (List ℕ)) (now : List ℕ)
       (m : Moves a b (begun ++ entry_lines wall es) now) where
-    pub book_stopped : AppendsFront a b (book_text wall es)
+    pub book_stopped : AppendsPrefix a b (book_text wall es)
     book_stopped =
         moves_stop a b (begun ++ entry_lines wall es) now last (book_text wall es) m whole_is
 
@@ -124,7 +124,7 @@ module _ (wall : ChineseWall) (es : List Entry) (empty begun : List ℕ) (none :
       book_written h =
           moves_end a b c (book_text wall es) new (book_text wall es) whole_moves h refl
 
-      pub book_cut_off : AppendsFront b c new → AppendsFront a c (book_text wall es)
+      pub book_cut_off : AppendsPrefix b c new → AppendsPrefix a c (book_text wall es)
       book_cut_off f = moves_break a b c (book_text wall es) new [] (book_text wall es) whole_moves
           f (append-nil (book_text wall es))
 

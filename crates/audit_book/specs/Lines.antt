@@ -5,8 +5,8 @@ use Rattle.std.specs.Str.{bytes_eq}
 use Rattle.wall_labels.specs.declared.label.Label.{Label}
 use Rattle.wall_policy.specs.Names.{place_of}
 use Rattle.wall_policy.specs.Policy.{ChineseWall}
-use Rattle.wall_verdict.specs.declared.verdict.Rule.{Rule}
-use Rattle.wall_verdict.specs.declared.verdict.Rule.TheVariants.{Star, Simple}
+use Rattle.wall_rules.specs.declared.rule.Rule.{Rule}
+use Rattle.wall_rules.specs.declared.rule.Rule.TheVariants.{Star, Simple}
 use Rattle.run_model.specs.declared.outcome.Outcome.{Outcome}
 use Rattle.run_model.specs.declared.outcome.Outcome.TheVariants.{Granted, Denied, Made, NoRoom}
 use Rattle.run_model.specs.declared.entry.Entry.{Entry}
@@ -21,8 +21,8 @@ use Rattle.audit_book.specs.declared.line.Line.{Line}
 use Rattle.audit_book.specs.declared.line.Line.TheVariants.{Said, End}
 use Rattle.audit_book.specs.declared.words.Verb.{Verb}
 use Rattle.audit_book.specs.declared.words.Verb.TheVariants as verbs
-use Rattle.audit_book.specs.declared.words.Came.{Came}
-use Rattle.audit_book.specs.declared.words.Came.TheVariants as came
+use Rattle.audit_book.specs.declared.words.OutcomeWord.{OutcomeWord}
+use Rattle.audit_book.specs.declared.words.OutcomeWord.TheVariants as came
 use Rattle.audit_book.specs.declared.words.Given.{Given}
 
 -- this very word
@@ -107,7 +107,7 @@ post_at wall ws = do
     barred = g.0.barred;
   }))
 
-unfoldable pub came_of : Word → Option Came
+unfoldable pub came_of : Word → Option OutcomeWord
 came_of w =
     if bytes_eq w (codes "granted") then Some came.Granted
     else if bytes_eq w (codes "denied") then Some came.Denied
@@ -128,7 +128,7 @@ made_at ws = do
   number ← number_at 4294967295 first.1
   Ok (Made first.0 number.0, number.1)
 
-abbrev pub came_to : ChineseWall → Came → List Word → Result (Outcome × List Word) LineFault
+abbrev pub came_to : ChineseWall → OutcomeWord → List Word → Result (Outcome × List Word) LineFault
 came_to wall came.Granted ws = Ok (Granted, ws)
 came_to wall came.Denied ws = denied_at wall ws
 came_to wall came.Made ws = made_at ws

@@ -10,7 +10,7 @@ ghost use Rattle.coll_routes.specs.declared.signature.Signature.TheVariants.{Sca
 ghost use Rattle.coll_routes.specs.declared.signature.Signature.TheVariants.{Split};
 ghost use Rattle.coll_routes.specs.declared.statement.Own.TheVariants.{Counts};
 ghost use Rattle.coll_routes.specs.declared.statement.Own.TheVariants.{Split as SplitBy};
-ghost use Rattle.wall_verdict.specs.declared.verdict.Rule.TheVariants.{Star, Simple};
+ghost use Rattle.wall_rules.specs.declared.rule.Rule.TheVariants.{Star, Simple};
 ghost use Rattle.run_model.specs.declared.outcome.Outcome.TheVariants.{Granted, Denied, Made};
 ghost use Rattle.run_model.specs.declared.outcome.Outcome.TheVariants.{NoRoom};
 ghost use Rattle.run_model.specs.declared.entry.Entry.{Entry};

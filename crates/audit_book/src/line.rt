@@ -7,7 +7,8 @@ ghost use Rattle.audit_book.specs.Lines.{verdict_at, end_at, line_behind, line_i
 ghost use Rattle.audit_book.specs.LineSteps.{IsFormed};
 
 use crate::words::{
-    Came, Verb, came_in, next_given, next_label, next_named, next_process, next_rule, verb_in,
+    OutcomeWord, Verb, came_in, next_given, next_label, next_named, next_process, next_rule,
+    verb_in,
 };
 use coll_routes::Stated;
 use coll_text::{LineFault, Parts, end_of, next_number, next_number32, next_statement, next_word};
@@ -73,15 +74,15 @@ fn next_made(words: &mut Parts) -> Result<Outcome, LineFault>
     Ok(Outcome::Made { first, number })
 }
 
-fn next_came(policy: &Policy, came: Came, words: &mut Parts) -> Result<Outcome, LineFault>
+fn next_came(policy: &Policy, came: OutcomeWord, words: &mut Parts) -> Result<Outcome, LineFault>
     ensures outcome { Takes (λ o. o) result words.new (came_to policy.now came words.old) }
     ensures memory { result ≢ Err LineFault.NoMemory }
 {
     match came {
-        Came::Granted => Ok(Outcome::Granted),
-        Came::Denied => next_denied(policy, words),
-        Came::Made => next_made(words),
-        Came::NoRoom => Ok(Outcome::NoRoom),
+        OutcomeWord::Granted => Ok(Outcome::Granted),
+        OutcomeWord::Denied => next_denied(policy, words),
+        OutcomeWord::Made => next_made(words),
+        OutcomeWord::NoRoom => Ok(Outcome::NoRoom),
     }
 }
 

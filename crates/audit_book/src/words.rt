@@ -10,7 +10,7 @@ ghost use Rattle.audit_book.specs.Lines.{given_at, came_of, verb_of};
 use coll_text::{LineFault, Parts, label_in, next_number32, next_word};
 use wall_labels::{Label, ProcessId};
 use wall_policy::Policy;
-use wall_verdict::Rule;
+use wall_rules::Rule;
 
 /// The first words of the lines behind the header.
 #[derive(Clone, Copy, Debug, PartialEq, Eq)]
@@ -22,7 +22,7 @@ pub(crate) enum Verb {
 
 /// The first words of outcomes.
 #[derive(Clone, Copy, Debug, PartialEq, Eq)]
-pub(crate) enum Came {
+pub(crate) enum OutcomeWord {
     Granted,
     Denied,
     Made,
@@ -71,17 +71,17 @@ pub(crate) fn verb_in(word: &[u8]) -> Option<Verb>
 }
 
 #[tactic(auto, unfolding(crate::specs::Lines::came_of))]
-pub(crate) fn came_in(word: &[u8]) -> Option<Came>
+pub(crate) fn came_in(word: &[u8]) -> Option<OutcomeWord>
     ensures { result ≡ came_of word.now }
 {
     if is_word(word, b"granted") {
-        Some(Came::Granted)
+        Some(OutcomeWord::Granted)
     } else if is_word(word, b"denied") {
-        Some(Came::Denied)
+        Some(OutcomeWord::Denied)
     } else if is_word(word, b"made") {
-        Some(Came::Made)
+        Some(OutcomeWord::Made)
     } else if is_word(word, b"noroom") {
-        Some(Came::NoRoom)
+        Some(OutcomeWord::NoRoom)
     } else {
         None
     }

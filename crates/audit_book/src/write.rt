@@ -3,7 +3,7 @@ ghost use Rattle.std.specs.Prelude.{◌≡◌, ◌+◌, ◌<◌, ◌++◌, All, 
 ghost use Rattle.std.specs.Prelude.{codes, Ok};
 ghost use Rattle.std.specs.Fmt.{decimal};
 ghost use Rattle.std.specs.Io.KnownBytes.{Appends};
-ghost use Rattle.wall_labels.specs.Known.{AppendsFront};
+ghost use Rattle.wall_labels.specs.Known.{AppendsPrefix};
 ghost use Rattle.audit_book.specs.Text.{given_word, passage_word, line_of, given_end, post_words};
 ghost use Rattle.audit_book.specs.Text.{verdict_words, outcome_words, entry_words, header_words};
 ghost use Rattle.audit_book.specs.Text.{header_line, end_words, entry_lines, book_text};
@@ -24,7 +24,7 @@ use run_state::Book;
 use std::alloc::{AllocError, Global};
 use wall_labels::{Label, NoMemory, ProcessId, Sink};
 use wall_policy::Policy;
-use wall_verdict::Rule;
+use wall_rules::Rule;
 
 // The last word of a post's line, between a space and the line's end.
 fn passage_end(barred: bool) -> &'static str
@@ -212,7 +212,7 @@ fn write_entries<W: Sink>(
         (λ fault. IsWriteFault fault (W.failures sink.old) (W.failures sink.new)) }
     ensures moved { OnOk result (Moves (W.contents sink.old) (W.contents sink.new)
         (text.old.items ++ entry_lines policy.now book.now.list) text.new.items) }
-    ensures front { OnErr result (AppendsFront (W.contents sink.old) (W.contents sink.new)
+    ensures front { OnErr result (AppendsPrefix (W.contents sink.old) (W.contents sink.new)
         (text.old.items ++ entry_lines policy.now book.now.list)) }
     ensures spelled { OnOk result (All (IsSpelled policy.now) book.now.list) }
 {
@@ -252,7 +252,7 @@ pub fn write_book<W: Sink>(
     ensures went { OnOk result (W.failures sink.new ≡ W.failures sink.old) }
     ensures fault { IfErr result
         (λ fault. IsWriteFault fault (W.failures sink.old) (W.failures sink.new)) }
-    ensures front { OnErr result (AppendsFront (W.contents sink.old) (W.contents sink.new)
+    ensures front { OnErr result (AppendsPrefix (W.contents sink.old) (W.contents sink.new)
         (book_text policy.now book.now.list)) }
 {
     let _ = policy.processes();

@@ -15,7 +15,7 @@ use Rattle.wall_verdict.specs.Meanings.{NamesOffence}
 use Rattle.coll_routes.specs.declared.roll.Roll.{Roll}
 use Rattle.coll_routes.specs.Rolls.{label_of}
 use Rattle.wall_verdict.specs.Charges.{dataset_in}
-use Rattle.wall_verdict.specs.declared.verdict.Rule.TheVariants.{Star as by_star, Simple as by_simple}
+use Rattle.wall_rules.specs.declared.rule.Rule.TheVariants.{Star as by_star, Simple as by_simple}
 use Rattle.run_model.specs.declared.entry.Entry.{Entry}
 use Rattle.book_report.specs.declared.reason.Clash.{Clash}
 use Rattle.book_report.specs.Denials.{IsDeniedAt, IsPartAt, IsFilledAt, IsStarDenial}

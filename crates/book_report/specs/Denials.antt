@@ -8,8 +8,8 @@ use Rattle.wall_policy.specs.Policy.{ChineseWall}
 use Rattle.wall_policy.specs.Rivals.{AreRivals}
 use Rattle.wall_rules.specs.Histories.{History}
 use Rattle.coll_routes.specs.declared.roll.Roll.{Roll}
-use Rattle.wall_verdict.specs.declared.verdict.Rule.{Rule}
-use Rattle.wall_verdict.specs.declared.verdict.Rule.TheVariants.{Star as by_star, Simple as by_simple}
+use Rattle.wall_rules.specs.declared.rule.Rule.{Rule}
+use Rattle.wall_rules.specs.declared.rule.Rule.TheVariants.{Star as by_star, Simple as by_simple}
 use Rattle.wall_verdict.specs.Meanings.{IsChargedFrom, IsLeastOffence, NamesBarred}
 use Rattle.run_model.specs.declared.outcome.Outcome.TheVariants.{Denied}
 use Rattle.run_model.specs.declared.entry.Entry.{Entry}

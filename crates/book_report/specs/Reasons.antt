@@ -7,7 +7,7 @@ use Rattle.wall_policy.specs.Rivals.{AreRivals}
 use Rattle.wall_rules.specs.Histories.{History}
 use Rattle.coll_routes.specs.declared.roll.Roll.{Roll}
 use Rattle.coll_routes.specs.Fit.{IsFit}
-use Rattle.wall_verdict.specs.declared.verdict.Rule.{Rule}
+use Rattle.wall_rules.specs.declared.rule.Rule.{Rule}
 use Rattle.wall_verdict.specs.declared.verdict.Verdict.TheVariants.{Denied as is_denied}
 use Rattle.wall_verdict.specs.Charges.{sanitised}
 use Rattle.wall_verdict.specs.Meanings.{IsVerdict}

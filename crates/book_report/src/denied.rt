@@ -2,7 +2,7 @@
 ghost use Rattle.std.specs.Prelude.{◌≡◌, ℕ, ◌<◌, ◌+◌, ◌^◌, [], List, length, All, AllPairs};
 ghost use Rattle.std.specs.Prelude.{IfOk, IfErr, OnOk, Some, slice_get};
 ghost use Rattle.wall_labels.specs.declared.label.Label.{Label as LabelValue};
-ghost use Rattle.wall_verdict.specs.declared.verdict.Rule.{Rule as RuleValue};
+ghost use Rattle.wall_rules.specs.declared.rule.Rule.{Rule as RuleValue};
 ghost use Rattle.run_model.specs.Books.{IsSound, posted};
 ghost use Rattle.run_state.specs.declared.entered.Entered.TheVariants.{Settled};
 ghost use Rattle.audit_book.specs.Checks.{IsFaultOf, post_of, Stands};

@@ -6,7 +6,7 @@ ghost use Rattle.wall_policy.specs.Rivals.{AreRivals};
 ghost use Rattle.wall_rules.specs.Histories.{has, History};
 ghost use Rattle.mpi_group.specs.Groups.{rank_in};
 ghost use Rattle.coll_routes.specs.Fit.{IsFit};
-ghost use Rattle.wall_verdict.specs.declared.verdict.Rule.TheVariants.{Star as by_star, Simple as by_simple};
+ghost use Rattle.wall_rules.specs.declared.rule.Rule.TheVariants.{Star as by_star, Simple as by_simple};
 ghost use Rattle.run_model.specs.Posts.{posts_on};
 ghost use Rattle.book_report.specs.Held.{posts_to};
 ghost use Rattle.book_report.specs.Walk.{GivesTo};
@@ -22,8 +22,7 @@ use run_model::Entry;
 use run_state::Book;
 use wall_labels::{DatasetId, Label, LabelSet, NoMemory, ProcessId};
 use wall_policy::Policy;
-use wall_rules::Histories;
-use wall_verdict::Rule;
+use wall_rules::{Histories, Rule};
 
 /// A rival, and whether it is held or would come too.
 pub(crate) struct Clash {

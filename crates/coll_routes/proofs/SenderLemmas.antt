@@ -260,13 +260,13 @@ sender_low (NeighborAlltoall ty n) shape j t s good h near e = near refl
 sender_low (NeighborAlltoallv ty) shape j t s good h near e = near refl
 sender_low other shape j t s good h near e = absurd (cc)
 
-there : (o : Option Stated) → IsSome o → (s : Stated) × (o ≡ Some s)
-there (Some s) some = (s, refl)
-there None some = absurd (cc)
+pub stated_there : (o : Option Stated) → IsSome o → (s : Stated) × (o ≡ Some s)
+stated_there (Some s) some = (s, refl)
+stated_there None some = absurd (cc)
 
 pub stated_is : (roll : Roll) (i : ℕ) → IsFit roll → i < roll.shape.size →
     (s : Stated) × (stated_by roll i ≡ Some s)
-stated_is roll i fit h = there (stated_by roll i) (fit.full i h)
+stated_is roll i fit h = stated_there (stated_by roll i) (fit.full i h)
 
 and_when : (b p q : Bool) → (b ≡ true → p ≡ q) → (b && p) ≡ (b && q)
 and_when true p q f = f refl

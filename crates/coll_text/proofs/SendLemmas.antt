@@ -3,7 +3,7 @@ use Rattle.std.proofs.Common.{◌≡◌, ℕ, List, [], ◌++◌, Option, Some, 
 use Rattle.std.proofs.Common.{append_assoc}
 use Rattle.std.proofs.lemmas.List.{append-nil}
 use Rattle.std.specs.Io.KnownBytes.{Appends}
-use Rattle.wall_labels.specs.Known.{AppendsFront}
+use Rattle.wall_labels.specs.Known.{AppendsPrefix}
 use Rattle.wall_labels.proofs.WallLabelsLemmas.{Appends-then}
 use Rattle.coll_text.specs.Writing.{Moves}
 
@@ -38,7 +38,7 @@ moves_then a b c old mid new m n = (
 
 -- nothing more is written
 pub moves_stop : (a b : Option (List ℕ)) (old mid more whole : List ℕ) → Moves a b old mid →
-    old ++ more ≡ whole → AppendsFront a b whole
+    old ++ more ≡ whole → AppendsPrefix a b whole
 moves_stop a b old mid more whole m e = (
   m.0,
   mid ++ more,
@@ -48,7 +48,7 @@ moves_stop a b old mid more whole m e = (
 
 -- a prefix of what is left is written
 pub moves_break : (a b c : Option (List ℕ)) (old mid more whole : List ℕ) → Moves a b old mid →
-    AppendsFront b c mid → old ++ more ≡ whole → AppendsFront a c whole
+    AppendsPrefix b c mid → old ++ more ≡ whole → AppendsPrefix a c whole
 moves_break a b c old mid more whole m n e = (
   m.0 ++ n.0,
   n.1 ++ more,

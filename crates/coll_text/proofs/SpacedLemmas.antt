@@ -8,7 +8,7 @@ use Rattle.std.proofs.Math.Seq.{take-append_seam}
 use Rattle.coll_text.specs.Numbers.{Word}
 use Rattle.coll_text.specs.Spellings.{list_word}
 use Rattle.coll_text.specs.Spaced.{behind_each, behind_comma}
-use Rattle.coll_text.specs.Writing.{IsFront}
+use Rattle.coll_text.specs.Writing.{KeepsPrefix}
 
 pub join_cons : (c : ℕ) (w : Word) (ws : List Word) →
     join_with_byte c (w ∷ ws) ≡ w ++ behind_each c ws
@@ -43,17 +43,17 @@ put_behind (Err x) old mid new first rest whole h g e = tt
 
 -- ---- what stands at the front of a text
 
-pub front_same : (old new : List ℕ) → new ≡ old → IsFront old new
+pub front_same : (old new : List ℕ) → new ≡ old → KeepsPrefix old new
 front_same old new e = ap (take (length old)) e ∙ take_all (length old) old (omega arith)
 
-pub front_put : (old new more : List ℕ) → new ≡ old ++ more → IsFront old new
+pub front_put : (old new more : List ℕ) → new ≡ old ++ more → KeepsPrefix old new
 front_put old new more e = ap (take (length old)) e ∙ take-append_seam old more
 
-front_back : (old new : List ℕ) → IsFront old new → old ++ drop (length old) new ≡ new
+front_back : (old new : List ℕ) → KeepsPrefix old new → old ++ drop (length old) new ≡ new
 front_back old new f =
     ap (λ (t : List ℕ). t ++ drop (length old) new) (sym f) ∙ take-append-drop (length old) new
 
-pub front_then : (old mid new : List ℕ) → IsFront old mid → IsFront mid new → IsFront old new
+pub front_then : (old mid new : List ℕ) → KeepsPrefix old mid → KeepsPrefix mid new → KeepsPrefix old new
 front_then old mid new f g =
     let a = front_back old mid f in
     let b = front_back mid new g in
@@ -62,6 +62,6 @@ front_then old mid new f g =
     ∙ append_assoc old (drop (length old) mid) (drop (length mid) new))
 
 -- with words put between
-pub front_behind : (old mid new more : List ℕ) → mid ≡ old ++ more → IsFront mid new →
-    IsFront old new
+pub front_behind : (old mid new more : List ℕ) → mid ≡ old ++ more → KeepsPrefix mid new →
+    KeepsPrefix old new
 front_behind old mid new more e f = front_then old mid new (front_put old mid more e) f

@@ -15,8 +15,8 @@ enclosed_numbers first (n ∷ ns) last =
     first ∷ (signed_decimal n ++ spaced_numbers ns ++ last ∷ [])
 
 -- what stood there stands at the front
-abbrev pub IsFront : (old new : List ℕ) → Type 0
-IsFront old new = take (length old) new ≡ old
+abbrev pub KeepsPrefix : (old new : List ℕ) → Type 0
+KeepsPrefix old new = take (length old) new ≡ old
 
 -- a prefix of the text was written out, and the rest of it is left
 abbrev pub Moves : (before now : Option (List ℕ)) → (old new : List ℕ) → Type 0

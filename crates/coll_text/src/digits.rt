@@ -2,7 +2,7 @@
 ghost use Rattle.std.specs.Prelude.{◌≡◌, ◌<◌, ◌≤◌, ◌+◌, ◌^◌, ◌++◌, ◌∷◌, OnOk, OnErr, length, drop};
 ghost use Rattle.std.specs.Prelude.{take, get_or, pos, unsigned_abs, vec_len, vec_capacity, []};
 ghost use Rattle.std.specs.Fmt.{signed_decimal};
-ghost use Rattle.coll_text.specs.Writing.{spaced_numbers, enclosed_numbers, IsFront};
+ghost use Rattle.coll_text.specs.Writing.{spaced_numbers, enclosed_numbers, KeepsPrefix};
 
 use itoa::write_digits;
 use mpi_elems::Buffer;
@@ -96,7 +96,7 @@ fn put_spaced_up_to(
     requires within { to ≤ length numbers.now.numbers }
     ensures ok { OnOk result (text.new.items
         ≡ text.old.items ++ spaced_numbers (drop from (take to numbers.now.numbers))) }
-    ensures front { IsFront text.old.items text.new.items }
+    ensures front { KeepsPrefix text.old.items text.new.items }
 {
     let mut i = from;
     while i < to {
@@ -113,7 +113,7 @@ pub fn put_spaced(text: &mut Vec<u8>, numbers: &Buffer, from: usize) -> Result<(
     requires { from ≤ length numbers.now.numbers }
     ensures ok { OnOk result
         (text.new.items ≡ text.old.items ++ spaced_numbers (drop from numbers.now.numbers)) }
-    ensures front { IsFront text.old.items text.new.items }
+    ensures front { KeepsPrefix text.old.items text.new.items }
 {
     put_spaced_up_to(text, numbers, from, numbers.len())
 }
@@ -160,7 +160,7 @@ fn put_many(
     requires within { to ≤ length numbers.now.numbers }
     ensures ok { OnOk result (text.new.items ≡ text.old.items
         ++ enclosed_numbers before (drop from (take to numbers.now.numbers)) behind) }
-    ensures front { IsFront text.old.items text.new.items }
+    ensures front { KeepsPrefix text.old.items text.new.items }
 {
     text.extend_from_slice(&[before])?;
     put_number_at(text, numbers, from)?;
@@ -182,7 +182,7 @@ pub fn put_enclosed(
     requires within { to ≤ length numbers.now.numbers }
     ensures ok { OnOk result (text.new.items ≡ text.old.items
         ++ enclosed_numbers before (drop from (take to numbers.now.numbers)) behind) }
-    ensures front { IsFront text.old.items text.new.items }
+    ensures front { KeepsPrefix text.old.items text.new.items }
 {
     if from == to {
         return text.extend_from_slice(&[before, behind]);

@@ -6,7 +6,7 @@ ghost use Rattle.coll_text.specs.Words.{label_word, label_of, rule_word};
 use crate::fault::LineFault;
 use wall_labels::Label;
 use wall_policy::Policy;
-use wall_verdict::Rule;
+use wall_rules::Rule;
 
 /// The label that the word says, `public` or a dataset of the policy.
 #[tactic(auto, unfolding(crate::specs::Words::label_of))]

@@ -1,7 +1,7 @@
 //! Writes a text out in pieces.
 ghost use Rattle.std.specs.Prelude.{◌≡◌, ◌+◌, [], OnOk, OnErr};
 ghost use Rattle.std.specs.Io.KnownBytes.{Appends};
-ghost use Rattle.wall_labels.specs.Known.{AppendsFront};
+ghost use Rattle.wall_labels.specs.Known.{AppendsPrefix};
 ghost use Rattle.coll_text.specs.Writing.{Moves};
 
 use wall_labels::{Failed, Sink, write_all};
@@ -17,7 +17,7 @@ pub fn send<W: Sink>(text: &mut Vec<u8>, sink: &mut W) -> Result<(), Failed>
         (Appends (W.contents sink.old) (W.contents sink.new) text.old.items) }
     ensures none { OnOk result (text.new.items ≡ []) }
     ensures front { OnErr result
-        (AppendsFront (W.contents sink.old) (W.contents sink.new) text.old.items) }
+        (AppendsPrefix (W.contents sink.old) (W.contents sink.new) text.old.items) }
 {
     write_all(sink, text)?;
     text.clear();
@@ -32,7 +32,7 @@ pub fn send_long<W: Sink>(text: &mut Vec<u8>, sink: &mut W) -> Result<(), Failed
     ensures moved { OnOk result
         (Moves (W.contents sink.old) (W.contents sink.new) text.old.items text.new.items) }
     ensures front { OnErr result
-        (AppendsFront (W.contents sink.old) (W.contents sink.new) text.old.items) }
+        (AppendsPrefix (W.contents sink.old) (W.contents sink.new) text.old.items) }
 {
     if text.len() < CHUNK {
         return Ok(());

@@ -2,7 +2,7 @@
 use Rattle.std.proofs.Common.{◌≡◌, ℕ, zero, suc, ◌+◌, ◌<◌, ◌≤◌, List, [], ◌∷◌, ◌∙◌, ap, sym, refl}
 use Rattle.std.proofs.Common.{arith, Bool, true, false, ◌&&◌, Option, Some, None, nat_eq}
 use Rattle.std.proofs.Common.{nat_le, nat_lt, length, slice_range, flat_map, ⊎_elim, inl, inr}
-use Rattle.std.specs.Prelude.{unwrap_or, IsSome}
+use Rattle.std.specs.Prelude.{unwrap_or}
 use Rattle.std.specs.List.{range_with_len}
 use Rattle.std.proofs.lemmas.List.{append-nil}
 use Rattle.std.specs.Prelude.{if◌then◌else◌}
@@ -29,7 +29,6 @@ use Rattle.coll_routes.specs.declared.signature.Signature.TheVariants.{CartSub}
 use Rattle.coll_routes.specs.declared.roll.Shape.{Shape}
 use Rattle.coll_routes.specs.declared.roll.Roll.{Roll}
 use Rattle.coll_routes.specs.declared.statement.Own.{Own}
-use Rattle.coll_routes.specs.declared.statement.Stated.{Stated}
 use Rattle.coll_routes.specs.declared.fault.ShapeFault.{ShapeFault}
 use Rattle.coll_routes.specs.declared.fault.ShapeFault.TheVariants.{NoTopology, BadRoot, BadOp}
 use Rattle.coll_routes.specs.declared.fault.ShapeFault.TheVariants.{BadCount, BadColour}
@@ -39,7 +38,7 @@ use Rattle.coll_routes.specs.Faults.{shape_fault, first_that, bad_count, bad_roo
 use Rattle.coll_routes.specs.Faults.{bad_colour, not_subgroup, bad_dims, no_topology, is_refused}
 use Rattle.coll_routes.specs.Faults.{stated_type}
 use Rattle.coll_routes.specs.Fit.{IsFit}
-use Rattle.coll_routes.proofs.CollRoutesLemmas.{no_fault}
+use Rattle.coll_routes.proofs.CollRoutesLemmas.{no_fault, stated_there}
 use Rattle.coll_routes.specs.Rolls.{places_by, stated_by, given, goes, places, is_missing}
 use Rattle.coll_routes.specs.declared.lane.Source.{Source}
 use Rattle.coll_routes.specs.Senders.{comes}
@@ -136,10 +135,6 @@ good_op shape i sig own ty given h = third_of (no_topology shape sig) (bad_root 
 not_refused : (op : Op) (ty : ElemType) (a : Option Op) (b : Option ElemType) → a ≡ Some op →
     b ≡ Some ty → is_refused a b ≡ false → is_allowed op ty ≡ true
 not_refused op ty a b e f h = not-false (is_allowed op ty) (sym (λ k. is_refused (e k) (f k)) ∙ h)
-
-stated_there : (o : Option Stated) → IsSome o → (s : Stated) × (o ≡ Some s)
-stated_there (Some s) h = (s, refl)
-stated_there None h = absurd (cc)
 
 pub allowed : (roll : Roll) (j : ℕ) (op : Op) (ty : ElemType) → IsFit roll → j < roll.shape.size →
     reduction roll.sig ≡ Some op → elem_type roll.sig ≡ Some ty → is_allowed op ty ≡ true

@@ -4,7 +4,7 @@ ghost use Rattle.std.specs.Prelude.{slice_set, ◌^◌, IfOk, IfNone, OnOk, IsSo
 ghost use Rattle.std.specs.Prelude.{Some, None, OnErr, if◌then◌else◌};
 ghost use Rattle.std.specs.VecDeque.{deque_len};
 ghost use Rattle.run_model.specs.declared.refusal.Refusal.TheVariants.{TooManyRequests};
-ghost use Rattle.run_model.specs.Replies.{is_limit_reached as is_over_test};
+ghost use Rattle.run_model.specs.Replies.{is_limit_reached as limit_test};
 ghost use Rattle.hall_core.specs.Asking.{opened, open_number, requests_of, room_of, with_request};
 ghost use Rattle.hall_core.specs.Asking.{with_closed};
 
@@ -192,9 +192,9 @@ pub fn given_to(requests: &[Requests], process: u32) -> usize
 }
 
 // Whether the process may not have one more request.
-fn is_over(requests: &[Requests], process: u32) -> bool
+fn is_limit_reached(requests: &[Requests], process: u32) -> bool
     requires { process < length requests.now }
-    ensures test { result ≡ is_over_test (open_number (requests_of requests.now process))
+    ensures test { result ≡ limit_test (open_number (requests_of requests.now process))
         (length (requests_of requests.now process)) }
     ensures few { IsFalse result → length (requests_of requests.now process) < 2 ^ 62 }
 {
@@ -205,11 +205,11 @@ fn is_over(requests: &[Requests], process: u32) -> bool
 /// The refusal of a process that may not have one more request.
 pub fn refusal(requests: &[Requests], process: u32) -> Option<Refusal>
     requires { process < length requests.now }
-    ensures test { result ≡ (if is_over_test (open_number (requests_of requests.now process))
+    ensures test { result ≡ (if limit_test (open_number (requests_of requests.now process))
         (length (requests_of requests.now process)) then Some TooManyRequests else None) }
     ensures few { IfNone result (length (requests_of requests.now process) < 2 ^ 62) }
 {
-    if is_over(requests, process) {
+    if is_limit_reached(requests, process) {
         Some(Refusal::TooManyRequests)
     } else {
         None

@@ -4,7 +4,7 @@ use Rattle.std.proofs.Common.{inl, inr, refl, sym, ap, ◌∙◌, subst, append_
 use Rattle.std.specs.Prelude.{IfOk, IfErr}
 use Rattle.std.proofs.lemmas.List.{append-nil}
 use Rattle.std.specs.Io.KnownBytes.{Appends}
-use Rattle.wall_labels.specs.Known.{AppendsFront}
+use Rattle.wall_labels.specs.Known.{AppendsPrefix}
 use Rattle.wall_labels.proofs.WallLabelsLemmas.{Appends-then}
 use Rattle.wall_policy.specs.Policy.{ChineseWall}
 use Rattle.run_model.specs.declared.call.Call.{Call}
@@ -45,7 +45,7 @@ module _ (wall : ChineseWall) (before now : Option (List ℕ)) (text : List ℕ)
       (Appends-then before now later told.sent text told.written h)
 
   -- the writer failed
-  pub told-breaks : (later : Option (List ℕ)) → AppendsFront now later text →
+  pub told-breaks : (later : Option (List ℕ)) → AppendsPrefix now later text →
       Stops wall before later whole.calls
   told-breaks later f = record {
     run = run;
@@ -161,7 +161,7 @@ module _ {M : Type 0} (stands : M → List Entry → Type 0) (wall : ChineseWall
       SoFar stands wall old before now text whole
       (script_from (line_call wall.dataset_names) n lines)
       → AnswersLine stands wall old new text mid (line_call wall.dataset_names line) (Ok x)
-      → AppendsFront now later mid
+      → AppendsPrefix now later mid
       → Stops wall before later whole.calls
   unfolding script_from
   breaks old new before now later text mid whole n line lines rest x split s a f =
@@ -289,7 +289,7 @@ module _ {M : Type 0} (stands : M → List Entry → Type 0) (wall : ChineseWall
   -- the writer failed at it
   pub broken_off : (machine : M) (before now later : Option (List ℕ)) (text : List ℕ)
       (whole : Script) (r : Result (Unit {0}) ScriptFault) → (r ≡ Err Write → ⊥)
-      → Ends stands wall machine before now text whole r → AppendsFront now later text →
+      → Ends stands wall machine before now text whole r → AppendsPrefix now later text →
       Stops wall before later whole.calls
   broken_off machine before now later text whole (Ok x) other e f =
       told-breaks wall before now text whole no_more e.run e.told later f

@@ -1,7 +1,7 @@
 -- Devices before and after their use, and devices that are read to their end.
 use Rattle.std.specs.Prelude.{◌≡◌, ℕ, ◌+◌, ◌<◌, ◌≤◌, ◌⊎◌, List, length, Option, Some, None}
 use Rattle.std.specs.Io.KnownBytes.{Appends}
-use Rattle.wall_labels.specs.Known.{AppendsFront, AreLeft}
+use Rattle.wall_labels.specs.Known.{AppendsPrefix, AreLeft}
 use Rattle.hall_script.specs.declared.device.DeviceFault.{DeviceFault}
 use Rattle.hall_script.specs.declared.device.DeviceFault.TheVariants.{Read, NoMemory}
 
@@ -64,8 +64,8 @@ IsWritten d bytes = NeverFailed d × Appends (bytes_before d) (bytes_after d) by
 
 -- a prefix of these bytes was written, without a failure
 abbrev pub IsBegun : {D : Type 0} → Used D → List ℕ → Type 0
-IsBegun d bytes = NeverFailed d × AppendsFront (bytes_before d) (bytes_after d) bytes
+IsBegun d bytes = NeverFailed d × AppendsPrefix (bytes_before d) (bytes_after d) bytes
 
 -- a prefix of these bytes was written, and then it failed once
 abbrev pub BrokeOff : {D : Type 0} → Used D → List ℕ → Type 0
-BrokeOff d bytes = FailedOnce d × AppendsFront (bytes_before d) (bytes_after d) bytes
+BrokeOff d bytes = FailedOnce d × AppendsPrefix (bytes_before d) (bytes_after d) bytes

@@ -3,7 +3,7 @@ use Rattle.std.specs.Prelude.{◌≡◌, ◌⊎◌, ℕ, ◌+◌, ◌-◌, ◌<�
 use Rattle.std.specs.Prelude.{◌++◌, length, take, slice_index, slice_get, Option, Some, None}
 use Rattle.std.specs.Prelude.{Result, Ok, Err, if◌then◌else◌}
 use Rattle.std.specs.Io.KnownBytes.{Appends}
-use Rattle.wall_labels.specs.Known.{AppendsFront}
+use Rattle.wall_labels.specs.Known.{AppendsPrefix}
 use Rattle.wall_policy.specs.Policy.{ChineseWall}
 use Rattle.run_model.specs.declared.call.Act.{Act}
 use Rattle.run_model.specs.declared.call.Call.{Call}
@@ -90,7 +90,7 @@ pub record Stops (wall : ChineseWall) (before after : Option (List ℕ))
   pub rest : List Call
   pub legal : Legal wall run
   pub first : calls_in run ++ rest ≡ calls
-  pub written : AppendsFront before after (reply_lines wall run)
+  pub written : AppendsPrefix before after (reply_lines wall run)
 
 -- some legal run answers the calls before one of them, and the lines of its replies were written
 pub record StopsAtCall (wall : ChineseWall) (before after : Option (List ℕ))

@@ -8,9 +8,9 @@ ghost use Rattle.hall_script.specs.Scripts.{trimmed, is_skipped, line_call, scri
 ghost use Rattle.hall_script.specs.Answering.{IsCall, AnswersCall, AnswersLine, line_fault, Ends};
 ghost use Rattle.hall_script.specs.Answering.{Finishes, HasFinished, HasStopped};
 
+use crate::answerer::Answerer;
 use crate::fault::ScriptFault;
 use crate::line::read_call;
-use crate::machine::Machine;
 use crate::reply::write_reply;
 use coll_text::{LineFault, Parts, send, send_long};
 use run_model::{Act, Call};
@@ -69,7 +69,7 @@ fn take_of(call: &Call) -> Option<u64>
 
 // Answers a call, and appends the line of its reply. Where there is no memory for that line the
 // text is as it was; a take has then taken nothing, any other call is answered nevertheless.
-fn answer_call<M: Machine>(machine: &mut M, call: Call, text: &mut Vec<u8>) -> Result<(), NoMemory>
+fn answer_call<M: Answerer>(machine: &mut M, call: Call, text: &mut Vec<u8>) -> Result<(), NoMemory>
     requires { HasKnownLabel (M.wall machine.old) call.act }
     ensures wall { M.wall machine.new ≡ M.wall machine.old }
     ensures answered { OnOk result (AnswersCall M.stands (M.wall machine.old) machine.old
@@ -85,7 +85,7 @@ fn answer_call<M: Machine>(machine: &mut M, call: Call, text: &mut Vec<u8>) -> R
     }
 }
 
-fn answer_line<M: Machine>(
+fn answer_line<M: Answerer>(
     alloc: Global,
     machine: &mut M,
     line: &[u8],
@@ -119,7 +119,7 @@ pub(crate) fn fault_of(number: u64, fault: LineFault) -> ScriptFault
 }
 
 // Answers the lines of a script, and leaves the end of their replies in the text.
-fn answer_lines<M: Machine, W: Sink>(
+fn answer_lines<M: Answerer, W: Sink>(
     alloc: Global,
     machine: &mut M,
     script: &[u8],
@@ -154,7 +154,7 @@ fn answer_lines<M: Machine, W: Sink>(
 }
 
 /// Answers the lines of a script and writes their replies.
-pub(crate) fn answer_script<M: Machine, W: Sink>(
+pub(crate) fn answer_script<M: Answerer, W: Sink>(
     alloc: Global,
     machine: &mut M,
     script: &[u8],
@@ -190,7 +190,7 @@ pub(crate) fn answer_script<M: Machine, W: Sink>(
 /// Answers the lines of a script, writes their replies, and gives the machine back.
 // For every machine, not for a teller alone: the proof would take the hall apart where that is let
 // go.
-pub(crate) fn answered<M: Machine + Drop, W: Sink>(
+pub(crate) fn answered<M: Answerer + Drop, W: Sink>(
     alloc: Global,
     machine: M,
     script: &[u8],

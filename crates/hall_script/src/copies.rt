@@ -5,7 +5,7 @@ ghost use Rattle.coll_values.specs.Instances.{IsWhole};
 ghost use Rattle.coll_values.specs.Stretches.{IsAlong, block_along};
 ghost use Rattle.coll_values.specs.Values.{value};
 ghost use Rattle.hall_core.specs.Looks.{CanDeliver};
-ghost use Rattle.coll_text.specs.Writing.{IsFront};
+ghost use Rattle.coll_text.specs.Writing.{KeepsPrefix};
 ghost use Rattle.hall_script.specs.Replies.{block_text, blocks_text, delivery_text, reply_line};
 ghost use Rattle.hall_script.specs.Telling.{delivery_if};
 
@@ -30,7 +30,7 @@ fn put_stretch(
     requires along { IfSome stretch (IsAlong full.now) }
     ensures ok { OnOk result
         (line.new.items ≡ line.old.items ++ block_text (block_along full.now stretch)) }
-    ensures front { IsFront line.old.items line.new.items }
+    ensures front { KeepsPrefix line.old.items line.new.items }
 {
     match stretch {
         None => put(line, "-"),
@@ -47,7 +47,7 @@ fn put_copies(line: &mut Vec<u8>, full: &Full<Buffer>, rank: u32) -> Result<(), 
     requires copies { reduction full.now.roll.sig ≡ None }
     ensures ok { OnOk result
         (line.new.items ≡ line.old.items ++ blocks_text (value full.now rank)) }
-    ensures front { IsFront line.old.items line.new.items }
+    ensures front { KeepsPrefix line.old.items line.new.items }
 {
     values_fill_places();
     let number = places(&full.roll, rank);
@@ -64,7 +64,7 @@ fn put_copied(line: &mut Vec<u8>, full: &Full<Buffer>, rank: u32) -> Result<(), 
     requires copies { reduction full.now.roll.sig ≡ None }
     ensures ok { OnOk result (line.new.items
         ≡ line.old.items ++ delivery_text (value full.now rank) ++ codes "\n") }
-    ensures front { IsFront line.old.items line.new.items }
+    ensures front { KeepsPrefix line.old.items line.new.items }
 {
     values_fill_places();
     if places(&full.roll, rank) == 0 {

@@ -2,6 +2,7 @@
 #![tactic(auto)]
 
 mod answer;
+mod answerer;
 mod ask;
 mod check;
 mod copies;
@@ -13,7 +14,6 @@ mod kept;
 mod kept_tests;
 mod laws;
 mod line;
-mod machine;
 mod reply;
 mod script;
 mod split;

@@ -15,10 +15,10 @@ ghost use Rattle.hall_script.specs.Telling.{tells_alike as alike, IsToldAlike, A
 ghost use Rattle.hall_script.specs.Telling.{delivery_if, IsRight, TellsRun};
 
 use crate::answer::answered;
+use crate::answerer::Answerer;
 use crate::copies::write_delivery;
 use crate::fault::ScriptFault;
 use crate::kept::KeptLines;
-use crate::machine::Machine;
 use crate::reply::write_reply;
 use coll_routes::{Signature, places};
 use coll_values::Full;
@@ -116,7 +116,7 @@ impl Teller {
     }
 }
 
-impl Machine for Teller {
+impl Answerer for Teller {
     ghost stands = { TellsRun };
 
     ghost wall = { λ t. t.hall.policy };

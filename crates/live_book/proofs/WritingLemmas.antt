@@ -7,7 +7,7 @@ use Rattle.std.proofs.lemmas.List.{append-nil, take_more, flat_map_more}
 use Rattle.std.proofs.lemmas.Option.{slice_get_within, unwrap_or-slice_get}
 use Rattle.std.proofs.lemmas.Grind.{flat_map-append}
 use Rattle.std.specs.Io.KnownBytes.{Appends, Keeps}
-use Rattle.wall_labels.specs.Known.{AppendsFront}
+use Rattle.wall_labels.specs.Known.{AppendsPrefix}
 use Rattle.wall_labels.proofs.WallLabelsLemmas.{Appends-then}
 use Rattle.wall_policy.specs.Policy.{ChineseWall}
 use Rattle.run_model.specs.declared.entry.Entry.{Entry as BookEntry}
@@ -33,17 +33,17 @@ appends_kept (Some a) (Some b) None xs p k = absurd k
 appends_kept (Some a) (Some b) (Some c) xs p k = k ∙ p
 
 -- all of them are a front of them
-pub whole_front : (a b : Option (List ℕ)) (xs : List ℕ) → Appends a b xs → AppendsFront a b xs
+pub whole_front : (a b : Option (List ℕ)) (xs : List ℕ) → Appends a b xs → AppendsPrefix a b xs
 whole_front a b xs p = (xs, [], append-nil xs, p)
 
 -- nothing is a front
-pub no_front : (a : Option (List ℕ)) (xs : List ℕ) → AppendsFront a a xs
+pub no_front : (a : Option (List ℕ)) (xs : List ℕ) → AppendsPrefix a a xs
 no_front None xs = ([], xs, refl, tt)
 no_front (Some a) xs = ([], xs, refl, sym (append-nil a))
 
 -- a front of bytes is one of more bytes
-pub front_more : (a b : Option (List ℕ)) (xs ys : List ℕ) → AppendsFront a b xs →
-    AppendsFront a b (xs ++ ys)
+pub front_more : (a b : Option (List ℕ)) (xs ys : List ℕ) → AppendsPrefix a b xs →
+    AppendsPrefix a b (xs ++ ys)
 front_more a b xs ys p = (
   p.0,
   p.1 ++ ys,
@@ -53,7 +53,7 @@ front_more a b xs ys p = (
 
 -- bytes, and then a front of others
 pub front_then : (a b c : Option (List ℕ)) (xs ys : List ℕ) → Appends a b xs →
-    AppendsFront b c ys → AppendsFront a c (xs ++ ys)
+    AppendsPrefix b c ys → AppendsPrefix a c (xs ++ ys)
 front_then a b c xs ys p q = (
   xs ++ q.0,
   q.1,
@@ -122,7 +122,7 @@ module _ (wall : ChineseWall) (begun : SinkValue) (run : List Entry) (e : Entry)
         is_book = is_book
             ∙ (ap (λ (l : List BookEntry). l ++ added) is.is_book
             ∙ append_assoc (book_of wall is.past) is.next added);
-        front = subst (AppendsFront is.held old.contents)
+        front = subst (AppendsPrefix is.held old.contents)
             (sym (flat_map-append (λ (entry : BookEntry). line_of (entry_words wall entry))
             is.next added))
             (front_more is.held old.contents (entry_lines wall is.next) (entry_lines wall added)
@@ -257,8 +257,8 @@ written_first wall begun sink by went = record {
 -- of a cut book a front of the whole was written
 cut_front : (wall : ChineseWall) (begun sink : SinkValue) (run : List Entry) (fault : Unbooked) →
     IsCut wall begun sink run fault →
-    AppendsFront begun.contents sink.contents (book_text wall (book_of wall run))
-cut_front wall begun sink run fault is = subst (AppendsFront begun.contents sink.contents)
+    AppendsPrefix begun.contents sink.contents (book_text wall (book_of wall run))
+cut_front wall begun sink run fault is = subst (AppendsPrefix begun.contents sink.contents)
     (sym (text_whole wall (book_of wall run)
     ∙ ap (λ (t : List ℕ). t ++ line_of (end_words (length (book_of wall run))))
     (ap (text_so_far wall) is.is_book ∙ text_more wall (book_of wall is.past) is.next)))
@@ -287,8 +287,8 @@ module _ (wall : ChineseWall) (begun old new : SinkValue) (run : List Entry) (n 
       (text_so_far wall (book_of wall run)) last is.written by.written)
 
   pub front_written : (fault : Unbooked) → IsBooked wall begun old run →
-      WritesFront fault old new last → AppendsFront begun.contents new.contents whole
-  front_written fault is by = subst (AppendsFront begun.contents new.contents) is_whole
+      WritesFront fault old new last → AppendsPrefix begun.contents new.contents whole
+  front_written fault is by = subst (AppendsPrefix begun.contents new.contents) is_whole
       (front_then begun.contents old.contents new.contents
       (text_so_far wall (book_of wall run)) last is.written by.front)
 
@@ -310,11 +310,11 @@ module _ (wall : ChineseWall) (begun old new : SinkValue) (run : List Entry) (n 
   pub last_front : (before : Option Unbooked) (fault : Unbooked) →
       (before ≡ None → n ≡ length (book_of wall run)) →
       IsWritten wall begun old before run → Writes before (Some fault) old new end_line →
-      AppendsFront begun.contents new.contents (book_text wall (book_of wall run))
+      AppendsPrefix begun.contents new.contents (book_text wall (book_of wall run))
   last_front None fault count is by =
       front_written wall begun old new run n (count refl) fault is by
   last_front (Some was) fault count is by =
-      subst (λ (s : SinkValue). AppendsFront begun.contents s.contents
+      subst (λ (s : SinkValue). AppendsPrefix begun.contents s.contents
       (book_text wall (book_of wall run))) (sym by.1) (cut_front wall begun old run was is)
 
 -- the entries that are gone are all of the run's book

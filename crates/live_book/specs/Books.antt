@@ -1,7 +1,7 @@
 -- What a hall whose book is written while it runs stands for, and has written. (Own rules.)
 use Rattle.std.specs.Prelude.{◌≡◌, ℕ, ◌+◌, Bool, List, ◌++◌, Option, Some, None, is_none}
 use Rattle.std.specs.Io.KnownBytes.{Appends}
-use Rattle.wall_labels.specs.Known.{AppendsFront}
+use Rattle.wall_labels.specs.Known.{AppendsPrefix}
 use Rattle.wall_policy.specs.Policy.{ChineseWall}
 use Rattle.run_model.specs.declared.entry.Entry.{Entry as BookEntry}
 use Rattle.run_model.specs.Books.{book}
@@ -68,7 +68,7 @@ pub record IsCut (wall : ChineseWall) (begun sink : SinkValue) (run : List Entry
   pub written : Appends begun.contents held (text_so_far wall (book_of wall past))
   pub next : List BookEntry
   pub is_book : book_of wall run ≡ book_of wall past ++ next
-  pub front : AppendsFront held sink.contents (entry_lines wall next)
+  pub front : AppendsPrefix held sink.contents (entry_lines wall next)
   pub is_fault : IsUnbooked fault begun.failures sink.failures
 
 -- the one as long as nothing went wrong, and then the other

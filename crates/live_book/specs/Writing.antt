@@ -1,7 +1,7 @@
 -- What is written at one call.
 use Rattle.std.specs.Prelude.{◌≡◌, ℕ, List, Option, Some, None}
 use Rattle.std.specs.Io.KnownBytes.{Appends}
-use Rattle.wall_labels.specs.Known.{AppendsFront}
+use Rattle.wall_labels.specs.Known.{AppendsPrefix}
 use Rattle.live_book.specs.declared.unbooked.Unbooked.{Unbooked}
 use Rattle.live_book.specs.Books.{IsUnbooked, SinkValue}
 
@@ -21,7 +21,7 @@ pub record WritesAll (old new : SinkValue) (bytes : List ℕ) : Type 0 where
 
 -- a front of them was, and why no more
 pub record WritesFront (fault : Unbooked) (old new : SinkValue) (bytes : List ℕ) : Type 0 where
-  pub front : AppendsFront old.contents new.contents bytes
+  pub front : AppendsPrefix old.contents new.contents bytes
   pub is_fault : IsUnbooked fault old.failures new.failures
 
 -- Nothing is written where there was a fault, and the fault stays. Else all bytes are, or there is

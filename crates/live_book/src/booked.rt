@@ -2,7 +2,7 @@
 ghost use Rattle.std.specs.Prelude.{◌≡◌, ◌↔◌, ◌+◌, List, [], ◌∷◌, None, IfErr, IfOk, IfSome};
 ghost use Rattle.std.specs.Prelude.{IsTrue, OnErr, OnOk, length};
 ghost use Rattle.std.specs.Io.KnownBytes.{Appends, Keeps};
-ghost use Rattle.wall_labels.specs.Known.{AppendsFront};
+ghost use Rattle.wall_labels.specs.Known.{AppendsPrefix};
 ghost use Rattle.audit_book.specs.Text.{book_text, end_words, entry_lines, header_words, line_of};
 ghost use Rattle.live_book.specs.Books.{IsUnbooked};
 ghost use Rattle.live_book.specs.Writing.{Writes, sink_value};
@@ -150,7 +150,7 @@ impl<B: BookSink, K: Begun> BookedHall<B, K> {
         ensures fault { IfErr result (λ unopened.
             IsUnbooked unopened.fault (B.failures sink) (B.failures unopened.sink)) }
         ensures front { IfErr result (λ unopened.
-            AppendsFront (B.contents sink) (B.contents unopened.sink)
+            AppendsPrefix (B.contents sink) (B.contents unopened.sink)
             (line_of (header_words policy.version))) }
     {
         let mut sink = sink;
@@ -265,7 +265,7 @@ impl<B: BookSink, K: Begun> BookedHall<B, K> {
             OnOk result.written (Appends self.begun.contents (B.contents result.sink)
             (book_text wall (book_of wall run))) }
         ensures front { (wall : ChineseWall) (run : List Entry) → StandsWithBook wall self run →
-            OnErr result.written (AppendsFront self.begun.contents (B.contents result.sink)
+            OnErr result.written (AppendsPrefix self.begun.contents (B.contents result.sink)
             (book_text wall (book_of wall run))) }
         ensures fault { (wall : ChineseWall) (run : List Entry) → StandsWithBook wall self run →
             IfErr result.written

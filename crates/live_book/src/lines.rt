@@ -1,7 +1,7 @@
 //! Writes the lines of a book.
 ghost use Rattle.std.specs.Prelude.{◌≡◌, ◌++◌, [], All, IfErr, IsTrue, OnErr, OnOk};
 ghost use Rattle.std.specs.Io.KnownBytes.{Appends, Keeps};
-ghost use Rattle.wall_labels.specs.Known.{AppendsFront};
+ghost use Rattle.wall_labels.specs.Known.{AppendsPrefix};
 ghost use Rattle.run_model.specs.Known.{IsKnownEntry};
 ghost use Rattle.audit_book.specs.Text.{end_words, entry_lines, header_words, line_of};
 ghost use Rattle.live_book.specs.Books.{IsUnbooked};
@@ -23,7 +23,7 @@ fn send_text<B: BookSink>(text: &mut Vec<u8>, sink: &mut B) -> Result<(), Unbook
     ensures fault { IfErr result
         (λ fault. IsUnbooked fault (B.failures sink.old) (B.failures sink.new)) }
     ensures front { OnErr result
-        (AppendsFront (B.contents sink.old) (B.contents sink.new) text.old.items) }
+        (AppendsPrefix (B.contents sink.old) (B.contents sink.new) text.old.items) }
 {
     match send(text, sink) {
         Ok(()) => Ok(()),
@@ -75,7 +75,7 @@ pub fn write_header<B: BookSink>(
     ensures none { OnOk result (text.new.items ≡ []) }
     ensures fault { IfErr result
         (λ fault. IsUnbooked fault (B.failures sink.old) (B.failures sink.new)) }
-    ensures front { OnErr result (AppendsFront (B.contents sink.old) (B.contents sink.new)
+    ensures front { OnErr result (AppendsPrefix (B.contents sink.old) (B.contents sink.new)
         (line_of (header_words policy.now.version))) }
 {
     put_header(policy, text)?;
@@ -102,7 +102,7 @@ pub fn write_entries<B: BookSink>(
         OnOk result (Keeps (B.lasting sink.new) (B.contents sink.new)) }
     ensures fault { IfErr result
         (λ fault. IsUnbooked fault (B.failures sink.old) (B.failures sink.new)) }
-    ensures front { OnErr result (AppendsFront (B.contents sink.old) (B.contents sink.new)
+    ensures front { OnErr result (AppendsPrefix (B.contents sink.old) (B.contents sink.new)
         (entry_lines policy.now news.now.list)) }
 {
     put_entries(policy, news, text)?;
@@ -122,7 +122,7 @@ pub fn write_end<B: BookSink>(
     ensures went { OnOk result (B.failures sink.new ≡ B.failures sink.old) }
     ensures fault { IfErr result
         (λ fault. IsUnbooked fault (B.failures sink.old) (B.failures sink.new)) }
-    ensures front { OnErr result (AppendsFront (B.contents sink.old) (B.contents sink.new)
+    ensures front { OnErr result (AppendsPrefix (B.contents sink.old) (B.contents sink.new)
         (line_of (end_words entries))) }
 {
     put_end(entries as usize, text)?;

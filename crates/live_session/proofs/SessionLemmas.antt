@@ -4,7 +4,7 @@ use Rattle.std.proofs.Common.{reverse, Option, Some, None, Result, Ok, Err, refl
 use Rattle.std.proofs.Common.{◌≢◌, Bool, true, false}
 use Rattle.std.proofs.Common.{◌∙◌, append_assoc, append-nil, IfOk, replicate, take, arith}
 use Rattle.wall_labels.specs.declared.no_memory.NoMemory.{NoMemory as OutOfMemory}
-use Rattle.wall_labels.specs.Known.{AppendsFront}
+use Rattle.wall_labels.specs.Known.{AppendsPrefix}
 use Rattle.std.specs.Io.KnownBytes.{Appends, Consumes, IsAtEnd, Keeps}
 use Rattle.std.proofs.lemmas.List.{reverse-append}
 use Rattle.wall_policy.specs.Policy.{ChineseWall}
@@ -543,7 +543,7 @@ module _ (stood : ChineseWall → List Entry → Bool → Type 0) {O : Type 0} (
 
   -- all answers were written, and a prefix of the next
   cut_more : (old mid new : O) (whole text newest : List ℕ) → IsWritten (Between old mid) whole →
-      AppendsFront (contents mid) (contents new) text → text ≡ newest →
+      AppendsPrefix (contents mid) (contents new) text → text ≡ newest →
       IsCutIn (Between old new) whole newest
   cut_more old mid new whole text newest w f is = (
     f.0,

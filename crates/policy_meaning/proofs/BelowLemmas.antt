@@ -5,16 +5,9 @@ use Rattle.std.proofs.Common.{inr}
 use Rattle.std.proofs.Common.{refl}
 use Rattle.std.specs.Prelude.{count_by}
 use Rattle.std.specs.List.{list_any}
-use Rattle.std.proofs.Math.Bool.{or-false}
 use Rattle.std.proofs.lemmas.Bool.{cases_lt}
-use Rattle.std.proofs.lemmas.List.Folds.{list_any-append}
-use Rattle.std.proofs.lemmas.List.Sums.{sum_by-append}
 use Rattle.mpi_cart.specs.Grids.{below}
-use Rattle.mpi_cart.proofs.MpiCartLemmas.{below_more}
-
-any_more : (p : ℕ → Bool) (n : ℕ) → list_any p (below (n + 1)) ≡ (list_any p (below n) || p n)
-any_more p n = ap (λ xs. list_any p xs) (below_more n)
-    ∙ (list_any-append p (below n) (n ∷ []) ∙ ap (λ b. list_any p (below n) || b) (or-false (p n)))
+use Rattle.mpi_cart.proofs.MpiCartLemmas.{any_more, count_more}
 
 pub none_more : (p : ℕ → Bool) (n : ℕ) → list_any p (below n) ≡ false → p n ≡ false →
     list_any p (below (n + 1)) ≡ false
@@ -34,13 +27,6 @@ some_later p k (suc n) lt here = subst (λ m. list_any p (below m) ≡ true) (ad
           ap (λ b. list_any p (below n) || b) (sym (ap p same) ∙ here)
           ∙ or_true (list_any p (below n))
     ])
-
-pub count_more : (p : ℕ → Bool) (n : ℕ) →
-    count_by p (below (n + 1)) ≡ count_by p (below n) + cond (p n) 1 0
-count_more p n = ap (λ xs. count_by p xs) (below_more n)
-    ∙ (sum_by-append (λ x. cond (p x) 1 0) (below n) (n ∷ [])
-    ∙ (let e : 0 + cond (p n) 1 0 ≡ cond (p n) 1 0 = omega arith in
-    ap (λ (k : ℕ). count_by p (below n) + k) e))
 
 pub count_yes : (p : ℕ → Bool) (n c : ℕ) → c ≡ count_by p (below n) → p n ≡ true →
     c + 1 ≡ count_by p (below (n + 1))

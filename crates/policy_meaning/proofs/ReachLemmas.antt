@@ -31,7 +31,8 @@ use Rattle.policy_meaning.specs.declared.warning.Doubt.TheVariants.{TooFewDatase
 use Rattle.policy_meaning.specs.declared.warning.Warning.TheVariants.{OfOperation}
 use Rattle.policy_meaning.specs.Warnings.{Warns, is_that, is_a_home, homes, homeless, most_labels}
 use Rattle.policy_meaning.specs.Laws.{IsOfPolicy, OutOfReachIsNeverSanitised}
-use Rattle.policy_meaning.proofs.BelowLemmas.{count_more, some_later}
+use Rattle.mpi_cart.proofs.MpiCartLemmas.{count_more}
+use Rattle.policy_meaning.proofs.BelowLemmas.{some_later}
 use Rattle.policy_meaning.proofs.HomeLemmas.{is_that_one}
 
 and_true : (a : Bool) → (a && true) ≡ a

@@ -3,7 +3,7 @@ use Rattle.std.proofs.Common.{◌≡◌, ℕ, zero, suc, ◌+◌, ◌-◌, ◌�
 use Rattle.std.proofs.Common.{length, slice_index_or, Option, sym, ap, subst, subst₂, ◌∙◌}
 use Rattle.std.proofs.Common.{append_assoc, append-nil, arith}
 use Rattle.std.specs.Io.KnownBytes.{Appends}
-use Rattle.wall_labels.specs.Known.{AppendsFront}
+use Rattle.wall_labels.specs.Known.{AppendsPrefix}
 use Rattle.wall_policy.specs.Policy.{ChineseWall}
 use Rattle.run_model.specs.declared.call.Act.{Act}
 use Rattle.run_model.specs.declared.reply.Reply.{Reply}
@@ -68,17 +68,17 @@ ranks_step wall rows n p given a b c is are before now =
 pub ranks_broken : (wall : ChineseWall) (rows : List (List Reply)) (n p : ℕ) (given : List Reply)
     (a b c : Option (List ℕ)) → p ≡ n → given ≡ slice_index_or rows n []
     → n + 1 ≤ length rows → Appends a b (ranks_text wall rows n) →
-    AppendsFront b c (rank_line wall p ++ reply_lines wall given)
-    → AppendsFront a c (ranks_text wall rows (length rows))
+    AppendsPrefix b c (rank_line wall p ++ reply_lines wall given)
+    → AppendsPrefix a c (ranks_text wall rows (length rows))
 ranks_broken wall rows n p given a b c is are lt before broken =
-    let broken' = subst₂ (λ q g. AppendsFront b c (rank_line wall q ++ reply_lines wall g)) is are
+    let broken' = subst₂ (λ q g. AppendsPrefix b c (rank_line wall q ++ reply_lines wall g)) is are
     broken in
     let last = rank_line wall n ++ reply_lines wall (slice_index_or rows n []) in
-    let begun = subst (AppendsFront a c) (sym (ranks_more wall rows n))
+    let begun = subst (AppendsPrefix a c) (sym (ranks_more wall rows n))
     (front_then a b c (ranks_text wall rows n) last before broken') in
     let whole = ranks_front wall rows (n + 1) (length rows - (n + 1)) in
     let e : n + 1 + (length rows - (n + 1)) ≡ length rows = omega arith in
-    subst (AppendsFront a c) (whole.1 ∙ ap (ranks_text wall rows) e)
+    subst (AppendsPrefix a c) (whole.1 ∙ ap (ranks_text wall rows) e)
     (front_more a c (ranks_text wall rows (n + 1)) whole.0 begun)
 
 pub ranks_done : (wall : ChineseWall) (rows : List (List Reply)) (n : ℕ) (a b : Option (List ℕ)) →

@@ -2,7 +2,7 @@
 use Rattle.std.specs.Prelude.{◌≡◌, ℕ, ◌<◌, List, ◌++◌, true, length, All, AllPairs}
 use Rattle.wall_labels.specs.declared.label.Label.{Label}
 use Rattle.wall_policy.specs.Policy.{ChineseWall}
-use Rattle.wall_verdict.specs.declared.verdict.Rule.{Rule}
+use Rattle.wall_rules.specs.declared.rule.Rule.{Rule}
 use Rattle.run_model.specs.declared.entry.Entry.{Entry}
 use Rattle.run_model.specs.Posts.{Post, comms}
 use Rattle.book_report.specs.declared.row.Row.{Row}

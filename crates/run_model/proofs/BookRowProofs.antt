@@ -15,7 +15,7 @@ use Rattle.coll_routes.specs.Faults.{asked, gives, no_topology, is_listed, bad_c
 use Rattle.coll_routes.specs.Faults.{bad_dims, shape_fault}
 use Rattle.wall_verdict.specs.Charges.{sanitised}
 use Rattle.wall_verdict.specs.Verdicts.{verdict}
-use Rattle.wall_verdict.specs.declared.verdict.Rule.TheVariants.{Simple}
+use Rattle.wall_rules.specs.declared.rule.Rule.TheVariants.{Simple}
 use Rattle.run_model.specs.declared.outcome.Outcome.TheVariants.{Denied, Made}
 use Rattle.run_model.specs.declared.entry.Entry.TheVariants.{Settled}
 use Rattle.run_model.specs.Comms.{new_comms_by}

@@ -18,7 +18,7 @@ use Rattle.coll_routes.specs.declared.statement.Stated.{Stated}
 use Rattle.coll_routes.specs.declared.roll.Roll.{Roll}
 use Rattle.coll_routes.specs.Rolls.{is_barred}
 use Rattle.coll_routes.specs.Signatures.{is_constructor}
-use Rattle.wall_verdict.specs.declared.verdict.Rule.{Rule}
+use Rattle.wall_rules.specs.declared.rule.Rule.{Rule}
 use Rattle.wall_verdict.specs.declared.verdict.Verdict.{Verdict}
 use Rattle.wall_verdict.specs.declared.verdict.Verdict.TheVariants as verdicts
 use Rattle.wall_verdict.specs.Meanings.{NobodyIsBarred, MembersStayApart}

@@ -14,7 +14,7 @@ use Rattle.coll_routes.specs.declared.statement.Stated.{Stated}
 use Rattle.coll_routes.specs.Signatures.{is_constructor}
 use Rattle.coll_routes.specs.Rolls.{stated_in, label_of, label_in as label_stated}
 use Rattle.coll_routes.specs.Fit.{IsFit}
-use Rattle.wall_verdict.specs.declared.verdict.Rule.TheVariants.{Star, Simple}
+use Rattle.wall_rules.specs.declared.rule.Rule.TheVariants.{Star, Simple}
 use Rattle.wall_verdict.specs.declared.verdict.Verdict.{Verdict}
 use Rattle.wall_verdict.specs.declared.verdict.Verdict.TheVariants.{Granted, Denied}
 use Rattle.wall_verdict.specs.Meanings.{IsVerdict}

@@ -25,7 +25,7 @@ use Rattle.run_model.specs.Posts.{filled}
 use Rattle.run_model.specs.Refusals.{fault}
 use Rattle.wall_labels.specs.declared.label.Label.TheVariants.{Public}
 use Rattle.coll_values.specs.declared.delivery.Block.TheVariants.{Numbers}
-use Rattle.wall_verdict.specs.declared.verdict.Rule.TheVariants.{Simple}
+use Rattle.wall_rules.specs.declared.rule.Rule.TheVariants.{Simple}
 use Rattle.run_model.specs.declared.reply.Reply.TheVariants.{Posted, Barred, Delivered, Denied}
 use Rattle.run_model.specs.declared.reply.Reply.TheVariants.{Refused}
 use Rattle.run_model.specs.declared.refusal.Refusal.TheVariants.{NoMemory}

@@ -2,7 +2,7 @@
 use Rattle.std.proofs.Common.{[], ◌∷◌, pos, refl, ⊎_elim}
 use Rattle.wall_labels.specs.declared.label.Label.TheVariants.{Public}
 use Rattle.coll_values.specs.declared.delivery.Block.TheVariants.{Numbers}
-use Rattle.wall_verdict.specs.declared.verdict.Rule.TheVariants.{Star, Simple}
+use Rattle.wall_rules.specs.declared.rule.Rule.TheVariants.{Star, Simple}
 use Rattle.run_model.specs.declared.refusal.Refusal.TheVariants.{NoSuchRequest}
 use Rattle.run_model.specs.declared.reply.Reply.TheVariants.{Posted, Barred, Pending, Delivered}
 use Rattle.run_model.specs.declared.reply.Reply.TheVariants.{Denied, Refused}

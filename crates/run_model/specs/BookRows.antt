@@ -11,7 +11,7 @@ use Rattle.coll_routes.specs.declared.signature.Signature.TheVariants.{Split, Ca
 use Rattle.coll_routes.specs.declared.signature.Signature.TheVariants.{Barrier}
 use Rattle.coll_routes.specs.declared.statement.Own.{Own}
 use Rattle.coll_routes.specs.declared.statement.Own.TheVariants.{Plain, Split as SplitBy}
-use Rattle.wall_verdict.specs.declared.verdict.Rule.TheVariants.{Star, Simple}
+use Rattle.wall_rules.specs.declared.rule.Rule.TheVariants.{Star, Simple}
 use Rattle.run_model.specs.declared.outcome.Outcome.TheVariants.{Granted, Denied, Made}
 use Rattle.run_model.specs.declared.entry.Entry.{Entry}
 use Rattle.run_model.specs.declared.entry.Entry.TheVariants.{Posted, Settled}

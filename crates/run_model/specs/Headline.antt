@@ -11,7 +11,7 @@ use Rattle.mpi_group.specs.Groups.{rank_in}
 use Rattle.coll_routes.specs.declared.roll.Roll.{Roll}
 use Rattle.coll_routes.specs.Signatures.{is_constructor}
 use Rattle.coll_values.specs.Values.{value}
-use Rattle.wall_verdict.specs.declared.verdict.Rule.{Rule}
+use Rattle.wall_rules.specs.declared.rule.Rule.{Rule}
 use Rattle.wall_verdict.specs.declared.verdict.Verdict.TheVariants as verdicts
 use Rattle.wall_verdict.specs.Meanings.{IsVerdict, MembersStayApart}
 use Rattle.run_model.specs.declared.outcome.Outcome.TheVariants.{Granted}

@@ -14,7 +14,7 @@ use Rattle.coll_values.specs.declared.delivery.Block.{Block}
 use Rattle.coll_values.specs.Instances.{IsWhole}
 use Rattle.coll_values.specs.Values.{value}
 use Rattle.coll_values.specs.Laws.{AgreeAt}
-use Rattle.wall_verdict.specs.declared.verdict.Rule.{Rule}
+use Rattle.wall_rules.specs.declared.rule.Rule.{Rule}
 use Rattle.wall_verdict.specs.declared.verdict.Verdict.TheVariants as verdicts
 use Rattle.wall_verdict.specs.Star.{star}
 use Rattle.wall_verdict.specs.Meanings.{IsVerdict, NobodyIsBarred, MembersStayApart}

@@ -20,7 +20,7 @@ use Rattle.coll_routes.specs.declared.statement.Own.{Own}
 use Rattle.coll_routes.specs.declared.statement.Own.TheVariants.{Plain, Counts, Split as SplitBy}
 use Rattle.coll_routes.specs.Faults.{stated_type}
 use Rattle.coll_values.specs.declared.delivery.Block.TheVariants.{Missing, Numbers}
-use Rattle.wall_verdict.specs.declared.verdict.Rule.TheVariants.{Star, Simple}
+use Rattle.wall_rules.specs.declared.rule.Rule.TheVariants.{Star, Simple}
 use Rattle.run_model.specs.declared.refusal.Refusal.TheVariants.{NoSuchProcess, NoSuchComm}
 use Rattle.run_model.specs.declared.refusal.Refusal.TheVariants.{NotMember, NoTopology, BadRoot}
 use Rattle.run_model.specs.declared.refusal.Refusal.TheVariants.{BadOp, BadCount, BadColour}

@@ -9,7 +9,7 @@ use Rattle.coll_routes.specs.declared.signature.Signature.TheVariants.{Reduce, A
 use Rattle.coll_routes.specs.declared.signature.Signature.TheVariants.{Create, Dup, Split}
 use Rattle.coll_routes.specs.declared.statement.Own.TheVariants.{Plain, Split as SplitBy}
 use Rattle.coll_values.specs.declared.delivery.Block.TheVariants.{Numbers}
-use Rattle.wall_verdict.specs.declared.verdict.Rule.TheVariants.{Simple}
+use Rattle.wall_rules.specs.declared.rule.Rule.TheVariants.{Simple}
 use Rattle.run_model.specs.declared.refusal.Refusal.TheVariants.{Mismatch}
 use Rattle.run_model.specs.declared.reply.Reply.TheVariants.{Posted, Barred, Pending, Delivered}
 use Rattle.run_model.specs.declared.reply.Reply.TheVariants.{Denied, Refused}

@@ -1,5 +1,5 @@
 //! A worked chain of books, as functions that do nothing.
-ghost use Rattle.wall_verdict.specs.declared.verdict.Rule.TheVariants.{Simple};
+ghost use Rattle.wall_rules.specs.declared.rule.Rule.TheVariants.{Simple};
 ghost use Rattle.run_model.specs.declared.outcome.Outcome.TheVariants.{Granted, Denied};
 ghost use Rattle.run_model.specs.Books.{IsSound, IsFirstBad};
 ghost use Rattle.run_model.specs.BookRows.{banks_and_oil};

@@ -44,4 +44,4 @@ pub use outcome::Outcome;
 pub use refusal::Refusal;
 pub use reply::Reply;
 pub use scripts::{Acts, Scripts};
-pub use wall_verdict::Rule;
+pub use wall_rules::Rule;

@@ -1,7 +1,7 @@
 //! Outcomes of full instances.
 
 use wall_labels::{Label, ProcessId};
-use wall_verdict::Rule;
+use wall_rules::Rule;
 
 /// The outcome of a full instance: a collective is granted or denied, a constructor makes
 /// communicators or finds no room.

@@ -3,7 +3,7 @@
 use crate::refusal::Refusal;
 use coll_values::Delivery;
 use wall_labels::{Label, ProcessId};
-use wall_verdict::Rule;
+use wall_rules::Rule;
 
 /// The reply to a call.
 #[derive(Drop)]

@@ -11,7 +11,7 @@ ghost use Rattle.run_model.specs.RunRows.{posted_after_denial};
 ghost use Rattle.std.specs.Prelude.{[], ◌∷◌, pos, negsuc};
 ghost use Rattle.wall_labels.specs.declared.label.Label.TheVariants.{Public};
 ghost use Rattle.coll_values.specs.declared.delivery.Block.TheVariants.{Numbers};
-ghost use Rattle.wall_verdict.specs.declared.verdict.Rule.TheVariants.{Simple};
+ghost use Rattle.wall_rules.specs.declared.rule.Rule.TheVariants.{Simple};
 ghost use Rattle.run_model.specs.declared.reply.Reply.TheVariants.{Posted, Barred, Delivered};
 ghost use Rattle.run_model.specs.declared.reply.Reply.TheVariants.{Denied, Refused};
 ghost use Rattle.run_model.specs.declared.refusal.Refusal.TheVariants.{NoMemory};

@@ -3,7 +3,7 @@
 ghost use Rattle.std.specs.Prelude.{[], ◌∷◌, pos};
 ghost use Rattle.wall_labels.specs.declared.label.Label.TheVariants.{Public};
 ghost use Rattle.coll_values.specs.declared.delivery.Block.TheVariants.{Numbers};
-ghost use Rattle.wall_verdict.specs.declared.verdict.Rule.TheVariants.{Star, Simple};
+ghost use Rattle.wall_rules.specs.declared.rule.Rule.TheVariants.{Star, Simple};
 ghost use Rattle.run_model.specs.declared.refusal.Refusal.TheVariants.{NoSuchRequest};
 ghost use Rattle.run_model.specs.declared.reply.Reply.TheVariants.{Posted, Barred, Pending};
 ghost use Rattle.run_model.specs.declared.reply.Reply.TheVariants.{Delivered, Denied, Refused};

@@ -12,7 +12,7 @@ use std::test::Fail;
 use trial_kit::policies::BANKS_AND_OIL;
 use wall_labels::{DatasetId, Label, ProcessId};
 use wall_policy::Policy;
-use wall_verdict::Rule;
+use wall_rules::Rule;
 
 // The datasets 0 alpha and 1 beta are rivals. Process 0 is at home at alpha, process 1 at beta, and
 // the others nowhere.

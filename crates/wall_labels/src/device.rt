@@ -2,7 +2,7 @@
 ghost use Rattle.std.specs.Prelude.{◌≡◌, ℕ, ◌+◌, ◌<◌, ◌≤◌, List, Option, None, length, IfOk, OnOk};
 ghost use Rattle.std.specs.Prelude.{OnErr};
 ghost use Rattle.std.specs.Io.KnownBytes.{ReadConsumes, WriteAppends, Appends};
-ghost use Rattle.wall_labels.specs.Known.{AppendsFront};
+ghost use Rattle.wall_labels.specs.Known.{AppendsPrefix};
 
 /// A device did not do what it was asked.
 #[derive(Clone, Copy, Debug, PartialEq, Eq)]
@@ -48,7 +48,7 @@ pub fn write_all<W: Sink>(sink: &mut W, bytes: &[u8]) -> Result<(), Failed>
     ensures failed { OnErr result (W.failures sink.new ≡ W.failures sink.old + 1) }
     ensures written { OnOk result (Appends (W.contents sink.old) (W.contents sink.new) bytes.now) }
     ensures front { OnErr result
-        (AppendsFront (W.contents sink.old) (W.contents sink.new) bytes.now) }
+        (AppendsPrefix (W.contents sink.old) (W.contents sink.new) bytes.now) }
 {
     let mut rest = bytes;
     while !rest.is_empty() {

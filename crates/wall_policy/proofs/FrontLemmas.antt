@@ -3,7 +3,7 @@ use Rattle.std.proofs.Common.{◌≡◌, ℕ, zero, suc, ◌<◌, ◌≤◌, Boo
 use Rattle.std.proofs.Common.{List, [], ◌∷◌, take, nat_eq, nat_lt, Option, Some, refl}
 use Rattle.std.proofs.Common.{sym, ◌∙◌, ap, inl, inr, ◌⊎◌, arith, slice_get}
 use Rattle.std.specs.Prelude.{filter, min}
-use Rattle.std.proofs.lemmas.Bool.{cases_Bool, and_parts, eqb-true, ltb-true}
+use Rattle.std.proofs.lemmas.Bool.{cases_Bool, and_parts, or_parts, or_right, eqb-true, ltb-true}
 use Rattle.std.proofs.lemmas.List.{length-take}
 use Rattle.std.specs.List.{list_all, list_any}
 use Rattle.std.specs.Str.{bytes_eq}
@@ -27,10 +27,6 @@ list_all-front test (suc n) [] all = refl
 list_all-front test (suc n) (x ∷ xs) all =
     let parts = and_parts (test x) (list_all test xs) all in
     rw (parts.0, list_all-front test n xs parts.1) refl
-
-or_parts : (a b : Bool) → (a || b) ≡ false → (a ≡ false) × (b ≡ false)
-or_parts true b e = absurd cc
-or_parts false b e = (refl, e)
 
 list_any-front : {X : Type 0} (test : X → Bool) (n : ℕ) (xs : List X) →
     list_any test xs ≡ false → list_any test (take n xs) ≡ false
@@ -58,10 +54,6 @@ is_pair p d pair = nat_eq pair.0 p && nat_eq pair.1 d
 or_cases : (a b : Bool) → (a || b) ≡ true → (a ≡ true) ⊎ (b ≡ true)
 or_cases true b e = inl refl
 or_cases false b e = inr e
-
-or_right : (a b : Bool) → b ≡ true → (a || b) ≡ true
-or_right true b e = refl
-or_right false b e = e
 
 pub has_pair-front : (n : ℕ) (pairs : List (ℕ × ℕ)) (p d : ℕ) →
     has_pair (pairs_of n pairs) p d ≡ true → (has_pair pairs p d ≡ true) × (p < n)

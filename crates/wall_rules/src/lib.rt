@@ -4,6 +4,8 @@
 #![tactic(auto)]
 
 mod histories;
+mod rule;
 
 pub use histories::Histories;
+pub use rule::Rule;
 pub use wall_labels::NoMemory;

@@ -1,14 +1,12 @@
 -- Lists over the numbers below n, by one number more.
 use Rattle.std.proofs.Common.{◌≡◌, ℕ, zero, suc, ◌+◌, ◌<◌, ◌≤◌, Bool, true, false, List, [], ◌∷◌}
 use Rattle.std.proofs.Common.{◌++◌, length, map, find, flat_map, Some, None, refl, sym, ap, ◌∙◌}
-use Rattle.std.proofs.Common.{subst, ◌||◌, cond, arith, ⊎_elim, ◌-◌}
+use Rattle.std.proofs.Common.{subst, ◌||◌, arith, ⊎_elim, ◌-◌}
 use Rattle.std.specs.Prelude.{count_by}
-use Rattle.std.specs.List.{range_with_len, list_any}
+use Rattle.std.specs.List.{range_with_len}
 use Rattle.std.specs.Option.{option_or, option_map}
-use Rattle.std.proofs.Math.Bool.{or-false}
 use Rattle.std.proofs.lemmas.Bool.{cond-true, cond-false, cases_Bool}
-use Rattle.std.proofs.lemmas.List.Folds.{list_any-append, find-append}
-use Rattle.std.proofs.lemmas.List.Sums.{sum_by-append}
+use Rattle.std.proofs.lemmas.List.Folds.{find-append}
 use Rattle.std.proofs.lemmas.Grind.{flat_map-append}
 use Rattle.mpi_cart.specs.Grids.{below}
 use Rattle.mpi_cart.proofs.MpiCartLemmas.{below_more}
@@ -39,17 +37,6 @@ below_split n i h = go (n - suc i) (omega arith)
 
 pub length_below : (n : ℕ) → length (below n) ≡ n
 length_below n = Rattle.std.proofs.lemmas.List.FromFn.length-range_with_len 0 n
-
-pub any_more : (p : ℕ → Bool) (n : ℕ) → list_any p (below (n + 1)) ≡ (list_any p (below n) || p n)
-any_more p n = ap (λ xs. list_any p xs) (below_more n)
-    ∙ (list_any-append p (below n) (n ∷ []) ∙ ap (λ b. list_any p (below n) || b) (or-false (p n)))
-
-pub count_more : (p : ℕ → Bool) (n : ℕ) →
-    count_by p (below (n + 1)) ≡ count_by p (below n) + cond (p n) 1 0
-count_more p n = ap (λ xs. count_by p xs) (below_more n)
-    ∙ (sum_by-append (λ x. cond (p x) 1 0) (below n) (n ∷ [])
-    ∙ (let e : 0 + cond (p n) 1 0 ≡ cond (p n) 1 0 = omega arith in
-    ap (λ (k : ℕ). count_by p (below n) + k) e))
 
 pub count_within : (p : ℕ → Bool) (n : ℕ) → count_by p (below n) ≤ n
 count_within p n = subst (λ m. count_by p (below n) ≤ m) (length_below n)

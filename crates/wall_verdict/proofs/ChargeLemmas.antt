@@ -11,7 +11,8 @@ use Rattle.std.proofs.lemmas.Bool.{cases_Bool, false≢true}
 use Rattle.mpi_cart.specs.Grids.{below}
 use Rattle.wall_verdict.specs.Charges.{is_that, is_another}
 use Rattle.wall_verdict.specs.Inflows.{is_brought}
-use Rattle.wall_verdict.proofs.BelowLemmas.{any_more, count_more, count_within}
+use Rattle.mpi_cart.proofs.MpiCartLemmas.{any_more, count_more}
+use Rattle.wall_verdict.proofs.BelowLemmas.{count_within}
 
 or_comm : (a b : Bool) → (a || b) ≡ (b || a)
 or_comm true true = refl

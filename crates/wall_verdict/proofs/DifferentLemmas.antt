@@ -8,7 +8,7 @@ use Rattle.std.proofs.lemmas.Bool.{false≢true, cases_Bool}
 use Rattle.mpi_cart.specs.Grids.{below}
 use Rattle.wall_verdict.specs.Charges.{is_that, is_another}
 use Rattle.wall_verdict.specs.Inflows.{is_brought}
-use Rattle.wall_verdict.proofs.BelowLemmas.{any_more, count_more}
+use Rattle.mpi_cart.proofs.MpiCartLemmas.{any_more, count_more}
 use Rattle.wall_verdict.proofs.ChargeLemmas.{another_of, turned}
 use Rattle.wall_verdict.proofs.InflowLemmas.{count_alike}
 use Rattle.wall_verdict.specs.Laws.{DifferentAreCountedOnce}

@@ -31,7 +31,8 @@ use Rattle.wall_verdict.specs.Charges.{is_another, is_that, sanitised, contribut
 use Rattle.wall_verdict.specs.Verdicts.{member, meets, meets_rival, offends}
 use Rattle.wall_verdict.specs.Inflows.{start_of, end_of, is_alike, is_brought, IsInflow, IsInflowOf}
 use Rattle.wall_verdict.specs.Inflows.{IsTakenFromSlots, IsLabelled, IsWhole, Serves}
-use Rattle.wall_verdict.proofs.BelowLemmas.{any_more, count_more, count_within}
+use Rattle.mpi_cart.proofs.MpiCartLemmas.{any_more, count_more}
+use Rattle.wall_verdict.proofs.BelowLemmas.{count_within}
 use Rattle.wall_verdict.proofs.ChargeLemmas.{brought_more, brought_same, contains_inserted}
 use Rattle.wall_verdict.proofs.ChargeLemmas.{different_more, different_same, different_within}
 use Rattle.wall_verdict.proofs.MeetLemmas.{meets_none, sanitised_spares, unsanitised_meets}

@@ -21,7 +21,7 @@ use Rattle.wall_verdict.specs.Verdicts.{member, meets, meets_rival, offends, fir
 use Rattle.wall_verdict.specs.Verdicts.{first_offence, told, verdict, verdict_by}
 use Rattle.wall_verdict.specs.Meanings.{IsVerdict, NamesBarred, NamesOffence, NobodyIsBarred}
 use Rattle.wall_verdict.specs.Meanings.{MembersStayApart}
-use Rattle.wall_verdict.proofs.BelowLemmas.{any_more}
+use Rattle.mpi_cart.proofs.MpiCartLemmas.{any_more}
 use Rattle.wall_verdict.proofs.PairLemmas.{none_at, none_below, IsFirst, Searched, search_below}
 use Rattle.wall_verdict.proofs.PairLemmas.{spared, none_found, IsFirstPair, SearchedPairs}
 use Rattle.wall_verdict.proofs.PairLemmas.{search_pairs}

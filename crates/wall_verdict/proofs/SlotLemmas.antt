@@ -1,6 +1,6 @@
 -- What comes to a receiver between neighbours: its neighbours bring all of it.
 use Rattle.std.proofs.Common.{◌≡◌, ℕ, ◌<◌, Bool, true, false, ◌&&◌, cond, List, Option, Some, None}
-use Rattle.std.proofs.Common.{slice_get, refl, sym, ap, ◌∙◌, arith, eqb-true}
+use Rattle.std.proofs.Common.{slice_get, refl, sym, ap, ◌∙◌, arith}
 use Rattle.std.specs.Option.{option_and_then}
 use Rattle.std.specs.List.{list_any}
 use Rattle.std.proofs.lemmas.Bool.{false≢true}
@@ -23,11 +23,11 @@ use Rattle.coll_routes.specs.declared.statement.Stated.{Stated}
 use Rattle.coll_routes.specs.declared.roll.Shape.{Shape}
 use Rattle.coll_routes.specs.declared.roll.Roll.{Roll}
 use Rattle.coll_routes.specs.Signatures.{is_neighbourly, reduction}
-use Rattle.coll_routes.specs.Rolls.{goes_by, is_it, is_neighbour, neighbour_in, stated_by}
+use Rattle.coll_routes.specs.Rolls.{goes_by, is_neighbour, neighbour_in, stated_by}
 use Rattle.coll_routes.specs.Rolls.{stated_in, label_in, label_of, own_counts_in, given, goes}
 use Rattle.coll_routes.specs.Rolls.{places, sends, routed}
 use Rattle.coll_routes.specs.Fit.{IsFit}
-use Rattle.coll_routes.proofs.CollRoutesLemmas.{any_at, any_found}
+use Rattle.coll_routes.proofs.CollRoutesLemmas.{any_at, any_found, it_is}
 use Rattle.wall_verdict.specs.Charges.{contribution, contributed, dataset_in, is_that}
 use Rattle.wall_verdict.specs.Inflows.{from_slot, is_brought}
 
@@ -74,10 +74,6 @@ goes_near (Create ranks) shape counts i x j t e h = absurd (false≢true e)
 goes_near (CartCreate dims periods) shape counts i x j t e h = absurd (false≢true e)
 goes_near (CartSub keep) shape counts i x j t e h = absurd (false≢true e)
 
-named : (o : Option ℕ) (i : ℕ) → is_it o i ≡ true → o ≡ Some i
-named (Some r) i h = ap (λ (m : ℕ). Some m) (eqb-true r i h)
-named None i h = absurd (false≢true h)
-
 routed_near : (roll : Roll) (i j : ℕ) → is_neighbourly roll.sig ≡ true → routed roll i j ≡ true
     → (t : ℕ) × (t < places roll j) × (neighbour_in roll.shape.grid j t ≡ Some i)
 unfolding routed
@@ -86,7 +82,7 @@ routed_near roll i j near h =
     let element = any_found (λ x. goes roll i x j slot.0) 0 (given roll i) slot.2 in
     let is = goes_near roll.sig roll.shape (own_counts_in (stated_by roll i)) i element.0 j slot.0
     near element.2 in
-    (slot.0, omega (arith, slot.1), named (neighbour_in roll.shape.grid j slot.0) i is)
+    (slot.0, omega (arith, slot.1), it_is (neighbour_in roll.shape.grid j slot.0) i is)
 
 ---- Who contributes is a rank that is routed.
 

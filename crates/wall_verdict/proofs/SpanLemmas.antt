@@ -1,8 +1,8 @@
 -- Which ranks reach a receiver, and which reach two receivers alike.
 use Rattle.std.proofs.Common.{◌≡◌, ℕ, ◌+◌, ◌*◌, ◌<◌, ◌≤◌, Bool, true, false, ◌&&◌, cond, List}
-use Rattle.std.proofs.Common.{Option, Some, None, get_or, take, sum, replicate, refl, sym, ap, ◌∙◌}
+use Rattle.std.proofs.Common.{Some, None, get_or, take, sum, replicate, refl, sym, ap, ◌∙◌}
 use Rattle.std.proofs.Common.{subst, arith, inl, inr, ◌⊎◌, ⊎_elim, nat_eq, nat_lt, nat_le, ne_eqb}
-use Rattle.std.proofs.Common.{eq-eqb, eqb-true, ltb-true, lt-ltb, IsSome}
+use Rattle.std.proofs.Common.{eq-eqb, eqb-true, ltb-true, lt-ltb}
 use Rattle.std.specs.Prelude.{not, ◌==◌}
 use Rattle.std.specs.List.{list_any}
 use Rattle.std.proofs.lemmas.Bool.{cases_Bool, false≢true, ltb-false, le-leb, leb-true, and_from}
@@ -36,6 +36,7 @@ use Rattle.coll_routes.specs.Fit.{IsFit}
 use Rattle.coll_routes.proofs.CollRoutesLemmas.{any_at, any_none, empty_block, size_more}
 use Rattle.coll_routes.proofs.CollRoutesLemmas.{size_inside, sum_front, even_whole, count_is_good}
 use Rattle.coll_routes.proofs.CollRoutesLemmas.{met, is_there, no_fault, sends_is, by_place}
+use Rattle.coll_routes.proofs.CollRoutesLemmas.{stated_there}
 use Rattle.wall_verdict.specs.Charges.{contribution, dataset_in}
 use Rattle.wall_verdict.specs.Inflows.{from_root, past_root, all_at, start_of, end_of, is_alike}
 
@@ -355,10 +356,6 @@ module _ (shape : Shape) (own : Own) (counts : List ℕ) (given i j k : ℕ) (hj
   sends_alike (CartCreate dims periods) m e low high = absurd (false≢true e)
   sends_alike (CartSub keep) m e low high = absurd (false≢true e)
 
-there : (o : Option Stated) → IsSome o → (s : Stated) × (o ≡ Some s)
-there (Some s) h = (s, refl)
-there None h = absurd (false≢true h)
-
 module _ (roll : Roll) (fit : IsFit roll) (i : ℕ) (h : i < roll.shape.size)
     (plain : is_neighbourly roll.sig ≡ false) (s : Stated) (is : stated_by roll i ≡ Some s) where
   routed_by : (j : ℕ) →
@@ -377,7 +374,7 @@ pub comes_alike : (roll : Roll) (i j k : ℕ) → IsFit roll → is_alike roll.s
     → i < end_of roll.sig roll.shape.size j → i < end_of roll.sig roll.shape.size k →
     contribution roll i j ≡ contribution roll i k
 comes_alike roll i j k fit alike h hj hk low high =
-    let found = there (stated_by roll i) (is_there roll i fit h) in
+    let found = stated_there (stated_by roll i) (is_there roll i fit h) in
     let plain = alike_is_plain roll.sig alike in
     ap (λ b. cond b (dataset_in (label_of roll i)) None) (
     routed_by roll fit i h plain found.0 found.1 j

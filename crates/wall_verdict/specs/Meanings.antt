@@ -8,7 +8,7 @@ use Rattle.wall_rules.specs.Histories.{History}
 use Rattle.wall_rules.specs.Rules.{HoldsNoRivals}
 use Rattle.coll_routes.specs.declared.roll.Roll.{Roll}
 use Rattle.coll_routes.specs.Rolls.{label_of, is_barred, routed}
-use Rattle.wall_verdict.specs.declared.verdict.Rule.TheVariants.{Star, Simple}
+use Rattle.wall_rules.specs.declared.rule.Rule.TheVariants.{Star, Simple}
 use Rattle.wall_verdict.specs.declared.verdict.Verdict.{Verdict}
 use Rattle.wall_verdict.specs.declared.verdict.Verdict.TheVariants.{Granted, Denied}
 use Rattle.wall_verdict.specs.Charges.{sanitised, charged}

@@ -49,7 +49,7 @@ pub fn contribution(roll: &Roll, from: u32, to: u32) -> Option<DatasetId>
 }
 
 /// How many ranks are routed to the rank whose label is a dataset.
-#[tactic(auto, using(crate::proofs::BelowLemmas::count_more, crate::proofs::BelowLemmas::count_within))]
+#[tactic(auto, using(mpi_cart::proofs::MpiCartLemmas::count_more, crate::proofs::BelowLemmas::count_within))]
 fn contributors(roll: &Roll, to: u32) -> u32
     requires fit { IsFit roll.now }
     requires to { to < roll.now.shape.size }

@@ -15,11 +15,11 @@ use super::case::Case;
 use super::charge::{contribution, is_enough, label_of};
 use super::collected::Collected;
 use super::inflow::Inflow;
-use super::verdict::{Rule, Verdict};
+use super::verdict::Verdict;
 use coll_routes::{Roll, Signature};
 use wall_labels::{DatasetId, Label, LabelSet, ProcessId};
 use wall_policy::Policy;
-use wall_rules::Histories;
+use wall_rules::{Histories, Rule};
 
 /// Nobody has had access to two rivals: histories keep that.
 pub fn keep_apart(histories: &Histories)

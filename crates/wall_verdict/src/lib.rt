@@ -18,4 +18,5 @@ pub use charge::{charged, sanitised};
 pub use grant::settle;
 pub use judge::decide;
 pub use star::{enter_passed, passes_star};
-pub use verdict::{Rule, Verdict};
+pub use verdict::Verdict;
+pub use wall_rules::Rule;

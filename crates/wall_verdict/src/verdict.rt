@@ -1,15 +1,7 @@
 //! What is decided of a full instance.
 
 use wall_labels::{Label, ProcessId};
-
-/// A rule of the wall. (Brewer and Nash 1989.)
-#[derive(Clone, Copy, Debug, PartialEq, Eq)]
-pub enum Rule {
-    /// The *-property: who has had access to another dataset may not write to this one.
-    Star,
-    /// Simple security: nobody has access to two rivals.
-    Simple,
-}
+use wall_rules::Rule;
 
 /// Whether an instance delivers, to all its members or to none.
 #[derive(Clone, Copy, Debug, PartialEq, Eq)]

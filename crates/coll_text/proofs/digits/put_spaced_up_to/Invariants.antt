@@ -1,5 +1,5 @@
 use Rattle.std.proofs.Common.{◌≡◌, ◌≤◌, ◌-◌, ◌++◌, take, drop}
-use Rattle.coll_text.specs.Writing.{spaced_numbers, IsFront}
+use Rattle.coll_text.specs.Writing.{spaced_numbers, KeepsPrefix}
 use Rattle.coll_text.proofs.digits.put_spaced_up_to.Given as goal
 
 abbrev pub invariant-loop-i : goal.invariant-loop-i
@@ -8,7 +8,7 @@ invariant-loop-i l = record {
   within : l.i ≤ l.to;
   so_far : l.fn.text.items ++ spaced_numbers (drop l.from (take l.to l.numbers.numbers))
       ≡ l.text.items ++ spaced_numbers (drop l.i (take l.to l.numbers.numbers));
-  front : IsFront l.fn.text.items l.text.items;
+  front : KeepsPrefix l.fn.text.items l.text.items;
 }
 
 abbrev pub decreases-loop-i : goal.decreases-loop-i

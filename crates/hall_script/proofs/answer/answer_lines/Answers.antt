@@ -8,7 +8,7 @@ use Rattle.hall_script.proofs.answer.answer_lines.Goals as goal
 
 pub loop-line-init : goal.loop-line-init
 loop-line-init g c =
-    let wall = g.M.Machine.wall c.args.machine.now in
+    let wall = g.M.Answerer.wall c.args.machine.now in
     let n : length c.new-lines.result ≡ count_by (λ b. b == 10) c.args.script.now + 1 = ap length
     c.new-lines.ensures ∙ length-slice_split (λ b. b == 10) c.args.script.now in
     record {
@@ -16,7 +16,7 @@ loop-line-init g c =
       count = refl;
       bound = omega
           (arith, n, count_by-le-length (λ (b : ℕ). b == 10) c.args.script.now, c.requires.bounded);
-      so_far = rw c.new-lines.ensures (begins g.M.Machine.stands wall c.args.machine.now
+      so_far = rw c.new-lines.ensures (begins g.M.Answerer.stands wall c.args.machine.now
           (g.W.Sink.contents c.args.sink.now) c.args.text.now.items
           (script_of wall.dataset_names c.args.script.now) c.requires.begins
           c.requires.nothing);
@@ -24,9 +24,9 @@ loop-line-init g c =
 
 pub returns-in-Err-clause-ends : goal.returns-in-Err-clause-ends
 returns-in-Err-clause-ends g c =
-    let wall = g.M.Machine.wall c.args.machine.now in
+    let wall = g.M.Answerer.wall c.args.machine.now in
     rw c.fault_of.ensures.fault
-    (ends g.M.Machine.stands wall c.loop-line.machine c.answer_line.new.machine
+    (ends g.M.Answerer.stands wall c.loop-line.machine c.answer_line.new.machine
     (g.W.Sink.contents c.args.sink.now) (g.W.Sink.contents c.loop-line.sink)
     c.loop-line.text.items c.answer_line.new.text.items
     (script_of wall.dataset_names c.args.script.now) c.loop-line.number c.in-Some.line.now
@@ -36,8 +36,8 @@ returns-in-Err-clause-ends g c =
 
 pub returns-in-Err-send_long-clause-ends : goal.returns-in-Err-send_long-clause-ends
 returns-in-Err-send_long-clause-ends g c =
-    let wall = g.M.Machine.wall c.args.machine.now in
-    breaks g.M.Machine.stands wall c.loop-line.machine c.answer_line.new.machine
+    let wall = g.M.Answerer.wall c.args.machine.now in
+    breaks g.M.Answerer.stands wall c.loop-line.machine c.answer_line.new.machine
     (g.W.Sink.contents c.args.sink.now) (g.W.Sink.contents c.loop-line.sink)
     (g.W.Sink.contents c.send_long.new.sink)
     c.loop-line.text.items c.answer_line.new.text.items
@@ -47,12 +47,12 @@ returns-in-Err-send_long-clause-ends g c =
 
 pub loop-line-preserved : goal.loop-line-preserved
 loop-line-preserved g c =
-    let wall = g.M.Machine.wall c.args.machine.now in
+    let wall = g.M.Answerer.wall c.args.machine.now in
     record {
       wall = c.in-Ok.ensures.wall ∙ c.loop-line.invariant.wall;
       count = c.in-Ok-send_long.ensures.went ∙ c.loop-line.invariant.count;
       bound = omega (arith, ap length c.in-Some.ensures, c.loop-line.invariant.bound);
-      so_far = goes_on g.M.Machine.stands wall c.loop-line.machine c.answer_line.new.machine
+      so_far = goes_on g.M.Answerer.stands wall c.loop-line.machine c.answer_line.new.machine
           (g.W.Sink.contents c.args.sink.now) (g.W.Sink.contents c.loop-line.sink)
           (g.W.Sink.contents c.send_long.new.sink)
           c.loop-line.text.items c.answer_line.new.text.items c.send_long.new.text.items
@@ -65,8 +65,8 @@ loop-line-preserved g c =
 
 pub returns-clause-ends : goal.returns-clause-ends
 returns-clause-ends g c =
-    let wall = g.M.Machine.wall c.args.machine.now in
-    is_done g.M.Machine.stands wall c.loop-line.machine (g.W.Sink.contents c.args.sink.now)
+    let wall = g.M.Answerer.wall c.args.machine.now in
+    is_done g.M.Answerer.stands wall c.loop-line.machine (g.W.Sink.contents c.args.sink.now)
     (g.W.Sink.contents c.loop-line.sink) c.loop-line.text.items
     (script_of wall.dataset_names c.args.script.now)
     c.loop-line.number c.loop-line.lines tt c.in_default.ensures.0 c.loop-line.invariant.so_far

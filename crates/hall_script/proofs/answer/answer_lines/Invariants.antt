@@ -5,13 +5,13 @@ use Rattle.hall_script.proofs.answer.answer_lines.Given as goal
 
 abbrev pub invariant-loop-line : goal.invariant-loop-line
 invariant-loop-line g l = record {
-  wall : g.M.Machine.wall l.machine ≡ g.M.Machine.wall l.fn.machine;
+  wall : g.M.Answerer.wall l.machine ≡ g.M.Answerer.wall l.fn.machine;
   count : g.W.Sink.failures l.sink ≡ g.W.Sink.failures l.fn.sink;
   bound : l.number + length l.lines ≤ 16777218;
-  so_far : SoFar g.M.Machine.stands (g.M.Machine.wall l.fn.machine) l.machine
+  so_far : SoFar g.M.Answerer.stands (g.M.Answerer.wall l.fn.machine) l.machine
       (g.W.Sink.contents l.fn.sink) (g.W.Sink.contents l.sink) l.text.items
-      (script_of (g.M.Machine.wall l.fn.machine).dataset_names l.script)
-      (script_from (line_call (g.M.Machine.wall l.fn.machine).dataset_names) l.number l.lines);
+      (script_of (g.M.Answerer.wall l.fn.machine).dataset_names l.script)
+      (script_from (line_call (g.M.Answerer.wall l.fn.machine).dataset_names) l.number l.lines);
 }
 
 abbrev pub decreases-loop-line : goal.decreases-loop-line

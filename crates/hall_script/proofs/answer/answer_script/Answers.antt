@@ -13,7 +13,7 @@ fault_is f g e = cc
 
 pub returns-in-Ok-send-2 : goal.returns-in-Ok-send-2
 returns-in-Ok-send-2 g c =
-    let wall = g.M.Machine.wall c.args.machine.now in
+    let wall = g.M.Answerer.wall c.args.machine.now in
     let before = g.W.Sink.contents c.args.sink.now in
     let now = g.W.Sink.contents c.answer_lines.new.sink in
     let whole = script_of wall.dataset_names c.args.script.now in
@@ -23,17 +23,17 @@ returns-in-Ok-send-2 g c =
       wall = c.in-Err.ensures.wall;
       went = λ _. c.in-Ok-send-2.ensures.went ∙ c.in-Err.ensures.went other;
       failed = λ e. absurd (other e);
-      not_read = λ e. not_read g.M.Machine.stands wall c.answer_lines.new.machine before now
+      not_read = λ e. not_read g.M.Answerer.stands wall c.answer_lines.new.machine before now
           c.answer_lines.new.text.items whole c.in-Err.fault c.in-Err.ensures.ends
           (fault_is c.in-Err.fault Read e);
-      replays = written_out g.M.Machine.stands wall c.answer_lines.new.machine before now
+      replays = written_out g.M.Answerer.stands wall c.answer_lines.new.machine before now
           (g.W.Sink.contents c.send-in_default.new.sink) c.answer_lines.new.text.items whole
           (failed c.in-Err.fault) other c.in-Err.ensures.ends c.in-Ok-send-2.ensures.sent;
     }
 
 pub returns : goal.returns
 returns g c =
-    let wall = g.M.Machine.wall c.args.machine.now in
+    let wall = g.M.Answerer.wall c.args.machine.now in
     let before = g.W.Sink.contents c.args.sink.now in
     let now = g.W.Sink.contents c.answer_lines.new.sink in
     let whole = script_of wall.dataset_names c.args.script.now in
@@ -45,7 +45,7 @@ returns g c =
       failed =
           λ _. c.in-Err-send-2.ensures.failed ∙ ap (λ (n : ℕ). n + 1) (c.in-Err.ensures.went other);
       not_read = λ e. let k : Write ≡ Read = fault_is Write Read e in cc;
-      replays = broken_off g.M.Machine.stands wall c.answer_lines.new.machine before now
+      replays = broken_off g.M.Answerer.stands wall c.answer_lines.new.machine before now
           (g.W.Sink.contents c.send-in_default.new.sink) c.answer_lines.new.text.items whole
           (failed c.in-Err.fault) other c.in-Err.ensures.ends c.in-Err-send-2.ensures.front;
     }

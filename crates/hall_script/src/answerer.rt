@@ -13,7 +13,7 @@ use wall_labels::NoMemory;
 use wall_policy::Policy;
 
 /// What answers calls, one after the other.
-pub(crate) trait Machine {
+pub(crate) trait Answerer {
     /// It stands for the run, whose newest entry is the first.
     ghost stands: { Self → List Entry → Type 0 };
 

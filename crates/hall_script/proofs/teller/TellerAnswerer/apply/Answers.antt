@@ -1,6 +1,6 @@
 use Rattle.run_model.specs.Runs.{entry}
 use Rattle.hall_script.proofs.TellingLemmas.{teller_after, all_stay}
-use Rattle.hall_script.proofs.teller.TellerMachine.apply.Goals as goal
+use Rattle.hall_script.proofs.teller.TellerAnswerer.apply.Goals as goal
 
 pub returns-clause-carries : goal.returns-clause-carries
 returns-clause-carries c = λ run legal tells.

@@ -6,7 +6,7 @@ use Rattle.run_model.specs.Runs.{contributions}
 use Rattle.hall_script.specs.Replies.{reply_line}
 use Rattle.hall_script.specs.Telling.{delivery_if}
 use Rattle.hall_script.proofs.TellingLemmas.{goes_of, shown, take_answered}
-use Rattle.hall_script.proofs.teller.TellerMachine.take.Goals as goal
+use Rattle.hall_script.proofs.teller.TellerAnswerer.take.Goals as goal
 
 pub returns-in_ok-write_reply-in-Outcome-clause-answered :
     goal.returns-in_ok-write_reply-in-Outcome-clause-answered
