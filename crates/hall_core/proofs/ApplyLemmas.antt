@@ -1,5 +1,5 @@
 -- One call, from what a hall stands for to runs.
-use Rattle.std.proofs.Common.{◌≡◌, ℕ, List, [], ◌∷◌, refl, sym, ap, ◌∙◌, subst, All, length}
+use Rattle.std.proofs.Common.{◌≡◌, ℕ, List, [], ◌∷◌, refl, sym, ap, ◌∙◌, subst, All}
 use Rattle.std.proofs.Common.{Some, slice_get}
 use Rattle.wall_policy.specs.Policy.{ChineseWall, IsPolicy}
 use Rattle.wall_rules.specs.Histories.{History, NobodyHoldsRivals}
@@ -25,11 +25,9 @@ use Rattle.hall_core.proofs.TakeLemmas.{open_at}
 use Rattle.hall_core.proofs.ClaimLemmas.{held_claims}
 use Rattle.hall_core.specs.Halls.{HallValue, StandsForEffects, StandsForRun, StandsFor, view_of}
 use Rattle.hall_core.specs.Asking.{opened, requests_of}
-use Rattle.hall_core.specs.Settling.{KeepsCount}
-use Rattle.hall_core.specs.Invariant.{IsHallValue}
+use Rattle.hall_core.specs.Invariant.{IsHallView}
 use Rattle.hall_core.specs.Moves.{Steps}
-use Rattle.run_model.specs.Known.{HasKnownLabel, IsKnownEntry}
-use Rattle.hall_core.proofs.NamedLemmas.{is_hall_after}
+use Rattle.run_model.specs.Known.{IsKnownEntry}
 
 pub stands_for : (hall : HallValue) (run : List Entry) → StandsFor hall run →
     StandsForRun (view_of hall) run
@@ -79,22 +77,6 @@ applied_apart old new call got policy same steps run legal stands =
     nobody_holds_two_rivals_in_runs new.policy [] (entry call got ∷ run)
     (subst IsPolicy (sym same) policy) (applied old new call got same steps run legal stands).0
 
--- a hall is one after a call
-pub kept_after : (old new : HallValue) (call : Call) (got : Reply) → IsHallValue old →
-    new.policy ≡ old.policy →
-    Rattle.std.proofs.Common.length new.asked ≡ Rattle.std.proofs.Common.length old.asked →
-    KeepsCount (requests_of new.asked) (length new.asked) new.settled →
-    HasKnownLabel old.policy call.act →
-    Steps (view_of old) (view_of new) call.process call.act got → IsHallValue new
-kept_after old new call got is same each counted known steps = record {
-  policy = subst IsPolicy (sym same) is.policy;
-  each = each
-      ∙ (is.each ∙ ap (λ (w : ChineseWall). Rattle.run_model.specs.Comms.processes w) (sym same));
-  counted = counted;
-  stands = is_hall_after (view_of old) (view_of new) call.process call.act got is.stands same known
-      steps;
-}
-
 -- the contract of `claim`, of what it holds
 pub claimed : (old : HallValue) (p r : ℕ) (claim : Claim) → HoldsWhatIsKept (view_of old) p r claim
     → (run : List Entry) → Legal old.policy run → StandsFor old run
@@ -116,34 +98,33 @@ histories_are hall h run by stands =
     (posts_but_for_room hall.policy of.kept (effects run) of.same)
 
 -- the histories are those of the posts in the book
-pub histories_of_book : (hall : HallValue) (h : History) → IsHallValue hall
+pub histories_of_book : (hall : HallValue) (h : History) → IsHallView (view_of hall)
     → ((wall : ChineseWall) (past : List _) → StandsForPosts wall (view_of hall).post_state past
     → h ≡ histories wall (posts_of past))
     → h ≡ histories hall.policy (posts_in_book hall.book.list)
 histories_of_book hall h is by =
-    let effects = is.stands.effects in
-    let posts = ap posts_in_book is.stands.stands.book
+    let effects = is.effects in
+    let posts = ap posts_in_book is.stands.book
     ∙ posts_in-book hall.policy (posts_in effects) in
-    by hall.policy effects.contributions is.stands.stands.post_state
+    by hall.policy effects.contributions is.stands.post_state
     ∙ ap (histories hall.policy) (sym posts)
 
 -- the histories have the processes and the classes of the policy
-pub processes_are : (hall : HallValue) → IsHallValue hall
+pub processes_are : (hall : HallValue) → IsHallView (view_of hall)
     → hall.post_state.accesses.processes ≡ processes hall.policy
-processes_are hall is = is.stands.stands.post_state.processes
+processes_are hall is = is.stands.post_state.processes
 
-pub classes_are : (hall : HallValue) → IsHallValue hall
+pub classes_are : (hall : HallValue) → IsHallView (view_of hall)
     → hall.post_state.accesses.classes ≡ hall.policy.classes
-classes_are hall is = is.stands.stands.post_state.classes
+classes_are hall is = is.stands.post_state.classes
 
-pub nobody_holds_rivals : (hall : HallValue) (h : History) → IsHallValue hall →
+pub nobody_holds_rivals : (hall : HallValue) (h : History) → IsHallView (view_of hall) →
     ((wall : ChineseWall) (past : List _) → StandsForPosts wall (view_of hall).post_state past →
     h ≡ histories wall (posts_of past)) → NobodyHoldsRivals hall.policy.classes h
 nobody_holds_rivals hall h is by =
     subst (NobodyHoldsRivals hall.policy.classes)
-    (sym (by hall.policy is.stands.effects.contributions is.stands.stands.post_state))
-    (posts_keep_the_wall hall.policy (posts_in is.stands.effects) is.policy
-    is.stands.is_made.proper.posts)
+    (sym (by hall.policy is.effects.contributions is.stands.post_state))
+    (posts_keep_the_wall hall.policy (posts_in is.effects) is.policy is.is_made.proper.posts)
 
 pub is_held : (hall : HallValue) (h : History) (run : List Entry) → ((wall : ChineseWall)
     (past : List _) → StandsForPosts wall (view_of hall).post_state past →
@@ -160,14 +141,15 @@ book_is hall run stands =
     ∙ ap (λ past. book hall.policy past)
     (posts_but_for_room hall.policy of.kept (effects run) of.same)
 
-pub sound : (hall : HallValue) → IsHallValue hall → IsSound hall.policy hall.book.list
-sound hall is = subst (IsSound hall.policy) (sym is.stands.stands.book)
-    (book_is_sound hall.policy (posts_in is.stands.effects) is.stands.is_made.proper.posts)
+pub sound : (hall : HallValue) → IsHallView (view_of hall) → IsSound hall.policy hall.book.list
+sound hall is = subst (IsSound hall.policy) (sym is.stands.book)
+    (book_is_sound hall.policy (posts_in is.effects) is.is_made.proper.posts)
 
-pub named : (hall : HallValue) → IsHallValue hall → All (IsKnownEntry hall.policy) hall.book.list
-named hall is = subst (All (IsKnownEntry hall.policy)) (sym is.stands.stands.book)
-    (book_named hall.policy (posts_in is.stands.effects) is.policy is.stands.is_made.proper.posts
-    is.stands.is_made.labels)
+pub named : (hall : HallValue) → IsHallView (view_of hall) →
+    All (IsKnownEntry hall.policy) hall.book.list
+named hall is = subst (All (IsKnownEntry hall.policy)) (sym is.stands.book)
+    (book_named hall.policy (posts_in is.effects) is.policy is.is_made.proper.posts
+    is.is_made.labels)
 
 -- ## requests
 

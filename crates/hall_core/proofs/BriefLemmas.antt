@@ -21,10 +21,10 @@ use Rattle.hall_core.specs.Briefs.{Adds, IsBrief, kept_in}
 use Rattle.hall_core.specs.Claims.{to_take}
 use Rattle.hall_core.specs.Halls.{HallValue, HallView, StandsFor, StandsForRun, view_of}
 use Rattle.hall_core.specs.Ledgers.{LedgerValue}
-use Rattle.hall_core.specs.Invariant.{AreCounted, IsHallValue, IsHallView, value_in, view_in}
+use Rattle.hall_core.specs.Invariant.{IsHallView, Keeps, value_in, view_in}
 use Rattle.hall_core.specs.Moves.{Steps}
-use Rattle.hall_core.proofs.ApplyLemmas.{applied, book_is, for_stands, kept_after, named}
-use Rattle.hall_core.proofs.ApplyLemmas.{stands_for}
+use Rattle.hall_core.proofs.ApplyLemmas.{applied, book_is, for_stands, named, stands_for}
+use Rattle.hall_core.proofs.NamedLemmas.{is_hall_after}
 
 -- ## books
 
@@ -40,19 +40,19 @@ book_more wall None past = sym (append-nil (book wall (posts_of past)))
 book_more wall (Some g) past = refl
 
 -- what a call makes in the book of a hall, whatever run it stands for
-pub made_in : (old new : HallValue) (call : Call) (got : Reply) (is : IsHallValue old) →
+pub made_in : (old new : HallValue) (call : Call) (got : Reply) (is : IsHallView (view_of old)) →
     new.policy ≡ old.policy → Steps (view_of old) (view_of new) call.process call.act got →
     new.book.list ≡ old.book.list
-    ++ made_by old.policy (contribution_in (entry call got)) (posts_in is.stands.effects)
+    ++ made_by old.policy (contribution_in (entry call got)) (posts_in is.effects)
 made_in old new call got is same steps =
-    let m = is.stands.effects in
+    let m = is.effects in
     let o = contribution_in (entry call got) in
-    let step = steps m is.stands.is_made.proper is.stands.stands in
+    let step = steps m is.is_made.proper is.stands in
     step.1.book
     ∙ (ap (λ (w : ChineseWall). book w (posts_of (cons_option o m.contributions))) same
     ∙ (book_more old.policy o m.contributions
     ∙ ap (λ (entries : List BookEntry). entries ++ made_by old.policy o (posts_in m))
-    (sym is.stands.stands.book)))
+    (sym is.stands.book)))
 
 -- and in that of this run
 pub made_after : (old new : HallValue) (call : Call) (got : Reply) → new.policy ≡ old.policy →
@@ -100,41 +100,39 @@ all_kept gone kept list none whole =
 
 -- ## a call
 
-pub brief_after : (old new : Records) (call : Call) (got : Reply) → IsBrief old →
-    new.policy ≡ old.policy → length new.requests.items ≡ length old.requests.items →
-    AreCounted new → HasKnownLabel old.policy call.act →
-    Steps (view_in old) (view_in new) call.process call.act got →
-    new.book.gone ≡ old.book.gone → IsBrief new
-brief_after old new call got is same each counted known steps gone = record {
-  hall = kept_after (value_in old) (value_in new) call got is.hall same each counted known steps;
+pub brief_after : (old new : Records) (call : Call) (got : Reply) → IsBrief old → Keeps old new →
+    HasKnownLabel old.policy call.act →
+    Steps (view_in old) (view_in new) call.process call.act got → IsBrief new
+brief_after old new call got is keeps known steps = record {
+  hall = is_hall_after (view_in old) (view_in new) call.process call.act got is.hall keeps.policy
+      known steps;
   whole = whole_grown old.book.gone new.book.gone old.book.list new.book.list
-      (made_by old.policy (contribution_in (entry call got)) (posts_in is.hall.stands.effects))
-      gone is.whole (made_in (value_in old) (value_in new) call got is.hall same steps);
+      (made_by old.policy (contribution_in (entry call got)) (posts_in is.hall.effects))
+      keeps.gone is.whole
+      (made_in (value_in old) (value_in new) call got is.hall keeps.policy steps);
 }
 
-pub adds : (old new : Records) (call : Call) (got : Reply) → IsBrief old →
-    new.policy ≡ old.policy → Steps (view_in old) (view_in new) call.process call.act got →
-    new.book.gone ≡ old.book.gone →
+pub adds : (old new : Records) (call : Call) (got : Reply) → IsBrief old → Keeps old new →
+    Steps (view_in old) (view_in new) call.process call.act got →
     (run : List Entry) → Legal old.policy run → StandsFor (value_in old) run →
     Adds old.policy run (entry call got) (kept_in old) (kept_in new)
-adds old new call got is same steps gone run legal stands =
+adds old new call got is keeps steps run legal stands =
     let o = contribution_in (entry call got) in
     record {
       added = made_by old.policy o (posts run);
       book = book_more old.policy o (contributions run);
       news = kept_grows old.book.gone new.book.gone old.book.list new.book.list
-          (made_by old.policy o (posts run)) gone is.whole
-          (made_after (value_in old) (value_in new) call got same steps run legal stands);
+          (made_by old.policy o (posts run)) keeps.gone is.whole
+          (made_after (value_in old) (value_in new) call got keeps.policy steps run legal stands);
     }
 
 -- a take adds nothing
 pub take_adds_nothing : (old new : Records) (p r : ℕ) (got : Reply) → IsBrief old →
-    new.policy ≡ old.policy →
-    Steps (view_in old) (view_in new) p (to_take p r).act got →
-    new.book.gone ≡ old.book.gone → kept_in new ≡ kept_in old
-take_adds_nothing old new p r got is same steps gone =
-    kept_grows old.book.gone new.book.gone old.book.list new.book.list [] gone is.whole
-    (made_in (value_in old) (value_in new) (to_take p r) got is.hall same steps)
+    Keeps old new → Steps (view_in old) (view_in new) p (to_take p r).act got →
+    kept_in new ≡ kept_in old
+take_adds_nothing old new p r got is keeps steps =
+    kept_grows old.book.gone new.book.gone old.book.list new.book.list [] keeps.gone is.whole
+    (made_in (value_in old) (value_in new) (to_take p r) got is.hall keeps.policy steps)
     ∙ append-nil (kept_in old)
 
 -- ## what is shown
@@ -173,12 +171,7 @@ module _ (old : Records) (l : LedgerValue) (same : l.list ≡ old.book.list)
 
   pub brief_still : IsBrief after
   brief_still = record {
-    hall = record {
-      policy = is.hall.policy;
-      each = is.hall.each;
-      counted = is.hall.counted;
-      stands = subst IsHallView (sym same_view) is.hall.stands;
-    };
+    hall = subst IsHallView (sym same_view) is.hall;
     whole = (λ i. gone i ++ none_left i) ∙ (append-nil old.book.list ∙ sym same);
   }
 

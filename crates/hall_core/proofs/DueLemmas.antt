@@ -3,7 +3,6 @@ use Rattle.std.proofs.Common.{◌≡◌, ◌≢◌, ℕ, ◌<◌, ◌≤◌, Lis
 use Rattle.std.proofs.Common.{refl, sym, ap, ◌∙◌, subst, length, ⊎_elim, inl}
 use Rattle.std.specs.Prelude.{unwrap_or}
 use Rattle.std.specs.Arc.{arc_value}
-use Rattle.wall_policy.specs.Policy.{IsPolicy}
 use Rattle.mpi_elems.specs.Contents.{Contents}
 use Rattle.mpi_group.specs.Groups.{rank_in}
 use Rattle.coll_values.specs.declared.full.Full.{Full}
@@ -14,7 +13,7 @@ use Rattle.run_model.specs.declared.call.Act.TheVariants.{Take}
 use Rattle.run_model.specs.declared.refusal.Refusal.TheVariants.{NoMemory, NoSuchRequest}
 use Rattle.run_model.specs.declared.reply.Reply.{Reply}
 use Rattle.run_model.specs.declared.reply.Reply.TheVariants.{Delivered, Pending, Refused}
-use Rattle.run_model.specs.Runs.{MakesNothing, effects, requests}
+use Rattle.run_model.specs.Runs.{MakesNothing, effects}
 use Rattle.run_model.specs.Replies.{reply_by_outcome}
 use Rattle.run_model.specs.Known.{IsKnownReply}
 use Rattle.hall_core.specs.declared.claims.Claim.{Claim}
@@ -224,20 +223,19 @@ finds hall p r (dues.Granted full rank it) found = record {
       (grant_wanting (view_of hall) p r full.now rank it found);
 }
 
-due_named : (hall : HallView) (it : Open) (got : Reply) → IsPolicy hall.policy → IsHallView hall →
-    IsDue hall it got → IsKnownReply hall.policy got
-due_named hall it got policy is due =
-    answer_named hall.policy is.effects it.process (Take it.request) got policy is.is_made tt
+due_named : (hall : HallView) (it : Open) (got : Reply) → IsHallView hall → IsDue hall it got →
+    IsKnownReply hall.policy got
+due_named hall it got is due =
+    answer_named hall.policy is.effects it.process (Take it.request) got is.policy is.is_made tt
     (inl (due.told ∙ sym (settled_due hall is.effects is.stands it.process it.request
     (instance_for it) due.outcome due.is_open.waits due.is_open.came)))
 
-pub found_named : (hall : HallView) (p r : ℕ) (due : Due) → IsPolicy hall.policy →
-    IsHallView hall → FindsIn hall p r due → IsKnownReply hall.policy (due_reply due)
-found_named hall p r (dues.Told got) policy is found =
-    step_named hall hall p (Take r) got policy is tt found.0
-found_named hall p r (dues.Outcome got it) policy is found =
-    due_named hall it got policy is found.due
-found_named hall p r (dues.Granted full rank it) policy is found = tt
+pub found_named : (hall : HallView) (p r : ℕ) (due : Due) → IsHallView hall →
+    FindsIn hall p r due → IsKnownReply hall.policy (due_reply due)
+found_named hall p r (dues.Told got) is found =
+    step_named hall hall p (Take r) got is tt found.0
+found_named hall p r (dues.Outcome got it) is found = due_named hall it got is found.due
+found_named hall p r (dues.Granted full rank it) is found = tt
 
 -- a look takes no memory
 pub wants_none : (hall : HallView) (p r : ℕ) (due : Due) → FindsIn hall p r due →

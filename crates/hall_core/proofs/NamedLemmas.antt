@@ -8,7 +8,6 @@ use Rattle.wall_policy.specs.Policy.{ChineseWall, IsPolicy}
 use Rattle.mpi_elems.specs.Contents.{Contents}
 use Rattle.mpi_group.specs.Groups.{rank_in}
 use Rattle.coll_values.specs.declared.full.Full.{Full}
-use Rattle.wall_verdict.specs.declared.verdict.Verdict.TheVariants.{Granted, Denied}
 use Rattle.run_model.specs.declared.refusal.Refusal.{Refusal}
 use Rattle.run_model.specs.declared.outcome.Outcome.{Outcome}
 use Rattle.run_model.specs.declared.outcome.Outcome.TheVariants as outcomes
@@ -151,6 +150,7 @@ pub is_hall_after : (old new : HallView) (p : ℕ) (act : Act) (got : Reply) →
 is_hall_after old new p act got is same known steps =
     let step = steps is.effects is.is_made.proper is.stands in
     record {
+      policy = subst IsPolicy (sym same) is.policy;
       effects = after_entry is.effects (entry_of p act got);
       stands = step.1;
       is_made = subst (λ (w : ChineseWall). IsMade w (after_entry is.effects (entry_of p act got)))
@@ -160,8 +160,7 @@ is_hall_after old new p act got is same known steps =
           });
     }
 
-pub step_named : (old new : HallView) (p : ℕ) (act : Act) (got : Reply) → IsPolicy old.policy →
-    IsHallView old → HasKnownLabel old.policy act → Steps old new p act got →
-    IsKnownReply old.policy got
-step_named old new p act got policy is known steps = answer_named old.policy is.effects p act got
-    policy is.is_made known (steps is.effects is.is_made.proper is.stands).0
+pub step_named : (old new : HallView) (p : ℕ) (act : Act) (got : Reply) → IsHallView old →
+    HasKnownLabel old.policy act → Steps old new p act got → IsKnownReply old.policy got
+step_named old new p act got is known steps = answer_named old.policy is.effects p act got
+    is.policy is.is_made known (steps is.effects is.is_made.proper is.stands).0

@@ -2,7 +2,7 @@
 use Rattle.std.proofs.Common.{◌≡◌, ℕ, ◌+◌, ◌≤◌, Bool, true, false, List, [], ◌∷◌, ◌++◌, length}
 use Rattle.std.proofs.Common.{refl, sym, ap, ◌∙◌, subst, arith, Option, Some, slice_get, option_map}
 use Rattle.std.proofs.Common.{take, drop, cond, length-append, append_assoc}
-use Rattle.wall_policy.specs.Policy.{ChineseWall, IsPolicy}
+use Rattle.wall_policy.specs.Policy.{ChineseWall}
 use Rattle.mpi_elems.specs.Contents.{Contents}
 use Rattle.mpi_comm.specs.Comms.{fits}
 use Rattle.coll_routes.specs.declared.roll.Roll.{Roll}
@@ -127,10 +127,10 @@ roll_now wall posts c k o h =
 
 -- ## what a hall may tell
 
-pub tellable : (hall : HallView) → IsPolicy hall.policy → IsHallView hall →
-    (p r : ℕ) (q : Request) (s : Settlement) → opened (hall.asked p) r ≡ Some q →
+pub tellable : (hall : HallView) → IsHallView hall → (p r : ℕ) (q : Request) (s : Settlement) →
+    opened (hall.asked p) r ≡ Some q →
     hall.settled q.comm q.k ≡ Some s → IsTellable hall.post_state.comms s
-tellable hall policy is p r q s waits e =
+tellable hall is p r q s waits e =
     let c = q.comm in
     let k = q.k in
     let known = known_as hall is.effects is.stands p r q s waits e in
@@ -149,7 +149,7 @@ tellable hall policy is p r q s waits e =
     (made_there hall.policy (posts_in is.effects) c k first number h))) in
     record {
       whole = λ granted. subst IsWhole known.full (granted_whole hall.policy
-          is.effects.contributions c k policy proper.posts proper.parts
+          is.effects.contributions c k is.policy proper.posts proper.parts
           (known.came ∙ ap (λ x. Some x) granted));
       within = λ first number o. (row first number o).within;
       made = λ first number o. (row first number o).row;

@@ -6,7 +6,7 @@ use Rattle.run_model.specs.Books.{book}
 use Rattle.run_model.specs.Runs.{Entry, posts}
 use Rattle.hall_core.specs.declared.records.Records.{Records}
 use Rattle.hall_core.specs.Halls.{HallValue}
-use Rattle.hall_core.specs.Invariant.{IsHallValue, value_in}
+use Rattle.hall_core.specs.Invariant.{IsHallView, value_in, view_in}
 
 -- the value of such a hall in clauses
 pub record BriefHallValue : Type 0 where
@@ -39,5 +39,5 @@ brief_in records = record {
 
 -- they are a hall's, and of its book those in front are gone
 pub record IsBrief (records : Records) : Type 0 where
-  pub hall : IsHallValue (value_in records)
+  pub hall : IsHallView (view_in records)
   pub whole : records.book.gone ++ kept_in records ≡ records.book.list

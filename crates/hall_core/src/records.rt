@@ -1,35 +1,12 @@
 //! All that a hall keeps.
-ghost use Rattle.std.specs.Prelude.{◌≡◌, ◌<◌, ◌+◌, ◌^◌, ◌++◌, ◌==◌, ◌&&◌, if◌then◌else◌, [], ◌∷◌};
-ghost use Rattle.std.specs.Prelude.{ℕ, length, not, IfOk, OnOk, IsTrue, IsFalse, Some};
-ghost use Rattle.std.specs.Prelude.{None, OnErr};
+ghost use Rattle.std.specs.Prelude.{◌≡◌, [], length, IfOk};
 ghost use Rattle.std.specs.Option.{option_map};
-ghost use Rattle.std.specs.Result.{result_err};
 ghost use Rattle.wall_policy.specs.Policy.{IsPolicy};
-ghost use Rattle.wall_rules.specs.Histories.{has};
 ghost use Rattle.mpi_cart.specs.Grids.{Topology};
-ghost use Rattle.mpi_elems.specs.Contents.{Contents};
-ghost use Rattle.coll_routes.specs.Faults.{stated_type};
-ghost use Rattle.coll_values.specs.declared.full.Full.{Full};
-ghost use Rattle.wall_verdict.specs.Star.{star};
-ghost use Rattle.run_model.specs.declared.entry.Entry.TheVariants.{Posted as EntryPosted};
-ghost use Rattle.run_model.specs.declared.entry.Entry.TheVariants.{Settled as EntrySettled};
 ghost use Rattle.run_model.specs.Comms.{processes};
-ghost use Rattle.run_model.specs.EntryForms.{HasForm};
-ghost use Rattle.run_model.specs.Contributions.{contribution};
-ghost use Rattle.run_state.specs.Views.{LookedAt, view_of as seen};
-ghost use Rattle.run_model.specs.declared.call.Act.TheVariants.{Take as ToTake, Post as ToPost};
 ghost use Rattle.run_model.specs.declared.reply.Reply.TheVariants.{Info};
-ghost use Rattle.run_model.specs.Runs.{effects, given_in, Effects, MakesNothing};
-ghost use Rattle.run_model.specs.Replies.{refusal};
-ghost use Rattle.hall_core.specs.Claims.{claim_reply, CanFinish, HoldsWhatIsKept};
-ghost use Rattle.hall_core.specs.Asking.{opened, requests_of, with_request};
-ghost use Rattle.hall_core.specs.declared.settled.Settlement.{Settlement};
-ghost use Rattle.hall_core.specs.Looks.{IsOpen};
-ghost use Rattle.hall_core.specs.Settling.{HasPlace, open_at, place_at, settlement_at};
-ghost use Rattle.hall_core.specs.Halls.{StandsForEffects};
-ghost use Rattle.hall_core.specs.Invariant.{AreCounted, IsHallView, view_in};
-ghost use Rattle.hall_core.specs.Moves.{info_of, number_in, IsRecorded, HasRoom, Counts, Closes};
-ghost use Rattle.hall_core.specs.Moves.{Steps, FindsIn, IsGrantIn, HoldsGrant};
+ghost use Rattle.hall_core.specs.Asking.{requests_of};
+ghost use Rattle.hall_core.specs.Settling.{KeepsCount};
 
 use crate::claims::Claim;
 use crate::instance::Instance;
@@ -49,7 +26,8 @@ use wall_labels::{NoMemory, ProcessId};
 use wall_policy::Policy;
 
 /// The policy; the counted posts so far, as the state has them; the requests of each process; the
-/// settlements of the instances that were filled; and the book.
+/// settlements of the instances that were filled; and the book. Each process of the policy has its
+/// requests, and the places of the instances count those that are open.
 pub struct Records {
     pub alloc: Global,
     pub policy: Policy,
@@ -57,6 +35,8 @@ pub struct Records {
     pub requests: Vec<Requests>,
     pub settled: Settlements,
     pub book: Ledger,
+    ghost each: { length requests.items ≡ processes policy },
+    ghost counted: { KeepsCount (requests_of requests.items) (length requests.items) settled },
 }
 
 // By hand: a derived one is proved anew in each crate that drops one.
@@ -79,12 +59,36 @@ impl Drop for Records {
 }
 
 impl Records {
+    ghost use Rattle.std.specs.Prelude.{◌<◌, ◌+◌, ◌^◌, ◌++◌, ◌==◌, ◌&&◌, if◌then◌else◌, ◌∷◌, ℕ};
+    ghost use Rattle.std.specs.Prelude.{not, OnOk, OnErr, IsTrue, IsFalse, Some, None};
+    ghost use Rattle.std.specs.Result.{result_err};
+    ghost use Rattle.wall_rules.specs.Histories.{has};
+    ghost use Rattle.mpi_elems.specs.Contents.{Contents};
+    ghost use Rattle.coll_routes.specs.Faults.{stated_type};
+    ghost use Rattle.coll_values.specs.declared.full.Full.{Full};
+    ghost use Rattle.wall_verdict.specs.Star.{star};
+    ghost use Rattle.run_model.specs.declared.entry.Entry.TheVariants.{Posted as EntryPosted};
+    ghost use Rattle.run_model.specs.declared.entry.Entry.TheVariants.{Settled as EntrySettled};
+    ghost use Rattle.run_model.specs.EntryForms.{HasForm};
+    ghost use Rattle.run_model.specs.Contributions.{contribution};
+    ghost use Rattle.run_state.specs.Views.{LookedAt, view_of as seen};
+    ghost use Rattle.run_model.specs.declared.call.Act.TheVariants.{Take as ToTake, Post as ToPost};
+    ghost use Rattle.run_model.specs.Runs.{effects, given_in, Effects, MakesNothing};
+    ghost use Rattle.run_model.specs.Replies.{refusal};
+    ghost use Rattle.hall_core.specs.Claims.{claim_reply, CanFinish, HoldsWhatIsKept};
+    ghost use Rattle.hall_core.specs.Asking.{opened, with_request};
+    ghost use Rattle.hall_core.specs.declared.settled.Settlement.{Settlement};
+    ghost use Rattle.hall_core.specs.Looks.{IsOpen};
+    ghost use Rattle.hall_core.specs.Settling.{HasPlace, open_at, place_at, settlement_at};
+    ghost use Rattle.hall_core.specs.Halls.{StandsForEffects};
+    ghost use Rattle.hall_core.specs.Invariant.{IsHallView, Keeps, view_in};
+    ghost use Rattle.hall_core.specs.Moves.{info_of, number_in, IsRecorded, HasRoom, Counts};
+    ghost use Rattle.hall_core.specs.Moves.{Closes, Steps, FindsIn, IsGrantIn, HoldsGrant};
+
     /// Records of no call.
     pub fn open(alloc: Global, policy: Policy) -> Result<Records, NoMemory>
         ensures policy { IfOk result (λ records. records.policy ≡ policy) }
         ensures is_policy { IfOk result (λ records. IsPolicy records.policy) }
-        ensures each { IfOk result (λ records. length records.requests.items ≡ processes policy) }
-        ensures counted { IfOk result AreCounted }
         ensures stands { IfOk result (λ records. StandsForEffects (view_in records) (effects [])) }
         ensures gone { IfOk result (λ records. records.book.gone ≡ []) }
     {
@@ -107,16 +111,10 @@ impl Records {
 
     /// Carries out what a process asks for.
     pub fn step(&mut self, process: u32, act: Act) -> Reply
-        requires policy { IsPolicy self.old.policy }
-        requires each { length self.old.requests.items ≡ processes self.old.policy }
-        requires counted { AreCounted self.old }
-        requires hall { IsHallView (view_in self.old) }
-        ensures policy { self.new.policy ≡ self.old.policy }
-        ensures each { length self.new.requests.items ≡ length self.old.requests.items }
-        ensures counted { AreCounted self.new }
+        requires { IsHallView (view_in self.old) }
+        ensures keeps { Keeps self.old self.new }
         ensures steps { Steps (view_in self.old) (view_in self.new) process act result }
         ensures unchanged { MakesNothing result → view_in self.new ≡ view_in self.old }
-        ensures gone { self.new.book.gone ≡ self.old.book.gone }
     {
         match act {
             Act::Post(posting) => self.post(process, posting),
@@ -145,10 +143,7 @@ impl Records {
 
     /// What a take of a request is due.
     pub fn look(&self, process: u32, request: u64) -> Due<'_>
-        requires policy { IsPolicy self.now.policy }
-        requires each { length self.now.requests.items ≡ processes self.now.policy }
-        requires counted { AreCounted self.now }
-        requires hall { IsHallView (view_in self.now) }
+        requires { IsHallView (view_in self.now) }
         ensures { FindsIn (view_in self.now) process request result }
     {
         let Some(asked) = requests::opened_by(&self.requests, process, request as usize) else {
@@ -168,9 +163,6 @@ impl Records {
         asked: Request,
         place: &'a Place,
     ) -> Due<'a>
-        requires policy { IsPolicy self.now.policy }
-        requires each { length self.now.requests.items ≡ processes self.now.policy }
-        requires counted { AreCounted self.now }
         requires hall { IsHallView (view_in self.now) }
         requires process { process < length self.now.requests.items }
         requires waits { opened (requests_of self.now.requests.items process) request ≡ Some asked }
@@ -193,13 +185,9 @@ impl Records {
     /// An open request is taken whose outcome was due; with the last that is open for its instance,
     /// that is let go.
     pub fn close(&mut self, it: Open)
-        requires open { (s : Settlement) × IsOpen (view_in self.old) it s }
-        requires counted { AreCounted self.old }
-        ensures policy { self.new.policy ≡ self.old.policy }
-        ensures each { length self.new.requests.items ≡ length self.old.requests.items }
-        ensures counted { AreCounted self.new }
+        requires { (s : Settlement) × IsOpen (view_in self.old) it s }
+        ensures keeps { Keeps self.old self.new }
         ensures closes { Closes (view_in self.old) (view_in self.new) it.process it.request }
-        ensures gone { self.new.book.gone ≡ self.old.book.gone }
     {
         requests::take(&mut self.requests, it.process, it.request as usize);
         self.settled.leave(it.comm, it.k);
@@ -207,17 +195,11 @@ impl Records {
 
     /// The outcome of a request, which is then marked as taken.
     pub fn take(&mut self, process: u32, request: u64) -> Reply
-        requires policy { IsPolicy self.old.policy }
-        requires each { length self.old.requests.items ≡ processes self.old.policy }
-        requires counted { AreCounted self.old }
-        requires hall { IsHallView (view_in self.old) }
-        ensures policy { self.new.policy ≡ self.old.policy }
-        ensures each { length self.new.requests.items ≡ length self.old.requests.items }
-        ensures counted { AreCounted self.new }
+        requires { IsHallView (view_in self.old) }
+        ensures keeps { Keeps self.old self.new }
         ensures steps { Steps (view_in self.old) (view_in self.new) process (ToTake request)
             result }
         ensures unchanged { MakesNothing result → view_in self.new ≡ view_in self.old }
-        ensures gone { self.new.book.gone ≡ self.old.book.gone }
     {
         match self.look(process, request) {
             Due::Told(reply) => reply,
@@ -241,20 +223,14 @@ impl Records {
 
     /// The part of a take for which the hall is needed; it also marks the request as taken.
     pub fn claim(&mut self, process: u32, request: u64) -> Claim
-        requires policy { IsPolicy self.old.policy }
-        requires each { length self.old.requests.items ≡ processes self.old.policy }
-        requires counted { AreCounted self.old }
-        requires hall { IsHallView (view_in self.old) }
-        ensures policy { self.new.policy ≡ self.old.policy }
-        ensures each { length self.new.requests.items ≡ length self.old.requests.items }
-        ensures counted { AreCounted self.new }
+        requires { IsHallView (view_in self.old) }
+        ensures keeps { Keeps self.old self.new }
         ensures steps { Steps (view_in self.old) (view_in self.new) process (ToTake request)
             (claim_reply result) }
         ensures unchanged { MakesNothing (claim_reply result) →
             view_in self.new ≡ view_in self.old }
         ensures can { CanFinish result }
         ensures holds { HoldsWhatIsKept (view_in self.old) process request result }
-        ensures gone { self.new.book.gone ≡ self.old.book.gone }
     {
         match self.look(process, request) {
             Due::Told(reply) => Claim::Done(reply),
@@ -268,22 +244,15 @@ impl Records {
 
     // A claim of this rank for an open request whose instance was granted.
     fn claim_granted(&mut self, rank: u32, it: Open) -> Claim
-        requires policy { IsPolicy self.old.policy }
-        requires each { length self.old.requests.items ≡ processes self.old.policy }
-        requires counted { AreCounted self.old }
-        requires hall { IsHallView (view_in self.old) }
-        requires granted { (full : Full Contents)
+        requires { (full : Full Contents)
             × IsGrantIn (view_in self.old) it.process it.request full rank it }
-        ensures policy { self.new.policy ≡ self.old.policy }
-        ensures each { length self.new.requests.items ≡ length self.old.requests.items }
-        ensures counted { AreCounted self.new }
+        ensures keeps { Keeps self.old self.new }
         ensures steps { Steps (view_in self.old) (view_in self.new) it.process
             (ToTake it.request) (claim_reply result) }
         ensures unchanged { MakesNothing (claim_reply result) →
             view_in self.new ≡ view_in self.old }
         ensures can { CanFinish result }
         ensures holds { HoldsWhatIsKept (view_in self.old) it.process it.request result }
-        ensures gone { self.new.book.gone ≡ self.old.book.gone }
     {
         self.freeze(it.comm, it.k);
         match self.ready(rank, it) {
@@ -298,12 +267,8 @@ impl Records {
     // Shares an instance, where it was granted and there is memory. Callers can tell no difference.
     #[tactic(auto, using(crate::proofs::CountLemmas::counted_ready, crate::proofs::CountLemmas::settled_same))]
     fn freeze(&mut self, comm: u32, k: u64)
-        requires counted { AreCounted self.old }
-        ensures policy { self.new.policy ≡ self.old.policy }
-        ensures requests { self.new.requests ≡ self.old.requests }
-        ensures counted { AreCounted self.new }
+        ensures keeps { Keeps self.old self.new }
         ensures same { view_in self.new ≡ view_in self.old }
-        ensures gone { self.new.book.gone ≡ self.old.book.gone }
     {
         self.settled.freeze(comm, k);
     }
@@ -328,17 +293,11 @@ impl Records {
 
     /// Counts a post, or says why it is refused.
     pub fn post(&mut self, process: u32, posting: Posting) -> Reply
-        requires policy { IsPolicy self.old.policy }
-        requires each { length self.old.requests.items ≡ processes self.old.policy }
-        requires counted { AreCounted self.old }
-        requires hall { IsHallView (view_in self.old) }
-        ensures policy { self.new.policy ≡ self.old.policy }
-        ensures each { length self.new.requests.items ≡ length self.old.requests.items }
-        ensures counted { AreCounted self.new }
+        requires { IsHallView (view_in self.old) }
+        ensures keeps { Keeps self.old self.new }
         ensures steps { Steps (view_in self.old) (view_in self.new) process (ToPost posting)
             result }
         ensures unchanged { MakesNothing result → view_in self.new ≡ view_in self.old }
-        ensures gone { self.new.book.gone ≡ self.old.book.gone }
     {
         match self.seat_of(process, &posting) {
             Err(refusal) => {
@@ -351,7 +310,6 @@ impl Records {
 
     // What a post meets, or the first refusal of it that holds.
     fn seat_of(&self, process: u32, posting: &Posting) -> Result<Seat, Refusal>
-        requires each { length self.now.requests.items ≡ processes self.now.policy }
         ensures first { (m : Effects) → StandsForEffects (view_in self.now) m →
             result_err result ≡ refusal self.now.policy m process posting.now }
         ensures process { IfOk result (λ seat. seat.process ≡ process) }
@@ -385,9 +343,6 @@ impl Records {
 
     // Counts a post that is not refused, as a look found it.
     fn accept(&mut self, process: u32, seat: Seat, posting: Posting) -> Reply
-        requires policy { IsPolicy self.old.policy }
-        requires each { length self.old.requests.items ≡ processes self.old.policy }
-        requires counted { AreCounted self.old }
         requires hall { IsHallView (view_in self.old) }
         requires none { (m : Effects) → StandsForEffects (view_in self.old) m →
             refusal self.old.policy m seat.process posting ≡ None }
@@ -397,13 +352,10 @@ impl Records {
             posting.elements.elem_type (given_in posting) }
         requires process { seat.process < processes self.old.policy }
         requires few { length (requests_of self.old.requests.items seat.process) < 2 ^ 62 }
-        ensures policy { self.new.policy ≡ self.old.policy }
-        ensures each { length self.new.requests.items ≡ length self.old.requests.items }
-        ensures counted { AreCounted self.new }
+        ensures keeps { Keeps self.old self.new }
         ensures steps { Steps (view_in self.old) (view_in self.new) seat.process (ToPost posting)
             result }
         ensures unchanged { MakesNothing result → view_in self.new ≡ view_in self.old }
-        ensures gone { self.new.book.gone ≡ self.old.book.gone }
     {
         let label = posts::label(&posting);
         let passed = self.post_state.passes(&seat, &label);
@@ -431,9 +383,6 @@ impl Records {
     // Counts a post as a look found it, with what it states and its part; false, and nothing has
     // changed, where memory runs out.
     fn enter(&mut self, seat: Seat, stated: Stated, part: Buffer) -> bool
-        requires policy { IsPolicy self.old.policy }
-        requires each { length self.old.requests.items ≡ processes self.old.policy }
-        requires counted { AreCounted self.old }
         requires hall { IsHallView (view_in self.old) }
         requires process { seat.process < processes self.old.policy }
         requires looked { LookedAt (seen self.old.post_state) seat stated.sig stated.own
@@ -442,13 +391,10 @@ impl Records {
             ≡ not (star (has self.old.post_state.accesses) seat.process stated.label) }
         requires few { length (requests_of self.old.requests.items seat.process) < 2 ^ 62 }
         requires form { HasForm (EntryPosted seat.process seat.meeting.comm stated) }
-        ensures policy { self.new.policy ≡ self.old.policy }
-        ensures each { length self.new.requests.items ≡ length self.old.requests.items }
-        ensures counted { AreCounted self.new }
+        ensures keeps { Keeps self.old self.new }
         ensures entered { IsTrue result → Counts (view_in self.old) (view_in self.new)
             (contribution seat.process seat.meeting.comm stated part) }
         ensures unchanged { IsFalse result → view_in self.new ≡ view_in self.old }
-        ensures gone { self.new.book.gone ≡ self.old.book.gone }
     {
         // What is owned is let go by a call on each way out: the proof would take it apart.
         let Ok(copy) = stated.copy(self.alloc) else {
@@ -488,19 +434,15 @@ impl Records {
     // only where there was not all of it.
     #[tactic(auto, using(crate::proofs::CountLemmas::counted_ready, crate::proofs::CountLemmas::settled_same))]
     fn make_room(&mut self, process: u32, comm: u32, k: u64) -> Result<(), NoMemory>
-        requires process { process < length self.old.requests.items }
+        requires process { process < processes self.old.policy }
         requires few { length (requests_of self.old.requests.items process) < 2 ^ 62 }
         requires low { k < 2 ^ 62 }
         requires few_open { open_at self.old.settled comm k < 2 ^ 62 }
-        requires counted { AreCounted self.old }
-        ensures policy { self.new.policy ≡ self.old.policy }
+        ensures keeps { Keeps self.old self.new }
         ensures post_state { self.new.post_state ≡ self.old.post_state }
-        ensures each { length self.new.requests.items ≡ length self.old.requests.items }
-        ensures counted { AreCounted self.new }
         ensures same { view_in self.new ≡ view_in self.old }
         ensures room { OnOk result (HasRoom self.new process comm k) }
         ensures memory { HasRoom self.old process comm k → OnErr result ⊥ }
-        ensures gone { self.new.book.gone ≡ self.old.book.gone }
     {
         requests::reserve(&mut self.requests, process)?;
         self.book.reserve(2)?;
@@ -509,16 +451,13 @@ impl Records {
 
     // Records a post that was entered, for which there is room.
     fn record(&mut self, member: ProcessId, comm: u32, stated: Stated, entered: Entered<Buffer>)
-        requires process { member < length self.old.requests.items }
+        requires process { member < processes self.old.policy }
         requires form { HasForm (EntryPosted member comm stated) }
         requires room { HasRoom self.old member comm (number_in entered) }
-        requires counted { AreCounted self.old }
+        ensures keeps { Keeps self.old self.new }
         ensures post_state { self.new.post_state ≡ self.old.post_state }
-        ensures each { length self.new.requests.items ≡ length self.old.requests.items }
-        ensures counted { AreCounted self.new }
         ensures recorded { IsRecorded (view_in self.old) (view_in self.new) member comm stated
             entered }
-        ensures gone { self.new.book.gone ≡ self.old.book.gone }
     {
         match entered {
             Entered::Waiting { k } => self.note(member, comm, k, stated),
@@ -532,25 +471,21 @@ impl Records {
 
     // Records a post.
     fn note(&mut self, member: ProcessId, comm: u32, k: u64, stated: Stated)
-        requires process { member < length self.old.requests.items }
+        requires process { member < processes self.old.policy }
         requires form { HasForm (EntryPosted member comm stated) }
         requires room { HasRoom self.old member comm k }
-        requires counted { AreCounted self.old }
-        ensures policy { self.new.policy ≡ self.old.policy }
+        ensures keeps { Keeps self.old self.new }
         ensures post_state { self.new.post_state ≡ self.old.post_state }
         ensures settled { (c j : ℕ) →
             settlement_at self.new.settled c j ≡ settlement_at self.old.settled c j }
         ensures place { HasPlace self.new.settled comm k }
         ensures waits { 0 < open_at self.new.settled comm k }
-        ensures each { length self.new.requests.items ≡ length self.old.requests.items }
-        ensures counted { AreCounted self.new }
         ensures requests { requests_of self.new.requests.items
             ≡ with_request (requests_of self.old.requests.items) member
             (record { comm = comm; k = k }) }
         ensures book { self.new.book.list
             ≡ self.old.book.list ++ EntryPosted member comm stated ∷ [] }
         ensures room { self.new.book.room + 1 ≡ self.old.book.room }
-        ensures gone { self.new.book.gone ≡ self.old.book.gone }
     {
         requests::push(&mut self.requests, member.number(), Request { comm, k });
         self.settled.join(comm, k);
@@ -566,18 +501,15 @@ impl Records {
         requires place { HasPlace self.old.settled comm k }
         requires waits { 0 < open_at self.old.settled comm k }
         requires entry { 0 < self.old.book.room }
-        requires counted { AreCounted self.old }
-        ensures policy { self.new.policy ≡ self.old.policy }
+        ensures keeps { Keeps self.old self.new }
         ensures post_state { self.new.post_state ≡ self.old.post_state }
         ensures requests { self.new.requests ≡ self.old.requests }
-        ensures counted { AreCounted self.new }
         ensures settled { (d j : ℕ) → settlement_at self.new.settled d j
             ≡ (if d == comm && j == k then Some settlement
             else settlement_at self.old.settled d j) }
         ensures book { self.new.book.list
             ≡ self.old.book.list ++ EntrySettled comm k settlement.outcome ∷ [] }
         ensures room { self.new.book.room + 1 ≡ self.old.book.room }
-        ensures gone { self.new.book.gone ≡ self.old.book.gone }
     {
         self.book.push(Entry::Settled {
             comm,

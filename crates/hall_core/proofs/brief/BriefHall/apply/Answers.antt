@@ -11,29 +11,28 @@ use Rattle.hall_core.proofs.brief.BriefHall.apply.Goals as goal
 pub invariant_of-self : goal.invariant_of-self
 invariant_of-self c =
     brief_after c.self.inside.records c.step.new.self c.args.call c.step.result c.self.invariant
-    c.step.ensures.policy c.step.ensures.each c.step.ensures.counted
+    c.step.ensures.keeps
     (subst (λ (h : BriefHallValue). HasKnownLabel h.hall.policy c.args.call.act)
-    (sym c.self.view_is) c.requires) c.step.ensures.steps c.step.ensures.gone
+    (sym c.self.view_is) c.requires) c.step.ensures.steps
 
 pub returns-clause-runs : goal.returns-clause-runs
 returns-clause-runs c = rw (← c.self.view_is) (applied (value_in c.self.inside.records)
-    (value_in c.step.new.self) c.args.call c.step.result c.step.ensures.policy
+    (value_in c.step.new.self) c.args.call c.step.result c.step.ensures.keeps.policy
     c.step.ensures.steps)
 
 pub returns-clause-apart : goal.returns-clause-apart
 returns-clause-apart c = rw (← c.self.view_is) (applied_apart (value_in c.self.inside.records)
     (value_in c.step.new.self) c.args.call c.step.result c.self.invariant.hall.policy
-    c.step.ensures.policy c.step.ensures.steps)
+    c.step.ensures.keeps.policy c.step.ensures.steps)
 
 pub returns-clause-named : goal.returns-clause-named
 returns-clause-named c =
-    rw c.step.ensures.policy (step_named (view_of (value_in c.self.inside.records))
+    rw c.step.ensures.keeps.policy (step_named (view_of (value_in c.self.inside.records))
     (view_of (value_in c.step.new.self)) c.args.call.process c.args.call.act c.step.result
-    c.self.invariant.hall.policy c.self.invariant.hall.stands
+    c.self.invariant.hall
     (subst (λ (h : BriefHallValue). HasKnownLabel h.hall.policy c.args.call.act)
     (sym c.self.view_is) c.requires) c.step.ensures.steps)
 
 pub returns-clause-news : goal.returns-clause-news
 returns-clause-news c = rw (← c.self.view_is) (adds c.self.inside.records c.step.new.self
-    c.args.call c.step.result c.self.invariant c.step.ensures.policy c.step.ensures.steps
-    c.step.ensures.gone)
+    c.args.call c.step.result c.self.invariant c.step.ensures.keeps c.step.ensures.steps)

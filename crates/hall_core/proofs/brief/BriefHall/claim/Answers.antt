@@ -9,21 +9,20 @@ use Rattle.hall_core.proofs.brief.BriefHall.claim.Goals as goal
 pub invariant_of-self : goal.invariant_of-self
 invariant_of-self c =
     brief_after c.self.inside.records c.claim.new.self (to_take c.args.process c.args.request)
-    (claim_reply c.claim.result) c.self.invariant c.claim.ensures.policy c.claim.ensures.each
-    c.claim.ensures.counted tt c.claim.ensures.steps c.claim.ensures.gone
+    (claim_reply c.claim.result) c.self.invariant c.claim.ensures.keeps tt c.claim.ensures.steps
 
 pub returns-clause-runs : goal.returns-clause-runs
 returns-clause-runs c =
     rw (← c.self.view_is) (applied (value_in c.self.inside.records) (value_in c.claim.new.self)
     (to_take c.args.process c.args.request) (claim_reply c.claim.result)
-    c.claim.ensures.policy c.claim.ensures.steps)
+    c.claim.ensures.keeps.policy c.claim.ensures.steps)
 
 pub returns-clause-apart : goal.returns-clause-apart
 returns-clause-apart c =
     rw (← c.self.view_is)
     (applied_apart (value_in c.self.inside.records) (value_in c.claim.new.self)
     (to_take c.args.process c.args.request) (claim_reply c.claim.result)
-    c.self.invariant.hall.policy c.claim.ensures.policy c.claim.ensures.steps)
+    c.self.invariant.hall.policy c.claim.ensures.keeps.policy c.claim.ensures.steps)
 
 pub returns-clause-claims : goal.returns-clause-claims
 returns-clause-claims c =
@@ -32,13 +31,13 @@ returns-clause-claims c =
 
 pub returns-clause-named : goal.returns-clause-named
 returns-clause-named c =
-    rw c.claim.ensures.policy (step_named (view_of (value_in c.self.inside.records))
+    rw c.claim.ensures.keeps.policy (step_named (view_of (value_in c.self.inside.records))
     (view_of (value_in c.claim.new.self)) c.args.process
     (to_take c.args.process c.args.request).act (claim_reply c.claim.result)
-    c.self.invariant.hall.policy c.self.invariant.hall.stands tt c.claim.ensures.steps)
+    c.self.invariant.hall tt c.claim.ensures.steps)
 
 pub returns-clause-news : goal.returns-clause-news
 returns-clause-news c =
     rw (← c.self.view_is) (take_adds_nothing c.self.inside.records c.claim.new.self c.args.process
-    c.args.request (claim_reply c.claim.result) c.self.invariant c.claim.ensures.policy
-    c.claim.ensures.steps c.claim.ensures.gone)
+    c.args.request (claim_reply c.claim.result) c.self.invariant c.claim.ensures.keeps
+    c.claim.ensures.steps)

@@ -2,8 +2,10 @@ use Rattle.hall_core.proofs.BriefLemmas.{all_gone, brief_still, none_left, same_
 use Rattle.hall_core.proofs.brief.BriefHall.forget.Goals as goal
 
 pub invariant_of-self : goal.invariant_of-self
-invariant_of-self c = brief_still c.self.inside.records c.let_go.new.self c.let_go.ensures.same
-    c.let_go.ensures.gone c.self.invariant
+invariant_of-self c =
+    let still = brief_still c.self.inside.records c.let_go.new.self c.let_go.ensures.same
+    c.let_go.ensures.gone c.self.invariant in
+    record { hall = still.hall; whole = still.whole }
 
 pub returns-clause-unchanged : goal.returns-clause-unchanged
 returns-clause-unchanged c = rw (← c.self.view_is) (same_view c.self.inside.records

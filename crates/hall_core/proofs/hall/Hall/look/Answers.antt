@@ -11,8 +11,7 @@ returns-clause-found c =
 pub returns-clause-named : goal.returns-clause-named
 returns-clause-named c =
     rw (← c.self.view_is) (found_named (view_of (value_in c.self.inside.records)) c.args.process
-    c.args.request c.look.result c.self.invariant.hall.policy c.self.invariant.hall.stands
-    c.look.ensures)
+    c.args.request c.look.result c.self.invariant.hall c.look.ensures)
 
 pub returns-clause-memory : goal.returns-clause-memory
 returns-clause-memory c =

@@ -9,28 +9,28 @@ use Rattle.hall_core.proofs.records.Records.close.Goals as goal
 pub leave-requires : goal.leave-requires
 leave-requires c =
     let it = c.args.it in
-    let waits = c.requires.open.1.waits in
+    let waits = c.requires.1.waits in
     some_open (requests_of c.args.self.now.requests.items)
     (length c.args.self.now.requests.items) c.args.self.now.settled c.args.self.now.settled
     it.process it.request (instance_for it)
     (is_process c.args.self.now.requests.items it.process it.request (instance_for it) waits) waits
-    c.requires.counted
+    c.args.self.now.counted
 
-pub returns-clause-counted : goal.returns-clause-counted
-returns-clause-counted c =
+pub invariant_of-self-clause-counted : goal.invariant_of-self-clause-counted
+invariant_of-self-clause-counted c =
     let it = c.args.it in
-    let waits = c.requires.open.1.waits in
+    let waits = c.requires.1.waits in
     counted_as _ _ _ _ _ c.take.ensures.requests c.take.ensures.number
     (counted_left (requests_of c.args.self.now.requests.items)
     (length c.args.self.now.requests.items) c.args.self.now.settled c.leave.new.self
     it.process it.request (instance_for it)
     (is_process c.args.self.now.requests.items it.process it.request (instance_for it) waits) waits
-    c.requires.counted c.leave.ensures)
+    c.args.self.now.counted c.leave.ensures)
 
 pub returns-clause-closes : goal.returns-clause-closes
 returns-clause-closes c =
     let it = c.args.it in
-    let waits = c.requires.open.1.waits in
+    let waits = c.requires.1.waits in
     record {
       policy = refl;
       post_state = refl;
@@ -39,7 +39,7 @@ returns-clause-closes c =
           (length c.args.self.now.requests.items) c.args.self.now.settled c.leave.new.self
           it.process it.request (instance_for it)
           (is_process c.args.self.now.requests.items it.process it.request (instance_for it) waits)
-          waits c.requires.counted c.leave.ensures (requests_of c.take.new.requests.items)
+          waits c.args.self.now.counted c.leave.ensures (requests_of c.take.new.requests.items)
           c.take.ensures.requests
           (λ q past. nobody_asks c.take.new.requests.items (length c.args.self.now.requests.items)
           q c.take.ensures.number past);

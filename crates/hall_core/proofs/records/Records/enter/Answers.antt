@@ -39,13 +39,13 @@ make_room-requires-clause-low c =
 pub make_room-requires-clause-few_open : goal.make_room-requires-clause-few_open
 make_room-requires-clause-few_open c =
     let hall = c.requires.hall in
-    let count = c.requires.counted.waiting c.args.seat.meeting.comm c.args.seat.meeting.k in
+    let count = c.args.self.now.counted.waiting c.args.seat.meeting.comm c.args.seat.meeting.k in
     let few = asked_few c.args.seat.meeting.comm c.args.seat.meeting.k (view_in c.args.self.now)
     hall.effects
     hall.stands (length c.args.self.now.requests.items) in
-    let each = c.requires.each in
+    let each = c.args.self.now.each in
     let limit : processes c.args.self.now.policy < 4611686018427387904 = few_processes
-    c.args.self.now.policy c.requires.policy in
+    c.args.self.now.policy c.requires.hall.policy in
     omega (arith, count, few, each, limit)
 
 pub enter-requires-clause-few : goal.enter-requires-clause-few
@@ -76,7 +76,7 @@ record-requires-clause-room c =
     hall.effects.contributions =
     subst (λ (w : ChineseWall).
     StandsForPosts w (seen c.make_room.new.self.post_state) hall.effects.contributions)
-    (sym c.make_room.ensures.policy)
+    (sym c.make_room.ensures.keeps.policy)
     (subst (λ (k : PostStateValue Contents).
     StandsForPosts c.args.self.now.policy (seen k) hall.effects.contributions)
     (sym c.make_room.ensures.post_state) hall.stands.post_state) in
@@ -115,7 +115,7 @@ returns-in-Ok-enter-clause-entered c = λ done m stands counts.
     m.contributions =
     subst (λ (w : ChineseWall).
     StandsForPosts w (seen c.make_room.new.self.post_state) m.contributions)
-    (sym c.make_room.ensures.policy)
+    (sym c.make_room.ensures.keeps.policy)
     (subst (λ (k : PostStateValue Contents).
     StandsForPosts c.args.self.now.policy (seen k) m.contributions)
     (sym c.make_room.ensures.post_state) stands.post_state) in
@@ -127,15 +127,15 @@ returns-in-Ok-enter-clause-entered c = λ done m stands counts.
     (g ∷ m.contributions) =
     subst (λ (w : ChineseWall).
     StandsForPosts w (seen c.record.new.self.post_state) (g ∷ m.contributions))
-    c.make_room.ensures.policy
+    c.make_room.ensures.keeps.policy
     (subst (λ (k : PostStateValue Contents).
     StandsForPosts c.make_room.new.self.policy (seen k) (g ∷ m.contributions))
     (sym c.record.ensures.post_state) moved.0) in
     let tells : Tells c.args.self.now.policy g m.contributions c.in-Ok-enter.entered = subst
     (λ (w : ChineseWall). Tells w g m.contributions c.in-Ok-enter.entered)
-    c.make_room.ensures.policy moved.1 in
+    c.make_room.ensures.keeps.policy moved.1 in
     let none = none_there (view_in c.args.self.now) m (length c.args.self.now.requests.items)
-    c.args.self.now.settled stands c.requires.counted refl c.args.seat.meeting.comm
+    c.args.self.now.settled stands c.args.self.now.counted refl c.args.seat.meeting.comm
     (place g.post (posts_in m)) (unsettled c.args.self.now.policy g.post (posts_in m) counts) in
     stands_recorded (view_in c.args.self.now) (view_in c.record.new.self) m g c.in-Ok-enter.entered
     stands counts none post_state tells
@@ -144,7 +144,7 @@ returns-in-Ok-enter-clause-entered c = λ done m stands counts.
     (view_in c.record.new.self) c.args.seat.process c.args.seat.meeting.comm c.in-Ok.copy
     c.args.stated
     c.in-Ok-enter.entered
-    c.make_room.ensures.policy (ap (λ (h : HallView). h.asked) same)
+    c.make_room.ensures.keeps.policy (ap (λ (h : HallView). h.asked) same)
     (ap (λ (h : HallView). h.settled) same) (ap (λ (h : HallView). h.book) same)
     c.in-Ok.ensures.made c.record.ensures.recorded)
 
@@ -190,7 +190,7 @@ returns-in-Joins-clause-entered c = λ done m stands counts.
     m.contributions =
     subst (λ (w : ChineseWall).
     StandsForPosts w (seen c.make_room.new.self.post_state) m.contributions)
-    (sym c.make_room.ensures.policy)
+    (sym c.make_room.ensures.keeps.policy)
     (subst (λ (k : PostStateValue Contents).
     StandsForPosts c.args.self.now.policy (seen k) m.contributions)
     (sym c.make_room.ensures.post_state) stands.post_state) in
@@ -203,20 +203,21 @@ returns-in-Joins-clause-entered c = λ done m stands counts.
     (g ∷ m.contributions) =
     subst (λ (w : ChineseWall).
     StandsForPosts w (seen c.note.new.self.post_state) (g ∷ m.contributions))
-    c.make_room.ensures.policy
+    c.make_room.ensures.keeps.policy
     (subst (λ (k : PostStateValue Contents).
     StandsForPosts c.make_room.new.self.policy (seen k) (g ∷ m.contributions))
     (sym c.note.ensures.post_state) moved.0) in
     let tells : Tells c.args.self.now.policy g m.contributions entered = subst
-    (λ (w : ChineseWall). Tells w g m.contributions entered) c.make_room.ensures.policy moved.1 in
+    (λ (w : ChineseWall). Tells w g m.contributions entered) c.make_room.ensures.keeps.policy
+    moved.1 in
     let none = none_there (view_in c.args.self.now) m (length c.args.self.now.requests.items)
-    c.args.self.now.settled stands c.requires.counted refl c.args.seat.meeting.comm
+    c.args.self.now.settled stands c.args.self.now.counted refl c.args.seat.meeting.comm
     (place g.post (posts_in m)) (unsettled c.args.self.now.policy g.post (posts_in m) counts) in
     let recorded : IsRecorded
     (view_in (record c.make_room.new.self { post_state = c.join.new.self }))
     (view_in c.note.new.self) c.args.seat.process c.args.seat.meeting.comm c.in-Ok.copy entered =
     record {
-      policy = c.note.ensures.policy;
+      policy = c.note.ensures.keeps.policy;
       asked = c.note.ensures.requests;
       settled = c.note.ensures.settled;
       book = c.note.ensures.book;
@@ -227,6 +228,6 @@ returns-in-Joins-clause-entered c = λ done m stands counts.
     (view_in (record c.make_room.new.self { post_state = c.join.new.self }))
     (view_in c.note.new.self) c.args.seat.process c.args.seat.meeting.comm c.in-Ok.copy
     c.args.stated entered
-    c.make_room.ensures.policy (ap (λ (h : HallView). h.asked) same)
+    c.make_room.ensures.keeps.policy (ap (λ (h : HallView). h.asked) same)
     (ap (λ (h : HallView). h.settled) same) (ap (λ (h : HallView). h.book) same)
     c.in-Ok.ensures.made recorded)

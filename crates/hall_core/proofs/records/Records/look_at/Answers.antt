@@ -19,8 +19,8 @@ found-requires-clause-tellable c =
     let asked = c.args.asked in
     let there : settlement_at c.args.self.now.settled asked.comm asked.k ≡ Some s =
     ap (λ (x : Place). x.settlement) c.requires.there ∙ c.in-Some.is in
-    tellable (view_in c.args.self.now) c.requires.policy c.requires.hall c.args.process
-    c.args.request asked s c.requires.waits there
+    tellable (view_in c.args.self.now) c.requires.hall c.args.process c.args.request
+    asked s c.requires.waits there
 
 pub found-requires-clause-member : goal.found-requires-clause-member
 found-requires-clause-member c =

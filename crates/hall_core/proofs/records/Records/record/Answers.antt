@@ -18,7 +18,7 @@ returns-in-Waiting-clause-recorded c =
     c.args.member c.args.comm c.args.stated e)
     (sym c.in-Waiting.is)
     (record {
-      policy = c.note.ensures.policy;
+      policy = c.note.ensures.keeps.policy;
       asked = c.note.ensures.requests;
       settled = c.note.ensures.settled;
       book = c.note.ensures.book;
@@ -30,7 +30,7 @@ returns-in-Settled-clause-recorded c =
     (view_in c.settle.new.self) c.args.member c.args.comm c.args.stated e)
     (sym c.in-Settled.is)
     (record {
-      policy = c.settle.ensures.policy ∙ c.note-in-Settled.ensures.policy;
+      policy = c.settle.ensures.keeps.policy ∙ c.note-in-Settled.ensures.keeps.policy;
       asked = ap (λ r. requests_of r.items) c.settle.ensures.requests
           ∙ c.note-in-Settled.ensures.requests;
       settled = λ d j. c.settle.ensures.settled d j

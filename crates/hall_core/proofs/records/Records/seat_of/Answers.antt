@@ -58,7 +58,7 @@ refusal-requires c =
     c.elem_type.result c.given.result
     (sym c.look-looked.ensures.test ∙ ap result_err c.in-Ok.is) in
     subst (λ (a : List Asked). c.args.process < length a) (sym c.deref.ensures.value)
-    (subst (λ n. c.args.process < n) (sym c.requires.each) known)
+    (subst (λ n. c.args.process < n) (sym c.args.self.now.each) known)
 
 pub returns-in-None-clause-known : goal.returns-in-None-clause-known
 returns-in-None-clause-known c =
