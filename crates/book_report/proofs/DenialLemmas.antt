@@ -1,5 +1,6 @@
 -- The denials of a book, entry by entry.
-use Rattle.std.proofs.Common.{◌≡◌, ◌≢◌, ◌⊎◌, ℕ, ◌+◌, ◌-◌, ◌<◌, ◌≤◌, ◌^◌, Bool, true, false, List, []}
+use Rattle.std.proofs.Common.{◌≡◌, ◌≢◌, ◌⊎◌, ℕ, ◌+◌, ◌-◌, ◌<◌, ◌≤◌, ◌^◌, Bool, true, false, List}
+use Rattle.std.proofs.Common.{[]}
 use Rattle.std.proofs.Common.{◌∷◌, ◌++◌, length, Option, Some, None, refl, sym, ap, ◌∙◌, subst}
 use Rattle.std.proofs.Common.{arith, slice_get, inl, inr, if◌then◌else◌}
 use Rattle.std.specs.Prelude.{All, AllPairs, Contains}
@@ -39,11 +40,12 @@ use Rattle.run_state.specs.Views.{PostStateValue}
 use Rattle.audit_book.specs.Checks.{Stands, bare}
 use Rattle.audit_book.proofs.AuditBookLemmas.{bare_posts}
 use Rattle.book_report.specs.declared.denial.Denial.{Denial}
+use Rattle.book_report.specs.declared.place.Place.{Place}
 use Rattle.book_report.specs.Held.{histories_after, posts_to, IsPostAt}
 use Rattle.book_report.specs.Walk.{IsTold}
 use Rattle.book_report.specs.Denials.{IsDeniedAt, IsFilledAt, IsDenial, HasDenial}
 use Rattle.book_report.specs.Reasons.{IsDenied, IsDeniedPost, AreDenials, HasFollowed}
-use Rattle.book_report.proofs.HistoryLemmas.{ungranted, written_stays}
+use Rattle.book_report.proofs.HistoryLemmas.{ungranted, written_stays, posts_posted}
 use Rattle.book_report.proofs.WalkLemmas.{post_at}
 use Rattle.book_report.proofs.SoundLemmas.{post_is, told_behind, told_of_post}
 
@@ -167,17 +169,24 @@ settled_undenied wall entries n c k o at x denied =
 
 ---- a denial, found on the walk
 
-module _ (wall : ChineseWall) (entries : List Entry) (n c : ℕ)
-    (post_state : PostStateValue (Unit {0})) (entered : Entered (Unit {0}))
-    (h : HasFollowed wall entries n c post_state entered) where
+module _ (place : Place) (c : ℕ) (post_state : PostStateValue (Unit {0}))
+    (entered : Entered (Unit {0})) (h : HasFollowed place c post_state entered) where
+  abbrev wall : ChineseWall
+  wall = place.policy.now
+
+  abbrev entries : List Entry
+  entries = place.book.now.list
+
+  abbrev n : ℕ
+  n = place.at
+
   abbrev past_of : List Post
   past_of = posts_to entries n
 
-  pub classes_are : post_state.accesses.classes ≡ wall.classes
-  classes_are = h.stands.classes
-
   has_is : has_of post_state.accesses ≡ histories wall (h.x ∷ past_of)
-  has_is = h.stands.histories ∙ ap (λ ps. histories wall ps) (bare_posts (h.x ∷ past_of))
+  has_is = h.stands.histories
+      ∙ (ap (λ ps. histories wall ps) (bare_posts (posts_to entries (n + 1)))
+      ∙ ap (λ ps. histories wall ps) (posts_posted entries n h.x h.here))
 
   told_as : (e : Entered (Unit {0})) → entered ≡ e → IsTold wall h.x past_of e
   told_as e is = subst (IsTold wall h.x past_of) is h.told
@@ -189,11 +198,12 @@ module _ (wall : ChineseWall) (entries : List Entry) (n c : ℕ)
       let told = told_as (settles full k (Denied rule p label)) is in
       let under = has_is ∙ denied_enters_none wall h.x past_of full.roll rule p label told.1 told.2
       in
-      let low = slice_get_within entries n (posted h.x) h.at in
+      let low = h.sound.within in
       record {
-        told = denied_at wall entries n h.x h.at c k rule p label h.sound h.comm told.0 told.2;
-        filled = filled_at wall entries n h.x h.at c k full.roll (has_of post_state.accesses) h.comm
-            told.0 told.1 under;
+        told = denied_at wall entries n h.x h.here c k rule p label h.sound.sound h.comm told.0
+            told.2;
+        filled = filled_at wall entries n h.x h.here c k full.roll (has_of post_state.accesses)
+            h.comm told.0 told.1 under;
         fit = told.3;
         verdict = subst (λ a. IsVerdict wall a full.roll (verdicts.Denied rule p label)) (sym under)
             (denied_by_verdict wall h.x past_of full.roll rule p label told.1 told.2 told.3);
@@ -202,13 +212,13 @@ module _ (wall : ChineseWall) (entries : List Entry) (n c : ℕ)
 
   pub none_waiting : (k : ℕ) → entered ≡ waits k →
       (y : Post) → ¬ (IsDeniedPost wall entries (n + 1) y)
-  none_waiting k is = waiting_undenied wall entries n h.x h.at (told_as (waits k) is)
+  none_waiting k is = waiting_undenied wall entries n h.x h.here (told_as (waits k) is)
 
   pub none_other : (full : Full (Unit {0})) (k : ℕ) (o : Outcome) → entered ≡ settles full k o
       → ((rule : Rule) (p : ℕ) (label : Label) → ¬ (o ≡ Denied rule p label)) →
       (y : Post) → ¬ (IsDeniedPost wall entries (n + 1) y)
   none_other full k o is other =
-      undenied wall entries n h.x h.at (Some o) (told_as (settles full k o) is).2
+      undenied wall entries n h.x h.here (Some o) (told_as (settles full k o) is).2
       (λ rule p label same. other rule p label (let s : o ≡ Denied rule p label = cc in s))
 
 ---- the list
@@ -220,7 +230,8 @@ module _ (wall : ChineseWall) (entries : List Entry) where
         (λ k d low. absurd (omega arith));
     early = subst (λ ds. All (λ (b : Denial). b.entry ≤ 0 + 1) ds) (sym empties)
         (λ k d low. absurd (omega arith));
-    whole = λ m x low denied. (let counted = denied.at.counted in absurd (omega (arith, counted, low)));
+    whole = λ m x low denied.
+        (let counted = denied.at.counted in absurd (omega (arith, counted, low)));
     rising = subst (λ ds. AllPairs (λ (a b : Denial). a.entry < b.entry) ds) (sym empties)
         (λ i j d earlier low. absurd (omega arith));
   }

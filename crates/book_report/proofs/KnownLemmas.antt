@@ -34,6 +34,11 @@ pub ok_both : {X E : Type 0} (r : Result X E) (P Q S : Type 0) → (P → Q → 
 ok_both (Ok x) P Q S more h k = more h k
 ok_both (Err e) P Q S more h k = h
 
+pub ok_three : {X E : Type 0} (r : Result X E) (P Q S T : Type 0) → (P → Q → S → T) → OnOk r P →
+    OnOk r Q → OnOk r S → OnOk r T
+ok_three (Ok x) P Q S T more h k l = more h k l
+ok_three (Err e) P Q S T more h k l = h
+
 ---- the sets
 
 or_false : (a : Bool) → a ≡ (a || false)

@@ -1,5 +1,6 @@
 -- A walk through a sound book, entry by entry.
-use Rattle.std.proofs.Common.{◌≡◌, ◌⊎◌, ℕ, zero, suc, ◌+◌, ◌-◌, ◌<◌, ◌≤◌, ◌^◌, Bool, true, false, ◌&&◌}
+use Rattle.std.proofs.Common.{◌≡◌, ◌⊎◌, ℕ, zero, suc, ◌+◌, ◌-◌, ◌<◌, ◌≤◌, ◌^◌, Bool, true, false}
+use Rattle.std.proofs.Common.{◌&&◌}
 use Rattle.std.proofs.Common.{not, List, [], ◌∷◌, ◌++◌, length, take, drop, Option, Some, None}
 use Rattle.std.proofs.Common.{refl, sym, ap, inl, inr}
 use Rattle.std.proofs.Common.{◌∙◌, subst, arith, slice_get}
@@ -23,18 +24,17 @@ use Rattle.run_model.specs.Contributions.{posts_of}
 use Rattle.run_state.specs.declared.entered.Entered.{Entered}
 use Rattle.run_state.specs.declared.entered.Entered.TheVariants.{Waiting as waits}
 use Rattle.run_state.specs.declared.entered.Entered.TheVariants.{Settled as settles}
-use Rattle.run_state.specs.Views.{PostStateValue}
-use Rattle.run_state.specs.Stands.{Tells}
-use Rattle.audit_book.specs.Checks.{Stands, post_of, bare}
-use Rattle.audit_book.proofs.AuditBookLemmas.{take_more, posts_few, length_front}
-use Rattle.audit_book.proofs.AuditBookLemmas.{bare_posts, post_counts}
+use Rattle.run_state.specs.Views.{PostStateValue, view_of}
+use Rattle.run_state.specs.Stands.{StandsForPosts, Tells}
+use Rattle.audit_book.specs.Checks.{Stands, bare}
+use Rattle.audit_book.proofs.AuditBookLemmas.{posts_few, length_front, bare_posts}
 use Rattle.book_report.specs.declared.row.Row.{Row}
 use Rattle.book_report.specs.declared.row.Way.TheVariants.{OwnPost}
 use Rattle.book_report.specs.declared.known.Known.{Known}
 use Rattle.book_report.specs.Held.{posts_to, histories_after, IsFirstAfter, IsPostAt, IsRow}
-use Rattle.book_report.specs.Walk.{AreKnown, Covers, HasCome, MayBeEntered, IsGrantAt, IsTold}
-use Rattle.book_report.specs.Walk.{IsFitting, Grows, knows, row_of}
-use Rattle.book_report.proofs.HistoryLemmas.{posts_posted, posts_settled, first_after, take_drop}
+use Rattle.book_report.specs.Walk.{AreKnown, Covers, HasCome, IsGrantAt, IsTold, Grows, knows}
+use Rattle.book_report.specs.Walk.{PassedWith, row_of}
+use Rattle.book_report.proofs.HistoryLemmas.{posts_posted, posts_settled, first_after}
 use Rattle.book_report.proofs.HistoryLemmas.{label_cases, own_is_written, written_stays, unfilled}
 use Rattle.book_report.proofs.HistoryLemmas.{granted_enters, granted_only, ungranted, granted_came}
 use Rattle.book_report.proofs.KnownLemmas.{known_later}
@@ -53,34 +53,31 @@ told_of wall x past posts (settles full k o) same told = (
   told.4,
 )
 
-pub told_is : (wall : ChineseWall) (x : Post) (past : List Post) (e : Entered (Unit {0})) →
+told_is : (wall : ChineseWall) (x : Post) (past : List Post) (e : Entered (Unit {0})) →
     Tells wall (record { post = x; part = tt }) (bare past) e → IsTold wall x past e
 told_is wall x past e told = told_of wall x past past e (bare_posts past) told
 
-pub told_fits : (wall : ChineseWall) (x : Post) (past : List Post) (e : Entered (Unit {0})) →
-    IsTold wall x past e → IsFitting e
-told_fits wall x past (waits k) told = tt
-told_fits wall x past (settles full k o) told = told.3
+-- what is told of an equal post, and what the state stands for then
+pub entered_is : (wall : ChineseWall) (x y : Post) (past : List Post)
+    (post_state : PostStateValue (Unit {0})) (e : Entered (Unit {0})) → y ≡ x →
+    StandsForPosts wall (view_of post_state) (record { post = y; part = tt } ∷ bare past)
+    × Tells wall (record { post = y; part = tt }) (bare past) e →
+    Stands wall post_state (x ∷ past) × IsTold wall x past e
+entered_is wall x y past post_state e same now = (
+  subst (λ (z : Post). StandsForPosts wall (view_of post_state)
+      (record { post = z; part = tt } ∷ bare past)) same now.0,
+  told_is wall x past e
+      (subst (λ (z : Post). Tells wall (record { post = z; part = tt }) (bare past) e) same now.1),
+)
 
----- a post that counts may be entered
+---- there are no more posts than entries
 
-pub may_enter : (wall : ChineseWall) (entries : List Entry) (n : ℕ) (x : Post)
-    (post_state : PostStateValue (Unit {0})) → IsSound wall entries → length entries < 2 ^ 62 →
-    slice_get entries n ≡ Some (posted x) → Stands wall post_state (posts_to entries n) →
-    MayBeEntered wall post_state x
-may_enter wall entries n x post_state sound few at stands =
-    let whole : (take n entries ++ posted x ∷ []) ++ drop (n + 1) entries ≡ entries =
-    ap (λ es. es ++ drop (n + 1) entries) (sym (take_more entries n (posted x) at))
-    ∙ sym (take_drop (n + 1) entries) in
+pub few_posts : (entries : List Entry) (n : ℕ) → length entries < 2 ^ 62 →
+    length (posts_to entries n) < 2 ^ 62
+few_posts entries n few =
     let short = posts_few (take n entries) in
     let front = length_front entries n in
-    record {
-      past = posts_to entries n;
-      stood = stands;
-      few = omega arith;
-      counts = post_counts wall (take n entries) x.process x.comm x.stated
-          (drop (n + 1) entries, subst (IsSound wall) (sym whole) sound);
-    }
+    omega arith
 
 ---- the rows of a post
 
@@ -119,30 +116,29 @@ module _ (wall : ChineseWall) (entries : List Entry) (n : ℕ) (x : Post)
       (fresh_is has known p d covers fresh) (after_is p d ∙ brings)
 
   -- what a post's own label enters
-  pub own_is_row : (known : Known) (d : ℕ) → Covers has known → x.stated.barred ≡ false →
-      x.stated.label ≡ Some (Of d) → knows known x.process d ≡ false →
-      IsRow wall entries (row_of x.process d (n + 1) OwnPost)
-  own_is_row known d covers passed label fresh = record {
+  pub own_is_row : (known : Known) (d : ℕ) → Covers has known → PassedWith x.stated d →
+      knows known x.process d ≡ false → IsRow wall entries (row_of x.process d (n + 1) OwnPost)
+  own_is_row known d covers own fresh = record {
     first = new_first known x.process d covers fresh
-        (written_stays wall x past x.process d (own_is_written wall x past d passed label));
+        (written_stays wall x past x.process d (own_is_written wall x past d own.0 own.1));
     way = record {
       x = x;
       at = post_at entries n x at;
       by = refl;
-      passed = passed;
-      label = label;
+      passed = own.0;
+      label = own.1;
     };
   }
 
   -- the label is known
   pub covers_label : (old new : Known) → Covers has old → Grows old new
-      → ((d : ℕ) → x.stated.barred ≡ false → x.stated.label ≡ Some (Of d) →
-      knows new x.process d ≡ true) → Covers (labelled has x) new
+      → ((d : ℕ) → PassedWith x.stated d → knows new x.process d ≡ true) →
+      Covers (labelled has x) new
   covers_label old new covers grows there p d h =
       elim (label_cases has x.process x.stated.label (not x.stated.barred) p d h) [
         | inl held ↦ grows p d (covers p d held)
         | inr own ↦ subst (λ q. knows new q d ≡ true) (sym own.0)
-            (there d (not_true x.stated.barred own.1) own.2)
+            (there d (not_true x.stated.barred own.1, own.2))
       ]
     where
       not_true : (b : Bool) → not b ≡ true → b ≡ false
@@ -207,6 +203,7 @@ come_settled wall entries n post_state known c k o at come =
     sym (posts_settled entries n c k o at) in
     record {
       stands = subst (Stands wall post_state) same come.stands;
+      room = come.room;
       rows = known_later wall entries n (n + 1) known (omega arith) come.rows;
       whole = subst (λ ps. Covers (histories wall ps) known) same come.whole;
     }

@@ -22,8 +22,8 @@ pub record IsBar (wall : ChineseWall) (entries : List Entry) (bar : Bar) : Type 
   pub post : IsBarredAt entries bar.entry x
   pub by : x.process ≡ bar.process
   pub label : x.stated.label ≡ Some bar.label
-  pub lowest :
-      IsLowest (IsHeldOther (histories_before wall entries bar.entry bar.process) bar.label) bar.held
+  pub lowest : IsLowest
+      (IsHeldOther (histories_before wall entries bar.entry bar.process) bar.label) bar.held
 
 -- one of these is of this entry
 abbrev pub HasBar : List Bar → (n : ℕ) → Type 0

@@ -44,7 +44,8 @@ pub record IsFilledAt (wall : ChineseWall) (entries : List Entry) (n c k : ℕ) 
   pub at : IsPostAt entries n x
   pub comm : x.comm ≡ c
   pub kth : place x (posts_to entries (n - 1)) ≡ k
-  pub fills : filled (comms wall (posts_to entries (n - 1))) x (posts_to entries (n - 1)) ≡ Some roll
+  pub fills :
+      filled (comms wall (posts_to entries (n - 1))) x (posts_to entries (n - 1)) ≡ Some roll
   pub under : has ≡ labelled (histories_after wall entries (n - 1)) x
 
 -- by the star rule: the names are of the lowest rank whose post was barred, and this is that post

@@ -1,5 +1,7 @@
 -- which process holds what after which entry of a book, and how it came to that
 pub mod Held
+-- places in a book, posts and instances
+pub mod Places
 -- how far a walk through a book has come
 pub mod Walk
 -- why posts were barred

@@ -1,10 +1,10 @@
 -- How the reason of a denial is found: words of private contracts.
-use Rattle.std.specs.Prelude.{◌≡◌, ℕ, ◌+◌, ◌-◌, ◌<◌, ◌≤◌, ◌^◌, ◌==◌, ◌&&◌, Bool, false, List, ◌∷◌}
-use Rattle.std.specs.Prelude.{length, slice_get, Contains, All, AllPairs, Some}
+use Rattle.std.specs.Prelude.{◌≡◌, ℕ, ◌+◌, ◌-◌, ◌<◌, ◌≤◌, ◌==◌, ◌&&◌, Bool, false, List}
+use Rattle.std.specs.Prelude.{length, All, AllPairs, Some}
 use Rattle.wall_labels.specs.declared.label.Label.{Label}
 use Rattle.wall_policy.specs.Policy.{ChineseWall}
 use Rattle.wall_policy.specs.Rivals.{AreRivals}
-use Rattle.wall_rules.specs.Histories.{History}
+use Rattle.wall_rules.specs.Histories.{History, has}
 use Rattle.coll_routes.specs.declared.roll.Roll.{Roll}
 use Rattle.coll_routes.specs.Fit.{IsFit}
 use Rattle.wall_rules.specs.declared.rule.Rule.{Rule}
@@ -15,15 +15,19 @@ use Rattle.run_model.specs.declared.outcome.Outcome.TheVariants.{Denied}
 use Rattle.run_model.specs.declared.entry.Entry.{Entry}
 use Rattle.run_model.specs.declared.entry.Entry.TheVariants.{Posted, Settled}
 use Rattle.run_model.specs.Posts.{Post, outcome}
-use Rattle.run_model.specs.Books.{IsSound, posted}
 use Rattle.run_state.specs.declared.entered.Entered.{Entered}
 use Rattle.run_state.specs.Views.{PostStateValue}
 use Rattle.audit_book.specs.Checks.{Stands}
 use Rattle.book_report.specs.declared.denial.Denial.{Denial}
+use Rattle.book_report.specs.declared.denial.Reason.{Reason}
+use Rattle.book_report.specs.declared.place.Place.{Place}
 use Rattle.book_report.specs.declared.reason.Clash.{Clash}
+use Rattle.book_report.specs.declared.reason.Judged.{Judged}
 use Rattle.book_report.specs.Held.{posts_to, IsPostAt}
 use Rattle.book_report.specs.Walk.{GivesTo, IsTold}
 use Rattle.book_report.specs.Denials.{IsDeniedAt, IsFilledAt, IsDenial, HasDenial, ComesFrom}
+use Rattle.book_report.specs.Denials.{IsReason}
+use Rattle.book_report.specs.Places.{IsPlace, IsHere, StandsBehind}
 
 -- the entry is a post of p on c
 abbrev pub is_part : Entry → (p c : ℕ) → Bool
@@ -56,6 +60,33 @@ pub record IsDenied (wall : ChineseWall) (entries : List Entry) (n c k : ℕ) (r
   pub verdict : IsVerdict wall has roll (is_denied rule p label)
   pub within : n ≤ length entries
 
+-- the instance, as it was judged, is the one that the post at its place filled
+pub record IsJudged (judged : Judged) : Type 0 where
+  pub place : IsPlace judged.instance.place
+  pub classes : judged.histories.now.classes ≡ judged.instance.place.policy.now.classes
+  pub fit : IsFit judged.instance.roll.now
+  pub filled : IsFilledAt judged.instance.place.policy.now judged.instance.place.book.now.list
+      (judged.instance.place.at + 1) judged.instance.comm judged.instance.k
+      judged.instance.roll.now (has judged.histories.now)
+
+-- and it was denied by this rule, which names these
+pub record WasDenied (judged : Judged) (rule : Rule) (p : ℕ) (label : Label) : Type 0 where
+  pub place : IsPlace judged.instance.place
+  pub classes : judged.histories.now.classes ≡ judged.instance.place.policy.now.classes
+  pub denied : IsDenied judged.instance.place.policy.now judged.instance.place.book.now.list
+      (judged.instance.place.at + 1) judged.instance.comm judged.instance.k
+      judged.instance.roll.now (has judged.histories.now) rule p label
+
+abbrev pub IsClashOf : Judged → (j i p d : ℕ) → Clash → Type 0
+IsClashOf judged j i p d clash = IsClash judged.instance.place.policy.now
+    judged.instance.place.book.now.list judged.instance.comm judged.instance.k
+    judged.instance.roll.now (has judged.histories.now) j i p d clash
+
+abbrev pub IsReasonOf : Judged → (p : ℕ) → Reason → Type 0
+IsReasonOf judged p reason = IsReason judged.instance.place.policy.now
+    judged.instance.place.book.now.list (judged.instance.place.at + 1 + 1) judged.instance.comm
+    judged.instance.k p reason
+
 -- entry n is the post x, which filled an instance that was denied
 pub record IsDeniedPost (wall : ChineseWall) (entries : List Entry) (n : ℕ) (x : Post)
     : Type 0 where
@@ -79,14 +110,12 @@ pub record HasDenials (wall : ChineseWall) (entries : List Entry) (n : ℕ)
   pub stands : Stands wall post_state (posts_to entries n)
   pub are : AreDenials wall entries n denials
 
--- entry n + 1 of a sound book is a post on c, the state stands for the posts up to it, and this was
--- told of it
-pub record HasFollowed (wall : ChineseWall) (entries : List Entry) (n c : ℕ)
-    (post_state : PostStateValue (Unit {0})) (entered : Entered (Unit {0})) : Type 0 where
+-- a post on c stands at the place, the state stands for the posts up to it, and this was told of it
+pub record HasFollowed (place : Place) (c : ℕ) (post_state : PostStateValue (Unit {0}))
+    (entered : Entered (Unit {0})) : Type 0 where
+  pub sound : IsPlace place
   pub x : Post
-  pub sound : IsSound wall entries
-  pub few : length entries < 2 ^ 62
-  pub at : slice_get entries n ≡ Some (posted x)
+  pub here : IsHere place x
   pub comm : x.comm ≡ c
-  pub stands : Stands wall post_state (x ∷ posts_to entries n)
-  pub told : IsTold wall x (posts_to entries n) entered
+  pub stands : StandsBehind place post_state
+  pub told : IsTold place.policy.now x (posts_to place.book.now.list place.at) entered

@@ -1,17 +1,18 @@
 -- How far a walk through a book has come: words of private contracts.
-use Rattle.std.specs.Prelude.{◌≡◌, ℕ, ◌<◌, ◌≤◌, ◌-◌, ◌^◌, ◌&&◌, ◌||◌, nat_eq, Bool, true, List, length}
-use Rattle.std.specs.Prelude.{All, AllPairs}
-use Rattle.std.specs.Prelude.{Some, None}
+use Rattle.std.specs.Prelude.{◌≡◌, ℕ, ◌+◌, ◌≤◌, ◌-◌, ◌&&◌, ◌||◌, nat_eq, Bool, true, false, List}
+use Rattle.std.specs.Prelude.{length, slice_get, All, AllPairs, Some, None}
 use Rattle.wall_labels.specs.Limits.{process_limit}
 use Rattle.wall_labels.specs.declared.label.Label.TheVariants.{Of}
 use Rattle.wall_policy.specs.Policy.{ChineseWall}
 use Rattle.wall_rules.specs.Histories.{History, has_in}
 use Rattle.coll_routes.specs.declared.roll.Roll.{Roll}
+use Rattle.coll_routes.specs.declared.statement.Stated.{Stated}
 use Rattle.coll_routes.specs.Rolls.{label_of, routed}
 use Rattle.coll_routes.specs.Fit.{IsFit}
+use Rattle.wall_verdict.specs.Charges.{charged}
+use Rattle.wall_verdict.specs.Grants.{charged_to}
 use Rattle.run_model.specs.declared.entry.Entry.{Entry}
 use Rattle.run_model.specs.Posts.{Post, place, comms, filled, outcome}
-use Rattle.run_model.specs.Books.{IsCounted}
 use Rattle.run_model.specs.Holding.{IsGrant}
 use Rattle.run_state.specs.declared.entered.Entered.{Entered}
 use Rattle.run_state.specs.declared.entered.Entered.TheVariants.{Waiting, Settled}
@@ -20,7 +21,11 @@ use Rattle.audit_book.specs.Checks.{Stands}
 use Rattle.book_report.specs.declared.row.Row.{Row}
 use Rattle.book_report.specs.declared.row.Way.{Way}
 use Rattle.book_report.specs.declared.known.Known.{Known}
+use Rattle.book_report.specs.declared.place.Place.{Place}
+use Rattle.book_report.specs.declared.place.Instance.{Instance}
 use Rattle.book_report.specs.Held.{histories_after, posts_to, IsRow, HasRow, Follows, IsPostAt}
+use Rattle.book_report.specs.Held.{IsFirstAfter}
+use Rattle.book_report.specs.Places.{IsPlace}
 
 -- some row is of this pair, as the sets have it
 abbrev pub knows : Known → (p d : ℕ) → Bool
@@ -59,23 +64,20 @@ Covers has known = (p d : ℕ) → has p d ≡ true → knows known p d ≡ true
 pub record HasCome (wall : ChineseWall) (entries : List Entry) (n : ℕ)
     (post_state : PostStateValue (Unit {0})) (known : Known) : Type 0 where
   pub stands : Stands wall post_state (posts_to entries n)
+  pub room : HasRoom known
   pub rows : AreKnown wall entries n known
   pub whole : Covers (histories_after wall entries n) known
 
 abbrev pub row_of : (p d n : ℕ) → Way → Row
 row_of p d n way = record { process = p; dataset = d; entry = n; way = way }
 
+-- a post of elements of d, which passed
+abbrev pub PassedWith : Stated → (d : ℕ) → Type 0
+PassedWith stated d = (stated.barred ≡ false) × (stated.label ≡ Some (Of d))
+
 -- rank i gives rank j elements of d
 abbrev pub GivesTo : Roll → (i j d : ℕ) → Type 0
 GivesTo roll i j d = (routed roll i j ≡ true) × (label_of roll i ≡ Some (Of d))
-
--- the state stands for these posts, after which the post counts
-pub record MayBeEntered (wall : ChineseWall) (post_state : PostStateValue (Unit {0})) (x : Post)
-    : Type 0 where
-  pub past : List Post
-  pub stood : Stands wall post_state past
-  pub few : length past < 2 ^ 62
-  pub counts : IsCounted wall x past
 
 -- what is told of a post made after these: whether it fills its instance, and if so, the instance
 -- with its number and outcome
@@ -86,11 +88,6 @@ IsTold wall x past (Settled full k o) = (place x past ≡ k)
     × (outcome wall x past ≡ Some o)
     × IsFit full.roll
 
--- calls on the instance may be made
-abbrev pub IsFitting : Entered (Unit {0}) → Type 0
-IsFitting (Waiting k) = Unit {0}
-IsFitting (Settled full k o) = IsFit full.roll
-
 -- entry n is the post that filled this roll, instance (c, k), which was granted
 pub record IsGrantAt (wall : ChineseWall) (entries : List Entry) (n c k : ℕ) (roll : Roll)
     : Type 0 where
@@ -99,3 +96,46 @@ pub record IsGrantAt (wall : ChineseWall) (entries : List Entry) (n c k : ℕ) (
   pub comm : x.comm ≡ c
   pub kth : place x (posts_to entries (n - 1)) ≡ k
   pub grant : IsGrant wall x (posts_to entries (n - 1)) roll
+
+-- the instance was granted, and calls on it may be made
+pub record IsGranted (instance : Instance) : Type 0 where
+  pub place : IsPlace instance.place
+  pub fit : IsFit instance.roll.now
+  pub grant : IsGrantAt instance.place.policy.now instance.place.book.now.list
+      (instance.place.at + 1) instance.comm instance.k instance.roll.now
+
+-- p first holds d by the entry at the place, if it is not known yet to hold it
+abbrev pub IsNew : Place → Known → (p d : ℕ) → Type 0
+IsNew place known p d = knows known p d ≡ false →
+    IsFirstAfter place.policy.now place.book.now.list p d (place.at + 1)
+
+-- the rows are right, up to the entry at the place
+pub record AreKnownAt (place : Place) (known : Known) : Type 0 where
+  pub room : HasRoom known
+  pub rows : AreKnown place.policy.now place.book.now.list (place.at + 1) known
+
+-- they are so with the rows that were added
+pub record HasAdded (place : Place) (old new : Known) : Type 0 where
+  pub known : AreKnownAt place new
+  pub grows : Grows old new
+
+-- d is charged to rank j
+abbrev pub IsCharged : Instance → (j d : ℕ) → Type 0
+IsCharged instance j d = charged instance.place.policy.now instance.roll.now j d ≡ true
+
+-- it holds of the member at rank j; of the datasets that are charged to it; of the pairs that the
+-- instance brings
+abbrev pub AtRank : Instance → (j : ℕ) → (ℕ → Type 0) → Type 0
+AtRank instance j P = (p : ℕ) → slice_get instance.roll.now.members j ≡ Some p → P p
+
+abbrev pub OfCharges : Instance → (j : ℕ) → (ℕ → Type 0) → Type 0
+OfCharges instance j P = (d : ℕ) → IsCharged instance j d → P d
+
+abbrev pub OfGrant : Instance → (ℕ → ℕ → Type 0) → Type 0
+OfGrant instance P = (p d : ℕ) →
+    charged_to instance.place.policy.now instance.roll.now p d ≡ true → P p d
+
+-- they are right and whole, up to the entry at the place
+pub record AreWhole (place : Place) (known : Known) : Type 0 where
+  pub rows : AreKnownAt place known
+  pub covers : Covers (histories_after place.policy.now place.book.now.list (place.at + 1)) known

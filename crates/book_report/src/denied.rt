@@ -1,46 +1,69 @@
 //! Goes through a book for the instances that were denied.
-ghost use Rattle.std.specs.Prelude.{◌≡◌, ℕ, ◌<◌, ◌+◌, ◌^◌, [], List, length, All, AllPairs};
-ghost use Rattle.std.specs.Prelude.{IfOk, IfErr, OnOk, Some, slice_get};
+ghost use Rattle.std.specs.Prelude.{◌≡◌, ℕ, ◌<◌, ◌+◌, [], ◌∷◌, ◌++◌, length, All, AllPairs};
+ghost use Rattle.std.specs.Prelude.{IfOk, IfErr, OnOk};
 ghost use Rattle.wall_labels.specs.declared.label.Label.{Label as LabelValue};
 ghost use Rattle.wall_rules.specs.declared.rule.Rule.{Rule as RuleValue};
-ghost use Rattle.run_model.specs.Books.{IsSound, posted};
-ghost use Rattle.run_state.specs.declared.entered.Entered.TheVariants.{Settled};
-ghost use Rattle.audit_book.specs.Checks.{IsFaultOf, post_of, Stands};
+ghost use Rattle.run_model.specs.Books.{IsSound};
+ghost use Rattle.audit_book.specs.Checks.{IsFaultOf, Stands};
 ghost use Rattle.book_report.specs.Denials.{IsDenial, IsDeniedAt, HasDenial};
+ghost use Rattle.book_report.specs.Places.{IsPlace};
 ghost use Rattle.book_report.specs.Reasons.{AreDenials, HasDenials, HasFollowed};
 
-use crate::denial::Denial;
+use crate::denial::{Denial, Reason};
 use crate::enter::enter;
-use crate::grant::Filling;
-use crate::reason::add_denial;
+use crate::place::{Instance, Place};
+use crate::reason::Judged;
 use audit_book::{BookFault, check_book};
-use coll_routes::Stated;
-use coll_values::Full;
-use run_model::{Entry, Outcome};
+use run_model::Outcome;
 use run_state::{Book, Entered, PostState};
 use std::alloc::Global;
 use wall_labels::{NoMemory, ProcessId};
 use wall_policy::Policy;
 
-// Adds the outcome of what the post at this place filled, if that was denied.
-fn add_outcome(
-    policy: &Policy,
+// Adds a denial of these parts: the entry behind the post tells it.
+fn push_denial(
+    denials: &mut Vec<Denial>,
+    instance: &Instance<'_>,
+    process: ProcessId,
+    reason: Reason,
+) -> Result<(), NoMemory>
+    requires { IsPlace instance.now.place }
+    ensures { OnOk result (denials.new.items ≡ denials.old.items ++ (record {
+      entry = instance.now.place.at + 1 + 1;
+      comm = instance.now.comm;
+      k = instance.now.k;
+      process = process;
+      reason = reason;
+    }) ∷ []) }
+{
+    let denial = Denial {
+        entry: instance.place.entry() + 1,
+        comm: instance.comm,
+        k: instance.k,
+        process,
+        reason,
+    };
+    denials.push(denial)?;
+    Ok(())
+}
+
+// Adds what the post at this place filled, if that was denied.
+fn add_denied(
+    place: &Place<'_>,
     post_state: &PostState<()>,
     denials: &mut Vec<Denial>,
-    book: &Book,
-    full: &Full<()>,
-    k: u64,
-    outcome: &Outcome,
+    entered: &Entered<()>,
     comm: u32,
-    at: usize,
 ) -> Result<(), NoMemory>
-    requires { HasFollowed policy.now book.now.list at comm post_state.now
-        (Settled full.now k outcome.now) }
-    ensures { OnOk result (AreDenials policy.now book.now.list at denials.old.items →
-        AreDenials policy.now book.now.list (at + 1) denials.new.items) }
+    requires { HasFollowed place.now comm post_state.now entered.now }
+    ensures { OnOk result
+        (AreDenials place.now.policy.now place.now.book.now.list place.now.at denials.old.items →
+        AreDenials place.now.policy.now place.now.book.now.list (place.now.at + 1)
+        denials.new.items) }
 {
-    let _ = book.len();
-    let entry = at as u64 + 1;
+    let Entered::Settled { full, k, outcome } = entered else {
+        return Ok(());
+    };
     match outcome {
         Outcome::Granted => Ok(()),
         Outcome::Made { .. } => Ok(()),
@@ -50,97 +73,43 @@ fn add_outcome(
             process,
             label,
         } => {
-            let filling = Filling { entry, comm, k };
-            add_denial(
-                policy,
-                post_state.histories(),
-                denials,
-                book,
-                &full.roll,
-                &filling,
-                rule,
-                *process,
-                label,
-            )
+            let instance = Instance {
+                place: *place,
+                comm,
+                k: *k,
+                roll: &full.roll,
+            };
+            let judged = Judged {
+                instance,
+                histories: post_state.histories(),
+            };
+            let reason = judged.reason(rule, *process, label);
+            push_denial(denials, &instance, *process, reason)
         }
     }
 }
 
-// Adds what the post at this place filled, if that was denied.
-fn add_denied(
-    policy: &Policy,
-    post_state: &PostState<()>,
-    denials: &mut Vec<Denial>,
-    book: &Book,
-    entered: &Entered<()>,
-    comm: u32,
-    at: usize,
-) -> Result<(), NoMemory>
-    requires { HasFollowed policy.now book.now.list at comm post_state.now entered.now }
-    ensures { OnOk result (AreDenials policy.now book.now.list at denials.old.items →
-        AreDenials policy.now book.now.list (at + 1) denials.new.items) }
-{
-    match entered {
-        Entered::Waiting { .. } => Ok(()),
-        Entered::Settled { full, k, outcome } => add_outcome(
-            policy, post_state, denials, book, full, *k, outcome, comm, at,
-        ),
-    }
-}
-
-// Goes on by a post, which stands at this place.
-fn follow_part(
-    alloc: Global,
-    policy: &Policy,
+// Goes on by the entry at this place.
+fn follow_denial(
+    place: &Place<'_>,
     post_state: &mut PostState<()>,
     denials: &mut Vec<Denial>,
-    book: &Book,
-    process: ProcessId,
-    comm: u32,
-    stated: &Stated,
-    at: usize,
 ) -> Result<(), NoMemory>
-    requires sound { IsSound policy.now book.now.list }
-    requires few { length book.now.list < 2 ^ 62 }
-    requires there { slice_get book.now.list at ≡ Some (posted (post_of process comm stated.now)) }
-    requires come { HasDenials policy.now book.now.list at post_state.old denials.old.items }
-    ensures { OnOk result
-        (HasDenials policy.now book.now.list (at + 1) post_state.new denials.new.items) }
+    requires place { IsPlace place.now }
+    requires come { HasDenials place.now.policy.now place.now.book.now.list place.now.at
+        post_state.old denials.old.items }
+    ensures { OnOk result (HasDenials place.now.policy.now place.now.book.now.list
+        (place.now.at + 1) post_state.new denials.new.items) }
 {
-    let Ok(entered) = enter(alloc, policy, post_state, process, comm, stated) else {
+    let Some(posting) = place.posting() else {
+        return Ok(());
+    };
+    let Ok(entered) = enter(*denials.allocator(), place, post_state, &posting) else {
         return Err(NoMemory);
     };
-    let added = add_denied(policy, post_state, denials, book, &entered, comm, at);
+    let added = add_denied(place, post_state, denials, &entered, posting.comm);
     drop(entered);
     added
-}
-
-// Goes on by the entry at this place of a sound book.
-fn follow_denial(
-    alloc: Global,
-    policy: &Policy,
-    post_state: &mut PostState<()>,
-    denials: &mut Vec<Denial>,
-    book: &Book,
-    at: usize,
-) -> Result<(), NoMemory>
-    requires sound { IsSound policy.now book.now.list }
-    requires at { at < length book.now.list }
-    requires few { length book.now.list < 2 ^ 62 }
-    requires come { HasDenials policy.now book.now.list at post_state.old denials.old.items }
-    ensures { OnOk result
-        (HasDenials policy.now book.now.list (at + 1) post_state.new denials.new.items) }
-{
-    match book.get(at) {
-        Entry::Settled { .. } => Ok(()),
-        Entry::Posted {
-            process,
-            comm,
-            stated,
-        } => follow_part(
-            alloc, policy, post_state, denials, book, *process, *comm, stated, at,
-        ),
-    }
 }
 
 // The denials of a sound book, with a state that stands for no post.
@@ -157,7 +126,7 @@ fn denials_from(
 {
     let mut denials = Vec::new(alloc);
     for at in 0..book.len() {
-        follow_denial(alloc, policy, post_state, &mut denials, book, at)?;
+        follow_denial(&Place { policy, book, at }, post_state, &mut denials)?;
     }
     Ok(denials)
 }

@@ -1,36 +1,58 @@
-//! Enters a post of a sound book.
-ghost use Rattle.std.specs.Prelude.{◌≡◌, ◌∷◌, List, IfOk};
-ghost use Rattle.run_model.specs.Posts.{Post};
-ghost use Rattle.audit_book.specs.Checks.{post_of, Stands};
-ghost use Rattle.book_report.specs.Walk.{MayBeEntered, IsTold};
+//! Enters the posts of a sound book.
+ghost use Rattle.std.specs.Prelude.{◌≡◌, ◌+◌, ◌^◌, ◌<◌, [], length, IfOk, OnOk};
+ghost use Rattle.run_model.specs.Books.{IsSound};
+ghost use Rattle.audit_book.specs.Checks.{Stands};
+ghost use Rattle.book_report.specs.Held.{posts_to};
+ghost use Rattle.book_report.specs.Places.{IsPlace, IsHere, StandsBefore, StandsBehind, post_in};
+ghost use Rattle.book_report.specs.Walk.{IsTold};
 
-use coll_routes::Stated;
-use run_state::{Entered, PostState, Terms};
+use crate::place::{Place, Posting};
+use run_state::{Book, Entered, PostState, Terms};
 use std::alloc::Global;
-use wall_labels::{NoMemory, ProcessId};
+use wall_labels::NoMemory;
 use wall_policy::Policy;
 
-/// Enters a post that counts, and tells what it fills.
+/// Enters the post that stands here, and tells what it fills.
 pub(crate) fn enter(
     alloc: Global,
-    policy: &Policy,
+    place: &Place<'_>,
     post_state: &mut PostState<()>,
-    process: ProcessId,
-    comm: u32,
-    stated: &Stated,
+    posting: &Posting<'_>,
 ) -> Result<Entered<()>, NoMemory>
-    requires { MayBeEntered policy.now post_state.old (post_of process comm stated.now) }
-    ensures { IfOk result (λ entered. (past : List Post) → Stands policy.now post_state.old past →
-        Stands policy.now post_state.new (post_of process comm stated.now ∷ past)
-        × IsTold policy.now (post_of process comm stated.now) past entered) }
+    requires place { IsPlace place.now }
+    requires here { IsHere place.now (post_in posting.now) }
+    requires stands { StandsBefore place.now post_state.old }
+    ensures stands { OnOk result (StandsBehind place.now post_state.new) }
+    ensures told { IfOk result (IsTold place.now.policy.now (post_in posting.now)
+        (posts_to place.now.book.now.list place.now.at)) }
 {
-    let stated = stated.copy(alloc)?;
+    let stated = posting.stated.copy(alloc)?;
     let _ = post_state.len();
-    match post_state.look(policy, process.number(), comm, Terms::of(&stated)) {
+    let terms = Terms::of(&stated);
+    match post_state.look(place.policy, posting.process.number(), posting.comm, terms) {
         Err(_) => unreachable!(),
-        Ok(seat) => match post_state.enter(policy, seat, stated, ()) {
+        Ok(seat) => match post_state.enter(place.policy, seat, stated, ()) {
             Ok(entered) => Ok(entered),
             Err(_) => Err(NoMemory),
         },
     }
+}
+
+/// Enters the post that stands here, whatever it fills.
+pub(crate) fn pass_on(
+    alloc: Global,
+    place: &Place<'_>,
+    post_state: &mut PostState<()>,
+    posting: &Posting<'_>,
+) -> Result<(), NoMemory>
+    requires place { IsPlace place.now }
+    requires here { IsHere place.now (post_in posting.now) }
+    requires stands { StandsBefore place.now post_state.old }
+    ensures { OnOk result (StandsBehind place.now post_state.new) }
+{
+    let Ok(entered) = enter(alloc, place, post_state, posting) else {
+        return Err(NoMemory);
+    };
+    drop(entered);
+    Ok(())
 }

@@ -1,31 +1,21 @@
 //! What a granted instance brings to its members.
-ghost use Rattle.std.specs.Prelude.{◌≡◌, ℕ, ◌<◌, ◌↔◌, List, length, slice_get, IfSome, IfNone, OnOk};
-ghost use Rattle.std.specs.Prelude.{Some, true, false, IsTrue};
+ghost use Rattle.std.specs.Prelude.{◌≡◌, ℕ, ◌<◌, ◌↔◌, IfSome, IfNone, OnOk, Some, true, false};
+ghost use Rattle.std.specs.Prelude.{IsTrue};
 ghost use Rattle.std.specs.FinSet.{contains};
 ghost use Rattle.wall_labels.specs.declared.label.Label.TheVariants.{Of};
 ghost use Rattle.wall_labels.specs.Rows.{HoldsDatasets};
 ghost use Rattle.coll_routes.specs.Fit.{IsFit};
 ghost use Rattle.coll_routes.specs.Rolls.{label_of};
 ghost use Rattle.wall_verdict.specs.Charges.{charged};
-ghost use Rattle.wall_verdict.specs.Grants.{charged_to};
-ghost use Rattle.run_model.specs.declared.entry.Entry.{Entry};
-ghost use Rattle.book_report.specs.Held.{IsFirstAfter};
-ghost use Rattle.book_report.specs.Walk.{AreKnown, HasRoom, Grows, knows, GivesTo, IsGrantAt};
+ghost use Rattle.book_report.specs.Walk.{knows, GivesTo, IsGranted, IsNew, AreKnownAt, HasAdded};
+ghost use Rattle.book_report.specs.Walk.{IsCharged, AtRank, OfCharges, OfGrant};
 
 use crate::known::Known;
-use crate::row::Way;
+use crate::place::Instance;
+use crate::row::{Row, Way};
 use coll_routes::{Roll, routed};
 use wall_labels::{DATASET_LIMIT, DatasetId, Label, LabelSet, NoMemory};
-use wall_policy::Policy;
 use wall_verdict::charged;
-
-/// The entry of the post that filled an instance, counted from 1, and which instance that is.
-#[derive(Clone, Copy)]
-pub(crate) struct Filling {
-    pub entry: u64,
-    pub comm: u32,
-    pub k: u64,
-}
 
 // Whether the label names the dataset.
 fn is_of(label: &Option<Label>, dataset: DatasetId) -> bool
@@ -79,48 +69,6 @@ pub(crate) fn giver(roll: &Roll, to: u32, dataset: DatasetId) -> Option<u32>
     None
 }
 
-// Adds the row of the dataset, if it is charged to the rank.
-fn add_charge(
-    policy: &Policy,
-    known: &mut Known,
-    roll: &Roll,
-    to: u32,
-    charges: &LabelSet,
-    dataset: DatasetId,
-    filling: Filling,
-) -> Result<(), NoMemory>
-    requires fit { IsFit roll.now }
-    requires to { to < roll.now.shape.size }
-    requires charges { (d : ℕ) → contains charges.now d ≡ charged policy.now roll.now to d }
-    requires room { HasRoom known.old }
-    ensures room { OnOk result (HasRoom known.new) }
-    ensures known { OnOk result ((entries : List Entry) (p : ℕ) →
-        slice_get roll.now.members to ≡ Some p →
-        AreKnown policy.now entries filling.entry known.old →
-        IsGrantAt policy.now entries filling.entry filling.comm filling.k roll.now →
-        (charged policy.now roll.now to dataset ≡ true → knows known.old p dataset ≡ false →
-        IsFirstAfter policy.now entries p dataset filling.entry) →
-        AreKnown policy.now entries filling.entry known.new) }
-    ensures grows { OnOk result (Grows known.old known.new) }
-    ensures there { OnOk result ((p : ℕ) → slice_get roll.now.members to ≡ Some p →
-        charged policy.now roll.now to dataset ≡ true → knows known.new p dataset ≡ true) }
-{
-    if !charges.contains(dataset) {
-        return Ok(());
-    }
-    let Some(from) = giver(roll, to, dataset) else {
-        unreachable!()
-    };
-    let receiver = roll.members.at(to);
-    let sender = roll.members.at(from);
-    let way = Way::Delivered {
-        comm: filling.comm,
-        k: filling.k,
-        from: sender,
-    };
-    known.add(receiver, dataset, filling.entry, way)
-}
-
 fn is_empty(set: &LabelSet) -> bool
     ensures empty { IsTrue result → (d : ℕ) → contains set.now d ≡ false }
     ensures members { HoldsDatasets set.now }
@@ -131,30 +79,50 @@ fn is_empty(set: &LabelSet) -> bool
     }
 }
 
-// Adds the rows of all datasets that are charged to the rank.
-fn add_charges(
-    policy: &Policy,
+// Adds the row of a dataset that is charged to the rank.
+fn add_charge(
+    instance: &Instance<'_>,
     known: &mut Known,
-    roll: &Roll,
     to: u32,
-    filling: Filling,
+    dataset: DatasetId,
 ) -> Result<(), NoMemory>
-    requires fit { IsFit roll.now }
-    requires to { to < roll.now.shape.size }
-    requires room { HasRoom known.old }
-    ensures room { OnOk result (HasRoom known.new) }
-    ensures known { OnOk result ((entries : List Entry) (p : ℕ) →
-        slice_get roll.now.members to ≡ Some p →
-        AreKnown policy.now entries filling.entry known.old →
-        IsGrantAt policy.now entries filling.entry filling.comm filling.k roll.now →
-        ((d : ℕ) → charged policy.now roll.now to d ≡ true → knows known.old p d ≡ false →
-        IsFirstAfter policy.now entries p d filling.entry) →
-        AreKnown policy.now entries filling.entry known.new) }
-    ensures grows { OnOk result (Grows known.old known.new) }
-    ensures there { OnOk result ((p d : ℕ) → slice_get roll.now.members to ≡ Some p →
-        charged policy.now roll.now to d ≡ true → knows known.new p d ≡ true) }
+    requires granted { IsGranted instance.now }
+    requires to { to < instance.now.roll.now.shape.size }
+    requires charge { IsCharged instance.now to dataset }
+    requires known { AreKnownAt instance.now.place known.old }
+    requires new { AtRank instance.now to (λ p. IsNew instance.now.place known.old p dataset) }
+    ensures added { OnOk result (HasAdded instance.now.place known.old known.new) }
+    ensures there { OnOk result (AtRank instance.now to (λ p. knows known.new p dataset ≡ true)) }
 {
-    let charges = charged(policy, roll, to);
+    let Some(from) = giver(instance.roll, to, dataset) else {
+        unreachable!()
+    };
+    let receiver = instance.roll.members.at(to);
+    let sender = instance.roll.members.at(from);
+    known.add(Row {
+        process: receiver,
+        dataset,
+        entry: instance.place.entry(),
+        way: Way::Delivered {
+            comm: instance.comm,
+            k: instance.k,
+            from: sender,
+        },
+    })
+}
+
+// Adds the rows of all datasets that are charged to the rank.
+fn add_charges(instance: &Instance<'_>, known: &mut Known, to: u32) -> Result<(), NoMemory>
+    requires granted { IsGranted instance.now }
+    requires to { to < instance.now.roll.now.shape.size }
+    requires known { AreKnownAt instance.now.place known.old }
+    requires new { OfCharges instance.now to
+        (λ d. AtRank instance.now to (λ p. IsNew instance.now.place known.old p d)) }
+    ensures added { OnOk result (HasAdded instance.now.place known.old known.new) }
+    ensures there { OnOk result (OfCharges instance.now to
+        (λ d. AtRank instance.now to (λ p. knows known.new p d ≡ true))) }
+{
+    let charges = charged(instance.place.policy, instance.roll, to);
     if is_empty(&charges) {
         return Ok(());
     }
@@ -162,34 +130,24 @@ fn add_charges(
         let Some(dataset) = DatasetId::new(number) else {
             unreachable!()
         };
-        add_charge(policy, known, roll, to, &charges, dataset, filling)?;
+        if !charges.contains(dataset) {
+            continue;
+        }
+        add_charge(instance, known, to, dataset)?;
     }
     Ok(())
 }
 
 /// Adds the rows of all that a granted instance brings to its members and that they did not hold.
-pub(crate) fn add_grant(
-    policy: &Policy,
-    known: &mut Known,
-    roll: &Roll,
-    filling: Filling,
-) -> Result<(), NoMemory>
-    requires fit { IsFit roll.now }
-    requires room { HasRoom known.old }
-    ensures room { OnOk result (HasRoom known.new) }
-    ensures known { OnOk result ((entries : List Entry) →
-        AreKnown policy.now entries filling.entry known.old →
-        IsGrantAt policy.now entries filling.entry filling.comm filling.k roll.now →
-        ((p d : ℕ) → charged_to policy.now roll.now p d ≡ true → knows known.old p d ≡ false →
-        IsFirstAfter policy.now entries p d filling.entry) →
-        AreKnown policy.now entries filling.entry known.new) }
-    ensures grows { OnOk result (Grows known.old known.new) }
-    ensures there { OnOk result ((p d : ℕ) → charged_to policy.now roll.now p d ≡ true →
-        knows known.new p d ≡ true) }
+pub(crate) fn add_grant(instance: &Instance<'_>, known: &mut Known) -> Result<(), NoMemory>
+    requires granted { IsGranted instance.now }
+    requires known { AreKnownAt instance.now.place known.old }
+    requires new { OfGrant instance.now (λ p d. IsNew instance.now.place known.old p d) }
+    ensures added { OnOk result (HasAdded instance.now.place known.old known.new) }
+    ensures there { OnOk result (OfGrant instance.now (λ p d. knows known.new p d ≡ true)) }
 {
-    let _ = roll.members.size();
-    for to in 0..roll.shape.size {
-        add_charges(policy, known, roll, to, filling)?;
+    for to in 0..instance.roll.members.size() {
+        add_charges(instance, known, to)?;
     }
     Ok(())
 }

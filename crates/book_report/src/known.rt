@@ -1,13 +1,13 @@
 //! What is known so far of who holds what.
-ghost use Rattle.std.specs.Prelude.{◌≡◌, ℕ, ◌<◌, [], ◌∷◌, ◌++◌, List, length, IfOk, OnOk, Some, false, true};
+ghost use Rattle.std.specs.Prelude.{◌≡◌, ℕ, ◌<◌, [], ◌∷◌, ◌++◌, List, length, IfOk, OnOk};
+ghost use Rattle.std.specs.Prelude.{false, true};
 ghost use Rattle.wall_labels.specs.Limits.{process_limit};
-ghost use Rattle.wall_labels.specs.declared.label.Label.TheVariants.{Of};
 ghost use Rattle.wall_policy.specs.Policy.{ChineseWall};
 ghost use Rattle.wall_rules.specs.Histories.{has, has_in, opening};
 ghost use Rattle.wall_verdict.specs.Charges.{dataset_in};
 ghost use Rattle.run_model.specs.declared.entry.Entry.{Entry};
 ghost use Rattle.book_report.specs.Held.{IsRow};
-ghost use Rattle.book_report.specs.Walk.{AreKnown, AddsPair, HasRoom, Grows, knows};
+ghost use Rattle.book_report.specs.Walk.{AreKnown, AddsPair, HasRoom, Grows, PassedWith, knows};
 ghost use Rattle.book_report.specs.Walk.{row_of};
 
 use crate::row::{Row, Way};
@@ -61,43 +61,36 @@ impl Known {
     }
 
     /// Adds the row, if it is the first of its pair.
-    pub fn add(
-        &mut self,
-        process: ProcessId,
-        dataset: DatasetId,
-        entry: u64,
-        way: Way,
-    ) -> Result<(), NoMemory>
+    pub fn add(&mut self, row: Row) -> Result<(), NoMemory>
         requires { HasRoom self.old }
         ensures room { OnOk result (HasRoom self.new) }
         ensures known { OnOk result ((wall : ChineseWall) (entries : List Entry) →
-            AreKnown wall entries entry self.old →
-            (knows self.old process dataset ≡ false →
-            IsRow wall entries (row_of process dataset entry way)) →
-            AreKnown wall entries entry self.new) }
+            AreKnown wall entries row.entry self.old →
+            (knows self.old row.process row.dataset ≡ false → IsRow wall entries row) →
+            AreKnown wall entries row.entry self.new) }
         ensures grows { OnOk result (Grows self.old self.new) }
-        ensures there { OnOk result (knows self.new process dataset ≡ true) }
+        ensures there { OnOk result (knows self.new row.process row.dataset ≡ true) }
     {
+        let (process, dataset) = (row.process, row.dataset);
         if self.has(process, dataset) {
             return Ok(());
         }
-        self.push(process, dataset, entry, way)?;
+        self.push(row)?;
         self.mark(process, dataset);
         Ok(())
     }
 
-    // Adds a row alone.
-    fn push(
-        &mut self,
-        process: ProcessId,
-        dataset: DatasetId,
-        entry: u64,
-        way: Way,
-    ) -> Result<(), NoMemory>
-        ensures rows { OnOk result (self.new.rows.items
-            ≡ self.old.rows.items ++ row_of process dataset entry way ∷ []) }
+    // Adds a row alone. (It is taken apart, since the check has to meet the type of each part.)
+    fn push(&mut self, row: Row) -> Result<(), NoMemory>
+        ensures rows { OnOk result (self.new.rows.items ≡ self.old.rows.items ++ row ∷ []) }
         ensures sets { OnOk result (self.new.sets.items ≡ self.old.sets.items) }
     {
+        let Row {
+            process,
+            dataset,
+            entry,
+            way,
+        } = row;
         let row = Row {
             process,
             dataset,
@@ -137,20 +130,25 @@ impl Known {
         requires { HasRoom self.old }
         ensures room { OnOk result (HasRoom self.new) }
         ensures known { OnOk result ((wall : ChineseWall) (entries : List Entry) →
-            AreKnown wall entries entry self.old →
-            ((d : ℕ) → stated.now.barred ≡ false → stated.now.label ≡ Some (Of d) →
-            knows self.old process d ≡ false → IsRow wall entries (row_of process d entry Way.OwnPost)) →
+            AreKnown wall entries entry self.old → ((d : ℕ) → PassedWith stated.now d →
+            knows self.old process d ≡ false →
+            IsRow wall entries (row_of process d entry Way.OwnPost)) →
             AreKnown wall entries entry self.new) }
         ensures grows { OnOk result (Grows self.old self.new) }
-        ensures there { OnOk result ((d : ℕ) → stated.now.barred ≡ false →
-            stated.now.label ≡ Some (Of d) → knows self.new process d ≡ true) }
+        ensures there { OnOk result
+            ((d : ℕ) → PassedWith stated.now d → knows self.new process d ≡ true) }
     {
         if stated.barred {
             return Ok(());
         }
         match dataset_in(&stated.label) {
             None => Ok(()),
-            Some(dataset) => self.add(process, dataset, entry, Way::OwnPost),
+            Some(dataset) => self.add(Row {
+                process,
+                dataset,
+                entry,
+                way: Way::OwnPost,
+            }),
         }
     }
 
@@ -173,7 +171,12 @@ impl Known {
         if !histories.has(process, dataset) {
             return Ok(());
         }
-        self.add(process, dataset, 0, Way::AtFirst)
+        self.add(Row {
+            process,
+            dataset,
+            entry: 0,
+            way: Way::AtFirst,
+        })
     }
 
     // Adds the rows of all that a process holds at first.

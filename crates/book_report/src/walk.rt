@@ -1,25 +1,25 @@
 //! Goes through a book once.
-ghost use Rattle.std.specs.Prelude.{◌≡◌, ℕ, ◌<◌, ◌+◌, ◌^◌, [], List, length, slice_get, All, AllPairs};
-ghost use Rattle.std.specs.Prelude.{IfOk, IfErr, OnOk, Some, true};
+ghost use Rattle.std.specs.Prelude.{◌≡◌, ℕ, ◌+◌, [], List, length, All, AllPairs, IfOk, IfErr};
+ghost use Rattle.std.specs.Prelude.{OnOk, true};
 ghost use Rattle.run_model.specs.declared.entry.Entry.{Entry as BookEntry};
-ghost use Rattle.run_model.specs.Posts.{Post, is_granted, labelled};
-ghost use Rattle.run_model.specs.Books.{IsSound, posted};
+ghost use Rattle.run_model.specs.Posts.{is_granted, labelled};
+ghost use Rattle.run_model.specs.Books.{IsSound};
 ghost use Rattle.run_model.specs.PostLaws.{KeepsTheWall};
-ghost use Rattle.audit_book.specs.Checks.{IsFaultOf, post_of, Stands};
+ghost use Rattle.audit_book.specs.Checks.{IsFaultOf, Stands};
 ghost use Rattle.book_report.specs.Held.{histories_after, posts_to, IsRow, HasRow, Follows};
-ghost use Rattle.book_report.specs.Walk.{AreKnown, Covers, HasCome, HasRoom, MayBeEntered, IsTold};
-ghost use Rattle.book_report.specs.Walk.{IsFitting};
+ghost use Rattle.book_report.specs.Places.{IsPlace, IsHere, post_in};
+ghost use Rattle.book_report.specs.Walk.{Covers, HasCome, IsTold, AreKnownAt, AreWhole};
 
 use crate::enter::enter;
-use crate::grant::{Filling, add_grant};
+use crate::grant::add_grant;
 use crate::known::Known;
+use crate::place::{Instance, Place, Posting};
 use crate::row::Row;
 use audit_book::{BookFault, check_book};
-use coll_routes::Stated;
-use run_model::{Entry, Outcome};
+use run_model::Outcome;
 use run_state::{Book, Entered, PostState};
 use std::alloc::Global;
-use wall_labels::{NoMemory, ProcessId};
+use wall_labels::NoMemory;
 use wall_policy::Policy;
 
 fn is_granted(outcome: &Outcome) -> bool
@@ -28,35 +28,33 @@ fn is_granted(outcome: &Outcome) -> bool
     matches!(outcome, Outcome::Granted)
 }
 
-// Adds the rows of what a post filled, entry number `entry` counted from 1.
+// Adds the rows of what the post here filled.
 fn add_filled(
-    policy: &Policy,
+    place: &Place<'_>,
     known: &mut Known,
     entered: &Entered<()>,
-    entry: u64,
-    comm: u32,
+    posting: &Posting<'_>,
 ) -> Result<(), NoMemory>
-    requires room { HasRoom known.old }
-    requires fit { IsFitting entered.now }
-    ensures room { OnOk result (HasRoom known.new) }
-    ensures known { OnOk result ((entries : List BookEntry) (n : ℕ) (x : Post) → entry ≡ n + 1 →
-        slice_get entries n ≡ Some (posted x) → x.comm ≡ comm →
-        IsTold policy.now x (posts_to entries n) entered.now →
-        AreKnown policy.now entries entry known.old →
-        Covers (labelled (histories_after policy.now entries n) x) known.old →
-        AreKnown policy.now entries entry known.new) }
-    ensures whole { OnOk result ((entries : List BookEntry) (n : ℕ) (x : Post) →
-        slice_get entries n ≡ Some (posted x) →
-        IsTold policy.now x (posts_to entries n) entered.now →
-        Covers (labelled (histories_after policy.now entries n) x) known.old →
-        Covers (histories_after policy.now entries (n + 1)) known.new) }
+    requires place { IsPlace place.now }
+    requires here { IsHere place.now (post_in posting.now) }
+    requires told { IsTold place.now.policy.now (post_in posting.now)
+        (posts_to place.now.book.now.list place.now.at) entered.now }
+    requires known { AreKnownAt place.now known.old }
+    requires covers { Covers (labelled (histories_after place.now.policy.now
+        place.now.book.now.list place.now.at) (post_in posting.now)) known.old }
+    ensures { OnOk result (AreWhole place.now known.new) }
 {
     match entered {
         Entered::Waiting { .. } => Ok(()),
         Entered::Settled { full, k, outcome } => {
             if is_granted(outcome) {
-                let filling = Filling { entry, comm, k: *k };
-                add_grant(policy, known, &full.roll, filling)
+                let instance = Instance {
+                    place: *place,
+                    comm: posting.comm,
+                    k: *k,
+                    roll: &full.roll,
+                };
+                add_grant(&instance, known)
             } else {
                 Ok(())
             }
@@ -64,64 +62,28 @@ fn add_filled(
     }
 }
 
-// Goes on by a post, at this place of the book.
-fn follow_post(
-    alloc: Global,
-    policy: &Policy,
+// Goes on by the entry at this place.
+fn follow(
+    place: &Place<'_>,
     post_state: &mut PostState<()>,
     known: &mut Known,
-    process: ProcessId,
-    comm: u32,
-    stated: &Stated,
-    at: usize,
 ) -> Result<(), NoMemory>
-    requires room { HasRoom known.old }
-    requires may { MayBeEntered policy.now post_state.old (post_of process comm stated.now) }
-    requires few { at < 2 ^ 62 }
-    ensures room { OnOk result (HasRoom known.new) }
-    ensures come { OnOk result ((entries : List BookEntry) →
-        slice_get entries at ≡ Some (posted (post_of process comm stated.now)) →
-        HasCome policy.now entries at post_state.old known.old →
-        HasCome policy.now entries (at + 1) post_state.new known.new) }
+    requires place { IsPlace place.now }
+    requires come { HasCome place.now.policy.now place.now.book.now.list place.now.at
+        post_state.old known.old }
+    ensures { OnOk result (HasCome place.now.policy.now place.now.book.now.list (place.now.at + 1)
+        post_state.new known.new) }
 {
-    let entry = at as u64 + 1;
-    known.add_label(process, stated, entry)?;
-    let Ok(entered) = enter(alloc, policy, post_state, process, comm, stated) else {
+    let Some(posting) = place.posting() else {
+        return Ok(());
+    };
+    known.add_label(posting.process, posting.stated, place.entry())?;
+    let Ok(entered) = enter(*known.rows.allocator(), place, post_state, &posting) else {
         return Err(NoMemory);
     };
-    let added = add_filled(policy, known, &entered, entry, comm);
+    let added = add_filled(place, known, &entered, &posting);
     drop(entered);
     added
-}
-
-// Goes on by the entry at this place of a sound book.
-fn follow(
-    alloc: Global,
-    policy: &Policy,
-    post_state: &mut PostState<()>,
-    known: &mut Known,
-    book: &Book,
-    at: usize,
-) -> Result<(), NoMemory>
-    requires sound { IsSound policy.now book.now.list }
-    requires at { at < length book.now.list }
-    requires few { length book.now.list < 2 ^ 62 }
-    requires room { HasRoom known.old }
-    requires come { HasCome policy.now book.now.list at post_state.old known.old }
-    ensures room { OnOk result (HasRoom known.new) }
-    ensures come { OnOk result
-        (HasCome policy.now book.now.list (at + 1) post_state.new known.new) }
-{
-    match book.get(at) {
-        Entry::Settled { .. } => Ok(()),
-        Entry::Posted {
-            process,
-            comm,
-            stated,
-        } => follow_post(
-            alloc, policy, post_state, known, *process, *comm, stated, at,
-        ),
-    }
 }
 
 // What is known before the first entry, of a state that stands for no post.
@@ -131,12 +93,10 @@ fn known_at_first(
     post_state: &PostState<()>,
 ) -> Result<Known, NoMemory>
     requires { Stands policy.now post_state.now [] }
-    ensures room { IfOk result HasRoom }
-    ensures come { IfOk result (λ known. (entries : List BookEntry) →
+    ensures { IfOk result (λ known. (entries : List BookEntry) →
         HasCome policy.now entries 0 post_state.now known) }
 {
     let mut known = Known::none(alloc)?;
-    let _ = policy.processes();
     known.add_firsts(policy, post_state.histories())?;
     Ok(known)
 }
@@ -155,7 +115,7 @@ fn known_at_last(
 {
     let mut known = known_at_first(alloc, policy, post_state)?;
     for at in 0..book.len() {
-        follow(alloc, policy, post_state, &mut known, book, at)?;
+        follow(&Place { policy, book, at }, post_state, &mut known)?;
     }
     Ok(known)
 }

@@ -1,4 +1,4 @@
-use Rattle.std.proofs.Common.{sym, subst}
+use Rattle.std.proofs.Common.{sym, subst, arith}
 use Rattle.audit_book.specs.Checks.{Stands}
 use Rattle.book_report.proofs.HistoryLemmas.{no_posts}
 use Rattle.book_report.proofs.BarLemmas.{bars_none}
@@ -10,3 +10,13 @@ loop-at-init c = record {
       (sym (no_posts c.args.book.now.list)) c.requires.stands;
   are = bars_none c.args.policy.now c.args.book.now.list _ c.new-bars.ensures.items;
 }
+
+pub follow_bar-requires-clause-place : goal.follow_bar-requires-clause-place
+follow_bar-requires-clause-place c =
+    let many = c.len-at-end.ensures.value in
+    let low = c.loop-at-test.true in
+    record {
+      sound = c.requires.sound;
+      within = omega (arith, many, low);
+      few = c.len-at-end.ensures.few;
+    }

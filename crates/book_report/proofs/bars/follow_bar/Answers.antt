@@ -1,22 +1,23 @@
-use Rattle.std.proofs.Common.{◌≡◌, ap, ◌∙◌, Some}
-use Rattle.run_model.specs.declared.entry.Entry.{Entry}
+use Rattle.book_report.specs.Places.{post_in}
+use Rattle.book_report.proofs.KnownLemmas.{ok_then}
 use Rattle.book_report.proofs.WalkLemmas.{stands_settled}
 use Rattle.book_report.proofs.BarLemmas.{bars_same, settled_is_no_bar}
 use Rattle.book_report.proofs.bars.follow_bar.Goals as goal
 
-pub returns-in-Settled : goal.returns-in-Settled
-returns-in-Settled c =
-    let wall = c.args.policy.now in
-    let entries = c.args.book.now.list in
-    let at = c.get.ensures.entry ∙ ap (λ (e : Entry). Some e) c.in-Settled.is in
+pub returns-in_default : goal.returns-in_default
+returns-in_default c =
+    let wall = c.args.place.now.policy.now in
+    let entries = c.args.place.now.book.now.list in
+    let n = c.args.place.now.at in
+    let told = c.in_default.ensures.told in
     record {
-      stands = stands_settled wall entries c.args.at c.args.post_state.now c.in-Settled.comm
-          c.in-Settled.k c.in-Settled.outcome at c.requires.come.stands;
-      are = bars_same wall entries c.args.at c.args.bars.now.items
-          (settled_is_no_bar wall entries c.args.at c.in-Settled.comm c.in-Settled.k
-          c.in-Settled.outcome at) c.requires.come.are;
+      stands = stands_settled wall entries n c.args.post_state.now told.c told.k told.outcome
+          told.entry c.requires.come.stands;
+      are = bars_same wall entries n c.args.bars.now.items
+          (settled_is_no_bar wall entries n told.c told.k told.outcome told.entry)
+          c.requires.come.are;
     }
 
-pub follow_posted-requires-clause-there : goal.follow_posted-requires-clause-there
-follow_posted-requires-clause-there c =
-    c.get.ensures.entry ∙ ap (λ (e : Entry). Some e) c.in-Posted.is
+pub returns : goal.returns
+returns c = ok_then c.pass_on.result _ _
+    (λ stands. record { stands = stands; are = c.in_ok-add_bar.ensures }) c.pass_on.ensures

@@ -1,4 +1,4 @@
-use Rattle.std.proofs.Common.{◌≡◌, ◌∷◌, ◌∙◌, sym, ap, subst}
+use Rattle.std.proofs.Common.{◌≡◌, ◌∙◌, sym, ap, subst}
 use Rattle.std.specs.Result.{result_err}
 use Rattle.mpi_elems.specs.declared.elem_type.ElemType.{ElemType}
 use Rattle.coll_routes.specs.declared.signature.Signature.{Signature}
@@ -8,69 +8,91 @@ use Rattle.coll_routes.specs.Faults.{stated_type}
 use Rattle.run_model.specs.Posts.{Post}
 use Rattle.run_model.specs.Books.{IsCounted}
 use Rattle.run_state.specs.Views.{view_of, fault_of, LookedAt}
-use Rattle.run_state.specs.Stands.{StandsForPosts, Tells}
 use Rattle.audit_book.specs.Checks.{bare, post_of}
 use Rattle.audit_book.proofs.AuditBookLemmas.{accepted_is, word_is, few_is}
-use Rattle.book_report.proofs.WalkLemmas.{told_is}
+use Rattle.book_report.specs.Held.{posts_to}
+use Rattle.book_report.specs.Places.{post_in}
+use Rattle.book_report.proofs.CountLemmas.{counts_at}
+use Rattle.book_report.proofs.WalkLemmas.{entered_is, few_posts, stands_posted}
 use Rattle.book_report.proofs.enter.enter.Goals as goal
 
 pub unreachable-requires : goal.unreachable-requires
 unreachable-requires c =
+    let wall = c.args.place.now.policy.now in
+    let entries = c.args.place.now.book.now.list in
+    let past = posts_to entries c.args.place.now.at in
     let seen = view_of c.args.post_state.now in
-    let p = c.args.process in
+    let p = c.args.posting.now.process in
+    let comm = c.args.posting.now.comm in
     let s = c.in_ok-stated.stated in
     let test : result_err c.look.result
-    ≡ fault_of c.args.policy.now seen p c.args.comm s.sig s.own (stated_type s.sig) s.given =
-    c.look.ensures.test ∙ (λ i. fault_of c.args.policy.now seen (c.number.ensures.value i)
-    c.args.comm (c.of.ensures.sig i) (c.of.ensures.own i) (c.of.ensures.elem_type i)
-    (c.of.ensures.given i)) in
+    ≡ fault_of wall seen p comm s.sig s.own (stated_type s.sig) s.given =
+    c.look.ensures.test ∙ (λ i. fault_of wall seen (c.number.ensures.value i) comm
+    (c.of-terms.ensures.sig i) (c.of-terms.ensures.own i) (c.of-terms.ensures.elem_type i)
+    (c.of-terms.ensures.given i)) in
+    let counts = counts_at wall entries c.args.place.now.at (post_in c.args.posting.now)
+    c.requires.place.sound c.requires.here in
     let bad = sym (ap result_err c.in-Err.is) ∙ (test
-    ∙ accepted_is c.args.policy.now seen c.requires.past c.len.ensures.post_state c.requires.stood
-    p c.args.comm s (subst (λ (q : Stated). IsCounted c.args.policy.now (post_of p c.args.comm q)
-    c.requires.past) (sym c.in_ok-stated.ensures.made) c.requires.counts)) in
+    ∙ accepted_is wall seen past c.len.ensures.post_state c.requires.stands p comm s
+    (subst (λ (q : Stated). IsCounted wall (post_of p comm q) past)
+    (sym c.in_ok-stated.ensures.made) counts)) in
     absurd (cc)
 
 pub enter-requires-clause-looked : goal.enter-requires-clause-looked
 enter-requires-clause-looked c =
     let seen = view_of c.args.post_state.now in
     let it = c.in_ok-stated.stated in
+    let terms = c.of-terms.result in
     let seat = c.in-Ok.seat in
-    subst (λ n. LookedAt seen seat it.sig it.own (stated_type it.sig) n) c.of.ensures.given
-    (subst (λ (t : ElemType). LookedAt seen seat it.sig it.own t c.of.result.given)
-    c.of.ensures.elem_type
-    (subst (λ (o : Own). LookedAt seen seat it.sig o c.of.result.elem_type c.of.result.given)
-    c.of.ensures.own
-    (subst (λ (s : Signature).
-    LookedAt seen seat s c.of.result.own.now c.of.result.elem_type c.of.result.given)
-    c.of.ensures.sig c.in-Ok.ensures.looked)))
+    subst (λ n. LookedAt seen seat it.sig it.own (stated_type it.sig) n) c.of-terms.ensures.given
+    (subst (λ (t : ElemType). LookedAt seen seat it.sig it.own t terms.given)
+    c.of-terms.ensures.elem_type
+    (subst (λ (o : Own). LookedAt seen seat it.sig o terms.elem_type terms.given)
+    c.of-terms.ensures.own
+    (subst (λ (s : Signature). LookedAt seen seat s terms.own.now terms.elem_type terms.given)
+    c.of-terms.ensures.sig c.in-Ok.ensures.looked)))
 
 pub enter-requires-clause-word : goal.enter-requires-clause-word
 enter-requires-clause-word c =
-    let at : c.in-Ok.seat.process ≡ c.args.process =
+    let wall = c.args.place.now.policy.now in
+    let entries = c.args.place.now.book.now.list in
+    let past = posts_to entries c.args.place.now.at in
+    let posting = c.args.posting.now in
+    let at : c.in-Ok.seat.process ≡ posting.process =
     c.in-Ok.ensures.process ∙ c.number.ensures.value in
-    word_is c.args.policy.now (view_of c.args.post_state.now) c.requires.past c.requires.stood
-    c.in-Ok.seat c.in_ok-stated.stated c.args.stated.now c.in_ok-stated.ensures.made
-    (subst (λ (x : Post). IsCounted c.args.policy.now x c.requires.past)
-    (λ i. post_of (sym at i) (sym c.in-Ok.ensures.comm i) c.args.stated.now) c.requires.counts)
+    word_is wall (view_of c.args.post_state.now) past c.requires.stands
+    c.in-Ok.seat c.in_ok-stated.stated posting.stated.now c.in_ok-stated.ensures.made
+    (subst (λ (x : Post). IsCounted wall x past)
+    (λ i. post_of (sym at i) (sym c.in-Ok.ensures.comm i) posting.stated.now)
+    (counts_at wall entries c.args.place.now.at (post_in posting) c.requires.place.sound
+    c.requires.here))
 
 pub enter-requires-clause-few : goal.enter-requires-clause-few
 enter-requires-clause-few c =
-    few_is c.args.policy.now (view_of c.args.post_state.now) c.requires.past c.requires.stood
-    c.in-Ok.seat c.of.result.sig.now c.of.result.own.now c.of.result.elem_type c.of.result.given
-    c.in-Ok.ensures.looked c.requires.few
+    let entries = c.args.place.now.book.now.list in
+    let n = c.args.place.now.at in
+    let terms = c.of-terms.result in
+    few_is c.args.place.now.policy.now (view_of c.args.post_state.now) (posts_to entries n)
+    c.requires.stands c.in-Ok.seat terms.sig.now terms.own.now terms.elem_type terms.given
+    c.in-Ok.ensures.looked (few_posts entries n c.requires.place.few)
 
 pub returns-in-Ok-enter : goal.returns-in-Ok-enter
-returns-in-Ok-enter c = λ past stands.
-    let now = c.in-Ok-enter.ensures.entered (bare past) stands in
-    let at : c.in-Ok.seat.process ≡ c.args.process =
+returns-in-Ok-enter c =
+    let wall = c.args.place.now.policy.now in
+    let entries = c.args.place.now.book.now.list in
+    let n = c.args.place.now.at in
+    let posting = c.args.posting.now in
+    let at : c.in-Ok.seat.process ≡ posting.process =
     c.in-Ok.ensures.process ∙ c.number.ensures.value in
     let same : post_of c.in-Ok.seat.process c.in-Ok.seat.meeting.comm c.in_ok-stated.stated
-    ≡ post_of c.args.process c.args.comm c.args.stated.now =
+    ≡ post_in posting =
     λ i. post_of (at i) (c.in-Ok.ensures.comm i) (c.in_ok-stated.ensures.made i) in
-    let x = post_of c.args.process c.args.comm c.args.stated.now in (
-      subst (λ (y : Post). StandsForPosts c.args.policy.now (view_of c.enter.new.self)
-          (record { post = y; part = tt } ∷ bare past)) same now.0,
-      told_is c.args.policy.now x past c.in-Ok-enter.entered
-          (subst (λ (y : Post). Tells c.args.policy.now (record { post = y; part = tt })
-          (bare past) c.in-Ok-enter.entered) same now.1),
-    )
+    let now = entered_is wall (post_in posting)
+    (post_of c.in-Ok.seat.process c.in-Ok.seat.meeting.comm c.in_ok-stated.stated)
+    (posts_to entries n) c.enter.new.self c.in-Ok-enter.entered same
+    (c.in-Ok-enter.ensures.entered (bare (posts_to entries n)) c.requires.stands) in
+    record {
+      stands = stands_posted wall entries n (post_in posting) c.enter.new.self c.requires.here
+          now.0;
+      told = now.1;
+    }

@@ -1,38 +1,54 @@
-use Rattle.std.proofs.Common.{◌≡◌, ◌<◌, ℕ, length, true, false, Some, slice_get, subst, below_more}
-use Rattle.std.proofs.Common.{arith}
-use Rattle.wall_verdict.specs.Charges.{charged}
-use Rattle.book_report.specs.Walk.{knows}
+use Rattle.std.proofs.Common.{◌≡◌, ◌<◌, length, true, below_more, arith}
+use Rattle.book_report.specs.Walk.{knows, AtRank, OfCharges}
 use Rattle.book_report.proofs.KnownLemmas.{fresh_before}
-use Rattle.book_report.proofs.GrantLemmas.{charged_member, member_charged, member_there}
+use Rattle.book_report.proofs.GrantLemmas.{charged_member, member_charged}
 use Rattle.book_report.proofs.grant.add_grant.Goals as goal
+
+pub loop-to-init : goal.loop-to-init
+loop-to-init c = record {
+  added = record { known = c.requires.known; grows = λ p d h. h };
+  there = λ j low. absurd (omega arith);
+}
+
+pub add_charges-requires-clause-to : goal.add_charges-requires-clause-to
+add_charges-requires-clause-to c =
+    let members = c.requires.granted.fit.sound.members in
+    let size = c.size-to-end.ensures.value in
+    let low = c.loop-to-test.true in
+    omega (arith, members, size, low)
+
+pub add_charges-requires-clause-new : goal.add_charges-requires-clause-new
+add_charges-requires-clause-new c = λ d charge p at fresh.
+    let it = c.args.instance.now in
+    c.requires.new p d
+    (charged_member it.place.policy.now it.roll.now c.loop-to.to p d c.size-to-end.ensures.group
+    at charge)
+    (fresh_before c.args.known.now c.loop-to.known p d c.loop-to.invariant.added.grows fresh)
 
 pub loop-to-preserved : goal.loop-to-preserved
 loop-to-preserved c =
     let loop = c.loop-to.invariant in
     let more = c.in_ok-add_charges.ensures in
-    let wall = c.args.policy.now in
-    let roll = c.args.roll.now in
-    let members = c.requires.fit.sound.members in
-    let there = member_there roll.members c.loop-to.to (omega (arith, members)) in
+    let it = c.args.instance.now in
     record {
-      room = more.room;
-      known = λ entries before grant first.
-          more.known entries there.0 there.1 (loop.known entries before grant first) grant
-          (λ d charge fresh. first there.0 d
-          (charged_member wall roll c.loop-to.to there.0 d c.size.ensures.group there.1 charge)
-          (fresh_before c.args.known.now c.loop-to.known there.0 d loop.grows fresh));
-      grows = λ p d h. more.grows p d (loop.grows p d h);
-      there = λ j p d low.
-          below_more
-          (λ j. slice_get roll.members j ≡ Some p → charged wall roll j d ≡ true →
-          knows c.add_charges.new.known p d ≡ true)
+      added = record {
+        known = more.added.known;
+        grows = λ p d h. more.added.grows p d (loop.added.grows p d h);
+      };
+      there = below_more
+          (λ j. OfCharges it j (λ d. AtRank it j (λ p. knows c.add_charges.new.known p d ≡ true)))
           c.loop-to.to
-          (λ j low at charge. more.grows p d (loop.there j p d low at charge))
-          (λ at charge. more.there p d at charge) j low;
+          (λ j low d charge p at. more.added.grows p d (loop.there j low d charge p at))
+          more.there;
     }
 
-pub returns-clause-there : goal.returns-clause-there
-returns-clause-there c = λ p d charge.
-    let one = member_charged c.args.policy.now c.args.roll.now p d charge in
-    let members = c.requires.fit.sound.members in
-    c.loop-to.invariant.there one.0 p d (omega (arith, members, one.1)) one.2 one.3
+pub returns : goal.returns
+returns c = record {
+  added = c.loop-to.invariant.added;
+  there = λ p d charge.
+      let it = c.args.instance.now in
+      let one = member_charged it.place.policy.now it.roll.now p d charge in
+      let low = one.1 in
+      let size = c.size-to-end.ensures.value in
+      c.loop-to.invariant.there one.0 (omega (arith, size, low)) d one.3 p one.2;
+}

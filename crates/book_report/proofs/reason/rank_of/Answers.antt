@@ -9,5 +9,5 @@ unreachable-requires c =
     let both : ◌≡◌ {A = Option ℕ} None (Some c.requires.0) = c.in-None.ensures ∙ there in
     cc
 
-pub returns : goal.returns
-returns c = sym c.in-Some.ensures
+pub returns-clause-rank : goal.returns-clause-rank
+returns-clause-rank c = sym c.in-Some.ensures

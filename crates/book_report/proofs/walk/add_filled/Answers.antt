@@ -1,51 +1,81 @@
-use Rattle.std.proofs.Common.{◌≡◌, ◌+◌, ◌∷◌, true, false, sym, ◌∙◌, subst}
+use Rattle.std.proofs.Common.{◌≡◌, true, false, sym, ◌∙◌, subst, refl}
 use Rattle.run_model.specs.Posts.{is_granted}
-use Rattle.book_report.specs.Held.{IsFirstAfter, posts_to}
-use Rattle.book_report.specs.Walk.{IsTold, IsFitting, IsGrantAt}
-use Rattle.book_report.proofs.KnownLemmas.{ok_then, ok_both}
+use Rattle.book_report.specs.Held.{posts_to}
+use Rattle.book_report.specs.Places.{post_in}
+use Rattle.book_report.specs.Walk.{IsTold}
+use Rattle.book_report.proofs.KnownLemmas.{ok_both}
 use Rattle.book_report.proofs.WalkLemmas.{covers_unfilled, covers_ungranted, covers_granted}
 use Rattle.book_report.proofs.WalkLemmas.{grant_new, grant_at}
 use Rattle.book_report.proofs.walk.add_filled.Goals as goal
 
-pub returns-in-Waiting-clause-whole : goal.returns-in-Waiting-clause-whole
-returns-in-Waiting-clause-whole c = λ entries n x at told covers.
-    let wall = c.args.policy.now in
-    covers_unfilled wall entries n x at c.args.known.now
-    (subst (λ e. IsTold wall x (posts_to entries n) e) c.in-Waiting.is told) covers
+pub returns-in-Waiting : goal.returns-in-Waiting
+returns-in-Waiting c =
+    let wall = c.args.place.now.policy.now in
+    let entries = c.args.place.now.book.now.list in
+    let n = c.args.place.now.at in
+    let x = post_in c.args.posting.now in
+    record {
+      rows = c.requires.known;
+      covers = covers_unfilled wall entries n x c.requires.here c.args.known.now
+          (subst (λ e. IsTold wall x (posts_to entries n) e) c.in-Waiting.is c.requires.told)
+          c.requires.covers;
+    }
 
-pub add_grant-requires-clause-fit : goal.add_grant-requires-clause-fit
-add_grant-requires-clause-fit c = subst IsFitting c.in-Settled.is c.requires.fit
-
-pub returns-then-is_granted-clause-known : goal.returns-then-is_granted-clause-known
-returns-then-is_granted-clause-known c = ok_then c.add_grant.result _ _
-    (λ known entries n x is at comm told before covers.
-    let wall = c.args.policy.now in
-    let roll = c.in-Settled.full.roll in
+pub add_grant-requires-clause-granted : goal.add_grant-requires-clause-granted
+add_grant-requires-clause-granted c =
+    let wall = c.args.place.now.policy.now in
+    let entries = c.args.place.now.book.now.list in
+    let n = c.args.place.now.at in
+    let x = post_in c.args.posting.now in
     let o = c.in-Settled.outcome in
-    let its = subst (λ e. IsTold wall x (posts_to entries n) e) c.in-Settled.is told in
+    let its = subst (λ e. IsTold wall x (posts_to entries n) e) c.in-Settled.is c.requires.told in
     let was_granted : is_granted o ≡ true = sym c.is_granted.ensures ∙ c.if-is_granted.true in
-    known entries before
-    (subst (λ m. IsGrantAt wall entries m c.args.comm c.in-Settled.k roll) (sym is)
-    (grant_at wall entries n x at roll o its.1 its.2 c.args.comm c.in-Settled.k comm its.0 was_granted))
-    (λ p d charge fresh. subst (λ m. IsFirstAfter wall entries p d m) (sym is)
-    (grant_new wall entries n x at roll o its.1 its.2 c.args.known.now was_granted covers p d charge
-    fresh)))
-    c.add_grant.ensures.known
+    record {
+      place = c.requires.place;
+      fit = its.3;
+      grant = grant_at wall entries n x c.requires.here c.in-Settled.full.roll o its.1 its.2
+          c.args.posting.now.comm c.in-Settled.k refl its.0 was_granted;
+    }
 
-pub returns-then-is_granted-clause-whole : goal.returns-then-is_granted-clause-whole
-returns-then-is_granted-clause-whole c = ok_both c.add_grant.result _ _ _
-    (λ grows there entries n x at told covers.
-    let wall = c.args.policy.now in
-    let its = subst (λ e. IsTold wall x (posts_to entries n) e) c.in-Settled.is told in
-    covers_granted wall entries n x at c.in-Settled.full.roll c.in-Settled.outcome its.1 its.2
-    c.args.known.now c.add_grant.new.known covers grows there)
-    c.add_grant.ensures.grows c.add_grant.ensures.there
+pub add_grant-requires-clause-new : goal.add_grant-requires-clause-new
+add_grant-requires-clause-new c = λ p d charge fresh.
+    let wall = c.args.place.now.policy.now in
+    let entries = c.args.place.now.book.now.list in
+    let n = c.args.place.now.at in
+    let x = post_in c.args.posting.now in
+    let o = c.in-Settled.outcome in
+    let its = subst (λ e. IsTold wall x (posts_to entries n) e) c.in-Settled.is c.requires.told in
+    let was_granted : is_granted o ≡ true = sym c.is_granted.ensures ∙ c.if-is_granted.true in
+    grant_new wall entries n x c.requires.here c.in-Settled.full.roll o its.1 its.2
+    c.args.known.now was_granted c.requires.covers p d charge fresh
 
-pub returns-else-is_granted-clause-whole : goal.returns-else-is_granted-clause-whole
-returns-else-is_granted-clause-whole c = λ entries n x at told covers.
-    let wall = c.args.policy.now in
-    let its = subst (λ e. IsTold wall x (posts_to entries n) e) c.in-Settled.is told in
+pub returns-then-is_granted : goal.returns-then-is_granted
+returns-then-is_granted c = ok_both c.add_grant.result _ _ _
+    (λ added there.
+    let wall = c.args.place.now.policy.now in
+    let entries = c.args.place.now.book.now.list in
+    let n = c.args.place.now.at in
+    let x = post_in c.args.posting.now in
+    let its = subst (λ e. IsTold wall x (posts_to entries n) e) c.in-Settled.is c.requires.told in
+    record {
+      rows = added.known;
+      covers = covers_granted wall entries n x c.requires.here c.in-Settled.full.roll
+          c.in-Settled.outcome its.1 its.2 c.args.known.now c.add_grant.new.known
+          c.requires.covers added.grows there;
+    })
+    c.add_grant.ensures.added c.add_grant.ensures.there
+
+pub returns-else-is_granted : goal.returns-else-is_granted
+returns-else-is_granted c =
+    let wall = c.args.place.now.policy.now in
+    let entries = c.args.place.now.book.now.list in
+    let n = c.args.place.now.at in
+    let x = post_in c.args.posting.now in
+    let its = subst (λ e. IsTold wall x (posts_to entries n) e) c.in-Settled.is c.requires.told in
     let not_granted : is_granted c.in-Settled.outcome ≡ false =
     sym c.is_granted.ensures ∙ c.if-is_granted.false in
-    covers_ungranted wall entries n x at c.in-Settled.full.roll c.in-Settled.outcome its.1 its.2
-    c.args.known.now not_granted covers
+    record {
+      rows = c.requires.known;
+      covers = covers_ungranted wall entries n x c.requires.here c.in-Settled.full.roll
+          c.in-Settled.outcome its.1 its.2 c.args.known.now not_granted c.requires.covers;
+    }
