@@ -9,42 +9,32 @@ use crate::cells::{
 };
 use book_report::Bar;
 use coll_text::put;
-use std::alloc::{AllocError, Global};
+use std::alloc::AllocError;
 use wall_policy::Policy;
 
-fn put_bar(alloc: Global, text: &mut Vec<u8>, policy: &Policy, bar: &Bar) -> Result<(), AllocError>
+fn put_bar(text: &mut Vec<u8>, policy: &Policy, bar: &Bar) -> Result<(), AllocError>
     ensures { OnOk result (text.new.items ≡ text.old.items ++ bar_row policy.now bar.now) }
 {
     put(text, "<tr>")?;
     put_number_cell(text, bar.entry)?;
-    put_process_cell(alloc, text, policy, bar.process)?;
-    put_label_cell(alloc, text, policy, &bar.label)?;
-    put_dataset_cell(alloc, text, policy, bar.held)?;
+    put_process_cell(text, policy, bar.process)?;
+    put_label_cell(text, policy, &bar.label)?;
+    put_dataset_cell(text, policy, bar.held)?;
     put(text, "\n")
 }
 
-fn put_each_bar(
-    alloc: Global,
-    text: &mut Vec<u8>,
-    policy: &Policy,
-    bars: &[Bar],
-) -> Result<(), AllocError>
+fn put_each_bar(text: &mut Vec<u8>, policy: &Policy, bars: &[Bar]) -> Result<(), AllocError>
     ensures { OnOk result
         (text.new.items ≡ text.old.items ++ flat_map (bar_row policy.now) bars.now) }
 {
     for bar in bars {
-        put_bar(alloc, text, policy, bar)?;
+        put_bar(text, policy, bar)?;
     }
     Ok(())
 }
 
 /// The table of these barred posts, in their order.
-pub(crate) fn put_bars(
-    alloc: Global,
-    text: &mut Vec<u8>,
-    policy: &Policy,
-    bars: &[Bar],
-) -> Result<(), AllocError>
+pub(crate) fn put_bars(text: &mut Vec<u8>, policy: &Policy, bars: &[Bar]) -> Result<(), AllocError>
     ensures { OnOk result (text.new.items ≡ text.old.items ++ bars_table policy.now bars.now) }
 {
     put_table_head(
@@ -52,6 +42,6 @@ pub(crate) fn put_bars(
         "Why posts were barred",
         "<th>Entry<th>Process<th>May not post under<th>Since it holds",
     )?;
-    put_each_bar(alloc, text, policy, bars)?;
+    put_each_bar(text, policy, bars)?;
     put_table_end(text)
 }

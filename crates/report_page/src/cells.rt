@@ -7,7 +7,7 @@ ghost use Rattle.report_page.specs.Cells.{cell, number_cell, pair_cell, table_he
 use crate::escape::put_escaped;
 use coll_text::{put, put_decimal};
 use report_text::{put_dataset, put_label, put_pair, put_process};
-use std::alloc::{AllocError, Global};
+use std::alloc::AllocError;
 use wall_labels::{DatasetId, Label, ProcessId};
 use wall_policy::Policy;
 
@@ -56,7 +56,6 @@ pub(crate) fn put_pair_cell(text: &mut Vec<u8>, comm: u32, k: u64) -> Result<(),
 }
 
 pub(crate) fn put_process_cell(
-    alloc: Global,
     text: &mut Vec<u8>,
     policy: &Policy,
     process: ProcessId,
@@ -64,13 +63,12 @@ pub(crate) fn put_process_cell(
     ensures { OnOk result
         (text.new.items ≡ text.old.items ++ cell (process_name policy.now process)) }
 {
-    let mut name = Vec::new(alloc);
+    let mut name = Vec::new(*text.allocator());
     put_process(&mut name, policy, process)?;
     put_cell(text, &name)
 }
 
 pub(crate) fn put_dataset_cell(
-    alloc: Global,
     text: &mut Vec<u8>,
     policy: &Policy,
     dataset: DatasetId,
@@ -78,13 +76,12 @@ pub(crate) fn put_dataset_cell(
     ensures { OnOk result
         (text.new.items ≡ text.old.items ++ cell (dataset_name policy.now dataset)) }
 {
-    let mut name = Vec::new(alloc);
+    let mut name = Vec::new(*text.allocator());
     put_dataset(&mut name, policy, dataset)?;
     put_cell(text, &name)
 }
 
 pub(crate) fn put_label_cell(
-    alloc: Global,
     text: &mut Vec<u8>,
     policy: &Policy,
     label: &Label,
@@ -92,7 +89,7 @@ pub(crate) fn put_label_cell(
     ensures { OnOk result (text.new.items
         ≡ text.old.items ++ cell (label_word policy.now.dataset_names label.now)) }
 {
-    let mut word = Vec::new(alloc);
+    let mut word = Vec::new(*text.allocator());
     put_label(&mut word, policy, label)?;
     put_cell(text, &word)
 }

@@ -7,19 +7,14 @@ use crate::cells::{put_cell, put_number_cell, put_pair_cell, put_table_end, put_
 use book_report::Denial;
 use coll_text::put;
 use report_text::put_reason;
-use std::alloc::{AllocError, Global};
+use std::alloc::AllocError;
 use wall_policy::Policy;
 
-fn put_denial(
-    alloc: Global,
-    text: &mut Vec<u8>,
-    policy: &Policy,
-    denial: &Denial,
-) -> Result<(), AllocError>
+fn put_denial(text: &mut Vec<u8>, policy: &Policy, denial: &Denial) -> Result<(), AllocError>
     ensures { OnOk result (text.new.items ≡ text.old.items ++ denial_row policy.now denial.now) }
 {
-    let mut reason = Vec::new(alloc);
-    put_reason(alloc, &mut reason, policy, denial.process, &denial.reason)?;
+    let mut reason = Vec::new(*text.allocator());
+    put_reason(&mut reason, policy, denial.process, &denial.reason)?;
     put(text, "<tr>")?;
     put_number_cell(text, denial.entry)?;
     put_pair_cell(text, denial.comm, denial.k)?;
@@ -28,7 +23,6 @@ fn put_denial(
 }
 
 fn put_each_denial(
-    alloc: Global,
     text: &mut Vec<u8>,
     policy: &Policy,
     denials: &[Denial],
@@ -37,14 +31,13 @@ fn put_each_denial(
         (text.new.items ≡ text.old.items ++ flat_map (denial_row policy.now) denials.now) }
 {
     for denial in denials {
-        put_denial(alloc, text, policy, denial)?;
+        put_denial(text, policy, denial)?;
     }
     Ok(())
 }
 
 /// The table of these denials, in their order.
 pub(crate) fn put_denials(
-    alloc: Global,
     text: &mut Vec<u8>,
     policy: &Policy,
     denials: &[Denial],
@@ -57,6 +50,6 @@ pub(crate) fn put_denials(
         "Why instances were denied",
         "<th>Entry<th>Instance<th>Why",
     )?;
-    put_each_denial(alloc, text, policy, denials)?;
+    put_each_denial(text, policy, denials)?;
     put_table_end(text)
 }

@@ -7,43 +7,33 @@ ghost use Rattle.report_page.specs.Tables.{instance_row, entry_row, instances_ta
 use crate::cells::{put_cell, put_number_cell, put_pair_cell, put_table_end, put_table_head};
 use book_report::Book;
 use coll_text::put;
-use report_text::{kind_at, put_outcome};
+use report_text::{Filled, kind_at, put_outcome};
 use run_model::{Entry, Outcome};
-use std::alloc::{AllocError, Global};
+use std::alloc::AllocError;
 use wall_policy::Policy;
 
-// The row of an instance of this kind, which that entry filled.
+// The row of an instance.
 fn put_instance(
-    alloc: Global,
     text: &mut Vec<u8>,
     policy: &Policy,
-    kind: &str,
-    comm: u32,
-    k: u64,
-    entry: u64,
+    filled: &Filled,
     outcome: &Outcome,
 ) -> Result<(), AllocError>
-    ensures { OnOk result (text.new.items
-        ≡ text.old.items ++ instance_row policy.now kind.now comm k entry outcome.now) }
+    ensures { OnOk result (text.new.items ≡ text.old.items ++ instance_row policy.now
+        filled.now.kind.now filled.now.comm filled.now.k filled.now.entry outcome.now) }
 {
-    let mut came = Vec::new(alloc);
+    let mut came = Vec::new(*text.allocator());
     put_outcome(&mut came, policy, outcome)?;
     put(text, "<tr>")?;
-    put_pair_cell(text, comm, k)?;
-    put_cell(text, kind.as_bytes())?;
-    put_number_cell(text, entry)?;
+    put_pair_cell(text, filled.comm, filled.k)?;
+    put_cell(text, filled.kind.as_bytes())?;
+    put_number_cell(text, filled.entry)?;
     put_cell(text, &came)?;
     put(text, "\n")
 }
 
 // The row of the entry at this place, if it tells an outcome.
-fn put_entry(
-    alloc: Global,
-    text: &mut Vec<u8>,
-    policy: &Policy,
-    book: &Book,
-    at: usize,
-) -> Result<(), AllocError>
+fn put_entry(text: &mut Vec<u8>, policy: &Policy, book: &Book, at: usize) -> Result<(), AllocError>
     requires { at < length book.now.list }
     ensures { OnOk result ((entry : BookEntry) → slice_get book.now.list at ≡ Some entry →
         text.new.items ≡ text.old.items ++ entry_row policy.now book.now.list at entry) }
@@ -51,31 +41,30 @@ fn put_entry(
     match book.get(at) {
         Entry::Posted { .. } => Ok(()),
         Entry::Settled { comm, k, outcome } => {
-            let filled = at as u64;
-            let kind = kind_at(book, filled);
-            put_instance(alloc, text, policy, kind, *comm, *k, filled, outcome)
+            let entry = at as u64;
+            let filled = Filled {
+                kind: kind_at(book, entry),
+                comm: *comm,
+                k: *k,
+                entry,
+            };
+            put_instance(text, policy, &filled, outcome)
         }
     }
 }
 
-fn put_entries(
-    alloc: Global,
-    text: &mut Vec<u8>,
-    policy: &Policy,
-    book: &Book,
-) -> Result<(), AllocError>
+fn put_entries(text: &mut Vec<u8>, policy: &Policy, book: &Book) -> Result<(), AllocError>
     ensures { OnOk result (text.new.items ≡ text.old.items
         ++ numbered (entry_row policy.now book.now.list) 0 book.now.list) }
 {
     for at in 0..book.len() {
-        put_entry(alloc, text, policy, book, at)?;
+        put_entry(text, policy, book, at)?;
     }
     Ok(())
 }
 
 /// The table of the instances that the book tells the outcome of, in its order.
 pub(crate) fn put_instances(
-    alloc: Global,
     text: &mut Vec<u8>,
     policy: &Policy,
     book: &Book,
@@ -88,6 +77,6 @@ pub(crate) fn put_instances(
         "How each instance came out",
         "<th>Instance<th>Kind<th>Filled by entry<th>Outcome",
     )?;
-    put_entries(alloc, text, policy, book)?;
+    put_entries(text, policy, book)?;
     put_table_end(text)
 }

@@ -7,36 +7,28 @@ ghost use Rattle.report_text.specs.Words.{numbered};
 ghost use Rattle.report_page.specs.Tables.{member_row, member_rows, comm_rows, comms_table};
 
 use crate::cells::{put_number_cell, put_process_cell, put_table_end, put_table_head};
-use book_report::Book;
+use book_report::{Book, state_at_last};
 use coll_text::put;
 use mpi_group::Group;
-use report_text::state_at_last;
+use report_text::Member;
 use run_state::PostState;
-use std::alloc::{AllocError, Global};
-use wall_labels::{NoMemory, ProcessId};
+use std::alloc::AllocError;
+use wall_labels::NoMemory;
 use wall_policy::Policy;
 
-fn put_member(
-    alloc: Global,
-    text: &mut Vec<u8>,
-    policy: &Policy,
-    comm: u32,
-    rank: u32,
-    process: ProcessId,
-) -> Result<(), AllocError>
-    ensures { OnOk result
-        (text.new.items ≡ text.old.items ++ member_row policy.now comm rank process) }
+fn put_member(text: &mut Vec<u8>, policy: &Policy, member: Member) -> Result<(), AllocError>
+    ensures { OnOk result (text.new.items ≡ text.old.items
+        ++ member_row policy.now member.comm member.rank member.process) }
 {
     put(text, "<tr>")?;
-    put_number_cell(text, u64::from(comm))?;
-    put_number_cell(text, u64::from(rank))?;
-    put_process_cell(alloc, text, policy, process)?;
+    put_number_cell(text, u64::from(member.comm))?;
+    put_number_cell(text, u64::from(member.rank))?;
+    put_process_cell(text, policy, member.process)?;
     put(text, "\n")
 }
 
 // A row for each member of one communicator.
 fn put_members(
-    alloc: Global,
     text: &mut Vec<u8>,
     policy: &Policy,
     comm: u32,
@@ -46,14 +38,22 @@ fn put_members(
         (text.new.items ≡ text.old.items ++ member_rows policy.now comm group.now) }
 {
     for rank in 0..group.size() {
-        put_member(alloc, text, policy, comm, rank, group.at(rank))?;
+        let process = group.at(rank);
+        put_member(
+            text,
+            policy,
+            Member {
+                comm,
+                rank,
+                process,
+            },
+        )?;
     }
     Ok(())
 }
 
 // The members of all communicators of a state.
 fn put_comms(
-    alloc: Global,
     text: &mut Vec<u8>,
     policy: &Policy,
     post_state: &PostState<()>,
@@ -62,18 +62,13 @@ fn put_comms(
         ≡ text.old.items ++ numbered (comm_rows policy.now) 0 post_state.now.comms) }
 {
     for comm in 0..post_state.len() {
-        put_members(alloc, text, policy, comm, post_state.group(comm))?;
+        put_members(text, policy, comm, post_state.group(comm))?;
     }
     Ok(())
 }
 
 /// The table of the communicators that are there at the end of a sound book.
-pub(crate) fn put_comms_of(
-    alloc: Global,
-    text: &mut Vec<u8>,
-    policy: &Policy,
-    book: &Book,
-) -> Result<(), NoMemory>
+pub(crate) fn put_comms_of(text: &mut Vec<u8>, policy: &Policy, book: &Book) -> Result<(), NoMemory>
     requires { IsSound policy.now book.now.list }
     ensures { OnOk result (text.new.items ≡ text.old.items ++ comms_table policy.now
         (comms policy.now (posts_to book.now.list (length book.now.list)))) }
@@ -83,8 +78,8 @@ pub(crate) fn put_comms_of(
         "Who is in which communicator",
         "<th>Communicator<th>Rank<th>Process",
     )?;
-    let post_state = state_at_last(alloc, policy, book)?;
-    let done = put_comms(alloc, text, policy, &post_state);
+    let post_state = state_at_last(*text.allocator(), policy, book)?;
+    let done = put_comms(text, policy, &post_state);
     drop(post_state);
     done?;
     put_table_end(text)?;

@@ -11,6 +11,7 @@ ghost use Rattle.report_page.specs.Picture.{came_text, key_text, path_front, pic
 use crate::escape::put_escaped;
 use book_report::{Denial, Row};
 use coll_text::{put, put_behind, put_decimal};
+use report_text::Findings;
 use std::alloc::AllocError;
 use wall_labels::ProcessId;
 use wall_policy::Policy;
@@ -175,17 +176,16 @@ fn put_key(text: &mut Vec<u8>, entries: u64) -> Result<(), AllocError>
     put(text, "</figcaption>\n</figure>\n")
 }
 
-/// The picture of these rows and denials of a book with so many entries.
+/// The picture of what was found of a book with so many entries: of the rows and denials.
 pub(crate) fn put_picture(
     text: &mut Vec<u8>,
     policy: &Policy,
     entries: u64,
-    rows: &[Row],
-    denials: &[Denial],
+    found: &Findings,
 ) -> Result<(), AllocError>
     requires { entries < 2 ^ 62 }
-    ensures { OnOk result (text.new.items
-        ≡ text.old.items ++ picture_text policy.now entries rows.now denials.now) }
+    ensures { OnOk result (text.new.items ≡ text.old.items
+        ++ picture_text policy.now entries found.now.rows.items found.now.denials.items) }
 {
     put(
         text,
@@ -195,7 +195,7 @@ pub(crate) fn put_picture(
     put_names(text, policy)?;
     put_frame(text, entries + 1, u64::from(policy.processes()))?;
     put_tracks(text, policy, entries + 1)?;
-    put_kept(text, denials)?;
-    put_came(text, rows)?;
+    put_kept(text, &found.denials)?;
+    put_came(text, &found.rows)?;
     put_key(text, entries)
 }

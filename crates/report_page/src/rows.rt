@@ -9,31 +9,24 @@ use crate::cells::{
 use book_report::{Book, Row};
 use coll_text::put;
 use report_text::put_way;
-use std::alloc::{AllocError, Global};
+use std::alloc::AllocError;
 use wall_policy::Policy;
 
-fn put_row(
-    alloc: Global,
-    text: &mut Vec<u8>,
-    policy: &Policy,
-    book: &Book,
-    row: &Row,
-) -> Result<(), AllocError>
+fn put_row(text: &mut Vec<u8>, policy: &Policy, book: &Book, row: &Row) -> Result<(), AllocError>
     ensures { OnOk result
         (text.new.items ≡ text.old.items ++ held_row policy.now book.now.list row.now) }
 {
-    let mut way = Vec::new(alloc);
+    let mut way = Vec::new(*text.allocator());
     put_way(&mut way, policy, book, row)?;
     put(text, "<tr>")?;
     put_number_cell(text, row.entry)?;
-    put_process_cell(alloc, text, policy, row.process)?;
-    put_dataset_cell(alloc, text, policy, row.dataset)?;
+    put_process_cell(text, policy, row.process)?;
+    put_dataset_cell(text, policy, row.dataset)?;
     put_cell(text, &way)?;
     put(text, "\n")
 }
 
 fn put_each_row(
-    alloc: Global,
     text: &mut Vec<u8>,
     policy: &Policy,
     book: &Book,
@@ -43,14 +36,13 @@ fn put_each_row(
         ≡ text.old.items ++ flat_map (held_row policy.now book.now.list) rows.now) }
 {
     for row in rows {
-        put_row(alloc, text, policy, book, row)?;
+        put_row(text, policy, book, row)?;
     }
     Ok(())
 }
 
 /// The table of these rows, in their order.
 pub(crate) fn put_rows(
-    alloc: Global,
     text: &mut Vec<u8>,
     policy: &Policy,
     book: &Book,
@@ -64,6 +56,6 @@ pub(crate) fn put_rows(
         "Who holds what, and by which entry",
         "<th>Entry<th>Process<th>Dataset<th>How it came",
     )?;
-    put_each_row(alloc, text, policy, book, rows)?;
+    put_each_row(text, policy, book, rows)?;
     put_table_end(text)
 }

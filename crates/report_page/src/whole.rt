@@ -11,8 +11,9 @@ use crate::instances::put_instances;
 use crate::members::put_comms_of;
 use crate::picture::put_picture;
 use crate::rows::put_rows;
-use book_report::{Bar, Book, BookFault, Denial, Row, barred_posts, denials, held};
+use book_report::{Book, BookFault};
 use coll_text::put;
+use report_text::Findings;
 use std::alloc::Global;
 use wall_labels::NoMemory;
 use wall_policy::Policy;
@@ -44,25 +45,22 @@ path{vector-effect:non-scaling-stroke}
 </style>
 ";
 
-// The tables of these rows and reasons, and of what a sound book tells besides.
+// The tables of what was found, and of what a sound book tells besides.
 fn put_tables(
-    alloc: Global,
     text: &mut Vec<u8>,
     policy: &Policy,
     book: &Book,
-    rows: &[Row],
-    bars: &[Bar],
-    denials: &[Denial],
+    found: &Findings,
 ) -> Result<(), NoMemory>
     requires { IsSound policy.now book.now.list }
-    ensures { OnOk result (text.new.items ≡ text.old.items
-        ++ tables_text policy.now book.now.list rows.now bars.now denials.now) }
+    ensures { OnOk result (text.new.items ≡ text.old.items ++ tables_text policy.now book.now.list
+        found.now.rows.items found.now.bars.items found.now.denials.items) }
 {
-    put_rows(alloc, text, policy, book, rows)?;
-    put_comms_of(alloc, text, policy, book)?;
-    put_instances(alloc, text, policy, book)?;
-    put_bars(alloc, text, policy, bars)?;
-    put_denials(alloc, text, policy, denials)?;
+    put_rows(text, policy, book, &found.rows)?;
+    put_comms_of(text, policy, book)?;
+    put_instances(text, policy, book)?;
+    put_bars(text, policy, &found.bars)?;
+    put_denials(text, policy, &found.denials)?;
     Ok(())
 }
 
@@ -70,13 +68,11 @@ fn page_of(
     alloc: Global,
     policy: &Policy,
     book: &Book,
-    rows: &[Row],
-    bars: &[Bar],
-    denials: &[Denial],
+    found: &Findings,
 ) -> Result<Vec<u8>, NoMemory>
     requires { IsSound policy.now book.now.list }
-    ensures { IfOk result (λ text. text.items
-        ≡ page_text policy.now book.now.list rows.now bars.now denials.now) }
+    ensures { IfOk result (λ text. text.items ≡ page_text policy.now book.now.list
+        found.now.rows.items found.now.bars.items found.now.denials.items) }
 {
     let mut text = Vec::new(alloc);
     put(&mut text, HEAD)?;
@@ -86,8 +82,8 @@ fn page_of(
         &mut text,
         "What was held before the first entry is at entry 0.\n",
     )?;
-    put_picture(&mut text, policy, book.len() as u64, rows, denials)?;
-    put_tables(alloc, &mut text, policy, book, rows, bars, denials)?;
+    put_picture(&mut text, policy, book.len() as u64, found)?;
+    put_tables(&mut text, policy, book, found)?;
     put(&mut text, "</html>\n")?;
     Ok(text)
 }
@@ -105,10 +101,8 @@ pub fn report_page(alloc: Global, policy: &Policy, book: &Book) -> Result<Vec<u8
     ensures page { IfOk result (λ text. IsPage policy.now book.now.list text.items) }
     ensures fault { IfErr result (IsFaultOf policy.now book.now.list) }
 {
-    let rows = held(alloc, policy, book)?;
-    let bars = barred_posts(alloc, policy, book)?;
-    let denied = denials(alloc, policy, book)?;
-    match page_of(alloc, policy, book, &rows, &bars, &denied) {
+    let found = Findings::of(alloc, policy, book)?;
+    match page_of(alloc, policy, book, &found) {
         Ok(text) => Ok(text),
         Err(_) => Err(BookFault::NoMemory),
     }

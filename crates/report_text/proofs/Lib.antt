@@ -1,5 +1,5 @@
 -- names by number, and texts of numbered things
 pub mod WordLemmas
--- a walk through a sound book
-pub mod WalkLemmas
+-- the communicators of a state
+pub mod StateLemmas
 pub mod ReportTextLemmas

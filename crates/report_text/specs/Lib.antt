@@ -10,5 +10,3 @@ pub mod Instances
 pub mod Reasons
 -- the whole text
 pub mod Report
--- how far a walk through a book has come
-pub mod Walk

@@ -7,7 +7,7 @@ use crate::lines::{COLUMNS, put_folded};
 use crate::words::{put_dataset, put_label, put_process};
 use book_report::Bar;
 use coll_text::{put, put_decimal};
-use std::alloc::{AllocError, Global};
+use std::alloc::AllocError;
 use wall_labels::{Label, ProcessId};
 use wall_policy::Policy;
 
@@ -37,42 +37,32 @@ fn put_barred(text: &mut Vec<u8>, policy: &Policy, bar: &Bar) -> Result<(), Allo
     put(text, ":")
 }
 
-fn put_bar(alloc: Global, text: &mut Vec<u8>, policy: &Policy, bar: &Bar) -> Result<(), AllocError>
+fn put_bar(text: &mut Vec<u8>, policy: &Policy, bar: &Bar) -> Result<(), AllocError>
     ensures { OnOk result (text.new.items ≡ text.old.items ++ bar_line policy.now bar.now) }
 {
-    let mut barred = Vec::new(alloc);
+    let mut barred = Vec::new(*text.allocator());
     put_barred(&mut barred, policy, bar)?;
-    let mut holds = Vec::new(alloc);
+    let mut holds = Vec::new(*text.allocator());
     put(&mut holds, "it holds ")?;
     put_dataset(&mut holds, policy, bar.held)?;
     put_folded(text, COLUMNS, &barred, &holds)?;
     put(text, "\n")
 }
 
-fn put_bar_lines(
-    alloc: Global,
-    text: &mut Vec<u8>,
-    policy: &Policy,
-    bars: &[Bar],
-) -> Result<(), AllocError>
+fn put_bar_lines(text: &mut Vec<u8>, policy: &Policy, bars: &[Bar]) -> Result<(), AllocError>
     ensures { OnOk result
         (text.new.items ≡ text.old.items ++ flat_map (bar_line policy.now) bars.now) }
 {
     for bar in bars {
-        put_bar(alloc, text, policy, bar)?;
+        put_bar(text, policy, bar)?;
     }
     Ok(())
 }
 
 /// A sentence for each barred post, in their order.
-pub(crate) fn put_bars(
-    alloc: Global,
-    text: &mut Vec<u8>,
-    policy: &Policy,
-    bars: &[Bar],
-) -> Result<(), AllocError>
+pub(crate) fn put_bars(text: &mut Vec<u8>, policy: &Policy, bars: &[Bar]) -> Result<(), AllocError>
     ensures { OnOk result (text.new.items ≡ text.old.items ++ bars_text policy.now bars.now) }
 {
     put(text, "\nwhy posts were barred:\n")?;
-    put_bar_lines(alloc, text, policy, bars)
+    put_bar_lines(text, policy, bars)
 }

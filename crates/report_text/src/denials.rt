@@ -10,7 +10,7 @@ use crate::lines::{COLUMNS, put_folded};
 use crate::words::{put_dataset, put_pair, put_process};
 use book_report::{Denial, Reason, Source};
 use coll_text::{put, put_decimal};
-use std::alloc::{AllocError, Global};
+use std::alloc::AllocError;
 use wall_labels::{DatasetId, Label, ProcessId};
 use wall_policy::Policy;
 
@@ -41,52 +41,54 @@ fn put_coming(
     put_decimal(text, coming.given)
 }
 
-// By the star rule: whose post was barred.
-fn put_star(
-    alloc: Global,
-    text: &mut Vec<u8>,
-    policy: &Policy,
-    process: ProcessId,
-    label: &Label,
+// A post that was barred: its entry, who posted it, and with which label.
+#[derive(Clone, Copy)]
+struct Barred {
     post: u64,
-) -> Result<(), AllocError>
-    ensures { OnOk result
-        (text.new.items ≡ text.old.items ++ star_text policy.now process label.now post) }
+    process: ProcessId,
+    label: Label,
+}
+
+// By the star rule: whose post was barred.
+fn put_star(text: &mut Vec<u8>, policy: &Policy, star: &Barred) -> Result<(), AllocError>
+    ensures { OnOk result (text.new.items ≡ text.old.items
+        ++ star_text policy.now star.now.process star.now.label star.now.post) }
 {
-    let mut barred = Vec::new(alloc);
+    let mut barred = Vec::new(*text.allocator());
     put(&mut barred, "entry ")?;
-    put_decimal(&mut barred, post)?;
+    put_decimal(&mut barred, star.post)?;
     put(&mut barred, " was barred;")?;
-    let mut may_not = Vec::new(alloc);
-    put_may_not(&mut may_not, policy, process, label)?;
+    let mut may_not = Vec::new(*text.allocator());
+    put_may_not(&mut may_not, policy, star.process, &star.label)?;
     put_folded(text, INNER, &barred, &may_not)
 }
 
-// By the simple rule: the process holds a rival of what would come.
-fn put_holding(
-    alloc: Global,
-    text: &mut Vec<u8>,
-    policy: &Policy,
+// What a process would get, and the rival of that.
+#[derive(Clone, Copy)]
+struct Offence {
     process: ProcessId,
     coming: Coming,
     rival: DatasetId,
-) -> Result<(), AllocError>
-    ensures { OnOk result (text.new.items ≡ text.old.items ++ holding_text policy.now process
-        coming.dataset coming.giver coming.given rival) }
+}
+
+// By the simple rule: the process holds the rival.
+fn put_holding(text: &mut Vec<u8>, policy: &Policy, offence: &Offence) -> Result<(), AllocError>
+    ensures { OnOk result (text.new.items ≡ text.old.items
+        ++ holding_text policy.now offence.now.process offence.now.coming.dataset
+        offence.now.coming.giver offence.now.coming.given offence.now.rival) }
 {
-    let mut holds = Vec::new(alloc);
-    put_process(&mut holds, policy, process)?;
+    let mut holds = Vec::new(*text.allocator());
+    put_process(&mut holds, policy, offence.process)?;
     put(&mut holds, " holds ")?;
-    put_dataset(&mut holds, policy, rival)?;
+    put_dataset(&mut holds, policy, offence.rival)?;
     put(&mut holds, ";")?;
-    let mut comes = Vec::new(alloc);
-    put_coming(&mut comes, policy, " would come from ", coming)?;
+    let mut comes = Vec::new(*text.allocator());
+    put_coming(&mut comes, policy, " would come from ", offence.coming)?;
     put_folded(text, INNER, &holds, &comes)
 }
 
 // Two rivals that would come.
 fn put_rivals(
-    alloc: Global,
     text: &mut Vec<u8>,
     policy: &Policy,
     first: Coming,
@@ -95,55 +97,53 @@ fn put_rivals(
     ensures { OnOk result (text.new.items ≡ text.old.items ++ rivals_text policy.now
         second.dataset second.giver second.given first.dataset first.giver first.given) }
 {
-    let mut rival = Vec::new(alloc);
+    let mut rival = Vec::new(*text.allocator());
     put_coming(&mut rival, policy, " from ", first)?;
     put(&mut rival, ",")?;
-    let mut comes = Vec::new(alloc);
+    let mut comes = Vec::new(*text.allocator());
     put_coming(&mut comes, policy, " from ", second)?;
     put_folded(text, INNER, &rival, &comes)
 }
 
-// By the simple rule: the process would get a rival of what would come, too.
+// By the simple rule: the process would get the rival too, as `beside` tells.
 fn put_both(
-    alloc: Global,
     text: &mut Vec<u8>,
     policy: &Policy,
-    process: ProcessId,
-    coming: Coming,
+    offence: &Offence,
     beside: Coming,
 ) -> Result<(), AllocError>
-    ensures { OnOk result (text.new.items ≡ text.old.items ++ both_text policy.now process
-        coming.dataset coming.giver coming.given beside.dataset beside.giver beside.given) }
+    ensures { OnOk result (text.new.items ≡ text.old.items
+        ++ both_text policy.now offence.now.process offence.now.coming.dataset
+        offence.now.coming.giver offence.now.coming.given
+        beside.dataset beside.giver beside.given) }
 {
-    let mut gets = Vec::new(alloc);
-    put_process(&mut gets, policy, process)?;
+    let mut gets = Vec::new(*text.allocator());
+    put_process(&mut gets, policy, offence.process)?;
     put(&mut gets, " would get two rivals:")?;
-    let mut rivals = Vec::new(alloc);
-    put_rivals(alloc, &mut rivals, policy, beside, coming)?;
+    let mut rivals = Vec::new(*text.allocator());
+    put_rivals(&mut rivals, policy, beside, offence.coming)?;
     put_folded(text, INNER, &gets, &rivals)
 }
 
 fn put_simple(
-    alloc: Global,
     text: &mut Vec<u8>,
     policy: &Policy,
-    process: ProcessId,
-    coming: Coming,
-    rival: DatasetId,
+    offence: &Offence,
     source: Source,
 ) -> Result<(), AllocError>
-    ensures { OnOk result (text.new.items ≡ text.old.items ++ simple_text policy.now process
-        coming.dataset coming.giver coming.given rival source) }
+    ensures { OnOk result (text.new.items ≡ text.old.items
+        ++ simple_text policy.now offence.now.process offence.now.coming.dataset
+        offence.now.coming.giver offence.now.coming.given offence.now.rival source) }
 {
     match source {
-        Source::Held => put_holding(alloc, text, policy, process, coming, rival),
+        Source::Held => put_holding(text, policy, offence),
         Source::Beside { giver, given } => {
             let beside = Coming {
-                dataset: rival,
+                dataset: offence.rival,
                 giver,
                 given,
             };
-            put_both(alloc, text, policy, process, coming, beside)
+            put_both(text, policy, offence, beside)
         }
     }
 }
@@ -151,7 +151,6 @@ fn put_simple(
 /// Why an instance was denied, for which the rule names this process. What has no room in 98
 /// columns is folded.
 pub fn put_reason(
-    alloc: Global,
     text: &mut Vec<u8>,
     policy: &Policy,
     process: ProcessId,
@@ -161,7 +160,14 @@ pub fn put_reason(
         (text.new.items ≡ text.old.items ++ reason_text policy.now process reason.now) }
 {
     match reason {
-        Reason::Star { label, post } => put_star(alloc, text, policy, process, label, *post),
+        Reason::Star { label, post } => {
+            let star = Barred {
+                post: *post,
+                process,
+                label: *label,
+            };
+            put_star(text, policy, &star)
+        }
         Reason::Simple {
             dataset,
             giver,
@@ -174,7 +180,12 @@ pub fn put_reason(
                 giver: *giver,
                 given: *given,
             };
-            put_simple(alloc, text, policy, process, coming, *rival, *source)
+            let offence = Offence {
+                process,
+                coming,
+                rival: *rival,
+            };
+            put_simple(text, policy, &offence, *source)
         }
     }
 }
@@ -187,24 +198,18 @@ fn put_denied(text: &mut Vec<u8>, comm: u32, k: u64) -> Result<(), AllocError>
     put(text, " was denied:")
 }
 
-fn put_denial(
-    alloc: Global,
-    text: &mut Vec<u8>,
-    policy: &Policy,
-    denial: &Denial,
-) -> Result<(), AllocError>
+fn put_denial(text: &mut Vec<u8>, policy: &Policy, denial: &Denial) -> Result<(), AllocError>
     ensures { OnOk result (text.new.items ≡ text.old.items ++ denial_line policy.now denial.now) }
 {
-    let mut denied = Vec::new(alloc);
+    let mut denied = Vec::new(*text.allocator());
     put_denied(&mut denied, denial.comm, denial.k)?;
-    let mut reason = Vec::new(alloc);
-    put_reason(alloc, &mut reason, policy, denial.process, &denial.reason)?;
+    let mut reason = Vec::new(*text.allocator());
+    put_reason(&mut reason, policy, denial.process, &denial.reason)?;
     put_folded(text, COLUMNS, &denied, &reason)?;
     put(text, "\n")
 }
 
 fn put_denial_lines(
-    alloc: Global,
     text: &mut Vec<u8>,
     policy: &Policy,
     denials: &[Denial],
@@ -213,14 +218,13 @@ fn put_denial_lines(
         (text.new.items ≡ text.old.items ++ flat_map (denial_line policy.now) denials.now) }
 {
     for denial in denials {
-        put_denial(alloc, text, policy, denial)?;
+        put_denial(text, policy, denial)?;
     }
     Ok(())
 }
 
 /// A sentence for each denial, in their order.
 pub(crate) fn put_denials(
-    alloc: Global,
     text: &mut Vec<u8>,
     policy: &Policy,
     denials: &[Denial],
@@ -228,5 +232,5 @@ pub(crate) fn put_denials(
     ensures { OnOk result (text.new.items ≡ text.old.items ++ denials_text policy.now denials.now) }
 {
     put(text, "\nwhy instances were denied:\n")?;
-    put_denial_lines(alloc, text, policy, denials)
+    put_denial_lines(text, policy, denials)
 }

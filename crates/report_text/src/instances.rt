@@ -11,44 +11,50 @@ use crate::words::{kind_at, put_label, put_pair, put_process};
 use book_report::Book;
 use coll_text::{put, put_behind, put_decimal, rule_text};
 use run_model::{Entry, Outcome, Rule};
-use std::alloc::{AllocError, Global};
+use std::alloc::AllocError;
 use wall_labels::{Label, ProcessId};
 use wall_policy::Policy;
 
-fn put_filled(
-    text: &mut Vec<u8>,
-    kind: &str,
-    comm: u32,
-    k: u64,
-    entry: u64,
-) -> Result<(), AllocError>
-    ensures { OnOk result (text.new.items ≡ text.old.items ++ filled_text kind.now comm k entry) }
+/// An instance, its kind, and the entry that filled it.
+#[derive(Clone, Copy)]
+pub struct Filled {
+    pub kind: &'static str,
+    pub comm: u32,
+    pub k: u64,
+    pub entry: u64,
+}
+
+fn put_filled(text: &mut Vec<u8>, filled: &Filled) -> Result<(), AllocError>
+    ensures { OnOk result (text.new.items ≡ text.old.items
+        ++ filled_text filled.now.kind.now filled.now.comm filled.now.k filled.now.entry) }
 {
     put(text, "instance ")?;
-    put_pair(text, comm, k)?;
+    put_pair(text, filled.comm, filled.k)?;
     put(text, ", ")?;
-    put(text, kind)?;
+    put(text, filled.kind)?;
     put(text, " by entry ")?;
-    put_decimal(text, entry)?;
+    put_decimal(text, filled.entry)?;
     put(text, ":")
 }
 
-fn put_denied(
-    text: &mut Vec<u8>,
-    policy: &Policy,
+// A rule, and what it names.
+#[derive(Clone, Copy)]
+struct Named {
     rule: Rule,
     process: ProcessId,
-    label: &Label,
-) -> Result<(), AllocError>
-    ensures { OnOk result (text.new.items
-        ≡ text.old.items ++ outcome_text policy.now (Outcome.Denied rule process label.now)) }
+    label: Label,
+}
+
+fn put_denied(text: &mut Vec<u8>, policy: &Policy, named: &Named) -> Result<(), AllocError>
+    ensures { OnOk result (text.new.items ≡ text.old.items ++ outcome_text policy.now
+        (Outcome.Denied named.now.rule named.now.process named.now.label)) }
 {
     put(text, "denied ")?;
-    put(text, rule_text(rule))?;
+    put(text, rule_text(named.rule))?;
     put(text, " ")?;
-    put_process(text, policy, process)?;
+    put_process(text, policy, named.process)?;
     put(text, " ")?;
-    put_label(text, policy, label)
+    put_label(text, policy, &named.label)
 }
 
 fn put_made(text: &mut Vec<u8>, first: u32, number: u32) -> Result<(), AllocError>
@@ -72,42 +78,39 @@ pub fn put_outcome(text: &mut Vec<u8>, policy: &Policy, outcome: &Outcome) -> Re
             rule,
             process,
             label,
-        } => put_denied(text, policy, *rule, *process, label),
+        } => {
+            let named = Named {
+                rule: *rule,
+                process: *process,
+                label: *label,
+            };
+            put_denied(text, policy, &named)
+        }
         Outcome::Made { first, number } => put_made(text, *first, *number),
         Outcome::NoRoom => put(text, "noroom"),
     }
 }
 
-// The line of an instance of this kind, which that entry filled.
+// The line of an instance.
 fn put_instance(
-    alloc: Global,
     text: &mut Vec<u8>,
     policy: &Policy,
-    kind: &str,
-    comm: u32,
-    k: u64,
-    entry: u64,
+    filled: &Filled,
     outcome: &Outcome,
 ) -> Result<(), AllocError>
-    ensures { OnOk result (text.new.items
-        ≡ text.old.items ++ instance_line policy.now kind.now comm k entry outcome.now) }
+    ensures { OnOk result (text.new.items ≡ text.old.items ++ instance_line policy.now
+        filled.now.kind.now filled.now.comm filled.now.k filled.now.entry outcome.now) }
 {
-    let mut filled = Vec::new(alloc);
-    put_filled(&mut filled, kind, comm, k, entry)?;
-    let mut came = Vec::new(alloc);
+    let mut front = Vec::new(*text.allocator());
+    put_filled(&mut front, filled)?;
+    let mut came = Vec::new(*text.allocator());
     put_outcome(&mut came, policy, outcome)?;
-    put_folded(text, COLUMNS, &filled, &came)?;
+    put_folded(text, COLUMNS, &front, &came)?;
     put(text, "\n")
 }
 
 // The line of the entry at this place, if it tells an outcome.
-fn put_entry(
-    alloc: Global,
-    text: &mut Vec<u8>,
-    policy: &Policy,
-    book: &Book,
-    at: usize,
-) -> Result<(), AllocError>
+fn put_entry(text: &mut Vec<u8>, policy: &Policy, book: &Book, at: usize) -> Result<(), AllocError>
     requires { at < length book.now.list }
     ensures { OnOk result ((entry : BookEntry) → slice_get book.now.list at ≡ Some entry →
         text.new.items ≡ text.old.items ++ entry_line policy.now book.now.list at entry) }
@@ -115,31 +118,30 @@ fn put_entry(
     match book.get(at) {
         Entry::Posted { .. } => Ok(()),
         Entry::Settled { comm, k, outcome } => {
-            let filled = at as u64;
-            let kind = kind_at(book, filled);
-            put_instance(alloc, text, policy, kind, *comm, *k, filled, outcome)
+            let entry = at as u64;
+            let filled = Filled {
+                kind: kind_at(book, entry),
+                comm: *comm,
+                k: *k,
+                entry,
+            };
+            put_instance(text, policy, &filled, outcome)
         }
     }
 }
 
-fn put_entries(
-    alloc: Global,
-    text: &mut Vec<u8>,
-    policy: &Policy,
-    book: &Book,
-) -> Result<(), AllocError>
+fn put_entries(text: &mut Vec<u8>, policy: &Policy, book: &Book) -> Result<(), AllocError>
     ensures { OnOk result (text.new.items ≡ text.old.items
         ++ numbered (entry_line policy.now book.now.list) 0 book.now.list) }
 {
     for at in 0..book.len() {
-        put_entry(alloc, text, policy, book, at)?;
+        put_entry(text, policy, book, at)?;
     }
     Ok(())
 }
 
 /// A line for each instance that the book tells the outcome of, in its order.
 pub(crate) fn put_instances(
-    alloc: Global,
     text: &mut Vec<u8>,
     policy: &Policy,
     book: &Book,
@@ -148,5 +150,5 @@ pub(crate) fn put_instances(
         (text.new.items ≡ text.old.items ++ instances_text policy.now book.now.list) }
 {
     put(text, "\nhow each instance came out:\n")?;
-    put_entries(alloc, text, policy, book)
+    put_entries(text, policy, book)
 }

@@ -8,18 +8,19 @@
 
 mod bars;
 mod denials;
+mod findings;
 mod instances;
 mod lines;
 mod members;
 mod rows;
-mod walk;
 mod whole;
 mod words;
 
 pub use book_report::{Book, BookFault};
 pub use denials::put_reason;
-pub use instances::put_outcome;
+pub use findings::Findings;
+pub use instances::{Filled, put_outcome};
+pub use members::Member;
 pub use rows::put_way;
-pub use walk::state_at_last;
 pub use whole::report_text;
 pub use words::{kind_at, put_dataset, put_label, put_pair, put_process};

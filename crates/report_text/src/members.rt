@@ -7,13 +7,12 @@ ghost use Rattle.report_text.specs.Members.{rank_text, member_line, member_lines
 ghost use Rattle.report_text.specs.Members.{comm_lines, comms_text};
 ghost use Rattle.report_text.specs.Words.{numbered};
 
-use crate::walk::state_at_last;
 use crate::words::put_process;
-use book_report::Book;
+use book_report::{Book, state_at_last};
 use coll_text::{put, put_decimal};
 use mpi_group::Group;
 use run_state::PostState;
-use std::alloc::{AllocError, Global};
+use std::alloc::AllocError;
 use wall_labels::{NoMemory, ProcessId};
 use wall_policy::Policy;
 
@@ -27,18 +26,20 @@ fn put_rank(text: &mut Vec<u8>, comm: u32, rank: u32) -> Result<(), AllocError>
     put(text, ": ")
 }
 
-fn put_member(
-    text: &mut Vec<u8>,
-    policy: &Policy,
-    comm: u32,
-    rank: u32,
-    process: ProcessId,
-) -> Result<(), AllocError>
-    ensures { OnOk result
-        (text.new.items ≡ text.old.items ++ member_line policy.now comm rank process) }
+/// A member of a communicator.
+#[derive(Clone, Copy)]
+pub struct Member {
+    pub comm: u32,
+    pub rank: u32,
+    pub process: ProcessId,
+}
+
+fn put_member(text: &mut Vec<u8>, policy: &Policy, member: Member) -> Result<(), AllocError>
+    ensures { OnOk result (text.new.items ≡ text.old.items
+        ++ member_line policy.now member.comm member.rank member.process) }
 {
-    put_rank(text, comm, rank)?;
-    put_process(text, policy, process)?;
+    put_rank(text, member.comm, member.rank)?;
+    put_process(text, policy, member.process)?;
     put(text, "\n")
 }
 
@@ -53,7 +54,16 @@ fn put_members(
         (text.new.items ≡ text.old.items ++ member_lines policy.now comm group.now) }
 {
     for rank in 0..group.size() {
-        put_member(text, policy, comm, rank, group.at(rank))?;
+        let process = group.at(rank);
+        put_member(
+            text,
+            policy,
+            Member {
+                comm,
+                rank,
+                process,
+            },
+        )?;
     }
     Ok(())
 }
@@ -74,18 +84,13 @@ fn put_comms(
 }
 
 /// The members of all communicators that are there at the end of a sound book.
-pub(crate) fn put_comms_of(
-    alloc: Global,
-    text: &mut Vec<u8>,
-    policy: &Policy,
-    book: &Book,
-) -> Result<(), NoMemory>
+pub(crate) fn put_comms_of(text: &mut Vec<u8>, policy: &Policy, book: &Book) -> Result<(), NoMemory>
     requires { IsSound policy.now book.now.list }
     ensures { OnOk result (text.new.items ≡ text.old.items ++ comms_text policy.now
         (comms policy.now (posts_to book.now.list (length book.now.list)))) }
 {
     put(text, "\nwho is in which communicator:\n")?;
-    let post_state = state_at_last(alloc, policy, book)?;
+    let post_state = state_at_last(*text.allocator(), policy, book)?;
     let done = put_comms(text, policy, &post_state);
     drop(post_state);
     done?;

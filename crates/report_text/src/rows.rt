@@ -5,11 +5,12 @@ ghost use Rattle.wall_rules.specs.Histories.{at_home};
 ghost use Rattle.report_text.specs.Rows.{first_text, delivery_text, way_text, held_text, row_line};
 ghost use Rattle.report_text.specs.Rows.{rows_text};
 
+use crate::instances::Filled;
 use crate::lines::{COLUMNS, put_folded};
 use crate::words::{kind_at, put_dataset, put_pair, put_process};
 use book_report::{Book, Row, Way};
 use coll_text::{put, put_decimal};
-use std::alloc::{AllocError, Global};
+use std::alloc::AllocError;
 use wall_labels::{DatasetId, ProcessId};
 use wall_policy::Policy;
 
@@ -33,20 +34,19 @@ fn first_words(policy: &Policy, process: ProcessId, dataset: DatasetId) -> &'sta
     }
 }
 
+// The instance that brought it, and who had given it.
 fn put_delivery(
     text: &mut Vec<u8>,
     policy: &Policy,
-    kind: &str,
-    comm: u32,
-    k: u64,
+    filled: &Filled,
     from: ProcessId,
 ) -> Result<(), AllocError>
-    ensures { OnOk result
-        (text.new.items ≡ text.old.items ++ delivery_text policy.now kind.now comm k from) }
+    ensures { OnOk result (text.new.items ≡ text.old.items ++ delivery_text policy.now
+        filled.now.kind.now filled.now.comm filled.now.k from) }
 {
-    put(text, kind)?;
+    put(text, filled.kind)?;
     put(text, " ")?;
-    put_pair(text, comm, k)?;
+    put_pair(text, filled.comm, filled.k)?;
     put(text, " from ")?;
     put_process(text, policy, from)
 }
@@ -65,7 +65,13 @@ pub fn put_way(
         Way::AtFirst => put(text, first_words(policy, row.process, row.dataset)),
         Way::OwnPost => put(text, "own post"),
         Way::Delivered { comm, k, from } => {
-            put_delivery(text, policy, kind_at(book, row.entry), comm, k, from)
+            let filled = Filled {
+                kind: kind_at(book, row.entry),
+                comm,
+                k,
+                entry: row.entry,
+            };
+            put_delivery(text, policy, &filled, from)
         }
     }
 }
@@ -82,26 +88,19 @@ fn put_held(text: &mut Vec<u8>, policy: &Policy, row: &Row) -> Result<(), AllocE
     put(text, ":")
 }
 
-fn put_row(
-    alloc: Global,
-    text: &mut Vec<u8>,
-    policy: &Policy,
-    book: &Book,
-    row: &Row,
-) -> Result<(), AllocError>
+fn put_row(text: &mut Vec<u8>, policy: &Policy, book: &Book, row: &Row) -> Result<(), AllocError>
     ensures { OnOk result
         (text.new.items ≡ text.old.items ++ row_line policy.now book.now.list row.now) }
 {
-    let mut held = Vec::new(alloc);
+    let mut held = Vec::new(*text.allocator());
     put_held(&mut held, policy, row)?;
-    let mut way = Vec::new(alloc);
+    let mut way = Vec::new(*text.allocator());
     put_way(&mut way, policy, book, row)?;
     put_folded(text, COLUMNS, &held, &way)?;
     put(text, "\n")
 }
 
 fn put_row_lines(
-    alloc: Global,
     text: &mut Vec<u8>,
     policy: &Policy,
     book: &Book,
@@ -111,14 +110,13 @@ fn put_row_lines(
         ≡ text.old.items ++ flat_map (row_line policy.now book.now.list) rows.now) }
 {
     for row in rows {
-        put_row(alloc, text, policy, book, row)?;
+        put_row(text, policy, book, row)?;
     }
     Ok(())
 }
 
 /// A line for each row, in their order.
 pub(crate) fn put_rows(
-    alloc: Global,
     text: &mut Vec<u8>,
     policy: &Policy,
     book: &Book,
@@ -128,5 +126,5 @@ pub(crate) fn put_rows(
         (text.new.items ≡ text.old.items ++ rows_text policy.now book.now.list rows.now) }
 {
     put(text, "who holds what, and by which entry:\n")?;
-    put_row_lines(alloc, text, policy, book, rows)
+    put_row_lines(text, policy, book, rows)
 }

@@ -13,36 +13,36 @@ ghost use Rattle.report_text.specs.Report.{IsReport};
 
 use crate::bars::put_bars;
 use crate::denials::put_denials;
+use crate::findings::Findings;
 use crate::instances::put_instances;
 use crate::members::put_comms_of;
 use crate::rows::put_rows;
-use book_report::{Bar, Book, BookFault, Denial, Row, barred_posts, denials, held};
+use book_report::{Book, BookFault};
 use std::alloc::Global;
 use wall_labels::NoMemory;
 use wall_policy::Policy;
 
-// The lines of these rows and reasons, and what a sound book tells besides.
+// The lines of what was found, and what a sound book tells besides.
 fn text_of(
     alloc: Global,
     policy: &Policy,
     book: &Book,
-    rows: &[Row],
-    bars: &[Bar],
-    denials: &[Denial],
+    found: &Findings,
 ) -> Result<Vec<u8>, NoMemory>
     requires { IsSound policy.now book.now.list }
-    ensures { IfOk result (λ text. text.items ≡ rows_text policy.now book.now.list rows.now
+    ensures { IfOk result (λ text. text.items
+        ≡ rows_text policy.now book.now.list found.now.rows.items
         ++ comms_text policy.now
         (comms policy.now (posts_to book.now.list (length book.now.list)))
-        ++ instances_text policy.now book.now.list
-        ++ bars_text policy.now bars.now ++ denials_text policy.now denials.now) }
+        ++ instances_text policy.now book.now.list ++ bars_text policy.now found.now.bars.items
+        ++ denials_text policy.now found.now.denials.items) }
 {
     let mut text = Vec::new(alloc);
-    put_rows(alloc, &mut text, policy, book, rows)?;
-    put_comms_of(alloc, &mut text, policy, book)?;
-    put_instances(alloc, &mut text, policy, book)?;
-    put_bars(alloc, &mut text, policy, bars)?;
-    put_denials(alloc, &mut text, policy, denials)?;
+    put_rows(&mut text, policy, book, &found.rows)?;
+    put_comms_of(&mut text, policy, book)?;
+    put_instances(&mut text, policy, book)?;
+    put_bars(&mut text, policy, &found.bars)?;
+    put_denials(&mut text, policy, &found.denials)?;
     Ok(text)
 }
 
@@ -59,10 +59,8 @@ pub fn report_text(alloc: Global, policy: &Policy, book: &Book) -> Result<Vec<u8
     ensures report { IfOk result (λ text. IsReport policy.now book.now.list text.items) }
     ensures fault { IfErr result (IsFaultOf policy.now book.now.list) }
 {
-    let rows = held(alloc, policy, book)?;
-    let bars = barred_posts(alloc, policy, book)?;
-    let denied = denials(alloc, policy, book)?;
-    match text_of(alloc, policy, book, &rows, &bars, &denied) {
+    let found = Findings::of(alloc, policy, book)?;
+    match text_of(alloc, policy, book, &found) {
         Ok(text) => Ok(text),
         Err(_) => Err(BookFault::NoMemory),
     }

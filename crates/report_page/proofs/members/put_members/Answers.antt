@@ -5,5 +5,5 @@ use Rattle.report_page.proofs.members.put_members.Goals as goal
 pub loop-rank-preserved : goal.loop-rank-preserved
 loop-rank-preserved c =
     writes_more (member_row c.args.policy.now c.args.comm) c.args.group.now c.loop-rank.rank
-    c.at.result c.loop-rank.text.items c.put_member.new.text.items _ c.at.ensures
+    c.at-process.result c.loop-rank.text.items c.put_member.new.text.items _ c.at-process.ensures
     c.in_ok-put_member.ensures c.loop-rank.invariant

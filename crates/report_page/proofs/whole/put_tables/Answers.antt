@@ -1,5 +1,8 @@
-use Rattle.std.proofs.Common.{[], ◌∷◌, length}
+use Rattle.std.proofs.Common.{[], ◌∷◌, ◌++◌, List, length, ap, ◌∙◌}
 use Rattle.run_model.specs.Posts.{comms}
+use Rattle.book_report.specs.declared.row.Row.{Row}
+use Rattle.book_report.specs.declared.bar.Bar.{Bar}
+use Rattle.book_report.specs.declared.denial.Denial.{Denial}
 use Rattle.book_report.specs.Held.{posts_to}
 use Rattle.report_page.specs.Tables.{rows_table, comms_table, instances_table}
 use Rattle.report_page.specs.Tables.{bars_table, denials_table}
@@ -10,16 +13,25 @@ pub returns : goal.returns
 returns c =
     let wall = c.args.policy.now in
     let entries = c.args.book.now.list in
+    let found = c.args.found.now in
+    let rows = c.in_ok-put_rows.ensures
+    ∙ ap (λ (rs : List Row). c.args.text.now.items ++ rows_table wall entries rs)
+    c.deref.ensures.value in
+    let bars = c.in_ok-put_bars.ensures
+    ∙ ap (λ (bs : List Bar). c.put_instances.new.text.items ++ bars_table wall bs)
+    c.deref-2.ensures.value in
+    let denials = c.in_ok-put_denials.ensures
+    ∙ ap (λ (ds : List Denial). c.put_bars.new.text.items ++ denials_table wall ds)
+    c.deref-3.ensures.value in
     all_written c.args.text.now.items
-    (rows_table wall entries c.args.rows.now)
+    (rows_table wall entries found.rows.items)
     c.put_rows.new.text.items
     ((
       comms_table wall (comms wall (posts_to entries (length entries))),
       c.put_comms_of.new.text.items,
     )
     ∷ (instances_table wall entries, c.put_instances.new.text.items)
-    ∷ (bars_table wall c.args.bars.now, c.put_bars.new.text.items)
-    ∷ (denials_table wall c.args.denials.now, c.put_denials.new.text.items) ∷ [])
-    c.in_ok-put_rows.ensures
-    (c.in_ok-put_comms_of.ensures & c.in_ok-put_instances.ensures & c.in_ok-put_bars.ensures
-    & c.in_ok-put_denials.ensures & tt)
+    ∷ (bars_table wall found.bars.items, c.put_bars.new.text.items)
+    ∷ (denials_table wall found.denials.items, c.put_denials.new.text.items) ∷ [])
+    rows
+    (c.in_ok-put_comms_of.ensures & c.in_ok-put_instances.ensures & bars & denials & tt)

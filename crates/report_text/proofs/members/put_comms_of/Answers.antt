@@ -3,7 +3,7 @@ use Rattle.run_model.specs.Comms.{Comm}
 use Rattle.book_report.specs.Held.{posts_to}
 use Rattle.report_text.specs.Words.{numbered}
 use Rattle.report_text.specs.Members.{comm_lines, comms_text}
-use Rattle.report_text.proofs.WalkLemmas.{comms_are}
+use Rattle.report_text.proofs.StateLemmas.{comms_are}
 use Rattle.report_text.proofs.members.put_comms_of.Goals as goal
 
 pub returns : goal.returns

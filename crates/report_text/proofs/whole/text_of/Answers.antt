@@ -1,5 +1,8 @@
 use Rattle.std.proofs.Common.{ℕ, List, ◌++◌, ap, ◌∙◌, length}
 use Rattle.run_model.specs.Posts.{comms}
+use Rattle.book_report.specs.declared.row.Row.{Row}
+use Rattle.book_report.specs.declared.bar.Bar.{Bar}
+use Rattle.book_report.specs.declared.denial.Denial.{Denial}
 use Rattle.book_report.specs.Held.{posts_to}
 use Rattle.report_text.specs.Rows.{rows_text}
 use Rattle.report_text.specs.Members.{comms_text}
@@ -11,13 +14,19 @@ pub returns : goal.returns
 returns c =
     let wall = c.args.policy.now in
     let entries = c.args.book.now.list in
+    let found = c.args.found.now in
     c.in_ok-put_denials.ensures
-    ∙ ap (λ (t : List ℕ). t ++ denials_text wall c.args.denials.now)
+    ∙ ap (λ (t : List ℕ). t ++ denials_text wall c.deref-3.result.now)
     (c.in_ok-put_bars.ensures
-    ∙ ap (λ (t : List ℕ). t ++ bars_text wall c.args.bars.now)
+    ∙ ap (λ (t : List ℕ). t ++ bars_text wall c.deref-2.result.now)
     (c.in_ok-put_instances.ensures
     ∙ ap (λ (t : List ℕ). t ++ instances_text wall entries)
     (c.in_ok-put_comms_of.ensures
     ∙ ap (λ (t : List ℕ). t ++ comms_text wall (comms wall (posts_to entries (length entries))))
     (c.in_ok-put_rows.ensures
-    ∙ ap (λ (t : List ℕ). t ++ rows_text wall entries c.args.rows.now) c.new-text.ensures.items))))
+    ∙ ap (λ (t : List ℕ). t ++ rows_text wall entries c.deref.result.now)
+    c.new-text.ensures.items))))
+    ∙ (λ i. rows_text wall entries (c.deref.ensures.value i)
+    ++ comms_text wall (comms wall (posts_to entries (length entries)))
+    ++ instances_text wall entries ++ bars_text wall (c.deref-2.ensures.value i)
+    ++ denials_text wall (c.deref-3.ensures.value i))

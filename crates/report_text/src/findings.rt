@@ -1,0 +1,41 @@
+//! What a report tells of a book, before it has its words.
+ghost use Rattle.std.specs.Prelude.{IfOk, IfErr, OnOk};
+ghost use Rattle.run_model.specs.Books.{IsSound};
+ghost use Rattle.run_model.specs.PostLaws.{KeepsTheWall};
+ghost use Rattle.audit_book.specs.Checks.{IsFaultOf};
+ghost use Rattle.report_text.specs.Report.{AreRows, AreBars, AreDenials};
+
+use book_report::{Bar, Book, BookFault, Denial, Row, barred_posts, denials, held};
+use std::alloc::Global;
+use wall_policy::Policy;
+
+/// Who came to hold what in a book, which posts were barred, and which instances denied.
+#[derive(Drop)]
+pub struct Findings {
+    pub rows: Vec<Row>,
+    pub bars: Vec<Bar>,
+    pub denials: Vec<Denial>,
+}
+
+impl Findings {
+    /// Those of this book. It is checked first, as by `check_book`, and where it is not sound its
+    /// fault is answered.
+    pub fn of(alloc: Global, policy: &Policy, book: &Book) -> Result<Findings, BookFault>
+        ensures sound { OnOk result (IsSound policy.now book.now.list) }
+        ensures keeps { OnOk result (KeepsTheWall policy.now book.now.list) }
+        ensures rows { IfOk result (λ found. AreRows policy.now book.now.list found.rows.items) }
+        ensures bars { IfOk result (λ found. AreBars policy.now book.now.list found.bars.items) }
+        ensures denials { IfOk result (λ found.
+            AreDenials policy.now book.now.list found.denials.items) }
+        ensures fault { IfErr result (IsFaultOf policy.now book.now.list) }
+    {
+        let rows = held(alloc, policy, book)?;
+        let bars = barred_posts(alloc, policy, book)?;
+        let denied = denials(alloc, policy, book)?;
+        Ok(Findings {
+            rows,
+            bars,
+            denials: denied,
+        })
+    }
+}
