@@ -1,5 +1,5 @@
 //! Goes through a book for the posts that were barred.
-ghost use Rattle.std.specs.Prelude.{◌≡◌, ℕ, ◌<◌, ◌+◌, [], length, All, AllPairs};
+ghost use Rattle.std.specs.Prelude.{ℕ, ◌<◌, ◌+◌, [], length, All, AllPairs};
 ghost use Rattle.std.specs.Prelude.{IfOk, IfErr, IfSome, IfNone, OnOk};
 ghost use Rattle.wall_rules.specs.Histories.{has};
 ghost use Rattle.wall_rules.specs.Rules.{IsLowest, IsHeldOther, PassesStar};

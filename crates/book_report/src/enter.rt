@@ -1,16 +1,13 @@
 //! Enters the posts of a sound book.
-ghost use Rattle.std.specs.Prelude.{◌≡◌, ◌+◌, ◌^◌, ◌<◌, [], length, IfOk, OnOk};
-ghost use Rattle.run_model.specs.Books.{IsSound};
-ghost use Rattle.audit_book.specs.Checks.{Stands};
+ghost use Rattle.std.specs.Prelude.{IfOk, OnOk};
 ghost use Rattle.book_report.specs.Held.{posts_to};
 ghost use Rattle.book_report.specs.Places.{IsPlace, IsHere, StandsBefore, StandsBehind, post_in};
 ghost use Rattle.book_report.specs.Walk.{IsTold};
 
 use crate::place::{Place, Posting};
-use run_state::{Book, Entered, PostState, Terms};
+use run_state::{Entered, PostState, Terms};
 use std::alloc::Global;
 use wall_labels::NoMemory;
-use wall_policy::Policy;
 
 /// Enters the post that stands here, and tells what it fills.
 pub(crate) fn enter(

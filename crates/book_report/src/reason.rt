@@ -1,5 +1,5 @@
 //! Finds why an instance was denied.
-ghost use Rattle.std.specs.Prelude.{◌≡◌, ℕ, ◌<◌, ◌≤◌, ◌+◌, ◌↔◌, ◌==◌, ◌&&◌, length, slice_get};
+ghost use Rattle.std.specs.Prelude.{◌≡◌, ℕ, ◌<◌, ◌+◌, ◌↔◌, ◌==◌, ◌&&◌, length, slice_get};
 ghost use Rattle.std.specs.Prelude.{IfSome, IfNone, IsTrue, Some, true};
 ghost use Rattle.wall_labels.specs.declared.label.Label.TheVariants.{Of};
 ghost use Rattle.wall_policy.specs.Rivals.{AreRivals};

@@ -1,4 +1,3 @@
-use Rattle.book_report.specs.Places.{post_in}
 use Rattle.book_report.proofs.KnownLemmas.{ok_then}
 use Rattle.book_report.proofs.WalkLemmas.{stands_settled}
 use Rattle.book_report.proofs.BarLemmas.{bars_same, settled_is_no_bar}

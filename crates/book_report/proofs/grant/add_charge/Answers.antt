@@ -1,4 +1,4 @@
-use Rattle.std.proofs.Common.{◌≡◌, ◌+◌, ◌<◌, length, true, Some, sym, ◌∙◌, subst, arith}
+use Rattle.std.proofs.Common.{◌≡◌, ◌+◌, true, Some, sym, ◌∙◌, subst}
 use Rattle.book_report.specs.declared.row.Way.TheVariants.{Delivered}
 use Rattle.book_report.specs.Held.{IsRow}
 use Rattle.book_report.specs.Walk.{AreKnown, knows, row_of}

@@ -1,4 +1,4 @@
-use Rattle.std.proofs.Common.{◌≡◌, ◌<◌, length, true, below_more, arith}
+use Rattle.std.proofs.Common.{◌≡◌, true, below_more, arith}
 use Rattle.book_report.specs.Walk.{knows, AtRank, OfCharges}
 use Rattle.book_report.proofs.KnownLemmas.{fresh_before}
 use Rattle.book_report.proofs.GrantLemmas.{charged_member, member_charged}

@@ -1,4 +1,4 @@
-use Rattle.std.proofs.Common.{◌≡◌, ◌+◌, ◌≤◌, sym, subst, arith}
+use Rattle.std.proofs.Common.{◌+◌, ◌≤◌, sym, subst, arith}
 use Rattle.book_report.specs.declared.row.Way.TheVariants.{OwnPost}
 use Rattle.book_report.specs.Held.{IsRow}
 use Rattle.book_report.specs.Places.{post_in}

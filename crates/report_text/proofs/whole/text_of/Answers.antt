@@ -1,8 +1,5 @@
 use Rattle.std.proofs.Common.{ℕ, List, ◌++◌, ap, ◌∙◌, length}
 use Rattle.run_model.specs.Posts.{comms}
-use Rattle.book_report.specs.declared.row.Row.{Row}
-use Rattle.book_report.specs.declared.bar.Bar.{Bar}
-use Rattle.book_report.specs.declared.denial.Denial.{Denial}
 use Rattle.book_report.specs.Held.{posts_to}
 use Rattle.report_text.specs.Rows.{rows_text}
 use Rattle.report_text.specs.Members.{comms_text}

@@ -1,6 +1,5 @@
 use Rattle.std.proofs.Common.{◌≡◌, Some, sym, ap, ◌∙◌, subst, true}
 use Rattle.wall_verdict.specs.Charges.{dataset_in}
-use Rattle.book_report.specs.Held.{IsRow}
 use Rattle.book_report.specs.Walk.{knows}
 use Rattle.book_report.proofs.KnownLemmas.{ok_then}
 use Rattle.wall_verdict.proofs.WallVerdictLemmas.{label_is}

@@ -1,4 +1,4 @@
-use Rattle.std.proofs.Common.{◌<◌, sym, ◌∙◌, below_more, arith}
+use Rattle.std.proofs.Common.{sym, ◌∙◌, below_more, arith}
 use Rattle.std.proofs.lemmas.Bool.{false≢true}
 use Rattle.book_report.specs.Reasons.{GivesRival}
 use Rattle.book_report.proofs.place.Instance.beside.Goals as goal

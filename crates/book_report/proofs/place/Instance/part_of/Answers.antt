@@ -1,4 +1,4 @@
-use Rattle.std.proofs.Common.{◌≡◌, ◌≤◌, ◌<◌, ◌+◌, ◌∙◌, sym, ap, subst, length, true, false, arith}
+use Rattle.std.proofs.Common.{◌≡◌, ◌+◌, ◌∙◌, sym, ap, subst, length, true, false, arith}
 use Rattle.run_model.specs.Posts.{posts_on}
 use Rattle.book_report.specs.Held.{posts_to}
 use Rattle.book_report.specs.Reasons.{is_part}

@@ -1,4 +1,4 @@
-use Rattle.std.proofs.Common.{◌≡◌, ◌<◌, ◌+◌, length, arith}
+use Rattle.std.proofs.Common.{◌+◌, arith}
 use Rattle.wall_rules.specs.Histories.{has}
 use Rattle.book_report.proofs.PartLemmas.{member_posted}
 use Rattle.book_report.proofs.reason.Judged.clash_beside.Goals as goal

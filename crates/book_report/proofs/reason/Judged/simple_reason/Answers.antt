@@ -1,4 +1,4 @@
-use Rattle.std.proofs.Common.{◌≡◌, ◌<◌, ◌+◌, ℕ, sym, subst, length, arith}
+use Rattle.std.proofs.Common.{◌+◌, sym, subst, arith}
 use Rattle.wall_rules.specs.Histories.{has}
 use Rattle.book_report.specs.Denials.{IsReason}
 use Rattle.book_report.proofs.OffenceLemmas.{found}
