@@ -5,9 +5,9 @@ use Rattle.std.proofs.lemmas.List.{reverse-append, append-nil}
 use Rattle.wall_policy.specs.Policy.{ChineseWall, IsPolicy, first_processes}
 use Rattle.run_model.specs.Books.{book}
 use Rattle.run_model.specs.Chains.{Link}
-use Rattle.run_model.specs.Runs.{Entry, posts}
+use Rattle.run_model.specs.Runs.{posts}
 use Rattle.run_model.proofs.RunModelLemmas.{book_is_sound, chains_keep_the_wall, legal_proper}
-use Rattle.book_chain.specs.Chain.{ChainValue, begun, StandsFor}
+use Rattle.book_chain.specs.Chain.{ChainValue, begun}
 use Rattle.hall_script.specs.Devices.{Used}
 use Rattle.program_commands.specs.declared.earlier.Earlier.{Earlier}
 use Rattle.program_commands.specs.declared.ending.Ending.{Ending}

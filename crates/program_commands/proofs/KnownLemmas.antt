@@ -18,8 +18,8 @@ front_more a b xs ys f =
     (f.0, f.1 ++ ys, sym (append_assoc f.0 f.1 ys) ∙ ap (λ (t : List ℕ). t ++ ys) f.2, f.3)
 
 -- the first, and a prefix of the second
-pub front_then : (a b c : Option (List ℕ)) (xs ys : List ℕ) → Appends a b xs → AppendsPrefix b c ys →
-    AppendsPrefix a c (xs ++ ys)
+pub front_then : (a b c : Option (List ℕ)) (xs ys : List ℕ) → Appends a b xs →
+    AppendsPrefix b c ys → AppendsPrefix a c (xs ++ ys)
 front_then a b c xs ys p f = (
   xs ++ f.0,
   f.1,

@@ -1,4 +1,5 @@
 pub mod KnownLemmas
+pub mod ReplayLemmas
 pub mod RankLemmas
 pub mod ProgramCommandsLemmas
 pub mod AuditLemmas

@@ -1,11 +1,11 @@
 -- What this crate offers to the proofs of others: a run without a book, whichever kind of writer
 -- there is none of.
-use Rattle.std.proofs.Common.{◌≡◌, ◌⊎◌, inl, inr, List, Option, None, sym, subst}
+use Rattle.std.proofs.Common.{◌⊎◌, inl, inr, List, Option, None}
 use Rattle.wall_policy.specs.Policy.{ChineseWall}
 use Rattle.run_model.specs.declared.call.Act.{Act}
 use Rattle.hall_script.specs.Devices.{Used, IsUntouched}
 use Rattle.program_commands.specs.declared.ending.Ending.{Ending}
-use Rattle.program_commands.specs.Replaying.{IsUnkept, no_book}
+use Rattle.program_commands.specs.Replaying.{IsUnkept}
 use Rattle.program_commands.specs.Running.{IsNoRun, Tells, Runs}
 use Rattle.program_commands.specs.Earlier.{EarlierBooks}
 use Rattle.program_commands.specs.Continuing.{RunAfterEnds}
@@ -35,10 +35,3 @@ module _ {P D S O : Type 0} (policy : Used P) (earlier : EarlierBooks D) (script
   kept_nowhere (inl a) = inl a
   kept_nowhere {A = A} {B = B} (inr a) =
       inr (a.0, a.1, run_bookless A B a.0 script out ending a.2)
-
-  pub bookless : {B : Type 0} (book : Option (Used B)) → book ≡ None
-      → RunAfterEnds policy earlier script out no_book ending
-      → RunAfterEnds policy earlier script out book ending
-  bookless {B = B} book is ends =
-      subst (λ b. RunAfterEnds policy earlier script out b ending) (sym is)
-      (kept_nowhere {A = Unit {0}} {B = B} ends)

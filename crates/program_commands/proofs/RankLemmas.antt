@@ -1,6 +1,8 @@
 -- The text of a run, process by process, and what becomes of a script whose scripts were run.
 use Rattle.std.proofs.Common.{◌≡◌, ℕ, zero, suc, ◌+◌, ◌-◌, ◌≤◌, ◌⊎◌, inl, inr, List, [], ◌++◌}
 use Rattle.std.proofs.Common.{length, slice_index_or, Option, sym, ap, subst, subst₂, ◌∙◌}
+use Rattle.std.proofs.Common.{Result, Ok, Err}
+use Rattle.std.specs.Prelude.{IfOk, IfErr}
 use Rattle.std.proofs.Common.{append_assoc, append-nil, arith}
 use Rattle.std.specs.Io.KnownBytes.{Appends}
 use Rattle.wall_labels.specs.Known.{AppendsPrefix}
@@ -15,13 +17,14 @@ use Rattle.hall_script.specs.Devices.{Used, used, IsUntouched}
 use Rattle.rank_run.specs.Waits.{script_patience}
 use Rattle.rank_run.specs.Ran.{IsRun, Ran}
 use Rattle.program_commands.specs.declared.ending.Ending.{Ending}
-use Rattle.program_commands.specs.Replaying.{IsKept, IsUnkept}
+use Rattle.program_commands.specs.Replaying.{IsKept, IsUnkept, KeepsIfRan}
 use Rattle.program_commands.specs.Running.{rank_line, reply_lines, ranks_text, rank_text}
 use Rattle.program_commands.specs.Running.{break_ending}
 use Rattle.program_commands.specs.Running.{IsScriptOf, IsNoRun, Tells, Breaks, Runs, Reached}
-use Rattle.program_commands.specs.Running.{FellShort}
+use Rattle.program_commands.specs.Running.{FellShort, RunsIfRead}
 use Rattle.wall_labels.proofs.WallLabelsLemmas.{Appends-then}
 use Rattle.program_commands.proofs.KnownLemmas.{appends_none, front_more, front_then}
+use Rattle.program_commands.proofs.ReplayLemmas.{no_hall}
 
 -- the text of one process more
 pub ranks_more : (wall : ChineseWall) (rows : List (List Reply)) (n : ℕ)
@@ -161,4 +164,28 @@ module _ {S O : Type 0} (wall : ChineseWall) (script : Used S) (out : Used O) wh
       ran = r.ran.is;
       told = inl (r.written, kept r.ran.run r.ran.stands);
     }),
+  )
+
+-- ---- a policy that was read or not, what comes of its script, and the book
+
+module _ {S O B : Type 0} (script : Used S) (out : Used O) (book : Option (Used B)) where
+  pub ran_under : (IsOne : ChineseWall → Type 0) (IsNone : Ending → Type 0)
+      (wall : Result ChineseWall Ending) (hall : Result HallValue Ending) (ending : Ending) →
+      IfOk wall IsOne → IfErr wall IsNone → RunsIfRead wall script out hall →
+      KeepsIfRan hall book ending →
+      (IsNone ending × IsUntouched script × IsUntouched out × IsUnkept book)
+      ⊎ ((wall : ChineseWall) × IsOne wall × Runs wall script out book ending)
+  ran_under IsOne IsNone (Err before) hall ending one none so kept =
+      let ends = no_hall book IsNone hall before ending so.0 kept none in
+      inl (ends.0, so.1, so.2, ends.1)
+  ran_under IsOne IsNone (Ok wall) (Ok hall) ending one none so kept = inr (
+    wall,
+    one,
+    reached wall script out book hall ending so
+        (λ run stands. subst (λ w. IsKept w run book ending) so.ran.policy (kept run stands)),
+  )
+  ran_under IsOne IsNone (Ok wall) (Err before) ending one none so kept = inr (
+    wall,
+    one,
+    ended wall script out book ending (subst (FellShort wall script out) (sym kept.0) so) kept.1,
   )

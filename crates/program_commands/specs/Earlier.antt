@@ -112,7 +112,7 @@ pub record IsBroken {D : Type 0} (first : ChineseWall) (earlier : EarlierBooks D
   pub left : D
   pub fault : IsNoLink was (reader earlier one left) one.path.now ending
 
--- the same, by the book at this path, whose reader was left so
+-- one of these books gives no policy: that at this path, whose reader was left so
 abbrev pub IsBrokenBy : {D : Type 0} → (first : ChineseWall) → EarlierBooks D → (path : List ℕ)
     → (left : D) → Ending → Type 0
 IsBrokenBy first earlier path left ending = (broken : IsBroken first earlier ending)

@@ -1,11 +1,12 @@
 -- How a replay ends.
-use Rattle.std.specs.Prelude.{◌≡◌, ℕ, ◌⊎◌, List, Option, Some, None}
+use Rattle.std.specs.Prelude.{◌≡◌, ℕ, ◌⊎◌, List, Option, Some, None, Result, Ok, Err}
 use Rattle.std.proofs.Common.{inl, inr}
 use Rattle.std.specs.Borrow.{MutBor}
 use Rattle.wall_policy.specs.Policy.{ChineseWall}
 use Rattle.run_model.specs.Books.{book}
 use Rattle.run_model.specs.Runs.{Entry, posts}
 use Rattle.audit_book.specs.Text.{book_text}
+use Rattle.hall_core.specs.Halls.{HallValue, StandsFor}
 use Rattle.hall_script.specs.declared.fault.ScriptFault.{ScriptFault}
 use Rattle.hall_script.specs.declared.fault.ScriptFault.TheVariants as scripts
 use Rattle.hall_script.specs.Devices.{Used, used, IsUntouched}
@@ -70,3 +71,28 @@ abbrev pub ReplayEnds : {P S O B : Type 0}
 ReplayEnds policy script out book ending =
     (IsNoPolicy policy ending × IsUntouched script × IsUntouched out × IsUnkept book)
     ⊎ ((wall : ChineseWall) × IsPolicyOf policy wall × Replays wall script out book ending)
+
+-- ---- words of private contracts
+
+-- No policy was read, and nothing was touched; or the script was replayed under it, and the hall
+-- stands for that run; or it met a fault.
+abbrev pub ReplaysIfRead : {S O : Type 0}
+    → Result ChineseWall Ending → Used S → Used O → Result HallValue Ending → Type 0
+ReplaysIfRead (Err ending) script out hall =
+    (hall ≡ Err ending) × IsUntouched script × IsUntouched out
+ReplaysIfRead (Ok wall) script out (Ok hall) = (run : List Entry) × (hall.policy ≡ wall)
+    × StandsFor hall run × IsReplayed wall script out run
+ReplaysIfRead (Ok wall) script out (Err ending) = (fault : ScriptFault)
+    × StopsWith wall script out fault × (ending ≡ script_ending fault)
+
+-- how it ends by a hall of which no book is asked for, or by why there is none
+abbrev pub ending_of : Result HallValue Ending → Ending
+ending_of (Ok hall) = Done
+ending_of (Err ending) = ending
+
+-- The book of any run that the hall stands for was kept, where one was asked for; or there is no
+-- hall, no book was kept, and it ended as it had.
+abbrev pub KeepsIfRan : {B : Type 0} → Result HallValue Ending → Option (Used B) → Ending → Type 0
+KeepsIfRan (Ok hall) book ending =
+    (run : List Entry) → StandsFor hall run → IsKept hall.policy run book ending
+KeepsIfRan (Err before) book ending = (ending ≡ before) × IsUnkept book

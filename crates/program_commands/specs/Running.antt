@@ -1,6 +1,6 @@
 -- How the run of a script ends whose calls each process makes for itself.
 use Rattle.std.specs.Prelude.{◌≡◌, ℕ, zero, suc, ◌⊎◌, List, [], ◌++◌, length, slice_index_or, codes}
-use Rattle.std.specs.Prelude.{Option, Some, None}
+use Rattle.std.specs.Prelude.{Option, Some, None, Result, Ok, Err}
 use Rattle.std.specs.List.{flat_map}
 use Rattle.std.specs.Fmt.{decimal}
 use Rattle.wall_policy.specs.Policy.{ChineseWall}
@@ -126,6 +126,10 @@ RunEnds policy script out book ending =
 
 -- ---- words of private contracts
 
+-- the line of a process, and those of its replies
+abbrev pub process_lines : ChineseWall → (p : ℕ) → List Reply → List ℕ
+process_lines wall p replies = rank_line wall p ++ reply_lines wall replies
+
 -- the script was read and its calls were run to their ends, the hall stands for that run, and the
 -- text was written
 pub record Reached {S O : Type 0}
@@ -145,3 +149,10 @@ FellShort wall script out ending =
     ⊎ ((replies : List (List Reply)) × (run : List Entry)
     × IsRun script_patience wall scripts replies run
     × Breaks out (rank_text wall replies) ending)))
+
+-- no policy was read, and nothing was touched; or the script was run under it
+abbrev pub RunsIfRead : {S O : Type 0}
+    → Result ChineseWall Ending → Used S → Used O → Result HallValue Ending → Type 0
+RunsIfRead (Err ending) script out hall = (hall ≡ Err ending) × IsUntouched script × IsUntouched out
+RunsIfRead (Ok wall) script out (Ok hall) = Reached wall script out hall
+RunsIfRead (Ok wall) script out (Err ending) = FellShort wall script out ending

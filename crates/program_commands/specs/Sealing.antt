@@ -9,7 +9,7 @@ use Rattle.book_seal.specs.declared.fault.SealFault.TheVariants as seals
 use Rattle.book_seal.specs.Seals.{IsSealOf}
 use Rattle.book_seal.specs.Refusals.{IsFaultOf, StartsSoundly}
 use Rattle.hall_script.specs.Devices.{Used, IsUntouched, NeverFailed, IsRead, IsUnreadable}
-use Rattle.hall_script.specs.Devices.{IsWritten, BrokeOff}
+use Rattle.hall_script.specs.Devices.{IsWritten}
 use Rattle.program_commands.specs.declared.audit.Finding.TheVariants as findings
 use Rattle.program_commands.specs.declared.ending.Ending.{Ending}
 use Rattle.program_commands.specs.declared.ending.Ending.TheVariants.{Done, BadBookLine}

@@ -137,30 +137,6 @@ fn audit_under<B: Source, O: Sink>(
     }
 }
 
-// Reads and judges the policy and the earlier books, and then audits the book.
-fn audit_devices<'a, P: Source, D: Source + Drop, B: Source, O: Sink>(
-    alloc: Global,
-    policy: &mut P,
-    earlier: Vec<Earlier<'a, D>>,
-    book: &mut B,
-    out: &mut O,
-) -> Ending<'a>
-    ensures { AuditAfterEnds
-        (used P.failures P.remaining policy.old policy.new)
-        (earlier_books D.failures D.remaining earlier.entry.items)
-        (used B.failures B.remaining book.old book.new)
-        (used O.failures O.contents out.old out.new)
-        result }
-{
-    let wall = match read_wall_after(alloc, policy, earlier) {
-        Ok(wall) => wall,
-        Err(ending) => return ending,
-    };
-    let ending = audit_under(alloc, &wall, book, out);
-    drop(wall);
-    ending
-}
-
 /// Reads the policy and a book, checks that the book is what its posts give under the policy, and
 /// writes `sound N`, with the number of its entries, or `unsound at entry N`, with that of the
 /// first bad one, to `out`. It writes the line of a fault to `err`, and gives the status: 0 exactly
@@ -186,7 +162,8 @@ pub fn audit_on<P: Source, B: Source, O: Sink, E: Sink>(
     audit_after(alloc, policy, no_earlier(alloc), book, out, err)
 }
 
-/// The same under the policy for what comes after earlier books, as `read_wall_after` gives it.
+/// What `audit_on` does, under the policy for what comes after earlier books, as `read_wall_after`
+/// gives it.
 pub fn audit_after<P: Source, D: Source + Drop, B: Source, O: Sink, E: Sink>(
     alloc: Global,
     policy: &mut P,
@@ -204,6 +181,11 @@ pub fn audit_after<P: Source, D: Source + Drop, B: Source, O: Sink, E: Sink>(
         (used E.failures E.contents err.old err.new)
         result }
 {
-    let ending = audit_devices(alloc, policy, earlier, book, out);
+    let wall = match read_wall_after(alloc, policy, earlier) {
+        Ok(wall) => wall,
+        Err(ending) => return end(err, ending),
+    };
+    let ending = audit_under(alloc, &wall, book, out);
+    drop(wall);
     end(err, ending)
 }

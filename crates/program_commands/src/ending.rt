@@ -50,7 +50,7 @@ pub enum Ending<'a> {
     BadEarlier(&'a str, EarlierFault),
     /// A reader failed, or a file is too long.
     ReadFault,
-    /// The same of the file at this path, told to people.
+    /// The file at this path was not read, and this is why, as people are told.
     Unread(&'a str, Why),
     /// The writer failed.
     WriteFault,

@@ -4,18 +4,20 @@ ghost use Rattle.run_model.specs.Runs.{Entry};
 ghost use Rattle.hall_core.specs.Halls.{StandsFor};
 ghost use Rattle.program_commands.specs.Endings.{Writes, EndsSo};
 ghost use Rattle.hall_script.specs.Devices.{used};
-ghost use Rattle.program_commands.specs.Replaying.{script_ending, text_of, perhaps, no_book};
-ghost use Rattle.program_commands.specs.Replaying.{ReplayEnds};
+ghost use Rattle.program_commands.specs.Replaying.{script_ending, text_of, perhaps, ReplayEnds};
+ghost use Rattle.program_commands.specs.Replaying.{ReplaysIfRead, KeepsIfRan, ending_of};
 ghost use Rattle.program_commands.specs.Earlier.{earlier_books};
 ghost use Rattle.program_commands.specs.Continuing.{ReplayAfterEnds};
 
-use crate::earlier::{Earlier, no_earlier, read_wall_after};
+use crate::earlier::{Earlier, read_wall_after};
 use crate::ending::{Ending, end};
+use crate::wall::read_wall;
 use audit_book::{WriteFault, write_book};
 use hall_core::Hall;
 use hall_script::{ScriptFault, replay};
 use std::alloc::Global;
 use wall_labels::{Sink, Source};
+use wall_policy::Policy;
 
 pub(crate) fn script_ending(fault: ScriptFault) -> Ending<'static>
     ensures { result ≡ script_ending fault }
@@ -29,7 +31,7 @@ pub(crate) fn script_ending(fault: ScriptFault) -> Ending<'static>
 }
 
 // Writes the hall's book.
-pub(crate) fn keep<B: Sink>(alloc: Global, hall: &Hall, book: &mut B) -> Ending<'static>
+fn keep<B: Sink>(alloc: Global, hall: &Hall, book: &mut B) -> Ending<'static>
     ensures { (run : List Entry) → StandsFor hall.now run → Writes
         (used B.failures B.contents book.old book.new) (text_of hall.now.policy run) result }
 {
@@ -40,62 +42,56 @@ pub(crate) fn keep<B: Sink>(alloc: Global, hall: &Hall, book: &mut B) -> Ending<
     }
 }
 
-// Reads and judges the policy and the earlier books, and then replays the script.
-fn replay_devices<'a, P: Source, D: Source + Drop, S: Source, O: Sink>(
+// Replays the script under the policy, if one was read.
+fn replay_under<'a, S: Source, O: Sink>(
     alloc: Global,
-    policy: &mut P,
-    earlier: Vec<Earlier<'a, D>>,
+    wall: Result<Policy, Ending<'a>>,
     script: &mut S,
     out: &mut O,
-) -> Ending<'a>
-    ensures { ReplayAfterEnds
-        (used P.failures P.remaining policy.old policy.new)
-        (earlier_books D.failures D.remaining earlier.entry.items)
+) -> Result<Hall, Ending<'a>>
+    ensures { ReplaysIfRead wall.entry
         (used S.failures S.remaining script.old script.new)
         (used O.failures O.contents out.old out.new)
-        no_book
         result }
 {
-    let wall = match read_wall_after(alloc, policy, earlier) {
+    let wall = match wall {
         Ok(wall) => wall,
-        Err(ending) => return ending,
+        Err(ending) => return Err(ending),
     };
     match replay(alloc, wall, script, out) {
-        Ok(hall) => drop(hall),
-        Err(fault) => return script_ending(fault),
+        Ok(hall) => Ok(hall),
+        Err(fault) => Err(script_ending(fault)),
     }
-    Ending::Done
 }
 
-// Reads and judges the policy and the earlier books, replays the script, and writes the book of its
-// run.
-fn replay_keeping<'a, P: Source, D: Source + Drop, S: Source, O: Sink, B: Sink>(
+/// Writes the book of the hall, if there is one.
+pub(crate) fn keep_ran<'a, B: Sink>(
     alloc: Global,
-    policy: &mut P,
-    earlier: Vec<Earlier<'a, D>>,
-    script: &mut S,
-    out: &mut O,
+    hall: Result<Hall, Ending<'a>>,
     book: &mut B,
 ) -> Ending<'a>
-    ensures { ReplayAfterEnds
-        (used P.failures P.remaining policy.old policy.new)
-        (earlier_books D.failures D.remaining earlier.entry.items)
-        (used S.failures S.remaining script.old script.new)
-        (used O.failures O.contents out.old out.new)
-        (Some (used B.failures B.contents book.old book.new))
-        result }
+    ensures { KeepsIfRan hall.entry (Some (used B.failures B.contents book.old book.new)) result }
 {
-    let wall = match read_wall_after(alloc, policy, earlier) {
-        Ok(wall) => wall,
-        Err(ending) => return ending,
-    };
-    let hall = match replay(alloc, wall, script, out) {
+    let hall = match hall {
         Ok(hall) => hall,
-        Err(fault) => return script_ending(fault),
+        Err(ending) => return ending,
     };
     let ending = keep(alloc, &hall, book);
     drop(hall);
     ending
+}
+
+/// Lets the hall go, if there is one: no book is asked for.
+pub(crate) fn let_go<'a>(hall: Result<Hall, Ending<'a>>) -> Ending<'a>
+    ensures { result ≡ ending_of hall.entry }
+{
+    match hall {
+        Ok(hall) => {
+            drop(hall);
+            Ending::Done
+        }
+        Err(ending) => ending,
+    }
 }
 
 /// Reads the policy, replays the script on it, writes the replies to `out` and the line of a fault
@@ -121,21 +117,22 @@ pub fn replay_on<P: Source, S: Source, O: Sink, E: Sink, B: Sink>(
         (used E.failures E.contents err.old err.new)
         result }
 {
-    let none = no_earlier(alloc);
+    let wall = read_wall(alloc, policy);
+    let hall = replay_under(alloc, wall, script, out);
     match book {
         Some(book) => {
-            let ending = replay_keeping(alloc, policy, none, script, out, book);
+            let ending = keep_ran(alloc, hall, book);
             end(err, ending)
         }
         None => {
-            let ending = replay_devices(alloc, policy, none, script, out);
+            let ending = let_go(hall);
             end(err, ending)
         }
     }
 }
 
-/// The same under the policy for what comes after earlier books, as `read_wall_after` gives it. The
-/// earlier books are read and judged before the script is looked at.
+/// What `replay_on` does, under the policy for what comes after earlier books, as `read_wall_after`
+/// gives it. The earlier books are read and judged before the script is looked at.
 pub fn replay_after<P: Source, D: Source + Drop, S: Source, O: Sink, E: Sink, B: Sink>(
     alloc: Global,
     policy: &mut P,
@@ -155,13 +152,15 @@ pub fn replay_after<P: Source, D: Source + Drop, S: Source, O: Sink, E: Sink, B:
         (used E.failures E.contents err.old err.new)
         result }
 {
+    let wall = read_wall_after(alloc, policy, earlier);
+    let hall = replay_under(alloc, wall, script, out);
     match book {
         Some(book) => {
-            let ending = replay_keeping(alloc, policy, earlier, script, out, book);
+            let ending = keep_ran(alloc, hall, book);
             end(err, ending)
         }
         None => {
-            let ending = replay_devices(alloc, policy, earlier, script, out);
+            let ending = let_go(hall);
             end(err, ending)
         }
     }

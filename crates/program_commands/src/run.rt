@@ -1,5 +1,5 @@
 //! Runs the calls of a script, each process's in a thread of its own, over any devices.
-ghost use Rattle.std.specs.Prelude.{◌≡◌, ◌<◌, ◌++◌, Some, IfOk, IfErr, OnOk, length};
+ghost use Rattle.std.specs.Prelude.{◌≡◌, ◌<◌, ◌++◌, IfOk, IfErr, OnOk, length};
 ghost use Rattle.std.specs.Prelude.{codes, decimal, string_bytes};
 ghost use Rattle.std.specs.List.{All};
 ghost use Rattle.run_model.specs.Comms.{processes};
@@ -8,17 +8,19 @@ ghost use Rattle.rank_run.specs.Waits.{script_patience};
 ghost use Rattle.rank_run.specs.Ran.{Ran};
 ghost use Rattle.program_commands.specs.Endings.{EndsSo};
 ghost use Rattle.hall_script.specs.Devices.{used, IsWritten};
-ghost use Rattle.program_commands.specs.Replaying.{perhaps, no_book};
+ghost use Rattle.program_commands.specs.Replaying.{perhaps};
 ghost use Rattle.program_commands.specs.Running.{rank_line, reply_lines, rank_text, IsScriptOf};
 ghost use Rattle.program_commands.specs.Running.{IsNoScript, run_ending, IsNoRun, break_ending};
 ghost use Rattle.program_commands.specs.Running.{Breaks};
-ghost use Rattle.program_commands.specs.Running.{FellShort, Reached, RunEnds};
+ghost use Rattle.program_commands.specs.Running.{FellShort, Reached, RunsIfRead, RunEnds};
+ghost use Rattle.program_commands.specs.Running.{process_lines};
 ghost use Rattle.program_commands.specs.Earlier.{earlier_books};
 ghost use Rattle.program_commands.specs.Continuing.{RunAfterEnds};
 
-use crate::earlier::{Earlier, no_earlier, read_wall_after};
+use crate::earlier::{Earlier, read_wall_after};
 use crate::ending::{Ending, end};
-use crate::replay::{keep, script_ending};
+use crate::replay::{keep_ran, let_go, script_ending};
+use crate::wall::read_wall;
 use audit_book::WriteFault;
 use hall_core::{Hall, Reply};
 use hall_script::{DeviceFault, SCRIPT_LIMIT, Scripts, read_device, split_script, write_reply};
@@ -115,21 +117,23 @@ fn put_replies(wall: &Policy, replies: &[Reply], text: &mut Vec<u8>) -> Result<(
     Ok(())
 }
 
-// The line of a process, and those of its replies.
-fn process_text(
-    alloc: Global,
-    wall: &Policy,
+// A process, and its replies.
+#[derive(Clone, Copy)]
+struct Rank<'r> {
     process: ProcessId,
-    replies: &[Reply],
-) -> Result<Vec<u8>, NoMemory>
-    requires process { process < processes wall.now }
-    requires named { All (IsKnownReply wall.now) replies.now }
+    replies: &'r [Reply],
+}
+
+// The line of a process, and those of its replies.
+fn process_text(alloc: Global, wall: &Policy, rank: &Rank) -> Result<Vec<u8>, NoMemory>
+    requires process { rank.now.process < processes wall.now }
+    requires named { All (IsKnownReply wall.now) rank.now.replies.now }
     ensures { IfOk result (λ text.
-        text.items ≡ rank_line wall.now process ++ reply_lines wall.now replies.now) }
+        text.items ≡ process_lines wall.now rank.now.process rank.now.replies.now) }
 {
     let mut text = Vec::new(alloc);
-    put_rank(alloc, wall, process, &mut text)?;
-    put_replies(wall, replies, &mut text)?;
+    put_rank(alloc, wall, rank.process, &mut text)?;
+    put_replies(wall, rank.replies, &mut text)?;
     Ok(text)
 }
 
@@ -137,20 +141,19 @@ fn process_text(
 fn write_process<O: Sink>(
     alloc: Global,
     wall: &Policy,
-    process: ProcessId,
-    replies: &[Reply],
+    rank: &Rank,
     out: &mut O,
 ) -> Result<(), WriteFault>
-    requires process { process < processes wall.now }
-    requires named { All (IsKnownReply wall.now) replies.now }
+    requires process { rank.now.process < processes wall.now }
+    requires named { All (IsKnownReply wall.now) rank.now.replies.now }
     ensures written { let device = used O.failures O.contents out.old out.new in
-        let lines = rank_line wall.now process ++ reply_lines wall.now replies.now in
+        let lines = process_lines wall.now rank.now.process rank.now.replies.now in
         OnOk result (IsWritten device lines) }
     ensures broken { let device = used O.failures O.contents out.old out.new in
-        let lines = rank_line wall.now process ++ reply_lines wall.now replies.now in
+        let lines = process_lines wall.now rank.now.process rank.now.replies.now in
         IfErr result (λ fault. Breaks device lines (break_ending fault)) }
 {
-    let text = match process_text(alloc, wall, process, replies) {
+    let text = match process_text(alloc, wall, rank) {
         Ok(text) => text,
         Err(_) => return Err(WriteFault::NoMemory),
     };
@@ -179,7 +182,11 @@ fn write_ranks<O: Sink>(
         let Some(process) = ProcessId::new(number) else {
             unreachable!()
         };
-        match write_process(alloc, wall, process, replies.of(number as usize), out) {
+        let rank = Rank {
+            process,
+            replies: replies.of(number as usize),
+        };
+        match write_process(alloc, wall, &rank, out) {
             Ok(()) => {}
             Err(fault) => return Err(fault),
         }
@@ -196,22 +203,30 @@ fn break_ending(fault: WriteFault) -> Ending<'static>
     }
 }
 
+// The script of a run, and where the replies go.
+#[derive(Drop)]
+struct Stage<'d, S, O> {
+    script: &'d mut S,
+    out: &'d mut O,
+}
+
 // Reads the script, runs its calls, and writes the text of the replies.
 fn play<R: Threads + Wait + Sync, S: Source, O: Sink>(
     rt: &R,
     alloc: Global,
     wall: Policy,
-    script: &mut S,
-    out: &mut O,
+    stage: Stage<S, O>,
 ) -> Result<Hall, Ending<'static>>
-    ensures reached { let script = used S.failures S.remaining script.old script.new in
-        let out = used O.failures O.contents out.old out.new in
+    ensures reached { let script =
+        used S.failures S.remaining stage.entry.script.now stage.exit.0.now in
+        let out = used O.failures O.contents stage.entry.out.now stage.exit.1.0.now in
         IfOk result (Reached wall script out) }
-    ensures ended { let script = used S.failures S.remaining script.old script.new in
-        let out = used O.failures O.contents out.old out.new in
+    ensures ended { let script =
+        used S.failures S.remaining stage.entry.script.now stage.exit.0.now in
+        let out = used O.failures O.contents stage.entry.out.now stage.exit.1.0.now in
         IfErr result (FellShort wall script out) }
 {
-    let scripts = match read_scripts(alloc, &wall, script) {
+    let scripts = match read_scripts(alloc, &wall, stage.script) {
         Ok(scripts) => scripts,
         Err(ending) => {
             drop(wall);
@@ -223,7 +238,7 @@ fn play<R: Threads + Wait + Sync, S: Source, O: Sink>(
         Err(ending) => return Err(ending),
     };
     let Run { replies, hall } = run;
-    let written = write_ranks(alloc, hall.policy(), &replies, out);
+    let written = write_ranks(alloc, hall.policy(), &replies, stage.out);
     drop(replies);
     match written {
         Ok(()) => Ok(hall),
@@ -234,73 +249,33 @@ fn play<R: Threads + Wait + Sync, S: Source, O: Sink>(
     }
 }
 
-// Reads and judges the policy and the earlier books, and then runs the script.
-fn run_devices<'a, R: Threads + Wait + Sync, P: Source, D: Source + Drop, S: Source, O: Sink>(
+// Runs the script under the policy, if one was read.
+fn run_under<'a, R: Threads + Wait + Sync, S: Source, O: Sink>(
     rt: &R,
     alloc: Global,
-    policy: &mut P,
-    earlier: Vec<Earlier<'a, D>>,
-    script: &mut S,
-    out: &mut O,
-) -> Ending<'a>
-    ensures { RunAfterEnds
-        (used P.failures P.remaining policy.old policy.new)
-        (earlier_books D.failures D.remaining earlier.entry.items)
-        (used S.failures S.remaining script.old script.new)
-        (used O.failures O.contents out.old out.new)
-        no_book
+    wall: Result<Policy, Ending<'a>>,
+    stage: Stage<S, O>,
+) -> Result<Hall, Ending<'a>>
+    ensures { RunsIfRead wall.entry
+        (used S.failures S.remaining stage.entry.script.now stage.exit.0.now)
+        (used O.failures O.contents stage.entry.out.now stage.exit.1.0.now)
         result }
 {
-    let wall = match read_wall_after(alloc, policy, earlier) {
+    let wall = match wall {
         Ok(wall) => wall,
-        Err(ending) => return ending,
+        Err(ending) => return Err(ending),
     };
-    match play(rt, alloc, wall, script, out) {
-        Ok(hall) => drop(hall),
-        Err(ending) => return ending,
+    match play(rt, alloc, wall, stage) {
+        Ok(hall) => Ok(hall),
+        Err(ending) => Err(ending),
     }
-    Ending::Done
-}
-
-// Reads and judges the policy and the earlier books, runs the script, and writes the book of its
-// run.
-fn run_keeping<'a, R, P: Source, D: Source + Drop, S: Source, O: Sink, B: Sink>(
-    rt: &R,
-    alloc: Global,
-    policy: &mut P,
-    earlier: Vec<Earlier<'a, D>>,
-    script: &mut S,
-    out: &mut O,
-    book: &mut B,
-) -> Ending<'a>
-where
-    R: Threads + Wait + Sync,
-    ensures { RunAfterEnds
-        (used P.failures P.remaining policy.old policy.new)
-        (earlier_books D.failures D.remaining earlier.entry.items)
-        (used S.failures S.remaining script.old script.new)
-        (used O.failures O.contents out.old out.new)
-        (Some (used B.failures B.contents book.old book.new))
-        result }
-{
-    let wall = match read_wall_after(alloc, policy, earlier) {
-        Ok(wall) => wall,
-        Err(ending) => return ending,
-    };
-    let hall = match play(rt, alloc, wall, script, out) {
-        Ok(hall) => hall,
-        Err(ending) => return ending,
-    };
-    let ending = keep(alloc, &hall, book);
-    drop(hall);
-    ending
 }
 
 /// Reads the policy and the script, runs the calls of each process in a thread of its own, and
 /// writes to `out` for each process in order the line `rank P NAME` and the lines of its replies. A
 /// take is tried again while its outcome is pending. It writes the line of a fault to `err`, and
-/// gives the status. Where there is a `book`, and the replies were written, it then writes the audit
-/// book of the run to it.
+/// gives the status. Where there is a `book`, and the replies were written, it then writes the
+/// audit book of the run to it.
 ///
 /// The policy is read and judged before the script is looked at, and the whole script before a call
 /// is made: after a fault of policy or script, and where a thread or memory was refused before the
@@ -323,21 +298,22 @@ pub fn run_on<R: Threads + Wait + Sync, P: Source, S: Source, O: Sink, E: Sink, 
         (used E.failures E.contents err.old err.new)
         result }
 {
-    let none = no_earlier(alloc);
+    let wall = read_wall(alloc, policy);
+    let hall = run_under(rt, alloc, wall, Stage { script, out });
     match book {
         Some(book) => {
-            let ending = run_keeping(rt, alloc, policy, none, script, out, book);
+            let ending = keep_ran(alloc, hall, book);
             end(err, ending)
         }
         None => {
-            let ending = run_devices(rt, alloc, policy, none, script, out);
+            let ending = let_go(hall);
             end(err, ending)
         }
     }
 }
 
-/// The same under the policy for what comes after earlier books, as `read_wall_after` gives it. The
-/// earlier books are read and judged before the script is looked at.
+/// What `run_on` does, under the policy for what comes after earlier books, as `read_wall_after`
+/// gives it. The earlier books are read and judged before the script is looked at.
 pub fn run_after<R, P: Source, D: Source + Drop, S: Source, O: Sink, E: Sink, B: Sink>(
     rt: &R,
     alloc: Global,
@@ -360,13 +336,15 @@ where
         (used E.failures E.contents err.old err.new)
         result }
 {
+    let wall = read_wall_after(alloc, policy, earlier);
+    let hall = run_under(rt, alloc, wall, Stage { script, out });
     match book {
         Some(book) => {
-            let ending = run_keeping(rt, alloc, policy, earlier, script, out, book);
+            let ending = keep_ran(alloc, hall, book);
             end(err, ending)
         }
         None => {
-            let ending = run_devices(rt, alloc, policy, earlier, script, out);
+            let ending = let_go(hall);
             end(err, ending)
         }
     }

@@ -27,22 +27,28 @@ fn tell_sealed<O: Sink>(out: &mut O, entries: u64) -> Ending<'static>
     }
 }
 
+// Where a whole book is written, and then told of.
+#[derive(Drop)]
+struct Outputs<'d, W, O> {
+    sealed: &'d mut W,
+    out: &'d mut O,
+}
+
 // Writes the whole book, and then tells of it.
 fn keep_sealed<W: Sink, O: Sink>(
     alloc: Global,
     wall: &Policy,
     book: &Book,
-    sealed: &mut W,
-    out: &mut O,
+    outputs: Outputs<W, O>,
 ) -> Ending<'static>
     requires { All (IsKnownEntry wall.now) book.now.list }
     ensures { KeepsBook wall.now book.now.list
-        (used W.failures W.contents sealed.old sealed.new)
-        (used O.failures O.contents out.old out.new)
+        (used W.failures W.contents outputs.entry.sealed.now outputs.exit.0.now)
+        (used O.failures O.contents outputs.entry.out.now outputs.exit.1.0.now)
         result }
 {
-    match write_book(alloc, wall, book, sealed) {
-        Ok(()) => tell_sealed(out, book.len() as u64),
+    match write_book(alloc, wall, book, outputs.sealed) {
+        Ok(()) => tell_sealed(outputs.out, book.len() as u64),
         Err(WriteFault::Write) => Ending::WriteFault,
         Err(WriteFault::NoMemory) => Ending::NoMemory,
     }
@@ -64,21 +70,20 @@ fn seal_text<W: Sink, O: Sink>(
     alloc: Global,
     wall: &Policy,
     text: &[u8],
-    sealed: &mut W,
-    out: &mut O,
+    outputs: Outputs<W, O>,
 ) -> Ending<'static>
     ensures { SealsText wall.now text.now
-        (used W.failures W.contents sealed.old sealed.new)
-        (used O.failures O.contents out.old out.new)
+        (used W.failures W.contents outputs.entry.sealed.now outputs.exit.0.now)
+        (used O.failures O.contents outputs.entry.out.now outputs.exit.1.0.now)
         result }
 {
     match seal_book(alloc, wall, text) {
         Ok(book) => {
-            let ending = keep_sealed(alloc, wall, &book, sealed, out);
+            let ending = keep_sealed(alloc, wall, &book, outputs);
             drop(book);
             ending
         }
-        Err(fault) => tell_fault(out, fault),
+        Err(fault) => tell_fault(outputs.out, fault),
     }
 }
 
@@ -87,50 +92,23 @@ fn seal_under<B: Source, W: Sink, O: Sink>(
     alloc: Global,
     wall: &Policy,
     book: &mut B,
-    sealed: &mut W,
-    out: &mut O,
+    outputs: Outputs<W, O>,
 ) -> Ending<'static>
     ensures { Seals wall.now
         (used B.failures B.remaining book.old book.new)
-        (used W.failures W.contents sealed.old sealed.new)
-        (used O.failures O.contents out.old out.new)
+        (used W.failures W.contents outputs.entry.sealed.now outputs.exit.0.now)
+        (used O.failures O.contents outputs.entry.out.now outputs.exit.1.0.now)
         result }
 {
     match read_device(alloc, book, BOOK_LIMIT) {
         Ok(text) => {
-            let ending = seal_text(alloc, wall, &text, sealed, out);
+            let ending = seal_text(alloc, wall, &text, outputs);
             drop(text);
             ending
         }
         Err(DeviceFault::Read) => Ending::ReadFault,
         Err(DeviceFault::NoMemory) => Ending::NoMemory,
     }
-}
-
-// Reads and judges the policy and the earlier books, and then seals the book.
-fn seal_devices<'a, P: Source, D: Source + Drop, B: Source, W: Sink, O: Sink>(
-    alloc: Global,
-    policy: &mut P,
-    earlier: Vec<Earlier<'a, D>>,
-    book: &mut B,
-    sealed: &mut W,
-    out: &mut O,
-) -> Ending<'a>
-    ensures { SealEnds
-        (used P.failures P.remaining policy.old policy.new)
-        (earlier_books D.failures D.remaining earlier.entry.items)
-        (used B.failures B.remaining book.old book.new)
-        (used W.failures W.contents sealed.old sealed.new)
-        (used O.failures O.contents out.old out.new)
-        result }
-{
-    let wall = match read_wall_after(alloc, policy, earlier) {
-        Ok(wall) => wall,
-        Err(ending) => return ending,
-    };
-    let ending = seal_under(alloc, &wall, book, sealed, out);
-    drop(wall);
-    ending
 }
 
 /// Reads the policy, the earlier books and a book that was cut, and writes the whole book to
@@ -161,6 +139,11 @@ pub fn seal_on<P: Source, D: Source + Drop, B: Source, W: Sink, O: Sink, E: Sink
         (used E.failures E.contents err.old err.new)
         result }
 {
-    let ending = seal_devices(alloc, policy, earlier, book, sealed, out);
+    let wall = match read_wall_after(alloc, policy, earlier) {
+        Ok(wall) => wall,
+        Err(ending) => return end(err, ending),
+    };
+    let ending = seal_under(alloc, &wall, book, Outputs { sealed, out });
+    drop(wall);
     end(err, ending)
 }

@@ -200,11 +200,11 @@ where
 }
 
 /// Serves all processes of the policy at the same time, each in a thread of its own over its own
-/// devices, until the session of each has ended; `peers` has their devices, in order. Where there is
-/// a `book`, the audit book of that run is written to it while it runs: its first line before any
-/// session begins, the entries of each call before the call's reply is told, and its last line when
-/// all sessions have ended. It writes the line of a fault to `err`, and gives the status, with the
-/// devices and the book's writer as they have come back.
+/// devices, until the session of each has ended; `peers` has their devices, in order. Where there
+/// is a `book`, the audit book of that run is written to it while it runs: its first line before
+/// any session begins, the entries of each call before the call's reply is told, and its last line
+/// when all sessions have ended. It writes the line of a fault to `err`, and gives the status, with
+/// the devices and the book's writer as they have come back.
 ///
 /// A session whose devices fail has ended, and no more: the others go on, and the status is that of
 /// the book. Where the book can't be written any more, who calls from then on is told `unbooked`.

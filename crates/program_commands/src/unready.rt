@@ -36,7 +36,8 @@ fn write_unready<W: Sink>(sink: &mut W, unready: Unready) -> Result<(), Failed>
 /// fails changes nothing of that.
 pub fn refuse<W: Sink>(err: &mut W, unready: Unready) -> u8
     ensures status { result ≡ 3 }
-    ensures told { IsTold (used W.failures W.contents err.old err.new) (unready_line unready.entry) }
+    ensures told { let device = used W.failures W.contents err.old err.new in
+        IsTold device (unready_line unready.entry) }
 {
     match write_unready(err, unready) {
         Ok(()) => 3,

@@ -1,17 +1,25 @@
+use Rattle.std.proofs.Common.{None, Some}
 use Rattle.hall_script.specs.Devices.{used}
-use Rattle.program_commands.proofs.EarlierLemmas.{both_cases, no_policy_alone, policy_alone}
+use Rattle.program_commands.specs.Walls.{IsPolicyOf, IsNoPolicy}
+use Rattle.program_commands.proofs.ReplayLemmas.{replayed_under, unkept}
 use Rattle.program_commands.proofs.replay.replay_on.Goals as goal
 
 pub returns-in-Some : goal.returns-in-Some
 returns-in-Some g c =
     let policy = used g.P.Source.failures g.P.Source.remaining c.args.policy.now
-    c.replay_keeping-ending.new.policy in
-    let ending = c.replay_keeping-ending.result in
+    c.read_wall-wall.new.source in
+    let script = used g.S.Source.failures g.S.Source.remaining c.args.script.now
+    c.replay_under-hall.new.script in
+    let out = used g.O.Sink.failures g.O.Sink.contents c.args.out.now
+    c.replay_under-hall.new.out in
+    let book = used g.B.Sink.failures g.B.Sink.contents c.in-Some.book.now
+    c.keep_ran-ending.new.book in
     rw c.in-Some.is (
-      ending,
-      both_cases (rw c.no_earlier-none.ensures at c.replay_keeping-ending.ensures)
-          (λ h. (no_policy_alone _ _ policy ending h.0, h.1, h.2, h.3))
-          (λ h. (h.0, policy_alone _ _ policy h.0 h.1, h.2)),
+      c.keep_ran-ending.result,
+      replayed_under script out (Some book) (IsPolicyOf policy) (IsNoPolicy policy)
+          c.read_wall-wall.result c.replay_under-hall.result c.keep_ran-ending.result
+          c.read_wall-wall.ensures.policy c.read_wall-wall.ensures.ending
+          c.replay_under-hall.ensures c.keep_ran-ending.ensures,
       c.end.ensures.status,
       c.end.ensures.told,
     )
@@ -19,13 +27,19 @@ returns-in-Some g c =
 pub returns-in-None : goal.returns-in-None
 returns-in-None g c =
     let policy = used g.P.Source.failures g.P.Source.remaining c.args.policy.now
-    c.replay_devices-ending.new.policy in
-    let ending = c.replay_devices-ending.result in
+    c.read_wall-wall.new.source in
+    let script = used g.S.Source.failures g.S.Source.remaining c.args.script.now
+    c.replay_under-hall.new.script in
+    let out = used g.O.Sink.failures g.O.Sink.contents c.args.out.now
+    c.replay_under-hall.new.out in
     rw c.in-None.is (
-      ending,
-      both_cases (rw c.no_earlier-none.ensures at c.replay_devices-ending.ensures)
-          (λ h. (no_policy_alone _ _ policy ending h.0, h.1, h.2, h.3))
-          (λ h. (h.0, policy_alone _ _ policy h.0 h.1, h.2)),
+      c.let_go-ending.result,
+      replayed_under {B = Unit {0}} script out None (IsPolicyOf policy) (IsNoPolicy policy)
+          c.read_wall-wall.result c.replay_under-hall.result c.let_go-ending.result
+          c.read_wall-wall.ensures.policy c.read_wall-wall.ensures.ending
+          c.replay_under-hall.ensures
+          (unkept (Unit {0}) c.replay_under-hall.result c.let_go-ending.result
+          c.let_go-ending.ensures),
       c.end-in-None.ensures.status,
       c.end-in-None.ensures.told,
     )
