@@ -1,5 +1,5 @@
 -- How a check ends.
-use Rattle.std.specs.Prelude.{◌≡◌, ℕ, ◌<◌, ◌⊎◌, List, [], ◌++◌, length, codes, Ok, Err}
+use Rattle.std.specs.Prelude.{◌≡◌, ℕ, ◌<◌, ◌⊎◌, List, [], ◌++◌, length, Ok, Err}
 use Rattle.std.specs.Prelude.{Option, Some, None}
 use Rattle.wall_policy.specs.declared.fault.PolicyFault.{PolicyFault}
 use Rattle.wall_policy.specs.Policy.{ChineseWall}
@@ -46,7 +46,8 @@ TellsUnread path cause limit text ending = (text ≡ []) × IsUnread path cause 
 
 -- what a policy means, or memory ran out
 abbrev pub TellsMeaning : ChineseWall → (text : List ℕ) → Ending → Type 0
-TellsMeaning wall text ending = (IsMeaning wall text × (ending ≡ Done)) ⊎ TellsNone NoMemory text ending
+TellsMeaning wall text ending =
+    (IsMeaning wall text × (ending ≡ Done)) ⊎ TellsNone NoMemory text ending
 
 -- how it ends by the first line of a script that is no call
 abbrev pub script_ending : Option (ℕ × LineFault) → Ending
@@ -156,7 +157,7 @@ TellsLine path text found fault out ending =
     ⊎ (BrokeOff out (policy_line path found (named_at text found)) × (ending ≡ WriteFault))
     ⊎ ((ending ≡ NoMemory) × IsUntouched out)
 
--- the same of a fault that may stand on no line
+-- the line of a fault was told, or the fault stands on none, and nothing was written
 abbrev pub TellsPlace : {O : Type 0} → (path text : List ℕ) → PolicyFault → Option Found → Used O
     → Ending → Type 0
 TellsPlace path text fault None out ending = (ending ≡ BadPolicy fault) × IsUntouched out
@@ -175,8 +176,8 @@ TellsRefused path text fault out ending =
     ⊎ ((place_limit < length text) × (ending ≡ BadPolicy fault) × IsUntouched out)
     ⊎ ((ending ≡ NoMemory) × IsUntouched out)
 
--- The text is a policy, and script and book were checked under it; or it is none, and that was told;
--- or memory ran out.
+-- The text is a policy, and script and book were checked under it; or it is none, and that was
+-- told; or memory ran out.
 abbrev pub ChecksText : {S B O : Type 0} → (text policy_path path book_path : List ℕ) → IfAny S
     → IfAny B → Used O → Ending → Type 0
 ChecksText text policy_path path book_path script book out ending =

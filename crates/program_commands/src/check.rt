@@ -3,9 +3,10 @@ ghost use Rattle.std.specs.Prelude.{◌≡◌, ◌++◌, [], OnOk, OnErr, IfOk, 
 ghost use Rattle.hall_script.specs.Devices.{used, IsWritten, BrokeOff};
 ghost use Rattle.program_commands.specs.Endings.{EndsSo};
 ghost use Rattle.program_commands.specs.Checking.{first_ending, script_ending, TellsMeaning};
-ghost use Rattle.program_commands.specs.Checking.{TellsLines, TellsScript, TellsFound, found_ending};
+ghost use Rattle.program_commands.specs.Checking.{TellsLines, TellsScript, TellsFound};
+ghost use Rattle.program_commands.specs.Checking.{found_ending};
 ghost use Rattle.program_commands.specs.Checking.{TellsBook, TellsScriptIfAny, TellsBookIfAny};
-ghost use Rattle.program_commands.specs.Checking.{if_any, Checks, TellsLine};
+ghost use Rattle.program_commands.specs.Checking.{if_any, Checks, TellsPlace};
 ghost use Rattle.program_commands.specs.Checking.{TellsRefused, ChecksText, CheckEnds};
 ghost use Rattle.wall_policy.specs.Answer.{answer_to};
 ghost use Rattle.policy_places.specs.Named.{named_at};
@@ -18,7 +19,7 @@ use book_places::{Found, found_in, put_found};
 use check_text::{LineFault, ScriptFaults, put_policy_line, script_lines};
 use hall_script::{DeviceFault, SCRIPT_LIMIT, read_device};
 use meaning_text::meaning_text;
-use policy_places::{Found as FoundInPolicy, named_at, place_of};
+use policy_places::{Found as FoundInPolicy, Place, named_at, place_of};
 use program_files::Explains;
 use std::alloc::Global;
 use wall_labels::{Failed, NoMemory, Sink, Source, write_all};
@@ -88,7 +89,7 @@ fn tell_lines(alloc: Global, wall: &Policy, path: &str, script: &[u8]) -> Told<'
     }
 }
 
-// The same of a script that is still to be read.
+// What of a script is at fault, which is still to be read.
 fn tell_script<'a, S: Source + Explains>(
     alloc: Global,
     wall: &Policy,
@@ -140,7 +141,7 @@ fn tell_found(alloc: Global, wall: &Policy, path: &str, book: &[u8]) -> Told<'st
     }
 }
 
-// The same of a book that is still to be read.
+// What is found of a book, which is still to be read.
 fn tell_book<'a, B: Source + Explains>(
     alloc: Global,
     wall: &Policy,
@@ -217,25 +218,33 @@ fn write_three<O: Sink>(out: &mut O, a: &[u8], b: &[u8], c: &[u8]) -> Result<(),
     }
 }
 
-// Checks script and book under the policy, and writes all that there is to tell.
-fn check_under<'a, S: Source + Explains + Drop, B: Source + Explains + Drop, O: Sink>(
-    alloc: Global,
-    wall: &Policy,
+// The files of a check but the policy itself, each with its path; a script and a book, if there are
+// any.
+#[derive(Drop)]
+struct Files<'a, S, B> {
+    policy_path: &'a str,
     path: &'a str,
     script: Option<S>,
     book_path: &'a str,
     book: Option<B>,
+}
+
+// Checks script and book under the policy, and writes all that there is to tell.
+fn check_under<'a, S: Source + Explains + Drop, B: Source + Explains + Drop, O: Sink>(
+    alloc: Global,
+    wall: &Policy,
+    files: Files<'a, S, B>,
     out: &mut O,
 ) -> Ending<'a>
-    ensures { Checks wall.now path.now book_path.now
-        (if_any S.failures S.remaining S.cause script)
-        (if_any B.failures B.remaining B.cause book)
+    ensures { Checks wall.now files.entry.path.now files.entry.book_path.now
+        (if_any S.failures S.remaining S.cause files.entry.script)
+        (if_any B.failures B.remaining B.cause files.entry.book)
         (used O.failures O.contents out.old out.new)
         result }
 {
     let meaning = tell_meaning(alloc, wall);
-    let lines = tell_script_if_any(alloc, wall, path, script);
-    let found = tell_book_if_any(alloc, wall, book_path, book);
+    let lines = tell_script_if_any(alloc, wall, files.path, files.script);
+    let found = tell_book_if_any(alloc, wall, files.book_path, files.book);
     let behind = first_ending(lines.ending, found.ending);
     let ending = first_ending(meaning.ending, behind);
     let written = write_three(out, &meaning.text, &lines.text, &found.text);
@@ -248,41 +257,46 @@ fn check_under<'a, S: Source + Explains + Drop, B: Source + Explains + Drop, O: 
     }
 }
 
+// The bytes of a policy, and the path of its file.
+#[derive(Clone, Copy)]
+struct PolicyText<'t> {
+    path: &'t str,
+    text: &'t [u8],
+}
+
 // The line of the fault of a policy.
-fn line_of(
-    alloc: Global,
-    path: &str,
-    policy: &[u8],
-    found: FoundInPolicy,
-) -> Result<Vec<u8>, NoMemory>
-    ensures { IfOk result (λ text.
-        text.items ≡ policy_line path.now found (named_at policy.now found)) }
+fn line_of(alloc: Global, policy: &PolicyText, found: FoundInPolicy) -> Result<Vec<u8>, NoMemory>
+    ensures { let path = policy.now.path.now in
+        let text = policy.now.text.now in
+        IfOk result (λ line. line.items ≡ policy_line path found (named_at text found)) }
 {
-    let named = named_at(alloc, policy, found)?;
+    let named = named_at(alloc, policy.text, found)?;
     let mut text = Vec::new(alloc);
-    put_policy_line(&mut text, path, found, &named)?;
+    put_policy_line(&mut text, policy.path, found, &named)?;
     Ok(text)
 }
 
-// Tells the line on which the fault of a policy stands, and what is wrong there.
-fn tell_line<O: Sink>(
+// Tells the line on which the fault of a policy stands, if it stands on one, and what is wrong
+// there.
+fn tell_place<O: Sink>(
     alloc: Global,
-    path: &str,
-    policy: &[u8],
-    found: FoundInPolicy,
-    fault: PolicyFault,
+    policy: &PolicyText,
+    place: Place,
     out: &mut O,
 ) -> Ending<'static>
-    ensures { TellsLine path.now policy.now found fault
+    ensures { TellsPlace policy.now.path.now policy.now.text.now place.fault place.found
         (used O.failures O.contents out.old out.new)
         result }
 {
-    match line_of(alloc, path, policy, found) {
-        Ok(text) => match write_all(out, &text) {
-            Ok(()) => Ending::BadPolicy(fault),
-            Err(_) => Ending::WriteFault,
+    match place.found {
+        Some(found) => match line_of(alloc, policy, found) {
+            Ok(line) => match write_all(out, &line) {
+                Ok(()) => Ending::BadPolicy(place.fault),
+                Err(_) => Ending::WriteFault,
+            },
+            Err(_) => Ending::NoMemory,
         },
-        Err(_) => Ending::NoMemory,
+        None => Ending::BadPolicy(place.fault),
     }
 }
 
@@ -290,24 +304,20 @@ fn tell_line<O: Sink>(
 // of more than `PLACE_LIMIT` bytes it is not looked for.
 fn tell_refused<O: Sink>(
     alloc: Global,
-    path: &str,
-    policy: &[u8],
+    policy: &PolicyText,
     fault: PolicyFault,
     out: &mut O,
 ) -> Ending<'static>
-    requires { answer_to policy.now ≡ Err fault }
-    ensures { TellsRefused path.now policy.now fault
+    requires { answer_to policy.now.text.now ≡ Err fault }
+    ensures { TellsRefused policy.now.path.now policy.now.text.now fault
         (used O.failures O.contents out.old out.new)
         result }
 {
-    if policy.len() > PLACE_LIMIT {
+    if policy.text.len() > PLACE_LIMIT {
         return Ending::BadPolicy(fault);
     }
-    match place_of(alloc, policy) {
-        Ok(Some(place)) => match place.found {
-            Some(found) => tell_line(alloc, path, policy, found, place.fault, out),
-            None => Ending::BadPolicy(place.fault),
-        },
+    match place_of(alloc, policy.text) {
+        Ok(Some(place)) => tell_place(alloc, policy, place, out),
         Ok(None) => Ending::BadPolicy(fault),
         Err(_) => Ending::NoMemory,
     }
@@ -317,27 +327,25 @@ fn tell_refused<O: Sink>(
 fn check_policy<'a, S: Source + Explains + Drop, B: Source + Explains + Drop, O: Sink>(
     alloc: Global,
     text: &[u8],
-    policy_path: &str,
-    path: &'a str,
-    script: Option<S>,
-    book_path: &'a str,
-    book: Option<B>,
+    files: Files<'a, S, B>,
     out: &mut O,
 ) -> Ending<'a>
-    ensures { ChecksText text.now policy_path.now path.now book_path.now
-        (if_any S.failures S.remaining S.cause script)
-        (if_any B.failures B.remaining B.cause book)
+    ensures { ChecksText text.now files.entry.policy_path.now files.entry.path.now
+        files.entry.book_path.now
+        (if_any S.failures S.remaining S.cause files.entry.script)
+        (if_any B.failures B.remaining B.cause files.entry.book)
         (used O.failures O.contents out.old out.new)
         result }
 {
+    let path = files.policy_path;
     match read_policy(alloc, text) {
         Ok(wall) => {
-            let ending = check_under(alloc, &wall, path, script, book_path, book, out);
+            let ending = check_under(alloc, &wall, files, out);
             drop(wall);
             ending
         }
         Err(PolicyFault::NoMemory) => Ending::NoMemory,
-        Err(fault) => tell_refused(alloc, policy_path, text, fault, out),
+        Err(fault) => tell_refused(alloc, &PolicyText { path, text }, fault, out),
     }
 }
 
@@ -348,40 +356,23 @@ fn check_devices<
     S: Source + Explains + Drop,
     B: Source + Explains + Drop,
     O: Sink,
->(
-    alloc: Global,
-    policy: &mut P,
-    policy_path: &'a str,
-    path: &'a str,
-    script: Option<S>,
-    book_path: &'a str,
-    book: Option<B>,
-    out: &mut O,
-) -> Ending<'a>
-    ensures { CheckEnds policy_path.now path.now book_path.now
+>(alloc: Global, policy: &mut P, files: Files<'a, S, B>, out: &mut O) -> Ending<'a>
+    ensures { CheckEnds files.entry.policy_path.now files.entry.path.now files.entry.book_path.now
         (used P.failures P.remaining policy.old policy.new)
         (P.cause policy.new)
-        (if_any S.failures S.remaining S.cause script)
-        (if_any B.failures B.remaining B.cause book)
+        (if_any S.failures S.remaining S.cause files.entry.script)
+        (if_any B.failures B.remaining B.cause files.entry.book)
         (used O.failures O.contents out.old out.new)
         result }
 {
+    let path = files.policy_path;
     match read_device(alloc, policy, SCRIPT_LIMIT) {
         Ok(text) => {
-            let ending = check_policy(
-                alloc,
-                &text,
-                policy_path,
-                path,
-                script,
-                book_path,
-                book,
-                out,
-            );
+            let ending = check_policy(alloc, &text, files, out);
             drop(text);
             ending
         }
-        Err(DeviceFault::Read) => unread(policy_path, policy.cause(), SCRIPT_LIMIT),
+        Err(DeviceFault::Read) => unread(path, policy.cause(), SCRIPT_LIMIT),
         Err(DeviceFault::NoMemory) => Ending::NoMemory,
     }
 }
@@ -389,16 +380,16 @@ fn check_devices<
 /// Reads the policy, and where there are any a script and a book, and writes to `out` what the
 /// policy means and what in it is hardly meant, then a line `PATH:LINE:COLUMN: ..` for each line of
 /// the script that is no call, where `path` is its PATH, and then of the book `sound N`, or
-/// `PATH:LINE: ..`, where `book_path` is its PATH, and what is at fault there. It writes the line of
-/// the first fault to `err`, and gives the status: 0 exactly where all of it reads, the book is
+/// `PATH:LINE: ..`, where `book_path` is its PATH, and what is at fault there. It writes the line
+/// of the first fault to `err`, and gives the status: 0 exactly where all of it reads, the book is
 /// sound, and all was written.
 ///
 /// What is told of one file does not hang on the others. Where the policy is refused the others are
 /// not looked at, and `PATH:LINE: ..` is written to `out`, with `policy_path` as its PATH, the line
-/// on which its fault stands, if it stands on one, and what is wrong there. Of a policy of more than
-/// `PLACE_LIMIT` bytes no line is looked for. A file that was not read is told by its path and why:
-/// for the cause that its reader tells, or since it has more than `SCRIPT_LIMIT` or `BOOK_LIMIT`
-/// bytes.
+/// on which its fault stands, if it stands on one, and what is wrong there. Of a policy of more
+/// than `PLACE_LIMIT` bytes no line is looked for. A file that was not read is told by its path and
+/// why: for the cause that its reader tells, or since it has more than `SCRIPT_LIMIT` or
+/// `BOOK_LIMIT` bytes.
 pub fn check_on<
     P: Source + Explains,
     S: Source + Explains + Drop,
@@ -426,15 +417,13 @@ pub fn check_on<
         (used E.failures E.contents err.old err.new)
         result }
 {
-    let ending = check_devices(
-        alloc,
-        policy,
+    let files = Files {
         policy_path,
         path,
         script,
         book_path,
         book,
-        out,
-    );
+    };
+    let ending = check_devices(alloc, policy, files, out);
     end(err, ending)
 }

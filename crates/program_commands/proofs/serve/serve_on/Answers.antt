@@ -1,4 +1,4 @@
-use Rattle.std.proofs.Common.{arith, ◌≡◌, ◌≢◌, ℕ, length}
+use Rattle.std.proofs.Common.{arith, ◌≢◌, length}
 use Rattle.run_model.specs.Comms.{processes}
 use Rattle.program_commands.specs.declared.ending.Ending.TheVariants.{BadArguments}
 use Rattle.program_commands.proofs.ServeLemmas.{misfit}
