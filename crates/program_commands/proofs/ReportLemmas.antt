@@ -1,5 +1,7 @@
 -- Reports: faults that are told, and reports without a page.
 use Rattle.std.proofs.Common.{◌≡◌, inl, inr, ℕ, List, Option, Some, None, sym, ap, ◌∙◌, subst}
+use Rattle.std.proofs.Common.{Result, Ok, Err}
+use Rattle.std.specs.Prelude.{IfOk, IfErr}
 use Rattle.wall_policy.specs.Policy.{ChineseWall}
 use Rattle.run_model.specs.declared.entry.Entry.{Entry}
 use Rattle.audit_book.specs.declared.check_fault.BookFault.{BookFault}
@@ -8,10 +10,13 @@ use Rattle.audit_book.specs.Checks.{IsFaultOf}
 use Rattle.program_files.specs.declared.cause.Cause.{Cause}
 use Rattle.hall_script.specs.Devices.{Used}
 use Rattle.program_commands.specs.declared.ending.Ending.{Ending}
-use Rattle.program_commands.specs.Earlier.{EarlierBooks}
+use Rattle.program_commands.specs.declared.report.Reading.{Reading}
+use Rattle.program_commands.specs.Auditing.{IsBookOf}
+use Rattle.program_commands.specs.Earlier.{EarlierBooks, IsWallAfter}
 use Rattle.program_commands.specs.Unreading.{IsExplained}
 use Rattle.program_commands.specs.Replaying.{IsUnkept}
 use Rattle.program_commands.specs.Reporting.{ReportsEntries, ReportEnds, TellsFault}
+use Rattle.program_commands.specs.Reporting.{IsNoReading, ReportsIfRead}
 
 -- a fault of the check of a book is told, and no page is touched
 pub told_fault : {O W : Type 0} (wall : ChineseWall) (entries : List Entry) (fault : BookFault)
@@ -47,6 +52,22 @@ unpaged_entries wall entries out ending (inr other) = inr other
 module _ {P D B O : Type 0} (policy_path : List ℕ) (policy_cause : Option Cause) (policy : Used P)
     (causes : D → Option Cause) (earlier : EarlierBooks D) (path : List ℕ)
     (cause : Option Cause) (book : Used B) (out : Used O) (ending : Ending) where
+  -- what was read is reported on, or why nothing was read is told
+  pub reported : {W : Type 0} (file : Option (Used W)) (reading : Result Reading Ending) →
+      IfOk reading (λ r. IsWallAfter policy earlier r.wall) →
+      IfOk reading (λ r. IsBookOf r.wall book r.entries.list) →
+      IfErr reading
+      (IsNoReading policy_path policy_cause policy causes earlier path cause book) →
+      ReportsIfRead reading out file ending →
+      ReportEnds policy_path policy_cause policy causes earlier path cause book out file ending
+  reported file (Ok r) wall entries none so = inr (r.wall, wall, (r.entries.list, entries, so))
+  reported file (Err before) wall entries none so = inl (
+    subst (IsNoReading policy_path policy_cause policy causes earlier path cause book) (sym so.0)
+        none,
+    so.1,
+    so.2,
+  )
+
   pub unpaged : {A W : Type 0} →
       ReportEnds {W = A} policy_path policy_cause policy causes earlier path cause book out None
       ending →

@@ -1,5 +1,5 @@
 -- How a report on a book ends.
-use Rattle.std.specs.Prelude.{◌≡◌, ℕ, ◌⊎◌, List, Option, Some, None}
+use Rattle.std.specs.Prelude.{◌≡◌, ℕ, ◌⊎◌, List, Option, Some, None, Result, Ok, Err}
 use Rattle.wall_policy.specs.Policy.{ChineseWall}
 use Rattle.run_model.specs.declared.entry.Entry.{Entry}
 use Rattle.run_model.specs.Books.{IsSound, IsFirstBad}
@@ -12,6 +12,7 @@ use Rattle.program_files.specs.declared.cause.Cause.{Cause}
 use Rattle.hall_script.specs.Devices.{Used, IsUntouched, IsWritten, BrokeOff}
 use Rattle.hall_script.specs.Scripts.{script_limit}
 use Rattle.program_commands.specs.declared.audit.Finding.TheVariants as findings
+use Rattle.program_commands.specs.declared.report.Reading.{Reading}
 use Rattle.program_commands.specs.declared.ending.Ending.{Ending}
 use Rattle.program_commands.specs.declared.ending.Ending.TheVariants.{NoMemory, WriteFault}
 use Rattle.program_commands.specs.Endings.{WritesAll}
@@ -47,7 +48,8 @@ pub record IsReported {O W : Type 0} (wall : ChineseWall) (entries : List Entry)
   pub written : WritesReport wall entries text out file ending
 
 -- How a report on these entries ends: they are reported on; or they are unsound, and told as their
--- audit would tell it; or memory ran out, and nothing was written. There is no page but of a report.
+-- audit would tell it; or memory ran out, and nothing was written. There is no page but of a
+-- report.
 abbrev pub ReportsEntries : {O W : Type 0}
     → ChineseWall → List Entry → Used O → Option (Used W) → Ending → Type 0
 ReportsEntries wall entries out file ending =
@@ -103,3 +105,11 @@ ReportEnds policy_path policy_cause policy causes earlier path cause book out fi
 abbrev pub TellsFault : {O : Type 0} → BookFault → Used O → Ending → Type 0
 TellsFault (checks.BadEntry n) out ending = Announces (findings.Unsound n) out ending
 TellsFault checks.NoMemory out ending = (ending ≡ NoMemory) × IsUntouched out
+
+-- the book that was read was reported on; or none was read, nothing was written, and it ended so
+abbrev pub ReportsIfRead : {O W : Type 0}
+    → Result Reading Ending → Used O → Option (Used W) → Ending → Type 0
+ReportsIfRead (Ok reading) out file ending =
+    ReportsEntries reading.wall reading.entries.list out file ending
+ReportsIfRead (Err before) out file ending =
+    (ending ≡ before) × IsUntouched out × IsUnkept file

@@ -7,7 +7,7 @@ ghost use Rattle.program_commands.specs.Earlier.{earlier_books, IsWallAfter};
 ghost use Rattle.program_commands.specs.Replaying.{perhaps, no_book};
 ghost use Rattle.program_commands.specs.Reporting.{ReportsEntries, ReportEnds, WritesBoth};
 ghost use Rattle.program_commands.specs.Reporting.{IsNoWallTold, IsNoBookTold, IsNoReading};
-ghost use Rattle.program_commands.specs.Reporting.{TellsFault};
+ghost use Rattle.program_commands.specs.Reporting.{TellsFault, ReportsIfRead};
 
 use crate::audit::{BOOK_LIMIT, Finding, read_entries, tell};
 use crate::earlier::{Earlier, read_links};
@@ -34,19 +34,21 @@ fn tell_fault<O: Sink>(out: &mut O, fault: BookFault) -> Ending<'static>
     }
 }
 
+// What a report reads: the policy after the earlier books, and its book.
+#[derive(Drop)]
+struct Reading {
+    wall: Policy,
+    entries: Book,
+}
+
 // Checks a book, and writes its report; or tells that it is unsound, as an audit would.
-fn report_entries<O: Sink>(
-    alloc: Global,
-    wall: &Policy,
-    book: &Book,
-    out: &mut O,
-) -> Ending<'static>
-    ensures { ReportsEntries wall.now book.now.list
+fn report_entries<O: Sink>(alloc: Global, reading: &Reading, out: &mut O) -> Ending<'static>
+    ensures { ReportsEntries reading.now.wall reading.now.entries.list
         (used O.failures O.contents out.old out.new)
         no_book
         result }
 {
-    match report_text(alloc, wall, book) {
+    match report_text(alloc, &reading.wall, &reading.entries) {
         Ok(text) => {
             let ending = write_text(out, &text);
             drop(text);
@@ -74,24 +76,23 @@ fn write_both<O: Sink, W: Sink>(
     }
 }
 
-// The same as `report_entries`, with a page behind the report.
+// Does what `report_entries` does, with a page behind the report.
 fn page_entries<O: Sink, W: Sink>(
     alloc: Global,
-    wall: &Policy,
-    book: &Book,
+    reading: &Reading,
     out: &mut O,
     file: &mut W,
 ) -> Ending<'static>
-    ensures { ReportsEntries wall.now book.now.list
+    ensures { ReportsEntries reading.now.wall reading.now.entries.list
         (used O.failures O.contents out.old out.new)
         (Some (used W.failures W.contents file.old file.new))
         result }
 {
-    let text = match report_text(alloc, wall, book) {
+    let text = match report_text(alloc, &reading.wall, &reading.entries) {
         Ok(text) => text,
         Err(fault) => return tell_fault(out, fault),
     };
-    let page = match report_page(alloc, wall, book) {
+    let page = match report_page(alloc, &reading.wall, &reading.entries) {
         Ok(page) => page,
         Err(fault) => {
             drop(text);
@@ -104,23 +105,34 @@ fn page_entries<O: Sink, W: Sink>(
     ending
 }
 
+// A reader, and the path by which people are told of its file.
+#[derive(Drop)]
+struct Named<'a, 'd, D> {
+    device: &'d mut D,
+    path: &'a str,
+}
+
 // Reads and judges the policy and the earlier books; or how that ends, as people are told.
-fn wall_told<'a, P: Source + Explains, D: Source + Explains + Drop>(
+fn wall_told<'a, 'd, P: Source + Explains, D: Source + Explains + Drop>(
     alloc: Global,
-    policy: &mut P,
-    policy_path: &'a str,
+    policy: Named<'a, 'd, P>,
     earlier: Vec<Earlier<'a, D>>,
 ) -> Result<Policy, Ending<'a>>
-    ensures policy { let device = used P.failures P.remaining policy.old policy.new in
+    ensures policy { let device =
+        used P.failures P.remaining policy.entry.device.now policy.exit.0.now in
         let books = earlier_books D.failures D.remaining earlier.entry.items in
         IfOk result (IsWallAfter device books) }
-    ensures ending { let device = used P.failures P.remaining policy.old policy.new in
+    ensures ending { let device =
+        used P.failures P.remaining policy.entry.device.now policy.exit.0.now in
         let books = earlier_books D.failures D.remaining earlier.entry.items in
-        IfErr result (IsNoWallTold policy_path.now (P.cause policy.new) device D.cause books) }
+        IfErr result
+        (IsNoWallTold policy.entry.path.now (P.cause policy.exit.0.now) device D.cause books) }
 {
-    let first = match read_wall(alloc, policy) {
+    let first = match read_wall(alloc, policy.device) {
         Ok(first) => first,
-        Err(ending) => return Err(explained(ending, policy_path, policy.cause(), SCRIPT_LIMIT)),
+        Err(ending) => {
+            return Err(explained(ending, policy.path, policy.device.cause(), SCRIPT_LIMIT));
+        }
     };
     let wall = match read_links(alloc, first, earlier) {
         Ok(wall) => wall,
@@ -136,131 +148,96 @@ fn wall_told<'a, P: Source + Explains, D: Source + Explains + Drop>(
 }
 
 // Reads a book; or how that ends, as people are told.
-fn book_told<'a, B: Source + Explains>(
+fn book_told<'a, 'd, B: Source + Explains>(
     alloc: Global,
     wall: &Policy,
-    book: &mut B,
-    path: &'a str,
+    book: Named<'a, 'd, B>,
 ) -> Result<Book, Ending<'a>>
-    ensures book { let device = used B.failures B.remaining book.old book.new in
+    ensures book { let device =
+        used B.failures B.remaining book.entry.device.now book.exit.0.now in
         IfOk result (λ entries. IsBookOf wall.now device entries.list) }
-    ensures ending { let device = used B.failures B.remaining book.old book.new in
-        IfErr result (IsNoBookTold wall.now path.now (B.cause book.new) device) }
+    ensures ending { let device =
+        used B.failures B.remaining book.entry.device.now book.exit.0.now in
+        IfErr result (IsNoBookTold wall.now book.entry.path.now (B.cause book.exit.0.now) device) }
 {
-    match read_entries(alloc, wall, book) {
+    match read_entries(alloc, wall, book.device) {
         Ok(entries) => Ok(entries),
-        Err(ending) => Err(explained(ending, path, book.cause(), BOOK_LIMIT)),
+        Err(ending) => Err(explained(ending, book.path, book.device.cause(), BOOK_LIMIT)),
     }
 }
 
-// What a report reads: the policy after the earlier books, and its book.
-#[derive(Drop)]
-struct Reading {
-    wall: Policy,
-    entries: Book,
-}
-
 // Reads and judges all but the book itself, which is read.
-fn read_all<'a, P: Source + Explains, D: Source + Explains + Drop, B: Source + Explains>(
+fn read_all<'a, 'd, P: Source + Explains, D: Source + Explains + Drop, B: Source + Explains>(
     alloc: Global,
-    policy: &mut P,
-    policy_path: &'a str,
+    policy: Named<'a, 'd, P>,
     earlier: Vec<Earlier<'a, D>>,
-    book: &mut B,
-    path: &'a str,
+    book: Named<'a, 'd, B>,
 ) -> Result<Reading, Ending<'a>>
-    ensures wall { let device = used P.failures P.remaining policy.old policy.new in
+    ensures wall { let device =
+        used P.failures P.remaining policy.entry.device.now policy.exit.0.now in
         let books = earlier_books D.failures D.remaining earlier.entry.items in
         IfOk result (λ reading. IsWallAfter device books reading.wall) }
-    ensures book { let device = used B.failures B.remaining book.old book.new in
+    ensures book { let device =
+        used B.failures B.remaining book.entry.device.now book.exit.0.now in
         IfOk result (λ reading. IsBookOf reading.wall device reading.entries.list) }
     ensures ending { IfErr result (IsNoReading
-        policy_path.now (P.cause policy.new)
-        (used P.failures P.remaining policy.old policy.new)
+        policy.entry.path.now (P.cause policy.exit.0.now)
+        (used P.failures P.remaining policy.entry.device.now policy.exit.0.now)
         D.cause (earlier_books D.failures D.remaining earlier.entry.items)
-        path.now (B.cause book.new)
-        (used B.failures B.remaining book.old book.new)) }
+        book.entry.path.now (B.cause book.exit.0.now)
+        (used B.failures B.remaining book.entry.device.now book.exit.0.now)) }
 {
-    let wall = match wall_told(alloc, policy, policy_path, earlier) {
+    let wall = match wall_told(alloc, policy, earlier) {
         Ok(wall) => wall,
         Err(ending) => return Err(ending),
     };
-    match book_told(alloc, &wall, book, path) {
+    match book_told(alloc, &wall, book) {
         Ok(entries) => Ok(Reading { wall, entries }),
         Err(ending) => Err(ending),
     }
 }
 
-// Reads policy, earlier books and book, and reports on the book.
-fn report_devices<
-    'a,
-    P: Source + Explains,
-    D: Source + Explains + Drop,
-    B: Source + Explains,
-    O: Sink,
->(
+// Reports on the book, if it was read.
+fn report_read<'a, O: Sink>(
     alloc: Global,
-    policy: &mut P,
-    policy_path: &'a str,
-    earlier: Vec<Earlier<'a, D>>,
-    book: &mut B,
-    path: &'a str,
+    reading: Result<Reading, Ending<'a>>,
     out: &mut O,
 ) -> Ending<'a>
-    ensures { ReportEnds
-        policy_path.now (P.cause policy.new)
-        (used P.failures P.remaining policy.old policy.new)
-        D.cause (earlier_books D.failures D.remaining earlier.entry.items)
-        path.now (B.cause book.new)
-        (used B.failures B.remaining book.old book.new)
+    ensures { ReportsIfRead reading.entry
         (used O.failures O.contents out.old out.new)
         no_book
         result }
 {
-    let reading = match read_all(alloc, policy, policy_path, earlier, book, path) {
-        Ok(reading) => reading,
-        Err(ending) => return ending,
-    };
-    let ending = report_entries(alloc, &reading.wall, &reading.entries, out);
-    drop(reading);
-    ending
+    match reading {
+        Ok(reading) => {
+            let ending = report_entries(alloc, &reading, out);
+            drop(reading);
+            ending
+        }
+        Err(ending) => ending,
+    }
 }
 
-// The same with a page behind the report.
-fn page_devices<
-    'a,
-    P: Source + Explains,
-    D: Source + Explains + Drop,
-    B: Source + Explains,
-    O: Sink,
-    W: Sink,
->(
+// Does what `report_read` does, with a page behind the report.
+fn page_read<'a, O: Sink, W: Sink>(
     alloc: Global,
-    policy: &mut P,
-    policy_path: &'a str,
-    earlier: Vec<Earlier<'a, D>>,
-    book: &mut B,
-    path: &'a str,
+    reading: Result<Reading, Ending<'a>>,
     out: &mut O,
     file: &mut W,
 ) -> Ending<'a>
-    ensures { ReportEnds
-        policy_path.now (P.cause policy.new)
-        (used P.failures P.remaining policy.old policy.new)
-        D.cause (earlier_books D.failures D.remaining earlier.entry.items)
-        path.now (B.cause book.new)
-        (used B.failures B.remaining book.old book.new)
+    ensures { ReportsIfRead reading.entry
         (used O.failures O.contents out.old out.new)
         (Some (used W.failures W.contents file.old file.new))
         result }
 {
-    let reading = match read_all(alloc, policy, policy_path, earlier, book, path) {
-        Ok(reading) => reading,
-        Err(ending) => return ending,
-    };
-    let ending = page_entries(alloc, &reading.wall, &reading.entries, out, file);
-    drop(reading);
-    ending
+    match reading {
+        Ok(reading) => {
+            let ending = page_entries(alloc, &reading, out, file);
+            drop(reading);
+            ending
+        }
+        Err(ending) => ending,
+    }
 }
 
 /// Reads the policy, the earlier books and a book, checks the book as `audit_after` does, and
@@ -303,13 +280,18 @@ pub fn report_on<
         (used E.failures E.contents err.old err.new)
         result }
 {
+    let policy = Named {
+        device: policy,
+        path: policy_path,
+    };
+    let reading = read_all(alloc, policy, earlier, Named { device: book, path });
     match file {
         Some(file) => {
-            let ending = page_devices(alloc, policy, policy_path, earlier, book, path, out, file);
+            let ending = page_read(alloc, reading, out, file);
             end(err, ending)
         }
         None => {
-            let ending = report_devices(alloc, policy, policy_path, earlier, book, path, out);
+            let ending = report_read(alloc, reading, out);
             end(err, ending)
         }
     }

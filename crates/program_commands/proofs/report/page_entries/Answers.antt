@@ -5,7 +5,7 @@ use Rattle.program_commands.proofs.report.page_entries.Goals as goal
 
 pub returns-in-Err-report_page : goal.returns-in-Err-report_page
 returns-in-Err-report_page g c =
-    told_fault c.args.wall.now c.args.book.now.list c.in-Err-report_page.fault
+    told_fault c.args.reading.now.wall c.args.reading.now.entries.list c.in-Err-report_page.fault
     (used g.O.Sink.failures g.O.Sink.contents c.args.out.now
     c.tell_fault-in-Err-report_page.new.out)
     (Some (used g.W.Sink.failures g.W.Sink.contents c.args.file.now c.args.file.now))
