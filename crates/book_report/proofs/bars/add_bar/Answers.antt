@@ -38,7 +38,8 @@ returns-in_default-held_other c =
     let same = state_has wall entries n c.args.post_state.now c.histories.result.now
     c.histories.ensures.posts c.requires.come.stands in
     absurd (false≢true (sym (permitted_passed wall entries n x counts c.in-Some.label c.in-Some.is
-    (subst (λ h. PassesStar (h x.process) c.in-Some.label) same c.in_default-held_other.ensures.none))
+    (subst (λ h. PassesStar (h x.process) c.in-Some.label) same
+    c.in_default-held_other.ensures.none))
     ∙ c.if-not-posting.false))
 
 pub returns : goal.returns
