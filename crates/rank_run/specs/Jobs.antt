@@ -1,7 +1,7 @@
 -- What the thread of a process is given, and what it comes to. (Own rules.)
 use Rattle.std.specs.Prelude.{◌≡◌, ℕ, ◌*◌, ◌^◌, ◌<◌, ◌≤◌}
-use Rattle.std.specs.Prelude.{Result, Ok, Err, Option, Some, None, List, [], ◌++◌, length, map, reverse}
-use Rattle.std.specs.Prelude.{vec_capacity}
+use Rattle.std.specs.Prelude.{Result, Ok, Err, Option, Some, None, List, [], ◌++◌, length, map}
+use Rattle.std.specs.Prelude.{reverse, vec_capacity}
 use Rattle.std.specs.List.{All, AllZip, fold}
 use Rattle.std.specs.Global.{Vec}
 use Rattle.run_model.specs.declared.call.Act.{Act}
@@ -170,10 +170,3 @@ pub record HaveEnded (patience : ℕ) (jobs : List Job) (ended : Ended) : Type 0
   pub passes : ended.passes.items ≡ passes_in all
   pub replies : ended.replies.items ≡ replies_in all
   pub ending : ended.ending ≡ ending_of all
-
--- The door of a run under the policy, and what became of these scripts there.
-pub record HavePlayed (patience : ℕ) (wall : ChineseWall) (scripts : List (List Act))
-    (door : Doorway) (ended : Ended) : Type 0 where
-  pub jobs : List Job
-  pub prepared : ArePrepared wall scripts door jobs
-  pub have_ended : HaveEnded patience jobs ended

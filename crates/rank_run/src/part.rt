@@ -1,32 +1,37 @@
 //! The part of a rank in a run: what its thread does round its calls. Nothing is proved of it but
-//! which deliveries are large.
-ghost use Rattle.std.specs.Prelude.{◌↔◌, ◌≤◌, IsTrue};
+//! which deliveries are large, and that it stays at its door.
+ghost use Rattle.std.specs.Prelude.{◌≡◌, ◌↔◌, ◌≤◌, IsTrue, IfOk};
 ghost use Rattle.rank_run.specs.Large.{IsLarge, all_given};
 
 use crate::gate::Gate;
-use crate::requests::Requests;
+use crate::requests::{Requests, comm_of};
 use crate::waiting::Pause;
-use hall_core::{Claim, Reply};
+use hall_core::{Act, Claim, Reply};
+use hall_turn::Door;
 use mpi_elems::Buffer;
 use rank_stage::{Aside, Role, SentHome, Stage};
 use std::sync::Wait;
 
-/// What the ranks of a run share, beside the door.
+/// What the ranks of a run share.
 #[derive(Clone, Copy)]
 pub(crate) struct Setting<'r, G> {
+    pub(crate) door: &'r Door,
     pub(crate) gate: &'r G,
     pub(crate) stage: &'r Stage,
 }
 
-/// A rank that has begun: the gate under the number of its call, and its place on the stage. It
-/// has no `Drop`: it ends by [`Part::end`].
+/// A rank that has begun: its door, the gate under the number of its call, and its place on the
+/// stage. It has no `Drop`: it ends by [`Part::end`].
 pub(crate) struct Part<'r, G> {
+    pub(crate) door: &'r Door,
     gate: &'r G,
     stage: &'r Stage,
     role: Role,
     process: u32,
-    /// The number of its call, in its script.
-    pub(crate) number: u64,
+    // The number of its call, in its script.
+    number: u64,
+    // The communicator of its call, if that is a post.
+    comm: Option<u32>,
     requests: Requests,
 }
 
@@ -60,21 +65,25 @@ impl<'r, G: Gate> Part<'r, G> {
     /// It begins, as soon as it may, or is sent home: then it makes no call.
     pub(crate) fn begin<R: Wait>(
         rt: &R,
-        gate: &'r G,
-        stage: &'r Stage,
+        setting: &Setting<'r, G>,
         process: u32,
         requests: Requests,
-    ) -> Result<Part<'r, G>, SentHome> {
+    ) -> Result<Part<'r, G>, SentHome>
+        ensures { IfOk result (λ part. part.door.now ≡ setting.now.door.now) }
+    {
+        let Setting { door, gate, stage } = *setting;
         let role = match stage.begin(rt, process as usize) {
             Ok(role) => role,
             Err(home) => return Err(home),
         };
         Ok(Part {
+            door,
             gate,
             stage,
             role,
             process,
             number: 0,
+            comm: None,
             requests,
         })
     }
@@ -82,32 +91,34 @@ impl<'r, G: Gate> Part<'r, G> {
     /// It has ended.
     pub(crate) fn end<R: Wait>(self, rt: &R) {
         let Part {
+            door: _,
             gate: _,
             stage,
             role,
             process: _,
             number: _,
+            comm: _,
             requests,
         } = self;
         drop(requests);
         stage.end(rt, role);
     }
 
-    /// Before its call.
-    pub(crate) fn before<R: Wait>(&self, rt: &R) {
-        self.gate.before_call(rt, self.process, self.number);
+    /// Before its call of this number.
+    pub(crate) fn before<R: Wait>(&mut self, rt: &R, number: u64, act: &Act)
+        ensures { self.new.door.now ≡ self.old.door.now }
+    {
+        self.number = number;
+        self.comm = comm_of(act);
+        self.gate.before_call(rt, self.process, number);
     }
 
-    /// After its call, of a post on this communicator or of no post, and whether it settled the
-    /// instance. Those who wait for that are called before the gate can hold the rank.
-    pub(crate) fn after<R: Wait>(
-        &mut self,
-        rt: &R,
-        comm: Option<u32>,
-        reply: &Reply,
-        settled: bool,
-    ) {
-        if let Some(comm) = comm {
+    /// After its call, and whether that settled an instance. Those who wait for it are called
+    /// before the gate can hold the rank.
+    pub(crate) fn after<R: Wait>(&mut self, rt: &R, reply: &Reply, settled: bool)
+        ensures { self.new.door.now ≡ self.old.door.now }
+    {
+        if let Some(comm) = self.comm {
             self.requests.heed(comm, reply);
             if settled {
                 self.stage.settle(rt, comm);

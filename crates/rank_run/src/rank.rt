@@ -8,12 +8,12 @@ ghost use Rattle.rank_run.specs.Jobs.{joined, fault_of};
 
 use crate::fault::RunFault;
 use crate::gate::Gate;
-use crate::part::Part;
-use crate::requests::{Requests, comm_of};
-use crate::waiting::{PATIENCE, wait_with};
+use crate::part::{Part, Setting};
+use crate::requests::Requests;
+use crate::waiting::{PATIENCE, Waiting};
 use hall_core::{Act, Reply};
-use hall_turn::{Answer, Door, Pass};
-use rank_stage::{SentHome, Stage};
+use hall_turn::{Answer, Pass};
+use rank_stage::SentHome;
 use std::snapshot::Snapshot;
 use std::sync::Wait;
 use std::thread::{Promise, PromisedHandle, Threads};
@@ -106,59 +106,33 @@ impl Promise<Played> for Playing {
 }
 
 // One act of a script.
-fn perform<R: Wait, G: Gate>(
-    rt: &R,
-    door: &Door,
-    pass: &mut Pass,
-    act: Act,
-    part: &Part<G>,
-) -> Answer
-    requires door { pass.old.door ≡ door.now }
-    requires label { HasKnownLabel door.now.policy act }
+fn perform<R: Wait, G: Gate>(rt: &R, part: &Part<G>, pass: &mut Pass, act: Act) -> Answer
+    requires door { pass.old.door ≡ part.now.door.now }
+    requires label { HasKnownLabel part.now.door.now.policy act }
     ensures same { IsSamePass pass.old pass.new }
     ensures performed { Performed PATIENCE pass.old act result pass.new }
-    ensures named { NamesKnown door.now.policy result }
+    ensures named { NamesKnown part.now.door.now.policy result }
 {
+    let door = part.door;
     match act {
         Act::Post(posting) => door.post(rt, pass, posting),
-        Act::Take(request) => wait_with(rt, door, pass, request, PATIENCE, part),
+        Act::Take(request) => {
+            let waiting = Waiting {
+                door,
+                request,
+                patience: PATIENCE,
+                pause: part,
+            };
+            waiting.wait(rt, pass)
+        }
         Act::Info(comm) => door.info(rt, pass, comm),
     }
 }
 
-// One act of a script, with the gate round it.
-fn play_act<R: Wait, G: Gate>(
-    rt: &R,
-    door: &Door,
-    pass: &mut Pass,
-    act: Act,
-    part: &mut Part<G>,
-) -> Answer
-    requires door { pass.old.door ≡ door.now }
-    requires label { HasKnownLabel door.now.policy act }
-    ensures same { IsSamePass pass.old pass.new }
-    ensures performed { Performed PATIENCE pass.old act result pass.new }
-    ensures named { NamesKnown door.now.policy result }
-{
-    let comm = comm_of(&act);
-    part.before(rt);
-    let answer = perform(rt, door, pass, act, part);
-    if let Answer::Reply(reply) = &answer {
-        part.after(rt, comm, reply, pass.settled());
-    }
-    answer
-}
-
 // A script from its first act to its last, or as far as the door lets it; or nothing of it, where
 // the run is given up. Takes no memory.
-pub(crate) fn play<R: Wait, G: Gate>(
-    rt: &R,
-    door: &Door,
-    job: Job,
-    gate: &G,
-    stage: &Stage,
-) -> Played
-    requires { IsFresh door.now job }
+pub(crate) fn play<R: Wait, G: Gate>(rt: &R, setting: &Setting<G>, job: Job) -> Played
+    requires { IsFresh setting.now.door.now job }
     ensures { HasPlayed PATIENCE job result }
 {
     let Job {
@@ -167,7 +141,7 @@ pub(crate) fn play<R: Wait, G: Gate>(
         mut replies,
         requests,
     } = job;
-    let mut part = match Part::begin(rt, gate, stage, pass.process(), requests) {
+    let mut part = match Part::begin(rt, setting, pass.process(), requests) {
         Ok(part) => part,
         Err(home) => {
             let ending = Ending::NotBegun(home);
@@ -179,8 +153,8 @@ pub(crate) fn play<R: Wait, G: Gate>(
         }
     };
     for act in script {
-        part.number = replies.len() as u64;
-        let Answer::Reply(reply) = play_act(rt, door, &mut pass, act, &mut part) else {
+        part.before(rt, replies.len() as u64, &act);
+        let Answer::Reply(reply) = perform(rt, &part, &mut pass, act) else {
             part.end(rt);
             let ending = Ending::Cut;
             return Played {
@@ -189,6 +163,7 @@ pub(crate) fn play<R: Wait, G: Gate>(
                 ending,
             };
         };
+        part.after(rt, &reply, pass.settled());
         replies.push_reserved(reply);
     }
     part.end(rt);

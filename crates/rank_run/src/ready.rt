@@ -18,20 +18,20 @@ use wall_policy::Policy;
 #[derive(Drop)]
 pub(crate) struct MemoryRefused(());
 
-/// The stage of a run, and room for what its threads give back.
+/// Room for what the threads of a run give back.
 #[derive(Drop)]
 pub(crate) struct Room {
-    pub(crate) stage: Stage,
     pub(crate) passes: Passes,
     pub(crate) replies: Vec<Vec<Reply>>,
     pub(crate) ended: Vec<Played>,
     pub(crate) sent: Vec<Sent>,
 }
 
-/// A door, a job for each process there, and room for all of them.
+/// A door, a stage, a job for each process there, and room for all of them.
 #[derive(Drop)]
 pub(crate) struct Ready {
     pub(crate) door: Door,
+    pub(crate) stage: Stage,
     pub(crate) jobs: Vec<Job>,
     pub(crate) room: Room,
 }
@@ -112,9 +112,9 @@ fn deal(passes: Passes, shares: Vec<Share>, mut jobs: Vec<Job>) -> Vec<Job>
     jobs
 }
 
-// Room for so many jobs. Where the gate may hold a rank all play, and nobody sleeps.
-fn make_room(alloc: Global, count: usize, holds: bool) -> Result<Room, AllocError>
-    ensures { IfOk result (HasRoomFor count) }
+// A stage and room for so many jobs. Where the gate may hold a rank all play, and nobody sleeps.
+fn make_room(alloc: Global, count: usize, holds: bool) -> Result<(Stage, Room), AllocError>
+    ensures { IfOk result (λ made. HasRoomFor count made.1) }
 {
     let passes = Vec::with_capacity(alloc, count)?;
     let replies = Vec::with_capacity(alloc, count)?;
@@ -122,17 +122,17 @@ fn make_room(alloc: Global, count: usize, holds: bool) -> Result<Room, AllocErro
     let sent = Vec::with_capacity(alloc, count)?;
     let communicators = COMMUNICATOR_LIMIT as usize;
     let stage = Stage::new(alloc, count, communicators, holds)?;
-    Ok(Room {
-        stage,
+    let room = Room {
         passes,
         replies,
         ended,
         sent,
-    })
+    };
+    Ok((stage, room))
 }
 
-/// A door, a job for each process there, and room for all of them; under a gate that may hold a
-/// rank, or not. The door is the last to be opened: where memory is refused there is none.
+/// A door, a stage, a job for each process there, and room for all of them; under a gate that may
+/// hold a rank, or not. The door is the last to be opened: where memory is refused there is none.
 pub(crate) fn prepare(
     alloc: Global,
     policy: Policy,
@@ -149,17 +149,23 @@ pub(crate) fn prepare(
         drop(policy);
         return Err(MemoryRefused(()));
     };
-    let Ok(room) = make_room(alloc, shares.all.len(), holds) else {
+    let Ok((stage, room)) = make_room(alloc, shares.all.len(), holds) else {
         drop(shares);
         drop(policy);
         return Err(MemoryRefused(()));
     };
     let Ok((door, passes)) = Door::open(alloc, policy) else {
         drop(room);
+        drop(stage);
         drop(shares);
         return Err(MemoryRefused(()));
     };
     let Shares { all, jobs } = shares;
     let jobs = deal(passes, all, jobs);
-    Ok(Ready { door, jobs, room })
+    Ok(Ready {
+        door,
+        stage,
+        jobs,
+        room,
+    })
 }

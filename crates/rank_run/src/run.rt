@@ -7,7 +7,7 @@ ghost use Rattle.rank_run.specs.declared.fault.RunFault.TheVariants.{BadScripts,
 ghost use Rattle.rank_run.specs.declared.waiting.TheConstants.{PATIENCE};
 ghost use Rattle.rank_run.specs.Jobs.{IsFresh, HasPlayed, AllCameBack, AllPlayed, HaveEnded};
 ghost use Rattle.rank_run.specs.Jobs.{passes_in, replies_in, ending_of, fault_in};
-ghost use Rattle.rank_run.specs.Jobs.{HasRoomFor, HavePlayed};
+ghost use Rattle.rank_run.specs.Jobs.{HasRoomFor};
 ghost use Rattle.hall_core.specs.Halls.{HallValue};
 ghost use Rattle.hall_turn.specs.Ending.{Closed};
 ghost use Rattle.rank_run.specs.declared.rank.Ending.TheVariants.{Whole};
@@ -19,7 +19,7 @@ use crate::fault::RunFault;
 use crate::gate::Gate;
 use crate::part::Setting;
 use crate::rank::{Ending, Job, Played, Playing, Sent, play};
-use crate::ready::{MemoryRefused, Ready, Room, prepare};
+use crate::ready::{Ready, Room, prepare};
 use crate::replies::RunReplies;
 use hall_core::{Hall, Reply};
 use hall_turn::{Door, Passes};
@@ -48,7 +48,7 @@ struct Back {
     played: Vec<Played>,
 }
 
-// The same, sorted.
+// What all ranks were told, and what they gave back, sorted.
 #[derive(Drop)]
 struct Ended {
     told: Result<Begun, GivenUp>,
@@ -130,18 +130,17 @@ fn begin<R: Wait>(rt: &R, stage: &Stage, given_up: Option<GivenUp>) -> Result<Be
 // joined, when it returns.
 fn run_each<R: Threads + Wait + Sync, G: Gate + Sync>(
     rt: &R,
-    door: &Door,
-    jobs: Vec<Job>,
     setting: &Setting<G>,
+    jobs: Vec<Job>,
     mut sent: Vec<Sent>,
     ended: Vec<Played>,
 ) -> Back
-    requires fresh { All (IsFresh door.now) jobs.items }
+    requires fresh { All (IsFresh setting.now.door.now) jobs.items }
     requires sent { (sent.items ≡ []) × (vec_len jobs ≤ vec_capacity sent) }
     requires ended { (ended.items ≡ []) × (vec_len jobs ≤ vec_capacity ended) }
     ensures { AllPlayed PATIENCE jobs.items result.played.items }
 {
-    let Setting { gate, stage } = *setting;
+    let Setting { door, gate, stage } = *setting;
     thread::scope(
         thread::scope_env(),
         rt,
@@ -154,7 +153,8 @@ fn run_each<R: Threads + Wait + Sync, G: Gate + Sync>(
             let mut given_up = None;
             for job in jobs {
                 if given_up.is_some() {
-                    sent.push_reserved(Sent::Home(play(rt, door, job, gate, stage)));
+                    let setting = Setting { door, gate, stage };
+                    sent.push_reserved(Sent::Home(play(rt, &setting, job)));
                 } else {
                     let promise = Playing(Snapshot::of(&job));
                     match scope.spawn_with(
@@ -162,7 +162,7 @@ fn run_each<R: Threads + Wait + Sync, G: Gate + Sync>(
                         move || -> Played
                             requires { IsFresh door.now job }
                             ensures { HasPlayed PATIENCE job result }
-                        { play(rt, door, job, gate, stage) },
+                        { play(rt, &Setting { door, gate, stage }, job) },
                     ) {
                         Ok(handle) => sent.push_reserved(Sent::Away(handle)),
                         Err(refused) => {
@@ -183,27 +183,21 @@ fn run_each<R: Threads + Wait + Sync, G: Gate + Sync>(
 // All jobs, each in a thread of its own, in the room that was made for them. It takes no memory.
 fn run_jobs<R: Threads + Wait + Sync, G: Gate + Sync>(
     rt: &R,
-    door: &Door,
+    setting: &Setting<G>,
     jobs: Vec<Job>,
-    gate: &G,
     room: Room,
 ) -> Ended
-    requires fresh { All (IsFresh door.now) jobs.items }
+    requires fresh { All (IsFresh setting.now.door.now) jobs.items }
     requires room { HasRoomFor (vec_len jobs) room }
     ensures { HaveEnded PATIENCE jobs.items result }
 {
     let Room {
-        stage,
         passes,
         replies,
         ended,
         sent,
     } = room;
-    let setting = Setting {
-        gate,
-        stage: &stage,
-    };
-    let back = run_each(rt, door, jobs, &setting, sent, ended);
+    let back = run_each(rt, setting, jobs, sent, ended);
     sort_out(back, passes, replies)
 }
 
@@ -217,7 +211,8 @@ fn fault_in(told: &Result<Begun, GivenUp>, ending: &Ending) -> Option<RunFault>
     }
 }
 
-// Closes the door. What the ranks were told, and how the scripts ended, says what comes of them.
+// Closes the door, as is done with each that was opened. What the ranks were told, and how the
+// scripts ended, says what comes of them.
 fn close_up(door: Door, ended: Ended) -> Result<Run, RunFault>
     requires of { All (λ pass. pass.door ≡ door) ended.passes.items }
     requires all { processes door.policy ≤ length ended.passes.items }
@@ -249,42 +244,6 @@ fn close_up(door: Door, ended: Ended) -> Result<Run, RunFault>
     })
 }
 
-// All scripts at a new door, which is given back with what became of them.
-fn play_all<R: Threads + Wait + Sync, G: Gate + Sync>(
-    rt: &R,
-    alloc: Global,
-    policy: Policy,
-    scripts: Scripts,
-    gate: &G,
-) -> Result<(Door, Ended), MemoryRefused>
-    requires labels { ScriptsHaveKnownLabels policy scripts }
-    requires long { length scripts ≡ processes policy }
-    ensures { IfOk result (λ played. HavePlayed PATIENCE policy scripts played.0 played.1) }
-{
-    let ready = prepare(alloc, policy, scripts, gate.holds())?;
-    let Ready { door, jobs, room } = ready;
-    let ended = run_jobs(rt, &door, jobs, gate, room);
-    Ok((door, ended))
-}
-
-// The scripts are as many as the processes. Every door that was opened is closed.
-fn run_all<R: Threads + Wait + Sync, G: Gate + Sync>(
-    rt: &R,
-    alloc: Global,
-    policy: Policy,
-    scripts: Scripts,
-    gate: &G,
-) -> Result<Run, RunFault>
-    requires labels { ScriptsHaveKnownLabels policy scripts }
-    requires long { length scripts ≡ processes policy }
-    ensures ran { IfOk result (λ run. Ran PATIENCE policy scripts run.replies run.hall) }
-    ensures fault { IfErr result (λ fault. fault ≢ BadScripts) }
-    ensures exhausted { IfErr result (λ fault. fault ≡ Exhausted → MayRunOut PATIENCE scripts) }
-{
-    let (door, ended) = play_all(rt, alloc, policy, scripts, gate)?;
-    close_up(door, ended)
-}
-
 /// Runs the scripts of all processes, each in a thread of its own, at one hall. A take in a script
 /// is tried as by [`wait`](crate::wait), at most [`PATIENCE`](crate::PATIENCE) times. No script
 /// begins before all threads have started, and every thread has ended when it returns. The gate is
@@ -312,7 +271,23 @@ pub fn run_ranks<R: Threads + Wait + Sync, G: Gate + Sync>(
         (λ fault. fault ≡ Exhausted → MayRunOut script_patience scripts) }
 {
     if scripts.len() != policy.processes() as usize {
+        drop(scripts);
+        drop(policy);
         return Err(RunFault::BadScripts);
     }
-    run_all(rt, alloc, policy, scripts, gate)
+    let ready = prepare(alloc, policy, scripts, gate.holds())?;
+    let Ready {
+        door,
+        stage,
+        jobs,
+        room,
+    } = ready;
+    let setting = Setting {
+        door: &door,
+        gate,
+        stage: &stage,
+    };
+    let ended = run_jobs(rt, &setting, jobs, room);
+    drop(stage);
+    close_up(door, ended)
 }

@@ -115,23 +115,51 @@ fn reply_aside<R: Wait, P: Pause>(rt: &R, claim: Claim, pause: &P) -> Reply
     reply
 }
 
-/// One take: a claim at a turn, and its finish after the turn, the gate's `computing` between.
-fn take_once<R: Wait, P: Pause>(
-    rt: &R,
-    door: &Door,
-    pass: &mut Pass,
-    request: u64,
-    pause: &P,
-) -> Answer
-    requires { pass.old.door ≡ door.now }
-    ensures same { IsSamePass pass.old pass.new }
-    ensures legal { Legal door.now.policy pass.new.seen }
-    ensures answered { Answered pass.old (ToTake request) result pass.new }
-    ensures named { NamesKnown door.now.policy result }
-{
-    match door.claim(rt, pass, request) {
-        Claimed::Claim(claim) => Answer::Reply(reply_aside(rt, claim, pause)),
-        Claimed::Exhausted => Answer::Exhausted,
+/// A request that is waited for at a door: it is taken again and again, at most so often, with
+/// these pauses.
+#[derive(Clone, Copy)]
+pub(crate) struct Waiting<'w, P> {
+    pub(crate) door: &'w Door,
+    pub(crate) request: u64,
+    pub(crate) patience: u64,
+    pub(crate) pause: &'w P,
+}
+
+impl<'w, P: Pause> Waiting<'w, P> {
+    // One take: a claim at a turn, and its finish after the turn, the gate's `computing` between.
+    fn take<R: Wait>(&self, rt: &R, pass: &mut Pass) -> Answer
+        requires { pass.old.door ≡ self.now.door.now }
+        ensures same { IsSamePass pass.old pass.new }
+        ensures legal { Legal self.now.door.now.policy pass.new.seen }
+        ensures answered { Answered pass.old (ToTake self.now.request) result pass.new }
+        ensures named { NamesKnown self.now.door.now.policy result }
+    {
+        match self.door.claim(rt, pass, self.request) {
+            Claimed::Claim(claim) => Answer::Reply(reply_aside(rt, claim, self.pause)),
+            Claimed::Exhausted => Answer::Exhausted,
+        }
+    }
+
+    /// Takes it, as [`wait`] does.
+    pub(crate) fn wait<R: Wait>(&self, rt: &R, pass: &mut Pass) -> Answer
+        requires door { pass.old.door ≡ self.now.door.now }
+        ensures same { IsSamePass pass.old pass.new }
+        ensures legal { Legal self.now.door.now.policy pass.new.seen }
+        ensures waited { Waited self.now.patience pass.old self.now.request result pass.new }
+        ensures named { NamesKnown self.now.door.now.policy result }
+    {
+        let mut rests = true;
+        for tried in 1..self.patience {
+            rests = rests && self.pause.rest(rt, self.request, tried - 1);
+            let answer = self.take(rt, pass);
+            if !is_pending(&answer) {
+                return answer;
+            }
+        }
+        if rests {
+            self.pause.rest(rt, self.request, self.patience.max(1) - 1);
+        }
+        self.take(rt, pass)
     }
 }
 
@@ -157,34 +185,11 @@ pub fn wait<R: Wait, G: Gate>(
     ensures named { NamesKnown door.now.policy result }
 {
     let process = pass.process();
-    wait_with(rt, door, pass, request, patience, &Yields { gate, process })
-}
-
-/// The same, with these pauses.
-pub(crate) fn wait_with<R: Wait, P: Pause>(
-    rt: &R,
-    door: &Door,
-    pass: &mut Pass,
-    request: u64,
-    patience: u64,
-    pause: &P,
-) -> Answer
-    requires door { pass.old.door ≡ door.now }
-    ensures same { IsSamePass pass.old pass.new }
-    ensures legal { Legal door.now.policy pass.new.seen }
-    ensures waited { Waited patience pass.old request result pass.new }
-    ensures named { NamesKnown door.now.policy result }
-{
-    let mut rests = true;
-    for tried in 1..patience {
-        rests = rests && pause.rest(rt, request, tried - 1);
-        let answer = take_once(rt, door, pass, request, pause);
-        if !is_pending(&answer) {
-            return answer;
-        }
-    }
-    if rests {
-        pause.rest(rt, request, patience.max(1) - 1);
-    }
-    take_once(rt, door, pass, request, pause)
+    let waiting = Waiting {
+        door,
+        request,
+        patience,
+        pause: &Yields { gate, process },
+    };
+    waiting.wait(rt, pass)
 }

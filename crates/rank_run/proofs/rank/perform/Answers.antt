@@ -14,10 +14,10 @@ returns-in-Post-clause-performed g c =
 
 pub returns-in-Take-clause-performed : goal.returns-in-Take-clause-performed
 returns-in-Take-clause-performed g c =
-    let e = c.wait_with.ensures in
-    subst (λ act. Performed PATIENCE c.args.pass.now act c.wait_with.result c.wait_with.new.pass)
+    let e = c.wait.ensures in
+    subst (λ act. Performed PATIENCE c.args.pass.now act c.wait.result c.wait.new.pass)
     (sym c.in-Take.is)
-    (perform_take PATIENCE c.in-Take.request c.wait_with.result c.args.pass.now c.wait_with.new.pass
+    (perform_take PATIENCE c.in-Take.request c.wait.result c.args.pass.now c.wait.new.pass
     e.same e.waited)
 
 pub returns-in-Info-clause-performed : goal.returns-in-Info-clause-performed

@@ -14,6 +14,7 @@ loop-act-init g c =
     let o = c.args.job.replies.ok in
     let none = ap (λ (l : List Reply). length l) c.requires.none in
     record {
+      at = c.in-Ok.ensures;
       whole = c.into_iter-act-iterator.ensures.into_iter_gives.0;
       come =
           come_none PATIENCE c.args.job c.args.job.replies.items c.requires.unseen c.requires.none;
@@ -27,10 +28,11 @@ loop-act-preserved g c =
     let act = c.in-Some.act in
     let done = c.loop-act.yielded in
     let push = c.push_reserved.ensures in
-    let p = c.play_act in
+    let p = c.perform in
     let long = length_push done act in
     let count = i.count in
     record {
+      at = c.after.ensures ∙ c.before-in-loop-act.ensures ∙ i.at;
       whole = append_assoc done (act ∷ []) (into_iter_items c.next.new.self)
           ∙ ap (λ l. done ++ l) (sym c.in-Some.ensures.steps.0) ∙ i.whole;
       come =
@@ -38,7 +40,8 @@ loop-act-preserved g c =
           act p.result c.in-Reply.reply c.loop-act.pass p.new.pass i.come
           p.ensures.same p.ensures.performed c.in-Reply.is push.items
           (subst (λ (w : ChineseWall). NamesKnown w p.result)
-          (sym (ap (λ (d : Doorway). d.policy) c.requires.door_is)) p.ensures.named);
+          (ap (λ (d : Doorway). d.policy)
+          (c.before-in-loop-act.ensures ∙ i.at ∙ sym c.requires.door_is)) p.ensures.named);
       count = omega (arith, push.len);
       room = omega (arith, push.capacity, i.room);
     }

@@ -6,6 +6,7 @@ use Rattle.rank_run.proofs.rank.play.Given as goal
 
 abbrev pub invariant-loop-act : goal.invariant-loop-act
 invariant-loop-act g l = record {
+  at : l.part.door.now ≡ l.setting.door.now;
   whole : l.yielded ++ into_iter_items l.act-iterator ≡ l.fn.job.script.items;
   come : HasCome PATIENCE l.fn.job l.yielded l.replies.items l.pass;
   count : vec_len l.replies ≡ length l.yielded;

@@ -57,7 +57,7 @@ loop-job-preserved g c =
       sent = one_sent PATIENCE done c.loop-job.sent.items c.push_reserved-in-Err.new.self.items job
           (Home c.spawn_with-in-Err.result) i.sent
           (subst (λ j. HasPlayed PATIENCE j c.spawn_with-in-Err.result)
-          (ap (λ f. f.2) c.in-Err.ensures.err) c.spawn_with-in-Err.ensures) push.items;
+          (ap (λ f. f.4) c.in-Err.ensures.err) c.spawn_with-in-Err.ensures) push.items;
       count = omega (arith, push.len);
       fit = omega (arith, push.capacity, i.fit);
     }
