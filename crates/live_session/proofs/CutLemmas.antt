@@ -45,7 +45,8 @@ one_more false c (p ∷ old) new later some h (l ∷ lines) line e =
     ∙ ap (λ k. k ∷ (lines ++ behind line later)) first
 
 pub parts_behind : (text more : List ℕ) (lines : List Word) (line : Word) →
-    parts 10 text ≡ lines ++ line ∷ [] → parts 10 (text ++ more) ≡ lines ++ behind line (parts 10 more)
+    parts 10 text ≡ lines ++ line ∷ [] →
+    parts 10 (text ++ more) ≡ lines ++ behind line (parts 10 more)
 parts_behind [] more [] line e =
     let k : [] ≡ line = cc in
     sym (behind_none (parts 10 more) (some_parts more)) ∙ ap (λ l. behind l (parts 10 more)) k

@@ -3,6 +3,8 @@ use Rattle.std.proofs.Common.{◌≡◌, ◌∙◌, ℕ, zero, suc, ◌<◌, ◌
 use Rattle.std.proofs.Common.{◌∷◌, ◌++◌, length, Option, Some}
 use Rattle.std.proofs.Common.{Bool, Result, Ok, Err, IfOk, refl, sym, ap, subst, subst₂}
 use Rattle.std.proofs.Common.{append-nil, append_assoc, arith}
+use Rattle.std.specs.Prelude.{IsOk}
+use Rattle.std.proofs.lemmas.Bool.{false≢true}
 use Rattle.std.specs.Global.{Vec}
 use Rattle.std.specs.List.{All}
 use Rattle.std.proofs.lemmas.List.{map-append, get_or-map, length-map}
@@ -88,10 +90,11 @@ module _ (stood : ChineseWall → List Entry → Bool → Type 0)
   all_handed (Err e) jobs done left_over handles are whole none h = tt
 
 -- nothing comes of it where it cannot be so
-pub refused : {A E : Type 0} (r : Result A E) (P : A → Type 0) → IfOk r (λ _. false ≡ true) →
-    IfOk r P
-refused (Ok x) P h = absurd cc
-refused (Err e) P h = tt
+pub refused : {A B E F : Type 0} (r : Result A E) (told : Result B F) (P : A → Type 0) →
+    IfOk told (λ _. false ≡ true) → IfOk r (λ _. IsOk told) → IfOk r P
+refused (Ok x) (Ok begun) P none h = absurd cc
+refused (Ok x) (Err e) P none h = absurd (false≢true h)
+refused (Err e) told P none h = tt
 
 same_append : {A : Type 0} (xs ys : List A) (x y : A) → xs ≡ ys → x ≡ y →
     xs ++ x ∷ [] ≡ ys ++ y ∷ []

@@ -8,14 +8,14 @@ ghost use Rattle.live_session.specs.Sessions.{Stood};
 ghost use Rattle.live_session.specs.Steps.{Holds, CameNamesKnown, line_to, next_after, PutsAnswer};
 ghost use Rattle.live_session.specs.Steps.{AnswersLine};
 
-use crate::acting::{Came, act_on};
+use crate::acting::Came;
 use crate::ending::SessionEnd;
-use crate::line::{Unfinished, bad_line};
+use crate::line::{Lines, bad_line};
+use crate::place::Place;
 use crate::seat::Seat;
 use coll_text::{put, send};
 use hall_script::write_reply;
-use hall_turn::{DoorTo, Machine, PassTo};
-use std::alloc::Global;
+use hall_turn::{Machine, PassTo};
 use std::sync::Wait;
 use wall_labels::{NoMemory, Sink};
 use wall_policy::Policy;
@@ -60,75 +60,67 @@ fn put_came(policy: &Policy, came: &Came, text: &mut Vec<u8>) -> Result<Next, No
     }
 }
 
-// Acts on a finished line, and puts its answer.
-fn put_answer<R: Wait, M: Machine>(
-    rt: &R,
-    alloc: Global,
-    door: &DoorTo<M>,
-    policy: &Policy,
-    pass: &mut PassTo<M>,
-    seat: &mut Seat,
-    line: &Unfinished,
-    text: &mut Vec<u8>,
-) -> Result<Next, NoMemory>
-    requires door { pass.old.door ≡ door.now }
-    requires policy { policy.now ≡ door.now.policy }
-    requires legal { Legal policy.now pass.old.seen }
-    requires none { text.old.items ≡ [] }
-    ensures same { IsSamePass pass.old pass.new }
-    ensures legal { Legal policy.now pass.new.seen }
-    ensures puts { (bytes : List ℕ) → Holds line.now bytes →
-        PutsAnswer (Stood M.stands M.is_booked) policy.now pass.old
-        (said policy.now.dataset_names bytes) text.new.items pass.new result }
-{
-    match line.read(alloc, policy) {
-        Ok(Ok(ask)) => {
-            let came = act_on(rt, door, pass, seat, ask);
-            put_came(policy, &came, text)
-        }
-        Ok(Err(bad)) => match put(text, bad_line(bad)) {
-            Ok(()) => Ok(Next::GoesOn),
+impl<'p, R: Wait, M: Machine> Place<'p, R, M> {
+    // Acts on a finished line, and puts its answer.
+    fn put_answer(
+        &self,
+        pass: &mut PassTo<M>,
+        seat: &mut Seat,
+        lines: &mut Lines,
+    ) -> Result<Next, NoMemory>
+        requires door { pass.old.door ≡ self.now.door.now }
+        requires legal { Legal self.now.policy.now pass.old.seen }
+        requires none { lines.old.text.items ≡ [] }
+        ensures same { IsSamePass pass.old pass.new }
+        ensures legal { Legal self.now.policy.now pass.new.seen }
+        ensures puts { (bytes : List ℕ) → Holds lines.old.line bytes →
+            PutsAnswer (Stood M.stands M.is_booked) self.now.policy.now pass.old
+            (said self.now.policy.now.dataset_names bytes) lines.new.text.items pass.new result }
+    {
+        match lines.line.read(self.alloc, self.policy) {
+            Ok(Ok(ask)) => {
+                let came = self.act_on(pass, seat, ask);
+                put_came(self.policy, &came, &mut lines.text)
+            }
+            Ok(Err(bad)) => match put(&mut lines.text, bad_line(bad)) {
+                Ok(()) => Ok(Next::GoesOn),
+                Err(_) => Err(NoMemory),
+            },
             Err(_) => Err(NoMemory),
-        },
-        Err(_) => Err(NoMemory),
+        }
     }
-}
 
-/// Acts on a finished line, and writes its answer. The text is room for it.
-pub(crate) fn answer_line<R: Wait, M: Machine, O: Sink>(
-    rt: &R,
-    alloc: Global,
-    door: &DoorTo<M>,
-    policy: &Policy,
-    pass: &mut PassTo<M>,
-    seat: &mut Seat,
-    line: &Unfinished,
-    text: &mut Vec<u8>,
-    sink: &mut O,
-) -> Result<(), SessionEnd>
-    requires door { pass.old.door ≡ door.now }
-    requires policy { policy.now ≡ door.now.policy }
-    requires legal { Legal policy.now pass.old.seen }
-    requires none { text.old.items ≡ [] }
-    ensures none { OnOk result (text.new.items ≡ []) }
-    ensures same { IsSamePass pass.old pass.new }
-    ensures legal { Legal policy.now pass.new.seen }
-    ensures answers { (bytes : List ℕ) → Holds line.now bytes →
-        AnswersLine (Stood M.stands M.is_booked) policy.now pass.old
-        (said policy.now.dataset_names bytes)
-        (used O.failures O.contents sink.old sink.new) pass.new result }
-{
-    let next = match put_answer(rt, alloc, door, policy, pass, seat, line, text) {
-        Ok(next) => next,
-        Err(_) => return Err(SessionEnd::NoMemory),
-    };
-    match send(text, sink) {
-        Ok(()) => match next {
-            Next::GoesOn => Ok(()),
-            Next::Left => Err(SessionEnd::Left),
-            Next::Exhausted => Err(SessionEnd::Exhausted),
-            Next::Unbooked => Err(SessionEnd::Unbooked),
-        },
-        Err(_) => Err(SessionEnd::WriteFailed),
+    /// Acts on a finished line, and writes its answer.
+    pub(crate) fn answer_line<O: Sink>(
+        &self,
+        pass: &mut PassTo<M>,
+        seat: &mut Seat,
+        lines: &mut Lines,
+        sink: &mut O,
+    ) -> Result<(), SessionEnd>
+        requires door { pass.old.door ≡ self.now.door.now }
+        requires legal { Legal self.now.policy.now pass.old.seen }
+        requires none { lines.old.text.items ≡ [] }
+        ensures none { OnOk result (lines.new.text.items ≡ []) }
+        ensures same { IsSamePass pass.old pass.new }
+        ensures legal { Legal self.now.policy.now pass.new.seen }
+        ensures answers { (bytes : List ℕ) → Holds lines.old.line bytes →
+            AnswersLine (Stood M.stands M.is_booked) self.now.policy.now pass.old
+            (said self.now.policy.now.dataset_names bytes)
+            (used O.failures O.contents sink.old sink.new) pass.new result }
+    {
+        let next = match self.put_answer(pass, seat, lines) {
+            Ok(next) => next,
+            Err(_) => return Err(SessionEnd::NoMemory),
+        };
+        match send(&mut lines.text, sink) {
+            Ok(()) => match next {
+                Next::GoesOn => Ok(()),
+                Next::Left => Err(SessionEnd::Left),
+                Next::Exhausted => Err(SessionEnd::Exhausted),
+                Next::Unbooked => Err(SessionEnd::Unbooked),
+            },
+            Err(_) => Err(SessionEnd::WriteFailed),
+        }
     }
 }

@@ -8,6 +8,7 @@ mod desk;
 mod ending;
 mod line;
 mod peer;
+mod place;
 mod requests;
 mod run;
 mod seat;

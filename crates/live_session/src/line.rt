@@ -50,6 +50,13 @@ pub(crate) struct Unfinished {
     pub(crate) is_long: bool,
 }
 
+/// The line that is not finished yet, and room for the answer to one that is.
+#[derive(Drop)]
+pub(crate) struct Lines {
+    pub(crate) line: Unfinished,
+    pub(crate) text: Vec<u8>,
+}
+
 impl Unfinished {
     /// An empty line.
     pub(crate) fn new(alloc: Global) -> Unfinished

@@ -1,5 +1,5 @@
 //! The sessions of all processes at the same time.
-ghost use Rattle.std.specs.Prelude.{◌≡◌, ◌≢◌, ◌↔◌, ◌≤◌, [], length, true, IfErr, IfOk, IfSome};
+ghost use Rattle.std.specs.Prelude.{◌≡◌, ◌≢◌, ◌↔◌, ◌≤◌, [], length, IfErr, IfOk, IfSome, IsOk};
 ghost use Rattle.std.specs.Prelude.{vec_len, vec_capacity};
 ghost use Rattle.std.specs.List.{All};
 ghost use Rattle.run_model.specs.Comms.{processes};
@@ -12,11 +12,11 @@ ghost use Rattle.live_session.specs.Joining.{ArePrepared, HaveEnded, HasRoomFor}
 
 use crate::desk::Desk;
 use crate::peer::{Job, Peer, Played, Serving, Session};
-use crate::session::serve;
+use crate::place::Place;
 use hall_core::NoMemory;
 use hall_turn::{DoorTo, Machine, PassesTo};
 use mpi_comm::COMMUNICATOR_LIMIT;
-use rank_stage::{GivenUp, Stage};
+use rank_stage::{Begun, GivenUp, Stage};
 use std::alloc::{AllocError, Global};
 use std::snapshot::Snapshot;
 use std::sync::{Mutex, Wait};
@@ -27,16 +27,10 @@ use wall_policy::Policy;
 
 // A session from its start to its end; or nothing of it, where the run is given up.
 fn play<R: Wait, M: Machine, S: Desk<O> + Drop, O: Sink + Drop>(
-    rt: &R,
-    alloc: Global,
-    door: &DoorTo<M>,
-    policy: &Policy,
-    stage: &Stage,
-    turn: &Mutex<()>,
+    place: &Place<R, M>,
     job: Job<M, S, O>,
 ) -> Played<M, S, O>
-    requires fresh { IsFresh door.now job }
-    requires policy { policy.now ≡ door.now.policy }
+    requires { IsFresh place.now.door.now job }
     ensures { HasServed (Stood M.stands M.is_booked) S.failures S.remaining S.heard O.failures
         O.contents job result }
 {
@@ -47,17 +41,7 @@ fn play<R: Wait, M: Machine, S: Desk<O> + Drop, O: Sink + Drop>(
             mut sink,
         },
     } = job;
-    let ended = serve(
-        rt,
-        alloc,
-        door,
-        policy,
-        stage,
-        turn,
-        &mut pass,
-        &mut source,
-        &mut sink,
-    );
+    let ended = place.serve(&mut pass, &mut source, &mut sink);
     Played {
         pass,
         peer: Peer { source, sink },
@@ -87,17 +71,16 @@ where
     ended
 }
 
-// The sessions begin if all have their threads, or go home. All have ended, and are joined, when it
+// All sessions, which were told to begin or to go home, have ended, and are joined, when it
 // returns.
 fn end_all<R, M, S, O>(
     rt: &R,
-    stage: &Stage,
-    all_started: bool,
+    told: Result<Begun, GivenUp>,
     handles: Vec<PromisedHandle<Played<M, S, O>, Serving<M, S, O>>>,
     ended: Vec<Played<M, S, O>>,
 ) -> Result<Vec<Played<M, S, O>>, GivenUp>
 where
-    R: Threads + Wait,
+    R: Threads,
     M: Machine + Send + Drop,
     S: Desk<O> + Send + Drop,
     O: Sink + Send + Drop,
@@ -105,9 +88,8 @@ where
     ensures served { IfOk result (λ all.
         AllServed (Stood M.stands M.is_booked) S.failures S.remaining S.heard O.failures O.contents
         (handed handles.items) all.items) }
-    ensures started { IfOk result (λ _. all_started ≡ true) }
+    ensures begun { IfOk result (λ _. IsOk told) }
 {
-    let told = stage.release(rt, all_started);
     let played = join_all(rt, handles, ended);
     match told {
         Ok(_) => Ok(played),
@@ -120,12 +102,7 @@ where
 
 // A thread for each job, as far as none is refused.
 fn run_each<R, M, S, O>(
-    rt: &R,
-    alloc: Global,
-    door: &DoorTo<M>,
-    policy: &Policy,
-    stage: &Stage,
-    turn: &Mutex<()>,
+    place: &Place<R, M>,
     jobs: Vec<Job<M, S, O>>,
     mut handles: Vec<PromisedHandle<Played<M, S, O>, Serving<M, S, O>>>,
     ended: Vec<Played<M, S, O>>,
@@ -135,14 +112,21 @@ where
     M: Machine + Send + Drop,
     S: Desk<O> + Send + Drop,
     O: Sink + Send + Drop,
-    requires policy { policy.now ≡ door.now.policy }
-    requires fresh { All (IsFresh door.now) jobs.items }
+    requires fresh { All (IsFresh place.now.door.now) jobs.items }
     requires handles { (handles.items ≡ []) × (vec_len jobs ≤ vec_capacity handles) }
     requires ended { (ended.items ≡ []) × (vec_len jobs ≤ vec_capacity ended) }
     ensures { IfOk result
         (λ all. AllServed (Stood M.stands M.is_booked) S.failures S.remaining S.heard O.failures
         O.contents jobs.items all.items) }
 {
+    let Place {
+        rt,
+        alloc,
+        door,
+        policy,
+        stage,
+        turn,
+    } = *place;
     thread::scope(
         thread::scope_env(),
         rt,
@@ -164,13 +148,23 @@ where
                         requires fresh { IsFresh door.now job }
                         ensures { HasServed (Stood M.stands M.is_booked) S.failures S.remaining
                             S.heard O.failures O.contents job result }
-                    { play(rt, alloc, door, policy, stage, turn, job) },
+                    {
+                        let place = Place {
+                            rt,
+                            alloc,
+                            door,
+                            policy,
+                            stage,
+                            turn,
+                        };
+                        play(&place, job)
+                    },
                 ) else {
-                    return end_all(rt, stage, false, handles, ended);
+                    return end_all(rt, stage.release(rt, false), handles, ended);
                 };
                 handles.push_reserved(handle);
             }
-            end_all(rt, stage, true, handles, ended)
+            end_all(rt, stage.release(rt, true), handles, ended)
         },
     )
 }
@@ -195,20 +189,20 @@ pub enum ServeFault {
     NoMemory,
 }
 
-// The start of the sessions, and room for what their threads give back.
+// Room for what the threads of the sessions give back.
 #[derive(Drop)]
 pub(crate) struct Room<M: Machine, S: Desk<O> + Drop, O: Sink + Drop> {
-    stage: Stage,
     passes: PassesTo<M>,
     sessions: Vec<Session<S, O>>,
     ended: Vec<Played<M, S, O>>,
     handles: Vec<PromisedHandle<Played<M, S, O>, Serving<M, S, O>>>,
 }
 
-// A door, a job for each process there, and room for all of them.
+// A door, a stage, a job for each process there, and room for all of them.
 #[derive(Drop)]
 pub(crate) struct Ready<M: Machine + Drop, S: Desk<O> + Drop, O: Sink + Drop> {
     door: DoorTo<M>,
+    stage: Stage,
     jobs: Vec<Job<M, S, O>>,
     room: Room<M, S, O>,
 }
@@ -241,28 +235,28 @@ fn share_out<M: Machine, S: Drop, O: Drop>(
     Ok(jobs)
 }
 
-// Room for so many sessions.
+// A stage and room for so many sessions.
 fn make_room<M: Machine, S: Desk<O> + Drop, O: Sink + Drop>(
     alloc: Global,
     count: usize,
-) -> Result<Room<M, S, O>, AllocError>
-    ensures { IfOk result (HasRoomFor count) }
+) -> Result<(Stage, Room<M, S, O>), AllocError>
+    ensures { IfOk result (λ made. HasRoomFor count made.1) }
 {
     let passes = Vec::with_capacity(alloc, count)?;
     let sessions = Vec::with_capacity(alloc, count)?;
     let ended = Vec::with_capacity(alloc, count)?;
     let handles = Vec::with_capacity(alloc, count)?;
     let stage = Stage::new(alloc, count, COMMUNICATOR_LIMIT as usize, false)?;
-    Ok(Room {
-        stage,
+    let room = Room {
         passes,
         sessions,
         ended,
         handles,
-    })
+    };
+    Ok((stage, room))
 }
 
-// A door to the machine, a job for each process there, and room for all of them.
+// A door to the machine, a stage, a job for each process there, and room for all of them.
 fn prepare<M: Machine + Drop, S: Desk<O> + Drop, O: Sink + Drop>(
     alloc: Global,
     policy: &Policy,
@@ -280,12 +274,17 @@ fn prepare<M: Machine + Drop, S: Desk<O> + Drop, O: Sink + Drop>(
         drop(door);
         return Err(NoMemory);
     };
-    let Ok(room) = make_room(alloc, jobs.len()) else {
+    let Ok((stage, room)) = make_room(alloc, jobs.len()) else {
         drop(jobs);
         drop(door);
         return Err(NoMemory);
     };
-    Ok(Ready { door, jobs, room })
+    Ok(Ready {
+        door,
+        stage,
+        jobs,
+        room,
+    })
 }
 
 // The passes, and the sessions; none where a session did not begin.
@@ -313,10 +312,7 @@ fn sort_out<M: Machine, S: Drop, O: Drop>(
 
 // All sessions at the same time, in the room that was made for them. None where none began.
 fn run_jobs<R, M, S, O>(
-    rt: &R,
-    alloc: Global,
-    door: &DoorTo<M>,
-    policy: &Policy,
+    place: &Place<R, M>,
     jobs: Vec<Job<M, S, O>>,
     room: Room<M, S, O>,
 ) -> Option<Ended<M, S, O>>
@@ -325,22 +321,19 @@ where
     M: Machine + Send + Drop,
     S: Desk<O> + Send + Drop,
     O: Sink + Send + Drop,
-    requires policy { policy.now ≡ door.now.policy }
-    requires fresh { All (IsFresh door.now) jobs.items }
+    requires fresh { All (IsFresh place.now.door.now) jobs.items }
     requires room { HasRoomFor (vec_len jobs) room }
     ensures { IfSome result
         (HaveEnded (Stood M.stands M.is_booked) S.failures S.remaining S.heard O.failures O.contents
         jobs.items) }
 {
     let Room {
-        stage,
         passes,
         sessions,
         ended,
         handles,
     } = room;
-    let turn = Mutex::new(());
-    match run_each(rt, alloc, door, policy, &stage, &turn, jobs, handles, ended) {
+    match run_each(place, jobs, handles, ended) {
         Ok(all) => sort_out(all, passes, sessions),
         Err(_) => None,
     }
@@ -395,8 +388,22 @@ where
     let Ok(ready) = prepare(alloc, policy, machine, peers) else {
         return Err(ServeFault::NoMemory);
     };
-    let Ready { door, jobs, room } = ready;
-    let Some(ended) = run_jobs(rt, alloc, &door, policy, jobs, room) else {
+    let Ready {
+        door,
+        stage,
+        jobs,
+        room,
+    } = ready;
+    let turn = Mutex::new(());
+    let place = Place {
+        rt,
+        alloc,
+        door: &door,
+        policy,
+        stage: &stage,
+        turn: &turn,
+    };
+    let Some(ended) = run_jobs(&place, jobs, room) else {
         drop(door);
         return Err(ServeFault::NoThread);
     };

@@ -4,7 +4,7 @@
 use crate::requests::Requests;
 use hall_core::Reply;
 use rank_stage::{Aside, Role, Stage};
-use std::sync::{Mutex, Wait};
+use std::sync::Wait;
 
 /// A session that has begun. It stands aside of the stage while it reads, calls and writes, so that
 /// it holds up nobody, and comes back to sleep alone. It has no `Drop`: it ends by [`Seat::end`].
@@ -12,9 +12,6 @@ pub(crate) struct Seat<'s> {
     stage: &'s Stage,
     role: Role,
     aside: Option<Aside>,
-    /// Held by the session that calls at the door: there is one turn at a time, and who waits for
-    /// it here sleeps, where at the door it would look again and again.
-    pub(crate) turn: &'s Mutex<()>,
     requests: Requests,
     // How many calls were made.
     calls: u64,
@@ -25,7 +22,6 @@ impl<'s> Seat<'s> {
     pub(crate) fn new<R: Wait>(
         rt: &R,
         stage: &'s Stage,
-        turn: &'s Mutex<()>,
         role: Role,
         requests: Requests,
     ) -> Seat<'s> {
@@ -34,7 +30,6 @@ impl<'s> Seat<'s> {
             stage,
             role,
             aside,
-            turn,
             requests,
             calls: 0,
         }
@@ -45,13 +40,15 @@ impl<'s> Seat<'s> {
         self.calls = self.calls.saturating_add(1);
     }
 
-    /// After a post on a communicator that got this reply, and whether it settled the instance:
-    /// then those who wait for that are called.
-    pub(crate) fn posted<R: Wait>(&mut self, rt: &R, comm: u32, reply: &Reply, settled: bool) {
+    /// After a post on a communicator that got this reply.
+    pub(crate) fn posted(&mut self, comm: u32, reply: &Reply) {
         self.requests.posted(comm, reply);
-        if settled {
-            self.stage.settle(rt, comm);
-        }
+    }
+
+    /// After a post on a communicator that settled the instance: those who wait for that are
+    /// called.
+    pub(crate) fn settled<R: Wait>(&self, rt: &R, comm: u32) {
+        self.stage.settle(rt, comm);
     }
 
     /// After a take of a request that got this reply.
@@ -90,7 +87,6 @@ impl<'s> Seat<'s> {
             stage,
             role,
             aside,
-            turn: _,
             requests,
             calls,
         } = self;

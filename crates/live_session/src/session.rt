@@ -7,10 +7,10 @@ ghost use Rattle.hall_turn.specs.Answers.{IsSamePass};
 ghost use Rattle.live_session.specs.Sessions.{Stood, Serves, ServesIfBegun};
 ghost use Rattle.live_session.specs.Steps.{Holds, TakesIn, behind};
 
-use crate::answer::answer_line;
 use crate::desk::Desk;
 use crate::ending::SessionEnd;
-use crate::line::Unfinished;
+use crate::line::{Lines, Unfinished};
+use crate::place::Place;
 use crate::requests::Requests;
 use crate::seat::Seat;
 use coll_text::Parts;
@@ -21,100 +21,119 @@ use std::sync::{Mutex, Wait};
 use wall_labels::Sink;
 use wall_policy::Policy;
 
-// Acts on the lines that these bytes finish, and keeps the rest.
-fn take_in<R: Wait, M: Machine, O: Sink>(
-    rt: &R,
-    alloc: Global,
-    door: &DoorTo<M>,
-    policy: &Policy,
-    pass: &mut PassTo<M>,
-    seat: &mut Seat,
-    line: &mut Unfinished,
-    bytes: &[u8],
-    text: &mut Vec<u8>,
-    sink: &mut O,
-) -> Result<(), SessionEnd>
-    requires door { pass.old.door ≡ door.now }
-    requires policy { policy.now ≡ door.now.policy }
-    requires legal { Legal policy.now pass.old.seen }
-    requires none { text.old.items ≡ [] }
-    ensures none { OnOk result (text.new.items ≡ []) }
-    ensures same { IsSamePass pass.old pass.new }
-    ensures legal { Legal policy.now pass.new.seen }
-    ensures takes { (start : List ℕ) → Holds line.old start →
-        TakesIn (Stood M.stands M.is_booked) policy.now pass.old
-        (behind start (parts 10 bytes.now)) line.new
-        (used O.failures O.contents sink.old sink.new) pass.new result }
-{
-    let mut parts = Parts::new(bytes, b'\n');
-    let Some(first) = parts.next_long() else {
-        unreachable!()
-    };
-    match line.add(first) {
-        Ok(()) => {}
-        Err(_) => return Err(SessionEnd::NoMemory),
-    }
-    while let Some(part) = parts.next_long() {
-        match answer_line(rt, alloc, door, policy, pass, seat, line, text, sink) {
-            Ok(()) => {}
-            Err(end) => return Err(end),
-        }
-        match line.begin(part) {
+impl<'p, R: Wait, M: Machine> Place<'p, R, M> {
+    // Acts on the lines that these bytes finish, and keeps the rest.
+    fn take_in<O: Sink>(
+        &self,
+        pass: &mut PassTo<M>,
+        seat: &mut Seat,
+        lines: &mut Lines,
+        bytes: &[u8],
+        sink: &mut O,
+    ) -> Result<(), SessionEnd>
+        requires door { pass.old.door ≡ self.now.door.now }
+        requires legal { Legal self.now.policy.now pass.old.seen }
+        requires none { lines.old.text.items ≡ [] }
+        ensures none { OnOk result (lines.new.text.items ≡ []) }
+        ensures same { IsSamePass pass.old pass.new }
+        ensures legal { Legal self.now.policy.now pass.new.seen }
+        ensures takes { (start : List ℕ) → Holds lines.old.line start →
+            TakesIn (Stood M.stands M.is_booked) self.now.policy.now pass.old
+            (behind start (parts 10 bytes.now)) lines.new.line
+            (used O.failures O.contents sink.old sink.new) pass.new result }
+    {
+        let mut parts = Parts::new(bytes, b'\n');
+        let Some(first) = parts.next_long() else {
+            unreachable!()
+        };
+        match lines.line.add(first) {
             Ok(()) => {}
             Err(_) => return Err(SessionEnd::NoMemory),
         }
+        while let Some(part) = parts.next_long() {
+            match self.answer_line(pass, seat, lines, sink) {
+                Ok(()) => {}
+                Err(end) => return Err(end),
+            }
+            match lines.line.begin(part) {
+                Ok(()) => {}
+                Err(_) => return Err(SessionEnd::NoMemory),
+            }
+        }
+        Ok(())
     }
-    Ok(())
-}
 
-// A session from its first line to its end.
-fn hold<R: Wait, M: Machine, S: Desk<O>, O: Sink>(
-    rt: &R,
-    alloc: Global,
-    door: &DoorTo<M>,
-    policy: &Policy,
-    pass: &mut PassTo<M>,
-    seat: &mut Seat,
-    source: &mut S,
-    sink: &mut O,
-) -> SessionEnd
-    requires door { pass.old.door ≡ door.now }
-    requires policy { policy.now ≡ door.now.policy }
-    requires legal { Legal policy.now pass.old.seen }
-    ensures same { IsSamePass pass.old pass.new }
-    ensures serves { Serves (Stood M.stands M.is_booked) S.heard policy.now
-        (used S.failures S.remaining source.old source.new)
-        (used O.failures O.contents sink.old sink.new)
-        pass.old pass.new result }
-{
-    let mut line = Unfinished::new(alloc);
-    let mut text = Vec::new(alloc);
-    let mut buffer = [0u8; 4096];
-    for _ in rt.forever() {
-        let n = match source.hear(sink, &mut buffer) {
-            Ok(n) => n,
-            Err(_) => return SessionEnd::ReadFailed,
-        };
-        if n == 0 {
-            return SessionEnd::EndOfStream;
+    // A session from its first line to its end.
+    fn hold<S: Desk<O>, O: Sink>(
+        &self,
+        pass: &mut PassTo<M>,
+        seat: &mut Seat,
+        source: &mut S,
+        sink: &mut O,
+    ) -> SessionEnd
+        requires door { pass.old.door ≡ self.now.door.now }
+        requires legal { Legal self.now.policy.now pass.old.seen }
+        ensures same { IsSamePass pass.old pass.new }
+        ensures serves { Serves (Stood M.stands M.is_booked) S.heard self.now.policy.now
+            (used S.failures S.remaining source.old source.new)
+            (used O.failures O.contents sink.old sink.new)
+            pass.old pass.new result }
+    {
+        let line = Unfinished::new(self.alloc);
+        let text = Vec::new(self.alloc);
+        let mut lines = Lines { line, text };
+        let mut buffer = [0u8; 4096];
+        for _ in self.rt.forever() {
+            let n = match source.hear(sink, &mut buffer) {
+                Ok(n) => n,
+                Err(_) => return SessionEnd::ReadFailed,
+            };
+            if n == 0 {
+                return SessionEnd::EndOfStream;
+            }
+            match self.take_in(pass, seat, &mut lines, &buffer[..n], sink) {
+                Ok(()) => {}
+                Err(end) => return end,
+            }
         }
-        match take_in(
-            rt,
-            alloc,
-            door,
-            policy,
-            pass,
-            seat,
-            &mut line,
-            &buffer[..n],
-            &mut text,
-            sink,
-        ) {
-            Ok(()) => {}
-            Err(end) => return end,
-        }
+        unreachable!()
     }
-    unreachable!()
+
+    /// As [`serve`] does.
+    pub(crate) fn serve<S: Desk<O>, O: Sink>(
+        &self,
+        pass: &mut PassTo<M>,
+        source: &mut S,
+        sink: &mut O,
+    ) -> Option<SessionEnd>
+        requires door { pass.old.door ≡ self.now.door.now }
+        ensures same { IsSamePass pass.old pass.new }
+        ensures serves { ServesIfBegun (Stood M.stands M.is_booked) S.heard self.now.policy.now
+            (used S.failures S.remaining source.old source.new)
+            (used O.failures O.contents sink.old sink.new)
+            pass.old pass.new result }
+    {
+        let requests = Requests::new(self.alloc);
+        let role = match self.stage.begin(self.rt, pass.process() as usize) {
+            Ok(role) => role,
+            Err(_) => return None,
+        };
+        let requests = match requests {
+            Ok(requests) => requests,
+            Err(_) => {
+                self.stage.end(self.rt, role);
+                source.open();
+                source.close(SessionEnd::NoMemory, 0);
+                return Some(SessionEnd::NoMemory);
+            }
+        };
+        let mut seat = Seat::new(self.rt, self.stage, role, requests);
+        source.open();
+        let end = self.hold(pass, &mut seat, source, sink);
+        let calls = seat.end(self.rt);
+        source.close(end, calls);
+        Some(end)
+    }
 }
 
 /// Serves a process until its session ends: reads its lines, and answers each finished line by one
@@ -156,24 +175,13 @@ pub fn serve<R: Wait, M: Machine, S: Desk<O>, O: Sink>(
         (used O.failures O.contents sink.old sink.new)
         pass.old pass.new result }
 {
-    let requests = Requests::new(alloc);
-    let role = match stage.begin(rt, pass.process() as usize) {
-        Ok(role) => role,
-        Err(_) => return None,
+    let place = Place {
+        rt,
+        alloc,
+        door,
+        policy,
+        stage,
+        turn,
     };
-    let requests = match requests {
-        Ok(requests) => requests,
-        Err(_) => {
-            stage.end(rt, role);
-            source.open();
-            source.close(SessionEnd::NoMemory, 0);
-            return Some(SessionEnd::NoMemory);
-        }
-    };
-    let mut seat = Seat::new(rt, stage, turn, role, requests);
-    source.open();
-    let end = hold(rt, alloc, door, policy, pass, &mut seat, source, sink);
-    let calls = seat.end(rt);
-    source.close(end, calls);
-    Some(end)
+    place.serve(pass, source, sink)
 }

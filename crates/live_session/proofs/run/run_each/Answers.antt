@@ -13,7 +13,7 @@ scoped-requires g c =
     let y = c.type_bounds.sync-R in
     record {
       at = λ a. (
-        r.policy,
+        c.args.place.now.its,
         (
           r.fresh,
           (

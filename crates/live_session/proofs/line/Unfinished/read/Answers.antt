@@ -2,7 +2,8 @@ use Rattle.std.proofs.Common.{◌∙◌, ap, sym, subst, Err}
 use Rattle.std.specs.Prelude.{IsOk}
 use Rattle.hall_script.specs.Asks.{ask_said}
 use Rattle.hall_script.specs.Scripts.{trimmed}
-use Rattle.live_session.proofs.LineLemmas.{long_says, short_says, gives_ask, gives_fault, gives_some}
+use Rattle.live_session.proofs.LineLemmas.{long_says, short_says, gives_ask, gives_fault}
+use Rattle.live_session.proofs.LineLemmas.{gives_some}
 use Rattle.live_session.proofs.line.Unfinished.read.Goals as goal
 
 pub returns-then-self-clause-reads : goal.returns-then-self-clause-reads
@@ -31,4 +32,5 @@ returns-in_default-clause-reads c =
     let text = c.trim.result.now in
     short_says names c.args.self.now line h c.if-self.false text
     (c.trim.ensures ∙ ap trimmed c.deref.ensures.value)
-    ∙ gives_fault (ask_said names text) c.in-Err.fault c.in_default.not-NoMemory c.in-Err.ensures.ask
+    ∙ gives_fault (ask_said names text) c.in-Err.fault c.in_default.not-NoMemory
+    c.in-Err.ensures.ask

@@ -5,7 +5,8 @@ use Rattle.live_session.proofs.ServedLemmas.{all_handed, refused}
 use Rattle.live_session.proofs.run.fn.run_each.scope.Goals as goal
 
 pub returns-in_default : goal.returns-in_default
-returns-in_default g c = refused c.end_all.result _ c.end_all.ensures.started
+returns-in_default g c =
+    refused c.end_all.result c.release.result _ c.release.ensures.begun c.end_all.ensures.begun
 
 pub returns : goal.returns
 returns g c =

@@ -4,14 +4,14 @@ use Rattle.hall_turn.specs.Answers.{IsSamePass}
 use Rattle.hall_script.specs.Devices.{used}
 use Rattle.live_session.specs.Sessions.{Stood}
 use Rattle.live_session.proofs.SessionLemmas.{Going}
-use Rattle.live_session.proofs.session.hold.Given as goal
+use Rattle.live_session.proofs.place.Place.hold.Given as goal
 
 abbrev pub invariant-loop : goal.invariant-loop
 invariant-loop g l = record {
-  none : l.text.items ≡ [];
+  none : l.lines.text.items ≡ [];
   same : IsSamePass l.fn.pass l.pass;
-  legal : Legal l.policy l.pass.seen;
-  going : Going (Stood g.M.Machine.stands g.M.Machine.is_booked) g.S.Desk.heard l.policy
+  legal : Legal l.self.policy.now l.pass.seen;
+  going : Going (Stood g.M.Machine.stands g.M.Machine.is_booked) g.S.Desk.heard l.self.policy.now
       (used g.S.Desk.failures g.S.Desk.remaining l.fn.source l.source)
-      (used g.O.Sink.failures g.O.Sink.contents l.fn.sink l.sink) l.fn.pass l.line l.pass;
+      (used g.O.Sink.failures g.O.Sink.contents l.fn.sink l.sink) l.fn.pass l.lines.line l.pass;
 }

@@ -5,12 +5,12 @@ use Rattle.hall_turn.specs.declared.answer.Answer.TheVariants.{Reply as Replied}
 use Rattle.hall_turn.specs.Answers.{IsSamePass}
 use Rattle.live_session.specs.Sessions.{Stood}
 use Rattle.live_session.specs.Steps.{Waited}
-use Rattle.live_session.proofs.acting.wait.Given as goal
+use Rattle.live_session.proofs.place.Place.wait.Given as goal
 
 abbrev pub invariant-loop : goal.invariant-loop
 invariant-loop g l = record {
   same : IsSamePass l.fn.pass l.pass;
-  legal : Legal l.door.policy l.pass.seen;
+  legal : Legal l.self.door.now.policy l.pass.seen;
   waited : Waited (Stood g.M.Machine.stands g.M.Machine.is_booked) l.fn.pass l.request
       (Replied Pending) l.pass;
 }

@@ -7,7 +7,7 @@ use Rattle.live_session.specs.Sessions.{Stood}
 use Rattle.live_session.specs.Steps.{SoFar, behind}
 use Rattle.live_session.proofs.CutLemmas.{some_parts}
 use Rattle.live_session.proofs.SessionLemmas.{so_far_none, goes_on, breaks_off, stops_here}
-use Rattle.live_session.proofs.session.take_in.Goals as goal
+use Rattle.live_session.proofs.place.Place.take_in.Goals as goal
 
 pub unreachable-requires : goal.unreachable-requires
 unreachable-requires g c =
@@ -16,7 +16,7 @@ unreachable-requires g c =
 
 pub returns-in-Err-clause-takes : goal.returns-in-Err-clause-takes
 returns-in-Err-clause-takes g c =
-    let wall = c.args.policy.now in
+    let wall = c.args.self.now.policy.now in
     let pass = c.args.pass.now in
     let sink = c.args.sink.now in
     let stood = Stood g.M.Machine.stands g.M.Machine.is_booked in
@@ -25,11 +25,11 @@ returns-in-Err-clause-takes g c =
     λ start h. let text = behind start (parts 10 c.args.bytes.now) in
     stops_here stood fails holds wall pass pass text text (used fails holds sink sink)
     (so_far_none stood fails holds wall pass text sink
-    (c.requires.policy ∙ ap (λ (d : Doorway). d.policy) (sym c.requires.door)) c.requires.legal)
+    (c.args.self.now.its ∙ ap (λ (d : Doorway). d.policy) (sym c.requires.door)) c.requires.legal)
 
 pub loop-part-init : goal.loop-part-init
 loop-part-init g c =
-    let wall = c.args.policy.now in
+    let wall = c.args.self.now.policy.now in
     let pass = c.args.pass.now in
     let sink = c.args.sink.now in
     let stood = Stood g.M.Machine.stands g.M.Machine.is_booked in
@@ -45,14 +45,14 @@ loop-part-init g c =
         subst (λ (l : List Word). SoFar stood wall pass text l (used fails holds sink sink) pass)
             (ap (behind start) (sym c.new-parts.ensures ∙ c.in-Some.ensures))
             (so_far_none stood fails holds wall pass text sink
-            (c.requires.policy ∙ ap (λ (d : Doorway). d.policy) (sym c.requires.door))
+            (c.args.self.now.its ∙ ap (λ (d : Doorway). d.policy) (sym c.requires.door))
             c.requires.legal),
       );
     }
 
 pub returns-in-Err-answer_line-clause-takes : goal.returns-in-Err-answer_line-clause-takes
 returns-in-Err-answer_line-clause-takes g c =
-    let wall = c.args.policy.now in
+    let wall = c.args.self.now.policy.now in
     let pass = c.args.pass.now in
     let stood = Stood g.M.Machine.stands g.M.Machine.is_booked in
     let fails = g.O.Sink.failures in
@@ -70,7 +70,7 @@ returns-in-Err-answer_line-clause-takes g c =
 -- what is so after the line at hand was answered
 later_so_far : goal.loop-part-preserved
 later_so_far g c =
-    let wall = c.args.policy.now in
+    let wall = c.args.self.now.policy.now in
     let pass = c.args.pass.now in
     let stood = Stood g.M.Machine.stands g.M.Machine.is_booked in
     let fails = g.O.Sink.failures in
@@ -100,7 +100,7 @@ loop-part-preserved g c = later_so_far g c
 
 pub returns-in-Err-begin-clause-takes : goal.returns-in-Err-begin-clause-takes
 returns-in-Err-begin-clause-takes g c =
-    let wall = c.args.policy.now in
+    let wall = c.args.self.now.policy.now in
     let pass = c.args.pass.now in
     let stood = Stood g.M.Machine.stands g.M.Machine.is_booked in
     let fails = g.O.Sink.failures in

@@ -5,7 +5,7 @@ use Rattle.live_session.specs.declared.acting.Came.{Came}
 use Rattle.live_session.specs.Sessions.{Stood}
 use Rattle.live_session.specs.Steps.{CameTo, came_of}
 use Rattle.live_session.proofs.SessionLemmas.{at_door, act_came, wait_came}
-use Rattle.live_session.proofs.acting.act_on.Goals as goal
+use Rattle.live_session.proofs.place.Place.act_on.Goals as goal
 
 pub returns-in-Act-clause-came : goal.returns-in-Act-clause-came
 returns-in-Act-clause-came g c =
@@ -18,7 +18,7 @@ returns-in-Act-clause-came g c =
     (subst (λ (it : Came). CameTo stood pass (ToAct c.in-Act.act) it new)
     (sym (c.came_of.ensures ∙ ap (came_of answer) c.is_booked.ensures))
     (act_came g.M.Machine.stands g.M.Machine.is_booked pass new c.in-Act.act answer e.same
-    (at_door c.args.door.now pass new.seen c.requires.door e.legal) e.answered e.stood))
+    (at_door c.args.self.now.door.now pass new.seen c.requires.door e.legal) e.answered e.stood))
 
 pub returns-in-Wait-clause-came : goal.returns-in-Wait-clause-came
 returns-in-Wait-clause-came g c =

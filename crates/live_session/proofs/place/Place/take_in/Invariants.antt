@@ -5,16 +5,16 @@ use Rattle.hall_script.specs.Devices.{used}
 use Rattle.coll_text.specs.Reading.{parts}
 use Rattle.live_session.specs.Sessions.{Stood}
 use Rattle.live_session.specs.Steps.{Holds, SoFar, behind}
-use Rattle.live_session.proofs.session.take_in.Given as goal
+use Rattle.live_session.proofs.place.Place.take_in.Given as goal
 
 abbrev pub invariant-loop-part : goal.invariant-loop-part
 invariant-loop-part g l = record {
-  none : l.text.items ≡ [];
+  none : l.lines.text.items ≡ [];
   same : IsSamePass l.fn.pass l.pass;
-  legal : Legal l.policy l.pass.seen;
-  so_far : (start : List ℕ) → Holds l.fn.line start → (line : List ℕ) × Holds l.line line
-      × SoFar (Stood g.M.Machine.stands g.M.Machine.is_booked)
-      l.policy l.fn.pass (behind start (parts 10 l.bytes)) (line ∷ l.parts)
+  legal : Legal l.self.policy.now l.pass.seen;
+  so_far : (start : List ℕ) → Holds l.fn.lines.line start → (line : List ℕ)
+      × Holds l.lines.line line × SoFar (Stood g.M.Machine.stands g.M.Machine.is_booked)
+      l.self.policy.now l.fn.pass (behind start (parts 10 l.bytes)) (line ∷ l.parts)
       (used g.O.Sink.failures g.O.Sink.contents l.fn.sink l.sink) l.pass;
 }
 
