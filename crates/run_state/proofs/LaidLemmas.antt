@@ -1,11 +1,12 @@
 -- Groups and shapes that stand side by side, and what a constructor adds to both.
 use Rattle.std.proofs.Common.{◌≡◌, ℕ, zero, suc, ◌<◌, List, [], ◌∷◌, ◌++◌, length, refl, sym, ap}
 use Rattle.std.proofs.Common.{◌∙◌, subst, arith, Bool, true, false, Option, Some, None, slice_get}
-use Rattle.std.proofs.Common.{drop, cond}
+use Rattle.std.proofs.Common.{drop, cond, get_or, ◌≤◌, ⊎_elim}
 use Rattle.std.specs.Prelude.{◌==◌, nat_lt, unwrap_or, filter_map}
 use Rattle.std.specs.List.{list_all}
 use Rattle.std.proofs.lemmas.Bool.{cond-true, cond-false, and_parts, lt-ltb}
 use Rattle.std.proofs.lemmas.List.{append-nil, length-map}
+use Rattle.std.proofs.lemmas.Option.{slice_get_cases}
 use Rattle.mpi_group.specs.Groups.{members_at, are_ranks}
 use Rattle.mpi_cart.specs.Grids.{Topology, volume}
 use Rattle.mpi_comm.specs.Comms.{group_at, fits, is_subgroup, subset_groups, constructor_fault}
@@ -17,6 +18,16 @@ use Rattle.run_model.specs.Comms.{Comm, with_grid, shape_of}
 use Rattle.run_model.specs.declared.outcome.Outcome.TheVariants.{Made, NoRoom}
 use Rattle.run_state.specs.Laid.{with_shapes, AreLaid, IsShape, laid}
 use Rattle.run_state.specs.Making.{Makes, is_left}
+
+-- a communicator that is there
+pub some_at : (table : List Comm) (c : ℕ) → c < length table →
+    (found : Comm) × (slice_get table c ≡ Some found)
+some_at table c lt = ⊎_elim
+    (λ (there : (x : Comm) × (c < length table) × (slice_get table c ≡ Some x)
+    × (get_or table c x ≡ x)). (there.0, there.2))
+    (λ (past : (length table ≤ c) × (slice_get table c ≡ None)).
+    let low = past.0 in absurd (omega (arith, lt, low)))
+    (slice_get_cases table c).1
 
 pub laid_length : (gs : List (List ℕ)) (ss : List Shape) → AreLaid gs ss → length gs ≡ length ss
 laid_length [] [] h = refl
@@ -63,14 +74,6 @@ shape_there gs ss c comm h = λ i. record { size = h.is.size i; grid = h.grid i 
 pub group_there : (gs : List (List ℕ)) (c : ℕ) (members : List ℕ) → slice_get gs c ≡ Some members →
     group_at gs c ≡ members
 group_there gs c members e = ap (λ o. unwrap_or o []) e
-
--- every communicator that is there is in both
-pub there_is : (gs : List (List ℕ)) (ss : List Shape) (c : ℕ) → AreLaid gs ss → c < length gs →
-    (comm : Comm) × (slice_get (with_shapes gs ss) c ≡ Some comm)
-there_is [] ss c h lt = absurd (omega (arith, lt))
-there_is (g ∷ gs) [] c h lt = absurd h
-there_is (g ∷ gs) (s ∷ ss) zero h lt = (record { members = g; grid = s.grid }, refl)
-there_is (g ∷ gs) (s ∷ ss) (suc c) h lt = there_is gs ss c h.1 (omega (arith, lt))
 
 -- ## what is added
 

@@ -13,5 +13,5 @@ pub mod PartLemmas
 pub mod PostStateLemmas
 pub mod VerdictLemmas
 pub mod EnterLemmas
-pub mod JoinLemmas
+pub mod StepLemmas
 pub mod RunStateLemmas

@@ -1,6 +1,6 @@
 -- Grids that are laid over communicators, and cut.
 use Rattle.std.proofs.Common.{◌≡◌, ℕ, ◌<◌, ◌≤◌, List, [], ◌∷◌, length, refl, sym, ap, ◌∙◌, subst}
-use Rattle.std.proofs.Common.{Bool, true, false, Option, Some, None, slice_get, map, cond, is_none}
+use Rattle.std.proofs.Common.{Bool, true, false, Option, Some, None, map, cond, is_none}
 use Rattle.std.proofs.Common.{⊎_elim}
 use Rattle.std.specs.Prelude.{◌==◌, nat_lt}
 use Rattle.std.specs.List.{list_all}
@@ -12,11 +12,9 @@ use Rattle.mpi_cart.specs.declared.fault.GridFault.TheVariants.{BadDims, TooLarg
 use Rattle.mpi_cart.specs.Grids.{Topology, volume, below, kept}
 use Rattle.mpi_cart.specs.Faults.{first_fault, are_bad_dims}
 use Rattle.coll_routes.specs.declared.roll.Shape.{Shape}
-use Rattle.coll_routes.specs.Fit.{IsSizedGrid}
-use Rattle.run_model.specs.Comms.{Comm, with_grid, subgrids, grid_parts}
-use Rattle.run_state.specs.Laid.{with_shapes, AreLaid}
+use Rattle.coll_routes.specs.Fit.{IsSized, IsSizedGrid}
+use Rattle.run_model.specs.Comms.{Comm, shape_of, with_grid, subgrids, grid_parts}
 use Rattle.run_state.specs.Making.{is_kept}
-use Rattle.run_state.proofs.LaidLemmas.{laid_shape, laid_sized}
 use Rattle.run_state.proofs.PartLemmas.{lowest_subgroup, part_sizes, parts_subgroups}
 use Rattle.run_state.proofs.MakingLemmas.{all_at}
 
@@ -62,16 +60,15 @@ pub kept_some : (keep : List Bool) (grid : Option Topology) → grid ≡ None �
     is_kept keep grid ≡ true → ⊥
 kept_some keep grid none is = false≢true (sym (ap (λ o. is_kept keep o) none) ∙ is)
 
-module _ (gs : List (List ℕ)) (ss : List Shape) (h : AreLaid gs ss) (c : ℕ) (read : Shape)
-    (there : slice_get ss c ≡ Some read) (found : Comm)
-    (at : slice_get (with_shapes gs ss) c ≡ Some found) where
-  pub grid_found : (grid : Option Topology) → read.grid ≡ grid → found.grid ≡ grid
-  grid_found grid is = sym (ap (λ (s : Shape). s.grid)
-      (laid_shape gs ss (with_shapes gs ss) refl h c found read there at)) ∙ is
+-- the grid of a communicator is that of its shape
+pub grid_found : (shape : Shape) (found : Comm) (grid : Option Topology) →
+    shape ≡ shape_of found → shape.grid ≡ grid → found.grid ≡ grid
+grid_found shape found grid same is = sym (ap (λ (s : Shape). s.grid) same) ∙ is
 
-  pub found_sized : (g : Topology) → read.grid ≡ Some g → volume g.dims ≡ length found.members
-  found_sized g is = subst (λ grid. IsSizedGrid (length found.members) grid)
-      (grid_found (Some g) is) (laid_sized gs ss (with_shapes gs ss) refl h c found at)
+pub found_sized : (found : Comm) (g : Topology) → IsSized (shape_of found) →
+    found.grid ≡ Some g → volume g.dims ≡ length found.members
+found_sized found g sized is =
+    subst (λ grid. IsSizedGrid (length found.members) grid) is sized
 
 module _ {A : Type 0} (xs : List A) (f : A → List ℕ) (g : Topology) (keep : List Bool)
     (parts : map f xs ≡ grid_parts g keep) where

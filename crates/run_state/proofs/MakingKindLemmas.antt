@@ -24,13 +24,10 @@ use Rattle.coll_routes.specs.declared.signature.Signature.TheVariants.{NeighborA
 use Rattle.coll_routes.specs.declared.signature.Signature.TheVariants.{NeighborAlltoallv, Dup}
 use Rattle.coll_routes.specs.declared.signature.Signature.TheVariants.{Split, Create, CartCreate}
 use Rattle.coll_routes.specs.declared.signature.Signature.TheVariants.{CartSub}
-use Rattle.coll_routes.specs.declared.roll.Shape.{Shape}
 use Rattle.run_model.specs.Comms.{Comm, with_grid, new_comms_by, if_fit}
 use Rattle.run_model.specs.Posts.{constructor_outcome}
 use Rattle.run_model.specs.declared.outcome.Outcome.TheVariants.{Made, NoRoom}
-use Rattle.run_state.specs.Laid.{with_shapes, AreLaid}
 use Rattle.run_state.specs.Making.{Makes, is_faultless, is_kept}
-use Rattle.run_state.proofs.LaidLemmas.{joined_length}
 
 -- ## no fault of its own
 
@@ -123,16 +120,14 @@ none_fit n = by (fits n 0)
     by false = refl
 
 -- making none changes nothing
-pub nothing_made : (gs : List (List ℕ)) (ss : List Shape) (new : List Comm) (count : ℕ) →
-    AreLaid gs ss → new ≡ [] → count ≡ length gs →
-    Makes new (with_shapes gs ss) (with_shapes gs ss) (Made count 0)
-nothing_made gs ss new count h none is =
-    let old = with_shapes gs ss in
-    let before = length old in
+pub nothing_made : (table new : List Comm) (count : ℕ) → new ≡ [] → count ≡ length table →
+    Makes new table table (Made count 0)
+nothing_made table new count none is =
+    let before = length table in
     record {
-      grown = sym (append-nil old)
-          ∙ ap (λ more. old ++ more) (sym (ap (λ cs. if_fit before cs) none ∙ none_fit before));
-      told = (λ i. Made ((is ∙ sym (joined_length gs ss h)) i) 0)
+      grown = sym (append-nil table)
+          ∙ ap (λ more. table ++ more) (sym (ap (λ cs. if_fit before cs) none ∙ none_fit before));
+      told = ap (λ n. Made n 0) is
           ∙ (sym (cond-true (fits before 0) (Made before 0) NoRoom
           (either (nat_le (before + 0) COMMUNICATOR_LIMIT)))
           ∙ ap (λ cs. constructor_outcome before cs) (sym none));

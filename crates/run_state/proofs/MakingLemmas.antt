@@ -1,12 +1,11 @@
 -- What the bodies of the constructors come to.
 use Rattle.std.proofs.Common.{◌≡◌, ℕ, zero, suc, ◌+◌, ◌<◌, ◌≤◌, List, [], ◌∷◌, ◌++◌, length, refl}
 use Rattle.std.proofs.Common.{sym, ap, ◌∙◌, subst, arith, Bool, true, false, Option, Some, None}
-use Rattle.std.proofs.Common.{slice_get, map, drop, replicate, cond, get_or, ◌&&◌, ◌||◌}
+use Rattle.std.proofs.Common.{slice_get, map, drop, replicate, cond, ◌&&◌, ◌||◌}
 use Rattle.std.proofs.Common.{append_assoc, length-append}
 use Rattle.std.proofs.lemmas.Bool.{cond-true, cond-false, leb-true}
 use Rattle.std.proofs.lemmas.List.{length-replicate, append-nil, length-map}
-use Rattle.std.proofs.lemmas.Option.{slice_get_read}
-use Rattle.std.specs.Prelude.{◌==◌, nat_le, Result, Ok, Err, IfOk, OnErr, unwrap_or}
+use Rattle.std.specs.Prelude.{◌==◌, nat_le, Result, Ok, Err, IfOk, unwrap_or}
 use Rattle.std.specs.List.{list_all}
 use Rattle.mpi_group.specs.Groups.{members_at}
 use Rattle.mpi_cart.specs.Grids.{Topology}
@@ -16,14 +15,13 @@ use Rattle.mpi_comm.specs.declared.fault.CommFault.{CommFault}
 use Rattle.mpi_comm.specs.declared.fault.CommFault.TheVariants as faults
 use Rattle.coll_routes.specs.declared.roll.Shape.{Shape}
 use Rattle.coll_routes.specs.Fit.{IsSizedGrid}
-use Rattle.run_model.specs.Comms.{Comm, with_grid, if_fit}
-use Rattle.run_model.specs.Posts.{constructor_outcome}
+use Rattle.run_model.specs.Comms.{Comm, with_grid, shape_of}
 use Rattle.run_model.specs.declared.outcome.Outcome.{Outcome}
 use Rattle.run_model.specs.declared.outcome.Outcome.TheVariants.{Made, NoRoom}
 use Rattle.run_state.specs.Laid.{with_shapes, AreLaid, laid}
 use Rattle.run_state.specs.Making.{Makes}
-use Rattle.run_state.proofs.LaidLemmas.{laid_length, laid_append, AreSized}
-use Rattle.run_state.proofs.LaidLemmas.{laid_group, laid_shape, laid_sized, there_is, makes_some}
+use Rattle.run_state.proofs.LaidLemmas.{some_at, laid_length, laid_append, AreSized, laid_within}
+use Rattle.run_state.proofs.LaidLemmas.{laid_group, laid_sized, makes_some}
 use Rattle.run_state.proofs.LaidLemmas.{makes_none, fits_is, no_room_is, dropped_front}
 
 -- ## shapes that are entered one by one
@@ -110,10 +108,6 @@ if_true b fault e = cond-true b None (Some fault) e
 pub if_false : (b : Bool) (fault : CommFault) → b ≡ false → cond b (Some fault) None ≡ None
 if_false b fault e = cond-false b (Some fault) None e
 
-pub on_err : {A E : Type 0} (P : Type 0) (result : Result A E) → P → OnErr result P
-on_err P (Ok a) p = tt
-on_err P (Err e) p = p
-
 -- the same communicators by another name
 pub also_makes : {E : Type 0} (result : Result Outcome E) (new other : Comm → List Comm)
     (old after : List Comm) (c : ℕ) →
@@ -129,11 +123,6 @@ also_makes (Ok outcome) new other old after c same makes =
 -- ## groups added to the table, and shapes beside them
 
 module _ (gs : List (List ℕ)) (ss : List Shape) (h : AreLaid gs ss) where
-  -- nothing was added
-  still_joined : (after : List (List ℕ)) (shapes : List Shape) → after ≡ gs → shapes ≡ ss →
-      with_shapes after shapes ≡ with_shapes gs ss
-  still_joined after shapes same kept = λ i. with_shapes (same i) (kept i)
-
   -- there is a shape for each group that was there
   pub fewer : (new after : List (List ℕ)) (before : List Shape) → before ≡ ss → after ≡ gs ++ new →
       length before + length new ≡ length after
@@ -159,117 +148,83 @@ module _ (gs : List (List ℕ)) (ss : List Shape) (h : AreLaid gs ss) where
       subst (λ x. AreLaid x shapes) (sym grown)
       (subst (λ y. AreLaid (gs ++ new) y) (sym entered) (laid_append gs new ss grid h sized))
 
-  module _ (c : ℕ) (lt : c < length gs) where
-    -- what holds of the communicator holds of its group
-    pub at_group : (P : List ℕ → Type 0) →
-        ((found : Comm) → slice_get (with_shapes gs ss) c ≡ Some found → P found.members) →
-        P (group_at gs c)
-    at_group P each =
-        let there = there_is gs ss c h lt in
-        subst P (sym (laid_group gs ss (with_shapes gs ss) refl h c there.0 there.1))
-        (each there.0 there.1)
+-- a communicator, by what is seen of it
+module _ (gs : List (List ℕ)) (ss : List Shape) (table : List Comm)
+    (view : with_shapes gs ss ≡ table) (h : AreLaid gs ss) (c : ℕ) (lt : c < length table) where
+  low : c < length gs
+  low = laid_within gs ss table view h c lt
 
-    -- the shape of a communicator, entered for its duplicate
-    pub copy_entered : (before after : List Shape) (shape read : Shape) (found : Comm) →
-        before ≡ ss → slice_get before c ≡ Some read → shape ≡ read → after ≡ before ++ shape ∷ [] →
-        slice_get (with_shapes gs ss) c ≡ Some found →
+  -- what holds of the communicator holds of its group
+  pub at_group : (P : List ℕ → Type 0) →
+      ((found : Comm) → slice_get table c ≡ Some found → P found.members) → P (group_at gs c)
+  at_group P each =
+      let there = some_at table c lt in
+      subst P (sym (laid_group gs ss table view h c there.0 there.1)) (each there.0 there.1)
+
+  module _ (found : Comm) (at : slice_get table c ≡ Some found) where
+    members : group_at gs c ≡ found.members
+    members = laid_group gs ss table view h c found at
+
+    -- its shape, entered for its duplicate
+    pub copy_entered : (before after : List Shape) (shape : Shape) → before ≡ ss →
+        shape ≡ shape_of found → after ≡ before ++ shape ∷ [] →
         after ≡ ss ++ laid found.grid (dup_groups (group_at gs c))
-    copy_entered before after shape read found same there copy entered at =
-        let is = laid_shape gs ss (with_shapes gs ss) refl h c found read
-        (ap (λ xs. slice_get xs c) (sym same) ∙ there) at in
-        let members = laid_group gs ss (with_shapes gs ss) refl h c found at in
-        let own : shape ≡ record { size = length (group_at gs c); grid = found.grid } = copy ∙
-        (is
-        ∙ ap (λ (ms : List ℕ). record { size = length ms; grid = found.grid })
-        (sym members)) in
+    copy_entered before after shape same copy entered =
+        let own : shape ≡ record { size = length (group_at gs c); grid = found.grid } = copy
+        ∙ ap (λ (ms : List ℕ). record { size = length ms; grid = found.grid }) (sym members) in
         entered ∙ (λ i. same i ++ own i ∷ [])
 
     -- a duplicate is as large as the grid
-    pub copy_sized : (found : Comm) → slice_get (with_shapes gs ss) c ≡ Some found →
-        AreSized found.grid (dup_groups (group_at gs c))
-    copy_sized found at = (
-      subst (λ (ms : List ℕ). IsSizedGrid (length ms) found.grid)
-          (sym (laid_group gs ss (with_shapes gs ss) refl h c found at))
-          (laid_sized gs ss (with_shapes gs ss) refl h c found at),
+    pub copy_sized : AreSized found.grid (dup_groups (group_at gs c))
+    copy_sized = (
+      subst (λ (ms : List ℕ). IsSizedGrid (length ms) found.grid) (sym members)
+          (laid_sized gs ss table view h c found at),
       tt,
     )
 
-    -- there is a shape at the communicator's number
-    pub beside : (before : List Shape) → before ≡ ss → c < length before
-    beside before same =
-        let long = laid_length gs ss h in
-        let kept = ap length same in
-        omega arith
+  module _ (own : Option CommFault) (groups : List ℕ → List (List ℕ))
+      (grid : Comm → Option Topology) where
+    abbrev new : List (List ℕ)
+    new = groups (group_at gs c)
 
-    -- what is read there is its shape
-    pub read_at : (before : List Shape) (read : Shape) → before ≡ ss → read ≡ get_or before c read →
-        slice_get before c ≡ Some read
-    read_at before read same is =
-        slice_get_read before (length before) c read refl (beside before same) is
+    -- the same of what is seen
+    seen_made : (found : Comm) (after : List Comm) (outcome : Outcome) →
+        slice_get table c ≡ Some found →
+        Makes (with_grid (grid found) new) (with_shapes gs ss) after outcome →
+        Makes (with_grid (grid found) (groups found.members)) table after outcome
+    seen_made found after outcome at makes =
+        subst (λ ms. Makes (with_grid (grid found) (groups ms)) table after outcome)
+        (members found at)
+        (subst (λ old. Makes (with_grid (grid found) new) old after outcome) view makes)
 
-    module _ (own : Option CommFault) (groups : List ℕ → List (List ℕ))
-        (grid : Comm → Option Topology) where
-      pub makes_these : (after : List (List ℕ)) (shapes : List Shape) (outcome : Outcome)
-          (found : Comm) →
-          constructor_fault gs c own (groups (group_at gs c)) ≡ None →
-          after ≡ gs ++ groups (group_at gs c) →
-          shapes ≡ ss ++ laid (grid found) (groups (group_at gs c)) →
-          outcome ≡ Made (length gs) (length (groups (group_at gs c))) →
-          slice_get (with_shapes gs ss) c ≡ Some found →
-          Makes (with_grid (grid found) (groups found.members)) (with_shapes gs ss)
-          (with_shapes after shapes) outcome
-      makes_these after shapes outcome found none grown entered told at =
-          let is = makes_some gs (groups (group_at gs c)) ss (grid found) h
-          (fits_is gs (groups (group_at gs c)) c own lt none) in
-          let same : group_at gs c ≡ found.members = laid_group gs ss (with_shapes gs ss) refl h c
-          found at in
-          record {
-            grown = (λ i. with_shapes (grown i) (entered i))
-                ∙ (is.grown
-                ∙ ap (λ ms. with_shapes gs ss
-                ++ if_fit (length (with_shapes gs ss))
-                (with_grid (grid found) (groups ms))) same);
-            told = told
-                ∙ (is.told
-                ∙ ap (λ ms. constructor_outcome (length (with_shapes gs ss))
-                (with_grid (grid found) (groups ms))) same);
-          }
+    pub makes_these :
+        (after : List (List ℕ)) (shapes : List Shape) (outcome : Outcome) (found : Comm) →
+        constructor_fault gs c own new ≡ None → after ≡ gs ++ new →
+        shapes ≡ ss ++ laid (grid found) new → outcome ≡ Made (length gs) (length new) →
+        slice_get table c ≡ Some found →
+        Makes (with_grid (grid found) (groups found.members)) table (with_shapes after shapes)
+        outcome
+    makes_these after shapes outcome found none grown entered told at =
+        let is = makes_some gs new ss (grid found) h (fits_is gs new c own low none) in
+        seen_made found (with_shapes after shapes) outcome at (record {
+          grown = (λ i. with_shapes (grown i) (entered i)) ∙ is.grown;
+          told = told ∙ is.told;
+        })
 
-      makes_none_of :
-          (after : List (List ℕ)) (shapes : List Shape) (outcome : Outcome) (found : Comm) →
-          fits (length gs) (length (groups (group_at gs c))) ≡ false → after ≡ gs → shapes ≡ ss →
-          outcome ≡ NoRoom →
-          slice_get (with_shapes gs ss) c ≡ Some found →
-          Makes (with_grid (grid found) (groups found.members)) (with_shapes gs ss)
-          (with_shapes after shapes) outcome
-      makes_none_of after shapes outcome found full same kept told at =
-          let is = makes_none gs (groups (group_at gs c)) ss (grid found) h full in
-          let members : group_at gs c ≡ found.members = laid_group gs ss (with_shapes gs ss) refl h
-          c found at in
-          record {
-            grown = still_joined after shapes same kept
-                ∙ (is.grown
-                ∙ ap (λ ms. with_shapes gs ss
-                ++ if_fit (length (with_shapes gs ss))
-                (with_grid (grid found) (groups ms))) members);
-            told = told
-                ∙ (is.told
-                ∙ ap (λ ms. constructor_outcome (length (with_shapes gs ss))
-                (with_grid (grid found) (groups ms))) members);
-          }
-
-      -- the answer to want of room
-      pub makes_nothing : {E : Type 0} (result : Result Outcome E) (after : List (List ℕ))
-          (shapes : List Shape) (fault : CommFault) →
-          own ≡ None →
-          fault ≡ unwrap_or (constructor_fault gs c own (groups (group_at gs c))) faults.NoMemory →
-          after ≡ gs → shapes ≡ ss →
-          IfOk result (λ outcome. (fault ≡ faults.NoRoom) × (outcome ≡ NoRoom)) →
-          IfOk result (λ outcome. (found : Comm) → slice_get (with_shapes gs ss) c ≡ Some found →
-          Makes (with_grid (grid found) (groups found.members)) (with_shapes gs ss)
-          (with_shapes after shapes) outcome)
-      makes_nothing (Err e) after shapes fault none refused same kept told = tt
-      makes_nothing (Ok outcome) after shapes fault none refused same kept told = λ found at.
-          makes_none_of after shapes outcome found
-          (no_room_is gs (groups (group_at gs c)) c own none lt (sym told.0 ∙ refused)) same
-          kept told.1 at
+    -- the answer to want of room
+    pub makes_nothing : {E : Type 0} (result : Result Outcome E) (after : List (List ℕ))
+        (shapes : List Shape) (fault : CommFault) →
+        own ≡ None → fault ≡ unwrap_or (constructor_fault gs c own new) faults.NoMemory →
+        after ≡ gs → shapes ≡ ss →
+        IfOk result (λ outcome. (fault ≡ faults.NoRoom) × (outcome ≡ NoRoom)) →
+        IfOk result (λ outcome. (found : Comm) → slice_get table c ≡ Some found →
+        Makes (with_grid (grid found) (groups found.members)) table (with_shapes after shapes)
+        outcome)
+    makes_nothing (Err e) after shapes fault none refused same kept told = tt
+    makes_nothing (Ok outcome) after shapes fault none refused same kept told = λ found at.
+        let is = makes_none gs new ss (grid found) h
+        (no_room_is gs new c own none low (sym told.0 ∙ refused)) in
+        seen_made found (with_shapes after shapes) outcome at (record {
+          grown = (λ i. with_shapes (same i) (kept i)) ∙ is.grown;
+          told = told.1 ∙ is.told;
+        })

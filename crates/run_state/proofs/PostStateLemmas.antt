@@ -356,12 +356,11 @@ pub counted : {X : Type 0} (wall : ChineseWall) (table table' : List Comm)
     IsNext waiting g.post.comm spot.rank spot.comm g.post.stated → waiting' ≡ waiting →
     IsPrepared table table' outcome
     (roll_next waiting g.post.comm spot.rank spot.comm g.post.stated) →
-    ((found : Comm) (count : ℕ) → slice_get table' g.post.comm ≡ Some found →
-    outcome ≡ constructed count (roll_next waiting' g.post.comm spot.rank found g.post.stated) →
-    Changes wall count (parts_seen table' accesses waiting') (parts_seen table' accesses' waiting'')
-    (record { rank = spot.rank; comm = found }) g
-    × Answers wall count (parts_seen table' accesses waiting')
-    (record { rank = spot.rank; comm = found }) g entered) →
+    (outcome ≡ constructed (length table)
+    (roll_next waiting' g.post.comm spot.rank spot.comm g.post.stated) →
+    Changes wall (length table) (parts_seen table' accesses waiting')
+    (parts_seen table' accesses' waiting'') spot g
+    × Answers wall (length table) (parts_seen table' accesses waiting') spot g entered) →
     IsStep wall (parts_seen table accesses waiting) (parts_seen table' accesses' waiting'') g
     entered
 counted {X} wall table table' waiting waiting' waiting'' accesses accesses' spot g outcome entered
@@ -369,16 +368,12 @@ counted {X} wall table table' waiting waiting' waiting'' accesses accesses' spot
     let c = g.post.comm in
     let old = parts_seen table accesses waiting in
     let new = parts_seen table' accesses' waiting'' in
-    let there : slice_get table' c ≡ Some spot.comm = ap (λ xs. slice_get xs c) prepared.comms ∙
-    get-front table
-    (added (length table) (if_full (roll_next waiting c spot.rank spot.comm g.post.stated))) c
-    spot.comm at.there in
     let told : outcome ≡ constructed (length table)
     (roll_next waiting' c spot.rank spot.comm g.post.stated) = prepared.outcome ∙ ap
     (λ (w : PendingView X).
     constructed (length table) (roll_next w c spot.rank spot.comm g.post.stated)) (sym same)
     in
-    let both = changed spot.comm (length table) there told in
+    let both = changed told in
     let changes : Changes wall (length table) old new spot g = changes_same wall (length table)
     table table' accesses waiting waiting' new spot g same both.0 in
     let answers : Answers wall (length table) old spot g entered = answers_same wall (length table)
@@ -402,15 +397,3 @@ counted {X} wall table table' waiting waiting' waiting'' accesses accesses' spot
           changes.known changes.pending
           (of_next waiting c spot.rank spot.comm g.post.stated is (after old spot g) joins);
     }
-
--- a communicator that was there still is the same
-pub still_there : (table table' more : List Comm) (c : ℕ) (old now : Comm) →
-    table' ≡ table ++ more → slice_get table c ≡ Some old → slice_get table' c ≡ Some now →
-    old ≡ now
-still_there table table' more c old now grows was is =
-    some_same old now (sym (ap (λ xs. slice_get xs c) grows ∙ get-front table more c old was) ∙ is)
-
-pub more_there : (table table' more : List Comm) (c : ℕ) → table' ≡ table ++ more →
-    c < length table → c < length table'
-more_there table table' more c grows lt = (let count : length table' ≡ length table + length more =
-    ap length grows ∙ length-append table more in omega (arith, lt, count))

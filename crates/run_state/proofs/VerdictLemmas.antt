@@ -1,10 +1,9 @@
 -- The outcome of a full instance, and what is known of an arrival.
-use Rattle.std.proofs.Common.{◌≡◌, ◌≢◌, ℕ, suc, ◌<◌, ◌≤◌, get_or, List, [], ◌∷◌, length, refl, sym}
+use Rattle.std.proofs.Common.{◌≡◌, ◌≢◌, ℕ, suc, ◌<◌, List, [], ◌∷◌, length, refl, sym}
 use Rattle.std.proofs.Common.{ap, ◌∙◌, subst, arith, true, false, ◌&&◌, ◌||◌, Option, Some, None}
 use Rattle.std.proofs.Common.{slice_get, ⊎_elim}
 use Rattle.std.specs.Prelude.{IsSome, nat_lt}
 use Rattle.std.proofs.lemmas.Bool.{cases_Bool, cond-true, cond-false, and_from, lt-ltb}
-use Rattle.std.proofs.lemmas.Option.{slice_get_cases}
 use Rattle.wall_policy.specs.Policy.{ChineseWall}
 use Rattle.wall_rules.specs.Histories.{History}
 use Rattle.coll_values.specs.declared.full.Full.{Full}
@@ -44,6 +43,7 @@ use Rattle.run_state.specs.Views.{PostStateView, communicator_of, fault_after, f
 use Rattle.run_state.specs.Views.{fault_among, LookedAmong}
 use Rattle.run_state.specs.Entering.{Answers, after, written}
 use Rattle.run_state.specs.Upcoming.{IsNext, roll_next, constructed}
+use Rattle.run_state.proofs.LaidLemmas.{some_at}
 use Rattle.run_state.proofs.SeenLemmas.{roll_is, fit_next, no_fault_after}
 
 -- ## verdicts
@@ -89,15 +89,6 @@ verdict_pairs wall held count roll plain =
     λ i p d. held p d || (same i && charged_to wall roll p d)
 
 -- ## arrivals
-
-pub some_at : (table : List Comm) (c : ℕ) → c < length table →
-    (found : Comm) × (slice_get table c ≡ Some found)
-some_at table c lt = ⊎_elim
-    (λ (there : (x : Comm) × (c < length table) × (slice_get table c ≡ Some x)
-    × (get_or table c x ≡ x)). (there.0, there.2))
-    (λ (past : (length table ≤ c) × (slice_get table c ≡ None)).
-    let low = past.0 in absurd (omega (arith, lt, low)))
-    (slice_get_cases table c).1
 
 pub known_as : (members : List ℕ) (shape : Shape) (comm : Comm) (o : Option Communicator) →
     members ≡ comm.members → shape ≡ shape_of comm → IsKnownAs (communicator_of comm) o →

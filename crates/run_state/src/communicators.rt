@@ -1,25 +1,22 @@
 //! Communicators with their grids.
-ghost use Rattle.std.specs.Prelude.{◌≡◌, ◌<◌, ◌∷◌, [], length, slice_get, IfOk, OnErr, Some, None};
+ghost use Rattle.std.specs.Prelude.{◌≡◌, ◌<◌, ◌∷◌, [], length, slice_get, IfOk, Some, None};
 ghost use Rattle.std.specs.Prelude.{true};
 ghost use Rattle.mpi_group.specs.Groups.{is_distinct};
 ghost use Rattle.coll_routes.specs.Fit.{IsSized};
-ghost use Rattle.run_model.specs.Comms.{Comm, shape_of, new_comms_by};
-ghost use Rattle.run_state.specs.Making.{is_faultless, Makes};
+ghost use Rattle.run_model.specs.Comms.{Comm, shape_of};
 
-use crate::making;
-use coll_routes::{Shape, Signature};
-use mpi_comm::{Ask, CommTable};
+use coll_routes::Shape;
+use mpi_comm::CommTable;
 use mpi_group::Group;
-use run_model::Outcome;
 use std::alloc::Global;
 use std::marker::Model;
 use wall_labels::NoMemory;
 
 /// The communicators by number, each with its group and its grid or none.
 pub struct Communicators {
-    alloc: Global,
-    table: CommTable,
-    shapes: Vec<Shape>,
+    pub(crate) alloc: Global,
+    pub(crate) table: CommTable,
+    pub(crate) shapes: Vec<Shape>,
 }
 
 // By hand: a derived one is proved anew in each crate that drops one.
@@ -91,27 +88,5 @@ impl Communicators {
             result.now ≡ shape_of found }
     {
         &self.shapes[comm as usize]
-    }
-
-    /// Carries out a constructor that is full, and tells its outcome. Members ask by rank.
-    pub fn make(&mut self, comm: u32, sig: &Signature, asks: &[Ask]) -> Result<Outcome, NoMemory>
-        requires asks { (found : Comm) → slice_get self.old comm ≡ Some found →
-            length asks.now ≡ length found.members }
-        requires there { comm < length self.old }
-        requires faultless { (found : Comm) → slice_get self.old comm ≡ Some found →
-            is_faultless sig.now found asks.now ≡ true }
-        ensures made { IfOk result (λ outcome. (found : Comm) →
-            slice_get self.old comm ≡ Some found →
-            Makes (new_comms_by sig.now found asks.now) self.old self.new outcome) }
-        ensures kept { OnErr result (self.new ≡ self.old) }
-    {
-        making::make(
-            self.alloc,
-            &mut self.table,
-            &mut self.shapes,
-            comm,
-            sig,
-            asks,
-        )
     }
 }

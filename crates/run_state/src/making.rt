@@ -15,9 +15,10 @@ ghost use Rattle.mpi_cart.specs.Grids.{Topology, below, volume};
 ghost use Rattle.mpi_cart.specs.Faults.{first_fault};
 ghost use Rattle.run_model.specs.Comms.{Comm, with_grid, subgrids, grid_parts, new_comms_by};
 ghost use Rattle.run_model.specs.declared.outcome.Outcome;
-ghost use Rattle.run_state.specs.Laid.{with_shapes, AreLaid, laid};
+ghost use Rattle.run_state.specs.Laid.{AreLaid, laid};
 ghost use Rattle.run_state.specs.Making.{is_faultless, is_kept, is_left, Makes};
 
+use crate::communicators::Communicators;
 use crate::parts::{grid_parts, numbers_below, part_of};
 use coll_routes::{Shape, Signature};
 use mpi_cart::{Grid, GridFault};
@@ -26,50 +27,158 @@ use run_model::Outcome;
 use std::alloc::Global;
 use wall_labels::NoMemory;
 
-/// Carries out a constructor of this signature on a communicator that is there. Members ask by
-/// rank.
-#[tactic(auto, unfolding(run_model::specs::Comms::new_comms_by, crate::specs::Making::is_faultless))]
-pub fn make(
-    alloc: Global,
-    table: &mut CommTable,
-    shapes: &mut Vec<Shape>,
-    comm: u32,
-    sig: &Signature,
-    asks: &[Ask],
-) -> Result<Outcome, NoMemory>
-    requires laid { AreLaid table.old shapes.old.items }
-    requires there { comm < length table.old }
-    requires asks { (found : Comm) →
-        slice_get (with_shapes table.old shapes.old.items) comm ≡ Some found →
-        length asks.now ≡ length found.members }
-    requires faultless { (found : Comm) →
-        slice_get (with_shapes table.old shapes.old.items) comm ≡ Some found →
-        is_faultless sig.now found asks.now ≡ true }
-    ensures laid { AreLaid table.new shapes.new.items }
-    ensures made { IfOk result (λ outcome. (found : Comm) →
-        slice_get (with_shapes table.old shapes.old.items) comm ≡ Some found →
-        Makes (new_comms_by sig.now found asks.now) (with_shapes table.old shapes.old.items)
-        (with_shapes table.new shapes.new.items) outcome) }
-    ensures kept { OnErr result
-        (with_shapes table.new shapes.new.items ≡ with_shapes table.old shapes.old.items) }
-{
-    match sig {
-        Signature::Dup => duplicate(alloc, table, shapes, comm),
-        Signature::Split => split(table, shapes, comm, asks),
-        Signature::Create { ranks } => create(table, shapes, comm, ranks.as_slice()),
-        Signature::CartCreate { dims, periods } => lay_grid(
-            alloc,
-            table,
-            shapes,
-            comm,
-            dims.as_slice(),
-            periods.as_slice(),
-        ),
-        Signature::CartSub { keep } => cut_grid(alloc, table, shapes, comm, keep.as_slice()),
-        _ => Ok(Outcome::Made {
-            first: table.len(),
-            number: 0,
-        }),
+impl Communicators {
+    /// Carries out a constructor that is full, and tells its outcome. Members ask by rank.
+    #[tactic(auto, unfolding(run_model::specs::Comms::new_comms_by, crate::specs::Making::is_faultless))]
+    pub fn make(&mut self, comm: u32, sig: &Signature, asks: &[Ask]) -> Result<Outcome, NoMemory>
+        requires asks { (found : Comm) → slice_get self.old comm ≡ Some found →
+            length asks.now ≡ length found.members }
+        requires there { comm < length self.old }
+        requires faultless { (found : Comm) → slice_get self.old comm ≡ Some found →
+            is_faultless sig.now found asks.now ≡ true }
+        ensures made { IfOk result (λ outcome. (found : Comm) →
+            slice_get self.old comm ≡ Some found →
+            Makes (new_comms_by sig.now found asks.now) self.old self.new outcome) }
+        ensures kept { OnErr result (self.new ≡ self.old) }
+    {
+        match sig {
+            Signature::Dup => self.duplicate(comm),
+            Signature::Split => self.split(comm, asks),
+            Signature::Create { ranks } => self.create(comm, ranks.as_slice()),
+            Signature::CartCreate { dims, periods } => {
+                self.lay_grid(comm, dims.as_slice(), periods.as_slice())
+            }
+            Signature::CartSub { keep } => self.cut_grid(comm, keep.as_slice()),
+            _ => Ok(Outcome::Made {
+                first: self.len(),
+                number: 0,
+            }),
+        }
+    }
+
+    // A duplicate has the grid too.
+    fn duplicate(&mut self, comm: u32) -> Result<Outcome, NoMemory>
+        requires { comm < length self.old }
+        ensures made { IfOk result (λ outcome. (found : Comm) →
+            slice_get self.old comm ≡ Some found →
+            Makes (with_grid found.grid (dup_groups found.members)) self.old self.new outcome) }
+        ensures kept { OnErr result (self.new ≡ self.old) }
+    {
+        let shape = self.shape(comm).copy(self.alloc)?;
+        make_room(&self.table, &mut self.shapes)?;
+        match self.table.dup(comm) {
+            Ok(made) => {
+                self.shapes.push_reserved(shape);
+                Ok(outcome_of(made))
+            }
+            Err(fault) => {
+                drop(shape);
+                refused(fault)
+            }
+        }
+    }
+
+    fn split(&mut self, comm: u32, asks: &[Ask]) -> Result<Outcome, NoMemory>
+        requires there { comm < length self.old }
+        requires asks { (found : Comm) → slice_get self.old comm ≡ Some found →
+            length asks.now ≡ length found.members }
+        requires colours { has_bad_colour asks.now ≡ false }
+        ensures made { IfOk result (λ outcome. (found : Comm) →
+            slice_get self.old comm ≡ Some found →
+            Makes (with_grid None (split_groups asks.now found.members)) self.old self.new
+            outcome) }
+        ensures kept { OnErr result (self.new ≡ self.old) }
+    {
+        make_room(&self.table, &mut self.shapes)?;
+        match self.table.split(comm, asks) {
+            Ok(made) => {
+                enter_plain(&self.table, &mut self.shapes);
+                Ok(outcome_of(made))
+            }
+            Err(fault) => refused(fault),
+        }
+    }
+
+    fn create(&mut self, comm: u32, ranks: &[u32]) -> Result<Outcome, NoMemory>
+        requires there { comm < length self.old }
+        requires ranks { (found : Comm) → slice_get self.old comm ≡ Some found →
+            is_subgroup (length found.members) ranks.now ≡ true }
+        ensures made { IfOk result (λ outcome. (found : Comm) →
+            slice_get self.old comm ≡ Some found →
+            Makes (with_grid None (create_groups ranks.now found.members)) self.old self.new
+            outcome) }
+        ensures kept { OnErr result (self.new ≡ self.old) }
+    {
+        make_room(&self.table, &mut self.shapes)?;
+        match self.table.create(comm, ranks) {
+            Ok(made) => {
+                enter_plain(&self.table, &mut self.shapes);
+                Ok(outcome_of(made))
+            }
+            Err(fault) => refused(fault),
+        }
+    }
+
+    // A grid lies over the lowest ranks.
+    fn lay_grid(&mut self, comm: u32, dims: &[u32], periods: &[bool]) -> Result<Outcome, NoMemory>
+        requires there { comm < length self.old }
+        requires dims { (found : Comm) → slice_get self.old comm ≡ Some found →
+            first_fault dims.now periods.now (length found.members) ≡ None }
+        ensures made { IfOk result (λ outcome. (found : Comm) →
+            slice_get self.old comm ≡ Some found →
+            Makes (with_grid (Some (record { dims = dims.now; periods = periods.now }))
+            (subset_groups (below (volume dims.now) ∷ []) found.members)) self.old self.new
+            outcome) }
+        ensures kept { OnErr result (self.new ≡ self.old) }
+    {
+        let size = self.group(comm).size();
+        let grid = laid_grid(self.alloc, dims, periods, size)?;
+        let lists = lowest(self.alloc, grid.size())?;
+        self.add_parts(comm, &grid, &lists)
+    }
+
+    // A grid for each value of the coordinates that are not kept.
+    fn cut_grid(&mut self, comm: u32, keep: &[bool]) -> Result<Outcome, NoMemory>
+        requires there { comm < length self.old }
+        requires keep { (found : Comm) → slice_get self.old comm ≡ Some found →
+            is_kept keep.now found.grid ≡ true }
+        ensures made { IfOk result (λ outcome. (found : Comm) →
+            slice_get self.old comm ≡ Some found →
+            Makes (subgrids found.grid keep.now found.members) self.old self.new outcome) }
+        ensures kept { OnErr result (self.new ≡ self.old) }
+    {
+        let Some(grid) = &self.shape(comm).grid else {
+            unreachable!()
+        };
+        let part = part_of(self.alloc, grid, keep)?;
+        let lists = grid_parts(self.alloc, grid, keep)?;
+        self.add_parts(comm, &part, &lists)
+    }
+
+    // Adds a communicator with this grid for each list of ranks.
+    fn add_parts(&mut self, comm: u32, grid: &Grid, lists: &[Vec<u32>]) -> Result<Outcome, NoMemory>
+        requires there { comm < length self.old }
+        requires sizes { list_all (λ list. length list.items == volume grid.now.dims) lists.now
+            ≡ true }
+        requires ranks { (found : Comm) → slice_get self.old comm ≡ Some found →
+            list_all (is_subgroup (length found.members)) (map (λ list. list.items) lists.now)
+            ≡ true }
+        ensures made { IfOk result (λ outcome. (found : Comm) →
+            slice_get self.old comm ≡ Some found →
+            Makes (with_grid (Some grid.now)
+            (subset_groups (map (λ list. list.items) lists.now) found.members)) self.old self.new
+            outcome) }
+        ensures kept { OnErr result (self.new ≡ self.old) }
+    {
+        let grids = copies(self.alloc, grid, lists.len())?;
+        make_room(&self.table, &mut self.shapes)?;
+        match self.table.subsets(comm, lists) {
+            Ok(made) => {
+                enter_grids(&self.table, &mut self.shapes, grids);
+                Ok(outcome_of(made))
+            }
+            Err(fault) => refused(fault),
+        }
     }
 }
 
@@ -134,35 +243,6 @@ fn copies(alloc: Global, grid: &Grid, number: usize) -> Result<Vec<Grid>, NoMemo
     Ok(grids)
 }
 
-// A duplicate has the grid too.
-fn duplicate(
-    alloc: Global,
-    table: &mut CommTable,
-    shapes: &mut Vec<Shape>,
-    comm: u32,
-) -> Result<Outcome, NoMemory>
-    requires laid { AreLaid table.old shapes.old.items }
-    requires there { comm < length table.old }
-    ensures laid { AreLaid table.new shapes.new.items }
-    ensures made { IfOk result (λ outcome. (found : Comm) →
-        slice_get (with_shapes table.old shapes.old.items) comm ≡ Some found →
-        Makes (with_grid found.grid (dup_groups found.members))
-        (with_shapes table.old shapes.old.items) (with_shapes table.new shapes.new.items)
-        outcome) }
-    ensures kept { OnErr result
-        (with_shapes table.new shapes.new.items ≡ with_shapes table.old shapes.old.items) }
-{
-    make_room(table, shapes)?;
-    let shape = shapes[comm as usize].copy(alloc)?;
-    match table.dup(comm) {
-        Ok(made) => {
-            shapes.push_reserved(shape);
-            Ok(outcome_of(made))
-        }
-        Err(fault) => refused(fault),
-    }
-}
-
 fn outcome_of(made: Made) -> Outcome
     ensures { result ≡ Outcome.Made made.first made.number }
 {
@@ -183,97 +263,6 @@ fn refused(fault: CommFault) -> Result<Outcome, NoMemory>
         CommFault::NoMemory => Err(NoMemory),
         _ => unreachable!(),
     }
-}
-
-fn split(
-    table: &mut CommTable,
-    shapes: &mut Vec<Shape>,
-    comm: u32,
-    asks: &[Ask],
-) -> Result<Outcome, NoMemory>
-    requires laid { AreLaid table.old shapes.old.items }
-    requires there { comm < length table.old }
-    requires asks { (found : Comm) →
-        slice_get (with_shapes table.old shapes.old.items) comm ≡ Some found →
-        length asks.now ≡ length found.members }
-    requires colours { has_bad_colour asks.now ≡ false }
-    ensures laid { AreLaid table.new shapes.new.items }
-    ensures made { IfOk result (λ outcome. (found : Comm) →
-        slice_get (with_shapes table.old shapes.old.items) comm ≡ Some found →
-        Makes (with_grid None (split_groups asks.now found.members))
-        (with_shapes table.old shapes.old.items) (with_shapes table.new shapes.new.items)
-        outcome) }
-    ensures kept { OnErr result
-        (with_shapes table.new shapes.new.items ≡ with_shapes table.old shapes.old.items) }
-{
-    make_room(table, shapes)?;
-    match table.split(comm, asks) {
-        Ok(made) => {
-            enter_plain(table, shapes);
-            Ok(outcome_of(made))
-        }
-        Err(fault) => refused(fault),
-    }
-}
-
-fn create(
-    table: &mut CommTable,
-    shapes: &mut Vec<Shape>,
-    comm: u32,
-    ranks: &[u32],
-) -> Result<Outcome, NoMemory>
-    requires laid { AreLaid table.old shapes.old.items }
-    requires there { comm < length table.old }
-    requires ranks { (found : Comm) →
-        slice_get (with_shapes table.old shapes.old.items) comm ≡ Some found →
-        is_subgroup (length found.members) ranks.now ≡ true }
-    ensures laid { AreLaid table.new shapes.new.items }
-    ensures made { IfOk result (λ outcome. (found : Comm) →
-        slice_get (with_shapes table.old shapes.old.items) comm ≡ Some found →
-        Makes (with_grid None (create_groups ranks.now found.members))
-        (with_shapes table.old shapes.old.items) (with_shapes table.new shapes.new.items)
-        outcome) }
-    ensures kept { OnErr result
-        (with_shapes table.new shapes.new.items ≡ with_shapes table.old shapes.old.items) }
-{
-    make_room(table, shapes)?;
-    match table.create(comm, ranks) {
-        Ok(made) => {
-            enter_plain(table, shapes);
-            Ok(outcome_of(made))
-        }
-        Err(fault) => refused(fault),
-    }
-}
-
-// A grid lies over the lowest ranks.
-fn lay_grid(
-    alloc: Global,
-    table: &mut CommTable,
-    shapes: &mut Vec<Shape>,
-    comm: u32,
-    dims: &[u32],
-    periods: &[bool],
-) -> Result<Outcome, NoMemory>
-    requires laid { AreLaid table.old shapes.old.items }
-    requires there { comm < length table.old }
-    requires dims { (found : Comm) →
-        slice_get (with_shapes table.old shapes.old.items) comm ≡ Some found →
-        first_fault dims.now periods.now (length found.members) ≡ None }
-    ensures laid { AreLaid table.new shapes.new.items }
-    ensures made { IfOk result (λ outcome. (found : Comm) →
-        slice_get (with_shapes table.old shapes.old.items) comm ≡ Some found →
-        Makes (with_grid (Some (record { dims = dims.now; periods = periods.now }))
-        (subset_groups (below (volume dims.now) ∷ []) found.members))
-        (with_shapes table.old shapes.old.items) (with_shapes table.new shapes.new.items)
-        outcome) }
-    ensures kept { OnErr result
-        (with_shapes table.new shapes.new.items ≡ with_shapes table.old shapes.old.items) }
-{
-    let size = table.group(comm).size();
-    let grid = laid_grid(alloc, dims, periods, size)?;
-    let lists = lowest(alloc, grid.size())?;
-    add_parts(alloc, table, shapes, comm, &grid, &lists)
 }
 
 // A grid of dimensions that have no fault.
@@ -297,70 +286,4 @@ fn lowest(alloc: Global, number: u32) -> Result<Vec<Vec<u32>>, NoMemory>
     let mut lists = Vec::with_capacity(alloc, 1)?;
     lists.push(ranks)?;
     Ok(lists)
-}
-
-// A grid for each value of the coordinates that are not kept.
-fn cut_grid(
-    alloc: Global,
-    table: &mut CommTable,
-    shapes: &mut Vec<Shape>,
-    comm: u32,
-    keep: &[bool],
-) -> Result<Outcome, NoMemory>
-    requires laid { AreLaid table.old shapes.old.items }
-    requires there { comm < length table.old }
-    requires keep { (found : Comm) →
-        slice_get (with_shapes table.old shapes.old.items) comm ≡ Some found →
-        is_kept keep.now found.grid ≡ true }
-    ensures laid { AreLaid table.new shapes.new.items }
-    ensures made { IfOk result (λ outcome. (found : Comm) →
-        slice_get (with_shapes table.old shapes.old.items) comm ≡ Some found →
-        Makes (subgrids found.grid keep.now found.members)
-        (with_shapes table.old shapes.old.items) (with_shapes table.new shapes.new.items)
-        outcome) }
-    ensures kept { OnErr result
-        (with_shapes table.new shapes.new.items ≡ with_shapes table.old shapes.old.items) }
-{
-    let Some(grid) = &shapes[comm as usize].grid else {
-        unreachable!()
-    };
-    let part = part_of(alloc, grid, keep)?;
-    let lists = grid_parts(alloc, grid, keep)?;
-    add_parts(alloc, table, shapes, comm, &part, &lists)
-}
-
-// Adds a communicator with this grid for each list of ranks.
-fn add_parts(
-    alloc: Global,
-    table: &mut CommTable,
-    shapes: &mut Vec<Shape>,
-    comm: u32,
-    grid: &Grid,
-    lists: &[Vec<u32>],
-) -> Result<Outcome, NoMemory>
-    requires laid { AreLaid table.old shapes.old.items }
-    requires there { comm < length table.old }
-    requires sizes { list_all (λ list. length list.items == volume grid.now.dims) lists.now ≡ true }
-    requires ranks { (found : Comm) →
-        slice_get (with_shapes table.old shapes.old.items) comm ≡ Some found →
-        list_all (is_subgroup (length found.members)) (map (λ list. list.items) lists.now) ≡ true }
-    ensures laid { AreLaid table.new shapes.new.items }
-    ensures made { IfOk result (λ outcome. (found : Comm) →
-        slice_get (with_shapes table.old shapes.old.items) comm ≡ Some found →
-        Makes (with_grid (Some grid.now)
-        (subset_groups (map (λ list. list.items) lists.now) found.members))
-        (with_shapes table.old shapes.old.items) (with_shapes table.new shapes.new.items)
-        outcome) }
-    ensures kept { OnErr result
-        (with_shapes table.new shapes.new.items ≡ with_shapes table.old shapes.old.items) }
-{
-    make_room(table, shapes)?;
-    let grids = copies(alloc, grid, lists.len())?;
-    match table.subsets(comm, lists) {
-        Ok(made) => {
-            enter_grids(table, shapes, grids);
-            Ok(outcome_of(made))
-        }
-        Err(fault) => refused(fault),
-    }
 }

@@ -15,8 +15,9 @@ ghost use Rattle.run_state.specs.declared.entered.Entered.TheVariants.{Waiting};
 use crate::communicators::Communicators;
 use crate::entered::{Entered, Unentered};
 use crate::seat::{Seat, Terms};
-use crate::steps;
-use coll_pending::Pending;
+use crate::steps::{self, settle_full};
+use coll_pending::laws::faultless_signatures_fit;
+use coll_pending::{Arrived, Pending};
 use coll_routes::{Shape, Stated};
 use mpi_group::Group;
 use run_model::Refusal;
@@ -33,7 +34,6 @@ use wall_verdict::{enter_passed, passes_star};
 /// It stands for the posts that were entered, which contracts list with the newest first. The
 /// policy is handed in each time: it is the one that the state was opened with.
 pub struct PostState<X> {
-    alloc: Global,
     comms: Communicators,
     pending: Pending<X>,
     histories: Histories,
@@ -43,7 +43,6 @@ pub struct PostState<X> {
 impl<X: Drop> Drop for PostState<X> {
     fn drop(self) {
         let PostState {
-            alloc: _,
             comms,
             pending,
             histories,
@@ -84,7 +83,6 @@ impl<X: Drop> PostState<X> {
         let comms = Communicators::open(alloc, world)?;
         let pending = Pending::new(alloc);
         Ok(PostState {
-            alloc,
             comms,
             pending,
             histories,
@@ -231,24 +229,24 @@ impl<X: Drop> PostState<X> {
     {
         // Called for what is known of each group.
         let _ = self.comms.group(seat.meeting.comm);
-        match steps::prepare(
-            self.alloc,
-            &mut self.comms,
-            &mut self.pending,
-            seat.meeting,
-            &stated,
-        ) {
+        let met = seat.meeting;
+        match steps::prepare(&mut self.comms, &mut self.pending, met, &stated) {
             Err(_) => Err(Unentered { stated, part }),
-            Ok(made) => Ok(steps::change(
-                &self.comms,
-                &mut self.pending,
-                &mut self.histories,
-                policy,
-                seat,
-                stated,
-                part,
-                made,
-            )),
+            Ok(made) => {
+                faultless_signatures_fit();
+                let passed = !stated.barred;
+                enter_passed(&mut self.histories, seat.process, &stated.label, passed);
+                let group = self.comms.group(met.comm);
+                let shape = self.comms.shape(met.comm);
+                let k = met.k;
+                match self.pending.arrive_ready(met, group, shape, stated, part) {
+                    Arrived::Waiting => Ok(Entered::Waiting { k }),
+                    Arrived::Full(full) => {
+                        let outcome = settle_full(policy, &mut self.histories, &full.roll, made);
+                        Ok(Entered::Settled { full, k, outcome })
+                    }
+                }
+            }
         }
     }
 }

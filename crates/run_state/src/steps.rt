@@ -1,5 +1,5 @@
 //! The steps of a post, on the parts of a state.
-ghost use Rattle.std.specs.Prelude.{◌≡◌, ◌<◌, ◌≤◌, ◌^◌, ◌==◌, ℕ, not, length, slice_get, IfOk};
+ghost use Rattle.std.specs.Prelude.{◌≡◌, ◌<◌, ◌≤◌, ◌==◌, ℕ, length, slice_get, IfOk};
 ghost use Rattle.std.specs.Prelude.{OnOk, OnErr, Some, None, true};
 ghost use Rattle.std.specs.Option.{option_copied};
 ghost use Rattle.std.specs.Result.{result_err};
@@ -10,22 +10,17 @@ ghost use Rattle.coll_routes.specs.Fit.{IsFit};
 ghost use Rattle.coll_routes.specs.declared.roll.Roll;
 ghost use Rattle.coll_pending.specs.declared.arrival.Next.TheVariants.{Mismatch};
 ghost use Rattle.coll_pending.specs.Waiting.{view_of_pending, HasRoom, IsMeetingOf};
-ghost use Rattle.wall_verdict.specs.Star.{star};
 ghost use Rattle.run_model.specs.Comms.{Comm, processes, ask_by, ask_in, asks};
 ghost use Rattle.run_model.specs.Posts.{outcome_of, with_delivery, by_verdict};
 ghost use Rattle.run_model.specs.Refusals.{refused_for};
-ghost use Rattle.run_model.specs.Contributions.{contribution};
-ghost use Rattle.run_state.specs.Views.{seen, communicator_of, fault_among, LookedAmong};
+ghost use Rattle.run_state.specs.Views.{communicator_of, fault_among, LookedAmong};
 ghost use Rattle.run_state.specs.Views.{fault_after};
-ghost use Rattle.run_state.specs.Entering.{Changes, Answers};
 ghost use Rattle.run_state.specs.Upcoming.{IsNext, IsPrepared, roll_next, is_last, asks_with};
 ghost use Rattle.run_state.specs.Upcoming.{stated_in, constructed};
 
 use crate::communicators::Communicators;
-use crate::entered::Entered;
 use crate::seat::{Seat, Terms};
-use coll_pending::laws::faultless_signatures_fit;
-use coll_pending::{Arrived, Meeting, Next, Pending};
+use coll_pending::{Meeting, Next, Pending};
 use coll_routes::{Own, Roll, ShapeFault, Stated, shape_fault};
 use mpi_comm::Ask;
 use mpi_group::{Group, GroupFault};
@@ -34,7 +29,7 @@ use std::alloc::Global;
 use wall_labels::{NoMemory, ProcessId};
 use wall_policy::Policy;
 use wall_rules::Histories;
-use wall_verdict::{Verdict, enter_passed, settle};
+use wall_verdict::{Verdict, settle};
 
 /// The group of all processes, in order.
 #[tactic(auto, using(crate::proofs::PartLemmas::distinct_below))]
@@ -146,7 +141,6 @@ fn refused_for(fault: ShapeFault) -> Refusal
 
 /// Makes all that a member's post needs, and the communicators that it completes, if they fit.
 pub fn prepare<X: Drop>(
-    alloc: Global,
     comms: &mut Communicators,
     pending: &mut Pending<X>,
     meeting: Meeting,
@@ -167,12 +161,11 @@ pub fn prepare<X: Drop>(
 {
     let comm = meeting.comm;
     pending.ready(comm, meeting.rank, comms.group(comm), comms.shape(comm))?;
-    make_if_full(alloc, comms, pending, meeting, stated)
+    make_if_full(comms, pending, meeting, stated)
 }
 
 // Makes the communicators of a constructor that a member's post fills.
 fn make_if_full<X: Drop>(
-    alloc: Global,
     comms: &mut Communicators,
     pending: &Pending<X>,
     meeting: Meeting,
@@ -197,7 +190,7 @@ fn make_if_full<X: Drop>(
         return Ok(None);
     }
     let asks = all_asks(
-        alloc,
+        comms.alloc,
         pending.roll(comm, meeting.k),
         size,
         meeting.rank,
@@ -275,56 +268,9 @@ fn ask_by(own: &Own) -> Ask
     }
 }
 
-/// Enters a post for which there is room.
-pub fn change<X: Drop>(
-    comms: &Communicators,
-    pending: &mut Pending<X>,
-    histories: &mut Histories,
-    policy: &Policy,
-    seat: Seat,
-    stated: Stated,
-    part: X,
-    made: Option<Outcome>,
-) -> Entered<X>
-    requires there { seat.meeting.comm < length comms.now }
-    requires met { IsMeetingOf (view_of_pending pending.old) stated.sig seat.meeting }
-    requires upcoming { (found : Comm) → slice_get comms.now seat.meeting.comm ≡ Some found →
-        IsNext (view_of_pending pending.old) seat.meeting.comm seat.meeting.rank found stated }
-    requires room { (found : Comm) → slice_get comms.now seat.meeting.comm ≡ Some found →
-        HasRoom pending.old seat.meeting.comm seat.meeting.rank (communicator_of found) }
-    requires word { stated.barred ≡ not (star (has histories.old) seat.process stated.label) }
-    requires policy { histories.old.classes ≡ policy.now.classes }
-    requires few { seat.meeting.k < 2 ^ 62 }
-    ensures classes { histories.new.classes ≡ histories.old.classes }
-    ensures changes { (found : Comm) (count : ℕ) →
-        slice_get comms.now seat.meeting.comm ≡ Some found →
-        made ≡ constructed count
-        (roll_next (view_of_pending pending.old) seat.meeting.comm seat.meeting.rank found stated) →
-        Changes policy.now count (seen comms.now pending.old histories.old)
-        (seen comms.now pending.new histories.new)
-        (record { rank = seat.meeting.rank; comm = found })
-        (contribution seat.process seat.meeting.comm stated part)
-        × Answers policy.now count (seen comms.now pending.old histories.old)
-        (record { rank = seat.meeting.rank; comm = found })
-        (contribution seat.process seat.meeting.comm stated part) result }
-{
-    faultless_signatures_fit();
-    let meeting = seat.meeting;
-    let comm = meeting.comm;
-    let k = meeting.k;
-    enter_passed(histories, seat.process, &stated.label, !stated.barred);
-    match pending.arrive_ready(meeting, comms.group(comm), comms.shape(comm), stated, part) {
-        Arrived::Waiting => Entered::Waiting { k },
-        Arrived::Full(full) => {
-            let outcome = settle_full(policy, histories, &full.roll, made);
-            Entered::Settled { full, k, outcome }
-        }
-    }
-}
-
-// The outcome of a full instance: what its constructor made, or else the verdict, by which the
-// histories grow.
-fn settle_full(
+/// The outcome of a full instance: what its constructor made, or else the verdict, by which the
+/// histories grow.
+pub fn settle_full(
     policy: &Policy,
     histories: &mut Histories,
     roll: &Roll,

@@ -3,7 +3,8 @@ use Rattle.std.specs.Prelude.{IfOk}
 use Rattle.coll_pending.specs.Waiting.{view_of_pending, PendingView}
 use Rattle.run_model.specs.Comms.{Comm}
 use Rattle.run_state.specs.Upcoming.{IsNext, IsPrepared, roll_next}
-use Rattle.run_state.proofs.VerdictLemmas.{some_at, known_as}
+use Rattle.run_state.proofs.LaidLemmas.{some_at}
+use Rattle.run_state.proofs.VerdictLemmas.{known_as}
 use Rattle.run_state.proofs.steps.prepare.Goals as goal
 
 pub ready-requires-clause-rank : goal.ready-requires-clause-rank
