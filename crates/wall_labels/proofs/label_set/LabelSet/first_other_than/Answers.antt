@@ -1,4 +1,4 @@
-use Rattle.std.proofs.Common.{sym, ◌∙◌, arith}
+use Rattle.std.proofs.Common.{ℕ, sym, ◌∙◌, arith}
 use Rattle.std.proofs.lemmas.Bool.{and_parts}
 use Rattle.wall_labels.specs.Limits.{dataset_limit}
 use Rattle.wall_labels.specs.Rows.{is_set, differs}
@@ -12,9 +12,10 @@ returns c =
     let other = c.args.other in
     let result = c.lowest_other.result in
     let is_held = held words c.args.self.now c.self.view_is in
+    let parts = λ (d : ℕ). and_parts (is_set words d) (differs other d) in
     record {
       found =
-          some_then result _ _ (λ d is. let both = and_parts (is_set words d) (differs other d) is in
+          some_then result _ _ (λ d is. let both = parts d is in
           (is_held d ∙ both.0, differs_is other d both.1)) c.lowest_other.ensures.found;
       lowest =
           some_then result _ _ (λ d first e lt has.
