@@ -1,3 +1,4 @@
 pub mod KnownLemmas
+pub mod OptionLemmas
 pub mod RowLemmas
 pub mod WallLabelsLemmas
