@@ -3,7 +3,8 @@ use Rattle.std.proofs.Common.{◌≡◌, ℕ, zero, suc, ◌<◌, ◌≤◌, Boo
 use Rattle.std.proofs.Common.{List, [], ◌∷◌, take, nat_eq, nat_lt, Option, Some, refl}
 use Rattle.std.proofs.Common.{sym, ◌∙◌, ap, inl, inr, ◌⊎◌, arith, slice_get}
 use Rattle.std.specs.Prelude.{filter, min}
-use Rattle.std.proofs.lemmas.Bool.{cases_Bool, and_parts, or_parts, or_right, eqb-true, ltb-true}
+use Rattle.std.proofs.lemmas.Bool.{cases_Bool, and_parts, or_cases, or_parts, or_right, eqb-true}
+use Rattle.std.proofs.lemmas.Bool.{ltb-true}
 use Rattle.std.proofs.lemmas.List.{length-take}
 use Rattle.std.specs.List.{list_all, list_any}
 use Rattle.std.specs.Str.{bytes_eq}
@@ -50,10 +51,6 @@ pairs_of n pairs = filter (λ pair. nat_lt pair.0 n) pairs
 
 abbrev is_pair : (p d : ℕ) → ℕ × ℕ → Bool
 is_pair p d pair = nat_eq pair.0 p && nat_eq pair.1 d
-
-or_cases : (a b : Bool) → (a || b) ≡ true → (a ≡ true) ⊎ (b ≡ true)
-or_cases true b e = inl refl
-or_cases false b e = inr e
 
 pub has_pair-front : (n : ℕ) (pairs : List (ℕ × ℕ)) (p d : ℕ) →
     has_pair (pairs_of n pairs) p d ≡ true → (has_pair pairs p d ≡ true) × (p < n)

@@ -115,6 +115,9 @@ unfolding are_rivals
 are_rivals-symmetric classes d e = λ i.
     not (eq-symmetric d e i) && one_class-symmetric (slice_get classes d) (slice_get classes e) i
 
+pub rivals_turned : (classes : List ℕ) (d e : ℕ) → AreRivals classes d e → AreRivals classes e d
+rivals_turned classes d e r = (λ same. r.0 (sym same), (r.1.0, r.1.2, r.1.1))
+
 ---- More datasets behind those that are there.
 
 in_both : (n d : ℕ) (xs ys : List ℕ) (k : ℕ) → k < length (n ∷ xs) →

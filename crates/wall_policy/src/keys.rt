@@ -83,14 +83,14 @@ fn each_has_keys(section: Section, values: &[Value]) -> bool
     values.iter().all(|value| value_has_keys(section, value))
 }
 
-// The same, of each value that is a table.
+// Whether none of the values is a table with other keys than its part may have.
 fn all_have_keys(section: Section, values: &[Value]) -> bool
     ensures { result ≡ items_have_keys section (items_view values.now) }
 {
     each_has_keys(section, values)
 }
 
-// The same, of each table in the array that a key may hold.
+// Whether no table in the array that the key may hold has other keys than its part may have.
 fn array_at_has_keys(section: Section, members: &Table, key: &str) -> bool
     ensures { result ≡ array_has_keys section (get_member key.now (table_view members.now)) }
 {

@@ -10,6 +10,7 @@ mod build;
 mod checks;
 mod fault;
 mod keys;
+mod lists;
 mod names;
 mod numbering;
 mod plain;
@@ -19,5 +20,6 @@ mod tree;
 
 pub use checks::NAME_LIMIT;
 pub use fault::PolicyFault;
-pub use policy::{Policy, are_rivals};
+pub use lists::are_rivals;
+pub use policy::Policy;
 pub use read::read_policy;

@@ -60,7 +60,7 @@ fn hints_for(alloc: Global, names: &IndexSet<String>) -> Vec<u16> {
     hints
 }
 
-// The same hints, or none where no memory is left for them.
+// A copy of these hints, or none where no memory is left for them.
 fn copy_of(alloc: Global, hints: &[u16]) -> Vec<u16> {
     match Vec::from_slice(alloc, hints) {
         Ok(copy) => copy,
@@ -181,7 +181,7 @@ impl NameTable {
         })
     }
 
-    /// The same table, with hints for who asks by bytes.
+    /// The table with hints for who asks by bytes.
     pub(crate) fn with_hints(self, alloc: Global) -> NameTable
         ensures { result ≡ self }
     {
@@ -190,7 +190,7 @@ impl NameTable {
         NameTable { names, hints }
     }
 
-    /// The same table, with the hints of one that it is a copy of.
+    /// The table with the hints of one that it is a copy of.
     pub(crate) fn with_hints_of(self, alloc: Global, first: &NameTable) -> NameTable
         ensures { result ≡ self }
     {

@@ -1,14 +1,13 @@
 //! A policy, as the rules of the wall ask it.
 ghost use Rattle.std.specs.Prelude.{◌≡◌, ◌<◌, ◌≤◌, ◌↔◌, length, IsTrue, IfSome, Some, false, true};
-ghost use Rattle.std.specs.Prelude.{slice_get, filter, nat_lt, ◌+◌};
+ghost use Rattle.std.specs.Prelude.{slice_get, ◌+◌};
 ghost use Rattle.wall_labels.specs.declared.ids.TheConstants.{PROCESS_LIMIT, DATASET_LIMIT};
 ghost use Rattle.wall_policy.specs.Names.{place_of, is_name, is_dataset_name};
-ghost use Rattle.wall_policy.specs.Rivals.{AreRivals, are_rivals};
-ghost use Rattle.wall_policy.specs.Policy.{home_if_any, number_in, with_held, CanBeHeld};
-ghost use Rattle.wall_policy.specs.Policy.{first_processes};
-ghost use Rattle.wall_policy.specs.Policy.{AreKnownPairs};
+ghost use Rattle.wall_policy.specs.Rivals.{AreRivals};
+ghost use Rattle.wall_policy.specs.Policy.{with_held, CanBeHeld, first_processes, AreKnownPairs};
 
 use crate::build::{Lists, lists_of};
+use crate::lists::{are_rivals, home_in, keep_first, number_in};
 use crate::names::{NameTable, Tables};
 use crate::plain::PolicyText;
 use std::alloc::{AllocError, Global};
@@ -368,51 +367,4 @@ impl Policy {
             None => None,
         }
     }
-}
-
-// What the list has at the place of the process.
-fn home_in(homes: &[Option<DatasetId>], process: ProcessId) -> Option<DatasetId>
-    ensures { result ≡ home_if_any (slice_get homes.now process) }
-{
-    match homes.get(process.number() as usize) {
-        Some(home) => *home,
-        None => None,
-    }
-}
-
-/// Whether two datasets are rivals, by the list of the class of each dataset: both stand in it,
-/// they differ, and they have one class.
-///
-/// For who keeps the classes of a policy beside the data that they guard; [`Policy::rival`] asks
-/// the policy itself.
-#[tactic(auto, unfolding(crate::specs::Rivals::are_rivals))]
-pub fn are_rivals(classes: &[ClassId], left: DatasetId, right: DatasetId) -> bool
-    ensures { result ≡ are_rivals classes.now left right }
-{
-    let Some(class) = classes.get(left.number() as usize) else {
-        return false;
-    };
-    let Some(other) = classes.get(right.number() as usize) else {
-        return false;
-    };
-    left.number() != right.number() && class.number() == other.number()
-}
-
-// Takes the pairs of all but the first processes away.
-fn keep_first(pairs: &mut Vec<(ProcessId, DatasetId)>, number: usize)
-    ensures { pairs.new.items ≡ filter (λ pair. nat_lt pair.0 number) pairs.old.items }
-{
-    pairs.retain(|pair| (pair.0.number() as usize) < number);
-}
-
-// The number that the list has for the operation.
-fn number_in(numbers: &[(Op, u32)], op: Op) -> Option<u32>
-    ensures { result ≡ number_in numbers.now op }
-{
-    for (stated, number) in numbers {
-        if *stated == op {
-            return Some(*number);
-        }
-    }
-    None
 }
