@@ -71,7 +71,8 @@ impl BufferBuilder {
         }
     }
 
-    /// The same of a number of 64 bits, at that width.
+    /// Adds a number of 64 bits, for which there is room, and looks at it at that width. `BadNumber`
+    /// where it is outside the type. Takes no memory.
     #[inline(always)]
     pub fn push_narrow(&mut self, number: i64) -> Result<(), BufferFault>
         requires { length self.old.numbers
@@ -120,7 +121,7 @@ fn push_single<T: Native>(items: &mut Vec<T>, number: i128) -> bool
     }
 }
 
-// The same of a number of 64 bits.
+// Adds the number of 64 bits, if the type has it.
 #[inline(always)]
 fn push_small_single<T: Narrow>(items: &mut Vec<T>, number: i64) -> bool
     requires { vec_len items.old < vec_capacity items.old }
@@ -173,7 +174,7 @@ fn push_of_pair(items: &mut Vec<(i32, i32)>, half: &mut Option<i32>, number: i12
     }
 }
 
-// The same of a number of 64 bits.
+// Adds the number of 64 bits, if the type has it.
 #[inline(always)]
 #[tactic(auto, unfolding(crate::specs::Numbers::is_number_of))]
 fn push_small_of_pair(items: &mut Vec<(i32, i32)>, half: &mut Option<i32>, number: i64) -> bool
@@ -219,7 +220,7 @@ fn push(cells: &mut Cells, half: &mut Option<i32>, number: i128) -> bool
     }
 }
 
-// The same of a number of 64 bits.
+// Adds the number of 64 bits, if the type has it.
 #[inline(always)]
 #[tactic(auto, using(crate::proofs::BuilderLemmas::single_pushed))]
 fn push_small(cells: &mut Cells, half: &mut Option<i32>, number: i64) -> bool

@@ -14,6 +14,8 @@ mod narrow;
 mod native;
 mod operation;
 mod reading;
+mod signed;
+mod unsigned;
 
 pub use buffer::{Buffer, allowed, combine_into};
 pub use builder::BufferBuilder;
