@@ -5,12 +5,13 @@ ghost use Rattle.std.specs.Prelude.{if◌then◌else◌, ◌≡◌, ◌<◌, ◌
 ghost use Rattle.std.specs.Prelude.{Some, None, IfOk, IfErr, IsErr, IsErrOf, IsTrue, slice_get};
 ghost use Rattle.std.specs.Prelude.{position, ◌==◌};
 ghost use Rattle.wall_labels.specs.declared.ids.TheConstants.{PROCESS_LIMIT};
-ghost use Rattle.mpi_group.specs.Groups.{IsGroup, is_distinct, is_member, are_ranks, ranks_fault};
+ghost use Rattle.mpi_group.specs.Groups.{IsGroup, is_distinct, is_member, ranks_fault};
 ghost use Rattle.mpi_group.specs.Groups.{union_of, members_at};
 ghost use Rattle.mpi_group.specs.Ranks.{IsTable};
 
 use super::compare::GroupCompare;
 use super::fault::GroupFault;
+use super::ranks::ranks_fault;
 use std::alloc::{AllocError, Global};
 use std::marker::Model;
 use wall_labels::{NoMemory, PROCESS_LIMIT, ProcessId};
@@ -197,76 +198,6 @@ impl Group {
     }
 }
 
-/// What is wrong with a list of ranks of a group of this size: the first fault that `incl` and
-/// `excl` would answer, out of memory aside. Looks at each rank twice. Where there are at most three,
-/// or the size is above that of any group, it looks at each, and then, up to the first repeat, for
-/// each at those before it.
-pub fn ranks_fault(size: u32, ranks: &[u32]) -> Option<GroupFault>
-    ensures { result ≡ ranks_fault size ranks.now }
-{
-    if !are_ranks(size, ranks) {
-        Some(GroupFault::BadRank)
-    } else if is_without_repeat(size, ranks) {
-        None
-    } else {
-        Some(GroupFault::RepeatedRank)
-    }
-}
-
-fn are_ranks(size: u32, ranks: &[u32]) -> bool
-    ensures { result ≡ are_ranks size ranks.now }
-{
-    ranks.iter().all(|rank| *rank < size)
-}
-
-// Whether no rank stands there twice, each below this size. To compare two or three costs less than
-// to clear a table.
-fn is_without_repeat(size: u32, ranks: &[u32]) -> bool
-    requires { All (λ rank. rank < size) ranks.now }
-    ensures { result ≡ is_distinct ranks.now }
-{
-    if size <= PROCESS_LIMIT && ranks.len() > 3 {
-        are_marked_once(size, ranks)
-    } else {
-        are_distinct(ranks)
-    }
-}
-
-// Whether no rank stands there twice, by marks at those that have come.
-fn are_marked_once(_size: u32, ranks: &[u32]) -> bool
-    requires size { _size ≤ PROCESS_LIMIT }
-    requires ranks { All (λ rank. rank < _size) ranks.now }
-    ensures { result ≡ is_distinct ranks.now }
-{
-    let mut marks = [false; PROCESS_LIMIT as usize];
-    for rank in ranks {
-        let at = *rank as usize;
-        match marks[at] {
-            true => return false,
-            false => marks[at] = true,
-        }
-    }
-    true
-}
-
-// Whether no rank stands there twice.
-fn are_distinct(ranks: &[u32]) -> bool
-    ensures { result ≡ is_distinct ranks.now }
-{
-    for (k, rank) in ranks.iter().enumerate() {
-        if contains(&ranks[..k], *rank) {
-            return false;
-        }
-    }
-    true
-}
-
-fn contains(ranks: &[u32], rank: u32) -> bool
-    ensures { result ≡ is_member ranks.now rank }
-{
-    ranks.iter().any(|r| *r == rank)
-}
-
 // Whether each of the processes is in the group.
 fn is_within(processes: &[ProcessId], group: &Group) -> bool
     ensures { result ≡ list_all (is_member group.now) processes.now }
@@ -285,7 +216,7 @@ fn of_distinct(alloc: Global, members: Vec<ProcessId>) -> Result<Group, GroupFau
     Ok(Group { members, ranks })
 }
 
-// The same items, in no more memory than they need. `Vec::from_slice` doesn't promise that a copy
+// A copy of these items, in no more memory than they need. `Vec::from_slice` doesn't promise that a copy
 // of nothing takes none.
 fn copied<T: Copy>(alloc: Global, items: &[T]) -> Result<Vec<T>, AllocError>
     ensures made { IfOk result (λ copy. copy.items ≡ items.now) }

@@ -1,7 +1,7 @@
 use Rattle.std.proofs.Common.{get_or, sym, ◌∙◌, ℕ}
 use Rattle.std.proofs.lemmas.List.{get_or_default}
 use Rattle.mpi_group.proofs.Marks.{distinct_no_more, distinct_more}
-use Rattle.mpi_group.proofs.group.are_distinct.Goals as goal
+use Rattle.mpi_group.proofs.ranks.are_distinct.Goals as goal
 
 pub returns-then-contains : goal.returns-then-contains
 returns-then-contains c =

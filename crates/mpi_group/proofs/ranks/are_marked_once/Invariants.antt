@@ -1,7 +1,7 @@
 use Rattle.std.proofs.Common.{◌≡◌, ℕ, true, false, take, get_or, length}
 use Rattle.wall_labels.specs.declared.ids.TheConstants.{PROCESS_LIMIT}
 use Rattle.mpi_group.specs.Groups.{is_member, is_distinct}
-use Rattle.mpi_group.proofs.group.are_marked_once.Given as goal
+use Rattle.mpi_group.proofs.ranks.are_marked_once.Given as goal
 
 abbrev pub invariant-loop-rank : goal.invariant-loop-rank
 invariant-loop-rank l = record {
