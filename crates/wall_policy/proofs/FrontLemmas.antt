@@ -1,7 +1,7 @@
 -- The policy of the first processes is a policy.
-use Rattle.std.proofs.Common.{◌≡◌, ℕ, zero, suc, ◌<◌, ◌≤◌, Bool, true, false, ◌&&◌, ◌||◌}
+use Rattle.std.proofs.Common.{◌≡◌, ℕ, zero, suc, ◌<◌, ◌≤◌, Bool, true, false, ◌&&◌}
 use Rattle.std.proofs.Common.{List, [], ◌∷◌, take, nat_eq, nat_lt, Option, Some, refl}
-use Rattle.std.proofs.Common.{sym, ◌∙◌, ap, inl, inr, ◌⊎◌, arith, slice_get}
+use Rattle.std.proofs.Common.{sym, ◌∙◌, ap, inl, inr, arith, slice_get}
 use Rattle.std.specs.Prelude.{filter, min}
 use Rattle.std.proofs.lemmas.Bool.{cases_Bool, and_parts, or_cases, or_parts, or_right, eqb-true}
 use Rattle.std.proofs.lemmas.Bool.{ltb-true}
