@@ -49,45 +49,41 @@ shown_by_all text whole fault known sign read is found =
     ∙ ap (λ (k : Known). shows k sign whole) is
     ∙ found_passes (λ s. shows (known_of whole) s whole) (signs_of fault) sign found
 
-module _ (text ends : List ℕ) (all : AreEnds text ends) where
-  -- the bytes up to the end of line n are the first n lines
-  pub front_is : (n : ℕ) → 1 ≤ n → n ≤ length ends →
-      take (get_or ends (n - 1) 0) text ≡ front n text
-  front_is n some most =
-      let same : n - 1 + 1 ≡ n = omega arith in
-      subst (λ j. take (get_or ends (n - 1) 0) text ≡ front j text) same
-      (all.fronts (n - 1) (get_or ends (n - 1) 0) (slice_get-get_or ends (n - 1) 0 (omega arith)))
+-- the bytes up to the end of line n are the first n lines
+pub front_is : (text ends : List ℕ) → AreEnds text ends → (n : ℕ) → 1 ≤ n → n ≤ length ends →
+    take (get_or ends (n - 1) 0) text ≡ front n text
+front_is text ends all n some most =
+    let same : n - 1 + 1 ≡ n = omega arith in
+    subst (λ j. take (get_or ends (n - 1) 0) text ≡ front j text) same
+    (all.fronts (n - 1) (get_or ends (n - 1) 0) (slice_get-get_or ends (n - 1) 0 (omega arith)))
 
-  pub end_within : (n : ℕ) → 1 ≤ n → n ≤ length ends → get_or ends (n - 1) 0 ≤ length text
-  end_within n some most =
-      all.within (n - 1) (get_or ends (n - 1) 0) (slice_get-get_or ends (n - 1) 0 (omega arith))
+pub end_within : (text ends : List ℕ) → AreEnds text ends → (n : ℕ) → 1 ≤ n → n ≤ length ends →
+    get_or ends (n - 1) 0 ≤ length text
+end_within text ends all n some most =
+    all.within (n - 1) (get_or ends (n - 1) 0) (slice_get-get_or ends (n - 1) 0 (omega arith))
 
-  -- the whole text is no TOML
-  pub behind_all : tree_of text ≡ None → (n : ℕ) → length ends < n → tree_of (front n text) ≡ None
-  behind_all refused n low = ap tree_of (all.whole n (omega arith)) ∙ refused
-
-  -- one line fewer is none either
-  pub behind_more : (n : ℕ) → 1 ≤ n → n ≤ length ends →
-      tree_of (take (get_or ends (n - 1) 0) text) ≡ None →
+module _ (text : List ℕ) where
+  -- one line fewer is no TOML either
+  pub behind_more : (n : ℕ) → tree_of (front n text) ≡ None →
       ((m : ℕ) → n < m → tree_of (front m text) ≡ None) →
       (m : ℕ) → n - 1 < m → tree_of (front m text) ≡ None
-  behind_more n some most refused behind m low = elim (cases_lt n m) [
+  behind_more n refused behind m low = elim (cases_lt n m) [
     | inl later ↦ behind m later
-    | inr here ↦
-        let same : n ≡ m = omega arith in
-        subst (λ j. tree_of (front j text) ≡ None) same
-        (ap tree_of (sym (front_is n some most)) ∙ refused)
+    | inr here ↦ elim (cases_lt m n) [
+      | inl less ↦ absurd (omega arith)
+      | inr same ↦
+          let is : n ≡ m = omega arith in
+          subst (λ j. tree_of (front j text) ≡ None) is refused
+    ]
   ]
 
-  pub ends_here : (n : ℕ) → 1 ≤ n → n ≤ length ends →
-      is_some (tree_of (take (get_or ends (n - 1) 0) text)) ≡ true →
+  pub ends_here : (n : ℕ) → is_some (tree_of (front n text)) ≡ true →
       ((m : ℕ) → n < m → tree_of (front m text) ≡ None) → EndsToml text (n + 1)
-  ends_here n some most read behind =
+  ends_here n read behind =
       let same : n ≡ n + 1 - 1 = omega arith in
       record {
         counted = omega arith;
-        before = subst (λ j. is_some (tree_of (front j text)) ≡ true) same
-            (ap (λ t. is_some (tree_of t)) (sym (front_is n some most)) ∙ read);
+        before = subst (λ j. is_some (tree_of (front j text)) ≡ true) same read;
         behind = λ m low. behind m (omega arith);
       }
 
@@ -99,34 +95,13 @@ module _ (text ends : List ℕ) (all : AreEnds text ends) where
   }
 
   module _ (known : Known) (sign : Sign) where
-    pub shown_here : (n : ℕ) → 1 ≤ n → n ≤ length ends →
-        (b : Bool) → b ≡ in_tree (shows known sign) (tree_of (take (get_or ends (n - 1) 0) text)) →
-        front_shows text known sign n ≡ b
-    shown_here n some most b is =
-        ap (λ t. in_tree (shows known sign) (tree_of t)) (sym (front_is n some most)) ∙ sym is
-
-    pub not_before_more : (n : ℕ) → 1 ≤ n →
+    pub not_before_more : (n : ℕ) →
         ((m : ℕ) → 1 ≤ m → m < n → front_shows text known sign m ≡ false) →
         front_shows text known sign n ≡ false →
         (m : ℕ) → 1 ≤ m → m < n + 1 → front_shows text known sign m ≡ false
-    not_before_more n some before here m counted low = elim (cases_lt m n) [
+    not_before_more n before here m counted low = elim (cases_lt m n) [
       | inl earlier ↦ before m counted earlier
       | inr now ↦
           let same : n ≡ m = omega arith in
           subst (λ j. front_shows text known sign j ≡ false) same here
     ]
-
-    pub first_here : (n : ℕ) → 1 ≤ n → front_shows text known sign n ≡ true →
-        ((m : ℕ) → 1 ≤ m → m < n → front_shows text known sign m ≡ false) →
-        IsFirst (front_shows text known sign) n
-    first_here n some here before = record {
-      counted = some;
-      here = here;
-      not_before = before;
-    }
-
-    -- the whole text shows it
-    pub shown_at_last : (n : ℕ) → length ends ≤ n →
-        in_tree (shows known sign) (tree_of text) ≡ true → front_shows text known sign n ≡ true
-    shown_at_last n most whole =
-        ap (λ t. in_tree (shows known sign) (tree_of t)) (all.whole n most) ∙ whole

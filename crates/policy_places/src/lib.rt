@@ -4,10 +4,11 @@
 //! first line up to which the text shows it.
 #![tactic(auto)]
 
+mod at_fault;
 mod document;
-mod fronts;
 mod known;
 pub mod laws;
+mod lines;
 mod look;
 mod named;
 mod names;

@@ -2,14 +2,13 @@
 ghost use Rattle.std.specs.Prelude.{◌≡◌, ◌≢◌, IfOk, Err, Some, None, true};
 ghost use Rattle.toml.specs.View.{table_view};
 ghost use Rattle.wall_policy.specs.Answer.{answer_to, in_tree, tree_of};
-ghost use Rattle.policy_places.specs.Ends.{AreEnds};
 ghost use Rattle.policy_places.specs.Signs.{known_of, shows};
 ghost use Rattle.policy_places.specs.Places.{IsFirst, front_shows, EndsToml, IsFoundBy, IsFoundIn};
 ghost use Rattle.policy_places.specs.Places.{IsPlaceIfAny};
 
 use crate::document::tree_of;
-use crate::fronts::ends_of;
 use crate::known::{Known, known_of, sign_of};
+use crate::lines::Lines;
 use crate::sign::Sign;
 use std::alloc::Global;
 use toml::Table;
@@ -34,17 +33,16 @@ pub struct Place {
 }
 
 // The line behind the longest part of the text that is TOML.
-fn end_of_toml(alloc: Global, text: &[u8], ends: &[usize]) -> Result<u64, NoMemory>
-    requires ends { AreEnds text.now ends.now }
-    requires refused { tree_of text.now ≡ None }
-    ensures { IfOk result (EndsToml text.now) }
+fn end_of_toml(alloc: Global, lines: &Lines) -> Result<u64, NoMemory>
+    requires { tree_of lines.now ≡ None }
+    ensures { IfOk result (EndsToml lines.now) }
 {
-    let mut lines = ends.len();
-    while lines > 0 {
-        if tree_of(alloc, &text[..ends[lines - 1]])?.is_some() {
-            return Ok(lines as u64 + 1);
+    let mut line = lines.count();
+    while line > 0 {
+        if tree_of(alloc, lines.front(line))?.is_some() {
+            return Ok(line + 1);
         }
-        lines -= 1;
+        line -= 1;
     }
     Ok(1)
 }
@@ -60,44 +58,36 @@ fn front_shows(alloc: Global, front: &[u8], known: &Known, sign: Sign) -> Result
 }
 
 // The first line up to which the text shows the sign, where the whole text does.
-fn line_of(
-    alloc: Global,
-    text: &[u8],
-    ends: &[usize],
-    known: &Known,
-    sign: Sign,
-) -> Result<u64, NoMemory>
-    requires ends { AreEnds text.now ends.now }
-    requires whole { in_tree (shows known.now sign) (tree_of text.now) ≡ true }
-    ensures { IfOk result (IsFirst (front_shows text.now known.now sign)) }
+fn line_of(alloc: Global, lines: &Lines, known: &Known, sign: Sign) -> Result<u64, NoMemory>
+    requires { in_tree (shows known.now sign) (tree_of lines.now) ≡ true }
+    ensures { IfOk result (IsFirst (front_shows lines.now known.now sign)) }
 {
+    let count = lines.count();
     let mut line = 1;
-    while line < ends.len() {
-        if front_shows(alloc, &text[..ends[line - 1]], known, sign)? {
-            return Ok(line as u64);
+    while line < count {
+        if front_shows(alloc, lines.front(line), known, sign)? {
+            return Ok(line);
         }
         line += 1;
     }
-    Ok(line as u64)
+    Ok(line)
 }
 
 // What is found of a document with this fault.
 fn found_in(
     alloc: Global,
-    text: &[u8],
-    ends: &[usize],
+    lines: &Lines,
     whole: &Table,
     fault: PolicyFault,
 ) -> Result<Option<Found>, NoMemory>
-    requires ends { AreEnds text.now ends.now }
-    requires whole { tree_of text.now ≡ Some (table_view whole.now) }
-    ensures { IfOk result (IsFoundIn text.now fault (tree_of text.now)) }
+    requires { tree_of lines.now ≡ Some (table_view whole.now) }
+    ensures { IfOk result (IsFoundIn lines.now fault (tree_of lines.now)) }
 {
     let known = known_of(alloc, whole)?;
     let Some(sign) = sign_of(alloc, &known, whole, fault)? else {
         return Ok(None);
     };
-    let line = line_of(alloc, text, ends, &known, sign)?;
+    let line = line_of(alloc, lines, &known, sign)?;
     Ok(Some(Found { sign, line }))
 }
 
@@ -106,12 +96,12 @@ fn place_in(alloc: Global, text: &[u8], fault: PolicyFault) -> Result<Place, NoM
     requires { answer_to text.now ≡ Err fault }
     ensures { IfOk result (λ place. IsPlaceIfAny text.now (Some place)) }
 {
-    let ends = ends_of(alloc, text)?;
+    let lines = Lines::of(alloc, text)?;
     let found = match tree_of(alloc, text)? {
-        Some(whole) => found_in(alloc, text, &ends, &whole, fault)?,
+        Some(whole) => found_in(alloc, &lines, &whole, fault)?,
         None => Some(Found {
             sign: Sign::NotToml,
-            line: end_of_toml(alloc, text, &ends)?,
+            line: end_of_toml(alloc, &lines)?,
         }),
     };
     Ok(Place { fault, found })

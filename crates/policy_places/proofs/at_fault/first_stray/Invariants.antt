@@ -1,7 +1,7 @@
 use Rattle.std.proofs.Common.{◌≡◌, drop, map}
 use Rattle.toml.specs.View.{view}
 use Rattle.policy_places.specs.Named.{first_read, stray_in}
-use Rattle.policy_places.proofs.named.first_stray.Given as goal
+use Rattle.policy_places.proofs.at_fault.first_stray.Given as goal
 
 abbrev pub invariant-loop-value : goal.invariant-loop-value
 invariant-loop-value l =

@@ -1,6 +1,6 @@
 use Rattle.policy_places.proofs.FrontLemmas.{none_to, line_to, other_to, end_to}
-use Rattle.policy_places.proofs.fronts.ends_of.Goals as goal
-use Rattle.policy_places.proofs.fronts.ends_of.Goals.{then-byte-eq10+in_ok-push, else-byte-eq10}
+use Rattle.policy_places.proofs.lines.ends_of.Goals as goal
+use Rattle.policy_places.proofs.lines.ends_of.Goals.{then-byte-eq10+in_ok-push, else-byte-eq10}
 
 pub loop-place-init : goal.loop-place-init
 loop-place-init c = rw c.new-ends.ensures.items (none_to c.args.text.now)

@@ -1,5 +1,5 @@
 use Rattle.policy_places.proofs.FrontLemmas.{AreEndsTo}
-use Rattle.policy_places.proofs.fronts.ends_of.Given as goal
+use Rattle.policy_places.proofs.lines.ends_of.Given as goal
 
 abbrev pub invariant-loop-place : goal.invariant-loop-place
 invariant-loop-place l = AreEndsTo l.text l.place l.ends.items

@@ -2,7 +2,7 @@ use Rattle.std.proofs.Common.{◌∙◌, ap, Option, Some, String, Global, strin
 use Rattle.std.specs.Prelude.{option_map}
 use Rattle.policy_places.specs.Signs.{is_key_of}
 use Rattle.policy_places.proofs.ViewLemmas.{first_key-view}
-use Rattle.policy_places.proofs.named.stray_of_part.Goals as goal
+use Rattle.policy_places.proofs.at_fault.stray_of_part.Goals as goal
 
 pub returns-in-Some : goal.returns-in-Some
 returns-in-Some c =

@@ -1,7 +1,7 @@
 use Rattle.std.proofs.Common.{◌∙◌}
 use Rattle.policy_places.specs.Named.{bad_least_in}
 use Rattle.policy_places.proofs.ViewLemmas.{rest_from, here_from}
-use Rattle.policy_places.proofs.named.first_bad_least.Goals as goal
+use Rattle.policy_places.proofs.at_fault.first_bad_least.Goals as goal
 
 pub loop-value-preserved : goal.loop-value-preserved
 loop-value-preserved c =
