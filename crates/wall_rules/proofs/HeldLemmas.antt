@@ -1,11 +1,11 @@
 -- What is held at the beginning can be what was held before.
 use Rattle.std.proofs.Common.{◌≡◌, ℕ, ◌<◌, true, List, length, Option, Some, None, refl, sym, ◌∙◌}
 use Rattle.std.proofs.Common.{subst, slice_get, inl, inr}
+use Rattle.std.proofs.lemmas.Bool.{or_left}
 use Rattle.std.proofs.lemmas.Option.{slice_get_within}
 use Rattle.wall_policy.specs.Policy.{ChineseWall, IsPolicy, home_if_any, has_pair, held_of}
 use Rattle.wall_policy.specs.Policy.{HasAtFirst, with_held, CanBeHeld}
 use Rattle.wall_rules.specs.Histories.{at_home, opening, ArePairsOf}
-use Rattle.wall_rules.proofs.RuleLemmas.{or_left}
 use Rattle.wall_rules.proofs.HistoryLemmas.{opening-Decides}
 
 -- a process with a home stands in the list

@@ -6,7 +6,7 @@ use Rattle.std.specs.Prelude.{IsTrue}
 use Rattle.std.proofs.Math.ListN.{set}
 use Rattle.std.proofs.lemmas.List.{get_or_default, get_or_past, length-set}
 use Rattle.std.proofs.lemmas.Option.{slice_get_past}
-use Rattle.std.proofs.lemmas.Bool.{ne_eqb, eq-eqb, and_parts}
+use Rattle.std.proofs.lemmas.Bool.{ne_eqb, eq-eqb, and_parts, or_cases, or_left, or_right}
 use Rattle.std.proofs.lemmas.Bool.Decides.{leb_tells, eqb_tells}
 use Rattle.std.specs.Ordering.{nat_cmp}
 use Rattle.std.specs.Cmp.{nat_cmp_total, unsigned_tied}
@@ -20,7 +20,6 @@ use Rattle.wall_rules.specs.Histories.{History, entered, is_home, at_home, openi
 use Rattle.wall_rules.specs.Histories.{NobodyHoldsRivals, Accesses, has_in, has, KeepsWall}
 use Rattle.wall_rules.specs.Histories.{AddsPairs}
 use Rattle.wall_rules.proofs.RuleLemmas.{no_rivals-part, same_number}
-use Rattle.wall_rules.proofs.RuleLemmas.{or_parts, or_left, or_right}
 
 pub or_false : (a : Bool) → a ≡ (a || false)
 or_false true = refl
@@ -40,7 +39,7 @@ is_home_of : (home : Option ℕ) (d : ℕ) → home ≡ Some d → is_home home 
 is_home_of home d is = rw is (eq-eqb d d refl)
 
 opening_first : (w : ChineseWall) (p d : ℕ) → IsTrue (opening w p d) → HasAtFirst w p d
-opening_first w p d h = elim (or_parts (held_of w p d) (at_home w p d) h) [
+opening_first w p d h = elim (or_cases (held_of w p d) (at_home w p d) h) [
   | inl before ↦ inr before
   | inr home ↦ inl (home_is (home_of w p) d home)
 ]
@@ -73,14 +72,14 @@ pub entered-apart : (classes : List ℕ) (history : History) (p : ℕ) (s : FinS
     NobodyHoldsRivals classes (entered history p s)
 entered-apart classes history p s apart joint q = elim (eqb_tells q p) [
   | inl e ↦ no_rivals-part classes (joined (history p) s) (entered history p s q) joint (
-      λ d h. elim (or_parts (history q d) (nat_eq q p && contains s d) h) [
+      λ d h. elim (or_cases (history q d) (nat_eq q p && contains s d) h) [
         | inl old ↦ or_left (history p d) (contains s d) (rw e.1 at old)
         | inr new
             ↦ or_right (history p d) (contains s d) (and_parts (nat_eq q p) (contains s d) new).1
       ]
       )
   | inr e ↦ no_rivals-part classes (history q) (entered history p s q) (apart q) (
-      λ d h. elim (or_parts (history q d) (nat_eq q p && contains s d) h) [
+      λ d h. elim (or_cases (history q d) (nat_eq q p && contains s d) h) [
         | inl old ↦ old
         | inr new ↦ absurd (e.1 (same_number q p (and_parts (nat_eq q p) (contains s d) new).0))
       ]

@@ -5,7 +5,7 @@ use Rattle.std.proofs.Common.{arith, nat_eq, not}
 use Rattle.std.specs.Prelude.{IfSome, IfNone}
 use Rattle.std.proofs.lemmas.List.{get_or_past}
 use Rattle.std.proofs.lemmas.Option.{slice_get_past}
-use Rattle.std.proofs.lemmas.Bool.{ne_eqb, false≢true}
+use Rattle.std.proofs.lemmas.Bool.{ne_eqb, false≢true, or_cases, or_left, or_right}
 use Rattle.std.proofs.lemmas.Bool.Decides.{leb_tells, eqb_tells}
 use Rattle.std.specs.Ordering.{nat_cmp}
 use Rattle.std.specs.Cmp.{nat_cmp_total, unsigned_tied}
@@ -15,7 +15,7 @@ use Rattle.wall_policy.specs.Rivals.{are_rivals}
 use Rattle.wall_policy.proofs.WallPolicyLemmas.{are_rivals-Decides, are_rivals-symmetric}
 use Rattle.wall_rules.specs.Rules.{IsHeldRival, first_rival, joined}
 use Rattle.wall_rules.specs.Histories.{AreRivalRows}
-use Rattle.wall_rules.proofs.RuleLemmas.{or_parts, or_left, or_right, some-first_rival}
+use Rattle.wall_rules.proofs.RuleLemmas.{some-first_rival}
 use Rattle.wall_rules.proofs.RuleLemmas.{none-first_rival}
 
 -- no number past the list has a rival
@@ -121,7 +121,7 @@ module _ (classes : List ℕ) (d : ℕ) (rivals row extra : FinSet nat_cmp)
       IsShared rivals row extra e
   shared_if_held e is = (
     are e ∙ (are_rivals-Decides classes d e).1 is.1,
-    or_parts (contains row e) (contains extra e) is.0,
+    or_cases (contains row e) (contains extra e) is.0,
   )
 
   pub clash_is : (o : Option ℕ) → IfSome o (IsLowestShared rivals row extra) →

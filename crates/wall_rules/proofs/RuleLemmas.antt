@@ -1,9 +1,9 @@
 -- The two rules and their tests, and which steps keep rivals apart.
-use Rattle.std.proofs.Common.{◌≡◌, ◌≢◌, ℕ, ◌<◌, Bool, true, false, not, ◌||◌, List, length}
+use Rattle.std.proofs.Common.{◌≡◌, ◌≢◌, ℕ, ◌<◌, Bool, true, false, not, List, length}
 use Rattle.std.proofs.Common.{Option, Some, None, refl, sym, ap, ◌∙◌, ◌⊎◌, inl, inr, nat_eq}
 use Rattle.std.proofs.Common.{slice_get, ◌≤◌, arith}
-use Rattle.std.specs.Prelude.{IsTrue, IfSome, IfNone, is_none}
-use Rattle.std.proofs.lemmas.Bool.{eq-eqb, and_parts}
+use Rattle.std.specs.Prelude.{IsTrue, IfSome, IfNone}
+use Rattle.std.proofs.lemmas.Bool.{eq-eqb, and_parts, or_cases, or_left, or_right}
 use Rattle.std.proofs.lemmas.Bool.Decides.{eqb_tells}
 use Rattle.std.proofs.lemmas.Option.{slice_get_within}
 use Rattle.std.specs.Ordering.{nat_cmp, eq_by_cmp}
@@ -11,8 +11,9 @@ use Rattle.std.specs.Cmp.{nat_cmp_total, unsigned_tied}
 use Rattle.std.specs.FinSet.{FinSet, empty, insert, contains, contains-empty, contains-insert}
 use Rattle.wall_labels.specs.declared.label.Label.{Label}
 use Rattle.wall_labels.specs.Labels.{dataset_of}
-use Rattle.wall_policy.specs.Rivals.{AreRivals, are_rivals, is_one_class}
-use Rattle.wall_policy.proofs.WallPolicyLemmas.{are_rivals-Decides, are_rivals-symmetric}
+use Rattle.wall_labels.proofs.WallLabelsLemmas.{is_none-None}
+use Rattle.wall_policy.specs.Rivals.{are_rivals, is_one_class}
+use Rattle.wall_policy.proofs.WallPolicyLemmas.{are_rivals-Decides, rivals_turned}
 use Rattle.wall_rules.specs.Rules.{IsLowest, IsHeldRival, PassesSimple, HoldsNoRivals}
 use Rattle.wall_rules.specs.Rules.{is_held_rival, first_rival, IsHeldOther, PassesStar, is_other}
 use Rattle.wall_rules.specs.Rules.{is_held_other, first_other, passes_star, joined}
@@ -30,13 +31,6 @@ true-false b yes_ no_ = let bad : true ≡ false = sym yes_ ∙ no_ in cc
 not_true : (b : Bool) → ¬ (b ≡ true) → b ≡ false
 not_true true h = absurd (h refl)
 not_true false h = refl
-
-pub or_parts : (a b : Bool) → (a || b) ≡ true → (a ≡ true) ⊎ (b ≡ true)
-or_parts true b h = inl refl
-or_parts false b h = inr h
-
-pub or_left : (a b : Bool) → a ≡ true → (a || b) ≡ true
-or_left a b h = rw h refl
 
 pub same_number : (a b : ℕ) → nat_eq a b ≡ true → a ≡ b
 same_number a b h = elim (eqb_tells a b) [ inl e ↦ e.1 | inr e ↦ absurd (true-false _ h e.0) ]
@@ -159,10 +153,6 @@ first_other-some n held label d lowest lt =
     some-least (is_held_other held label) n d (other_held held label d lowest.0) lt
     (λ e below. not_true _ (λ is. lowest.1 e below (held_other held label e is)))
 
-none_is : {X : Type 0} (o : Option X) → is_none o ≡ true → o ≡ None
-none_is None h = refl
-none_is (Some x) h = absurd cc
-
 -- what is held of those that the test looks at is the label's
 star_of_test : (n : ℕ) (held : ℕ → Bool) (label : Label) (d : ℕ) →
     first_other n held label ≡ None → IsTrue (held d) → d < n → dataset_of label ≡ Some d
@@ -176,7 +166,7 @@ pub passes_star-Decides : (n : ℕ) (held : ℕ → Bool) (label : Label) →
     ((d : ℕ) → IsTrue (held d) → d < n) → (passes_star n held label ≡ true → PassesStar held label)
     × (PassesStar held label → passes_star n held label ≡ true)
 passes_star-Decides n held label within = (
-  λ h d is. star_of_test n held label d (none_is _ h) is (within d is),
+  λ h d is. star_of_test n held label d (is_none-None _ h) is (within d is),
   λ passes. rw (first_other-none n held label passes) refl,
 )
 
@@ -191,10 +181,6 @@ pub no_rivals-one : (classes : List ℕ) (held : ℕ → Bool) (own : ℕ) →
     ((e : ℕ) → IsTrue (held e) → e ≡ own) → HoldsNoRivals classes held
 no_rivals-one classes held own one d e hd he rivals = rivals.0 (one d hd ∙ sym (one e he))
 
-turned : (classes : List ℕ) (d e : ℕ) → AreRivals classes d e → AreRivals classes e d
-turned classes d e h = (are_rivals-Decides classes e d).0
-    (are_rivals-symmetric classes e d ∙ (are_rivals-Decides classes d e).1 h)
-
 -- one dataset more, to which the simple rule permits access
 pub no_rivals-grows : (classes : List ℕ) (held new : ℕ → Bool) (own : ℕ) →
     HoldsNoRivals classes held → PassesSimple classes held own →
@@ -203,7 +189,7 @@ no_rivals-grows classes held new own apart passes grows d e hd he rivals =
     elim (grows d hd) [
       | inl old_d ↦ elim (grows e he) [
         | inl old_e ↦ apart d e old_d old_e rivals
-        | inr is_e ↦ passes d (old_d, turned classes d own (rw is_e at rivals))
+        | inr is_e ↦ passes d (old_d, rivals_turned classes d own (rw is_e at rivals))
       ]
       | inr is_d ↦ elim (grows e he) [
         | inl old_e ↦ passes e (old_e, rw is_d at rivals)
@@ -214,15 +200,11 @@ no_rivals-grows classes held new own apart passes grows d e hd he rivals =
 -- a member of a set with one more
 pub member-insert : (s : FinSet nat_cmp) (d e : ℕ) → contains (insert s d) e ≡ true →
     (contains s e ≡ true) ⊎ (e ≡ d)
-member-insert s d e h = elim (or_parts (eq_by_cmp nat_cmp e d) (contains s e)
+member-insert s d e h = elim (or_cases (eq_by_cmp nat_cmp e d) (contains s e)
     (sym (contains-insert nat_cmp_total s d e) ∙ h)) [
       | inl same ↦ inr (same_number e d (sym (unsigned_tied e d) ∙ same))
       | inr old ↦ inl old
     ]
-
-pub or_right : (a b : Bool) → b ≡ true → (a || b) ≡ true
-or_right true b h = refl
-or_right false b h = h
 
 pub no_rivals-insert : (classes : List ℕ) (held : ℕ → Bool) (s : FinSet nat_cmp) (d : ℕ) →
     HoldsNoRivals classes (joined held s) → first_rival classes (joined held s) d ≡ None →
@@ -230,7 +212,7 @@ pub no_rivals-insert : (classes : List ℕ) (held : ℕ → Bool) (s : FinSet na
 no_rivals-insert classes held s d apart none =
     no_rivals-grows classes (joined held s) (joined held (insert s d)) d apart
     (first_rival-none classes (joined held s) d none) (
-    λ e h. elim (or_parts (held e) (contains (insert s d) e) h) [
+    λ e h. elim (or_cases (held e) (contains (insert s d) e) h) [
       | inl old ↦ inl (or_left (held e) (contains s e) old)
       | inr new
           ↦ elim (member-insert s d e new)
@@ -241,7 +223,7 @@ no_rivals-insert classes held s d apart none =
 pub no_rivals-empty : (classes : List ℕ) (held : ℕ → Bool) → HoldsNoRivals classes held →
     HoldsNoRivals classes (joined held empty)
 no_rivals-empty classes held apart = no_rivals-part classes held (joined held empty) apart (
-    λ e h. elim (or_parts (held e) (contains empty e) h)
+    λ e h. elim (or_cases (held e) (contains empty e) h)
     [ inl old ↦ old | inr new ↦ absurd (true-false _ new (contains-empty nat_cmp e)) ]
     )
 
@@ -254,11 +236,11 @@ no_rivals-star classes n held label d few apart passed is =
     no_rivals-insert classes held empty d (no_rivals-empty classes held apart)
     (none-first_rival classes (joined held empty) d (
     λ e h.
-    let there : held e ≡ true = elim (or_parts (held e) (contains empty e) h.0)
+    let there : held e ≡ true = elim (or_cases (held e) (contains empty e) h.0)
     [ inl old ↦ old | inr new ↦ absurd (true-false _ new (contains-empty nat_cmp e)) ] in
     let low : e < length classes = rival_within classes d e ((are_rivals-Decides classes d e).1 h.1)
     in
-    let own : dataset_of label ≡ Some e = star_of_test n held label e (none_is _ passed) there
+    let own : dataset_of label ≡ Some e = star_of_test n held label e (is_none-None _ passed) there
     (omega (arith, low, few)) in
     let same : Some d ≡ Some e = sym is ∙ own in
     h.1.0 cc
