@@ -194,7 +194,8 @@ books_of_posts_are_sound wall past taken = (book_is_sound wall past taken, posts
 
 ---- Words.
 
-pub before_seam : (xs ys : List Entry) (i : ℕ) → i < length xs → slice_get (xs ++ ys) i ≡ slice_get xs i
+pub before_seam : (xs ys : List Entry) (i : ℕ) → i < length xs →
+    slice_get (xs ++ ys) i ≡ slice_get xs i
 before_seam [] ys i h = absurd (omega arith)
 before_seam (x ∷ xs) ys zero h = refl
 before_seam (x ∷ xs) ys (suc i) h = before_seam xs ys i (omega arith)

@@ -188,6 +188,8 @@ outcome_is_missing = record {
   missing = λ _ sound. let e = sound.given in absurd (cc);
 }
 
+pub ruleset splits = (split_is_sound, one_is_bad, outcome_is_missing)
+
 pub pass_is_bad : IsFirstBad banks_and_oil passed_gather 1
 unfolding is_allowed are_rivals least first_rival first_other members_at cells neighbour colours_of
     ranks_for split_groups kind root reduction elem_type count numbers flags is_constructor

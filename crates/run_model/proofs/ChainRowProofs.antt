@@ -108,10 +108,11 @@ module _ (q d : ℕ) where
       go (Some j) e = absurd (among j (rank_is (0 ∷ 1 ∷ 2 ∷ 3 ∷ []) p j e).0)
 
   no_access : histories banks_and_oil (posts_in alpha_for_n0) p d ≡ false
-  unfolding is_allowed are_rivals least first_rival first_other members_at cells neighbour colours_of
-      ranks_for split_groups kind root reduction elem_type count numbers flags is_constructor
-      is_neighbourly same_signature goes_by places_by routed asked gives no_topology is_listed
-      bad_count not_subgroup bad_dims shape_fault sanitised verdict new_comms_by filled fault
+  unfolding is_allowed are_rivals least first_rival first_other members_at cells neighbour
+      colours_of ranks_for split_groups kind root reduction elem_type count numbers flags
+      is_constructor is_neighbourly same_signature goes_by places_by routed asked gives no_topology
+      is_listed bad_count not_subgroup bad_dims shape_fault sanitised verdict new_comms_by filled
+      fault
   no_access = λ i.
       (((((other' 0 (omega arith) i && true) && nat_eq 0 d)
       || ((other' 1 (omega arith) i && true) && false))

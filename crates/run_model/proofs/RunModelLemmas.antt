@@ -8,6 +8,7 @@ pub use Rattle.run_model.proofs.BufferLemmas.{after_but_for_room, instance_but_f
 pub use Rattle.run_model.proofs.BufferLemmas.{posts_but_for_room, proper_but_for_room}
 pub use Rattle.run_model.proofs.BufferLemmas.{reply_but_for_room, same_value}
 pub use Rattle.run_model.proofs.ChainLemmas.{chains_keep_the_wall}
+pub use Rattle.run_model.proofs.CommLemmas.{length_members_at}
 pub use Rattle.run_model.proofs.CountLemmas.{fault_spared, taken}
 pub use Rattle.run_model.proofs.CountedLemmas.{accepted, comm_stays, comms_stay, no_fault_has}
 pub use Rattle.run_model.proofs.CountedLemmas.{mapped_none, taken_accepted, taken_at}
@@ -15,7 +16,7 @@ pub use Rattle.run_model.proofs.EffectLemmas.{after_barred, after_nothing, after
 pub use Rattle.run_model.proofs.EffectLemmas.{after_posted, after_refused, entry_of, given_of}
 pub use Rattle.run_model.proofs.FitLemmas.{filled_is_fit}
 pub use Rattle.run_model.proofs.KnownLemmas.{book_named, outcome_named}
-pub use Rattle.run_model.proofs.PostLawLemmas.{granted_is, posts_keep_the_wall}
+pub use Rattle.run_model.proofs.PostLawLemmas.{granted_is, grow, posts_keep_the_wall}
 pub use Rattle.run_model.proofs.PostLemmas.{IsFilled, filled_is, kth_from, stated_at, stated_by}
 pub use Rattle.run_model.proofs.PostLemmas.{get_front}
 pub use Rattle.run_model.proofs.PostingLemmas.{posts_within}
@@ -28,6 +29,7 @@ pub use Rattle.run_model.proofs.SettledLemmas.{IsSettled, comm_at_is, filled_at,
 pub use Rattle.run_model.proofs.SettledLemmas.{kth_later, settled_from, settled_none, settled_now}
 pub use Rattle.run_model.proofs.SettledLemmas.{not_full_before, settled_full, settled_other}
 pub use Rattle.run_model.proofs.SettledLemmas.{lengths, settled_stays}
+pub use Rattle.run_model.proofs.SizeLemmas.{length_ranks_apart}
 pub use Rattle.run_model.proofs.TellLemmas.{verdict_makes_none}
 pub use Rattle.run_model.proofs.WholeLemmas.{granted_whole}
-pub use Rattle.run_model.proofs.WorldRowProofs.{same_act, same_self}
+pub use Rattle.run_model.proofs.WorldRowProofs.{is_want, none_wanted, same_act, same_self}

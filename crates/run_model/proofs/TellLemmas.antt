@@ -251,7 +251,8 @@ fit_made : (fit : Bool) (before many first number : ℕ) →
 fit_made true before many first number e = (refl, cc)
 fit_made false before many first number e = absurd (cc)
 
-pub verdict_makes_none : (v : Verdict) (first number : ℕ) → by_verdict v ≡ MadeComms first number → ⊥
+pub verdict_makes_none : (v : Verdict) (first number : ℕ) → by_verdict v ≡ MadeComms first number
+    → ⊥
 verdict_makes_none verdicts.Granted first number e = absurd (cc)
 verdict_makes_none (verdicts.Denied rule q label) first number e = absurd (cc)
 

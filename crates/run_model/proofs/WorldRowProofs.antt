@@ -29,7 +29,7 @@ use Rattle.run_model.proofs.RunRowProofs.{opened, relayed_broadcast_is_legal}
 use Rattle.run_model.proofs.RunRowProofs.{sanitised_sum_is_legal}
 use Rattle.run_model.proofs.OutsideLemmas.{who_holds_nothing_learns_nothing}
 
-is_want : Reply → Bool
+unfoldable pub is_want : Reply → Bool
 is_want (Refused NoMemory) = true
 is_want other = false
 
@@ -37,7 +37,7 @@ wanted : (a : Reply) → a ≡ Refused NoMemory → is_want a ≡ true
 unfolding is_want
 wanted a e = ap is_want e
 
-none_wanted : (run : List Entry) → list_all (λ e. not (is_want e.reply)) run ≡ true →
+pub none_wanted : (run : List Entry) → list_all (λ e. not (is_want e.reply)) run ≡ true →
     NobodyLacksMemory run
 unfolding is_want
 none_wanted [] h = tt
@@ -741,10 +741,6 @@ others_sums_differ_in_values = (
   ),
 )
 
-one_of_others_sums_has_memory : NobodyLacksMemory (reverse (summed (pos 5) (pos 7) (pos 19)))
-unfolding is_want
-one_of_others_sums_has_memory = none_wanted (reverse (summed (pos 5) (pos 7) (pos 19))) refl
-
 other_of_others_sums_has_memory : NobodyLacksMemory (reverse (summed (pos 5) (pos 8) (pos 20)))
 unfolding is_want
 other_of_others_sums_has_memory = none_wanted (reverse (summed (pos 5) (pos 8) (pos 20))) refl
@@ -754,7 +750,7 @@ pub two_sums_of_another_are_worlds :
 two_sums_of_another_are_worlds = record {
   first = sanitised_sum_is_legal;
   second = other_of_others_sums_is_legal;
-  first_memory = one_of_others_sums_has_memory;
+  first_memory = one_of_sums_has_memory;
   second_memory = other_of_others_sums_has_memory;
   calls = others_sums_differ_in_values;
 }

@@ -208,8 +208,8 @@ RivalsLearnNothing = (wall : ChineseWall) (run other : List Entry) (own d p : �
     IsPolicy wall → AreRivals wall.classes own d → AreAlikeOutside wall d run other →
     Holds wall (posts run) p own → CannotTell wall d p run other
 
--- So of two processes that have rivals at first, at home there or held before, neither sees what the
--- other's firm posts.
+-- So of two processes that have rivals at first, at home there or held before, neither sees what
+-- the other's firm posts.
 abbrev pub HomesOfRivalsSeeNothing : Type 0
 HomesOfRivalsSeeNothing = (wall : ChineseWall) (run other : List Entry) (own d p q : ℕ) →
     IsPolicy wall → AreRivals wall.classes own d →

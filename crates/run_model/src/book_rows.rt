@@ -15,7 +15,7 @@ pub fn a_rival_is_denied()
 
 /// A split makes as many communicators as there are colours. Another number is bad, and so is the
 /// end of the book in its place.
-#[tactic(auto, using(crate::proofs::BookRowProofs::split_is_sound, crate::proofs::BookRowProofs::one_is_bad, crate::proofs::BookRowProofs::outcome_is_missing))]
+#[tactic(auto, using(crate::proofs::BookRowProofs::splits))]
 pub fn a_split_makes_two()
     ensures sound { IsSound four_of_a_bank split_into_two }
     ensures bad { IsFirstBad four_of_a_bank split_into_one 5 }

@@ -6,8 +6,8 @@ ghost use Rattle.run_model.specs.BookRows.{banks_and_oil};
 ghost use Rattle.run_model.specs.Chains.{IsChain};
 ghost use Rattle.run_model.specs.ChainRows.{one_book, banks_after, banks_grown, beta, beta_for_n0};
 
-/// After a book in which n0 was sent data of alpha it held alpha before, also where the policy grew;
-/// a policy that forgets it is not the one after the book.
+/// After a book in which n0 was sent data of alpha it held alpha before, also where the policy
+/// grew; a policy that forgets it is not the one after the book.
 pub fn a_book_is_taken_over()
     ensures chain { IsChain one_book banks_after }
     ensures grown { IsChain one_book banks_grown }

@@ -7,8 +7,8 @@
 //! that definitions speak of: what keeps a state stands above, in `run_state`, `audit_book` and
 //! `hall_core`, and is held to these definitions and no others.
 //!
-//! The functions of `headline`, `post_laws`, `run_laws` and `worlds` do nothing: their contracts are
-//! laws over all posts that count, and over all legal runs, for any policy, with some worked
+//! The functions of `headline`, `post_laws`, `run_laws` and `worlds` do nothing: their contracts
+//! are laws over all posts that count, and over all legal runs, for any policy, with some worked
 //! examples. Those of the modules that end in `_rows` are worked runs, outcomes and books, many of
 //! them also with one place wrong, which are then not legal, or not sound.
 //!
