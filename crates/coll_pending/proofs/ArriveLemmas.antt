@@ -13,6 +13,7 @@ use Rattle.coll_routes.specs.declared.signature.Signature.{Signature}
 use Rattle.coll_routes.specs.declared.statement.Stated.{Stated}
 use Rattle.coll_pending.specs.declared.arrival.Arrived.{Arrived}
 use Rattle.coll_pending.specs.declared.arrival.Arrived.TheVariants.{Waiting, Full}
+use Rattle.coll_pending.specs.declared.arrival.Meeting.{Meeting}
 use Rattle.coll_pending.specs.declared.arrival.Next.TheVariants.{Opens, Joins, Mismatch}
 use Rattle.coll_pending.specs.Instances.{Instance, Communicator, is_full, joined, roll_in, IsAgreed}
 use Rattle.coll_pending.specs.Instances.{next_by, is_full_but_for}
@@ -23,7 +24,7 @@ use Rattle.coll_pending.specs.Queues.{slot_of, instance_of, instance_in, IsFree}
 use Rattle.coll_pending.specs.Queues.{IsOf, IsOfIn, IsQueues, CanTell, CanPost, Posts, PostsTo}
 use Rattle.coll_pending.specs.Queues.{posted, has_posted, lacks_one, Enters}
 use Rattle.coll_pending.specs.Waiting.{updated_at, PendingView, seen, next, before, after}
-use Rattle.coll_pending.specs.Waiting.{HasArrived, CanArrive, IsKnownAs}
+use Rattle.coll_pending.specs.Waiting.{HasArrived, HasArrivedAt, CanArrive, IsAwaited, IsKnownAs}
 use Rattle.coll_pending.proofs.KeyLemmas.{key_within, key_there, popped_here, popped_other}
 use Rattle.coll_pending.proofs.KeyLemmas.{length_drop_one, less_is, not_less}
 use Rattle.coll_pending.proofs.TableLemmas.{updated_at_is}
@@ -502,8 +503,10 @@ module _ {X : Type 0} (s : Queues X) (is : IsQueues s) (c : ℕ) (q : Queue)
         record {
           agrees = agrees;
           arrivals = arrivals_now (popped (counted q rank) room) refl (seen gone)
-              (counts_here s is c q (popped (counted q rank) room) slots k key None stands change_out)
-              (counts_else s is c q (popped (counted q rank) room) slots k key None stands change_out);
+              (counts_here s is c q (popped (counted q rank) room) slots k key None stands
+              change_out)
+              (counts_else s is c q (popped (counted q rank) room) slots k key None stands
+              change_out);
           known = known_changed s is c q (popped (counted q rank) room) slots k key None stands
               change_out;
           pending =
@@ -547,14 +550,14 @@ pub record Met {X : Type 0} (s : Queues X) (c rank : ℕ) (sig : Signature) : Ty
   pub agrees : next (seen s) c rank sig ≢ Mismatch
   pub row : c < length s.queues
 
-pub met_by : {X : Type 0} (s : Queues X) (c rank : ℕ) (sig : Signature) →
-    IsSome (known_in (queue_at s.queues c)) →
-    ((of : Communicator) → known_in (queue_at s.queues c) ≡ Some of →
-    CanArrive s c rank of sig) → Met s c rank sig
-met_by {X} s c rank sig known can =
-    let it = in_known (queue_at s.queues c) known in
+met_by : {X : Type 0} (s : Queues X) (m : Meeting) (sig : Signature) → IsAwaited s m sig →
+    Met s m.comm m.rank sig
+met_by {X} s m sig awaited =
+    let c = m.comm in
+    let rank = m.rank in
+    let it = in_known (queue_at s.queues c) awaited.known in
     let q = it.0 in
-    let so = can (communicator q) (ap (λ w. known_in w) it.1) in
+    let so = awaited.ready (communicator q) (ap (λ w. known_in w) it.1) in
     let some : IsSome (slot_in s.slots (key_at q (count q rank))) =
     subst (λ w. IsSome (slot_in s.slots (key_in w (count_in w rank)))) it.1 so.meets.1 in
     let stood = to_slot s.slots (key_at q (count q rank)) some in
@@ -626,22 +629,20 @@ module _ {X : Type 0} (s : Queues X) (is : IsQueues s) (c rank : ℕ) (stated : 
       subst (λ w. IsAfter w arrived) (sym it.1)
       (after_post it.0 arrived (it.2 met.key met.slot met.leads met.found))
 
--- the same for the fields of the queues, whose value is `now`
-pub arrived_at : {X : Type 0} (s now : Queues X) (view : s ≡ now) (is : IsQueues s) (c rank : ℕ)
+-- and of the fields of the queues, whose value is `now`
+pub arrived_at : {X : Type 0} (s now : Queues X) (view : s ≡ now) (is : IsQueues s) (m : Meeting)
     (stated : Stated) (part : X) (row new : Option Queue) (slots : Slab (Slot X))
-    (arrived : Arrived X) → row ≡ get_or s.queues c row →
-    IsSome (known_in (queue_at now.queues c)) →
-    ((of : Communicator) → known_in (queue_at now.queues c) ≡ Some of →
-    CanArrive now c rank of stated.sig) →
-    HasPosted row new s.slots slots rank stated part arrived →
-    IsQueues (record { queues = set s.queues c new; slots = slots })
-    × ((of : Communicator) → known_in (queue_at now.queues c) ≡ Some of →
-    HasArrived (seen now) (seen (record { queues = set s.queues c new; slots = slots })) c
-    rank of stated part arrived)
-arrived_at {X} s now view is c rank stated part row new slots arrived read known can posts =
+    (arrived : Arrived X) → row ≡ get_or s.queues m.comm row → IsAwaited now m stated.sig →
+    HasPosted row new s.slots slots m.rank stated part arrived →
+    IsQueues (record { queues = set s.queues m.comm new; slots = slots })
+    × HasArrivedAt now (record { queues = set s.queues m.comm new; slots = slots }) m stated part
+    arrived
+arrived_at {X} s now view is m stated part row new slots arrived read awaited posts =
+    let c = m.comm in
+    let rank = m.rank in
     let was =
     subst (λ (v : Queues X). Met v c rank stated.sig) (sym view)
-    (met_by now c rank stated.sig known can) in
+    (met_by now m stated.sig awaited) in
     let so = after_row s is c rank stated part was slots row new arrived read posts in (
       so.0,
       λ of e.
@@ -649,8 +650,8 @@ arrived_at {X} s now view is c rank stated part row new slots arrived read known
           subst (λ (v : Queues X). known_in (queue_at v.queues c) ≡ Some
           (communicator was.queue)) view (ap (λ w. known_in w) was.at) in
           let same : communicator was.queue ≡ of = (let both = sym there' ∙ e in cc) in
-          subst (λ m. HasArrived (seen now)
-          (seen (record { queues = set s.queues c new; slots = slots })) c rank m stated part
+          subst (λ z. HasArrived (seen now)
+          (seen (record { queues = set s.queues c new; slots = slots })) c rank z stated part
           arrived) same
           (subst (λ (v : Queues X). HasArrived (seen v)
           (seen (record { queues = set s.queues c new; slots = slots })) c rank
@@ -658,29 +659,28 @@ arrived_at {X} s now view is c rank stated part row new slots arrived read known
     )
 
 pub can_post_at : {X : Type 0} (s now : Queues X) (view : s ≡ now) (is : IsQueues s)
-    (c rank k : ℕ) (stated : Stated) (part : X) (row : Option Queue) → row ≡ get_or s.queues c row →
-    IsSome (known_in (queue_at now.queues c)) →
-    ((of : Communicator) → known_in (queue_at now.queues c) ≡ Some of →
-    CanArrive now c rank of stated.sig) → k ≡ count_in (queue_at now.queues c) rank →
-    k < 2 ^ 62 → IsSomeAnd row (λ q. CanPost q s.slots rank k)
-can_post_at {X} s now view is c rank k stated part row read known can its few =
+    (m : Meeting) (stated : Stated) (part : X) (row : Option Queue) →
+    row ≡ get_or s.queues m.comm row → IsAwaited now m stated.sig →
+    IsSomeAnd row (λ q. CanPost q s.slots m.rank m.k)
+can_post_at {X} s now view is m stated part row read awaited =
     let was =
-    subst (λ (v : Queues X). Met v c rank stated.sig) (sym view)
-    (met_by now c rank stated.sig known can) in
-    can_post s is c rank k stated part row read was
-    (subst (λ (v : Queues X). k ≡ count_in (queue_at v.queues c) rank) (sym view) its) few
+    subst (λ (v : Queues X). Met v m.comm m.rank stated.sig) (sym view)
+    (met_by now m stated.sig awaited) in
+    can_post s is m.comm m.rank m.k stated part row read was
+    (subst (λ (v : Queues X). m.k ≡ count_in (queue_at v.queues m.comm) m.rank) (sym view)
+    awaited.number) awaited.few
 
-pub joined_at : {X : Type 0} (s now : Queues X) (view : s ≡ now) (is : IsQueues s) (c rank : ℕ)
+pub joined_at : {X : Type 0} (s now : Queues X) (view : s ≡ now) (is : IsQueues s) (m : Meeting)
     (stated : Stated) (part : X) (row new : Option Queue) (slots : Slab (Slot X))
-    (last : Option ℕ) → row ≡ get_or s.queues c row →
-    IsSome (known_in (queue_at now.queues c)) →
-    ((of : Communicator) → known_in (queue_at now.queues c) ≡ Some of →
-    CanArrive now c rank of stated.sig) → next (seen now) c rank stated.sig ≡ Joins →
-    HasEntered row new s.slots slots rank stated part last →
-    HasPosted row new s.slots slots rank stated part Waiting
-joined_at {X} s now view is c rank stated part row new slots last read known can joins entered =
+    (last : Option ℕ) → row ≡ get_or s.queues m.comm row → IsAwaited now m stated.sig →
+    next (seen now) m.comm m.rank stated.sig ≡ Joins →
+    HasEntered row new s.slots slots m.rank stated part last →
+    HasPosted row new s.slots slots m.rank stated part Waiting
+joined_at {X} s now view is m stated part row new slots last read awaited joins entered =
+    let c = m.comm in
+    let rank = m.rank in
     let met = subst (λ (v : Queues X). Met v c rank stated.sig) (sym view)
-    (met_by now c rank stated.sig known can) in
+    (met_by now m stated.sig awaited) in
     let here : row ≡ Some met.queue =
     sym (get_or_default s.queues c None row met.row ∙ sym read) ∙ met.at in
     let more : lacks_one met.slot ≡ false = leaves_one s is c met.queue met.at rank met.member

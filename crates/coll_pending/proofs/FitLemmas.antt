@@ -3,6 +3,7 @@ use Rattle.std.proofs.Common.{◌≡◌, ℕ, ◌+◌, ◌≤◌, List, [], ◌�
 use Rattle.std.proofs.Common.{false, not, ◌||◌, Option, Some, None, is_some, is_none, nat_le}
 use Rattle.std.proofs.Common.{nat_lt, nat_eq, ⊎_elim}
 use Rattle.std.proofs.lemmas.Bool.{eqb-true, le-leb, ltb-false, and_from, cases_Bool}
+use Rattle.coll_pending.proofs.RowLemmas.{none_of}
 use Rattle.mpi_elems.specs.declared.elem_type.ElemType.{ElemType}
 use Rattle.mpi_group.specs.Groups.{ranks_fault}
 use Rattle.mpi_group.proofs.MpiGroupLemmas.{no_fault, ranks_within, length_distinct}
@@ -78,10 +79,6 @@ listed shape i sig own ty given h = fifth_of (is_of_type (elem_type sig) ty) (is
     (is_listed shape sig) (is_met (asked shape sig) (gives sig i) own given) h
 
 -- ## what they say of the lists
-
-none_of : {A : Type 0} (o : Option A) → is_some o ≡ false → o ≡ None
-none_of None h = refl
-none_of (Some x) h = absurd (cc)
 
 few_ranks : (size : ℕ) (ranks : List ℕ) → is_some (ranks_fault size ranks) ≡ false →
     length ranks ≤ size

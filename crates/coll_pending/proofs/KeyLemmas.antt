@@ -1,24 +1,13 @@
 -- The keys of one queue.
 use Rattle.std.proofs.Common.{◌≡◌, ◌≢◌, ℕ, zero, suc, ◌+◌, ◌-◌, ◌<◌, ◌≤◌, true, false, List, []}
-use Rattle.std.proofs.Common.{◌∷◌, ◌++◌, length, drop, Some, None, slice_get, refl}
+use Rattle.std.proofs.Common.{◌∷◌, ◌++◌, length, drop, Some, None, slice_get, get_or, refl}
 use Rattle.std.proofs.Common.{sym, ap, ◌∙◌, arith, nat_lt, ⊎_elim}
 use Rattle.std.proofs.lemmas.Bool.{cases_Bool, cond-true, cond-false}
 use Rattle.std.proofs.lemmas.Bool.Decides.{nat_tests}
-use Rattle.std.proofs.lemmas.Option.{slice_get_within}
+use Rattle.std.proofs.lemmas.Option.{slice_get_within, slice_get-get_or}
 use Rattle.coll_pending.specs.Queues.{Queue, key_at, pushed, popped}
 
 -- ## items by their place
-
-pub item_at : {A : Type 0} (xs : List A) (i : ℕ) → i < length xs → (x : A)
-    × (slice_get xs i ≡ Some x)
-item_at [] i lt = absurd (omega arith)
-item_at (x ∷ xs) zero lt = (x, refl)
-item_at (x ∷ xs) (suc i) lt = item_at xs i (omega arith)
-
-past : {A : Type 0} (xs : List A) (i : ℕ) → length xs ≤ i → slice_get xs i ≡ None
-past [] i le = refl
-past (x ∷ xs) zero le = absurd (omega arith)
-past (x ∷ xs) (suc i) le = past xs i (omega arith)
 
 pub at_push : {A : Type 0} (xs : List A) (x : A) → slice_get (xs ++ x ∷ []) (length xs) ≡ Some x
 at_push [] x = refl
@@ -70,9 +59,10 @@ key_within q k key at = ⊎_elim
 
 pub key_there : (q : Queue) (k : ℕ) → q.first ≤ k → k < q.first + length q.keys → (key : ℕ)
     × (key_at q k ≡ Some key)
-key_there q k le lt =
-    let it = item_at q.keys (k - q.first) (omega arith) in
-    (it.0, key_from q k le ∙ it.1)
+key_there q k le lt = (
+  get_or q.keys (k - q.first) 0,
+  key_from q k le ∙ slice_get-get_or q.keys (k - q.first) 0 (omega (arith, le, lt)),
+)
 
 -- ## one key more
 

@@ -1,5 +1,5 @@
 -- The steps of an arrival, as callers see them.
-use Rattle.std.proofs.Common.{◌≡◌, ◌≢◌, ℕ, ◌+◌, ◌<◌, ◌≤◌, Bool, true, false, length}
+use Rattle.std.proofs.Common.{◌≡◌, ◌≢◌, ℕ, ◌+◌, ◌<◌, ◌≤◌, ◌^◌, Bool, true, false, length}
 use Rattle.std.proofs.Common.{Option, Some, None, IsSome, is_some, refl, sym, ap, ◌∙◌, subst, arith}
 use Rattle.std.proofs.Common.{inl, inr, Result, Ok, Err, nat_le}
 use Rattle.std.specs.Prelude.{IfOk, OnOk, OnErr, IfSome, if◌then◌else◌}
@@ -29,9 +29,11 @@ use Rattle.coll_pending.specs.Spares.{AreListsFor}
 use Rattle.coll_pending.specs.Waiting.{updated_at, PendingView, State, view_of_pending, seen, next}
 use Rattle.coll_pending.specs.Waiting.{before, after, place, Arrives, HasArrived, IsKnownAs}
 use Rattle.coll_pending.specs.Waiting.{HasPlace, CanOpen, HasRoom, Opens, CanArrive}
-use Rattle.coll_pending.specs.Waiting.{IsOpened, IsMeetingOf, meeting_of}
+use Rattle.coll_pending.specs.Waiting.{IsOpened, IsMeetingOf, meeting_of, IsAwaited}
+use Rattle.coll_pending.specs.Waiting.{IsMet, IsExpected}
 use Rattle.coll_pending.proofs.ArriveLemmas.{waits, waits_known, waits_can, is_known}
 use Rattle.coll_pending.proofs.ArriveLemmas.{member_of}
+use Rattle.coll_pending.proofs.RowLemmas.{none_of}
 use Rattle.coll_pending.proofs.TableLemmas.{updated_here, updated_other, updated_twice}
 use Rattle.coll_pending.proofs.TableLemmas.{updated_at_here, updated_at_twice}
 
@@ -106,10 +108,6 @@ opened_place old mid c rank comm sig (inr fresh) = ap (λ (f : ℕ → ℕ → �
 some_not_none : {A : Type 0} {P : Type 0} (w : Option A) → IsSome w → w ≡ None → P
 some_not_none w some none = absurd (false≢true (subst (λ v. IsSome v) none some))
 
-pub none_of : {A : Type 0} (w : Option A) → is_some w ≡ false → w ≡ None
-none_of None e = refl
-none_of (Some x) e = absurd (false≢true (sym e))
-
 some_slot : {X : Type 0} (w : Option (Slot X)) → IsSome w → IsSome (instance_in w)
 some_slot None some = absurd (false≢true some)
 some_slot (Some o) some = refl
@@ -158,35 +156,30 @@ module _ {X : Type 0} (s inside : State X) (view : inside ≡ s) (comm : Communi
 
 -- it waits already
 module _ {X : Type 0} (s : State X) (comm : Communicator) (sig : Signature) (m : Meeting)
-    (met : IsMeetingOf (view_of_pending s) sig m) (stays : m.does ≢ nexts.Opens)
-    (agrees : m.does ≢ nexts.Mismatch)
-    (known : IsKnownAs comm ((view_of_pending s).known m.comm)) where
-  does : m.does ≡ next (view_of_pending s) m.comm m.rank sig
-  does = ap (λ (z : Meeting). z.does) met
-
+    (expected : IsExpected s m comm sig) (stays : m.does ≢ nexts.Opens)
+    (agrees : m.does ≢ nexts.Mismatch) where
   other : (n : Next) → m.does ≢ n → next (view_of_pending s) m.comm m.rank sig ≢ n
-  other n off = λ e. off (does ∙ e)
+  other n off = λ e. off (ap (λ (z : Meeting). z.does) expected.met ∙ e)
 
-  pub waits_as : known_in (queue_at s.queues.queues m.comm) ≡ Some comm
+  waits_as : known_in (queue_at s.queues.queues m.comm) ≡ Some comm
   unfolding view_of_pending
   waits_as = is_known (known_in (queue_at s.queues.queues m.comm)) comm
       (waits_known s.queues m.comm m.rank sig (other nexts.Opens stays)
-      (other nexts.Mismatch agrees)) known
+      (other nexts.Mismatch agrees)) expected.known
 
-  pub waits_meets : m.rank < length comm.members → CanArrive s.queues m.comm m.rank comm sig
+  pub waits_met : IsMet s s m comm sig
   unfolding view_of_pending
-  waits_meets lt = waits_can s.queues m.comm m.rank sig (other nexts.Opens stays)
-      (other nexts.Mismatch agrees) comm lt waits_as
-
-  pub waits_opened : IsOpened (view_of_pending s) (view_of_pending s) m.comm m.rank comm sig
-  unfolding view_of_pending
-  waits_opened = inl (
-    some_slot (slot_of s.queues m.comm (count_in (queue_at s.queues.queues m.comm) m.rank))
-        (waits s.queues m.comm m.rank sig (other nexts.Opens stays)
-        (other nexts.Mismatch agrees)),
-    waits_as,
-    refl,
-  )
+  waits_met = record {
+    opened = inl (
+      some_slot (slot_of s.queues m.comm (count_in (queue_at s.queues.queues m.comm) m.rank))
+          (waits s.queues m.comm m.rank sig (other nexts.Opens stays)
+          (other nexts.Mismatch agrees)),
+      waits_as,
+      refl,
+    );
+    meets = waits_can s.queues m.comm m.rank sig (other nexts.Opens stays)
+        (other nexts.Mismatch agrees) comm expected.rank waits_as;
+  }
 
 joins : (b : Bool) (roll : Roll) (rank : ℕ) (sig : Signature) →
     is_full_but_for roll.stated rank ≡ b → same_signature roll.sig sig ≡ true →
@@ -233,7 +226,7 @@ module _ {X : Type 0} (s : Queues X) (t : Queues X) (old : PendingView X) (c ran
 
 module _ {X : Type 0} (s inside : State X) (view : inside ≡ s) (sig : Signature) (m : Meeting)
     (met : IsMeetingOf (view_of_pending s) sig m) where
-  pub number_inside : m.k ≡ count_in (queue_at inside.queues.queues m.comm) m.rank
+  number_inside : m.k ≡ count_in (queue_at inside.queues.queues m.comm) m.rank
   unfolding view_of_pending
   number_inside = ap (λ (z : Meeting). z.k) met
       ∙ sym (ap (λ (v : State X). count_in (queue_at v.queues.queues m.comm) m.rank) view)
@@ -248,7 +241,7 @@ module _ {X : Type 0} (s inside : State X) (view : inside ≡ s) (sig : Signatur
 
   -- it waits already
   module _ (stays : m.does ≢ nexts.Opens) (agrees : m.does ≢ nexts.Mismatch) where
-    pub inside_known : IsSome (known_in (queue_at inside.queues.queues m.comm))
+    inside_known : IsSome (known_in (queue_at inside.queues.queues m.comm))
     inside_known = waits_known inside.queues m.comm m.rank sig (not_inside nexts.Opens stays)
         (not_inside nexts.Mismatch agrees)
 
@@ -259,18 +252,20 @@ module _ {X : Type 0} (s inside : State X) (view : inside ≡ s) (sig : Signatur
         (subst (λ (v : State X). IsKnownAs of (known_in (queue_at v.queues.queues m.comm)))
         (sym view) known)
 
-    pub inside_can : ((of : Communicator) →
+    awaited_by : ((of : Communicator) →
         known_in (queue_at inside.queues.queues m.comm) ≡ Some of → m.rank < length of.members) →
-        (of : Communicator) → known_in (queue_at inside.queues.queues m.comm) ≡ Some of →
-        CanArrive inside.queues m.comm m.rank of sig
-    inside_can member of e = waits_can inside.queues m.comm m.rank sig
-        (not_inside nexts.Opens stays) (not_inside nexts.Mismatch agrees) of (member of e) e
+        m.k < 2 ^ 62 → IsAwaited inside.queues m sig
+    awaited_by member few = record {
+      known = inside_known;
+      ready = λ of e. waits_can inside.queues m.comm m.rank sig (not_inside nexts.Opens stays)
+          (not_inside nexts.Mismatch agrees) of (member of e) e;
+      number = number_inside;
+      few = few;
+    }
 
-    pub arrives_as : (of : Communicator) (known : IsKnownAs of ((view_of_pending s).known m.comm)) →
-        m.rank < length of.members → (other : Communicator) →
-        known_in (queue_at inside.queues.queues m.comm) ≡ Some other →
-        CanArrive inside.queues m.comm m.rank other sig
-    arrives_as of known lt = inside_can (λ other e.
+    pub still_awaited : (of : Communicator) → IsKnownAs of ((view_of_pending s).known m.comm) →
+        m.rank < length of.members → m.k < 2 ^ 62 → IsAwaited inside.queues m sig
+    still_awaited of known lt = awaited_by (λ other e.
         let same : of ≡ other = (let both = sym (inside_as of known) ∙ e in cc) in
         subst (λ (z : Communicator). m.rank < length z.members) same lt)
 
@@ -285,35 +280,50 @@ module _ {X : Type 0} (s inside : State X) (view : inside ≡ s) (sig : Signatur
     pub joins_inside : next (seen inside.queues) m.comm m.rank sig ≡ nexts.Joins
     joins_inside = sym does_inside ∙ joins
 
-    pub joins_can : IfSome ((view_of_pending s).known m.comm) (λ of. m.rank < length of.members) →
-        (of : Communicator) → known_in (queue_at inside.queues.queues m.comm) ≡ Some of →
-        CanArrive inside.queues m.comm m.rank of sig
+    pub joins_awaited : IfSome ((view_of_pending s).known m.comm)
+        (λ of. m.rank < length of.members) → m.k < 2 ^ 62 → IsAwaited inside.queues m sig
     unfolding view_of_pending
-    joins_can member = inside_can joins_stays joins_agrees
+    joins_awaited member = awaited_by joins_stays joins_agrees
         (member_of (known_in (queue_at inside.queues.queues m.comm)) m.rank
         (subst (λ (v : State X). IfSome (known_in (queue_at v.queues.queues m.comm))
         (λ of. m.rank < length of.members)) (sym view) member))
 
 -- it waits now
 module _ {X : Type 0} (s mid inside : State X) (view : inside ≡ mid) (comm : Communicator)
-    (sig : Signature) (m : Meeting) (met : IsMeetingOf (view_of_pending s) sig m)
-    (opened : IsOpened (view_of_pending s) (view_of_pending mid) m.comm m.rank comm sig) where
-  pub opened_number : m.k ≡ count_in (queue_at inside.queues.queues m.comm) m.rank
+    (sig : Signature) (m : Meeting) (told : IsMeetingOf (view_of_pending s) sig m)
+    (met : IsMet s mid m comm sig) where
+  pub met_known : known_in (queue_at inside.queues.queues m.comm) ≡ Some comm
+  met_known =
+      ap (λ (v : State X). known_in (queue_at v.queues.queues m.comm)) view ∙ met.meets.meets.0
+
+  opened_number : m.k ≡ count_in (queue_at inside.queues.queues m.comm) m.rank
   unfolding view_of_pending
-  opened_number = ap (λ (z : Meeting). z.k) met
-      ∙ (sym (opened_place (view_of_pending s) (view_of_pending mid) m.comm m.rank comm sig opened)
+  opened_number = ap (λ (z : Meeting). z.k) told
+      ∙ (sym (opened_place (view_of_pending s) (view_of_pending mid) m.comm m.rank comm sig
+      met.opened)
       ∙ sym (ap (λ (v : State X). count_in (queue_at v.queues.queues m.comm) m.rank) view))
+
+  pub now_awaited : m.k < 2 ^ 62 → IsAwaited inside.queues m sig
+  now_awaited few = record {
+    known = subst (λ w. IsSome w) (sym met_known) refl;
+    ready = λ of e.
+        let same : comm ≡ of = (let both = sym met_known ∙ e in cc) in
+        subst (λ z. CanArrive inside.queues m.comm m.rank z sig) same
+        (subst (λ (v : State X). CanArrive v.queues m.comm m.rank comm sig) (sym view) met.meets);
+    number = opened_number;
+    few = few;
+  }
 
 pub arrived_by : {X : Type 0} (s mid inside : State X) (view : inside ≡ mid) (new : PendingView X)
     (comm : Communicator) (m : Meeting) (stated : Stated) (part : X) (a : Arrived X) →
     IsMeetingOf (view_of_pending s) stated.sig m → m.does ≢ nexts.Mismatch →
-    IsOpened (view_of_pending s) (view_of_pending mid) m.comm m.rank comm stated.sig →
+    IsMet s mid m comm stated.sig →
     HasArrived (seen inside.queues) new m.comm m.rank comm stated part a →
     HasArrived (view_of_pending s) new m.comm m.rank comm stated part a
 unfolding view_of_pending
-arrived_by {X} s mid inside view new comm m stated part a met agrees opened arrived =
+arrived_by {X} s mid inside view new comm m stated part a told agrees met arrived =
     opened_arrives (view_of_pending s) (view_of_pending mid) new m.comm m.rank comm stated part a
-    (λ e. agrees (ap (λ (z : Meeting). z.does) met ∙ e)) opened
+    (λ e. agrees (ap (λ (z : Meeting). z.does) told ∙ e)) met.opened
     (subst (λ (v : State X). HasArrived (seen v.queues) new m.comm m.rank comm stated part a) view
     arrived)
 

@@ -11,6 +11,10 @@ use Rattle.std.proofs.lemmas.List.Sums.{sum_by-cons}
 use Rattle.coll_pending.specs.Instances.{is_full, is_full_but_for, is_begun}
 use Rattle.coll_pending.specs.Queues.{marks, has_posted}
 
+pub none_of : {A : Type 0} (o : Option A) → is_some o ≡ false → o ≡ None
+none_of None e = refl
+none_of (Some x) e = absurd (false≢true (sym e))
+
 pub begun_set : {A : Type 0} (rows : List (Option A)) (r : ℕ) (x : A) → r < length rows →
     is_begun (set rows r (Some x)) ≡ true
 begun_set [] r x lt = absurd (omega arith)

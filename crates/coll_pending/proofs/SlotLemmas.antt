@@ -47,7 +47,8 @@ pub vacant_is_slot : {X : Type 0} (comm : Communicator) (o : Slot X) → IsVacan
     0 < length comm.members → IsSlot o
 vacant_is_slot {X} comm o is some = record {
   rows = ap length is.stated
-      ∙ (length-replicate {A = Option Stated} (length comm.members) None ∙ sym (ap length is.members));
+      ∙ (length-replicate {A = Option Stated} (length comm.members) None
+      ∙ sym (ap length is.members));
   marked = ap (λ (rows : List (Option X)). marks rows) is.parts
       ∙ (marks_none X Stated (length comm.members)
       ∙ sym (ap (λ (rows : List (Option Stated)). marks rows) is.stated));
@@ -129,8 +130,8 @@ same_sig roll rank sig agrees = ⊎_elim
     (cases_Bool (same_signature roll.sig sig))
 
 -- who joins leaves another row empty
-joins_by : (same full : Bool) → (if same then (if full then Fills else Joins) else Mismatch) ≡ Joins →
-    full ≡ false
+joins_by : (same full : Bool) →
+    (if same then (if full then Fills else Joins) else Mismatch) ≡ Joins → full ≡ false
 joins_by true true e = absurd (cc)
 joins_by true false e = refl
 joins_by false full e = absurd (cc)

@@ -1,6 +1,6 @@
 -- What contracts see of the instances that wait: look-ups by communicator, rank and number.
 -- (MPI 4.1, section 6.12.)
-use Rattle.std.specs.Prelude.{◌≡◌, ◌≢◌, ◌<◌, ◌⊎◌, ℕ, ◌+◌, length, map, true, false, Option}
+use Rattle.std.specs.Prelude.{◌≡◌, ◌≢◌, ◌<◌, ◌⊎◌, ◌^◌, ℕ, ◌+◌, length, map, true, false, Option}
 use Rattle.std.specs.Prelude.{Some, None, IsSome}
 use Rattle.slab.specs.Slab.{HasRoomFor}
 use Rattle.coll_routes.specs.declared.signature.Signature.{Signature}
@@ -10,11 +10,13 @@ use Rattle.coll_pending.specs.declared.arrival.Arrived.TheVariants.{Waiting, Ful
 use Rattle.coll_pending.specs.declared.arrival.Meeting.{Meeting}
 use Rattle.coll_pending.specs.declared.arrival.Next.{Next}
 use Rattle.coll_pending.specs.declared.arrival.Next.TheVariants.{Mismatch}
+use Rattle.coll_pending.specs.declared.arrival.Next.TheVariants as nexts
 use Rattle.coll_pending.specs.declared.arrival.ArrivalFault.{ArrivalFault}
 use Rattle.coll_pending.specs.declared.arrival.ArrivalFault.TheVariants as faults
 use Rattle.coll_pending.specs.Instances.{Instance, Communicator, is_full, joined, next_by, roll_in}
 use Rattle.coll_pending.specs.Instances.{vacant, IsAgreed}
 use Rattle.coll_pending.specs.Keyed.{updated}
+use Rattle.coll_pending.specs.Lists.{fits, room_by}
 use Rattle.coll_pending.specs.Queues.{Queue, Queues, queue_at, known_in, count_in, slot_of}
 use Rattle.coll_pending.specs.Queues.{instance_in}
 use Rattle.coll_pending.specs.Spares.{Spare, IsQueueOf, IsSlotFor, AreListsFor}
@@ -158,9 +160,53 @@ pub record CanArrive {X : Type 0} (s : Queues X) (c rank : ℕ) (comm : Communic
   pub member : rank < length comm.members
   pub agrees : next (seen s) c rank sig ≢ Mismatch
 
+-- a member can arrive at the instance that it meets, the k-th, which waits
+pub record IsAwaited {X : Type 0} (s : Queues X) (meeting : Meeting) (sig : Signature) : Type 0
+  where
+    pub known : IsSome (known_in (queue_at s.queues meeting.comm))
+    pub ready : (of : Communicator) → known_in (queue_at s.queues meeting.comm) ≡ Some of →
+        CanArrive s meeting.comm meeting.rank of sig
+    pub number : meeting.k ≡ count_in (queue_at s.queues meeting.comm) meeting.rank
+    pub few : meeting.k < 2 ^ 62
+
+-- and has arrived there
+abbrev pub HasArrivedAt : {X : Type 0} → (old new : Queues X) → Meeting → Stated → X → Arrived X →
+    Type 0
+HasArrivedAt old new meeting stated part arrived =
+    (of : Communicator) → known_in (queue_at old.queues meeting.comm) ≡ Some of →
+    HasArrived (seen old) (seen new) meeting.comm meeting.rank of stated part arrived
+
 -- the instance that the rank meets waits, and if it did not before it has been opened
 abbrev pub IsOpened : {X : Type 0} → (old new : PendingView X) → (c rank : ℕ) → Communicator →
     Signature → Type 0
 IsOpened old new c rank comm sig =
     (IsSome (before old c rank) × (known_as old c comm) × (new ≡ old))
     ⊎ ((before old c rank ≡ None) × Opens old new c (place old c rank) comm sig)
+
+-- ## a member that arrives as a look told, in the words of `Pending`
+
+-- it is a member of the communicator that is handed in, which is the one of the first arrival
+pub record IsExpected {X : Type 0} (s : State X) (meeting : Meeting) (comm : Communicator)
+    (sig : Signature) : Type 0 where
+  pub met : IsMeetingOf (view_of_pending s) sig meeting
+  pub rank : meeting.rank < length comm.members
+  pub known : IsKnownAs comm ((view_of_pending s).known meeting.comm)
+
+-- the instance that it meets now waits for it
+pub record IsMet {X : Type 0} (old new : State X) (meeting : Meeting) (comm : Communicator)
+    (sig : Signature) : Type 0 where
+  pub opened :
+      IsOpened (view_of_pending old) (view_of_pending new) meeting.comm meeting.rank comm sig
+  pub meets : CanArrive new.queues meeting.comm meeting.rank comm sig
+
+-- there is room for a member
+pub record HasRoomAt {X : Type 0} (s : State X) (meeting : Meeting) (comm : Communicator) : Type 0
+  where
+    pub rank : meeting.rank < length comm.members
+    pub room : HasRoom s meeting.comm meeting.rank comm
+
+-- also for the lists of its signature, where an instance is opened
+pub record HasAllRoom {X : Type 0} (s : State X) (meeting : Meeting) (comm : Communicator)
+    (sig : Signature) : Type 0 where
+  pub room : HasRoom s meeting.comm meeting.rank comm
+  pub lists : meeting.does ≡ nexts.Opens → fits (room_by comm.shape) sig ≡ true

@@ -6,6 +6,7 @@
 #![tactic(auto)]
 
 mod arrival;
+mod communicator;
 pub mod laws;
 mod lists;
 mod parts;

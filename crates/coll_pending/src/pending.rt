@@ -7,6 +7,7 @@ ghost use Rattle.coll_pending.specs.declared.arrival.Next.TheVariants.{Opens, Jo
 ghost use Rattle.coll_pending.specs.Instances.{made_of};
 
 use crate::arrival::{ArrivalFault, Arrived, Meeting, Next, Unarrived};
+use crate::communicator::Communicator;
 use crate::queues::Queues;
 use crate::spare::Spare;
 use coll_routes::{Roll, Shape, Signature, Stated};
@@ -43,8 +44,8 @@ impl<X: Drop> Pending<X> {
     ghost use Rattle.coll_pending.specs.Instances.{Communicator, made_of, roll_in};
     ghost use Rattle.coll_pending.specs.Lists.{fits, room_by};
     ghost use Rattle.coll_pending.specs.Waiting.{view_of_pending, next, HasRoom, HasArrived};
-    ghost use Rattle.coll_pending.specs.Waiting.{IsKnownAs, IsOpened, CanArrive, fault_at};
-    ghost use Rattle.coll_pending.specs.Waiting.{meeting_of, IsMeetingOf};
+    ghost use Rattle.coll_pending.specs.Waiting.{IsKnownAs, IsExpected, IsMet, HasRoomAt};
+    ghost use Rattle.coll_pending.specs.Waiting.{HasAllRoom, fault_at, meeting_of, IsMeetingOf};
 
     /// Nobody has arrived.
     #[tactic(auto, unfolding(crate::specs::Waiting::view_of_pending))]
@@ -98,7 +99,6 @@ impl<X: Drop> Pending<X> {
     /// Makes the room with which the next arrival, if it is that member's, takes no memory:
     /// whatever its signature where its instance waits, and else one whose lists are no longer
     /// than a communicator of that shape allows.
-    #[tactic(auto, unfolding(crate::specs::Waiting::view_of_pending, crate::specs::Waiting::HasRoom))]
     pub fn ready(
         &mut self,
         comm: u32,
@@ -113,13 +113,7 @@ impl<X: Drop> Pending<X> {
         ensures room { OnOk result (HasRoom self.new comm rank (made_of group.now shape.now)) }
         ensures memory { HasRoom self.old comm rank (made_of group.now shape.now) → OnErr result ⊥ }
     {
-        let number = self.queues.arrivals(comm, rank);
-        if self.queues.waits(comm, number) {
-            return Ok(());
-        }
-        self.queues.reserve(comm)?;
-        let is_known = self.queues.knows(comm);
-        self.spare.ready(self.alloc, group, shape, is_known)
+        self.make_room(comm, rank, &Communicator::new(group, shape))
     }
 
     /// A member arrives with its statement and its part. It is refused where its instance is of
@@ -154,7 +148,7 @@ impl<X: Drop> Pending<X> {
             IfErr result (λ refused. refused.fault ≢ ArrivalFault.NoMemory) }
     {
         let meeting = self.look(comm, rank, &stated.sig);
-        match self.meet(meeting, group, shape, &stated.sig) {
+        match self.meet(meeting, &Communicator::new(group, shape), &stated.sig) {
             Ok(()) => Ok(self.queues.arrive(meeting, stated, part)),
             Err(fault) => Err(Unarrived {
                 fault,
@@ -188,7 +182,7 @@ impl<X: Drop> Pending<X> {
     {
         match meeting.does {
             Next::Opens => {
-                let Ok(()) = self.open_new(meeting, group, shape, &stated.sig) else {
+                let Ok(()) = self.open_new(meeting, &stated.sig) else {
                     unreachable!()
                 };
                 self.queues.arrive(meeting, stated, part)
@@ -213,35 +207,42 @@ impl<X: Drop> Pending<X> {
         self.queues.join(meeting, stated, part);
     }
 
+    // Makes the room of `ready` for a communicator.
+    #[tactic(auto, unfolding(crate::specs::Waiting::view_of_pending, crate::specs::Waiting::HasRoom))]
+    fn make_room(&mut self, comm: u32, rank: u32, of: &Communicator<'_>) -> Result<(), NoMemory>
+        requires rank { rank < length of.now.members }
+        requires known { IsKnownAs of.now ((view_of_pending self.old).known comm) }
+        ensures unchanged { view_of_pending self.new ≡ view_of_pending self.old }
+        ensures room { OnOk result (HasRoom self.new comm rank of.now) }
+        ensures memory { HasRoom self.old comm rank of.now → OnErr result ⊥ }
+    {
+        let number = self.queues.arrivals(comm, rank);
+        if self.queues.waits(comm, number) {
+            return Ok(());
+        }
+        self.queues.reserve(comm)?;
+        let is_known = self.queues.knows(comm);
+        self.spare.ready(self.alloc, of, is_known)
+    }
+
     // Sees to it that the instance which an arrival meets waits and is of this signature.
     fn meet(
         &mut self,
         meeting: Meeting,
-        group: &Group,
-        shape: &Shape,
+        of: &Communicator<'_>,
         sig: &Signature,
     ) -> Result<(), ArrivalFault>
-        requires met { IsMeetingOf (view_of_pending self.old) sig.now meeting }
-        requires rank { meeting.rank < length group.now }
-        requires known { IsKnownAs (made_of group.now shape.now)
-            ((view_of_pending self.old).known meeting.comm) }
+        requires { IsExpected self.old meeting of.now sig.now }
         ensures agrees { OnOk result (meeting.does ≢ Mismatch) }
-        ensures opened { OnOk result
-            (IsOpened (view_of_pending self.old) (view_of_pending self.new) meeting.comm
-            meeting.rank (made_of group.now shape.now) sig.now) }
-        ensures meets { OnOk result
-            (CanArrive self.new.queues meeting.comm meeting.rank (made_of group.now shape.now)
-            sig.now) }
+        ensures met { OnOk result (IsMet self.old self.new meeting of.now sig.now) }
         ensures unchanged { OnErr result (view_of_pending self.new ≡ view_of_pending self.old) }
         ensures fault { IfErr result (λ fault. fault ≡ fault_at meeting.does) }
-        ensures memory { HasRoom self.old meeting.comm meeting.rank
-            (made_of group.now shape.now) →
-            (meeting.does ≡ Opens → fits (room_by shape.now) sig.now ≡ true) →
+        ensures memory { HasAllRoom self.old meeting of.now sig.now →
             IfErr result (λ fault. fault ≢ ArrivalFault.NoMemory) }
     {
         match meeting.does {
             Next::Mismatch => Err(ArrivalFault::Mismatch),
-            Next::Opens => match self.open(meeting, group, shape, sig) {
+            Next::Opens => match self.open(meeting, of, sig) {
                 Ok(()) => Ok(()),
                 Err(_) => Err(ArrivalFault::NoMemory),
             },
@@ -253,51 +254,29 @@ impl<X: Drop> Pending<X> {
     fn open(
         &mut self,
         meeting: Meeting,
-        group: &Group,
-        shape: &Shape,
+        of: &Communicator<'_>,
         sig: &Signature,
     ) -> Result<(), NoMemory>
-        requires met { IsMeetingOf (view_of_pending self.old) sig.now meeting }
+        requires expected { IsExpected self.old meeting of.now sig.now }
         requires opens { meeting.does ≡ Opens }
-        requires rank { meeting.rank < length group.now }
-        requires known { IsKnownAs (made_of group.now shape.now)
-            ((view_of_pending self.old).known meeting.comm) }
-        ensures opened { OnOk result
-            (IsOpened (view_of_pending self.old) (view_of_pending self.new) meeting.comm
-            meeting.rank (made_of group.now shape.now) sig.now) }
-        ensures meets { OnOk result
-            (CanArrive self.new.queues meeting.comm meeting.rank (made_of group.now shape.now)
-            sig.now) }
+        ensures met { OnOk result (IsMet self.old self.new meeting of.now sig.now) }
         ensures unchanged { OnErr result (view_of_pending self.new ≡ view_of_pending self.old) }
-        ensures memory { HasRoom self.old meeting.comm meeting.rank
-            (made_of group.now shape.now) →
-            fits (room_by shape.now) sig.now ≡ true → OnErr result ⊥ }
+        ensures memory { HasAllRoom self.old meeting of.now sig.now → OnErr result ⊥ }
     {
-        self.ready(meeting.comm, meeting.rank, group, shape)?;
-        self.open_new(meeting, group, shape, sig)
+        self.make_room(meeting.comm, meeting.rank, of)?;
+        self.open_new(meeting, sig)
     }
 
     // Opens the instance that an arrival opens, for which there is room.
-    fn open_new(
-        &mut self,
-        meeting: Meeting,
-        _group: &Group,
-        _shape: &Shape,
-        sig: &Signature,
-    ) -> Result<(), NoMemory>
+    fn open_new(&mut self, meeting: Meeting, sig: &Signature) -> Result<(), NoMemory>
         requires met { IsMeetingOf (view_of_pending self.old) sig.now meeting }
         requires opens { meeting.does ≡ Opens }
-        requires rank { meeting.rank < length _group.now }
-        requires room { HasRoom self.old meeting.comm meeting.rank
-            (made_of _group.now _shape.now) }
-        ensures opened { OnOk result
-            (IsOpened (view_of_pending self.old) (view_of_pending self.new) meeting.comm
-            meeting.rank (made_of _group.now _shape.now) sig.now) }
-        ensures meets { OnOk result
-            (CanArrive self.new.queues meeting.comm meeting.rank (made_of _group.now _shape.now)
-            sig.now) }
+        requires room { (of : Communicator) × HasRoomAt self.old meeting of }
+        ensures met { OnOk result ((of : Communicator) → HasRoomAt self.old meeting of →
+            IsMet self.old self.new meeting of sig.now) }
         ensures unchanged { OnErr result (view_of_pending self.new ≡ view_of_pending self.old) }
-        ensures memory { fits (room_by _shape.now) sig.now ≡ true → OnErr result ⊥ }
+        ensures memory { (of : Communicator) → HasRoomAt self.old meeting of →
+            fits (room_by of.shape) sig.now ≡ true → OnErr result ⊥ }
     {
         let is_known = self.queues.knows(meeting.comm);
         let slot = self.spare.take_slot(self.alloc, sig)?;

@@ -2,8 +2,8 @@
 ghost use Rattle.std.specs.Prelude.{◌≡◌, ◌<◌, ◌+◌, ◌^◌, length, replicate, Some, None, IfOk, OnOk};
 ghost use Rattle.std.specs.Prelude.{OnErr, IsTrue};
 ghost use Rattle.std.specs.VecDeque.{deque_len};
-ghost use Rattle.coll_pending.specs.Instances.{made_of};
 
+use crate::communicator::Communicator;
 use coll_routes::Shape;
 use mpi_group::Group;
 use std::alloc::Global;
@@ -46,28 +46,29 @@ impl Queue {
     ghost use Rattle.coll_pending.specs.Queues.{pushed, unused};
 
     /// The queue of a communicator at which nobody has arrived.
-    pub fn new(alloc: Global, group: &Group, shape: &Shape) -> Result<Queue, NoMemory>
-        ensures unused { IfOk result (λ q. q ≡ unused (made_of group.now shape.now) q.room) }
+    pub fn new(alloc: Global, comm: &Communicator<'_>) -> Result<Queue, NoMemory>
+        ensures unused { IfOk result (λ q. q ≡ unused comm.now q.room) }
         ensures room { IfOk result (λ q. 0 < q.room) }
     {
-        let counts = no_arrivals(alloc, group.size())?;
+        let counts = no_arrivals(alloc, comm.group().size())?;
         let keys = VecDeque::with_capacity(alloc, 1)?;
         Ok(Queue {
-            members: group.copy(alloc)?,
-            shape: shape.copy(alloc)?,
+            members: comm.group().copy(alloc)?,
+            shape: comm.shape().copy(alloc)?,
             counts,
             first: 0,
             keys,
         })
     }
 
-    /// Whether these are its members and its shape.
-    pub fn is_of(&self, group: &Group, shape: &Shape) -> bool
+    /// Whether it is the queue of this communicator.
+    pub fn is_of(&self, comm: &Communicator<'_>) -> bool
         ensures yes { IsTrue result →
-            (self.now.members ≡ group.now) × (self.now.shape ≡ shape.now) }
-        ensures no { self.now.members ≡ group.now → self.now.shape ≡ shape.now → IsTrue result }
+            (self.now.members ≡ comm.now.members) × (self.now.shape ≡ comm.now.shape) }
+        ensures no { self.now.members ≡ comm.now.members → self.now.shape ≡ comm.now.shape →
+            IsTrue result }
     {
-        self.members.is_same(group) && self.shape.is_same(shape)
+        self.members.is_same(comm.group()) && self.shape.is_same(comm.shape())
     }
 
     /// How often a rank has arrived.

@@ -41,13 +41,20 @@ impl<X> Model for Queues<X> {
         queues.IsQueues (record { queues = q.by_comm.items; slots = q.slots }) };
 }
 
+// What a member brings to an instance.
+#[derive(Drop)]
+struct Brought<X> {
+    stated: Stated,
+    part: X,
+}
+
 impl<X: Drop> Queues<X> {
     ghost use Rattle.coll_pending.specs.Instances.{Communicator, roll_in};
     ghost use Rattle.coll_pending.specs.Queues.{queue_at, known_in, count_in, slot_of};
     ghost use Rattle.coll_pending.specs.Queues.{IsVacant};
     ghost use Rattle.coll_pending.specs.Spares.{IsQueueOf, members_of};
-    ghost use Rattle.coll_pending.specs.Waiting.{seen, next, meeting_of, HasArrived, HasPlace};
-    ghost use Rattle.coll_pending.specs.Waiting.{CanArrive, Opens};
+    ghost use Rattle.coll_pending.specs.Waiting.{seen, next, meeting_of, HasPlace, Opens};
+    ghost use Rattle.coll_pending.specs.Waiting.{IsAwaited, HasArrivedAt};
 
     /// No communicator, and no instance.
     pub fn new(alloc: Global) -> Queues<X>
@@ -153,48 +160,28 @@ impl<X: Drop> Queues<X> {
 
     /// A member arrives at an instance that waits.
     pub fn arrive(&mut self, meeting: Meeting, stated: Stated, part: X) -> Arrived<X>
-        requires known { IsSome (known_in (queue_at self.old.queues meeting.comm)) }
-        requires ready { (of : Communicator) →
-            known_in (queue_at self.old.queues meeting.comm) ≡ Some of →
-            CanArrive self.old meeting.comm meeting.rank of stated.sig }
-        requires number { meeting.k
-            ≡ count_in (queue_at self.old.queues meeting.comm) meeting.rank }
-        requires few { meeting.k < 2 ^ 62 }
-        ensures { (of : Communicator) →
-            known_in (queue_at self.old.queues meeting.comm) ≡ Some of →
-            HasArrived (seen self.old) (seen self.new) meeting.comm meeting.rank of stated part
-            result }
+        requires { IsAwaited self.old meeting stated.sig }
+        ensures { HasArrivedAt self.old self.new meeting stated part result }
     {
         post(
             &mut self.by_comm[meeting.comm as usize],
             &mut self.slots,
             meeting,
-            stated,
-            part,
+            Brought { stated, part },
         )
     }
 
     /// A member arrives at an instance that waits for others too, and waits on.
     pub fn join(&mut self, meeting: Meeting, stated: Stated, part: X)
-        requires known { IsSome (known_in (queue_at self.old.queues meeting.comm)) }
-        requires ready { (of : Communicator) →
-            known_in (queue_at self.old.queues meeting.comm) ≡ Some of →
-            CanArrive self.old meeting.comm meeting.rank of stated.sig }
-        requires number { meeting.k
-            ≡ count_in (queue_at self.old.queues meeting.comm) meeting.rank }
-        requires few { meeting.k < 2 ^ 62 }
+        requires awaited { IsAwaited self.old meeting stated.sig }
         requires joins { next (seen self.old) meeting.comm meeting.rank stated.sig ≡ Joins }
-        ensures { (of : Communicator) →
-            known_in (queue_at self.old.queues meeting.comm) ≡ Some of →
-            HasArrived (seen self.old) (seen self.new) meeting.comm meeting.rank of stated part
-            Waiting }
+        ensures { HasArrivedAt self.old self.new meeting stated part Waiting }
     {
         let _ = enter(
             &mut self.by_comm[meeting.comm as usize],
             &mut self.slots,
             meeting,
-            stated,
-            part,
+            Brought { stated, part },
         );
     }
 }
@@ -303,14 +290,13 @@ fn post<X: Drop>(
     row: &mut Option<Queue>,
     slots: &mut Slab<Slot<X>>,
     meeting: Meeting,
-    stated: Stated,
-    part: X,
+    brought: Brought<X>,
 ) -> Arrived<X>
     requires { IsSomeAnd row.old (λ q. CanPost q slots.old meeting.rank meeting.k) }
     ensures { (q : Queue) → row.old ≡ Some q → (new : Queue) × (row.new ≡ Some new)
-        × PostsTo q new slots.old slots.new meeting.rank stated part result }
+        × PostsTo q new slots.old slots.new meeting.rank brought.stated brought.part result }
 {
-    match enter(row, slots, meeting, stated, part) {
+    match enter(row, slots, meeting, brought) {
         None => Arrived::Waiting,
         Some(key) => {
             pop(row);
@@ -325,18 +311,17 @@ fn enter<X: Drop>(
     row: &mut Option<Queue>,
     slots: &mut Slab<Slot<X>>,
     meeting: Meeting,
-    stated: Stated,
-    part: X,
+    brought: Brought<X>,
 ) -> Option<usize>
     requires { IsSomeAnd row.old (λ q. CanPost q slots.old meeting.rank meeting.k) }
     ensures { (q : Queue) → row.old ≡ Some q → (row.new ≡ Some (counted q meeting.rank))
-        × Enters q slots.old slots.new meeting.rank stated part result }
+        × Enters q slots.old slots.new meeting.rank brought.stated brought.part result }
 {
     match row {
         Some(queue) => match queue.key(meeting.k) {
             Some(key) => {
                 queue.arrive(meeting.rank);
-                if enter_slot(slots, key, meeting.rank, stated, part) {
+                if enter_slot(slots, key, meeting.rank, brought) {
                     Some(key)
                 } else {
                     None
@@ -353,16 +338,16 @@ fn enter_slot<X: Drop>(
     slots: &mut Slab<Slot<X>>,
     key: usize,
     rank: u32,
-    stated: Stated,
-    part: X,
+    brought: Brought<X>,
 ) -> bool
     requires { IsSomeAnd (get slots.old key) (IsFree rank) }
     ensures last { (o : Slot X) → get slots.old key ≡ Some o → result ≡ lacks_one o }
     ensures entered { (o : Slot X) → get slots.old key ≡ Some o →
-        Updates slots.old slots.new key (Some (posted rank stated part o)) }
+        Updates slots.old slots.new key
+        (Some (posted rank brought.stated brought.part o)) }
 {
     match slots.get_mut(key) {
-        Some(slot) => slot.enter(rank, stated, part),
+        Some(slot) => slot.enter(rank, brought.stated, brought.part),
         None => unreachable!(),
     }
 }

@@ -1,14 +1,14 @@
 //! The slot of an instance that waits, with a count of the posts that have come.
 ghost use Rattle.std.specs.Prelude.{◌≡◌, ◌<◌, ◌==◌, length, map, Some, IfOk};
 ghost use Rattle.std.specs.Prelude.{IsTrue, true, false};
-ghost use Rattle.coll_pending.specs.Instances.{made_of, is_full, is_full_but_for};
+ghost use Rattle.coll_pending.specs.Instances.{is_full, is_full_but_for};
 ghost use Rattle.coll_pending.specs.Queues.{IsSlot, IsFree, IsVacant, has_posted, posted};
 ghost use Rattle.coll_pending.specs.Queues.{lacks_one};
 
+use crate::communicator::Communicator;
 use crate::parts::PartRows;
-use coll_routes::{Roll, Shape, Signature, Stated, Statements};
+use coll_routes::{Roll, Signature, Stated, Statements};
 use coll_values::Full;
-use mpi_group::Group;
 use std::alloc::Global;
 use wall_labels::NoMemory;
 
@@ -22,15 +22,15 @@ pub struct Slot<X> {
 
 impl<X: Drop> Slot<X> {
     /// A slot for an instance of a communicator. Its signature is not known yet.
-    pub fn vacant(alloc: Global, group: &Group, shape: &Shape) -> Result<Slot<X>, NoMemory>
-        ensures { IfOk result (IsVacant (made_of group.now shape.now)) }
+    pub fn vacant(alloc: Global, comm: &Communicator<'_>) -> Result<Slot<X>, NoMemory>
+        ensures { IfOk result (IsVacant comm.now) }
     {
-        let size = group.size();
+        let size = comm.group().size();
         let stated = Statements::vacant(alloc, size)?;
         let parts = PartRows::vacant(alloc, size)?;
         let roll = Roll {
-            members: group.copy(alloc)?,
-            shape: shape.copy(alloc)?,
+            members: comm.group().copy(alloc)?,
+            shape: comm.shape().copy(alloc)?,
             sig: Signature::Barrier,
             stated,
         };
@@ -41,14 +41,14 @@ impl<X: Drop> Slot<X> {
         })
     }
 
-    /// Whether it is for a communicator of these members and this shape.
-    pub fn is_of(&self, group: &Group, shape: &Shape) -> bool
-        ensures yes { IsTrue result → (self.now.roll.members ≡ group.now)
-            × (self.now.roll.shape ≡ shape.now) }
-        ensures no { self.now.roll.members ≡ group.now → self.now.roll.shape ≡ shape.now →
-            IsTrue result }
+    /// Whether it is for this communicator.
+    pub fn is_of(&self, comm: &Communicator<'_>) -> bool
+        ensures yes { IsTrue result → (self.now.roll.members ≡ comm.now.members)
+            × (self.now.roll.shape ≡ comm.now.shape) }
+        ensures no { self.now.roll.members ≡ comm.now.members →
+            self.now.roll.shape ≡ comm.now.shape → IsTrue result }
     {
-        self.roll.members.is_same(group) && self.roll.shape.is_same(shape)
+        self.roll.members.is_same(comm.group()) && self.roll.shape.is_same(comm.shape())
     }
 
     /// Whether each member but this rank has posted.

@@ -1,16 +1,16 @@
 //! What `Pending::ready` makes, so that the next arrival takes no memory.
 ghost use Rattle.std.specs.Prelude.{◌≡◌, ◌<◌, IfSome, IfOk, OnOk, OnErr, IsTrue};
 ghost use Rattle.std.specs.Prelude.{IsSome, Some, None, true, false};
-ghost use Rattle.coll_pending.specs.Instances.{Communicator, made_of};
+ghost use Rattle.coll_pending.specs.Instances.{Communicator};
 ghost use Rattle.coll_pending.specs.Lists.{fits};
 ghost use Rattle.coll_pending.specs.Queues.{communicator, unused, IsVacant};
 ghost use Rattle.coll_pending.specs.Spares.{members_of, IsQueueFor, IsSlotFor};
 
+use crate::communicator::Communicator;
 use crate::lists::Lists;
 use crate::queue::Queue;
 use crate::slot::Slot;
-use coll_routes::{Shape, Signature};
-use mpi_group::Group;
+use coll_routes::Signature;
 use std::alloc::Global;
 use std::marker::Model;
 use std::mem;
@@ -37,7 +37,7 @@ impl<X> Model for Spare<X> {
 }
 
 impl<X: Drop> Spare<X> {
-    ghost use Rattle.coll_pending.specs.Instances.{Communicator, made_of};
+    ghost use Rattle.coll_pending.specs.Instances.{Communicator};
     ghost use Rattle.coll_pending.specs.Lists.{fits};
     ghost use Rattle.coll_pending.specs.Queues.{IsVacant};
     ghost use Rattle.coll_pending.specs.Spares.{members_of, AreListsFor, IsQueueFor, IsSlotFor};
@@ -56,25 +56,24 @@ impl<X: Drop> Spare<X> {
     pub fn ready(
         &mut self,
         alloc: Global,
-        group: &Group,
-        shape: &Shape,
+        comm: &Communicator<'_>,
         is_known: bool,
     ) -> Result<(), NoMemory>
-        ensures slot { OnOk result (IsSlotFor (made_of group.now shape.now) self.new.slot) }
-        ensures lists { OnOk result (AreListsFor shape.now self.new.lists) }
+        ensures slot { OnOk result (IsSlotFor comm.now self.new.slot) }
+        ensures lists { OnOk result (AreListsFor comm.now.shape self.new.lists) }
         ensures queue { is_known ≡ false →
-            OnOk result (IsQueueFor (made_of group.now shape.now) self.new.queue) }
-        ensures memory { IsSlotFor (made_of group.now shape.now) self.old.slot →
-            AreListsFor shape.now self.old.lists →
-            (is_known ≡ false → IsQueueFor (made_of group.now shape.now) self.old.queue) →
+            OnOk result (IsQueueFor comm.now self.new.queue) }
+        ensures memory { IsSlotFor comm.now self.old.slot →
+            AreListsFor comm.now.shape self.old.lists →
+            (is_known ≡ false → IsQueueFor comm.now self.old.queue) →
             OnErr result ⊥ }
     {
-        self.lists.ready(alloc, shape)?;
-        ready_slot(&mut self.slot, alloc, group, shape)?;
+        self.lists.ready(alloc, comm.shape())?;
+        ready_slot(&mut self.slot, alloc, comm)?;
         if is_known {
             return Ok(());
         }
-        ready_queue(&mut self.queue, alloc, group, shape)
+        ready_queue(&mut self.queue, alloc, comm)
     }
 
     /// A slot for an instance of that signature. Takes memory only where the signature has longer
@@ -114,29 +113,28 @@ impl<X: Drop> Spare<X> {
 fn ready_slot<X: Drop>(
     spare: &mut Option<Slot<X>>,
     alloc: Global,
-    group: &Group,
-    shape: &Shape,
+    comm: &Communicator<'_>,
 ) -> Result<(), NoMemory>
     requires vacant { IfSome spare.old (λ o. IsVacant (members_of o) o) }
     ensures vacant { IfSome spare.new (λ o. IsVacant (members_of o) o) }
-    ensures ok { OnOk result (IsSlotFor (made_of group.now shape.now) spare.new) }
-    ensures memory { IsSlotFor (made_of group.now shape.now) spare.old → OnErr result ⊥ }
+    ensures ok { OnOk result (IsSlotFor comm.now spare.new) }
+    ensures memory { IsSlotFor comm.now spare.old → OnErr result ⊥ }
 {
-    if is_slot_of(spare, group, shape) {
+    if is_slot_of(spare, comm) {
         return Ok(());
     }
-    let slot = Slot::vacant(alloc, group, shape)?;
+    let slot = Slot::vacant(alloc, comm)?;
     *spare = Some(slot);
     Ok(())
 }
 
-fn is_slot_of<X: Drop>(spare: &Option<Slot<X>>, group: &Group, shape: &Shape) -> bool
+fn is_slot_of<X: Drop>(spare: &Option<Slot<X>>, comm: &Communicator<'_>) -> bool
     requires vacant { IfSome spare.now (λ o. IsVacant (members_of o) o) }
-    ensures yes { IsTrue result → IsSlotFor (made_of group.now shape.now) spare.now }
-    ensures no { IsSlotFor (made_of group.now shape.now) spare.now → IsTrue result }
+    ensures yes { IsTrue result → IsSlotFor comm.now spare.now }
+    ensures no { IsSlotFor comm.now spare.now → IsTrue result }
 {
     match spare {
-        Some(slot) => slot.is_of(group, shape),
+        Some(slot) => slot.is_of(comm),
         None => false,
     }
 }
@@ -145,29 +143,28 @@ fn is_slot_of<X: Drop>(spare: &Option<Slot<X>>, group: &Group, shape: &Shape) ->
 fn ready_queue(
     spare: &mut Option<Queue>,
     alloc: Global,
-    group: &Group,
-    shape: &Shape,
+    comm: &Communicator<'_>,
 ) -> Result<(), NoMemory>
     requires unused { IfSome spare.old (λ q. (q ≡ unused (communicator q) q.room) × (0 < q.room)) }
     ensures unused { IfSome spare.new (λ q. (q ≡ unused (communicator q) q.room) × (0 < q.room)) }
-    ensures ok { OnOk result (IsQueueFor (made_of group.now shape.now) spare.new) }
-    ensures memory { IsQueueFor (made_of group.now shape.now) spare.old → OnErr result ⊥ }
+    ensures ok { OnOk result (IsQueueFor comm.now spare.new) }
+    ensures memory { IsQueueFor comm.now spare.old → OnErr result ⊥ }
 {
-    if is_queue_of(spare, group, shape) {
+    if is_queue_of(spare, comm) {
         return Ok(());
     }
-    let queue = Queue::new(alloc, group, shape)?;
+    let queue = Queue::new(alloc, comm)?;
     *spare = Some(queue);
     Ok(())
 }
 
-fn is_queue_of(spare: &Option<Queue>, group: &Group, shape: &Shape) -> bool
+fn is_queue_of(spare: &Option<Queue>, comm: &Communicator<'_>) -> bool
     requires unused { IfSome spare.now (λ q. (q ≡ unused (communicator q) q.room) × (0 < q.room)) }
-    ensures yes { IsTrue result → IsQueueFor (made_of group.now shape.now) spare.now }
-    ensures no { IsQueueFor (made_of group.now shape.now) spare.now → IsTrue result }
+    ensures yes { IsTrue result → IsQueueFor comm.now spare.now }
+    ensures no { IsQueueFor comm.now spare.now → IsTrue result }
 {
     match spare {
-        Some(queue) => queue.is_of(group, shape),
+        Some(queue) => queue.is_of(comm),
         None => false,
     }
 }

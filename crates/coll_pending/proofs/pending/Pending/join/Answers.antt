@@ -1,34 +1,16 @@
 use Rattle.std.proofs.Common.{subst}
 use Rattle.coll_pending.specs.declared.arrival.Arrived.TheVariants.{Waiting}
 use Rattle.coll_pending.specs.Waiting.{State, view_of_pending, seen, HasArrived}
-use Rattle.coll_pending.proofs.PendingLemmas.{number_inside, inside_known, inside_as, joins_stays}
-use Rattle.coll_pending.proofs.PendingLemmas.{joins_agrees, joins_inside, joins_can}
+use Rattle.coll_pending.proofs.PendingLemmas.{inside_as, joins_stays, joins_agrees, joins_inside}
+use Rattle.coll_pending.proofs.PendingLemmas.{joins_awaited}
 use Rattle.coll_pending.proofs.pending.Pending.join.Goals as goal
 
-pub join-requires-clause-known : goal.join-requires-clause-known
-join-requires-clause-known g c =
+pub join-requires-clause-awaited : goal.join-requires-clause-awaited
+join-requires-clause-awaited g c =
     let inside : State g.row.X.Denot =
     record { queues = c.self.inside.queues; spare = c.self.inside.spare } in
-    inside_known c.args.self.now inside c.self.view_is c.args.stated.sig c.args.meeting
-    c.requires.met
-    (joins_stays c.args.self.now inside c.self.view_is c.args.stated.sig c.args.meeting
-    c.requires.met c.requires.joins)
-    (joins_agrees c.args.self.now inside c.self.view_is c.args.stated.sig c.args.meeting
-    c.requires.met c.requires.joins)
-
-pub join-requires-clause-ready : goal.join-requires-clause-ready
-join-requires-clause-ready g c =
-    let inside : State g.row.X.Denot =
-    record { queues = c.self.inside.queues; spare = c.self.inside.spare } in
-    joins_can c.args.self.now inside c.self.view_is c.args.stated.sig c.args.meeting
-    c.requires.met c.requires.joins c.requires.rank
-
-pub join-requires-clause-number : goal.join-requires-clause-number
-join-requires-clause-number g c =
-    let inside : State g.row.X.Denot =
-    record { queues = c.self.inside.queues; spare = c.self.inside.spare } in
-    number_inside c.args.self.now inside c.self.view_is c.args.stated.sig c.args.meeting
-    c.requires.met
+    joins_awaited c.args.self.now inside c.self.view_is c.args.stated.sig c.args.meeting
+    c.requires.met c.requires.joins c.requires.rank c.requires.few
 
 pub join-requires-clause-joins : goal.join-requires-clause-joins
 join-requires-clause-joins g c =

@@ -7,121 +7,98 @@ use Rattle.coll_pending.proofs.pending.Pending.open_new.Goals as goal
 
 pub take_slot-requires : goal.take_slot-requires
 take_slot-requires g c =
-    let comm : Communicator = record { members = c.args._group.now; shape = c.args._shape.now } in
+    let of = c.requires.room.0 in
     let inside : State g.row.X.Denot =
     record { queues = c.self.inside.queues; spare = c.self.inside.spare } in
-    let can = can_open c.args.self.now inside c.self.view_is comm c.args.sig.now c.args.meeting
-    c.requires.met c.requires.opens c.requires.room in
-    slot_for_some comm c.self.inside.spare.slot can.slot
+    let can = can_open c.args.self.now inside c.self.view_is of c.args.sig.now c.args.meeting
+    c.requires.met c.requires.opens c.requires.room.1.room in
+    slot_for_some of c.self.inside.spare.slot can.slot
 
 pub returns-in_err-slot-clause-memory : goal.returns-in_err-slot-clause-memory
 unfolding view_of_pending
-returns-in_err-slot-clause-memory g c = λ fit.
-    let comm : Communicator = record { members = c.args._group.now; shape = c.args._shape.now } in
+returns-in_err-slot-clause-memory g c = λ of room fit.
     let inside : State g.row.X.Denot =
     record { queues = c.self.inside.queues; spare = c.self.inside.spare } in
-    let can = can_open c.args.self.now inside c.self.view_is comm c.args.sig.now c.args.meeting
-    c.requires.met c.requires.opens c.requires.room in
+    let can = can_open c.args.self.now inside c.self.view_is of c.args.sig.now c.args.meeting
+    c.requires.met c.requires.opens room.room in
     absurd (c.in_err-slot.ensures.memory
-    (lists_fit c.args._shape.now c.self.inside.spare.lists c.args.sig.now can.lists fit))
+    (lists_fit of.shape c.self.inside.spare.lists c.args.sig.now can.lists fit))
 
 pub open-requires-clause-place : goal.open-requires-clause-place
 open-requires-clause-place g c =
-    let comm : Communicator = record { members = c.args._group.now; shape = c.args._shape.now } in
+    let of = c.requires.room.0 in
     let inside : State g.row.X.Denot =
     record { queues = c.self.inside.queues; spare = c.self.inside.spare } in
-    let can = can_open c.args.self.now inside c.self.view_is comm c.args.sig.now c.args.meeting
-    c.requires.met c.requires.opens c.requires.room in
+    let can = can_open c.args.self.now inside c.self.view_is of c.args.sig.now c.args.meeting
+    c.requires.met c.requires.opens c.requires.room.1.room in
     can.place
 
 pub open-requires-clause-vacant : goal.open-requires-clause-vacant
 open-requires-clause-vacant g c =
-    let comm : Communicator = record { members = c.args._group.now; shape = c.args._shape.now } in
+    let of = c.requires.room.0 in
     let inside : State g.row.X.Denot =
     record { queues = c.self.inside.queues; spare = c.self.inside.spare } in
-    let can = can_open c.args.self.now inside c.self.view_is comm c.args.sig.now c.args.meeting
-    c.requires.met c.requires.opens c.requires.room in
+    let can = can_open c.args.self.now inside c.self.view_is of c.args.sig.now c.args.meeting
+    c.requires.met c.requires.opens c.requires.room.1.room in
     let it =
-    opening c.self.inside.queues c.self.inside.spare c.args.meeting.comm c.args.meeting.rank comm
-    c.in_ok-slot.slot c.take_queue-fresh.result c.knows-is_known.result c.requires.rank can
-    (c.in_ok-slot.ensures.slot comm can.slot) c.knows-is_known.ensures
+    opening c.self.inside.queues c.self.inside.spare c.args.meeting.comm c.args.meeting.rank of
+    c.in_ok-slot.slot c.take_queue-fresh.result c.knows-is_known.result c.requires.room.1.rank can
+    (c.in_ok-slot.ensures.slot of can.slot) c.knows-is_known.ensures
     (λ e. c.take_queue-fresh.ensures e ∙ c.in_ok-slot.ensures.queue) in
     it.vacant
 
 pub open-requires-clause-some : goal.open-requires-clause-some
 open-requires-clause-some g c =
-    let comm : Communicator = record { members = c.args._group.now; shape = c.args._shape.now } in
+    let of = c.requires.room.0 in
     let inside : State g.row.X.Denot =
     record { queues = c.self.inside.queues; spare = c.self.inside.spare } in
-    let can = can_open c.args.self.now inside c.self.view_is comm c.args.sig.now c.args.meeting
-    c.requires.met c.requires.opens c.requires.room in
+    let can = can_open c.args.self.now inside c.self.view_is of c.args.sig.now c.args.meeting
+    c.requires.met c.requires.opens c.requires.room.1.room in
     let it =
-    opening c.self.inside.queues c.self.inside.spare c.args.meeting.comm c.args.meeting.rank comm
-    c.in_ok-slot.slot c.take_queue-fresh.result c.knows-is_known.result c.requires.rank can
-    (c.in_ok-slot.ensures.slot comm can.slot) c.knows-is_known.ensures
+    opening c.self.inside.queues c.self.inside.spare c.args.meeting.comm c.args.meeting.rank of
+    c.in_ok-slot.slot c.take_queue-fresh.result c.knows-is_known.result c.requires.room.1.rank can
+    (c.in_ok-slot.ensures.slot of can.slot) c.knows-is_known.ensures
     (λ e. c.take_queue-fresh.ensures e ∙ c.in_ok-slot.ensures.queue) in
     it.some
 
 pub open-requires-clause-queue : goal.open-requires-clause-queue
 open-requires-clause-queue g c =
-    let comm : Communicator = record { members = c.args._group.now; shape = c.args._shape.now } in
+    let of = c.requires.room.0 in
     let inside : State g.row.X.Denot =
     record { queues = c.self.inside.queues; spare = c.self.inside.spare } in
-    let can = can_open c.args.self.now inside c.self.view_is comm c.args.sig.now c.args.meeting
-    c.requires.met c.requires.opens c.requires.room in
+    let can = can_open c.args.self.now inside c.self.view_is of c.args.sig.now c.args.meeting
+    c.requires.met c.requires.opens c.requires.room.1.room in
     let it =
-    opening c.self.inside.queues c.self.inside.spare c.args.meeting.comm c.args.meeting.rank comm
-    c.in_ok-slot.slot c.take_queue-fresh.result c.knows-is_known.result c.requires.rank can
-    (c.in_ok-slot.ensures.slot comm can.slot) c.knows-is_known.ensures
+    opening c.self.inside.queues c.self.inside.spare c.args.meeting.comm c.args.meeting.rank of
+    c.in_ok-slot.slot c.take_queue-fresh.result c.knows-is_known.result c.requires.room.1.rank can
+    (c.in_ok-slot.ensures.slot of can.slot) c.knows-is_known.ensures
     (λ e. c.take_queue-fresh.ensures e ∙ c.in_ok-slot.ensures.queue) in
     it.queue
 
-pub returns-clause-opened : goal.returns-clause-opened
+pub returns-clause-met : goal.returns-clause-met
 unfolding view_of_pending
-returns-clause-opened g c =
-    let comm : Communicator = record { members = c.args._group.now; shape = c.args._shape.now } in
+returns-clause-met g c = λ of room.
     let inside : State g.row.X.Denot =
     record { queues = c.self.inside.queues; spare = c.self.inside.spare } in
-    let can = can_open c.args.self.now inside c.self.view_is comm c.args.sig.now c.args.meeting
-    c.requires.met c.requires.opens c.requires.room in
+    let can = can_open c.args.self.now inside c.self.view_is of c.args.sig.now c.args.meeting
+    c.requires.met c.requires.opens room.room in
     let it =
-    opening c.self.inside.queues c.self.inside.spare c.args.meeting.comm c.args.meeting.rank comm
-    c.in_ok-slot.slot c.take_queue-fresh.result c.knows-is_known.result c.requires.rank can
-    (c.in_ok-slot.ensures.slot comm can.slot) c.knows-is_known.ensures
+    opening c.self.inside.queues c.self.inside.spare c.args.meeting.comm c.args.meeting.rank of
+    c.in_ok-slot.slot c.take_queue-fresh.result c.knows-is_known.result room.rank can
+    (c.in_ok-slot.ensures.slot of can.slot) c.knows-is_known.ensures
     (λ e. c.take_queue-fresh.ensures e ∙ c.in_ok-slot.ensures.queue) in
     let same = ap (λ (v : State g.row.X.Denot). view_of_pending v) c.self.view_is in
-    let free = free_inside c.args.self.now inside c.self.view_is comm c.args.sig.now c.args.meeting
+    let free = free_inside c.args.self.now inside c.self.view_is of c.args.sig.now c.args.meeting
     c.requires.met c.requires.opens in
     let lt = subst (λ (m : Communicator). c.args.meeting.rank < length m.members) (sym it.of)
-    c.requires.rank in
+    room.rank in
     let opens =
-    opens_as c.self.inside.queues c.open.new.self c.args.meeting.comm _ c.in_ok-slot.slot comm
+    opens_as c.self.inside.queues c.open.new.self c.args.meeting.comm _ c.in_ok-slot.slot of
     c.args.sig.now it.of c.in_ok-slot.ensures.sig
     (c.open.ensures c.args.meeting.rank lt free) in
-    new_opened c.self.inside.queues c.open.new.self (view_of_pending c.args.self.now)
-    c.args.meeting.comm c.args.meeting.rank comm c.args.sig.now same free opens
-
-pub returns-clause-meets : goal.returns-clause-meets
-unfolding view_of_pending
-returns-clause-meets g c =
-    let comm : Communicator = record { members = c.args._group.now; shape = c.args._shape.now } in
-    let inside : State g.row.X.Denot =
-    record { queues = c.self.inside.queues; spare = c.self.inside.spare } in
-    let can = can_open c.args.self.now inside c.self.view_is comm c.args.sig.now c.args.meeting
-    c.requires.met c.requires.opens c.requires.room in
-    let it =
-    opening c.self.inside.queues c.self.inside.spare c.args.meeting.comm c.args.meeting.rank comm
-    c.in_ok-slot.slot c.take_queue-fresh.result c.knows-is_known.result c.requires.rank can
-    (c.in_ok-slot.ensures.slot comm can.slot) c.knows-is_known.ensures
-    (λ e. c.take_queue-fresh.ensures e ∙ c.in_ok-slot.ensures.queue) in
-    let same = ap (λ (v : State g.row.X.Denot). view_of_pending v) c.self.view_is in
-    let free = free_inside c.args.self.now inside c.self.view_is comm c.args.sig.now c.args.meeting
-    c.requires.met c.requires.opens in
-    let lt = subst (λ (m : Communicator). c.args.meeting.rank < length m.members) (sym it.of)
-    c.requires.rank in
-    let opens =
-    opens_as c.self.inside.queues c.open.new.self c.args.meeting.comm _ c.in_ok-slot.slot comm
-    c.args.sig.now it.of c.in_ok-slot.ensures.sig
-    (c.open.ensures c.args.meeting.rank lt free) in
-    new_meets c.self.inside.queues c.open.new.self (view_of_pending c.args.self.now)
-    c.args.meeting.comm c.args.meeting.rank comm c.args.sig.now same free opens c.requires.rank
+    record {
+      opened = new_opened c.self.inside.queues c.open.new.self (view_of_pending c.args.self.now)
+          c.args.meeting.comm c.args.meeting.rank of c.args.sig.now same free opens;
+      meets = new_meets c.self.inside.queues c.open.new.self (view_of_pending c.args.self.now)
+          c.args.meeting.comm c.args.meeting.rank of c.args.sig.now same free opens room.rank;
+    }
