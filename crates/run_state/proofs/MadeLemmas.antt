@@ -40,6 +40,7 @@ use Rattle.coll_routes.specs.Faults.{shape_fault, stated_type, first_that, no_to
 use Rattle.coll_routes.specs.Faults.{bad_op, bad_count, bad_colour, not_subgroup, bad_dims}
 use Rattle.coll_routes.specs.Faults.{is_ill_kept}
 use Rattle.coll_routes.specs.Fit.{IsSound}
+use Rattle.coll_pending.proofs.CollPendingLemmas.{none_of}
 use Rattle.run_model.specs.Comms.{Comm, shape_of, ask_by, ask_in, asks}
 use Rattle.run_model.specs.Comms.{new_comms_by, new_comms, added, comm_in}
 use Rattle.run_model.specs.Posts.{if_full, is_full}
@@ -163,10 +164,6 @@ none_there : {A : Type 0} (o : Option A) → is_some o ≡ false → is_none o �
 none_there None f = refl
 none_there (Some a) f = absurd (false≢true (sym f))
 
-none_is : {A : Type 0} (o : Option A) → is_some o ≡ false → o ≡ None
-none_is None f = refl
-none_is (Some a) f = absurd (false≢true (sym f))
-
 kept_well : (keep : List Bool) (grid : Option Topology) → is_none grid ≡ false →
     is_ill_kept keep grid ≡ false → is_kept keep grid ≡ true
 kept_well keep None none f = absurd (false≢true (sym none))
@@ -201,7 +198,7 @@ faultless_by Dup comm qs t s d c = refl
 faultless_by Split comm qs t s d c = ap not c
 faultless_by (Create ranks) comm qs t s d c =
     let parts = no_fault (length comm.members) ranks
-    (none_is (ranks_fault (length comm.members) ranks) s) in
+    (none_of (ranks_fault (length comm.members) ranks) s) in
     and_from (are_ranks (length comm.members) ranks) (is_distinct ranks) parts.0 parts.1
 faultless_by (CartCreate dims periods) comm qs t s d c =
     none_there (first_fault dims periods (length comm.members)) d

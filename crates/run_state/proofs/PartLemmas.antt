@@ -4,13 +4,13 @@ use Rattle.std.proofs.Common.{length, refl, sym, ap, ◌∙◌, subst, arith, Bo
 use Rattle.std.proofs.Common.{◌&&◌, Some, slice_get, map, cond, eq-eqb, ne_eqb, take, get_or, ◌%◌}
 use Rattle.std.specs.Prelude.{◌==◌, nat_lt, filter, flat_map, unwrap_or}
 use Rattle.std.specs.List.{list_all, range_with_len, items_where_true}
-use Rattle.std.proofs.lemmas.Bool.{cond-true, cond-false, and_from, and_parts, and_left, or_from}
-use Rattle.std.proofs.lemmas.Bool.{not_from_false, lt-ltb}
+use Rattle.std.proofs.lemmas.Bool.{cond-true, cond-false, and_from, and_parts, and_left}
+use Rattle.std.proofs.lemmas.Bool.{lt-ltb}
 use Rattle.std.proofs.lemmas.Option.{slice_get_within}
 use Rattle.std.proofs.lemmas.List.{append-nil, map-append, length-map}
 use Rattle.std.proofs.lemmas.List.FromFn.{length-range_with_len}
 use Rattle.std.proofs.lemmas.List.Elements.{filter-append}
-use Rattle.mpi_group.specs.Groups.{is_member, is_distinct, are_ranks}
+use Rattle.mpi_group.specs.Groups.{is_distinct, are_ranks}
 use Rattle.mpi_group.proofs.MpiGroupLemmas.{is_distinct-filter}
 use Rattle.mpi_comm.specs.Comms.{is_subgroup}
 use Rattle.mpi_cart.specs.Grids.{Topology, volume, below, cells, coords, same_list, dropped, kept}
@@ -21,23 +21,12 @@ use Rattle.run_state.specs.Parts.{apart_of}
 use Rattle.run_state.proofs.BelowLemmas.{map_more}
 use Rattle.mpi_cart.proofs.MpiCartLemmas.{below_more}
 use Rattle.coll_values.proofs.CollValuesLemmas.{map_map}
+use Rattle.mpi_comm.proofs.MpiCommLemmas.{is_distinct-range_with_len}
 
 -- ## the numbers below one are a subgroup
 
-not_in_range : (a b n : ℕ) → a < b → is_member (range_with_len b n) a ≡ false
-not_in_range a b zero lt = refl
-not_in_range a b (suc n) lt = or_from (b == a) (is_member (range_with_len (b + 1) n) a)
-    (ne_eqb b a (λ e. absurd (omega (arith, lt, e)))) (not_in_range a (b + 1) n (omega (arith, lt)))
-
-distinct_range : (a n : ℕ) → is_distinct (range_with_len a n) ≡ true
-distinct_range a zero = refl
-distinct_range a (suc n) = and_from (not (is_member (range_with_len (a + 1) n) a))
-    (is_distinct (range_with_len (a + 1) n)) (not_from_false
-    (is_member (range_with_len (a + 1) n) a) (not_in_range a (a + 1) n (omega arith)))
-    (distinct_range (a + 1) n)
-
 pub distinct_below : (n : ℕ) → is_distinct (below n) ≡ true
-distinct_below n = distinct_range 0 n
+distinct_below n = is_distinct-range_with_len 0 n
 
 ranks_in_range : (size a n : ℕ) → a + n ≤ size → are_ranks size (range_with_len a n) ≡ true
 ranks_in_range size a zero le = refl

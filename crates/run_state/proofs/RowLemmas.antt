@@ -6,6 +6,7 @@ use Rattle.std.specs.Prelude.{filter_map}
 use Rattle.std.proofs.lemmas.Bool.{false≢true, cases_Bool, and_right}
 use Rattle.coll_routes.specs.declared.statement.Stated.{Stated}
 use Rattle.coll_pending.specs.Instances.{is_begun, is_full}
+use Rattle.coll_pending.proofs.CollPendingLemmas.{at_push}
 use Rattle.run_model.specs.Posts.{signature_in}
 
 -- ## lists that grow at their end
@@ -16,10 +17,6 @@ some_same x y e = cc
 pub length_snoc : {A : Type 0} (xs : List A) (x : A) → length (xs ++ x ∷ []) ≡ suc (length xs)
 length_snoc [] x = refl
 length_snoc (y ∷ xs) x = ap suc (length_snoc xs x)
-
-pub get-end : {A : Type 0} (xs : List A) (x : A) → slice_get (xs ++ x ∷ []) (length xs) ≡ Some x
-get-end [] x = refl
-get-end (y ∷ xs) x = get-end xs x
 
 pub get-none : {A : Type 0} (xs : List A) → slice_get xs (length xs) ≡ None
 get-none [] = refl
@@ -76,7 +73,7 @@ rows-own old new p a members r k grows place at once =
     (λ m apart. ap (λ xs. slice_get xs k) (grows.others m apart))
     ∙ ap (λ v. set (map (λ m. slice_get (old m) k) members) r v)
     (ap (λ xs. slice_get xs k) grows.own
-    ∙ (ap (λ n. slice_get (old p ++ a ∷ []) n) place ∙ get-end (old p) a))
+    ∙ (ap (λ n. slice_get (old p ++ a ∷ []) n) place ∙ at_push (old p) a))
 
 pub rows-other : {A : Type 0} (old new : ℕ → List A) (p : ℕ) (a : A) (members : List ℕ) (k : ℕ) →
     Grows old new p a → k ≢ length (old p) →

@@ -1,6 +1,7 @@
 -- A member's next post, before it is counted.
 use Rattle.std.specs.Prelude.{◌≡◌, ◌≢◌, ◌<◌, ◌++◌, ◌==◌, ◌&&◌, ℕ, List, Bool, true, false, length}
-use Rattle.std.specs.Prelude.{map, replicate, slice_set, Option, Some, None, IsSome, if◌then◌else◌}
+use Rattle.std.specs.Prelude.{map, replicate, slice_get, slice_set, Option, Some, None, IsSome}
+use Rattle.std.specs.Prelude.{if◌then◌else◌}
 use Rattle.mpi_comm.specs.declared.values.Ask.{Ask}
 use Rattle.mpi_cart.specs.Grids.{below}
 use Rattle.coll_routes.specs.declared.statement.Own.{Own}
@@ -13,7 +14,8 @@ use Rattle.coll_routes.specs.Fit.{IsSized}
 use Rattle.coll_pending.specs.declared.arrival.Next.{Next}
 use Rattle.coll_pending.specs.declared.arrival.Next.TheVariants.{Opens, Joins, Fills, Mismatch}
 use Rattle.coll_pending.specs.Instances.{Instance, roll_in}
-use Rattle.coll_pending.specs.Waiting.{PendingView, next, before}
+use Rattle.coll_pending.specs.declared.arrival.Meeting.{Meeting}
+use Rattle.coll_pending.specs.Waiting.{PendingView, next, before, IsMeetingOf}
 use Rattle.run_model.specs.Comms.{Comm, shape_of, ask_by, ask_in, new_comms, added}
 use Rattle.run_model.specs.Posts.{constructor_outcome, if_full, is_full}
 use Rattle.run_model.specs.declared.outcome.Outcome.{Outcome}
@@ -30,6 +32,14 @@ pub record IsNext {X : Type 0} (waiting : PendingView X) (c rank : ℕ) (comm : 
   pub agrees : next waiting c rank stated.sig ≢ Mismatch
   pub faultless : stated_fault (shape_of comm) rank stated ≡ None
   pub labelled : stated.barred ≡ true → IsSome stated.label
+
+-- a look told this of a post, which can be counted
+pub record IsUpcoming {X : Type 0} (table : List Comm) (waiting : PendingView X)
+    (meeting : Meeting) (stated : Stated) : Type 0 where
+  pub there : meeting.comm < length table
+  pub met : IsMeetingOf waiting stated.sig meeting
+  pub upcoming : (found : Comm) → slice_get table meeting.comm ≡ Some found →
+      IsNext waiting meeting.comm meeting.rank found stated
 
 -- the roll of its instance, with it
 abbrev pub roll_with : Comm → (rank : ℕ) → Stated → Option Roll → Roll
@@ -78,3 +88,10 @@ constructed count roll = if is_constructor roll.sig && is_full roll.stated
 pub record IsPrepared (old new : List Comm) (answer : Option Outcome) (roll : Roll) : Type 0 where
   pub outcome : answer ≡ constructed (length old) roll
   pub comms : new ≡ old ++ added (length old) (if_full roll)
+
+-- and so for the post of which a look told this
+abbrev pub IsMade : {X : Type 0} → (old new : List Comm) → PendingView X → Meeting → Stated →
+    Option Outcome → Type 0
+IsMade old new waiting meeting stated made =
+    (found : Comm) → slice_get old meeting.comm ≡ Some found →
+    IsPrepared old new made (roll_next waiting meeting.comm meeting.rank found stated)

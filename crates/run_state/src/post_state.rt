@@ -15,7 +15,7 @@ ghost use Rattle.run_state.specs.declared.entered.Entered.TheVariants.{Waiting};
 use crate::communicators::Communicators;
 use crate::entered::{Entered, Unentered};
 use crate::seat::{Seat, Terms};
-use crate::steps::{self, settle_full};
+use crate::steps::{self, Poster, settle_full};
 use coll_pending::laws::faultless_signatures_fit;
 use coll_pending::{Arrived, Pending};
 use coll_routes::{Shape, Stated};
@@ -150,14 +150,12 @@ impl<X: Drop> PostState<X> {
             seat.meeting.k
             ≡ length (posts_on seat.meeting.comm seat.process (posts_of past))) }
     {
-        steps::look(
-            &self.comms,
-            &self.pending,
-            policy.processes(),
+        let poster = Poster {
+            processes: policy.processes(),
             process,
             comm,
-            terms,
-        )
+        };
+        steps::look(&self.comms, &self.pending, poster, terms)
     }
 
     /// Whether the star rule lets the process of the seat post elements with this label; a post of
@@ -172,7 +170,7 @@ impl<X: Drop> PostState<X> {
     }
 
     /// Enters a post as a look found it, of an instance that waits for others too: it waits on.
-    /// Takes no memory. The same as `enter` at such a post.
+    /// Takes no memory. At such a post `enter` does this too.
     pub fn join(&mut self, seat: Seat, stated: Stated, part: X)
         requires looked { LookedAt (view_of self.old) seat stated.sig stated.own
             (stated_type stated.sig) stated.given }

@@ -9,13 +9,13 @@ ghost use Rattle.mpi_cart.specs.Grids.{below};
 ghost use Rattle.coll_routes.specs.Fit.{IsFit};
 ghost use Rattle.coll_routes.specs.declared.roll.Roll;
 ghost use Rattle.coll_pending.specs.declared.arrival.Next.TheVariants.{Mismatch};
-ghost use Rattle.coll_pending.specs.Waiting.{view_of_pending, HasRoom, IsMeetingOf};
+ghost use Rattle.coll_pending.specs.Waiting.{view_of_pending, HasRoom};
 ghost use Rattle.run_model.specs.Comms.{Comm, processes, ask_by, ask_in, asks};
 ghost use Rattle.run_model.specs.Posts.{outcome_of, with_delivery, by_verdict};
 ghost use Rattle.run_model.specs.Refusals.{refused_for};
 ghost use Rattle.run_state.specs.Views.{communicator_of, fault_among, LookedAmong};
 ghost use Rattle.run_state.specs.Views.{fault_after};
-ghost use Rattle.run_state.specs.Upcoming.{IsNext, IsPrepared, roll_next, is_last, asks_with};
+ghost use Rattle.run_state.specs.Upcoming.{IsUpcoming, IsMade, is_last, asks_with};
 ghost use Rattle.run_state.specs.Upcoming.{stated_in, constructed};
 
 use crate::communicators::Communicators;
@@ -60,26 +60,37 @@ fn all_processes(alloc: Global, processes: u32) -> Result<Vec<ProcessId>, NoMemo
     Ok(list)
 }
 
-/// What the next post of a process on a communicator meets, where there are so many processes, or
-/// the first refusal that holds.
+/// Who posts where: a process, where there are so many, on a communicator.
+#[derive(Clone, Copy)]
+pub struct Poster {
+    pub processes: u32,
+    pub process: u32,
+    pub comm: u32,
+}
+
+/// What the next post of a process on a communicator meets, or the first refusal that holds.
 pub fn look<X: Drop>(
     comms: &Communicators,
     pending: &Pending<X>,
-    processes: u32,
-    process: u32,
-    comm: u32,
+    poster: Poster,
     terms: Terms<'_>,
 ) -> Result<Seat, Refusal>
-    requires { processes ≤ PROCESS_LIMIT }
+    requires { poster.processes ≤ PROCESS_LIMIT }
     ensures test { result_err result
-        ≡ fault_among processes comms.now (view_of_pending pending.now) process comm
-        terms.entry.sig.now terms.entry.own.now terms.entry.elem_type terms.entry.given }
-    ensures process { IfOk result (λ seat. seat.process ≡ process) }
-    ensures comm { IfOk result (λ seat. seat.meeting.comm ≡ comm) }
+        ≡ fault_among poster.processes comms.now (view_of_pending pending.now) poster.process
+        poster.comm terms.entry.sig.now terms.entry.own.now terms.entry.elem_type
+        terms.entry.given }
+    ensures process { IfOk result (λ seat. seat.process ≡ poster.process) }
+    ensures comm { IfOk result (λ seat. seat.meeting.comm ≡ poster.comm) }
     ensures looked { IfOk result (λ seat.
         LookedAmong comms.now (view_of_pending pending.now) seat terms.entry.sig.now
         terms.entry.own.now terms.entry.elem_type terms.entry.given) }
 {
+    let Poster {
+        processes,
+        process,
+        comm,
+    } = poster;
     if process >= processes {
         return Err(Refusal::NoSuchProcess);
     }
@@ -146,17 +157,12 @@ pub fn prepare<X: Drop>(
     meeting: Meeting,
     stated: &Stated,
 ) -> Result<Option<Outcome>, NoMemory>
-    requires there { meeting.comm < length comms.old }
-    requires met { IsMeetingOf (view_of_pending pending.old) stated.now.sig meeting }
-    requires upcoming { (found : Comm) → slice_get comms.old meeting.comm ≡ Some found →
-        IsNext (view_of_pending pending.old) meeting.comm meeting.rank found stated.now }
+    requires { IsUpcoming comms.old (view_of_pending pending.old) meeting stated.now }
     ensures waiting { view_of_pending pending.new ≡ view_of_pending pending.old }
     ensures room { OnOk result ((found : Comm) → slice_get comms.old meeting.comm ≡ Some found →
         HasRoom pending.new meeting.comm meeting.rank (communicator_of found)) }
-    ensures made { IfOk result (λ made. (found : Comm) →
-        slice_get comms.old meeting.comm ≡ Some found →
-        IsPrepared comms.old comms.new made
-        (roll_next (view_of_pending pending.old) meeting.comm meeting.rank found stated.now)) }
+    ensures made { IfOk result
+        (IsMade comms.old comms.new (view_of_pending pending.old) meeting stated.now) }
     ensures kept { OnErr result (comms.new ≡ comms.old) }
 {
     let comm = meeting.comm;
@@ -171,14 +177,9 @@ fn make_if_full<X: Drop>(
     meeting: Meeting,
     stated: &Stated,
 ) -> Result<Option<Outcome>, NoMemory>
-    requires there { meeting.comm < length comms.old }
-    requires met { IsMeetingOf (view_of_pending pending.now) stated.now.sig meeting }
-    requires upcoming { (found : Comm) → slice_get comms.old meeting.comm ≡ Some found →
-        IsNext (view_of_pending pending.now) meeting.comm meeting.rank found stated.now }
-    ensures made { IfOk result (λ made. (found : Comm) →
-        slice_get comms.old meeting.comm ≡ Some found →
-        IsPrepared comms.old comms.new made
-        (roll_next (view_of_pending pending.now) meeting.comm meeting.rank found stated.now)) }
+    requires { IsUpcoming comms.old (view_of_pending pending.now) meeting stated.now }
+    ensures made { IfOk result
+        (IsMade comms.old comms.new (view_of_pending pending.now) meeting stated.now) }
     ensures kept { OnErr result (comms.new ≡ comms.old) }
 {
     if !stated.sig.is_constructor() {
@@ -189,13 +190,11 @@ fn make_if_full<X: Drop>(
     if !is_last(meeting.does, size) {
         return Ok(None);
     }
-    let asks = all_asks(
-        comms.alloc,
-        pending.roll(comm, meeting.k),
-        size,
-        meeting.rank,
-        &stated.own,
-    )?;
+    let last = Last {
+        rank: meeting.rank,
+        own: &stated.own,
+    };
+    let asks = all_asks(comms.alloc, pending.roll(comm, meeting.k), size, last)?;
     let outcome = comms.make(comm, &stated.sig, &asks)?;
     Ok(Some(outcome))
 }
@@ -212,22 +211,28 @@ fn is_last(next: Next, size: u32) -> bool
     }
 }
 
-// What the members ask, where this rank states this for itself.
+// The member that posts last, with what it states for itself.
+#[derive(Clone, Copy)]
+struct Last<'a> {
+    rank: u32,
+    own: &'a Own,
+}
+
+// What the members ask, the last one too.
 #[tactic(auto, using(crate::proofs::BelowLemmas::map_more))]
 fn all_asks(
     alloc: Global,
     roll: Option<&Roll>,
     size: u32,
-    rank: u32,
-    own: &Own,
+    last: Last<'_>,
 ) -> Result<Vec<Ask>, NoMemory>
-    ensures { IfOk result
-        (λ asks. asks.items ≡ asks_with (option_copied roll.entry) size rank own.now) }
+    ensures { IfOk result (λ asks. asks.items
+        ≡ asks_with (option_copied roll.entry) size last.entry.rank last.entry.own.now) }
 {
     let mut asks = Vec::with_capacity(alloc, size as usize)?;
     for k in 0..size {
-        if k == rank {
-            asks.push(ask_by(own))?;
+        if k == last.rank {
+            asks.push(ask_by(last.own))?;
         } else {
             asks.push(ask_at(roll, k))?;
         }

@@ -24,27 +24,21 @@ pub group-requires : goal.group-requires
 group-requires g c = within c.self.inside.comms c.self.inside.pending c.self.inside.histories
     c.args.self.now c.self.view_is c.args.seat c.args.stated c.requires.looked
 
-pub prepare-requires-clause-there : goal.prepare-requires-clause-there
-prepare-requires-clause-there g c = within c.self.inside.comms c.self.inside.pending c.self.inside.histories
-    c.args.self.now c.self.view_is c.args.seat c.args.stated c.requires.looked
-
-pub prepare-requires-clause-met : goal.prepare-requires-clause-met
-prepare-requires-clause-met g c =
+pub prepare-requires : goal.prepare-requires
+prepare-requires g c =
     let is = spotted c.self.inside.comms c.self.inside.pending c.self.inside.histories
     c.args.self.now c.self.view_is c.args.seat c.args.stated c.requires.looked c.group.result.now
     c.self.invariant c.requires.word c.group.ensures.members c.group.ensures.distinct
     c.group.ensures.sized in
-    is.met
-
-pub prepare-requires-clause-upcoming : goal.prepare-requires-clause-upcoming
-prepare-requires-clause-upcoming g c = λ found e.
-    let is = spotted c.self.inside.comms c.self.inside.pending c.self.inside.histories
-    c.args.self.now c.self.view_is c.args.seat c.args.stated c.requires.looked c.group.result.now
-    c.self.invariant c.requires.word c.group.ensures.members c.group.ensures.distinct
-    c.group.ensures.sized in
-    subst (λ (f : Comm). IsNext (view_of_pending c.self.inside.pending) c.args.seat.meeting.comm
-    c.args.seat.meeting.rank f c.args.stated)
-    (some_same c.requires.looked.comm found (sym is.there ∙ e)) is.upcoming
+    record {
+      there = within c.self.inside.comms c.self.inside.pending c.self.inside.histories
+          c.args.self.now c.self.view_is c.args.seat c.args.stated c.requires.looked;
+      met = is.met;
+      upcoming = λ found e.
+          subst (λ (f : Comm). IsNext (view_of_pending c.self.inside.pending)
+          c.args.seat.meeting.comm c.args.seat.meeting.rank f c.args.stated)
+          (some_same c.requires.looked.comm found (sym is.there ∙ e)) is.upcoming;
+    }
 
 pub enter_passed-requires : goal.enter_passed-requires
 enter_passed-requires g c =
@@ -242,7 +236,8 @@ returns-in-Waiting-clause-entered g c = λ past stands.
     arrived in
     lifted c.args.policy.now
     (seen c.self.inside.comms c.self.inside.pending c.self.inside.histories)
-    (parts_seen c.prepare.new.comms c.enter_passed.new.histories (view_of_pending c.arrive_ready.new.self))
+    (parts_seen c.prepare.new.comms c.enter_passed.new.histories
+    (view_of_pending c.arrive_ready.new.self))
     (contribution c.args.seat.process m.comm c.args.stated c.args.part)
     (Ok (entered.Waiting m.k)) step.moves past
     (subst (λ (k : PostStateValue g.row.X.Denot). StandsForPosts c.args.policy.now (view_of k) past)
@@ -276,7 +271,8 @@ returns-in-Full-clause-entered g c = λ past stands.
     c.settle_full-outcome.ensures.processes c.settle_full-outcome.ensures.classes in
     lifted c.args.policy.now
     (seen c.self.inside.comms c.self.inside.pending c.self.inside.histories)
-    (parts_seen c.prepare.new.comms c.settle_full-outcome.new.histories (view_of_pending c.arrive_ready.new.self))
+    (parts_seen c.prepare.new.comms c.settle_full-outcome.new.histories
+    (view_of_pending c.arrive_ready.new.self))
     (contribution c.args.seat.process m.comm c.args.stated c.args.part)
     (Ok (entered.Settled c.in-Full.full m.k c.settle_full-outcome.result)) step.moves past
     (subst (λ (k : PostStateValue g.row.X.Denot). StandsForPosts c.args.policy.now (view_of k) past)
