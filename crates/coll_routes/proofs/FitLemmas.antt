@@ -6,6 +6,7 @@ use Rattle.std.specs.List.{list_any}
 use Rattle.std.proofs.lemmas.Bool.{eqb-true, eq-eqb, and_parts, and_from, not-true, not-false}
 use Rattle.std.proofs.lemmas.Bool.{cases_Bool}
 use Rattle.std.proofs.lemmas.Option.{slice_get_within}
+use Rattle.wall_labels.proofs.WallLabelsLemmas.{is_none-None}
 use Rattle.mpi_cart.specs.Grids.{Topology, volume}
 use Rattle.coll_routes.specs.Signatures.{same_signature}
 use Rattle.coll_routes.proofs.SignatureLemmas.{same_signatures_are_equal}
@@ -50,10 +51,6 @@ shut_sized : (n : ℕ) (o : Option Topology) → IsSizedGrid n o → is_sized_gr
 shut_sized n (Some g) e = eq-eqb (volume g.dims) n e
 shut_sized n None e = refl
 
-none_is : {X : Type 0} (o : Option X) → is_none o ≡ true → o ≡ None
-none_is None e = refl
-none_is (Some x) e = absurd (cc)
-
 label_there : (barred labelled : Bool) → (not barred || labelled) ≡ true → barred ≡ true →
     labelled ≡ true
 label_there true labelled e b = e
@@ -73,7 +70,7 @@ open_statement roll i s e =
     let one = and_parts same good two.0 in
     record {
       sig = (same_signatures_are_equal s.sig roll.sig).0 one.0;
-      fault = none_is (stated_fault roll.shape i s) one.1;
+      fault = is_none-None (stated_fault roll.shape i s) one.1;
       labelled = label_there s.barred (is_some s.label) two.1;
     }
 

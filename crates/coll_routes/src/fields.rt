@@ -145,7 +145,7 @@ impl Signature {
         }
     }
 
-    // The same of the kinds that reduce.
+    // The kind, and the fields that are no lists, of the kinds that reduce.
     #[inline(always)]
     #[tactic(auto, unfolding(crate::specs::Signatures::kind, crate::specs::Signatures::root, crate::specs::Signatures::reduction, crate::specs::Signatures::elem_type, crate::specs::Signatures::count))]
     fn fields_of_reduction(&self) -> Fields
@@ -238,7 +238,7 @@ impl Signature {
     }
 }
 
-// The same of the kinds that reduce, which have no flags.
+// The signature with these fields, of the kinds that reduce, which have no flags.
 #[tactic(auto, unfolding(crate::specs::Signatures::signature_by, crate::specs::Signatures::reduction))]
 fn reduction_of(fields: Fields, counts: Numbers) -> Signature
     requires { IsSome (reduction (signature_from fields counts [])) }

@@ -104,7 +104,7 @@ fn short_named(name: &[u8]) -> Option<Kind>
     }
 }
 
-// The same among those whose names have 7 to 9 bytes.
+// The kind of that name, among those whose names have 7 to 9 bytes.
 fn middle_named(name: &[u8]) -> Option<Kind>
     ensures { result ≡ find (λ kind. bytes_eq (kind_name kind) name.now) (kinds_between 7 9) }
 {
@@ -122,7 +122,7 @@ fn middle_named(name: &[u8]) -> Option<Kind>
     }
 }
 
-// The same among those whose names have 10 to 16 bytes.
+// The kind of that name, among those whose names have 10 to 16 bytes.
 fn long_named(name: &[u8]) -> Option<Kind>
     ensures { result ≡ find (λ kind. bytes_eq (kind_name kind) name.now) (kinds_between 10 16) }
 {
@@ -134,7 +134,7 @@ fn long_named(name: &[u8]) -> Option<Kind>
     }
 }
 
-// The same among those whose names have 17 to 19 bytes.
+// The kind of that name, among those whose names have 17 to 19 bytes.
 fn neighbour_named(name: &[u8]) -> Option<Kind>
     ensures { result ≡ find (λ kind. bytes_eq (kind_name kind) name.now) (kinds_between 17 19) }
 {
@@ -147,7 +147,7 @@ fn neighbour_named(name: &[u8]) -> Option<Kind>
     }
 }
 
-// The same among those whose names are longer.
+// The kind of that name, among those whose names have 20 bytes and more.
 fn longest_named(name: &[u8]) -> Option<Kind>
     ensures { result ≡ find (λ kind. bytes_eq (kind_name kind) name.now) longest_kinds }
 {

@@ -28,7 +28,7 @@ pub enum Signature {
         elem_type: ElemType,
         count: u32,
     },
-    /// The same, where each gives any number.
+    /// Each member's elements, of any number, go to the root.
     Gatherv {
         root: u32,
         elem_type: ElemType,
@@ -39,7 +39,7 @@ pub enum Signature {
         elem_type: ElemType,
         count: u32,
     },
-    /// The same, with the sizes of the blocks that the root states for itself.
+    /// A block of the root's elements goes to each member, of the size that the root states.
     Scatterv {
         root: u32,
         elem_type: ElemType,
@@ -49,7 +49,7 @@ pub enum Signature {
         elem_type: ElemType,
         count: u32,
     },
-    /// The same, where each gives any number.
+    /// Each member's elements, of any number, go to every member.
     Allgatherv {
         elem_type: ElemType,
     },
@@ -58,7 +58,7 @@ pub enum Signature {
         elem_type: ElemType,
         count: u32,
     },
-    /// The same, with the sizes of its blocks that each states for itself.
+    /// A block of each member's elements goes to each member, of the size that the sender states.
     Alltoallv {
         elem_type: ElemType,
     },
@@ -81,7 +81,8 @@ pub enum Signature {
         elem_type: ElemType,
         counts: Numbers,
     },
-    /// The same, with blocks of one size.
+    /// The elements of all are combined, and each member gets the block of its rank, all of one
+    /// size.
     ReduceScatterBlock {
         op: Op,
         elem_type: ElemType,
@@ -104,7 +105,7 @@ pub enum Signature {
         elem_type: ElemType,
         count: u32,
     },
-    /// The same, where each gives any number.
+    /// Each member's elements, of any number, go to each of its neighbours in the grid.
     NeighborAllgatherv {
         elem_type: ElemType,
     },
@@ -113,7 +114,8 @@ pub enum Signature {
         elem_type: ElemType,
         count: u32,
     },
-    /// The same, with the sizes of its blocks that each states for itself.
+    /// A block of each member's elements goes to the neighbour in each slot, of the size that the
+    /// sender states.
     NeighborAlltoallv {
         elem_type: ElemType,
     },

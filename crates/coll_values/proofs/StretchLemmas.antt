@@ -122,9 +122,9 @@ module _ (b : Contents) (fit : IsFit b) (start len : ℕ) where
 abbrev stretch : (source from to : ℕ) → Stretch
 stretch source from to = record { source = source; from = from; to = to }
 
-module _ (F : Full Contents) (i : ℕ) (p : Contents) (whole : IsWhole F) (low : i < F.roll.shape.size)
-    (there : slice_get F.parts i ≡ Some p) (fit : IsFit p) (start len : ℕ)
-    (within : start + len ≤ given F.roll i) where
+module _ (F : Full Contents) (i : ℕ) (p : Contents) (whole : IsWhole F)
+    (low : i < F.roll.shape.size) (there : slice_get F.parts i ≡ Some p) (fit : IsFit p)
+    (start len : ℕ) (within : start + len ≤ given F.roll i) where
   its_numbers : p.numbers ≡ numbers_given F i
   its_numbers = sym (ap numbers_in there)
 

@@ -10,7 +10,7 @@ use Rattle.wall_labels.specs.declared.ids.TheConstants.{DATASET_LIMIT}
 use Rattle.wall_labels.specs.declared.label.Label.{Label}
 use Rattle.wall_labels.specs.declared.label.Label.TheVariants.{Of}
 use Rattle.wall_policy.specs.Policy.{ChineseWall}
-use Rattle.wall_policy.specs.Rivals.{AreRivals}
+use Rattle.wall_policy.proofs.WallPolicyLemmas.{rivals_turned}
 use Rattle.wall_rules.specs.Histories.{History}
 use Rattle.mpi_elems.specs.Elements.{Element}
 use Rattle.mpi_elems.specs.Contents.{Contents, elements}
@@ -502,13 +502,9 @@ module _ (values : ValuesAreOfRoutedRanks) where
       who_holds_nothing_learns_nothing wall run other d p (omega (arith, few, within)) alike
       (nobody_holds_two_rivals_in_runs wall [] run policy alike.worlds.first p own d rivals holds)
 
-  swapped : (classes : List ℕ) (d e : ℕ) → AreRivals classes d e → AreRivals classes e d
-  swapped classes d e (apart, (class, one, other)) =
-      (λ same. apart (sym same), (class, other, one))
-
   pub homes_of_rivals_see_nothing : HomesOfRivalsSeeNothing
   homes_of_rivals_see_nothing wall run other own d p q policy rivals home_p home_q = (
     λ alike. rivals_learn_nothing wall run other own d p policy rivals alike (had_at_first home_p),
-    λ alike. rivals_learn_nothing wall run other d own q policy (swapped wall.classes own d rivals)
-        alike (had_at_first home_q),
+    λ alike. rivals_learn_nothing wall run other d own q policy
+        (rivals_turned wall.classes own d rivals) alike (had_at_first home_q),
   )

@@ -9,6 +9,7 @@ use Rattle.std.proofs.lemmas.Option.{slice_get_within}
 use Rattle.wall_labels.specs.declared.ids.TheConstants.{DATASET_LIMIT}
 use Rattle.wall_labels.specs.declared.label.Label.{Label}
 use Rattle.wall_labels.specs.declared.label.Label.TheVariants.{Public, Of}
+use Rattle.wall_labels.proofs.WallLabelsLemmas.{is_none-None}
 use Rattle.wall_policy.specs.Policy.{ChineseWall, IsPolicy}
 use Rattle.wall_policy.specs.Rivals.{are_rivals}
 use Rattle.wall_policy.proofs.WallPolicyLemmas.{are_rivals-Decides}
@@ -75,14 +76,10 @@ rival_parts classes d e h =
       slice_get_within classes e class.0 class.1,
     )
 
-is_none_None : {X : Type 0} (o : Option X) → is_none o ≡ true → o ≡ None
-is_none_None None h = refl
-is_none_None (Some x) h = absurd (false≢true h)
-
 pub none_other : (n : ℕ) (held : ℕ → Bool) (label : Label) → passes_star n held label ≡ true →
     (e : ℕ) → e < n → is_held_other held label e ≡ false
 unfolding first_other
-none_other n held label h e low = least-none (is_held_other held label) n (is_none_None _ h) e low
+none_other n held label h e low = least-none (is_held_other held label) n (is_none-None _ h) e low
 
 -- what the poster has had access to has no rival of its label
 passes_simple : (wall : ChineseWall) → IsPolicy wall → (held : ℕ → Bool) (own : ℕ) →

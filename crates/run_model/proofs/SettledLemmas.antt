@@ -9,6 +9,7 @@ use Rattle.std.proofs.lemmas.Bool.{cases_Bool, cond-true, cond-false, false≢tr
 use Rattle.std.proofs.lemmas.Bool.{and_from, and_left, and_right}
 use Rattle.std.proofs.lemmas.Option.{slice_get-map}
 use Rattle.std.proofs.lemmas.List.{append-nil}
+use Rattle.wall_labels.proofs.WallLabelsLemmas.{is_some-Some}
 use Rattle.wall_policy.specs.Policy.{ChineseWall}
 use Rattle.coll_routes.specs.declared.statement.Stated.{Stated}
 use Rattle.coll_routes.specs.declared.roll.Roll.{Roll}
@@ -208,10 +209,6 @@ abbrev pub settles : ChineseWall → (c k : ℕ) → Post → List Post → Bool
 settles wall c k x past =
     x.comm == c && place x past == k && is_some (filled (comms wall past) x past)
 
-pub some_is : {X : Type 0} (o : Option X) → is_some o ≡ true → (x : X) × (o ≡ Some x)
-some_is (Some x) h = (x, refl)
-some_is None h = absurd (false≢true h)
-
 pub settled_from : (wall : ChineseWall) (c k : ℕ) (past : List Post) (o : Outcome) →
     outcome_at wall c k past ≡ Some o → IsSettled wall c k past o
 settled_from wall c k [] o e = absurd (cc)
@@ -220,7 +217,7 @@ settled_from wall c k (z ∷ past) o e = ⊎_elim
     let outer = and_parts (z.comm == c && place z past == k)
     (is_some (filled (comms wall past) z past)) t in
     let inner = and_parts (z.comm == c) (place z past == k) outer.0 in
-    let roll = some_is (filled (comms wall past) z past) outer.1 in
+    let roll = is_some-Some (filled (comms wall past) z past) outer.1 in
     record {
       x = z;
       before = past;

@@ -7,6 +7,7 @@ use Rattle.std.specs.List.{list_all}
 use Rattle.std.proofs.lemmas.Bool.{cases_Bool, cond-true, cond-false, false≢true}
 use Rattle.std.proofs.lemmas.Option.{slice_get-map, slice_get_within}
 use Rattle.std.proofs.lemmas.List.{length-map}
+use Rattle.wall_labels.proofs.WallLabelsLemmas.{is_some-Some}
 use Rattle.wall_policy.specs.Policy.{ChineseWall, IsPolicy}
 use Rattle.mpi_elems.specs.Contents.{Contents}
 use Rattle.coll_routes.specs.declared.statement.Stated.{Stated}
@@ -32,7 +33,7 @@ use Rattle.run_model.specs.Contributions.{full_at}
 use Rattle.run_model.specs.Replies.{comm_at}
 use Rattle.run_model.specs.Proper.{IsAsStated, AreAsStated}
 use Rattle.run_model.proofs.SettledLemmas.{lengths, rows_alike, all_at, kth_later, settled_from}
-use Rattle.run_model.proofs.SettledLemmas.{comm_at_is, some_is}
+use Rattle.run_model.proofs.SettledLemmas.{comm_at_is}
 
 -- ## parts and statements stand side by side
 
@@ -122,7 +123,7 @@ module _ (comm : Comm) (c k : ℕ) (past : List (Contribution Contents))
       (slice_get (posts_on c at.0 (posts_of past)) k) =
       slice_get-map (λ m. slice_get (posts_on c m (posts_of past)) k) comm.members i
       ∙ ap (λ o. option_map (λ m. slice_get (posts_on c m (posts_of past)) k) o) at.1 in
-      let s = some_is (slice_get (posts_on c at.0 (posts_of past)) k)
+      let s = is_some-Some (slice_get (posts_on c at.0 (posts_of past)) k)
       (all_at (kth_posts comm c k (posts_of past)) i
       (slice_get (posts_on c at.0 (posts_of past)) k) full stated_row) in
       let states : slice_get roll.stated i ≡ Some (Some s.0) = stated_row ∙ ap (λ o. Some o) s.1 in

@@ -56,6 +56,8 @@ brought_same f n s e h q =
     ∙ (ap (λ o. list_any (λ i. is_that (f i) q) (below n) || is_that o q) (sym e)
     ∙ sym (any_more (λ i. is_that (f i) q) n)))
 
+pub ruleset brought = (brought_none, brought_more, brought_same)
+
 ---- How many different ones they bring.
 
 -- rank i brings one that no rank below it brings

@@ -6,6 +6,7 @@ use Rattle.std.proofs.lemmas.Bool.{cases_Bool, cond-true, cond-false, false≢tr
 use Rattle.std.proofs.lemmas.Bool.{or_right, and_parts, and_from, not-true}
 use Rattle.wall_labels.specs.declared.label.Label.{Label}
 use Rattle.wall_labels.specs.declared.label.Label.TheVariants.{Public, Of}
+use Rattle.wall_labels.proofs.WallLabelsLemmas.{is_some-Some}
 use Rattle.wall_policy.specs.Policy.{ChineseWall}
 use Rattle.wall_rules.specs.Histories.{History}
 use Rattle.wall_rules.specs.Rules.{first_rival}
@@ -52,7 +53,7 @@ that_one : (o : Option ℕ) (d : ℕ) → is_that o d ≡ true → o ≡ Some d
 that_one None d h = absurd (false≢true h)
 that_one (Some e) d h = ap (λ (k : ℕ). Some k) (eqb-true e d h)
 
-one_that : (o : Option ℕ) (d : ℕ) → o ≡ Some d → is_that o d ≡ true
+pub one_that : (o : Option ℕ) (d : ℕ) → o ≡ Some d → is_that o d ≡ true
 one_that o d e = ap (λ x. is_that x d) e ∙ eq-eqb d d refl
 
 ---- Those of the ranks below n.
@@ -87,10 +88,6 @@ charges_are_labels wall roll j d = (
 
 ---- Offences.
 
-some_is : {X : Type 0} (o : Option X) → is_some o ≡ true → (x : X) × (o ≡ Some x)
-some_is (Some x) e = (x, refl)
-some_is None e = absurd (false≢true e)
-
 member_is : (roll : Roll) (j p : ℕ) → slice_get roll.members j ≡ Some p → member roll j ≡ p
 member_is roll j p at = ap (λ o. unwrap_or o 0) at
 
@@ -119,7 +116,7 @@ offence_opens wall has roll j i p at h = by_contribution (contribution roll i j)
     by_contribution (Some d) e =
         let clash : is_some (first_rival wall.classes (before has roll j i) d) ≡ true = sym
         (ap (λ o. meets_rival wall.classes (before has roll j i) o) e) ∙ m in
-        let found = some_is (first_rival wall.classes (before has roll j i) d) clash in
+        let found = is_some-Some (first_rival wall.classes (before has roll j i) d) clash in
         let low = first_rival-some wall.classes (before has roll j i) d found.0 found.1 in
         record {
           process = p;

@@ -1,10 +1,11 @@
 -- What a contribution meets, rank by rank.
-use Rattle.std.proofs.Common.{◌≡◌, ℕ, Bool, true, false, List, Option, Some, None, refl, sym, ap}
+use Rattle.std.proofs.Common.{◌≡◌, ℕ, Bool, true, false, List, Some, None, refl, sym, ap}
 use Rattle.std.proofs.Common.{◌∙◌, ◌||◌, ◌&&◌, not, slice_get, find, [], ◌∷◌}
 use Rattle.std.specs.Prelude.{is_some, unwrap_or}
 use Rattle.std.specs.Ordering.{nat_cmp}
 use Rattle.std.specs.FinSet.{FinSet, insert, contains}
-use Rattle.std.proofs.lemmas.Bool.{false≢true, or_right}
+use Rattle.std.proofs.lemmas.Bool.{or_right}
+use Rattle.wall_labels.proofs.WallLabelsLemmas.{not_some-None}
 use Rattle.wall_policy.specs.Policy.{ChineseWall}
 use Rattle.wall_rules.specs.Histories.{History}
 use Rattle.wall_rules.specs.Rules.{first_rival, joined, clashes, HoldsNoRivals}
@@ -14,11 +15,8 @@ use Rattle.coll_routes.specs.Rolls.{ranks}
 use Rattle.wall_verdict.specs.Charges.{contribution, contributed_below, contributed, charged}
 use Rattle.wall_verdict.specs.Charges.{sanitised}
 use Rattle.wall_verdict.specs.Verdicts.{member, meets, meets_rival, offends}
-use Rattle.wall_verdict.proofs.ChargeLemmas.{AreBrought}
-
-not_some : {X : Type 0} (o : Option X) → is_some o ≡ false → o ≡ None
-not_some None f = refl
-not_some (Some x) f = absurd (false≢true (sym f))
+use Rattle.wall_verdict.proofs.ChargeLemmas.{AreBrought, brought_none, brought_more, brought_same}
+use Rattle.wall_verdict.proofs.BelowLemmas.{find_none_more, find_found}
 
 -- a dataset that is held already has no rival there
 pub held_is_clear : (classes : List ℕ) (held : ℕ → Bool) (s : FinSet nat_cmp) (d : ℕ) →
@@ -32,7 +30,8 @@ pub stays_apart : (classes : List ℕ) (held : ℕ → Bool) (s : FinSet nat_cmp
     HoldsNoRivals classes (joined held s) → clashes classes (joined held s) d ≡ false →
     HoldsNoRivals classes (joined held (insert s d))
 stays_apart classes held s d apart clear =
-    no_rivals-insert classes held s d apart (not_some (first_rival classes (joined held s) d) clear)
+    no_rivals-insert classes held s d apart
+    (not_some-None (first_rival classes (joined held s) d) clear)
 
 -- whether what comes from i meets a rival, where the set has what comes from below
 pub meets_is : (classes : List ℕ) (has : History) (roll : Roll) (j i p d : ℕ) (s : FinSet nat_cmp) →
@@ -50,6 +49,18 @@ pub meets_none : (classes : List ℕ) (has : History) (roll : Roll) (j i : ℕ) 
     contribution roll i j ≡ None → meets classes has roll j i ≡ false
 meets_none classes has roll j i e =
     ap (λ o. meets_rival classes (λ q. has (member roll j) q || contributed_below roll j i q) o) e
+
+-- for a walk over the ranks, up to the first that meets a rival
+pub ruleset first_meetings = (
+  brought_none,
+  brought_more,
+  brought_same,
+  meets_is,
+  meets_none,
+  stays_apart,
+  find_none_more,
+  find_found,
+)
 
 ---- Where what rank j gets is sanitised, and where it isn't.
 

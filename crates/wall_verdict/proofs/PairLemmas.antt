@@ -73,7 +73,7 @@ search_below p (suc n) = subst (λ m. Searched p m) (add-one n) (⊎_elim
     ))
     (search_below p n))
 
----- The same of pairs.
+---- The first pair that passes.
 
 abbrev pub row : ℕ → ℕ → List (ℕ × ℕ)
 row n j = map (λ i. (j, i)) (below n)

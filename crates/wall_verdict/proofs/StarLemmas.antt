@@ -90,3 +90,6 @@ nothing_entered has p label passed f = sym (λ i q c. (ap
     (λ x. has q c || (q == p && x && is_that (dataset_in label) c)) f
     ∙ (ap (λ b. has q c || b) (nothing_and (q == p) (is_that (dataset_in label) c))
     ∙ or-false (has q c))) i)
+
+-- for an entry in a history, where the post passed
+pub ruleset entering = (may_enter, label_entered, label_there, no_dataset)

@@ -131,7 +131,7 @@ pub fn sanitised(policy: &Policy, roll: &Roll, rank: u32) -> bool
 }
 
 /// The datasets that the ranks contribute to this one.
-#[tactic(auto, using(crate::proofs::ChargeLemmas::brought_none, crate::proofs::ChargeLemmas::brought_more, crate::proofs::ChargeLemmas::brought_same))]
+#[tactic(auto, using(crate::proofs::ChargeLemmas::brought))]
 fn contributed(roll: &Roll, to: u32) -> LabelSet
     requires fit { IsFit roll.now }
     requires to { to < roll.now.shape.size }

@@ -113,7 +113,7 @@ fn told(roll: &Roll, rank: u32) -> Label
 impl Case<'_> {
     /// The lowest rank whose contribution to this one meets a rival, in its history or among those
     /// of lower ranks.
-    #[tactic(auto, using(crate::proofs::ChargeLemmas::brought_none, crate::proofs::ChargeLemmas::brought_more, crate::proofs::ChargeLemmas::brought_same, crate::proofs::MeetLemmas::meets_is, crate::proofs::MeetLemmas::meets_none, crate::proofs::MeetLemmas::stays_apart, crate::proofs::BelowLemmas::find_none_more, crate::proofs::BelowLemmas::find_found))]
+    #[tactic(auto, using(crate::proofs::MeetLemmas::first_meetings))]
     fn first_meeting(&self, to: u32) -> Option<u32>
         requires { to < self.now.roll.now.shape.size }
         ensures least { result ≡ find

@@ -57,7 +57,7 @@ pub fn enter_passed(
     keep_apart(histories);
 }
 
-#[tactic(auto, using(crate::proofs::StarLemmas::may_enter, crate::proofs::StarLemmas::label_entered, crate::proofs::StarLemmas::label_there, crate::proofs::StarLemmas::no_dataset))]
+#[tactic(auto, using(crate::proofs::StarLemmas::entering))]
 fn enter(histories: &mut Histories, process: ProcessId, label: &Option<Label>)
     requires { star (has histories.old) process label.now ≡ true }
     ensures pairs { has histories.new ≡ with_label (has histories.old) process label.now true }
