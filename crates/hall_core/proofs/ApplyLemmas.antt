@@ -5,7 +5,7 @@ use Rattle.wall_policy.specs.Policy.{ChineseWall, IsPolicy}
 use Rattle.wall_rules.specs.Histories.{History, NobodyHoldsRivals}
 use Rattle.run_model.specs.Posts.{histories}
 use Rattle.run_model.specs.Comms.{processes}
-use Rattle.run_model.specs.Books.{book, IsSound, posts_in as posts_in_book}
+use Rattle.run_model.specs.Books.{book, IsSound, posts_in}
 use Rattle.run_model.specs.PostLaws.{IsWhatIsHeld, NobodyHoldsBoth}
 use Rattle.run_model.proofs.RunModelLemmas.{book_is_sound, posts_in-book, posts_keep_the_wall}
 use Rattle.run_model.proofs.RunModelLemmas.{legal_proper, nobody_holds_two_rivals_in_runs}
@@ -17,7 +17,7 @@ use Rattle.run_state.specs.Stands.{StandsForPosts}
 use Rattle.run_model.specs.declared.call.Call.{Call}
 use Rattle.run_model.specs.declared.reply.Reply.{Reply}
 use Rattle.run_model.specs.Runs.{Entry, effects, posts, entry, requests, after_entry}
-use Rattle.run_model.specs.Replies.{IsAnswer, Legal, posts_in, reply}
+use Rattle.run_model.specs.Replies.{IsAnswer, Legal, posts_made, reply}
 use Rattle.hall_core.specs.declared.claims.Claim.{Claim}
 use Rattle.hall_core.specs.declared.requests.Request.{Request}
 use Rattle.hall_core.specs.Claims.{HoldsWhatIsKept, Claims}
@@ -101,11 +101,11 @@ histories_are hall h run by stands =
 pub histories_of_book : (hall : HallValue) (h : History) → IsHallView (view_of hall)
     → ((wall : ChineseWall) (past : List _) → StandsForPosts wall (view_of hall).post_state past
     → h ≡ histories wall (posts_of past))
-    → h ≡ histories hall.policy (posts_in_book hall.book.list)
+    → h ≡ histories hall.policy (posts_in hall.book.list)
 histories_of_book hall h is by =
     let effects = is.effects in
-    let posts = ap posts_in_book is.stands.book
-    ∙ posts_in-book hall.policy (posts_in effects) in
+    let posts = ap posts_in is.stands.book
+    ∙ posts_in-book hall.policy (posts_made effects) in
     by hall.policy effects.contributions is.stands.post_state
     ∙ ap (histories hall.policy) (sym posts)
 
@@ -124,7 +124,7 @@ pub nobody_holds_rivals : (hall : HallValue) (h : History) → IsHallView (view_
 nobody_holds_rivals hall h is by =
     subst (NobodyHoldsRivals hall.policy.classes)
     (sym (by hall.policy is.effects.contributions is.stands.post_state))
-    (posts_keep_the_wall hall.policy (posts_in is.effects) is.policy is.is_made.proper.posts)
+    (posts_keep_the_wall hall.policy (posts_made is.effects) is.policy is.is_made.proper.posts)
 
 pub is_held : (hall : HallValue) (h : History) (run : List Entry) → ((wall : ChineseWall)
     (past : List _) → StandsForPosts wall (view_of hall).post_state past →
@@ -143,12 +143,12 @@ book_is hall run stands =
 
 pub sound : (hall : HallValue) → IsHallView (view_of hall) → IsSound hall.policy hall.book.list
 sound hall is = subst (IsSound hall.policy) (sym is.stands.book)
-    (book_is_sound hall.policy (posts_in is.effects) is.is_made.proper.posts)
+    (book_is_sound hall.policy (posts_made is.effects) is.is_made.proper.posts)
 
 pub named : (hall : HallValue) → IsHallView (view_of hall) →
     All (IsKnownEntry hall.policy) hall.book.list
 named hall is = subst (All (IsKnownEntry hall.policy)) (sym is.stands.book)
-    (book_named hall.policy (posts_in is.effects) is.policy is.is_made.proper.posts
+    (book_named hall.policy (posts_made is.effects) is.policy is.is_made.proper.posts
     is.is_made.labels)
 
 -- ## requests

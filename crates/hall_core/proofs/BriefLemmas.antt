@@ -14,7 +14,7 @@ use Rattle.run_model.specs.Posts.{Post}
 use Rattle.run_model.specs.Books.{book, entries_for}
 use Rattle.run_model.specs.Contributions.{Contribution, posts_of}
 use Rattle.run_model.specs.Known.{HasKnownLabel, IsKnownEntry}
-use Rattle.run_model.specs.Replies.{Legal, posts_in}
+use Rattle.run_model.specs.Replies.{Legal, posts_made}
 use Rattle.run_model.specs.Runs.{Entry, contribution_in, contributions, entry, posts}
 use Rattle.hall_core.specs.declared.records.Records.{Records}
 use Rattle.hall_core.specs.Briefs.{Adds, IsBrief, kept_in}
@@ -43,7 +43,7 @@ book_more wall (Some g) past = refl
 pub made_in : (old new : HallValue) (call : Call) (got : Reply) (is : IsHallView (view_of old)) →
     new.policy ≡ old.policy → Steps (view_of old) (view_of new) call.process call.act got →
     new.book.list ≡ old.book.list
-    ++ made_by old.policy (contribution_in (entry call got)) (posts_in is.effects)
+    ++ made_by old.policy (contribution_in (entry call got)) (posts_made is.effects)
 made_in old new call got is same steps =
     let m = is.effects in
     let o = contribution_in (entry call got) in
@@ -51,7 +51,7 @@ made_in old new call got is same steps =
     step.1.book
     ∙ (ap (λ (w : ChineseWall). book w (posts_of (cons_option o m.contributions))) same
     ∙ (book_more old.policy o m.contributions
-    ∙ ap (λ (entries : List BookEntry). entries ++ made_by old.policy o (posts_in m))
+    ∙ ap (λ (entries : List BookEntry). entries ++ made_by old.policy o (posts_made m))
     (sym is.stands.book)))
 
 -- and in that of this run
@@ -107,7 +107,7 @@ brief_after old new call got is keeps known steps = record {
   hall = is_hall_after (view_in old) (view_in new) call.process call.act got is.hall keeps.policy
       known steps;
   whole = whole_grown old.book.gone new.book.gone old.book.list new.book.list
-      (made_by old.policy (contribution_in (entry call got)) (posts_in is.hall.effects))
+      (made_by old.policy (contribution_in (entry call got)) (posts_made is.hall.effects))
       keeps.gone is.whole
       (made_in (value_in old) (value_in new) call got is.hall keeps.policy steps);
 }

@@ -9,7 +9,7 @@ use Rattle.run_model.specs.Posts.{Post, outcome_at}
 use Rattle.run_model.specs.Contributions.{full_at}
 use Rattle.run_model.specs.Runs.{Effects, requests}
 use Rattle.run_model.specs.Buffers.{SameInstanceButForRoom, SameButForRoom}
-use Rattle.run_model.specs.Replies.{posts_in, comm_at}
+use Rattle.run_model.specs.Replies.{posts_made, comm_at}
 use Rattle.run_model.proofs.RunModelLemmas.{posts_but_for_room, instance_but_for_room}
 use Rattle.hall_core.specs.declared.claims.Claim.{Claim}
 use Rattle.hall_core.specs.declared.claims.Claim.TheVariants.{Done, Ready}
@@ -35,7 +35,7 @@ share_claimed hall kept m stands same p r full rank held =
       granted = subst (λ (past : List Post). outcome_at hall.policy comm k past ≡ Some Granted)
           posts known.came;
       is_full = subst (λ (F : Full Contents). SameInstanceButForRoom F
-          (full_at (comm_at hall.policy (posts_in m) comm) comm k m.contributions)) known.full
+          (full_at (comm_at hall.policy (posts_made m) comm) comm k m.contributions)) known.full
           (instance_but_for_room hall.policy kept m same comm k);
       is_member = held.is_member;
     }

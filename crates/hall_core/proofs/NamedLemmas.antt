@@ -24,7 +24,7 @@ use Rattle.run_model.specs.declared.call.Act.TheVariants.{Post as ToPost, Take, 
 use Rattle.run_model.specs.declared.reply.Reply.{Reply}
 use Rattle.run_model.specs.declared.reply.Reply.TheVariants as replies
 use Rattle.run_model.specs.Runs.{Effects, requests, given_in, label_if, after_entry}
-use Rattle.run_model.specs.Replies.{posts_in, comm_at, refusal, accepted, reply_to_post}
+use Rattle.run_model.specs.Replies.{posts_made, comm_at, refusal, accepted, reply_to_post}
 use Rattle.run_model.specs.Replies.{reply_to_take, reply_by_outcome, reply_by, join, joined}
 use Rattle.run_model.specs.Replies.{info_by, info_on, IsAnswer}
 use Rattle.run_model.specs.Contributions.{full_at}
@@ -84,12 +84,12 @@ either_named wall true x y h k = h
 either_named wall false x y h k = k
 
 take_named : (wall : ChineseWall) (m : Effects) (p r : ℕ) (o : Option (ℕ × ℕ)) →
-    ((c k : ℕ) (v : Outcome) → outcome_at wall c k (posts_in m) ≡ Some v → IsKnownOutcome wall v) →
-    IsKnownReply wall (reply_to_take wall m p r o)
+    ((c k : ℕ) (v : Outcome) → outcome_at wall c k (posts_made m) ≡ Some v →
+    IsKnownOutcome wall v) → IsKnownReply wall (reply_to_take wall m p r o)
 take_named wall m p r None h = tt
 take_named wall m p r (Some (c, k)) h = either_named wall (m.taken p r) _ _ tt
-    (came_named wall p (full_at (comm_at wall (posts_in m) c) c k m.contributions)
-    (outcome_at wall c k (posts_in m)) (h c k))
+    (came_named wall p (full_at (comm_at wall (posts_made m) c) c k m.contributions)
+    (outcome_at wall c k (posts_made m)) (h c k))
 
 rank_named : (wall : ChineseWall) (comm : Comm) (o : Option ℕ) → IsKnownReply wall (info_by comm o)
 rank_named wall comm None = tt
@@ -104,10 +104,10 @@ due_named : (wall : ChineseWall) (m : Effects) (p : ℕ) (act : Act) → IsPolic
 due_named wall m p (ToPost posting) policy is label =
     post_named wall m p posting (refusal wall m p posting) label
 due_named wall m p (Take r) policy is label = take_named wall m p r
-    (slice_get (requests p (posts_in m)) r)
-    (λ c k v e. settled_named wall (posts_in m) policy is.proper.posts is.labels c k v e)
+    (slice_get (requests p (posts_made m)) r)
+    (λ c k v e. settled_named wall (posts_made m) policy is.proper.posts is.labels c k v e)
 due_named wall m p (ToInfo c) policy is label = either_named wall (nat_lt p (processes wall)) _ _
-    (info_named wall p (slice_get (comms wall (posts_in m)) c)) tt
+    (info_named wall p (slice_get (comms wall (posts_made m)) c)) tt
 
 pub answer_named : (wall : ChineseWall) (m : Effects) (p : ℕ) (act : Act) (got : Reply) →
     IsPolicy wall → IsMade wall m → HasKnownLabel wall act → IsAnswer (reply_by wall m p act) got →
@@ -127,8 +127,8 @@ given_known wall given label known = by_number (given == 0)
     by_number false = known
 
 labels_more : (wall : ChineseWall) (m : Effects) (p : ℕ) (act : Act) (got : Reply) →
-    PostsHaveKnownLabels wall (posts_in m) → HasKnownLabel wall act →
-    PostsHaveKnownLabels wall (posts_in (after_entry m (entry_of p act got)))
+    PostsHaveKnownLabels wall (posts_made m) → HasKnownLabel wall act →
+    PostsHaveKnownLabels wall (posts_made (after_entry m (entry_of p act got)))
 labels_more wall m p (ToPost posting) (replies.Posted r) h known =
     (h, given_known wall (given_in posting) posting.label known)
 labels_more wall m p (ToPost posting) (replies.Barred r label) h known =

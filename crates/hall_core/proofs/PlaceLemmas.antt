@@ -11,7 +11,7 @@ use Rattle.run_model.specs.declared.outcome.Outcome.{Outcome}
 use Rattle.run_model.specs.Posts.{Post, posts_on, place, outcome_at}
 use Rattle.run_model.specs.Books.{IsCounted}
 use Rattle.run_model.specs.Runs.{Effects, requests}
-use Rattle.run_model.specs.Replies.{posts_in}
+use Rattle.run_model.specs.Replies.{posts_made}
 use Rattle.run_model.proofs.RunModelLemmas.{not_full_before, settled_full}
 use Rattle.hall_core.specs.declared.requests.Request.{Request}
 use Rattle.hall_core.specs.declared.settled.Settlement.{Settlement}
@@ -143,8 +143,8 @@ module _ (c k : ℕ) where
   pub asked_once : (hall : HallView) (m : Effects) → StandsForEffects hall m → (p : ℕ) →
       open_in (hall.asked p) c k ≤ 1
   asked_once hall m stands p =
-      let most = (once p (posts_in m)).most in
-      let all = fewer (hall.asked p) (requests p (posts_in m)) (stands.given p)
+      let most = (once p (posts_made m)).most in
+      let all = fewer (hall.asked p) (requests p (posts_made m)) (stands.given p)
       (λ n r e. stands.waiting p n r e) in
       omega (arith, most, all)
 
@@ -174,7 +174,7 @@ unsettled wall x past counts = go (outcome_at wall x.comm (place x past) past) r
 -- so nothing of it stands in the hall
 pub none_there : (hall : HallView) (m : Effects) (n : ℕ) (rows : List Places) →
     StandsForEffects hall m → KeepsCount hall.asked n rows → hall.settled ≡ settlement_at rows →
-    (c k : ℕ) → outcome_at hall.policy c k (posts_in m) ≡ None → hall.settled c k ≡ None
+    (c k : ℕ) → outcome_at hall.policy c k (posts_made m) ≡ None → hall.settled c k ≡ None
 none_there hall m n rows stands counted shown c k none = go (hall.settled c k) refl
   where
     go : (o : Option Settlement) → hall.settled c k ≡ o → hall.settled c k ≡ None
@@ -189,5 +189,5 @@ none_there hall m n rows stands counted shown c k none = go (hall.settled c k) r
         let known = known_as hall m stands by.p by.asks.number by.asks.r s by.asks.waits at in
         let both : None ≡ Some s.outcome = sym none ∙ ((λ i.
         outcome_at hall.policy (sym by.asks.of_comm i) (sym by.asks.of_number i)
-        (posts_in m)) ∙ known.came) in
+        (posts_made m)) ∙ known.came) in
         absurd (cc)

@@ -37,7 +37,7 @@ use Rattle.run_model.specs.declared.reply.Reply.{Reply}
 use Rattle.run_model.specs.declared.reply.Reply.TheVariants.{Refused}
 use Rattle.run_model.specs.Runs.{Effects, requests, given_in, label_in, statement}
 use Rattle.run_model.specs.Runs.{with_contribution, after_entry}
-use Rattle.run_model.specs.Replies.{posts_in, refusal, too_many, is_limit_reached, accepted}
+use Rattle.run_model.specs.Replies.{posts_made, refusal, too_many, is_limit_reached, accepted}
 use Rattle.run_model.specs.Replies.{reply_to_post, reply_by, may_lack_memory, IsAnswer}
 use Rattle.hall_core.specs.declared.settled.Settlement.{Settlement}
 use Rattle.hall_core.specs.Asking.{open_number}
@@ -54,8 +54,8 @@ or_both None m h = (refl, h)
 
 pub refusal_is : (hall : HallView) (m : Effects) → StandsForEffects hall m →
     (p : ℕ) (posting : Posting) →
-    fault hall.policy (posts_in m) p posting.comm posting.sig posting.own posting.elements.elem_type
-    (given_in posting) ≡ None →
+    fault hall.policy (posts_made m) p posting.comm posting.sig posting.own
+    posting.elements.elem_type (given_in posting) ≡ None →
     cond (is_limit_reached (open_number (hall.asked p)) (length (hall.asked p)))
     (Some TooManyRequests) None ≡ refusal hall.policy m p posting
 refusal_is hall m stands p posting none =
@@ -85,9 +85,9 @@ pub looked_stated : (hall : HallView) (m : Effects) → StandsForEffects hall m 
     (given_in posting)
 looked_stated hall m stands seat posting none on s =
     let p = seat.process in
-    let a = accepted_by hall.policy (posts_in m) p posting.comm posting.sig posting.own
+    let a = accepted_by hall.policy (posts_made m) p posting.comm posting.sig posting.own
     (stated_type posting.sig) (given_in posting)
-    (fault_spared hall.policy (posts_in m) p posting.comm posting.sig posting.own
+    (fault_spared hall.policy (posts_made m) p posting.comm posting.sig posting.own
     posting.elements.elem_type (given_in posting) (or_both _ _ none).0) in
     let same : a.comm ≡ s.comm = (let both : Some a.comm ≡ Some s.comm = sym a.at ∙
     ((λ i. slice_get (sym stands.post_state.comms i) (sym on i)) ∙ s.there) in cc) in
@@ -113,7 +113,7 @@ few_elements seen seat sig own ty given s =
 -- its statement is in form for the book
 pub has_form_of : (hall : HallView) (m : Effects) → StandsForEffects hall m → (seat : Seat)
     (posting : Posting) (barred : Bool) → refusal hall.policy m seat.process posting ≡ None →
-    barred ≡ not (star (histories hall.policy (posts_in m)) seat.process (label_in posting)) →
+    barred ≡ not (star (histories hall.policy (posts_made m)) seat.process (label_in posting)) →
     LookedAt hall.post_state seat posting.sig posting.own posting.elements.elem_type
     (given_in posting) →
     HasForm (EntryPosted seat.process posting.comm (statement posting barred))
@@ -173,8 +173,8 @@ made_as m p r posting false = after_barred m p r posting.label posting
 -- the reply that is due to a post that meets no refusal
 pub due : (wall : ChineseWall) (m : Effects) (p : ℕ) (posting : Posting) (passed : Bool)
     (number : ℕ) → refusal wall m p posting ≡ None →
-    passed ≡ star (histories wall (posts_in m)) p (label_in posting) →
-    number ≡ length (requests p (posts_in m)) →
+    passed ≡ star (histories wall (posts_made m)) p (label_in posting) →
+    number ≡ length (requests p (posts_made m)) →
     reply_by wall m p (ToPost posting) ≡ accepted passed number posting.label
 due wall m p posting passed number none word long = ap (λ o. reply_to_post wall m p posting o) none
     ∙ (λ i. accepted (sym word i) (sym long i) posting.label)

@@ -18,7 +18,7 @@ use Rattle.run_state.specs.declared.entered.Entered.TheVariants.{Waiting, Settle
 use Rattle.run_model.specs.Contributions.{Contribution, full_at}
 use Rattle.run_state.specs.Stands.{StandsForPosts, Tells}
 use Rattle.run_model.specs.Runs.{Effects, requests, with_contribution}
-use Rattle.run_model.specs.Replies.{posts_in, comm_at}
+use Rattle.run_model.specs.Replies.{posts_made, comm_at}
 use Rattle.run_model.proofs.RunModelLemmas.{requests_own, requests_other, settled_now, settled_none}
 use Rattle.run_model.proofs.RunModelLemmas.{settled_other, instance_stays, filled_at}
 use Rattle.hall_core.specs.declared.requests.Request.{Request}
@@ -43,45 +43,46 @@ outcome_none wall x past none = ap (λ o. option_map (Rattle.run_model.specs.Pos
 -- ## settlements
 
 module _ (wall : ChineseWall) (m : Effects) (g : Contribution Contents)
-    (counts : IsCounted wall g.post (posts_in m)) where
+    (counts : IsCounted wall g.post (posts_made m)) where
   -- an instance that the post does not settle is kept as it was
-  still : (c k : ℕ) → outcome_at wall c k (g.post ∷ posts_in m) ≡ outcome_at wall c k (posts_in m) →
+  still : (c k : ℕ) →
+      outcome_at wall c k (g.post ∷ posts_made m) ≡ outcome_at wall c k (posts_made m) →
       settlement_in wall (with_contribution m g) c k ≡ settlement_in wall m c k
-  still c k same = go (outcome_at wall c k (posts_in m)) refl
+  still c k same = go (outcome_at wall c k (posts_made m)) refl
     where
-      go : (o : Option Outcome) → outcome_at wall c k (posts_in m) ≡ o →
+      go : (o : Option Outcome) → outcome_at wall c k (posts_made m) ≡ o →
           settlement_in wall (with_contribution m g) c k ≡ settlement_in wall m c k
       go None is = ap (λ o. option_map (settlement
-          (full_at (comm_at wall (g.post ∷ posts_in m) c) c k (g ∷ m.contributions))) o)
+          (full_at (comm_at wall (g.post ∷ posts_made m) c) c k (g ∷ m.contributions))) o)
           (same ∙ is)
           ∙ sym (ap (λ o. option_map
-          (settlement (full_at (comm_at wall (posts_in m) c) c k m.contributions)) o) is)
+          (settlement (full_at (comm_at wall (posts_made m) c) c k m.contributions)) o) is)
       go (Some o) is =
           λ i. option_map (settlement (instance_stays wall c k o g m.contributions is i)) (same i)
 
-  waiting : filled (comms wall (posts_in m)) g.post (posts_in m) ≡ None → (c k : ℕ) →
+  waiting : filled (comms wall (posts_made m)) g.post (posts_made m) ≡ None → (c k : ℕ) →
       settlement_in wall (with_contribution m g) c k ≡ settlement_in wall m c k
-  waiting none c k = still c k (settled_none wall c k g.post (posts_in m) none)
+  waiting none c k = still c k (settled_none wall c k g.post (posts_made m) none)
 
   module _ (full : Full Contents) (k : ℕ) (o : Outcome)
       (tells : Tells wall g m.contributions (Settled full k o)) where
-    place_is : place g.post (posts_in m) ≡ k
+    place_is : place g.post (posts_made m) ≡ k
     place_is = sym tells.0
 
     -- the one that it settles
     own : settlement_in wall (with_contribution m g) g.post.comm k ≡ Some (settlement full o)
     own =
-        let came : outcome_at wall g.post.comm k (g.post ∷ posts_in m) ≡ Some o =
-        ap (λ n. outcome_at wall g.post.comm n (g.post ∷ posts_in m)) (sym place_is)
-        ∙ (settled_now wall g.post (posts_in m) full.roll tells.1 ∙ tells.3) in
-        let is : full_at (comm_at wall (g.post ∷ posts_in m) g.post.comm) g.post.comm k
+        let came : outcome_at wall g.post.comm k (g.post ∷ posts_made m) ≡ Some o =
+        ap (λ n. outcome_at wall g.post.comm n (g.post ∷ posts_made m)) (sym place_is)
+        ∙ (settled_now wall g.post (posts_made m) full.roll tells.1 ∙ tells.3) in
+        let is : full_at (comm_at wall (g.post ∷ posts_made m) g.post.comm) g.post.comm k
         (g ∷ m.contributions) ≡ full = filled_at wall g m.contributions k full tells.2 in
         λ i. option_map (settlement (is i)) (came i)
 
     -- every other
     other : (c j : ℕ) → (g.post.comm ≢ c) ⊎ (k ≢ j) →
         settlement_in wall (with_contribution m g) c j ≡ settlement_in wall m c j
-    other c j apart = still c j (settled_other wall c j g.post (posts_in m)
+    other c j apart = still c j (settled_other wall c j g.post (posts_made m)
         (⊎_elim (λ a. inl a) (λ (b : k ≢ j). inr (λ e. b (sym place_is ∙ e))) apart))
 
     now_settled : (c j : ℕ) →
@@ -118,36 +119,36 @@ module _ (wall : ChineseWall) (m : Effects) (g : Contribution Contents)
       ∙ sym (now_settled full n o tells c k))
 
   -- nothing came before of the instance that it belongs to
-  none_before : settlement_in wall m g.post.comm (place g.post (posts_in m)) ≡ None
-  none_before = ap (λ o. option_map (settlement (full_at (comm_at wall (posts_in m) g.post.comm)
-      g.post.comm (place g.post (posts_in m)) m.contributions)) o)
-      (unsettled wall g.post (posts_in m) counts)
+  none_before : settlement_in wall m g.post.comm (place g.post (posts_made m)) ≡ None
+  none_before = ap (λ o. option_map (settlement (full_at (comm_at wall (posts_made m) g.post.comm)
+      g.post.comm (place g.post (posts_made m)) m.contributions)) o)
+      (unsettled wall g.post (posts_made m) counts)
 
   -- ## the book
 
   booked : (entered : Entered Contents) → Tells wall g m.contributions entered →
-      book wall (posts_in m) ++ entries_of g.post.process g.post.comm g.post.stated entered
-      ≡ book wall (g.post ∷ posts_in m)
-  booked (Waiting n) tells = ap (λ o. book wall (posts_in m)
-      ++ posted g.post ∷ option_to_list (book_settlement g.post (posts_in m) o))
-      (sym (outcome_none wall g.post (posts_in m) tells.1))
+      book wall (posts_made m) ++ entries_of g.post.process g.post.comm g.post.stated entered
+      ≡ book wall (g.post ∷ posts_made m)
+  booked (Waiting n) tells = ap (λ o. book wall (posts_made m)
+      ++ posted g.post ∷ option_to_list (book_settlement g.post (posts_made m) o))
+      (sym (outcome_none wall g.post (posts_made m) tells.1))
   booked (Settled full n o) tells =
-      ap (λ (j : ℕ). book wall (posts_in m) ++ posted g.post ∷ EntrySettled g.post.comm j o ∷ [])
+      ap (λ (j : ℕ). book wall (posts_made m) ++ posted g.post ∷ EntrySettled g.post.comm j o ∷ [])
       tells.0
-      ∙ ap (λ v. book wall (posts_in m)
-      ++ posted g.post ∷ option_to_list (book_settlement g.post (posts_in m) v))
+      ∙ ap (λ v. book wall (posts_made m)
+      ++ posted g.post ∷ option_to_list (book_settlement g.post (posts_made m) v))
       (sym tells.3)
 
   number_is : (entered : Entered Contents) → Tells wall g m.contributions entered →
-      number_in entered ≡ place g.post (posts_in m)
+      number_in entered ≡ place g.post (posts_made m)
   number_is (Waiting n) tells = tells.0
   number_is (Settled full n o) tells = tells.0
 
 -- ## all of it
 
 module _ (old new : HallView) (m : Effects) (g : Contribution Contents) (entered : Entered Contents)
-    (stands : StandsForEffects old m) (counts : IsCounted old.policy g.post (posts_in m))
-    (none : old.settled g.post.comm (place g.post (posts_in m)) ≡ None)
+    (stands : StandsForEffects old m) (counts : IsCounted old.policy g.post (posts_made m))
+    (none : old.settled g.post.comm (place g.post (posts_made m)) ≡ None)
     (post_state : StandsForPosts old.policy new.post_state (g ∷ m.contributions))
     (tells : Tells old.policy g m.contributions entered)
     (recorded : IsRecorded old new g.post.process g.post.comm g.post.stated entered) where
@@ -166,27 +167,27 @@ module _ (old new : HallView) (m : Effects) (g : Contribution Contents) (entered
   asked_other : (q : ℕ) → q ≢ p → new.asked q ≡ old.asked q
   asked_other q apart = now q ∙ updated_other old.asked p q (old.asked p ++ Some request ∷ []) apart
 
-  kth : number_in entered ≡ place g.post (posts_in m)
+  kth : number_in entered ≡ place g.post (posts_made m)
   kth = number_is old.policy m g counts entered tells
 
   requests_own_now : (q : ℕ) → q ≡ p →
-      requests q (g.post ∷ posts_in m)
-      ≡ requests p (posts_in m) ++ (g.post.comm, place g.post (posts_in m)) ∷ []
+      requests q (g.post ∷ posts_made m)
+      ≡ requests p (posts_made m) ++ (g.post.comm, place g.post (posts_made m)) ∷ []
   requests_own_now q is =
-      ap (λ n. requests n (g.post ∷ posts_in m)) is ∙ requests_own g.post (posts_in m)
+      ap (λ n. requests n (g.post ∷ posts_made m)) is ∙ requests_own g.post (posts_made m)
 
-  requests_still : (q : ℕ) → q ≢ p → requests q (g.post ∷ posts_in m) ≡ requests q (posts_in m)
-  requests_still q apart = requests_other q g.post (posts_in m) (λ e. apart (sym e))
+  requests_still : (q : ℕ) → q ≢ p → requests q (g.post ∷ posts_made m) ≡ requests q (posts_made m)
+  requests_still q apart = requests_other q g.post (posts_made m) (λ e. apart (sym e))
 
   given_now : (q : ℕ) →
-      length (new.asked q) ≡ length (requests q (posts_in (with_contribution m g)))
+      length (new.asked q) ≡ length (requests q (posts_made (with_contribution m g)))
   given_now q = ⊎_elim
       (λ is.
       let a : length (new.asked q) ≡ length (old.asked p) + 1 = ap length (asked_own q is) ∙
       length-append (old.asked p) (Some request ∷ []) in
-      let b : length (requests q (g.post ∷ posts_in m)) ≡ length (requests p (posts_in m)) + 1 = ap
-      length (requests_own_now q is) ∙ length-append (requests p (posts_in m))
-      ((g.post.comm, place g.post (posts_in m)) ∷ []) in
+      let b : length (requests q (g.post ∷ posts_made m)) ≡ length (requests p (posts_made m)) + 1 =
+      ap length (requests_own_now q is) ∙ length-append (requests p (posts_made m))
+      ((g.post.comm, place g.post (posts_made m)) ∷ []) in
       let c = stands.given p in omega (arith, a, b, c))
       (λ apart. ap length (asked_other q apart)
       ∙ (stands.given q ∙ sym (ap length (requests_still q apart))))
@@ -202,16 +203,17 @@ module _ (old new : HallView) (m : Effects) (g : Contribution Contents) (entered
 
   -- what is kept of a request that is open
   record IsKept (q r : ℕ) (f : Request) : Type 0 where
-    pub at : slice_get (requests q (g.post ∷ posts_in m)) r ≡ Some (instance_of f)
+    pub at : slice_get (requests q (g.post ∷ posts_made m)) r ≡ Some (instance_of f)
     pub settled : old.settled f.comm f.k ≡ settlement_in old.policy m f.comm f.k
 
   kept_new : (q r : ℕ) (f : Request) → q ≡ p → r ≡ length (old.asked p) → request ≡ f → IsKept q r f
   kept_new q r f is number same =
       let comm : f.comm ≡ g.post.comm = ap (λ (x : Request). x.comm) (sym same) in
-      let k : f.k ≡ place g.post (posts_in m) = ap (λ (x : Request). x.k) (sym same) ∙ kth in
+      let k : f.k ≡ place g.post (posts_made m) = ap (λ (x : Request). x.k) (sym same) ∙ kth in
       record {
-        at = (λ i. slice_get (requests (is i) (g.post ∷ posts_in m)) ((number ∙ stands.given p) i))
-            ∙ (request_new g.post (posts_in m) ∙ (λ i. Some (sym comm i, sym k i)));
+        at = (λ i. slice_get (requests (is i) (g.post ∷ posts_made m))
+            ((number ∙ stands.given p) i))
+            ∙ (request_new g.post (posts_made m) ∙ (λ i. Some (sym comm i, sym k i)));
         settled = (λ i. old.settled (comm i) (k i))
             ∙ (none
             ∙ (sym (none_before old.policy m g counts)
@@ -222,9 +224,9 @@ module _ (old new : HallView) (m : Effects) (g : Contribution Contents) (entered
   kept_old q r f e = record {
     at = ⊎_elim
         (λ is. ap (λ rs. slice_get rs r) (requests_own_now q is)
-        ∙ get_front (requests p (posts_in m)) ((g.post.comm, place g.post (posts_in m)) ∷ []) r
+        ∙ get_front (requests p (posts_made m)) ((g.post.comm, place g.post (posts_made m)) ∷ []) r
         (instance_of f)
-        (ap (λ n. slice_get (requests n (posts_in m)) r) (sym is) ∙ stands.waiting q r f e))
+        (ap (λ n. slice_get (requests n (posts_made m)) r) (sym is) ∙ stands.waiting q r f e))
         (λ apart. ap (λ rs. slice_get rs r) (requests_still q apart) ∙ stands.waiting q r f e)
         (same_or_not q p);
     settled = stands.settled q r f e;
@@ -253,6 +255,6 @@ module _ (old new : HallView) (m : Effects) (g : Contribution Contents) (entered
     book = recorded.book
         ∙ (ap (λ es. es ++ entries_of g.post.process g.post.comm g.post.stated entered) stands.book
         ∙ (booked old.policy m g counts entered tells
-        ∙ ap (λ (w : ChineseWall). book w (g.post ∷ posts_in m))
+        ∙ ap (λ (w : ChineseWall). book w (g.post ∷ posts_made m))
         (sym recorded.policy)));
   }

@@ -11,7 +11,7 @@ use Rattle.std.proofs.lemmas.Option.{slice_get_past, slice_get-get_or}
 use Rattle.std.proofs.lemmas.List.Sums.{sum_by-append}
 use Rattle.mpi_cart.specs.Grids.{below}
 use Rattle.run_model.specs.Runs.{Effects, requests}
-use Rattle.run_model.specs.Replies.{posts_in, open_requests, is_limit_reached, too_many}
+use Rattle.run_model.specs.Replies.{posts_made, open_requests, is_limit_reached, too_many}
 use Rattle.hall_core.specs.declared.requests.Request.{Request}
 use Rattle.hall_core.specs.Asking.{opened, taken_at, open_number, updated}
 use Rattle.hall_core.specs.Halls.{HallView, StandsForEffects}
@@ -138,11 +138,11 @@ module _ (hall : HallView) (m : Effects) (stands : StandsForEffects hall m) (p :
 
   -- a request that is not open is unknown, or taken
   pub unknown_or_taken : (r : ℕ) → opened (hall.asked p) r ≡ None →
-      (slice_get (requests p (posts_in m)) r ≡ None) ⊎ (m.taken p r ≡ true)
+      (slice_get (requests p (posts_made m)) r ≡ None) ⊎ (m.taken p r ≡ true)
   unknown_or_taken r e = ⊎_elim
       (λ (low : r < length (hall.asked p)). inr (sym (stands.taken p r)
       ∙ ap (λ o. option_map_or is_none o false)
       (slice_get-get_or (hall.asked p) r None low ∙ ap (λ o. Some o) e)))
-      (λ (past : length (hall.asked p) ≤ r). inl (slice_get_past (requests p (posts_in m)) r
+      (λ (past : length (hall.asked p) ≤ r). inl (slice_get_past (requests p (posts_made m)) r
       (let same = stands.given p in omega (arith, same, past))))
       (cases_lt r (length (hall.asked p)))

@@ -26,7 +26,7 @@ use Rattle.run_model.specs.declared.reply.Reply.TheVariants.{Posted, Barred, Pen
 use Rattle.run_model.specs.declared.reply.Reply.TheVariants.{NewComm, NullComm, Denied, NoRoom}
 use Rattle.run_model.specs.declared.reply.Reply.TheVariants.{Info, Refused}
 use Rattle.run_model.specs.Runs.{Effects, requests, MakesNothing, is_outcome, with_taken}
-use Rattle.run_model.specs.Replies.{posts_in, comm_at, reply_to_take, reply_by_outcome, reply_by}
+use Rattle.run_model.specs.Replies.{posts_made, comm_at, reply_to_take, reply_by_outcome, reply_by}
 use Rattle.run_model.specs.Replies.{join, joined, IsAnswer}
 use Rattle.run_model.proofs.RunModelLemmas.{request_member, after_nothing, after_outcome}
 use Rattle.run_model.proofs.RunModelLemmas.{comm_at_is}
@@ -67,7 +67,7 @@ module _ (hall : HallView) (m : Effects) (stands : StandsForEffects hall m) (p r
       reply_by hall.policy m p (Take r) ≡ Refused NoSuchRequest
   refused_due e = ⊎_elim
       (λ unknown. ap (λ q. reply_to_take hall.policy m p r q) unknown)
-      (λ flag. by_request flag (slice_get (requests p (posts_in m)) r))
+      (λ flag. by_request flag (slice_get (requests p (posts_made m)) r))
       (unknown_or_taken hall m stands p r e)
     where
       by_request : m.taken p r ≡ true → (o : Option (ℕ × ℕ)) →
@@ -75,17 +75,17 @@ module _ (hall : HallView) (m : Effects) (stands : StandsForEffects hall m) (p r
       by_request flag None = refl
       by_request flag (Some ck) = cond-true (m.taken p r) (Refused NoSuchRequest)
           (reply_by_outcome p
-          (full_at (comm_at hall.policy (posts_in m) ck.0) ck.0 ck.1 m.contributions)
-          (outcome_at hall.policy ck.0 ck.1 (posts_in m))) flag
+          (full_at (comm_at hall.policy (posts_made m) ck.0) ck.0 ck.1 m.contributions)
+          (outcome_at hall.policy ck.0 ck.1 (posts_made m))) flag
 
   module _ (q : Request) (waits : opened (hall.asked p) r ≡ Some q) where
-    pub open_at : slice_get (requests p (posts_in m)) r ≡ Some (q.comm, q.k)
+    pub open_at : slice_get (requests p (posts_made m)) r ≡ Some (q.comm, q.k)
     open_at = stands.waiting p r q waits
 
     pub open_due : reply_by hall.policy m p (Take r)
         ≡ reply_by_outcome p
-        (full_at (comm_at hall.policy (posts_in m) q.comm) q.comm q.k m.contributions)
-        (outcome_at hall.policy q.comm q.k (posts_in m))
+        (full_at (comm_at hall.policy (posts_made m) q.comm) q.comm q.k m.contributions)
+        (outcome_at hall.policy q.comm q.k (posts_made m))
     open_due =
         ap (λ ck. reply_to_take hall.policy m p r ck) open_at
         ∙ cond-false (m.taken p r) (Refused NoSuchRequest) _ (not_taken hall m stands p r q waits)
@@ -93,32 +93,32 @@ module _ (hall : HallView) (m : Effects) (stands : StandsForEffects hall m) (p r
     pub pending_due : hall.settled q.comm q.k ≡ None → reply_by hall.policy m p (Take r) ≡ Pending
     pending_due none = open_due
         ∙ ap (λ o. reply_by_outcome p
-        (full_at (comm_at hall.policy (posts_in m) q.comm) q.comm q.k m.contributions) o)
-        (unsettled (outcome_at hall.policy q.comm q.k (posts_in m))
+        (full_at (comm_at hall.policy (posts_made m) q.comm) q.comm q.k m.contributions) o)
+        (unsettled (outcome_at hall.policy q.comm q.k (posts_made m))
         (sym (stands.settled p r q waits) ∙ none))
       where
         unsettled : (o : Option Outcome) →
-            option_map (settlement (full_at (comm_at hall.policy (posts_in m) q.comm) q.comm q.k
+            option_map (settlement (full_at (comm_at hall.policy (posts_made m) q.comm) q.comm q.k
             m.contributions)) o ≡ None → o ≡ None
         unsettled None e = refl
         unsettled (Some o) e = absurd (cc)
 
 -- what is kept of an instance that was filled
 pub record IsKnownAs (wall : ChineseWall) (m : Effects) (c k : ℕ) (s : Settlement) : Type 0 where
-  pub came : outcome_at wall c k (posts_in m) ≡ Some s.outcome
-  pub full : full_at (comm_at wall (posts_in m) c) c k m.contributions ≡ s.full
+  pub came : outcome_at wall c k (posts_made m) ≡ Some s.outcome
+  pub full : full_at (comm_at wall (posts_made m) c) c k m.contributions ≡ s.full
 
 settled_as : (wall : ChineseWall) (m : Effects) (c k : ℕ) (s : Settlement) →
     settlement_in wall m c k ≡ Some s → IsKnownAs wall m c k s
-settled_as wall m c k s e = go (outcome_at wall c k (posts_in m)) refl e
+settled_as wall m c k s e = go (outcome_at wall c k (posts_made m)) refl e
   where
-    go : (o : Option Outcome) → outcome_at wall c k (posts_in m) ≡ o →
-        option_map (settlement (full_at (comm_at wall (posts_in m) c) c k m.contributions)) o
+    go : (o : Option Outcome) → outcome_at wall c k (posts_made m) ≡ o →
+        option_map (settlement (full_at (comm_at wall (posts_made m) c) c k m.contributions)) o
         ≡ Some s → IsKnownAs wall m c k s
     go None is e = absurd (cc)
     go (Some o) is e =
-        let same : settlement (full_at (comm_at wall (posts_in m) c) c k m.contributions) o ≡ s = cc
-        in
+        let same : settlement (full_at (comm_at wall (posts_made m) c) c k m.contributions) o ≡ s =
+        cc in
         record {
           came = is ∙ ap (λ (t : Settlement). Some t.outcome) same;
           full = ap (λ (t : Settlement). t.full) same;
@@ -155,11 +155,11 @@ module _ (old new : HallView) (m : Effects) (stands : StandsForEffects old m) (p
   other : (n : ℕ) → n ≢ p → new.asked n ≡ old.asked n
   other n apart = now n ∙ updated_other old.asked p n list apart
 
-  given_now : (n : ℕ) → length (new.asked n) ≡ length (requests n (posts_in m))
+  given_now : (n : ℕ) → length (new.asked n) ≡ length (requests n (posts_made m))
   given_now n = ⊎_elim
       (λ is. ap length (own n is)
       ∙ (length-set (old.asked p) r None
-      ∙ (stands.given p ∙ ap (λ j. length (requests j (posts_in m))) (sym is))))
+      ∙ (stands.given p ∙ ap (λ j. length (requests j (posts_made m))) (sym is))))
       (λ apart. ap length (other n apart) ∙ stands.given n)
       (same_or_not n p)
 
@@ -197,7 +197,7 @@ module _ (old new : HallView) (m : Effects) (stands : StandsForEffects old m) (p
         ∙ (stands.settled n s f (waited n s f e)
         ∙ ap (λ (w : ChineseWall). settlement_in w m f.comm f.k) (sym closes.policy));
     book = closes.book
-        ∙ (stands.book ∙ ap (λ (w : ChineseWall). book w (posts_in m)) (sym closes.policy));
+        ∙ (stands.book ∙ ap (λ (w : ChineseWall). book w (posts_made m)) (sym closes.policy));
   }
 
 join_is : (first : ℕ) (comm : Comm) (o : Option ℕ) (others : Reply) → is_outcome others ≡ true →
@@ -259,11 +259,11 @@ pub rank_there : (hall : HallView) → IsHallView hall → (p r : ℕ) (q : Requ
     rank_in s.full.roll.members p ≢ None
 rank_there hall is p r q s waits e none =
     let known = known_as hall is.effects is.stands p r q s waits e in
-    let member = request_member hall.policy (posts_in is.effects) p r (q.comm, q.k)
+    let member = request_member hall.policy (posts_made is.effects) p r (q.comm, q.k)
     is.is_made.proper.posts (open_at hall is.effects is.stands p r q waits) in
     let same : s.full.roll.members ≡ member.comm.members = ap
     (λ (f : Full Contents). f.roll.members) (sym known.full) ∙ ap (λ (n : Comm). n.members)
-    (comm_at_is hall.policy (posts_in is.effects) q.comm member.comm member.at) in
+    (comm_at_is hall.policy (posts_made is.effects) q.comm member.comm member.at) in
     let both : Some member.rank ≡ None = sym member.is_member ∙
     (ap (λ ms. rank_in ms p) (sym same) ∙ none) in
     absurd (cc)

@@ -20,7 +20,7 @@ use Rattle.run_model.specs.Posts.{Post, comms, outcome_of, constructor_outcome, 
 use Rattle.run_model.specs.Posts.{labelled, histories, instance, kth_posts, is_full, roll_by}
 use Rattle.run_model.proofs.RunModelLemmas.{filled_is, comms_stay, comm_stays, IsSettled}
 use Rattle.run_model.proofs.RunModelLemmas.{settled_from, kth_later, comm_at_is, granted_whole}
-use Rattle.run_model.specs.Replies.{posts_in, comm_at}
+use Rattle.run_model.specs.Replies.{posts_made, comm_at}
 use Rattle.hall_core.specs.declared.requests.Request.{Request}
 use Rattle.hall_core.specs.declared.settled.Settlement.{Settlement}
 use Rattle.hall_core.specs.Asking.{opened}
@@ -138,15 +138,15 @@ tellable hall is p r q s waits e =
     let row : (first number : ℕ) → s.outcome ≡ MadeComms first number → AreThere
     hall.post_state.comms first number (new_comms s.full.roll) =
     (λ first number o.
-    let h = settled_from hall.policy c k (posts_in is.effects) (MadeComms first number)
+    let h = settled_from hall.policy c k (posts_made is.effects) (MadeComms first number)
     (known.came ∙ ap (λ x. Some x) o) in
     let roll : h.roll ≡ s.full.roll = sym
-    (roll_now hall.policy (posts_in is.effects) c k (MadeComms first number) h) ∙ ap
+    (roll_now hall.policy (posts_made is.effects) c k (MadeComms first number) h) ∙ ap
     (λ (f : Full Contents). f.roll) known.full in
     subst (λ (r : Roll). AreThere hall.post_state.comms first number (new_comms r)) roll
     (subst (λ (t : List Comm). AreThere t first number (new_comms h.roll))
     (sym is.stands.post_state.comms)
-    (made_there hall.policy (posts_in is.effects) c k first number h))) in
+    (made_there hall.policy (posts_made is.effects) c k first number h))) in
     record {
       whole = λ granted. subst IsWhole known.full (granted_whole hall.policy
           is.effects.contributions c k is.policy proper.posts proper.parts

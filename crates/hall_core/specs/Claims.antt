@@ -20,7 +20,7 @@ use Rattle.run_model.specs.declared.reply.Reply.TheVariants.{NewComm, NullComm, 
 use Rattle.run_model.specs.declared.reply.Reply.TheVariants.{Info, Refused}
 use Rattle.run_model.specs.Runs.{Entry, Effects, effects, requests, entry}
 use Rattle.run_model.specs.Buffers.{SameInstanceButForRoom}
-use Rattle.run_model.specs.Replies.{posts_in, comm_at}
+use Rattle.run_model.specs.Replies.{posts_made, comm_at}
 use Rattle.hall_core.specs.declared.claims.Claim.{Claim}
 use Rattle.hall_core.specs.declared.claims.Claim.TheVariants.{Done, Ready}
 use Rattle.hall_core.specs.declared.requests.Request.{Request}
@@ -72,10 +72,10 @@ pub record IsClaimed (wall : ChineseWall) (effects : Effects) (p request : ℕ) 
     (rank : ℕ) : Type 0 where
   pub comm : ℕ
   pub k : ℕ
-  pub asked : slice_get (requests p (posts_in effects)) request ≡ Some (comm, k)
-  pub granted : outcome_at wall comm k (posts_in effects) ≡ Some Granted
+  pub asked : slice_get (requests p (posts_made effects)) request ≡ Some (comm, k)
+  pub granted : outcome_at wall comm k (posts_made effects) ≡ Some Granted
   pub is_full : SameInstanceButForRoom full
-      (full_at (comm_at wall (posts_in effects) comm) comm k effects.contributions)
+      (full_at (comm_at wall (posts_made effects) comm) comm k effects.contributions)
   pub is_member : rank_in full.roll.members p ≡ Some rank
 
 -- A claim of p for its request is ready, and holds the instance as the run has it and p's rank in

@@ -14,7 +14,7 @@ use Rattle.run_state.specs.Views.{PostStateView, PostStateValue, view_of as seen
 use Rattle.run_state.specs.Stands.{StandsForPosts}
 use Rattle.run_model.specs.Runs.{Entry, Effects, effects, requests}
 use Rattle.run_model.specs.Buffers.{SameButForRoom}
-use Rattle.run_model.specs.Replies.{posts_in, comm_at}
+use Rattle.run_model.specs.Replies.{posts_made, comm_at}
 use Rattle.hall_core.specs.declared.requests.Request.{Request}
 use Rattle.hall_core.specs.declared.settled.Settlement.{Settlement}
 use Rattle.hall_core.specs.Asking.{Asked, opened, taken_at, requests_of}
@@ -60,8 +60,8 @@ settlement full outcome = record { full = full; outcome = outcome }
 -- instance (c, k) with the elements that its members brought, and its outcome, once it was filled
 abbrev pub settlement_in : ChineseWall → Effects → (c k : ℕ) → Option Settlement
 settlement_in wall effects c k = option_map
-    (settlement (full_at (comm_at wall (posts_in effects) c) c k effects.contributions))
-    (outcome_at wall c k (posts_in effects))
+    (settlement (full_at (comm_at wall (posts_made effects) c) c k effects.contributions))
+    (outcome_at wall c k (posts_made effects))
 
 -- A hall stands for what a run has made: its state for the counted posts with their elements; each
 -- process has as many requests as it was given, of which those are marked that were taken; of each
@@ -70,13 +70,13 @@ settlement_in wall effects c k = option_map
 -- nothing is asked.
 pub record StandsForEffects (hall : HallView) (effects : Effects) : Type 0 where
   pub post_state : StandsForPosts hall.policy hall.post_state effects.contributions
-  pub given : (p : ℕ) → length (hall.asked p) ≡ length (requests p (posts_in effects))
+  pub given : (p : ℕ) → length (hall.asked p) ≡ length (requests p (posts_made effects))
   pub taken : (p request : ℕ) → taken_at (hall.asked p) request ≡ effects.taken p request
   pub waiting : (p request : ℕ) (r : Request) → opened (hall.asked p) request ≡ Some r →
-      slice_get (requests p (posts_in effects)) request ≡ Some (instance_of r)
+      slice_get (requests p (posts_made effects)) request ≡ Some (instance_of r)
   pub settled : (p request : ℕ) (r : Request) → opened (hall.asked p) request ≡ Some r →
       hall.settled r.comm r.k ≡ settlement_in hall.policy effects r.comm r.k
-  pub book : hall.book ≡ book hall.policy (posts_in effects)
+  pub book : hall.book ≡ book hall.policy (posts_made effects)
 
 -- A hall stands for a run if what it keeps is what the run has made, but that its buffers may have
 -- other room: the type and the numbers of each are the run's. Room is no part of what was posted,

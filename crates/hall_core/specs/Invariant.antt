@@ -3,7 +3,7 @@ use Rattle.std.specs.Prelude.{◌≡◌, []}
 use Rattle.wall_policy.specs.Policy.{ChineseWall, IsPolicy}
 use Rattle.run_model.specs.Runs.{Effects}
 use Rattle.run_model.specs.Proper.{IsProper}
-use Rattle.run_model.specs.Replies.{posts_in}
+use Rattle.run_model.specs.Replies.{posts_made}
 use Rattle.hall_core.specs.declared.records.Records.{Records}
 use Rattle.hall_core.specs.Halls.{HallValue, HallView, StandsForEffects, view_of}
 use Rattle.run_model.specs.Known.{PostsHaveKnownLabels}
@@ -12,7 +12,7 @@ use Rattle.run_model.specs.Known.{PostsHaveKnownLabels}
 -- has
 pub record IsMade (wall : ChineseWall) (effects : Effects) : Type 0 where
   pub proper : IsProper wall effects
-  pub labels : PostsHaveKnownLabels wall (posts_in effects)
+  pub labels : PostsHaveKnownLabels wall (posts_made effects)
 
 -- the policy is one, and the hall stands for something
 pub record IsHallView (hall : HallView) : Type 0 where

@@ -20,7 +20,7 @@ use Rattle.run_model.specs.declared.call.Act.TheVariants.{Take}
 use Rattle.run_model.specs.declared.reply.Reply.{Reply}
 use Rattle.run_model.specs.declared.reply.Reply.TheVariants.{Refused}
 use Rattle.run_model.specs.Runs.{after_entry, with_contribution, Effects, MakesNothing}
-use Rattle.run_model.specs.Replies.{info_on, reply_by, reply_by_outcome, IsAnswer, posts_in}
+use Rattle.run_model.specs.Replies.{info_on, reply_by, reply_by_outcome, IsAnswer, posts_made}
 use Rattle.hall_core.specs.declared.claims.Claim.{Claim}
 use Rattle.hall_core.specs.declared.claims.Claim.TheVariants.{Done, Ready}
 use Rattle.hall_core.specs.declared.looks.Due.{Due}
@@ -84,7 +84,7 @@ pub record HasRoom (records : Records) (p c k : ℕ) : Type 0 where
 -- a post with its part has been counted, whatever the hall stood for
 abbrev pub Counts : (old new : HallView) → Contribution Contents → Type 0
 Counts old new g = (m : Effects) → StandsForEffects old m →
-    IsCounted old.policy g.post (posts_in m) → StandsForEffects new (with_contribution m g)
+    IsCounted old.policy g.post (posts_made m) → StandsForEffects new (with_contribution m g)
 
 -- ## takes
 

@@ -29,7 +29,7 @@ use Rattle.run_model.specs.declared.call.Act.TheVariants.{Post as ToPost, Take, 
 use Rattle.run_model.specs.declared.reply.Reply.TheVariants.{Delivered, Refused}
 use Rattle.run_model.specs.Runs.{Entry, Effects, contribution_in, requests, is_outcome, takes}
 use Rattle.run_model.specs.Runs.{after_entry}
-use Rattle.run_model.specs.Replies.{posts_in, joined, reply_by_outcome, comm_at, reply_to_take}
+use Rattle.run_model.specs.Replies.{posts_made, joined, reply_by_outcome, comm_at, reply_to_take}
 use Rattle.run_model.specs.Replies.{reply_by}
 use Rattle.run_model.specs.Proper.{AreAsStated, IsProper}
 use Rattle.run_model.specs.Buffers.{bare, bare_contribution, SameInstanceButForRoom}
@@ -141,17 +141,17 @@ own_posting posting = record {
 }
 
 module _ (wall : ChineseWall) (m n : Effects) (same : SameButForRoom m n) where
-  pub posts_but_for_room : posts_in m ≡ posts_in n
+  pub posts_but_for_room : posts_made m ≡ posts_made n
   posts_but_for_room = same_posts without_room m.contributions n.contributions same.contributions
 
   pub instance_but_for_room : (c k : ℕ) → SameInstanceButForRoom
-      (full_at (comm_at wall (posts_in m) c) c k m.contributions)
-      (full_at (comm_at wall (posts_in n) c) c k n.contributions)
+      (full_at (comm_at wall (posts_made m) c) c k m.contributions)
+      (full_at (comm_at wall (posts_made n) c) c k n.contributions)
   instance_but_for_room c k =
       subst (λ (past : List Post). SameInstanceButForRoom
-      (full_at (comm_at wall (posts_in m) c) c k m.contributions)
+      (full_at (comm_at wall (posts_made m) c) c k m.contributions)
       (full_at (comm_at wall past c) c k n.contributions)) posts_but_for_room
-      (same_instance (comm_at wall (posts_in m) c) c k m.contributions n.contributions
+      (same_instance (comm_at wall (posts_made m) c) c k m.contributions n.contributions
       same.contributions)
 
   look_the_same : LookTheSame as_elements m n
@@ -162,16 +162,17 @@ module _ (wall : ChineseWall) (m n : Effects) (same : SameButForRoom m n) where
   }
 
   instance_told : (p c k : ℕ) →
-      reply_by_outcome p (full_at (comm_at wall (posts_in m) c) c k m.contributions)
-      (outcome_at wall c k (posts_in m))
-      ≡ reply_by_outcome p (full_at (comm_at wall (posts_in n) c) c k n.contributions)
-      (outcome_at wall c k (posts_in n))
+      reply_by_outcome p (full_at (comm_at wall (posts_made m) c) c k m.contributions)
+      (outcome_at wall c k (posts_made m))
+      ≡ reply_by_outcome p (full_at (comm_at wall (posts_made n) c) c k n.contributions)
+      (outcome_at wall c k (posts_made n))
   instance_told p c k =
-      same_told p (full_at (comm_at wall (posts_in m) c) c k m.contributions)
-      (full_at (comm_at wall (posts_in n) c) c k n.contributions) (outcome_at wall c k (posts_in m))
+      same_told p (full_at (comm_at wall (posts_made m) c) c k m.contributions)
+      (full_at (comm_at wall (posts_made n) c) c k n.contributions)
+      (outcome_at wall c k (posts_made m))
       (instance_but_for_room c k)
       ∙ ap
-      (λ past. reply_by_outcome p (full_at (comm_at wall (posts_in n) c) c k n.contributions)
+      (λ past. reply_by_outcome p (full_at (comm_at wall (posts_made n) c) c k n.contributions)
       (outcome_at wall c k past)) posts_but_for_room
 
   request_told : (p r : ℕ) (o : Option (ℕ × ℕ)) →
@@ -185,7 +186,7 @@ module _ (wall : ChineseWall) (m n : Effects) (same : SameButForRoom m n) where
   reply_but_for_room p (ToPost posting) =
       posts_told as_elements wall m n look_the_same p posting posting (own_posting posting)
   reply_but_for_room p (Take r) =
-      request_told p r (slice_get (requests p (posts_in m)) r)
+      request_told p r (slice_get (requests p (posts_made m)) r)
       ∙ ap (λ past. reply_to_take wall n p r (slice_get (requests p past) r)) posts_but_for_room
   reply_but_for_room p (ToInfo c) = infos_told as_elements wall m n look_the_same p c
 

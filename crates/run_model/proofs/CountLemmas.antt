@@ -39,7 +39,7 @@ use Rattle.run_model.specs.declared.reply.Reply.TheVariants.{Info, Refused}
 use Rattle.run_model.specs.Contributions.{posts_of}
 use Rattle.run_model.specs.Runs.{Entry, Effects, effects, posts, contributions, contribution_by}
 use Rattle.run_model.specs.Runs.{counted, given_in, label_in, statement}
-use Rattle.run_model.specs.Replies.{posts_in, refusal, reply_to_post, reply_by, reply, IsAnswer}
+use Rattle.run_model.specs.Replies.{posts_made, refusal, reply_to_post, reply_by, reply, IsAnswer}
 use Rattle.run_model.specs.RunLaws.{LegalPostsCount}
 
 -- ## a statement is of its own type
@@ -134,11 +134,11 @@ first_none None m h = refl
 
 pub taken : (wall : ChineseWall) (m : Effects) (p : ℕ) (posting : Posting) (barred : Bool) →
     refusal wall m p posting ≡ None →
-    barred ≡ not (star (histories wall (posts_in m)) p (label_in posting)) →
+    barred ≡ not (star (histories wall (posts_made m)) p (label_in posting)) →
     IsCounted wall (record { process = p; comm = posting.comm; stated = statement posting barred })
-    (posts_in m)
+    (posts_made m)
 taken wall m p posting barred free word = record {
-  accepted = fault_spared wall (posts_in m) p posting.comm posting.sig posting.own
+  accepted = fault_spared wall (posts_made m) p posting.comm posting.sig posting.own
       posting.elements.elem_type (given_in posting) (first_none _ _ free);
   label = labelled (given_in posting == 0) posting.label;
   word = word;
@@ -147,27 +147,27 @@ taken wall m p posting barred free word = record {
 pub posted_taken :
     (wall : ChineseWall) (m : Effects) (p r : ℕ) (posting : Posting) (o : Option Refusal) →
     Posted r ≡ reply_to_post wall m p posting o →
-    (o ≡ None) × (star (histories wall (posts_in m)) p (label_in posting) ≡ true)
+    (o ≡ None) × (star (histories wall (posts_made m)) p (label_in posting) ≡ true)
 posted_taken wall m p r posting (Some f) e = absurd (cc)
 posted_taken wall m p r posting None e = (
   refl,
   ⊎_elim (λ t. t)
-      (λ f. let barred = e ∙ cond-false (star (histories wall (posts_in m)) p (label_in posting))
+      (λ f. let barred = e ∙ cond-false (star (histories wall (posts_made m)) p (label_in posting))
       (Posted _) (Barred _ posting.label) f in absurd (cc))
-      (cases_Bool (star (histories wall (posts_in m)) p (label_in posting))),
+      (cases_Bool (star (histories wall (posts_made m)) p (label_in posting))),
 )
 
 pub barred_taken : (wall : ChineseWall) (m : Effects) (p r : ℕ) (label : Label) (posting : Posting)
     (o : Option Refusal) → Barred r label ≡ reply_to_post wall m p posting o →
-    (o ≡ None) × (star (histories wall (posts_in m)) p (label_in posting) ≡ false)
+    (o ≡ None) × (star (histories wall (posts_made m)) p (label_in posting) ≡ false)
 barred_taken wall m p r label posting (Some f) e = absurd (cc)
 barred_taken wall m p r label posting None e = (
   refl,
   ⊎_elim
-      (λ t. let posted = e ∙ cond-true (star (histories wall (posts_in m)) p (label_in posting))
+      (λ t. let posted = e ∙ cond-true (star (histories wall (posts_made m)) p (label_in posting))
       (Posted _) (Barred _ posting.label) t in absurd (cc))
       (λ f. f)
-      (cases_Bool (star (histories wall (posts_in m)) p (label_in posting))),
+      (cases_Bool (star (histories wall (posts_made m)) p (label_in posting))),
 )
 
 -- ## one entry more

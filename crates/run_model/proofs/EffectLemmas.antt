@@ -23,7 +23,7 @@ use Rattle.run_model.specs.declared.reply.Reply.TheVariants.{Info, Refused}
 use Rattle.run_model.specs.Runs.{Entry, Effects, effects, contribution_by, counted, statement, kept}
 use Rattle.run_model.specs.Runs.{requests, is_outcome, MakesNothing, takes, with_contribution}
 use Rattle.run_model.specs.Runs.{with_taken, after_entry}
-use Rattle.run_model.specs.Replies.{posts_in, open_requests, is_limit_reached, too_many}
+use Rattle.run_model.specs.Replies.{posts_made, open_requests, is_limit_reached, too_many}
 use Rattle.run_model.proofs.RequestLemmas.{requests_other, length_own}
 
 -- ## entries
@@ -210,13 +210,13 @@ count_less f g (suc n) r h held gone same = ⊎_elim
 
 -- a post makes one more of its poster's, if no request was taken before it was given
 pub open_own : (m : Effects) (g : Contribution Contents) →
-    m.taken g.post.process (length (requests g.post.process (posts_in m))) ≡ false →
+    m.taken g.post.process (length (requests g.post.process (posts_made m))) ≡ false →
     open_requests g.post.process (with_contribution m g) ≡ open_requests g.post.process m + 1
 open_own m g untaken =
     let p = g.post.process in
-    let n = length (requests p (posts_in m)) in
-    let long : length (requests p (posts_in (with_contribution m g))) ≡ suc n =
-    (let e = length_own g.post (posts_in m) in omega (arith, e)) in
+    let n = length (requests p (posts_made m)) in
+    let long : length (requests p (posts_made (with_contribution m g))) ≡ suc n =
+    (let e = length_own g.post (posts_made m) in omega (arith, e)) in
     let one : cond {A = ℕ} (not (m.taken p n)) 1 0 ≡ 1 = ap (λ b. cond {A = ℕ} (not b) 1 0) untaken
     in
     ap (λ k. count_by (λ r. not (m.taken p r)) (below k)) long
@@ -226,13 +226,13 @@ pub open_other : (m : Effects) (g : Contribution Contents) (p : ℕ) → g.post.
     open_requests p (with_contribution m g) ≡ open_requests p m
 open_other m g p apart = ap
     (λ (rs : List (ℕ × ℕ)). count_by (λ r. not (m.taken p r)) (below (length rs)))
-    (requests_other p g.post (posts_in m) apart)
+    (requests_other p g.post (posts_made m) apart)
 
 -- an outcome that is taken makes one fewer
-pub open_taken : (m : Effects) (p r : ℕ) → r < length (requests p (posts_in m)) →
+pub open_taken : (m : Effects) (p r : ℕ) → r < length (requests p (posts_made m)) →
     m.taken p r ≡ false → open_requests p m ≡ open_requests p (with_taken m p r) + 1
 open_taken m p r low untaken = count_less (λ s. not (m.taken p s))
-    (λ s. not (p == p && r == s || m.taken p s)) (length (requests p (posts_in m))) r low
+    (λ s. not (p == p && r == s || m.taken p s)) (length (requests p (posts_made m))) r low
     (ap not untaken)
     (ap (λ b. not (b || m.taken p r))
     (and_from (p == p) (r == r) (eq-eqb p p refl) (eq-eqb r r refl)))
@@ -242,7 +242,7 @@ open_taken m p r low untaken = count_less (λ s. not (m.taken p s))
 pub open_taken_other : (m : Effects) (p q r : ℕ) → p ≢ q →
     open_requests q (with_taken m p r) ≡ open_requests q m
 open_taken_other m p q r apart = count_same (λ s. not (p == q && r == s || m.taken q s))
-    (λ s. not (m.taken q s)) (length (requests q (posts_in m)))
+    (λ s. not (m.taken q s)) (length (requests q (posts_made m)))
     (λ i low. ap (λ b. not (b || m.taken q i)) (and_left (p == q) (r == i) (ne_eqb p q apart)))
 
 -- which requests are taken
@@ -263,5 +263,5 @@ taken_still m e p r h =
 
 -- whether a process has too many, by how many wait and how many were given
 pub too_many_is : (m : Effects) (p waiting number : ℕ) → waiting ≡ open_requests p m →
-    number ≡ length (requests p (posts_in m)) → is_limit_reached waiting number ≡ too_many p m
+    number ≡ length (requests p (posts_made m)) → is_limit_reached waiting number ≡ too_many p m
 too_many_is m p waiting number w n = λ i. is_limit_reached (w i) (n i)

@@ -3,7 +3,7 @@ use Rattle.std.proofs.Common.{◌≡◌, List, [], ◌∷◌, ◌++◌, sym, ap,
 use Rattle.std.specs.List.{cons_option}
 use Rattle.wall_policy.specs.Policy.{ChineseWall}
 use Rattle.run_model.specs.Posts.{comms, histories, outcome_at}
-use Rattle.run_model.specs.Books.{book, posts_in as posts_in_book}
+use Rattle.run_model.specs.Books.{book, posts_in}
 use Rattle.run_model.proofs.BookLemmas.{posts_in-book}
 use Rattle.run_model.specs.Contributions.{posts_of}
 use Rattle.run_model.specs.Runs.{Entry, Effects, effects, posts, contributions, contribution_by}
@@ -27,7 +27,7 @@ pub books_decide : laws.BooksDecide
 books_decide wall run other same =
     alike wall run other
     (sym (posts_in-book wall (posts run))
-    ∙ (ap posts_in_book same ∙ posts_in-book wall (posts other)))
+    ∙ (ap posts_in same ∙ posts_in-book wall (posts other)))
 
 -- ## an entry that counts no post
 

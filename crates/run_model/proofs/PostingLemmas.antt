@@ -19,7 +19,7 @@ use Rattle.run_model.specs.declared.call.Posting.{Posting}
 use Rattle.run_model.specs.declared.call.Act.TheVariants.{Post as ToPost}
 use Rattle.run_model.specs.declared.reply.Reply.TheVariants.{Posted, Barred, Refused}
 use Rattle.run_model.specs.Runs.{Effects, given_in, label_in, requests, with_contribution}
-use Rattle.run_model.specs.Replies.{posts_in, open_requests, too_many, refusal, reply_to_post}
+use Rattle.run_model.specs.Replies.{posts_made, open_requests, too_many, refusal, reply_to_post}
 use Rattle.run_model.specs.Replies.{reply_by}
 
 -- ## refusals
@@ -27,7 +27,7 @@ use Rattle.run_model.specs.Replies.{reply_by}
 module _ (wall : ChineseWall) (m : Effects) (p : ℕ) (posting : Posting) where
   -- the refusals that posts alone decide
   abbrev pub own_fault : Option Refusal
-  own_fault = fault wall (posts_in m) p posting.comm posting.sig posting.own
+  own_fault = fault wall (posts_made m) p posting.comm posting.sig posting.own
       posting.elements.elem_type (given_in posting)
 
   pub refusal_fault : (why : Refusal) → own_fault ≡ Some why → refusal wall m p posting ≡ Some why
@@ -49,33 +49,33 @@ module _ (wall : ChineseWall) (m : Effects) (p : ℕ) (posting : Posting) where
   reply_refused why e = ap (λ o. reply_to_post wall m p posting o) e
 
   pub reply_passed : refusal wall m p posting ≡ None →
-      star (histories wall (posts_in m)) p (label_in posting) ≡ true →
-      reply_by wall m p (ToPost posting) ≡ Posted (length (requests p (posts_in m)))
+      star (histories wall (posts_made m)) p (label_in posting) ≡ true →
+      reply_by wall m p (ToPost posting) ≡ Posted (length (requests p (posts_made m)))
   reply_passed e t =
       ap (λ o. reply_to_post wall m p posting o) e
-      ∙ cond-true (star (histories wall (posts_in m)) p (label_in posting))
-      (Posted (length (requests p (posts_in m))))
-      (Barred (length (requests p (posts_in m))) posting.label) t
+      ∙ cond-true (star (histories wall (posts_made m)) p (label_in posting))
+      (Posted (length (requests p (posts_made m))))
+      (Barred (length (requests p (posts_made m))) posting.label) t
 
   pub reply_barred : refusal wall m p posting ≡ None →
-      star (histories wall (posts_in m)) p (label_in posting) ≡ false →
-      reply_by wall m p (ToPost posting) ≡ Barred (length (requests p (posts_in m))) posting.label
+      star (histories wall (posts_made m)) p (label_in posting) ≡ false →
+      reply_by wall m p (ToPost posting) ≡ Barred (length (requests p (posts_made m))) posting.label
   reply_barred e f =
       ap (λ o. reply_to_post wall m p posting o) e
-      ∙ cond-false (star (histories wall (posts_in m)) p (label_in posting))
-      (Posted (length (requests p (posts_in m))))
-      (Barred (length (requests p (posts_in m))) posting.label) f
+      ∙ cond-false (star (histories wall (posts_made m)) p (label_in posting))
+      (Posted (length (requests p (posts_made m))))
+      (Barred (length (requests p (posts_made m))) posting.label) f
 
 -- ## numbers
 
 -- who may post has fewer requests than the limits
 pub few_requests : (m : Effects) (p : ℕ) → too_many p m ≡ false →
-    (open_requests p m < 256) × (length (requests p (posts_in m)) < 2 ^ 62)
+    (open_requests p m < 256) × (length (requests p (posts_made m)) < 2 ^ 62)
 few_requests m p f =
     let parts = or_parts (nat_le 256 (open_requests p m))
-    (nat_le (2 ^ 62) (length (requests p (posts_in m)))) f in (
+    (nat_le (2 ^ 62) (length (requests p (posts_made m)))) f in (
       leb-false 256 (open_requests p m) parts.0,
-      leb-false (2 ^ 62) (length (requests p (posts_in m))) parts.1,
+      leb-false (2 ^ 62) (length (requests p (posts_made m))) parts.1,
     )
 
 length_snoc : {X : Type 0} (xs : List X) (x : X) → length (xs ++ x ∷ []) ≡ length xs + 1
@@ -116,6 +116,6 @@ posts_within c p (x ∷ past) = ⊎_elim
 -- a communicator keeps its number, its group and its grid
 pub comm_kept :
     (wall : ChineseWall) (m : Effects) (g : Contribution Contents) (c : ℕ) (comm : Comm) →
-    slice_get (comms wall (posts_in m)) c ≡ Some comm →
-    slice_get (comms wall (posts_in (with_contribution m g))) c ≡ Some comm
-comm_kept wall m g c comm at = comm_stays wall (g.post ∷ []) (posts_in m) c comm at
+    slice_get (comms wall (posts_made m)) c ≡ Some comm →
+    slice_get (comms wall (posts_made (with_contribution m g))) c ≡ Some comm
+comm_kept wall m g c comm at = comm_stays wall (g.post ∷ []) (posts_made m) c comm at

@@ -29,7 +29,7 @@ use Rattle.run_model.specs.declared.reply.Reply.TheVariants.{NewComm, NullComm, 
 use Rattle.run_model.specs.declared.reply.Reply.TheVariants.{Info, Refused}
 use Rattle.run_model.specs.Runs.{Entry, Effects, effects, given_in, statement, requests, is_outcome}
 use Rattle.run_model.specs.Runs.{with_contribution, with_taken, after_entry}
-use Rattle.run_model.specs.Replies.{posts_in, refusal, reply_to_take, reply_by, reply, IsAnswer}
+use Rattle.run_model.specs.Replies.{posts_made, refusal, reply_to_take, reply_by, reply, IsAnswer}
 use Rattle.run_model.specs.Replies.{Legal}
 use Rattle.run_model.specs.Proper.{IsAsStated, IsProper}
 use Rattle.run_model.proofs.CountLemmas.{taken, posted_taken, barred_taken, first_none}
@@ -65,7 +65,7 @@ type_fits shape rank sig own ty given h = not_not (is_of_type (elem_type sig) ty
 pub brings : (wall : ChineseWall) (m : Effects) (p : ℕ) (posting : Posting) →
     refusal wall m p posting ≡ None → IsAsStated (statement posting false) posting.elements
 brings wall m p posting free =
-    let is = accepted wall (posts_in m) p posting.comm posting.sig posting.own
+    let is = accepted wall (posts_made m) p posting.comm posting.sig posting.own
     posting.elements.elem_type (given_in posting) (first_none _ _ free) in
     let none = no_fault_has (shape_of is.comm) is.rank posting.sig posting.own
     posting.elements.elem_type (given_in posting) is.fits in
@@ -79,18 +79,18 @@ brings wall m p posting free =
 -- ## one step
 
 pub proper_given : (wall : ChineseWall) (m : Effects) (g : Contribution Contents) →
-    IsProper wall m → IsCounted wall g.post (posts_in m) →
+    IsProper wall m → IsCounted wall g.post (posts_made m) →
     (g.post.stated.barred ≡ false → IsAsStated g.post.stated g.part) →
     IsProper wall (with_contribution m g)
 proper_given wall m g h counts brought = record {
   posts = (h.posts, counts);
   parts = (h.parts, brought);
   given = λ p r t. (let old = h.given p r t in
-      let more = requests_never_fewer p (g.post ∷ []) (posts_in m) in omega (arith, old, more));
+      let more = requests_never_fewer p (g.post ∷ []) (posts_made m) in omega (arith, old, more));
 }
 
 pub proper_taken : (wall : ChineseWall) (m : Effects) (p r : ℕ) → IsProper wall m →
-    r < length (requests p (posts_in m)) → IsProper wall (with_taken m p r)
+    r < length (requests p (posts_made m)) → IsProper wall (with_taken m p r)
 proper_taken wall m p r h low = record {
   posts = h.posts;
   parts = h.parts;
@@ -99,31 +99,31 @@ proper_taken wall m p r h low = record {
       let parts = and_parts (p == q) (r == s) new in
       let same_p = eqb-true p q parts.0 in
       let same_r = eqb-true r s parts.1 in
-      subst (λ n. n < length (requests q (posts_in m))) same_r
-      (subst (λ n. r < length (requests n (posts_in m))) same_p low))
+      subst (λ n. n < length (requests q (posts_made m))) same_r
+      (subst (λ n. r < length (requests n (posts_made m))) same_p low))
       (λ old. h.given q s old)
       (or_cases (p == q && r == s) (m.taken q s) t);
 }
 
 -- no request is taken before it is given
 pub untaken_new : (wall : ChineseWall) (m : Effects) (p : ℕ) → IsProper wall m →
-    m.taken p (length (requests p (posts_in m))) ≡ false
+    m.taken p (length (requests p (posts_made m))) ≡ false
 untaken_new wall m p h = ⊎_elim
-    (λ t. absurd (let low = h.given p (length (requests p (posts_in m))) t in omega (arith, low)))
-    (λ f. f) (cases_Bool (m.taken p (length (requests p (posts_in m)))))
+    (λ t. absurd (let low = h.given p (length (requests p (posts_made m))) t in omega (arith, low)))
+    (λ f. f) (cases_Bool (m.taken p (length (requests p (posts_made m)))))
 
 told_within : (wall : ChineseWall) (m : Effects) (p r : ℕ) (got : Reply) (o : Option (ℕ × ℕ)) →
-    slice_get (requests p (posts_in m)) r ≡ o → got ≡ reply_to_take wall m p r o →
-    is_outcome got ≡ true → r < length (requests p (posts_in m))
+    slice_get (requests p (posts_made m)) r ≡ o → got ≡ reply_to_take wall m p r o →
+    is_outcome got ≡ true → r < length (requests p (posts_made m))
 told_within wall m p r got None at e is = absurd (false≢true (sym (ap is_outcome e) ∙ is))
-told_within wall m p r got (Some ck) at e is = slice_get_within (requests p (posts_in m)) r ck at
+told_within wall m p r got (Some ck) at e is = slice_get_within (requests p (posts_made m)) r ck at
 
 -- only a request that was given has an outcome
 pub outcome_within : (wall : ChineseWall) (m : Effects) (p r : ℕ) (got : Reply) →
     IsAnswer (reply_by wall m p (Take r)) got → is_outcome got ≡ true →
-    r < length (requests p (posts_in m))
+    r < length (requests p (posts_made m))
 outcome_within wall m p r got (inl e) is =
-    told_within wall m p r got (slice_get (requests p (posts_in m)) r) refl e is
+    told_within wall m p r got (slice_get (requests p (posts_made m)) r) refl e is
 outcome_within wall m p r got (inr e) is = absurd (false≢true (sym (ap is_outcome e.1) ∙ is))
 
 module _ (wall : ChineseWall) (m : Effects) (p : ℕ) (h : IsProper wall m) where

@@ -56,7 +56,7 @@ use Rattle.run_model.specs.declared.reply.Reply.TheVariants.{NewComm, NullComm, 
 use Rattle.run_model.specs.declared.reply.Reply.TheVariants.{Info, Refused}
 use Rattle.run_model.specs.Runs.{Entry, Effects, effects, posts, contributions, contribution_in}
 use Rattle.run_model.specs.Runs.{contribution_by, label_in, given_in, statement, requests, is_taken}
-use Rattle.run_model.specs.Replies.{posts_in, too_many, refusal, reply_to_post, join, joined}
+use Rattle.run_model.specs.Replies.{posts_made, too_many, refusal, reply_to_post, join, joined}
 use Rattle.run_model.specs.Replies.{reply_by_outcome, comm_at, reply_to_take, info_by, info_on}
 use Rattle.run_model.specs.Replies.{reply_to_info, reply_by, reply, may_lack_memory, IsAnswer}
 use Rattle.run_model.specs.Replies.{Legal}
@@ -266,8 +266,8 @@ no_fault wall past p c sig own ty given = either
 no_refusal : (wall : ChineseWall) (m : Effects) (p : ℕ) (posting : Posting) →
     wants_in (refusal wall m p posting) ≡ false
 unfolding wants_in
-no_refusal wall m p posting = none_of_two _ _ (no_fault wall (posts_in m) p posting.comm posting.sig
-    posting.own posting.elements.elem_type (given_in posting))
+no_refusal wall m p posting = none_of_two _ _ (no_fault wall (posts_made m) p posting.comm
+    posting.sig posting.own posting.elements.elem_type (given_in posting))
     (either (too_many p m) _ _ refl refl)
 
 either_reply : (t : Bool) (a b : Reply) → wants a ≡ false → wants b ≡ false →
@@ -284,7 +284,7 @@ no_post wall m p posting (Some f) h = by_refusal f h
     by_refusal NoMemory h = h
     by_refusal _ h = refl
 no_post wall m p posting None h =
-    either_reply (star (histories wall (posts_in m)) p (label_in posting)) _ _ refl refl
+    either_reply (star (histories wall (posts_made m)) p (label_in posting)) _ _ refl refl
 
 no_join : (p first : ℕ) (new : List Comm) → wants (joined p first new) ≡ false
 unfolding wants
@@ -310,8 +310,8 @@ no_take : (wall : ChineseWall) (m : Effects) (p r : ℕ) (o : Option (ℕ × ℕ
 unfolding wants
 no_take wall m p r None = refl
 no_take wall m p r (Some (c, k)) = either_reply (m.taken p r) _ _ refl
-    (no_outcome p (full_at (comm_at wall (posts_in m) c) c k m.contributions)
-    (outcome_at wall c k (posts_in m)))
+    (no_outcome p (full_at (comm_at wall (posts_made m) c) c k m.contributions)
+    (outcome_at wall c k (posts_made m)))
 
 no_info_by : (comm : Comm) (o : Option ℕ) → wants (info_by comm o) ≡ false
 unfolding wants
@@ -328,9 +328,9 @@ no_want : (wall : ChineseWall) (m : Effects) (p : ℕ) (act : Act) →
 unfolding wants
 no_want wall m p (ToPost posting) =
     no_post wall m p posting (refusal wall m p posting) (no_refusal wall m p posting)
-no_want wall m p (Take r) = no_take wall m p r (slice_get (requests p (posts_in m)) r)
+no_want wall m p (Take r) = no_take wall m p r (slice_get (requests p (posts_made m)) r)
 no_want wall m p (ToInfo c) = either_reply (Rattle.std.specs.Prelude.nat_lt p (processes wall)) _ _
-    (no_info_on p (slice_get (comms wall (posts_in m)) c)) refl
+    (no_info_on p (slice_get (comms wall (posts_made m)) c)) refl
 
 pub out_of_memory_is_never_due : laws.OutOfMemoryIsNeverDue
 unfolding wants reply
@@ -373,13 +373,13 @@ post_delivers_none :
 unfolding blocks_in
 post_delivers_none wall m p posting (Some f) = refl
 post_delivers_none wall m p posting None =
-    either_none (star (histories wall (posts_in m)) p (label_in posting)) _ _ refl refl
+    either_none (star (histories wall (posts_made m)) p (label_in posting)) _ _ refl refl
 
 info_delivers_none : (wall : ChineseWall) (m : Effects) (p c : ℕ) →
     blocks_in (reply_to_info wall m p c) ≡ None
 unfolding blocks_in
 info_delivers_none wall m p c = either_none (Rattle.std.specs.Prelude.nat_lt p (processes wall)) _ _
-    (on_comm (slice_get (comms wall (posts_in m)) c)) refl
+    (on_comm (slice_get (comms wall (posts_made m)) c)) refl
   where
     by_rank : (comm : Comm) (o : Option ℕ) → blocks_in (info_by comm o) ≡ None
     by_rank comm None = refl

@@ -44,7 +44,7 @@ use Rattle.run_model.specs.declared.reply.Reply.{Reply}
 use Rattle.run_model.specs.declared.reply.Reply.TheVariants.{Delivered, NewComm, Refused}
 use Rattle.run_model.specs.Runs.{Entry, Effects, effects, posts, contributions, label_in, requests}
 use Rattle.run_model.specs.Runs.{is_taken}
-use Rattle.run_model.specs.Replies.{posts_in, refusal, reply_to_post, join, joined}
+use Rattle.run_model.specs.Replies.{posts_made, refusal, reply_to_post, join, joined}
 use Rattle.run_model.specs.Replies.{reply_by_outcome, reply_to_take, info_by, info_on}
 use Rattle.run_model.specs.Replies.{reply_to_info, reply_by, reply, IsAnswer}
 use Rattle.run_model.specs.RunLaws as laws
@@ -152,13 +152,13 @@ post_tells_none :
 unfolding told_comm
 post_tells_none wall m p posting (Some f) = refl
 post_tells_none wall m p posting None =
-    either_none (star (histories wall (posts_in m)) p (label_in posting)) _ _ refl refl
+    either_none (star (histories wall (posts_made m)) p (label_in posting)) _ _ refl refl
 
 info_tells_none : (wall : ChineseWall) (m : Effects) (p c : ℕ) →
     TellsNone (reply_to_info wall m p c)
 unfolding told_comm
 info_tells_none wall m p c = either_none (nat_lt p (processes wall)) _ _
-    (on_comm (slice_get (comms wall (posts_in m)) c)) refl
+    (on_comm (slice_get (comms wall (posts_made m)) c)) refl
   where
     by_rank : (comm : Comm) (o : Option ℕ) → TellsNone (info_by comm o)
     by_rank comm None = refl

@@ -38,7 +38,7 @@ use Rattle.run_model.specs.declared.reply.Reply.TheVariants.{Posted, Barred, Del
 use Rattle.run_model.specs.Runs.{Entry, Effects, effects, contribution_by, given_in}
 use Rattle.run_model.specs.Runs.{contribution_in, statement, counted, requests}
 use Rattle.run_model.specs.Runs.{is_outcome, takes, after_entry}
-use Rattle.run_model.specs.Replies.{posts_in, is_limit_reached, refusal, accepted}
+use Rattle.run_model.specs.Replies.{posts_made, is_limit_reached, refusal, accepted}
 use Rattle.run_model.specs.Replies.{reply_to_post, joined, reply_by_outcome, comm_at, reply_to_take}
 use Rattle.run_model.specs.Replies.{reply_by, reply, IsAnswer}
 use Rattle.run_model.specs.Worlds.{SamePostingButForValues, SameActButForValues}
@@ -58,7 +58,7 @@ pub record LookTheSame (view : View Contents (List Element)) (m n : Effects) : T
   pub taken : m.taken ≡ n.taken
 
 pub one_past : (view : View Contents (List Element)) (m n : Effects) → LookTheSame view m n →
-    posts_in m ≡ posts_in n
+    posts_made m ≡ posts_made n
 one_past view m n same = same_posts view m.contributions n.contributions same.contributions
 
 -- elements without their numbers
@@ -126,14 +126,14 @@ post_reply wall past p given label None =
 
 post_reply_is : (wall : ChineseWall) (m : Effects) (p : ℕ) (posting : Posting) (o : Option Refusal)
     →
-    reply_to_post wall m p posting o ≡ post_reply wall (posts_in m) p (given_in posting)
+    reply_to_post wall m p posting o ≡ post_reply wall (posts_made m) p (given_in posting)
     posting.label o
 post_reply_is wall m p posting (Some why) = refl
 post_reply_is wall m p posting None = refl
 
 module _ (view : View Contents (List Element)) (wall : ChineseWall) (m n : Effects)
     (same : LookTheSame view m n) where
-  past_same : posts_in m ≡ posts_in n
+  past_same : posts_made m ≡ posts_made n
   past_same = one_past view m n same
 
   -- posts are told the same
@@ -160,19 +160,20 @@ module _ (view : View Contents (List Element)) (wall : ChineseWall) (m n : Effec
       past_same
 
 module _ (wall : ChineseWall) (m n : Effects) (same : LookTheSame forms m n) where
-  past_one : posts_in m ≡ posts_in n
+  past_one : posts_made m ≡ posts_made n
   past_one = one_past forms m n same
 
   instance_told : (p c k : ℕ) → form_of_reply
-      (reply_by_outcome p (full_at (comm_at wall (posts_in m) c) c k m.contributions)
-      (outcome_at wall c k (posts_in m)))
+      (reply_by_outcome p (full_at (comm_at wall (posts_made m) c) c k m.contributions)
+      (outcome_at wall c k (posts_made m)))
       ≡ form_of_reply
-      (reply_by_outcome p (full_at (comm_at wall (posts_in n) c) c k n.contributions)
-      (outcome_at wall c k (posts_in n)))
+      (reply_by_outcome p (full_at (comm_at wall (posts_made n) c) c k n.contributions)
+      (outcome_at wall c k (posts_made n)))
   instance_told p c k =
-      outcome_told p (full_at (comm_at wall (posts_in m) c) c k m.contributions)
-      (full_at (comm_at wall (posts_in m) c) c k n.contributions) (outcome_at wall c k (posts_in m))
-      (instances_agree (comm_at wall (posts_in m) c) c k m.contributions n.contributions
+      outcome_told p (full_at (comm_at wall (posts_made m) c) c k m.contributions)
+      (full_at (comm_at wall (posts_made m) c) c k n.contributions)
+      (outcome_at wall c k (posts_made m))
+      (instances_agree (comm_at wall (posts_made m) c) c k m.contributions n.contributions
       same.contributions)
       ∙ ap
       (λ past. form_of_reply (reply_by_outcome p (full_at (comm_at wall past c) c k n.contributions)
@@ -195,7 +196,7 @@ module _ (wall : ChineseWall) (m n : Effects) (same : LookTheSame forms m n) whe
   takes_told : (p r : ℕ) → form_of_reply (reply_by wall m p (Take r))
       ≡ form_of_reply (reply_by wall n p (Take r))
   takes_told p r =
-      request_told p r (slice_get (requests p (posts_in m)) r)
+      request_told p r (slice_get (requests p (posts_made m)) r)
       ∙ ap (λ past. form_of_reply (reply_to_take wall n p r (slice_get (requests p past) r)))
       past_one
 

@@ -8,7 +8,7 @@ use Rattle.coll_routes.specs.Signatures.{elem_type}
 use Rattle.run_model.specs.Books.{AreCounted}
 use Rattle.run_model.specs.Contributions.{Contribution}
 use Rattle.run_model.specs.Runs.{Effects, requests}
-use Rattle.run_model.specs.Replies.{posts_in}
+use Rattle.run_model.specs.Replies.{posts_made}
 
 -- the part has as many elements as its post states, of the type that the signature has, if it has
 -- one
@@ -25,7 +25,7 @@ AreAsStated (g ∷ past) =
 -- What a legal run makes is proper: each post counts, and brought what it states if it passed; a
 -- request that was taken had been given.
 pub record IsProper (wall : ChineseWall) (effects : Effects) : Type 0 where
-  pub posts : AreCounted wall (posts_in effects)
+  pub posts : AreCounted wall (posts_made effects)
   pub parts : AreAsStated effects.contributions
   pub given : (p request : ℕ) → effects.taken p request ≡ true →
-      request < length (requests p (posts_in effects))
+      request < length (requests p (posts_made effects))

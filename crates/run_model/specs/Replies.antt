@@ -35,13 +35,13 @@ use Rattle.run_model.specs.Runs.{Entry, Effects, effects, given_in, label_in, re
 
 -- ## refusals of a post
 
-abbrev pub posts_in : Effects → List Post
-posts_in effects = posts_of effects.contributions
+abbrev pub posts_made : Effects → List Post
+posts_made effects = posts_of effects.contributions
 
 -- how many requests p has that are not taken
 abbrev pub open_requests : (p : ℕ) → Effects → ℕ
 open_requests p effects =
-    count_by (λ r. not (effects.taken p r)) (below (length (requests p (posts_in effects))))
+    count_by (λ r. not (effects.taken p r)) (below (length (requests p (posts_made effects))))
 
 -- 256 requests are not taken, or 2^62 were given (own rules)
 abbrev pub is_limit_reached : (waiting given : ℕ) → Bool
@@ -49,11 +49,11 @@ is_limit_reached waiting given = nat_le 256 waiting || nat_le (2 ^ 62) given
 
 abbrev pub too_many : (p : ℕ) → Effects → Bool
 too_many p effects =
-    is_limit_reached (open_requests p effects) (length (requests p (posts_in effects)))
+    is_limit_reached (open_requests p effects) (length (requests p (posts_made effects)))
 
 -- the first of their order that holds
 abbrev pub refusal : ChineseWall → Effects → (p : ℕ) → Posting → Option Refusal
-refusal wall effects p posting = or_else (fault wall (posts_in effects) p posting.comm posting.sig
+refusal wall effects p posting = or_else (fault wall (posts_made effects) p posting.comm posting.sig
     posting.own posting.elements.elem_type (given_in posting))
     (if too_many p effects then Some TooManyRequests else None)
 
@@ -65,8 +65,8 @@ accepted passed request label = if passed then Posted request else Barred reques
 abbrev pub reply_to_post : ChineseWall → Effects → (p : ℕ) → Posting → Option Refusal → Reply
 reply_to_post wall effects p posting (Some refusal) = Refused refusal
 reply_to_post wall effects p posting None = accepted
-    (star (histories wall (posts_in effects)) p (label_in posting))
-    (length (requests p (posts_in effects))) posting.label
+    (star (histories wall (posts_made effects)) p (label_in posting))
+    (length (requests p (posts_made effects))) posting.label
 
 -- the new communicator that p is in, of those from this number on, if it is in one
 abbrev pub join : (number : ℕ) → Comm → (rank : Option ℕ) → (others : Reply) → Reply
@@ -96,8 +96,9 @@ abbrev pub reply_to_take : ChineseWall → Effects → (p request : ℕ) → Opt
 reply_to_take wall effects p request None = Refused NoSuchRequest
 reply_to_take wall effects p request (Some (c, k)) = if effects.taken p request
     then Refused NoSuchRequest
-    else reply_by_outcome p (full_at (comm_at wall (posts_in effects) c) c k effects.contributions)
-    (outcome_at wall c k (posts_in effects))
+    else reply_by_outcome p
+    (full_at (comm_at wall (posts_made effects) c) c k effects.contributions)
+    (outcome_at wall c k (posts_made effects))
 
 -- the size, the rank, and the number of dimensions of the grid, if there is one
 abbrev pub info_by : Comm → Option ℕ → Reply
@@ -111,13 +112,13 @@ info_on p (Some comm) = info_by comm (rank_in comm.members p)
 
 abbrev pub reply_to_info : ChineseWall → Effects → (p c : ℕ) → Reply
 reply_to_info wall effects p c = if nat_lt p (processes wall)
-    then info_on p (slice_get (comms wall (posts_in effects)) c) else Refused NoSuchProcess
+    then info_on p (slice_get (comms wall (posts_made effects)) c) else Refused NoSuchProcess
 
 abbrev pub reply_by : ChineseWall → Effects → (p : ℕ) → Act → Reply
 reply_by wall effects p (ToPost posting) =
     reply_to_post wall effects p posting (refusal wall effects p posting)
 reply_by wall effects p (Take request) =
-    reply_to_take wall effects p request (slice_get (requests p (posts_in effects)) request)
+    reply_to_take wall effects p request (slice_get (requests p (posts_made effects)) request)
 reply_by wall effects p (ToInfo c) = reply_to_info wall effects p c
 
 -- the reply to a call after a run

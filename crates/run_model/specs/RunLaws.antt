@@ -24,7 +24,7 @@ use Rattle.run_model.specs.declared.outcome.Outcome.TheVariants.{Granted, Denied
 use Rattle.run_model.specs.declared.refusal.Refusal.TheVariants.{NoMemory}
 use Rattle.run_model.specs.Comms.{Comm}
 use Rattle.run_model.specs.Posts.{Post, comms, filled, labelled, histories, outcome, outcome_at}
-use Rattle.run_model.specs.Books.{book, posts_in as posts_in_book, AreCounted, IsSound}
+use Rattle.run_model.specs.Books.{book, posts_in, AreCounted, IsSound}
 use Rattle.run_model.specs.Holding.{IsMoment}
 use Rattle.run_model.specs.PostLaws.{IsWhatIsHeld, NobodyHoldsBoth}
 use Rattle.run_model.specs.Contributions.{full_at}
@@ -239,7 +239,7 @@ NobodyHoldsTwoRivals = (wall : ChineseWall) (later run : List Entry) → IsPolic
 -- the book of a legal run is sound, and its posts are those of the run
 abbrev pub BooksAreSound : Type 0
 BooksAreSound = (wall : ChineseWall) (run : List Entry) → Legal wall run →
-    IsSound wall (book wall (posts run)) × (posts_in_book (book wall (posts run)) ≡ posts run)
+    IsSound wall (book wall (posts run)) × (posts_in (book wall (posts run)) ≡ posts run)
 
 -- it begins with the book of each run with which the run begins
 abbrev pub BooksGrow : Type 0

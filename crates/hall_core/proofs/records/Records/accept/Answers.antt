@@ -10,7 +10,7 @@ use Rattle.run_model.specs.Books.{IsCounted}
 use Rattle.run_model.specs.Contributions.{Contribution, contribution}
 use Rattle.run_state.specs.Views.{LookedAt, view_of as seen}
 use Rattle.run_model.specs.Runs.{requests, statement, given_in, label_in, with_contribution}
-use Rattle.run_model.specs.Replies.{posts_in}
+use Rattle.run_model.specs.Replies.{posts_made}
 use Rattle.run_model.proofs.RunModelLemmas.{taken, given_of}
 use Rattle.hall_core.specs.Asking.{requests_of}
 use Rattle.hall_core.specs.Halls.{HallView, StandsForEffects}
@@ -41,11 +41,11 @@ pub enter-entered-requires-clause-form : goal.enter-entered-requires-clause-form
 enter-entered-requires-clause-form c =
     let hall = c.requires.hall in
     let word : not c.passes-passed.result ≡ not (star
-    (histories c.args.self.now.policy (posts_in hall.effects)) c.args.seat.process
+    (histories c.args.self.now.policy (posts_made hall.effects)) c.args.seat.process
     (label_in c.args.posting)) =
     ap not (c.passes-passed.ensures.posts c.args.self.now.policy hall.effects.contributions
     hall.stands.post_state
-    ∙ (λ i. star (histories c.args.self.now.policy (posts_in hall.effects))
+    ∙ (λ i. star (histories c.args.self.now.policy (posts_made hall.effects))
     c.args.seat.process (c.label-label.ensures i))) in
     (λ i. Rattle.std.proofs.Common.◌&&◌
     (Rattle.run_model.specs.EntryForms.is_formed c.args.posting.sig c.args.posting.own)
@@ -64,12 +64,12 @@ pub returns-clause-steps : goal.returns-clause-steps
 returns-clause-steps c = λ m is stands.
     let wall = c.args.self.now.policy in
     let none = c.requires.none m stands in
-    let word : c.passes-passed.result ≡ star (histories c.args.self.now.policy (posts_in m))
+    let word : c.passes-passed.result ≡ star (histories c.args.self.now.policy (posts_made m))
     c.args.seat.process (label_in c.args.posting) =
     c.passes-passed.ensures.posts c.args.self.now.policy m.contributions stands.post_state
-    ∙ (λ i. star (histories c.args.self.now.policy (posts_in m)) c.args.seat.process
+    ∙ (λ i. star (histories c.args.self.now.policy (posts_made m)) c.args.seat.process
     (c.label-label.ensures i)) in
-    let number : c.given_to-request.result ≡ length (requests c.args.seat.process (posts_in m)) =
+    let number : c.given_to-request.result ≡ length (requests c.args.seat.process (posts_made m)) =
     c.given_to-request.ensures
     ∙ ((λ i. length (requests_of (c.deref.ensures.value i) (c.requires.own i)))
     ∙ stands.given c.args.seat.process) in
@@ -80,7 +80,7 @@ returns-clause-steps c = λ m is stands.
       process = c.args.seat.process;
       comm = c.args.posting.comm;
       stated = statement c.args.posting (not c.passes-passed.result);
-    }) (posts_in m) =
+    }) (posts_made m) =
     taken c.args.self.now.policy m c.args.seat.process c.args.posting (not c.passes-passed.result)
     none
     (ap not word) in
@@ -110,7 +110,7 @@ returns-clause-steps c = λ m is stands.
     (subst (λ (h : Contribution Contents).
     StandsForEffects (view_in c.enter-entered.new.self) (with_contribution m h)) same
     (c.enter-entered.ensures.entered t m stands (subst (λ (h : Contribution Contents).
-    IsCounted c.args.self.now.policy h.post (posts_in m)) (sym same) counts))))
+    IsCounted c.args.self.now.policy h.post (posts_made m)) (sym same) counts))))
     (λ f. post_wanted c.args.self.now.policy (view_in c.enter-entered.new.self) m
     c.args.seat.process
     c.args.posting c.passes-passed.result c.given_to-request.result c.answer.result owed

@@ -8,7 +8,7 @@ use Rattle.run_state.specs.declared.entered.Entered.{Entered}
 use Rattle.run_state.specs.declared.entered.Entered.TheVariants.{Waiting}
 use Rattle.run_state.specs.Views.{PostStateValue, view_of as seen, LookedAt}
 use Rattle.run_state.specs.Stands.{StandsForPosts, Tells}
-use Rattle.run_model.specs.Replies.{posts_in}
+use Rattle.run_model.specs.Replies.{posts_made}
 use Rattle.run_model.proofs.RunModelLemmas.{posts_within}
 use Rattle.hall_core.specs.Asking.{requests_of}
 use Rattle.hall_core.specs.Halls.{HallView}
@@ -26,11 +26,11 @@ pub make_room-requires-clause-low : goal.make_room-requires-clause-low
 make_room-requires-clause-low c =
     let hall = c.requires.hall in
     let number : c.args.seat.meeting.k ≡ length
-    (posts_on c.args.seat.meeting.comm c.args.seat.process (posts_in hall.effects)) =
+    (posts_on c.args.seat.meeting.comm c.args.seat.process (posts_made hall.effects)) =
     place_is_count c.args.self.now.policy (seen c.args.self.now.post_state)
     hall.effects.contributions hall.stands.post_state c.args.seat c.args.stated.sig
     c.args.stated.own (stated_type c.args.stated.sig) c.args.stated.given c.requires.looked in
-    let few = posts_within c.args.seat.meeting.comm c.args.seat.process (posts_in hall.effects) in
+    let few = posts_within c.args.seat.meeting.comm c.args.seat.process (posts_made hall.effects) in
     let asked = hall.stands.given c.args.seat.process in
     let limit : length (requests_of c.args.self.now.requests.items c.args.seat.process) <
     4611686018427387904 = c.requires.few in
@@ -52,11 +52,11 @@ pub enter-requires-clause-few : goal.enter-requires-clause-few
 enter-requires-clause-few c =
     let hall = c.requires.hall in
     let number : c.args.seat.meeting.k ≡ length
-    (posts_on c.args.seat.meeting.comm c.args.seat.process (posts_in hall.effects)) =
+    (posts_on c.args.seat.meeting.comm c.args.seat.process (posts_made hall.effects)) =
     place_is_count c.args.self.now.policy (seen c.args.self.now.post_state)
     hall.effects.contributions hall.stands.post_state c.args.seat c.args.stated.sig
     c.args.stated.own (stated_type c.args.stated.sig) c.args.stated.given c.requires.looked in
-    let few = posts_within c.args.seat.meeting.comm c.args.seat.process (posts_in hall.effects) in
+    let few = posts_within c.args.seat.meeting.comm c.args.seat.process (posts_made hall.effects) in
     let asked = hall.stands.given c.args.seat.process in
     let limit : length (requests_of c.args.self.now.requests.items c.args.seat.process) <
     4611686018427387904 = c.requires.few in
@@ -81,12 +81,12 @@ record-requires-clause-room c =
     StandsForPosts c.args.self.now.policy (seen k) hall.effects.contributions)
     (sym c.make_room.ensures.post_state) hall.stands.post_state) in
     let number : c.args.seat.meeting.k ≡ length
-    (posts_on c.args.seat.meeting.comm c.args.seat.process (posts_in hall.effects)) =
+    (posts_on c.args.seat.meeting.comm c.args.seat.process (posts_made hall.effects)) =
     place_is_count c.args.self.now.policy (seen c.args.self.now.post_state)
     hall.effects.contributions hall.stands.post_state c.args.seat c.args.stated.sig
     c.args.stated.own (stated_type c.args.stated.sig) c.args.stated.given c.requires.looked in
     let told : number_in c.in-Ok-enter.entered ≡ length
-    (posts_on c.args.seat.meeting.comm c.args.seat.process (posts_in hall.effects)) =
+    (posts_on c.args.seat.meeting.comm c.args.seat.process (posts_made hall.effects)) =
     number_told c.make_room.new.self.policy
     (contribution c.args.seat.process c.args.seat.meeting.comm c.args.stated c.args.part)
     hall.effects.contributions c.in-Ok-enter.entered
@@ -136,7 +136,7 @@ returns-in-Ok-enter-clause-entered c = λ done m stands counts.
     c.make_room.ensures.keeps.policy moved.1 in
     let none = none_there (view_in c.args.self.now) m (length c.args.self.now.requests.items)
     c.args.self.now.settled stands c.args.self.now.counted refl c.args.seat.meeting.comm
-    (place g.post (posts_in m)) (unsettled c.args.self.now.policy g.post (posts_in m) counts) in
+    (place g.post (posts_made m)) (unsettled c.args.self.now.policy g.post (posts_made m) counts) in
     stands_recorded (view_in c.args.self.now) (view_in c.record.new.self) m g c.in-Ok-enter.entered
     stands counts none post_state tells
     (recorded_from (view_in c.args.self.now)
@@ -152,11 +152,11 @@ pub join-requires-clause-few : goal.join-requires-clause-few
 join-requires-clause-few c =
     let hall = c.requires.hall in
     let number : c.args.seat.meeting.k ≡ length
-    (posts_on c.args.seat.meeting.comm c.args.seat.process (posts_in hall.effects)) =
+    (posts_on c.args.seat.meeting.comm c.args.seat.process (posts_made hall.effects)) =
     place_is_count c.args.self.now.policy (seen c.args.self.now.post_state)
     hall.effects.contributions hall.stands.post_state c.args.seat c.args.stated.sig
     c.args.stated.own (stated_type c.args.stated.sig) c.args.stated.given c.requires.looked in
-    let few = posts_within c.args.seat.meeting.comm c.args.seat.process (posts_in hall.effects) in
+    let few = posts_within c.args.seat.meeting.comm c.args.seat.process (posts_made hall.effects) in
     let asked = hall.stands.given c.args.seat.process in
     let limit : length (requests_of c.args.self.now.requests.items c.args.seat.process) <
     4611686018427387904 = c.requires.few in
@@ -212,7 +212,7 @@ returns-in-Joins-clause-entered c = λ done m stands counts.
     moved.1 in
     let none = none_there (view_in c.args.self.now) m (length c.args.self.now.requests.items)
     c.args.self.now.settled stands c.args.self.now.counted refl c.args.seat.meeting.comm
-    (place g.post (posts_in m)) (unsettled c.args.self.now.policy g.post (posts_in m) counts) in
+    (place g.post (posts_made m)) (unsettled c.args.self.now.policy g.post (posts_made m) counts) in
     let recorded : IsRecorded
     (view_in (record c.make_room.new.self { post_state = c.join.new.self }))
     (view_in c.note.new.self) c.args.seat.process c.args.seat.meeting.comm c.in-Ok.copy entered =

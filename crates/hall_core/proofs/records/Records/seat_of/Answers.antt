@@ -7,7 +7,7 @@ use Rattle.run_model.specs.Refusals.{fault}
 use Rattle.run_model.specs.declared.refusal.Refusal.{Refusal}
 use Rattle.run_model.specs.declared.refusal.Refusal.TheVariants.{TooManyRequests}
 use Rattle.run_model.specs.Runs.{given_in}
-use Rattle.run_model.specs.Replies.{posts_in, is_limit_reached}
+use Rattle.run_model.specs.Replies.{posts_made, is_limit_reached}
 use Rattle.run_state.specs.Views.{LookedAt, view_of as seen}
 use Rattle.hall_core.specs.Asking.{Asked, requests_of, open_number}
 use Rattle.hall_core.specs.Invariant.{view_in}
@@ -24,7 +24,7 @@ returns-in-Some-clause-first c = λ m stands.
     ∙ (c.refusal.ensures.test
     ∙ (ap (λ (a : List Asked). limited a c.args.process) c.deref.ensures.value
     ∙ refusal_is (view_in c.args.self.now) m stands c.args.process c.args.posting.now
-    ((λ i. fault c.args.self.now.policy (posts_in m) c.args.process c.args.posting.now.comm
+    ((λ i. fault c.args.self.now.policy (posts_made m) c.args.process c.args.posting.now.comm
     c.args.posting.now.sig c.args.posting.now.own (sym c.elem_type.ensures.kind i)
     (sym c.given.ensures i))
     ∙ (sym (c.look-looked.ensures.posts m.contributions stands.post_state)
@@ -36,7 +36,7 @@ returns-in-None-clause-first c = λ m stands.
     ∙ (c.refusal.ensures.test
     ∙ (ap (λ (a : List Asked). limited a c.args.process) c.deref.ensures.value
     ∙ refusal_is (view_in c.args.self.now) m stands c.args.process c.args.posting.now
-    ((λ i. fault c.args.self.now.policy (posts_in m) c.args.process c.args.posting.now.comm
+    ((λ i. fault c.args.self.now.policy (posts_made m) c.args.process c.args.posting.now.comm
     c.args.posting.now.sig c.args.posting.now.own (sym c.elem_type.ensures.kind i)
     (sym c.given.ensures i))
     ∙ (sym (c.look-looked.ensures.posts m.contributions stands.post_state)
