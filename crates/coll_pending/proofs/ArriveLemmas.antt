@@ -15,7 +15,8 @@ use Rattle.coll_pending.specs.declared.arrival.Arrived.{Arrived}
 use Rattle.coll_pending.specs.declared.arrival.Arrived.TheVariants.{Waiting, Full}
 use Rattle.coll_pending.specs.declared.arrival.Meeting.{Meeting}
 use Rattle.coll_pending.specs.declared.arrival.Next.TheVariants.{Opens, Joins, Mismatch}
-use Rattle.coll_pending.specs.Instances.{Instance, Communicator, is_full, joined, roll_in, IsAgreed}
+use Rattle.coll_routes.specs.Rolls.{is_full}
+use Rattle.coll_pending.specs.Instances.{Instance, Communicator, joined, roll_in, IsAgreed}
 use Rattle.coll_pending.specs.Instances.{next_by, is_full_but_for}
 use Rattle.coll_pending.specs.declared.slot.Slot.{Slot}
 use Rattle.coll_pending.specs.Queues.{Queue, Queues, communicator, count, counted, popped, key_at}

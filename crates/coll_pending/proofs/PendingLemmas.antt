@@ -18,7 +18,8 @@ use Rattle.coll_pending.specs.declared.arrival.Next.{Next}
 use Rattle.coll_pending.specs.declared.arrival.Next.TheVariants as nexts
 use Rattle.coll_pending.specs.declared.arrival.Unarrived.{Unarrived}
 use Rattle.coll_pending.specs.declared.slot.Slot.{Slot}
-use Rattle.coll_pending.specs.Instances.{Instance, Communicator, is_full, is_full_but_for, joined}
+use Rattle.coll_routes.specs.Rolls.{is_full}
+use Rattle.coll_pending.specs.Instances.{Instance, Communicator, is_full_but_for, joined}
 use Rattle.coll_pending.specs.Instances.{next_by, roll_in, vacant}
 use Rattle.coll_pending.specs.Keyed.{updated}
 use Rattle.coll_pending.specs.Lists.{ListRoom, fits, room_by}

@@ -8,7 +8,8 @@ use Rattle.std.proofs.lemmas.Bool.{false≢true}
 use Rattle.std.proofs.lemmas.Bool.Decides.{nat_tests}
 use Rattle.std.proofs.lemmas.List.{take_all}
 use Rattle.std.proofs.lemmas.List.Sums.{sum_by-cons}
-use Rattle.coll_pending.specs.Instances.{is_full, is_full_but_for, is_begun}
+use Rattle.coll_routes.specs.Rolls.{is_full}
+use Rattle.coll_pending.specs.Instances.{is_full_but_for, is_begun}
 use Rattle.coll_pending.specs.Queues.{marks, has_posted}
 
 pub none_of : {A : Type 0} (o : Option A) → is_some o ≡ false → o ≡ None

@@ -15,7 +15,8 @@ use Rattle.coll_routes.specs.Rolls.{stated_in}
 use Rattle.coll_routes.proofs.CollRoutesLemmas.{same_signatures_are_equal}
 use Rattle.coll_pending.specs.declared.arrival.Next.TheVariants.{Joins, Fills, Mismatch}
 use Rattle.coll_pending.specs.declared.slot.Slot.{Slot}
-use Rattle.coll_pending.specs.Instances.{Communicator, is_full, is_full_but_for, next_by, IsAgreed}
+use Rattle.coll_routes.specs.Rolls.{is_full}
+use Rattle.coll_pending.specs.Instances.{Communicator, is_full_but_for, next_by, IsAgreed}
 use Rattle.coll_pending.specs.Queues.{IsSlot, IsFree, IsVacant, posted, lacks_one, has_posted}
 use Rattle.coll_pending.specs.Queues.{marks}
 use Rattle.coll_pending.proofs.RowLemmas.{marks_none, marks_set, full_marks}

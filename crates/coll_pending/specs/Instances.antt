@@ -1,13 +1,13 @@
 -- One instance that waits for members, and what an arrival makes of it. (MPI 4.1, section 6.12.)
 use Rattle.std.specs.Prelude.{◌≡◌, ℕ, List, Bool, ◌&&◌, ◌+◌, length, replicate, take, drop}
 use Rattle.std.specs.Prelude.{slice_set, Option, Some, None, if◌then◌else◌, is_some}
-use Rattle.std.specs.List.{list_all, list_any}
+use Rattle.std.specs.List.{list_any}
 use Rattle.coll_routes.specs.declared.signature.Signature.{Signature}
 use Rattle.coll_routes.specs.declared.statement.Stated.{Stated}
 use Rattle.coll_routes.specs.declared.roll.Shape.{Shape}
 use Rattle.coll_routes.specs.declared.roll.Roll.{Roll}
 use Rattle.coll_routes.specs.Signatures.{same_signature}
-use Rattle.coll_routes.specs.Rolls.{stated_by}
+use Rattle.coll_routes.specs.Rolls.{is_full, stated_by}
 use Rattle.coll_pending.specs.declared.arrival.Next.{Next}
 use Rattle.coll_pending.specs.declared.arrival.Next.TheVariants.{Opens, Joins, Fills, Mismatch}
 
@@ -23,10 +23,6 @@ made_of members shape = record { members = members; shape = shape }
 pub record Instance (X : Type 0) : Type 0 where
   pub roll : Roll
   pub parts : List (Option X)
-
--- each rank has something in its row
-abbrev pub is_full : {A : Type 0} → List (Option A) → Bool
-is_full rows = list_all (λ row. is_some row) rows
 
 -- each rank but this one has something in its row
 abbrev pub is_full_but_for : {A : Type 0} → List (Option A) → ℕ → Bool

@@ -13,7 +13,8 @@ use Rattle.coll_pending.specs.declared.arrival.Next.TheVariants.{Mismatch}
 use Rattle.coll_pending.specs.declared.arrival.Next.TheVariants as nexts
 use Rattle.coll_pending.specs.declared.arrival.ArrivalFault.{ArrivalFault}
 use Rattle.coll_pending.specs.declared.arrival.ArrivalFault.TheVariants as faults
-use Rattle.coll_pending.specs.Instances.{Instance, Communicator, is_full, joined, next_by, roll_in}
+use Rattle.coll_routes.specs.Rolls.{is_full}
+use Rattle.coll_pending.specs.Instances.{Instance, Communicator, joined, next_by, roll_in}
 use Rattle.coll_pending.specs.Instances.{vacant, IsAgreed}
 use Rattle.coll_pending.specs.Keyed.{updated}
 use Rattle.coll_pending.specs.Lists.{fits, room_by}

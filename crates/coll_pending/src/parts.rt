@@ -2,7 +2,7 @@
 ghost use Rattle.std.specs.Prelude.{◌≡◌, ◌<◌, ◌≤◌, ◌+◌, ◌++◌, ◌∷◌, IsSome, [], vec_len};
 ghost use Rattle.std.specs.Prelude.{vec_capacity, length, map, slice_set, replicate, IfOk};
 ghost use Rattle.std.specs.Prelude.{Some, None, true};
-ghost use Rattle.coll_pending.specs.Instances.{is_full};
+ghost use Rattle.coll_routes.specs.Rolls.{is_full};
 
 use coll_values::Parts;
 use std::alloc::Global;

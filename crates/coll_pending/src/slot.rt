@@ -1,7 +1,8 @@
 //! The slot of an instance that waits, with a count of the posts that have come.
 ghost use Rattle.std.specs.Prelude.{◌≡◌, ◌<◌, ◌==◌, length, map, Some, IfOk};
 ghost use Rattle.std.specs.Prelude.{IsTrue, true, false};
-ghost use Rattle.coll_pending.specs.Instances.{is_full, is_full_but_for};
+ghost use Rattle.coll_routes.specs.Rolls.{is_full};
+ghost use Rattle.coll_pending.specs.Instances.{is_full_but_for};
 ghost use Rattle.coll_pending.specs.Queues.{IsSlot, IsFree, IsVacant, has_posted, posted};
 ghost use Rattle.coll_pending.specs.Queues.{lacks_one};
 

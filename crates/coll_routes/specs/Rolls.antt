@@ -1,8 +1,8 @@
 -- Journeys: which element of which rank goes where. (MPI 4.1, chapters 6 and 8.)
 use Rattle.std.specs.Prelude.{ℕ, List, [], Bool, false, not, ◌&&◌, ◌==◌, ◌+◌, ◌*◌, length}
 use Rattle.std.specs.Prelude.{slice_get, Option, Some, None, nat_lt, nat_le, sum, take, replicate}
-use Rattle.std.specs.Prelude.{if◌then◌else◌, is_none}
-use Rattle.std.specs.List.{list_any}
+use Rattle.std.specs.Prelude.{if◌then◌else◌, is_some, is_none}
+use Rattle.std.specs.List.{list_all, list_any}
 use Rattle.wall_labels.specs.declared.label.Label.{Label}
 use Rattle.mpi_cart.specs.Grids.{Topology, below, neighbour, opposite}
 use Rattle.coll_routes.specs.declared.signature.Signature.{Signature}
@@ -32,6 +32,10 @@ counts_in _ = []
 -- how many items the lists of a statement have
 abbrev pub listed : Stated → ℕ
 listed s = length (numbers s.sig) + length (flags s.sig) + length (counts_in s.own)
+
+-- each rank has something in its row
+abbrev pub is_full : {A : Type 0} → List (Option A) → Bool
+is_full rows = list_all is_some rows
 
 -- the statement in a row of the list
 abbrev pub stated_in : Option (Option Stated) → Option Stated

@@ -17,7 +17,8 @@ use Rattle.run_model.specs.declared.outcome.Outcome.{Outcome}
 use Rattle.run_model.specs.declared.outcome.Outcome.TheVariants.{Made as MadeComms, NoRoom}
 use Rattle.run_model.specs.Comms.{Comm, new_comms, added}
 use Rattle.run_model.specs.Posts.{Post, comms, outcome_of, constructor_outcome, by_verdict}
-use Rattle.run_model.specs.Posts.{labelled, histories, instance, kth_posts, is_full, roll_by}
+use Rattle.coll_routes.specs.Rolls.{is_full}
+use Rattle.run_model.specs.Posts.{labelled, histories, instance, kth_posts, roll_by}
 use Rattle.run_model.proofs.RunModelLemmas.{filled_is, comms_stay, comm_stays, IsSettled}
 use Rattle.run_model.proofs.RunModelLemmas.{settled_from, kth_later, comm_at_is, granted_whole}
 use Rattle.run_model.specs.Replies.{posts_made, comm_at}

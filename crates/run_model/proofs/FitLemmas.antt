@@ -23,7 +23,8 @@ use Rattle.coll_routes.proofs.CollRoutesLemmas.{same_signatures_are_equal}
 use Rattle.wall_verdict.specs.Star.{star}
 use Rattle.run_model.specs.Comms.{Comm, world, shape_of, new_comms, added}
 use Rattle.run_model.specs.Posts.{Post, posts_on, kth_posts, signature_in, place, roll_by, instance}
-use Rattle.run_model.specs.Posts.{is_full, filled, comms, histories}
+use Rattle.coll_routes.specs.Rolls.{is_full}
+use Rattle.run_model.specs.Posts.{filled, comms, histories}
 use Rattle.run_model.specs.Refusals.{differs, mismatches}
 use Rattle.run_model.specs.Books.{IsCounted, AreCounted}
 use Rattle.run_model.specs.PostLaws.{FilledInstancesAreFit}

@@ -28,7 +28,8 @@ use Rattle.wall_verdict.proofs.WallVerdictLemmas.{member_at}
 use Rattle.run_model.specs.declared.outcome.Outcome.{Outcome}
 use Rattle.run_model.specs.declared.outcome.Outcome.TheVariants.{Granted, Denied as DeniedBy}
 use Rattle.run_model.specs.Comms.{Comm, new_comms}
-use Rattle.run_model.specs.Posts.{Post, posts_on, kth_posts, instance, is_full, if_full, place}
+use Rattle.coll_routes.specs.Rolls.{is_full}
+use Rattle.run_model.specs.Posts.{Post, posts_on, kth_posts, instance, if_full, place}
 use Rattle.run_model.specs.Posts.{filled, comms, labelled, histories, outcome, outcome_of}
 use Rattle.run_model.specs.Posts.{by_verdict, constructor_outcome, outcome_at}
 use Rattle.run_model.specs.Books.{AreCounted}

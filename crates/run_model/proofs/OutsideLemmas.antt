@@ -30,7 +30,8 @@ use Rattle.wall_verdict.specs.Charges.{charged}
 use Rattle.wall_verdict.specs.Grants.{charged_at, charged_to}
 use Rattle.run_model.specs.declared.outcome.Outcome.TheVariants.{Granted}
 use Rattle.run_model.specs.Comms.{Comm}
-use Rattle.run_model.specs.Posts.{Post, kth_posts, instance, is_full, comms, labelled}
+use Rattle.coll_routes.specs.Rolls.{is_full}
+use Rattle.run_model.specs.Posts.{Post, kth_posts, instance, comms, labelled}
 use Rattle.run_model.specs.Posts.{with_delivery, is_granted, histories, outcome_of, outcome_at}
 use Rattle.run_model.specs.Holding.{Holds, had_at_first}
 use Rattle.run_model.proofs.HoldingLemmas.{label_of_holder, rival_within, is_labelled_d}

@@ -9,7 +9,8 @@ use Rattle.std.proofs.lemmas.Option.{slice_get-map}
 use Rattle.coll_routes.specs.declared.statement.Stated.{Stated}
 use Rattle.coll_routes.specs.declared.roll.Roll.{Roll}
 use Rattle.run_model.specs.Comms.{Comm}
-use Rattle.run_model.specs.Posts.{Post, posts_on, instance, place, is_full, if_full, filled}
+use Rattle.coll_routes.specs.Rolls.{is_full}
+use Rattle.run_model.specs.Posts.{Post, posts_on, instance, place, if_full, filled}
 use Rattle.run_model.specs.Holding.{IsMoment}
 
 ---- A place in a list that grows at its end.

@@ -9,7 +9,8 @@ use Rattle.std.proofs.lemmas.List.{map-append, map-id}
 use Rattle.coll_routes.specs.declared.statement.Stated.{Stated}
 use Rattle.coll_values.proofs.CollValuesLemmas.{map_map}
 use Rattle.run_model.specs.Comms.{Comm}
-use Rattle.run_model.specs.Posts.{posts_on, kth_posts, is_full}
+use Rattle.coll_routes.specs.Rolls.{is_full}
+use Rattle.run_model.specs.Posts.{posts_on, kth_posts}
 use Rattle.run_model.specs.Contributions.{Contribution, posts_of, parts_on, kth_parts, parts_in}
 
 -- ## lists

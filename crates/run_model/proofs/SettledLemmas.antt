@@ -16,7 +16,8 @@ use Rattle.coll_routes.specs.declared.roll.Roll.{Roll}
 use Rattle.coll_values.specs.declared.full.Full.{Full}
 use Rattle.run_model.specs.declared.outcome.Outcome.{Outcome}
 use Rattle.run_model.specs.Comms.{Comm}
-use Rattle.run_model.specs.Posts.{Post, posts_on, kth_posts, roll_by, instance, is_full, place}
+use Rattle.coll_routes.specs.Rolls.{is_full}
+use Rattle.run_model.specs.Posts.{Post, posts_on, kth_posts, roll_by, instance, place}
 use Rattle.run_model.specs.Posts.{filled, comms, outcome, outcome_at}
 use Rattle.run_model.specs.Books.{IsCounted, AreCounted}
 use Rattle.run_model.specs.Holding.{IsMoment}

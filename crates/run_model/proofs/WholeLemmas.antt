@@ -21,7 +21,8 @@ use Rattle.wall_verdict.specs.Meanings.{NobodyIsBarred}
 use Rattle.wall_verdict.proofs.WallVerdictLemmas.{verdicts_name_the_least}
 use Rattle.run_model.specs.declared.outcome.Outcome.TheVariants.{Granted}
 use Rattle.run_model.specs.Comms.{Comm}
-use Rattle.run_model.specs.Posts.{posts_on, kth_posts, roll_by, instance, is_full, comms, labelled}
+use Rattle.coll_routes.specs.Rolls.{is_full}
+use Rattle.run_model.specs.Posts.{posts_on, kth_posts, roll_by, instance, comms, labelled}
 use Rattle.run_model.specs.Posts.{histories, is_granted, outcome_of, outcome_at}
 use Rattle.run_model.specs.Books.{AreCounted}
 use Rattle.run_model.proofs.PostLemmas.{get_either, filled_is}

@@ -16,7 +16,8 @@ use Rattle.wall_verdict.specs.declared.verdict.Verdict.TheVariants as verdicts
 use Rattle.wall_verdict.specs.Meanings.{IsVerdict, MembersStayApart}
 use Rattle.run_model.specs.declared.outcome.Outcome.TheVariants.{Granted}
 use Rattle.run_model.specs.Comms.{Comm}
-use Rattle.run_model.specs.Posts.{Post, instance, is_full, place, filled, comms, labelled}
+use Rattle.coll_routes.specs.Rolls.{is_full}
+use Rattle.run_model.specs.Posts.{Post, instance, place, filled, comms, labelled}
 use Rattle.run_model.specs.Posts.{histories, outcome}
 use Rattle.run_model.specs.Holding.{IsMoment, IsPart}
 use Rattle.run_model.specs.declared.call.Act.TheVariants.{Take}

@@ -3,7 +3,6 @@
 use Rattle.std.specs.Prelude.{ℕ, List, [], ◌∷◌, ◌++◌, Bool, true, false, not, ◌&&◌, ◌||◌, ◌==◌}
 use Rattle.std.specs.Prelude.{length, map, slice_get, Option, Some, None, if◌then◌else◌, is_some}
 use Rattle.std.specs.Option.{option_and_then, option_map}
-use Rattle.std.specs.List.{list_all}
 use Rattle.wall_policy.specs.Policy.{ChineseWall}
 use Rattle.wall_rules.specs.Histories.{History, opening}
 use Rattle.mpi_comm.specs.Comms.{fits}
@@ -11,6 +10,7 @@ use Rattle.coll_routes.specs.declared.signature.Signature.{Signature}
 use Rattle.coll_routes.specs.declared.signature.Signature.TheVariants.{Barrier}
 use Rattle.coll_routes.specs.declared.statement.Stated.{Stated}
 use Rattle.coll_routes.specs.declared.roll.Roll.{Roll}
+use Rattle.coll_routes.specs.Rolls.{is_full}
 use Rattle.coll_routes.specs.Signatures.{is_constructor}
 use Rattle.wall_verdict.specs.declared.verdict.Verdict.{Verdict}
 use Rattle.wall_verdict.specs.declared.verdict.Verdict.TheVariants as verdicts
@@ -53,10 +53,6 @@ roll_by comm stated = record
 -- instance (c, k)
 abbrev pub instance : Comm → (c k : ℕ) → List Post → Roll
 instance comm c k past = roll_by comm (kth_posts comm c k past)
-
--- each member has posted
-abbrev pub is_full : List (Option Stated) → Bool
-is_full stated = list_all is_some stated
 
 abbrev pub if_full : Roll → Option Roll
 if_full roll = if is_full roll.stated then Some roll else None

@@ -16,7 +16,8 @@ use Rattle.coll_routes.specs.declared.signature.Signature.{Signature}
 use Rattle.coll_routes.specs.Signatures.{same_signature}
 use Rattle.coll_routes.proofs.CollRoutesLemmas.{same_signatures_are_equal}
 use Rattle.coll_pending.specs.declared.arrival.Next.TheVariants.{Mismatch}
-use Rattle.coll_pending.specs.Instances.{Instance, is_begun, is_full, joined, next_by, roll_in}
+use Rattle.coll_routes.specs.Rolls.{is_full}
+use Rattle.coll_pending.specs.Instances.{Instance, is_begun, joined, next_by, roll_in}
 use Rattle.coll_pending.specs.Waiting.{next}
 use Rattle.run_model.specs.Comms.{Comm}
 use Rattle.run_model.specs.Posts.{Post, posts_on, kth_posts, roll_by, instance, if_full, filled}

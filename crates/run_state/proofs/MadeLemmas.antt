@@ -43,7 +43,8 @@ use Rattle.coll_routes.specs.Fit.{IsSound}
 use Rattle.coll_pending.proofs.CollPendingLemmas.{none_of}
 use Rattle.run_model.specs.Comms.{Comm, shape_of, ask_by, ask_in, asks}
 use Rattle.run_model.specs.Comms.{new_comms_by, new_comms, added, comm_in}
-use Rattle.run_model.specs.Posts.{if_full, is_full}
+use Rattle.coll_routes.specs.Rolls.{is_full}
+use Rattle.run_model.specs.Posts.{if_full}
 use Rattle.run_state.specs.Making.{is_faultless, is_kept}
 
 pub new_comms_are : (sig : Signature) (roll : Roll) (comm : Comm) → roll.members ≡ comm.members →

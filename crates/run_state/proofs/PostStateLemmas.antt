@@ -16,7 +16,8 @@ use Rattle.coll_routes.specs.Fit.{IsSound}
 use Rattle.coll_routes.specs.Signatures.{is_constructor}
 use Rattle.coll_pending.specs.declared.arrival.Arrived.{Arrived}
 use Rattle.coll_pending.specs.declared.arrival.Arrived.TheVariants as arrived
-use Rattle.coll_pending.specs.Instances.{Instance, is_full}
+use Rattle.coll_routes.specs.Rolls.{is_full}
+use Rattle.coll_pending.specs.Instances.{Instance}
 use Rattle.coll_pending.specs.Keyed.{updated}
 use Rattle.coll_pending.specs.Waiting.{PendingView, IsKnownAs, updated_at, HasArrived}
 use Rattle.wall_verdict.specs.Star.{star, with_label}

@@ -5,7 +5,8 @@ use Rattle.std.proofs.Common.{slice_get, map, set, replicate, is_some, ⊎_elim,
 use Rattle.std.specs.Prelude.{filter_map}
 use Rattle.std.proofs.lemmas.Bool.{false≢true, cases_Bool, and_right}
 use Rattle.coll_routes.specs.declared.statement.Stated.{Stated}
-use Rattle.coll_pending.specs.Instances.{is_begun, is_full}
+use Rattle.coll_routes.specs.Rolls.{is_full}
+use Rattle.coll_pending.specs.Instances.{is_begun}
 use Rattle.coll_pending.proofs.CollPendingLemmas.{at_push}
 use Rattle.run_model.specs.Posts.{signature_in}
 

@@ -29,7 +29,8 @@ use Rattle.coll_routes.specs.Fit.{IsSized, IsSound, IsStatement, IsFit}
 use Rattle.coll_pending.specs.declared.arrival.Meeting.{Meeting}
 use Rattle.coll_pending.specs.declared.arrival.Next.{Next}
 use Rattle.coll_pending.specs.declared.arrival.Next.TheVariants.{Opens, Joins, Fills, Mismatch}
-use Rattle.coll_pending.specs.Instances.{Instance, is_begun, is_full, is_full_but_for, next_by}
+use Rattle.coll_routes.specs.Rolls.{is_full}
+use Rattle.coll_pending.specs.Instances.{Instance, is_begun, is_full_but_for, next_by}
 use Rattle.coll_pending.specs.Instances.{roll_in}
 use Rattle.coll_pending.specs.Waiting.{PendingView, next, before}
 use Rattle.coll_pending.proofs.CollPendingLemmas.{stated_none}

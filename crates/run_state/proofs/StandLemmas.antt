@@ -11,7 +11,8 @@ use Rattle.std.proofs.lemmas.List.{length-map}
 use Rattle.wall_policy.specs.Policy.{ChineseWall}
 use Rattle.wall_rules.specs.Histories.{has}
 use Rattle.coll_routes.specs.declared.statement.Stated.{Stated}
-use Rattle.coll_pending.specs.Instances.{Instance, is_begun, is_full}
+use Rattle.coll_routes.specs.Rolls.{is_full}
+use Rattle.coll_pending.specs.Instances.{Instance, is_begun}
 use Rattle.coll_pending.specs.Keyed.{updated}
 use Rattle.coll_pending.specs.Waiting.{updated_at}
 use Rattle.coll_pending.proofs.CollPendingLemmas.{begun_set}

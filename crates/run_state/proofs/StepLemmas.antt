@@ -9,7 +9,8 @@ use Rattle.coll_routes.specs.declared.statement.Stated.{Stated}
 use Rattle.coll_values.specs.declared.full.Full.{Full}
 use Rattle.coll_pending.specs.declared.arrival.Arrived.{Arrived}
 use Rattle.coll_pending.specs.declared.arrival.Arrived.TheVariants as arrived
-use Rattle.coll_pending.specs.Instances.{Communicator, is_full}
+use Rattle.coll_routes.specs.Rolls.{is_full}
+use Rattle.coll_pending.specs.Instances.{Communicator}
 use Rattle.coll_pending.specs.declared.arrival.Meeting.{Meeting}
 use Rattle.coll_pending.specs.Waiting.{PendingView, IsKnownAs, HasArrived}
 use Rattle.wall_verdict.specs.Star.{star, with_label}

@@ -24,7 +24,8 @@ use Rattle.coll_pending.specs.declared.arrival.Next.{Next}
 use Rattle.coll_pending.specs.declared.arrival.Next.TheVariants.{Opens, Joins, Fills, Mismatch}
 use Rattle.coll_pending.specs.declared.arrival.ArrivalFault.{ArrivalFault}
 use Rattle.coll_pending.specs.declared.arrival.ArrivalFault.TheVariants as faults
-use Rattle.coll_pending.specs.Instances.{Communicator, is_full}
+use Rattle.coll_routes.specs.Rolls.{is_full}
+use Rattle.coll_pending.specs.Instances.{Communicator}
 use Rattle.coll_pending.specs.declared.arrival.Meeting.{Meeting}
 use Rattle.coll_pending.specs.Waiting.{PendingView, IsKnownAs, HasArrived, fault_at, before, next}
 use Rattle.coll_pending.specs.Waiting.{meeting_of}

@@ -7,7 +7,8 @@ use Rattle.mpi_group.specs.Groups.{rank_in, is_distinct}
 use Rattle.coll_routes.specs.declared.roll.Roll.{Roll}
 use Rattle.coll_routes.specs.Fit.{IsFit}
 use Rattle.coll_pending.specs.declared.arrival.Next.TheVariants.{Mismatch}
-use Rattle.coll_pending.specs.Instances.{Instance, is_full}
+use Rattle.coll_routes.specs.Rolls.{is_full}
+use Rattle.coll_pending.specs.Instances.{Instance}
 use Rattle.coll_pending.specs.Keyed.{updated}
 use Rattle.coll_pending.specs.Waiting.{next, updated_at, after as joined_at}
 use Rattle.run_model.specs.Comms.{Comm, added}

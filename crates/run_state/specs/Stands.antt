@@ -7,7 +7,8 @@ use Rattle.coll_routes.specs.declared.statement.Stated.{Stated}
 use Rattle.coll_routes.specs.Fit.{IsFit}
 use Rattle.coll_pending.specs.Instances.{Instance, is_begun}
 use Rattle.run_model.specs.Comms.{Comm, processes}
-use Rattle.run_model.specs.Posts.{Post, posts_on, kth_posts, roll_by, is_full, place, filled, comms}
+use Rattle.coll_routes.specs.Rolls.{is_full}
+use Rattle.run_model.specs.Posts.{Post, posts_on, kth_posts, roll_by, place, filled, comms}
 use Rattle.run_model.specs.Posts.{histories, outcome}
 use Rattle.run_state.specs.declared.entered.Entered.{Entered}
 use Rattle.run_state.specs.declared.entered.Entered.TheVariants.{Waiting, Settled}

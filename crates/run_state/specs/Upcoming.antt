@@ -17,7 +17,8 @@ use Rattle.coll_pending.specs.Instances.{Instance, roll_in}
 use Rattle.coll_pending.specs.declared.arrival.Meeting.{Meeting}
 use Rattle.coll_pending.specs.Waiting.{PendingView, next, before, IsMeetingOf}
 use Rattle.run_model.specs.Comms.{Comm, shape_of, ask_by, ask_in, new_comms, added}
-use Rattle.run_model.specs.Posts.{constructor_outcome, if_full, is_full}
+use Rattle.coll_routes.specs.Rolls.{is_full}
+use Rattle.run_model.specs.Posts.{constructor_outcome, if_full}
 use Rattle.run_model.specs.declared.outcome.Outcome.{Outcome}
 use Rattle.run_state.specs.Views.{IsInstanceOf, communicator_of}
 

@@ -4,7 +4,7 @@ use Rattle.std.proofs.lemmas.Bool.{false≢true}
 use Rattle.std.proofs.lemmas.List.{length_push}
 use Rattle.std.proofs.lemmas.Iterator.Consumers.{YieldsList-turn, YieldsList-end}
 use Rattle.std.proofs.lemmas.Iterator.Adapters.{YieldsList-from_vec}
-use Rattle.coll_pending.specs.Instances.{is_full}
+use Rattle.coll_routes.specs.Rolls.{is_full}
 use Rattle.coll_pending.proofs.parts.all_parts.Goals as goal
 
 full_at : {A : Type 0} (rows : List (Option A)) (i : ℕ) (d : Option A) → is_full rows ≡ true →

@@ -1,6 +1,6 @@
 use Rattle.std.proofs.Common.{◌≡◌, ◌∙◌, sym, ap}
 use Rattle.coll_pending.specs.declared.slot.Slot.{Slot}
-use Rattle.coll_pending.specs.Instances.{is_full}
+use Rattle.coll_routes.specs.Rolls.{is_full}
 use Rattle.coll_pending.specs.Queues.{posted}
 use Rattle.coll_pending.proofs.SlotLemmas.{full_parts}
 use Rattle.coll_pending.proofs.ArriveLemmas.{none_waits, filled_by, filled_low, stands_there}
