@@ -43,7 +43,7 @@ pub(crate) fn kept_items<T: Copy>(
     Ok(kept)
 }
 
-// The same items.
+// A copy of these items.
 pub(crate) fn copied<T: Copy>(alloc: Global, items: &[T]) -> Result<Vec<T>, AllocError>
     ensures made { IfOk result (λ v. v.items ≡ items.now) }
     ensures memory { IsErr result → 0 < length items.now }

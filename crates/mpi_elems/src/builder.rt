@@ -71,8 +71,8 @@ impl BufferBuilder {
         }
     }
 
-    /// Adds a number of 64 bits, for which there is room, and looks at it at that width. `BadNumber`
-    /// where it is outside the type. Takes no memory.
+    /// Adds a number of 64 bits, for which there is room, and looks at it at that width.
+    /// `BadNumber` where it is outside the type. Takes no memory.
     #[inline(always)]
     pub fn push_narrow(&mut self, number: i64) -> Result<(), BufferFault>
         requires { length self.old.numbers

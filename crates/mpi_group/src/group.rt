@@ -216,8 +216,8 @@ fn of_distinct(alloc: Global, members: Vec<ProcessId>) -> Result<Group, GroupFau
     Ok(Group { members, ranks })
 }
 
-// A copy of these items, in no more memory than they need. `Vec::from_slice` doesn't promise that a copy
-// of nothing takes none.
+// A copy of these items, in no more memory than they need. `Vec::from_slice` doesn't promise that
+// a copy of nothing takes none.
 fn copied<T: Copy>(alloc: Global, items: &[T]) -> Result<Vec<T>, AllocError>
     ensures made { IfOk result (λ copy. copy.items ≡ items.now) }
     ensures memory { IsErr result → 0 < length items.now }
