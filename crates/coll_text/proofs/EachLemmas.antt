@@ -1,5 +1,6 @@
 -- Reading words one after the other, as a loop does.
-use Rattle.std.proofs.Common.{◌≡◌, List, [], ◌∷◌, ◌++◌, Result, Ok, Err, refl, sym, ap, ◌∙◌}
+use Rattle.std.proofs.Common.{◌≡◌, Bool, false, List, [], ◌∷◌, ◌++◌, Result, Ok, Err, refl, sym}
+use Rattle.std.proofs.Common.{ap, ◌∙◌}
 use Rattle.std.proofs.Common.{append_assoc}
 use Rattle.std.proofs.lemmas.List.{append-nil}
 use Rattle.coll_text.specs.declared.fault.LineFault.{LineFault}
@@ -9,6 +10,7 @@ use Rattle.coll_text.specs.declared.fault.LineFault.TheVariants.{BadLabel, BadNu
 use Rattle.coll_text.specs.declared.fault.LineFault.TheVariants.{NoMemory}
 use Rattle.coll_text.specs.Numbers.{Word}
 use Rattle.coll_text.specs.Reading.{◌>>=◌, Fails, each_of}
+use Rattle.coll_text.specs.Checks.{checked}
 
 -- a fault of a part is the fault of the whole
 pub carried :
@@ -70,3 +72,49 @@ is_done read front before total none so_far =
     let one : with_front front (each_of read before) ≡ Ok front = rw none (ap Ok (append-nil front))
     in
     sym so_far ∙ one
+
+-- ---- the same where memory may have run out
+
+pub fails_then : {A B : Type 0} (e : LineFault) (r : Result A LineFault)
+    (more : A → Result B LineFault) → Fails e r → Fails e (r >>= more)
+fails_then e r more h = carried e r (r >>= more) h (λ k. ap (λ m. m >>= more) k)
+
+-- What was read so far is in the list, unless memory ran out.
+pub record HasRead {A : Type 0} (read : Word → Result A LineFault) (ran_out : Bool)
+    (list : List A) (ws : List Word) (total : Result (List A) LineFault) : Type 0 where
+  pub front : List A
+  pub kept : ran_out ≡ false → list ≡ front
+  pub so_far : with_front front (each_of read ws) ≡ total
+
+front_none : {A : Type 0} (r : Result (List A) LineFault) → with_front [] r ≡ r
+front_none (Ok xs) = refl
+front_none (Err f) = refl
+
+pub begins : {A : Type 0} (read : Word → Result A LineFault) (ran_out : Bool) (list : List A)
+    (ws : List Word) → list ≡ [] → HasRead read ran_out list ws (each_of read ws)
+begins read ran_out list ws none =
+    record { front = []; kept = λ _. none; so_far = front_none (each_of read ws) }
+
+module _ {A : Type 0} (read : Word → Result A LineFault) (was : Bool) (list : List A) (w : Word)
+    (before ws : List Word) (total : Result (List A) LineFault)
+    (so : HasRead read was list before total) where
+  pub reads_on : (is : Bool) (new : List A) (x : A) → before ≡ w ∷ ws → read w ≡ Ok x →
+      (is ≡ false → new ≡ list ++ x ∷ []) → (is ≡ false → was ≡ false) →
+      HasRead read is new ws total
+  reads_on is new x split h adds stays = record {
+    front = so.front ++ x ∷ [];
+    kept = λ off. adds off ∙ ap (λ xs. xs ++ x ∷ []) (so.kept (stays off));
+    so_far = goes_on read so.front w before ws x total split h so.so_far;
+  }
+
+  pub stops_at : (e : LineFault) → before ≡ w ∷ ws → Fails e (read w) → Fails e total
+  stops_at e split h = ends e read so.front w before ws total split h so.so_far
+
+module _ {A : Type 0} (read : Word → Result A LineFault) (ran_out : Bool) (list : List A)
+    (before : List Word) (total : Result (List A) LineFault) (none : before ≡ [])
+    (so : HasRead read ran_out list before total) where
+  pub all_kept : ran_out ≡ false → total ≡ Ok list
+  all_kept off = is_done read so.front before total none so.so_far ∙ ap Ok (sym (so.kept off))
+
+  pub all_read : checked total ≡ Ok tt
+  all_read = ap checked (is_done read so.front before total none so.so_far)

@@ -6,6 +6,7 @@ pub mod EachLemmas
 pub mod FieldLemmas
 pub mod StatedLemmas
 pub mod CheckLemmas
+pub mod BareLemmas
 pub mod NumberLemmas
 pub mod FoundLemmas
 pub mod AgainLemmas

@@ -1,6 +1,6 @@
 -- What is told of words that are not kept: for a reader that found no memory for what they say.
 -- (Own rules.)
-use Rattle.std.specs.Prelude.{List, [], ◌∷◌, Option, Some, None, Result, Ok}
+use Rattle.std.specs.Prelude.{◌≡◌, List, [], ◌∷◌, Option, Some, None, Result, Ok, Err}
 use Rattle.wall_labels.specs.Ops.{op_of}
 use Rattle.mpi_elems.specs.declared.elem_type.ElemType.{ElemType}
 use Rattle.mpi_elems.specs.Types.{type_of}
@@ -15,7 +15,8 @@ use Rattle.coll_text.specs.declared.table.Form.{Form}
 use Rattle.coll_text.specs.declared.table.Form.TheVariants.{Root, Operation, Typed, Count, Counts}
 use Rattle.coll_text.specs.declared.table.Form.TheVariants.{Listed, Flagged, Colour, Key}
 use Rattle.coll_text.specs.Numbers.{Word}
-use Rattle.coll_text.specs.Reading.{◌>>=◌, some_or, word_at, list_of, flag_of}
+use Rattle.coll_text.specs.declared.table.Fields.{Fields}
+use Rattle.coll_text.specs.Reading.{◌>>=◌, Fails, some_or, word_at, list_of, flag_of}
 use Rattle.coll_text.specs.Table.{forms_of}
 use Rattle.coll_text.specs.Fields.{number_of, key_of, colour_of}
 
@@ -28,7 +29,22 @@ abbrev pub type_stated : Result ((Signature × Own) × List Word) LineFault →
     Result (Option ElemType × List Word) LineFault
 type_stated said = said >>= λ s. Ok (elem_type s.0.0, s.1)
 
+-- what a reader returned is what is said, as this view shows it
+abbrev pub Shows : {X Y : Type 0} → (X → Y) → Result X LineFault → Result Y LineFault → Type 0
+Shows view (Ok x) said = said ≡ Ok (view x)
+Shows view (Err fault) said = Fails fault said
+
 -- ---- words of private contracts
+
+-- fields without their lists
+abbrev pub bare : Fields → Fields
+bare f = record f { counts = []; list = []; flags = [] }
+
+abbrev pub bare_of : Result Fields LineFault → Result Fields LineFault
+bare_of said = said >>= λ f. Ok (bare f)
+
+abbrev pub bared : Result (Fields × List Word) LineFault → Result (Fields × List Word) LineFault
+bared said = said >>= λ f. Ok (bare f.0, f.1)
 
 -- the type behind a field of this form, where it was this one before
 unfoldable pub type_with : Form → Word → Option ElemType → Result (Option ElemType) LineFault

@@ -1,7 +1,8 @@
 //! Reads a kind with its fields.
-ghost use Rattle.std.specs.Prelude.{◌≡◌, true, IfOk};
+ghost use Rattle.std.specs.Prelude.{◌≡◌, ◌≢◌, true, false, IfOk, IsOk, Err};
 ghost use Rattle.coll_text.specs.Reading.{Leaves, Takes};
-ghost use Rattle.coll_routes.specs.Signatures.{kind, kind as kind_of_signature};
+ghost use Rattle.coll_routes.specs.Signatures.{kind, kind as kind_of_signature, elem_type};
+ghost use Rattle.coll_text.specs.Checks.{bare, bare_of, bared, type_stated};
 ghost use Rattle.coll_text.specs.Table.{no_fields};
 ghost use Rattle.coll_routes.specs.Owns.{is_own_of};
 ghost use Rattle.coll_text.specs.Fields.{colour_of, with_field, fields_at, statement_at};
@@ -11,6 +12,7 @@ ghost use Rattle.coll_text.specs.Fields.{reduces};
 
 use crate::fault::LineFault;
 use crate::lists::{flags_in, numbers_in};
+use crate::memory::Memory;
 use crate::numbers::signed32;
 use crate::parts::Parts;
 use crate::table::{Fields, Form, forms, made_of};
@@ -34,19 +36,73 @@ pub(crate) fn colour_in(word: &[u8]) -> Option<Option<i32>>
     }
 }
 
+// Reads the counts that the poster states for itself.
+#[tactic(auto, unfolding(crate::specs::Fields::with_field))]
+fn read_counts(memory: &mut Memory, word: &[u8], fields: &mut Fields) -> Result<(), LineFault>
+    ensures kept { memory.new ≡ false →
+        Leaves result fields.new (with_field Form.Counts word.now fields.old) }
+    ensures bare { Leaves result (bare fields.new)
+        (bare_of (with_field Form.Counts word.now fields.old)) }
+    ensures stays { memory.new ≡ false → memory.old ≡ false }
+    ensures memory { result ≢ Err LineFault.NoMemory }
+{
+    let numbers = numbers_in(memory, word)?;
+    fields.counts = numbers;
+    Ok(())
+}
+
+// Reads a list of numbers.
+#[tactic(auto, unfolding(crate::specs::Fields::with_field))]
+fn read_listed(memory: &mut Memory, word: &[u8], fields: &mut Fields) -> Result<(), LineFault>
+    ensures kept { memory.new ≡ false →
+        Leaves result fields.new (with_field Form.Listed word.now fields.old) }
+    ensures bare { Leaves result (bare fields.new)
+        (bare_of (with_field Form.Listed word.now fields.old)) }
+    ensures stays { memory.new ≡ false → memory.old ≡ false }
+    ensures memory { result ≢ Err LineFault.NoMemory }
+{
+    let numbers = numbers_in(memory, word)?;
+    fields.list = numbers;
+    Ok(())
+}
+
+// Reads a list of flags.
+#[tactic(auto, unfolding(crate::specs::Fields::with_field))]
+fn read_flagged(memory: &mut Memory, word: &[u8], fields: &mut Fields) -> Result<(), LineFault>
+    ensures kept { memory.new ≡ false →
+        Leaves result fields.new (with_field Form.Flagged word.now fields.old) }
+    ensures bare { Leaves result (bare fields.new)
+        (bare_of (with_field Form.Flagged word.now fields.old)) }
+    ensures stays { memory.new ≡ false → memory.old ≡ false }
+    ensures memory { result ≢ Err LineFault.NoMemory }
+{
+    let flags = flags_in(memory, word)?;
+    fields.flags = flags;
+    Ok(())
+}
+
 // Reads a field of this form.
 #[tactic(auto, unfolding(crate::specs::Fields::with_field))]
-fn read_field(alloc: Global, form: Form, word: &[u8], fields: &mut Fields) -> Result<(), LineFault>
-    ensures { Leaves result fields.new (with_field form word.now fields.old) }
+fn read_field(
+    memory: &mut Memory,
+    form: Form,
+    word: &[u8],
+    fields: &mut Fields,
+) -> Result<(), LineFault>
+    ensures kept { memory.new ≡ false →
+        Leaves result fields.new (with_field form word.now fields.old) }
+    ensures bare { Leaves result (bare fields.new) (bare_of (with_field form word.now fields.old)) }
+    ensures stays { memory.new ≡ false → memory.old ≡ false }
+    ensures memory { result ≢ Err LineFault.NoMemory }
 {
     match form {
         Form::Root => fields.root = number_in(word)?,
         Form::Operation => fields.op = Op::named(word).ok_or(LineFault::UnknownOp)?,
         Form::Typed => fields.elem_type = ElemType::named(word).ok_or(LineFault::BadType)?,
         Form::Count => fields.count = number_in(word)?,
-        Form::Counts => fields.counts = numbers_in(alloc, word)?,
-        Form::Listed => fields.list = numbers_in(alloc, word)?,
-        Form::Flagged => fields.flags = flags_in(alloc, word)?,
+        Form::Counts => read_counts(memory, word, fields)?,
+        Form::Listed => read_listed(memory, word, fields)?,
+        Form::Flagged => read_flagged(memory, word, fields)?,
         Form::Colour => fields.colour = colour_in(word).ok_or(LineFault::BadField)?,
         Form::Key => fields.key = signed32(word).ok_or(LineFault::BadField)?,
     }
@@ -54,13 +110,17 @@ fn read_field(alloc: Global, form: Form, word: &[u8], fields: &mut Fields) -> Re
 }
 
 // Reads the fields of these forms.
-fn next_fields(alloc: Global, forms: &[Form], words: &mut Parts) -> Result<Fields, LineFault>
-    ensures { Takes (λ f. f) result words.new (fields_at forms.now no_fields words.old) }
+fn next_fields(memory: &mut Memory, forms: &[Form], words: &mut Parts) -> Result<Fields, LineFault>
+    ensures kept { memory.new ≡ false →
+        Takes (λ f. f) result words.new (fields_at forms.now no_fields words.old) }
+    ensures bare { Takes bare result words.new (bared (fields_at forms.now no_fields words.old)) }
+    ensures stays { memory.new ≡ false → memory.old ≡ false }
+    ensures memory { result ≢ Err LineFault.NoMemory }
 {
-    let mut fields = Fields::new(alloc);
+    let mut fields = Fields::new(memory.alloc());
     for form in forms {
         let word = next_word(words)?;
-        read_field(alloc, *form, word, &mut fields)?;
+        read_field(memory, *form, word, &mut fields)?;
     }
     Ok(fields)
 }
@@ -68,7 +128,8 @@ fn next_fields(alloc: Global, forms: &[Form], words: &mut Parts) -> Result<Field
 // Reads a type of elements.
 #[tactic(auto, unfolding(crate::specs::Fields::elem_type_at))]
 fn next_type(words: &mut Parts) -> Result<ElemType, LineFault>
-    ensures { Takes (λ ty. ty) result words.new (elem_type_at words.old) }
+    ensures read { Takes (λ ty. ty) result words.new (elem_type_at words.old) }
+    ensures memory { result ≢ Err LineFault.NoMemory }
 {
     let word = next_word(words)?;
     ElemType::named(word).ok_or(LineFault::BadType)
@@ -77,7 +138,8 @@ fn next_type(words: &mut Parts) -> Result<ElemType, LineFault>
 // Reads an operation.
 #[tactic(auto, unfolding(crate::specs::Fields::op_at))]
 fn next_op(words: &mut Parts) -> Result<Op, LineFault>
-    ensures { Takes (λ op. op) result words.new (op_at words.old) }
+    ensures read { Takes (λ op. op) result words.new (op_at words.old) }
+    ensures memory { result ≢ Err LineFault.NoMemory }
 {
     let word = next_word(words)?;
     Op::named(word).ok_or(LineFault::UnknownOp)
@@ -86,7 +148,8 @@ fn next_op(words: &mut Parts) -> Result<Op, LineFault>
 // Reads a type of elements and their number.
 #[tactic(auto, unfolding(crate::specs::Fields::block_at))]
 fn next_block(words: &mut Parts) -> Result<(ElemType, u32), LineFault>
-    ensures { Takes (λ r. r) result words.new (block_at words.old) }
+    ensures read { Takes (λ r. r) result words.new (block_at words.old) }
+    ensures memory { result ≢ Err LineFault.NoMemory }
 {
     let elem_type = next_type(words)?;
     let count = next_number32(words)?;
@@ -96,7 +159,8 @@ fn next_block(words: &mut Parts) -> Result<(ElemType, u32), LineFault>
 // Reads an operation, a type of elements and their number.
 #[tactic(auto, unfolding(crate::specs::Fields::folded_at))]
 fn next_folded(words: &mut Parts) -> Result<(Op, ElemType, u32), LineFault>
-    ensures { Takes (λ r. r) result words.new (folded_at words.old) }
+    ensures read { Takes (λ r. r) result words.new (folded_at words.old) }
+    ensures memory { result ≢ Err LineFault.NoMemory }
 {
     let op = next_op(words)?;
     let (elem_type, count) = next_block(words)?;
@@ -106,7 +170,8 @@ fn next_folded(words: &mut Parts) -> Result<(Op, ElemType, u32), LineFault>
 // Reads a rank, a type of elements and their number.
 #[tactic(auto, unfolding(crate::specs::Fields::rooted_at))]
 fn next_rooted(words: &mut Parts) -> Result<(u32, ElemType, u32), LineFault>
-    ensures { Takes (λ r. r) result words.new (rooted_at words.old) }
+    ensures read { Takes (λ r. r) result words.new (rooted_at words.old) }
+    ensures memory { result ≢ Err LineFault.NoMemory }
 {
     let root = next_number32(words)?;
     let (elem_type, count) = next_block(words)?;
@@ -116,7 +181,8 @@ fn next_rooted(words: &mut Parts) -> Result<(u32, ElemType, u32), LineFault>
 // Reads a rank, an operation, a type of elements and their number.
 #[tactic(auto, unfolding(crate::specs::Fields::reduced_at))]
 fn next_reduced(words: &mut Parts) -> Result<(u32, Op, ElemType, u32), LineFault>
-    ensures { Takes (λ r. r) result words.new (reduced_at words.old) }
+    ensures read { Takes (λ r. r) result words.new (reduced_at words.old) }
+    ensures memory { result ≢ Err LineFault.NoMemory }
 {
     let root = next_number32(words)?;
     let (op, elem_type, count) = next_folded(words)?;
@@ -126,7 +192,8 @@ fn next_reduced(words: &mut Parts) -> Result<(u32, Op, ElemType, u32), LineFault
 // Reads a rank and a type of elements.
 #[tactic(auto, unfolding(crate::specs::Fields::gathered_at))]
 fn next_gathered(words: &mut Parts) -> Result<(u32, ElemType), LineFault>
-    ensures { Takes (λ r. r) result words.new (gathered_at words.old) }
+    ensures read { Takes (λ r. r) result words.new (gathered_at words.old) }
+    ensures memory { result ≢ Err LineFault.NoMemory }
 {
     let root = next_number32(words)?;
     let elem_type = next_type(words)?;
@@ -156,6 +223,7 @@ fn next_reduction(kind: Kind, words: &mut Parts) -> Result<Signature, LineFault>
     requires { reduces kind ≡ true }
     ensures statement { Takes (λ s. s) result words.new (plain_at kind words.old) }
     ensures form { IfOk result (λ s. is_own_of (kind_of_signature s) Own.Plain ≡ true) }
+    ensures memory { result ≢ Err LineFault.NoMemory }
 {
     match kind {
         Kind::Allreduce => {
@@ -208,6 +276,7 @@ fn next_reduction(kind: Kind, words: &mut Parts) -> Result<Signature, LineFault>
 fn next_signature(kind: Kind, words: &mut Parts) -> Result<Signature, LineFault>
     ensures statement { Takes (λ s. s) result words.new (plain_at kind words.old) }
     ensures form { IfOk result (λ s. is_own_of (kind_of_signature s) Own.Plain ≡ true) }
+    ensures memory { result ≢ Err LineFault.NoMemory }
 {
     match kind {
         Kind::Barrier => Ok(Signature::Barrier),
@@ -270,32 +339,83 @@ fn next_signature(kind: Kind, words: &mut Parts) -> Result<Signature, LineFault>
     }
 }
 
-// Reads the fields of this kind.
+// Reads the fields of a kind with lists, or with a colour and a key.
 #[tactic(auto, unfolding(crate::specs::Fields::stated_at))]
-fn next_stated(alloc: Global, kind: Kind, words: &mut Parts) -> Result<(Signature, Own), LineFault>
-    ensures statement { Takes (λ s. s) result words.new (stated_at kind words.old) }
+fn next_made(
+    memory: &mut Memory,
+    kind: Kind,
+    words: &mut Parts,
+) -> Result<(Signature, Own), LineFault>
+    requires { is_plain kind ≡ false }
+    ensures kept { memory.new ≡ false →
+        Takes (λ s. s) result words.new (stated_at kind words.old) }
+    ensures typed { Takes (λ s. elem_type s.0) result words.new
+        (type_stated (stated_at kind words.old)) }
     ensures form { IfOk result (λ s. is_own_of (kind_of_signature s.0) s.1 ≡ true) }
+    ensures stays { memory.new ≡ false → memory.old ≡ false }
+    ensures memory { result ≢ Err LineFault.NoMemory }
+{
+    let fields = next_fields(memory, forms(kind), words)?;
+    Ok(made_of(kind, fields))
+}
+
+// Reads the fields of this kind.
+fn next_stated(
+    memory: &mut Memory,
+    kind: Kind,
+    words: &mut Parts,
+) -> Result<(Signature, Own), LineFault>
+    ensures kept { memory.new ≡ false →
+        Takes (λ s. s) result words.new (stated_at kind words.old) }
+    ensures typed { Takes (λ s. elem_type s.0) result words.new
+        (type_stated (stated_at kind words.old)) }
+    ensures form { IfOk result (λ s. is_own_of (kind_of_signature s.0) s.1 ≡ true) }
+    ensures stays { memory.new ≡ false → memory.old ≡ false }
+    ensures memory { result ≢ Err LineFault.NoMemory }
 {
     if is_plain(kind) {
         let sig = next_signature(kind, words)?;
         return Ok((sig, Own::Plain));
     }
-    let fields = next_fields(alloc, forms(kind), words)?;
-    Ok(made_of(kind, fields))
+    next_made(memory, kind, words)
 }
 
 /// Reads a kind and its fields: what the members of an instance state alike, and what the poster
 /// states for itself.
 ///
-/// The words behind them are left to be read. Takes memory only for fields that are lists.
+/// The words behind them are left to be read. Takes memory only for fields that are lists; where
+/// there is none it goes on, and the lists may be any: the type of elements is as it is stated.
 /// `BadShape` where a field is empty or missing, `BadKind`, `BadType` and `UnknownOp` for a word
 /// that is none, `BadField` for any other field out of its form or range.
 #[tactic(auto, unfolding(crate::specs::Fields::statement_at, crate::specs::Fields::stated_at))]
-pub fn next_statement(alloc: Global, words: &mut Parts) -> Result<(Signature, Own), LineFault>
-    ensures statement { Takes (λ s. s) result words.new (statement_at words.old) }
+pub fn next_statement_in(
+    memory: &mut Memory,
+    words: &mut Parts,
+) -> Result<(Signature, Own), LineFault>
+    ensures statement { memory.new ≡ false →
+        Takes (λ s. s) result words.new (statement_at words.old) }
+    ensures typed { Takes (λ s. elem_type s.0) result words.new
+        (type_stated (statement_at words.old)) }
     ensures form { IfOk result (λ s. is_own_of (kind s.0) s.1 ≡ true) }
+    ensures stays { memory.new ≡ false → memory.old ≡ false }
+    ensures memory { result ≢ Err LineFault.NoMemory }
 {
     let word = next_word(words)?;
     let kind = Kind::named(word).ok_or(LineFault::BadKind)?;
-    next_stated(alloc, kind, words)
+    next_stated(memory, kind, words)
+}
+
+/// Reads a kind and its fields so, or is out of memory where it ran out and the words have no
+/// fault.
+pub fn next_statement(alloc: Global, words: &mut Parts) -> Result<(Signature, Own), LineFault>
+    ensures statement { Takes (λ s. s) result words.new (statement_at words.old) }
+    ensures form { IfOk result (λ s. is_own_of (kind s.0) s.1 ≡ true) }
+    ensures sound { result ≡ Err LineFault.NoMemory → IsOk (statement_at words.old) }
+{
+    let mut memory = Memory::new(alloc);
+    let read = next_statement_in(&mut memory, words)?;
+    if memory.ran_out() {
+        return Err(LineFault::NoMemory);
+    }
+    Ok(read)
 }

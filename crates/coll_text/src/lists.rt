@@ -1,13 +1,16 @@
 //! Lists of numbers and of flags between commas.
-ghost use Rattle.std.specs.Prelude.{◌≡◌, ◌≢◌, ◌≤◌, [], ◌∷◌, MatchOption, IfSome, Err};
+ghost use Rattle.std.specs.Prelude.{◌≡◌, ◌≢◌, ◌≤◌, [], ◌∷◌, ◌++◌, true, false, MatchOption, IfSome};
+ghost use Rattle.std.specs.Prelude.{Err};
 ghost use Rattle.coll_text.specs.Reading.{Gives, each_of, list_of, flag_of, parts as parts_of};
 ghost use Rattle.coll_text.specs.Fields.{number_of};
+ghost use Rattle.coll_text.specs.Checks.{checked, Shows};
 
 use crate::fault::LineFault;
+use crate::memory::Memory;
 use crate::parts::Parts;
 use crate::words::number_in;
 use coll_routes::{Flags, Numbers};
-use std::alloc::{AllocError, Global};
+use std::alloc::AllocError;
 
 // Room is made at once for all numbers of a list, where they are no more.
 const ROOM: usize = 64;
@@ -32,6 +35,7 @@ fn next_listed<'a>(parts: &mut Parts<'a>) -> Option<(&'a [u8], Result<u32, LineF
     ensures part { MatchOption result ((parts.old ≡ []) × (parts.new ≡ []))
         (λ r. parts.old ≡ r.0.now ∷ parts.new) }
     ensures number { IfSome result (λ r. Gives r.1 (number_of r.0.now)) }
+    ensures memory { IfSome result (λ r. r.1 ≢ Err LineFault.NoMemory) }
 {
     match parts.next_small() {
         None => match parts.next() {
@@ -66,50 +70,93 @@ fn make_room(numbers: &mut Vec<u32>, word: &[u8]) -> Result<(), AllocError>
     numbers.reserve_exact(room_for(word))
 }
 
-fn each_number(alloc: Global, word: &[u8]) -> Result<Numbers, LineFault>
-    ensures { Gives result (each_of number_of (parts_of 44 word.now)) }
+// Adds the number; where there is no room for it, memory ran out.
+#[inline(always)]
+fn keep_number(memory: &mut Memory, numbers: &mut Vec<u32>, word: &[u8], number: u32)
+    ensures kept { memory.new ≡ false → numbers.new.items ≡ numbers.old.items ++ number ∷ [] }
+    ensures stays { memory.new ≡ false → memory.old ≡ false }
+{
+    match make_room(numbers, word) {
+        Ok(()) => match numbers.push(number) {
+            Ok(()) => {}
+            Err(_) => memory.run_out(),
+        },
+        Err(_) => memory.run_out(),
+    }
+}
+
+fn each_number(memory: &mut Memory, word: &[u8]) -> Result<Numbers, LineFault>
+    ensures kept { memory.new ≡ false →
+        Gives result (each_of number_of (parts_of 44 word.now)) }
+    ensures sound { Shows (λ ns. tt) result (checked (each_of number_of (parts_of 44 word.now))) }
+    ensures stays { memory.new ≡ false → memory.old ≡ false }
+    ensures memory { result ≢ Err LineFault.NoMemory }
 {
     let mut parts = Parts::new(word, b',');
-    let mut numbers: Vec<u32> = Vec::new(alloc);
+    let mut numbers: Vec<u32> = Vec::new(memory.alloc());
     while let Some((part, number)) = next_listed(&mut parts) {
         // The part says what the number is in the contract, and is not looked at again.
         let _ = part;
         let number = number?;
-        make_room(&mut numbers, word)?;
-        numbers.push(number)?;
+        keep_number(memory, &mut numbers, word, number);
     }
     Ok(Numbers::from(numbers))
 }
 
 /// The numbers that the word spells: `-` for none, or numbers between commas.
+///
+/// Where memory ran out, that it spells some is all that is known.
 #[tactic(auto, unfolding(crate::specs::Reading::list_of))]
-pub(crate) fn numbers_in(alloc: Global, word: &[u8]) -> Result<Numbers, LineFault>
-    ensures { Gives result (list_of number_of word.now) }
+pub(crate) fn numbers_in(memory: &mut Memory, word: &[u8]) -> Result<Numbers, LineFault>
+    ensures kept { memory.new ≡ false → Gives result (list_of number_of word.now) }
+    ensures sound { Shows (λ ns. tt) result (checked (list_of number_of word.now)) }
+    ensures stays { memory.new ≡ false → memory.old ≡ false }
+    ensures memory { result ≢ Err LineFault.NoMemory }
 {
     if word == b"-".as_slice() {
-        return Ok(Numbers::from(Vec::new(alloc)));
+        return Ok(Numbers::from(Vec::new(memory.alloc())));
     }
-    each_number(alloc, word)
+    each_number(memory, word)
 }
 
-fn each_flag(alloc: Global, word: &[u8]) -> Result<Flags, LineFault>
-    ensures { Gives result (each_of flag_of (parts_of 44 word.now)) }
+// Adds the flag; where there is no room for it, memory ran out.
+fn keep_flag(memory: &mut Memory, flags: &mut Vec<bool>, flag: bool)
+    ensures kept { memory.new ≡ false → flags.new.items ≡ flags.old.items ++ flag ∷ [] }
+    ensures stays { memory.new ≡ false → memory.old ≡ false }
+{
+    match flags.push(flag) {
+        Ok(()) => {}
+        Err(_) => memory.run_out(),
+    }
+}
+
+fn each_flag(memory: &mut Memory, word: &[u8]) -> Result<Flags, LineFault>
+    ensures kept { memory.new ≡ false → Gives result (each_of flag_of (parts_of 44 word.now)) }
+    ensures sound { Shows (λ bs. tt) result (checked (each_of flag_of (parts_of 44 word.now))) }
+    ensures stays { memory.new ≡ false → memory.old ≡ false }
+    ensures memory { result ≢ Err LineFault.NoMemory }
 {
     let mut parts = Parts::new(word, b',');
-    let mut flags: Vec<bool> = Vec::new(alloc);
+    let mut flags: Vec<bool> = Vec::new(memory.alloc());
     while let Some(part) = parts.next() {
-        flags.push(flag_in(part)?)?;
+        let flag = flag_in(part)?;
+        keep_flag(memory, &mut flags, flag);
     }
     Ok(Flags::from(flags))
 }
 
 /// The flags that the word spells: `-` for none, or `0` and `1` between commas.
+///
+/// Where memory ran out, that it spells some is all that is known.
 #[tactic(auto, unfolding(crate::specs::Reading::list_of))]
-pub(crate) fn flags_in(alloc: Global, word: &[u8]) -> Result<Flags, LineFault>
-    ensures { Gives result (list_of flag_of word.now) }
+pub(crate) fn flags_in(memory: &mut Memory, word: &[u8]) -> Result<Flags, LineFault>
+    ensures kept { memory.new ≡ false → Gives result (list_of flag_of word.now) }
+    ensures sound { Shows (λ bs. tt) result (checked (list_of flag_of word.now)) }
+    ensures stays { memory.new ≡ false → memory.old ≡ false }
+    ensures memory { result ≢ Err LineFault.NoMemory }
 {
     if word == b"-".as_slice() {
-        return Ok(Flags::from(Vec::new(alloc)));
+        return Ok(Flags::from(Vec::new(memory.alloc())));
     }
-    each_flag(alloc, word)
+    each_flag(memory, word)
 }

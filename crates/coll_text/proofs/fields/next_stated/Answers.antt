@@ -1,18 +1,35 @@
-use Rattle.std.proofs.Common.{◌≡◌, true, sym, ◌∙◌}
+use Rattle.std.proofs.Common.{◌≡◌, true, Ok, sym, ap, ◌∙◌}
 use Rattle.std.proofs.lemmas.Result.{err_from_is_err_and}
-use Rattle.coll_text.specs.Fields.{is_plain}
+use Rattle.coll_routes.specs.Signatures.{elem_type}
+use Rattle.coll_text.specs.Checks.{type_stated}
+use Rattle.coll_text.specs.Fields.{is_plain, stated_at}
 use Rattle.coll_text.proofs.StatedLemmas.{plain_read, plain_fails}
+use Rattle.coll_text.proofs.EachLemmas.{fails_then}
 use Rattle.coll_text.proofs.fields.next_stated.Goals as goal
 
-pub returns-in_err-sig-clause-statement : goal.returns-in_err-sig-clause-statement
-returns-in_err-sig-clause-statement c =
+pub returns-in_err-sig-clause-kept : goal.returns-in_err-sig-clause-kept
+returns-in_err-sig-clause-kept c =
     let p = err_from_is_err_and c.from_residual.result c.from_residual.ensures.1 in
     let plain : is_plain c.args.kind ≡ true = sym c.is_plain.ensures ∙ c.if-is_plain.true in
-    rw (p.1, p.2) (plain_fails c.args.kind c.args.words.now c.in_err-sig.field-0.0 plain
+    rw (p.1, p.2) (λ _. plain_fails c.args.kind c.args.words.now c.in_err-sig.field-0.0 plain
     c.in_err-sig.ensures.statement)
 
-pub returns-then-is_plain-clause-statement : goal.returns-then-is_plain-clause-statement
-returns-then-is_plain-clause-statement c =
+pub returns-in_err-sig-clause-typed : goal.returns-in_err-sig-clause-typed
+returns-in_err-sig-clause-typed c =
+    let p = err_from_is_err_and c.from_residual.result c.from_residual.ensures.1 in
     let plain : is_plain c.args.kind ≡ true = sym c.is_plain.ensures ∙ c.if-is_plain.true in
-    plain_read c.args.kind c.args.words.now c.next_signature.new.words c.in_ok-sig.sig plain
+    rw (p.1, p.2) (fails_then c.in_err-sig.field-0.0 (stated_at c.args.kind c.args.words.now)
+    (λ s. Ok (elem_type s.0.0, s.1)) (plain_fails c.args.kind c.args.words.now
+    c.in_err-sig.field-0.0 plain c.in_err-sig.ensures.statement))
+
+pub returns-then-is_plain-clause-kept : goal.returns-then-is_plain-clause-kept
+returns-then-is_plain-clause-kept c =
+    let plain : is_plain c.args.kind ≡ true = sym c.is_plain.ensures ∙ c.if-is_plain.true in
+    λ _. plain_read c.args.kind c.args.words.now c.next_signature.new.words c.in_ok-sig.sig plain
     c.in_ok-sig.ensures.statement
+
+pub returns-then-is_plain-clause-typed : goal.returns-then-is_plain-clause-typed
+returns-then-is_plain-clause-typed c =
+    let plain : is_plain c.args.kind ≡ true = sym c.is_plain.ensures ∙ c.if-is_plain.true in
+    ap type_stated (plain_read c.args.kind c.args.words.now c.next_signature.new.words
+    c.in_ok-sig.sig plain c.in_ok-sig.ensures.statement)
