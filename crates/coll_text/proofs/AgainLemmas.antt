@@ -23,7 +23,7 @@ use Rattle.coll_routes.specs.declared.signature.Signature.{Signature}
 use Rattle.coll_routes.specs.declared.statement.Own.{Own}
 use Rattle.coll_routes.specs.declared.statement.Own.TheVariants as owns
 use Rattle.coll_routes.specs.Kinds.{kind_name, kind_of}
-use Rattle.coll_routes.specs.Signatures.{kind, root, reduction, elem_type, count, numbers, flags}
+use Rattle.coll_routes.specs.Signatures.{kind}
 use Rattle.coll_routes.specs.Signatures.{signature_by}
 use Rattle.coll_routes.proofs.CollRoutesLemmas.{signature_is}
 use Rattle.coll_text.specs.declared.fault.LineFault.TheVariants.{BadField}

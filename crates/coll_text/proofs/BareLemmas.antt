@@ -21,19 +21,8 @@ use Rattle.coll_text.specs.Reading.{◌>>=◌, Fails, some_or, list_of, flag_of,
 use Rattle.coll_text.specs.Table.{forms_of, no_fields, signature_of, own_of}
 use Rattle.coll_text.specs.Fields.{number_of, key_of, colour_of, with_field, fields_at, stated_at}
 use Rattle.coll_text.specs.Checks.{checked, type_stated, bare, bare_of, bared}
-use Rattle.coll_text.proofs.EachLemmas.{carried, fails_then}
+use Rattle.coll_text.proofs.EachLemmas.{fails_then, fails_before}
 use Rattle.coll_text.proofs.FieldLemmas.{goes_on, ends_at_word, ends_at_field, is_done}
-
--- ---- a fault of what is made of a part
-
-is_fault : {A B : Type 0} (e : LineFault) (r : Result A LineFault) (made : A → B) →
-    (r >>= λ x. Ok (made x)) ≡ Err e → r ≡ Err e
-is_fault e (Ok x) made h = absurd cc
-is_fault e (Err f) made h = ap Err (let k : f ≡ e = cc in k)
-
-pub fails_before : {A B : Type 0} (e : LineFault) (r : Result A LineFault) (made : A → B) →
-    Fails e (r >>= λ x. Ok (made x)) → Fails e r
-fails_before e r made h = carried e (r >>= λ x. Ok (made x)) r h (is_fault e r made)
 
 -- ---- a list that may not have been kept
 

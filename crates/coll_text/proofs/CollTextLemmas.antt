@@ -3,7 +3,7 @@ pub use Rattle.coll_text.proofs.AgainLemmas.{positive, statement_again}
 pub use Rattle.coll_text.proofs.CheckLemmas.{check_done, check_ends, check_goes_on, check_kept}
 pub use Rattle.coll_text.proofs.CheckLemmas.{check_then}
 pub use Rattle.coll_text.proofs.CheckLemmas.{is_said, same_fault}
-pub use Rattle.coll_text.proofs.EachLemmas.{carried}
+pub use Rattle.coll_text.proofs.EachLemmas.{carried, fails_before, fails_then}
 pub use Rattle.coll_text.proofs.FoundLemmas.{bind_ok, done, ok_is, signed_found, some_ok}
 pub use Rattle.coll_text.proofs.FoundLemmas.{statement_found, word_found}
 pub use Rattle.coll_text.proofs.NumberLemmas.{decimal_is_number, form, number_is_decimal, own}

@@ -27,6 +27,20 @@ carried BadLabel part whole h f = f h
 carried BadNumber part whole h f = f h
 carried OddPair part whole h f = f h
 
+pub fails_then : {A B : Type 0} (e : LineFault) (r : Result A LineFault)
+    (more : A → Result B LineFault) → Fails e r → Fails e (r >>= more)
+fails_then e r more h = carried e r (r >>= more) h (λ k. ap (λ m. m >>= more) k)
+
+is_fault : {A B : Type 0} (e : LineFault) (r : Result A LineFault) (made : A → B) →
+    (r >>= λ x. Ok (made x)) ≡ Err e → r ≡ Err e
+is_fault e (Ok x) made h = absurd cc
+is_fault e (Err f) made h = ap Err (let k : f ≡ e = cc in k)
+
+-- a fault of what is made of a part is the fault of the part
+pub fails_before : {A B : Type 0} (e : LineFault) (r : Result A LineFault) (made : A → B) →
+    Fails e (r >>= λ x. Ok (made x)) → Fails e r
+fails_before e r made h = carried e (r >>= λ x. Ok (made x)) r h (is_fault e r made)
+
 -- what was read before, and what is still read
 abbrev pub with_front : {A : Type 0} → List A → Result (List A) LineFault →
     Result (List A) LineFault
@@ -74,10 +88,6 @@ is_done read front before total none so_far =
     sym so_far ∙ one
 
 -- ---- the same where memory may have run out
-
-pub fails_then : {A B : Type 0} (e : LineFault) (r : Result A LineFault)
-    (more : A → Result B LineFault) → Fails e r → Fails e (r >>= more)
-fails_then e r more h = carried e r (r >>= more) h (λ k. ap (λ m. m >>= more) k)
 
 -- What was read so far is in the list, unless memory ran out.
 pub record HasRead {A : Type 0} (read : Word → Result A LineFault) (ran_out : Bool)

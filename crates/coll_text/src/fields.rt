@@ -384,7 +384,8 @@ fn next_stated(
 /// states for itself.
 ///
 /// The words behind them are left to be read. Takes memory only for fields that are lists; where
-/// there is none it goes on, and the lists may be any: the type of elements is as it is stated.
+/// it ran out the words are read to the same end, and of the statement its type of elements alone
+/// is known.
 /// `BadShape` where a field is empty or missing, `BadKind`, `BadType` and `UnknownOp` for a word
 /// that is none, `BadField` for any other field out of its form or range.
 #[tactic(auto, unfolding(crate::specs::Fields::statement_at, crate::specs::Fields::stated_at))]
@@ -392,7 +393,7 @@ pub fn next_statement_in(
     memory: &mut Memory,
     words: &mut Parts,
 ) -> Result<(Signature, Own), LineFault>
-    ensures statement { memory.new ≡ false →
+    ensures kept { memory.new ≡ false →
         Takes (λ s. s) result words.new (statement_at words.old) }
     ensures typed { Takes (λ s. elem_type s.0) result words.new
         (type_stated (statement_at words.old)) }
@@ -405,8 +406,8 @@ pub fn next_statement_in(
     next_stated(memory, kind, words)
 }
 
-/// Reads a kind and its fields so, or is out of memory where it ran out and the words have no
-/// fault.
+/// Reads a kind and its fields so by memory of its own: out of memory where that ran out and the
+/// words have no fault.
 pub fn next_statement(alloc: Global, words: &mut Parts) -> Result<(Signature, Own), LineFault>
     ensures statement { Takes (λ s. s) result words.new (statement_at words.old) }
     ensures form { IfOk result (λ s. is_own_of (kind s.0) s.1 ≡ true) }

@@ -1,4 +1,8 @@
 //! The memory that readers take, and whether it ran out.
+//!
+//! A fault of a line is told before out of memory, and which comes first is known at the end alone.
+//! So a reader that is refused a growth does not end there: it says so here and reads on, to the
+//! first fault or to the end. Who made the memory asks once, when all was read, whether it ran out.
 ghost use Rattle.std.specs.Prelude.{◌≡◌, true, false};
 
 use std::alloc::Global;
@@ -6,8 +10,8 @@ use std::marker::Model;
 
 /// Where readers take memory, seen as whether it ran out.
 ///
-/// A reader that finds none says so here and goes on, so that a fault behind is told before out of
-/// memory. What was read is then worth no more than its reader says.
+/// Once it ran out, what was read may lack what there was no room for, also where a later growth
+/// was not refused: of the value that a reader returns no more is known than its contract says.
 #[derive(Drop)]
 pub struct Memory {
     alloc: Global,
@@ -23,7 +27,7 @@ impl Model for Memory {
 }
 
 impl Memory {
-    /// It did not run out yet.
+    /// Memory that did not run out yet.
     pub fn new(alloc: Global) -> Memory
         ensures { result ≡ false }
     {
@@ -33,10 +37,12 @@ impl Memory {
         }
     }
 
+    /// Where a growth is asked for. Who asks says where it was refused (`run_out`).
     pub fn alloc(&self) -> Global {
         self.alloc
     }
 
+    /// Whether a growth was refused.
     pub fn ran_out(&self) -> bool
         ensures { result ≡ self.now }
     {
