@@ -30,7 +30,7 @@ use Rattle.coll_text.specs.declared.fault.LineFault.TheVariants.{BadField}
 use Rattle.coll_text.specs.declared.table.Form.{Form}
 use Rattle.coll_text.specs.declared.table.Form.TheVariants.{Root, Operation, Typed, Count, Counts}
 use Rattle.coll_text.specs.declared.table.Form.TheVariants.{Listed, Flagged, Colour, Key}
-use Rattle.coll_text.specs.declared.table.Fields.{Fields}
+use Rattle.coll_text.specs.Table.{Fields}
 use Rattle.coll_text.specs.Numbers.{Word, is_digit, number_within}
 use Rattle.coll_text.specs.Reading.{some_or, flag_of}
 use Rattle.coll_text.specs.Table.{forms_of, signature_of, own_of, no_fields, fields_of}

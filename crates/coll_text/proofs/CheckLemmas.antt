@@ -10,6 +10,8 @@ use Rattle.mpi_elems.specs.Types.{type_of}
 use Rattle.coll_routes.specs.declared.kind.Kind.{Kind}
 use Rattle.coll_routes.specs.declared.kind.Kind.TheVariants as kinds
 use Rattle.coll_routes.specs.Kinds.{kind_of}
+use Rattle.coll_routes.specs.declared.signature.Signature.{Signature}
+use Rattle.coll_routes.specs.declared.statement.Own.{Own}
 use Rattle.coll_routes.specs.Signatures.{elem_type, signature_by}
 use Rattle.coll_text.specs.declared.fault.LineFault.{LineFault}
 use Rattle.coll_text.specs.declared.fault.LineFault.TheVariants.{BadField, BadKind, BadType}
@@ -17,7 +19,7 @@ use Rattle.coll_text.specs.declared.fault.LineFault.TheVariants.{UnknownOp}
 use Rattle.coll_text.specs.declared.table.Form.{Form}
 use Rattle.coll_text.specs.declared.table.Form.TheVariants.{Root, Operation, Typed, Count, Counts}
 use Rattle.coll_text.specs.declared.table.Form.TheVariants.{Listed, Flagged, Colour, Key}
-use Rattle.coll_text.specs.declared.table.Fields.{Fields}
+use Rattle.coll_text.specs.Table.{Fields}
 use Rattle.coll_text.specs.Numbers.{Word}
 use Rattle.coll_text.specs.Reading.{◌>>=◌, Fails, some_or, each_of, list_of, flag_of, word_at}
 use Rattle.coll_text.specs.Table.{forms_of, no_fields, signature_of, own_of}
@@ -40,6 +42,11 @@ same_fault e said h = carried e (checked said) said h (fault_is e said)
 pub is_said : {A : Type 0} (said : Result A LineFault) → checked said ≡ Ok tt → IsOk said
 is_said (Ok x) h = refl
 is_said (Err f) h = absurd cc
+
+pub type_is_known : (t : Option ElemType) (rest : List Word)
+    (r : Result ((Signature × Own) × List Word) LineFault) → type_stated r ≡ Ok (t, rest) → IsOk r
+type_is_known t rest (Ok s) h = refl
+type_is_known t rest (Err e) h = absurd cc
 
 -- what is kept of a part does not matter
 pub check_kept : {A B : Type 0} (r : Result A LineFault) (made : A → B) →

@@ -26,7 +26,7 @@ use Rattle.coll_text.specs.declared.fault.LineFault.TheVariants.{BadType, Unknow
 use Rattle.coll_text.specs.declared.table.Form.{Form}
 use Rattle.coll_text.specs.declared.table.Form.TheVariants.{Root, Operation, Typed, Count, Counts}
 use Rattle.coll_text.specs.declared.table.Form.TheVariants.{Listed, Flagged, Colour, Key}
-use Rattle.coll_text.specs.declared.table.Fields.{Fields}
+use Rattle.coll_text.specs.Table.{Fields}
 use Rattle.coll_text.specs.Numbers.{Word, number_within, negative, signed_within}
 use Rattle.coll_text.specs.Reading.{◌>>=◌, some_or, parts, each_of, list_of, flag_of, word_at}
 use Rattle.coll_text.specs.Table.{forms_of, signature_of, own_of, no_fields, fields_of}

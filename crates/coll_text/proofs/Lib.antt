@@ -3,10 +3,8 @@ pub mod FrontLemmas
 pub mod StepLemmas
 pub mod DigitLemmas
 pub mod EachLemmas
-pub mod FieldLemmas
 pub mod StatedLemmas
 pub mod CheckLemmas
-pub mod BareLemmas
 pub mod NumberLemmas
 pub mod FoundLemmas
 pub mod AgainLemmas

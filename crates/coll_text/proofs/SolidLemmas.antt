@@ -22,7 +22,7 @@ use Rattle.coll_routes.specs.Signatures.{kind}
 use Rattle.coll_text.specs.declared.table.Form.{Form}
 use Rattle.coll_text.specs.declared.table.Form.TheVariants.{Root, Operation, Typed, Count, Counts}
 use Rattle.coll_text.specs.declared.table.Form.TheVariants.{Listed, Flagged, Colour, Key}
-use Rattle.coll_text.specs.declared.table.Fields.{Fields}
+use Rattle.coll_text.specs.Table.{Fields}
 use Rattle.coll_text.specs.Numbers.{Word, is_digit}
 use Rattle.coll_text.specs.Table.{forms_of, fields_of}
 use Rattle.coll_text.specs.Spellings.{list_word, flag_word, colour_word, word_of, words_of}

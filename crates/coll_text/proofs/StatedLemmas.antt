@@ -1,5 +1,6 @@
 -- Fields that are read straight into what they make.
-use Rattle.std.proofs.Common.{◌≡◌, ℕ, List, [], ◌∷◌, Result, Ok, Err, refl, ap, ◌∙◌, true}
+use Rattle.std.proofs.Common.{◌≡◌, ℕ, true, false, List, [], ◌∷◌, Result, Ok, Err, refl, sym}
+use Rattle.std.proofs.Common.{ap, ◌∙◌}
 use Rattle.wall_labels.specs.declared.op.Op.{Op}
 use Rattle.wall_labels.specs.Ops.{op_of}
 use Rattle.mpi_elems.specs.declared.elem_type.ElemType.{ElemType}
@@ -11,15 +12,17 @@ use Rattle.coll_routes.specs.Signatures.{signature_by}
 use Rattle.coll_routes.specs.declared.statement.Own.{Own}
 use Rattle.coll_routes.specs.declared.statement.Own.TheVariants as owns
 use Rattle.coll_text.specs.declared.fault.LineFault.{LineFault}
-use Rattle.coll_text.specs.declared.fault.LineFault.TheVariants.{BadType, UnknownOp}
+use Rattle.coll_text.specs.declared.fault.LineFault.TheVariants.{BadField, BadType, UnknownOp}
 use Rattle.coll_text.specs.declared.table.Form.{Form}
-use Rattle.coll_text.specs.declared.table.Form.TheVariants.{Root, Operation, Typed, Count}
-use Rattle.coll_text.specs.declared.table.Fields.{Fields}
+use Rattle.coll_text.specs.declared.table.Form.TheVariants.{Root, Operation, Typed, Count, Counts}
+use Rattle.coll_text.specs.declared.table.Form.TheVariants.{Listed, Flagged, Colour, Key}
+use Rattle.coll_text.specs.Table.{Fields}
 use Rattle.coll_text.specs.Numbers.{Word}
-use Rattle.coll_text.specs.Reading.{◌>>=◌, Fails, some_or, word_at, number_at}
-use Rattle.coll_text.specs.Fields.{number_of, with_field, fields_at, elem_type_at, op_at, block_at}
-use Rattle.coll_text.specs.Fields.{folded_at, rooted_at, reduced_at, gathered_at, stated_at}
-use Rattle.coll_text.specs.Fields.{is_plain, plain_at}
+use Rattle.coll_text.specs.Reading.{◌>>=◌, Fails, some_or, word_at, number_at, list_of, flag_of}
+use Rattle.coll_text.specs.Fields.{number_of, key_of, colour_of, with_field, fields_at}
+use Rattle.coll_text.specs.Fields.{elem_type_at, op_at, block_at, folded_at, rooted_at, reduced_at}
+use Rattle.coll_text.specs.Fields.{gathered_at, numbers_at, flags_at, colour_at, key_at, stated_at}
+use Rattle.coll_text.specs.Fields.{is_plain, plain_at, listed_at}
 use Rattle.coll_text.specs.Table.{forms_of, signature_of, own_of, no_fields}
 use Rattle.coll_text.proofs.EachLemmas.{carried}
 
@@ -84,6 +87,35 @@ module _ (fs : List Form) (f : Fields) (ws : List Word) where
   op_is = at_word (word_at ws) (λ w. some_or UnknownOp (op_of w)) (λ op. record f { op = op })
       (fields_at fs)
 
+  counts_is : fields_at (Counts ∷ fs) f ws
+      ≡ (numbers_at ws >>= λ r. fields_at fs (record f { counts = r.0 }) r.1)
+  unfolding fields_at with_field numbers_at
+  counts_is = at_word (word_at ws) (list_of number_of) (λ ns. record f { counts = ns })
+      (fields_at fs)
+
+  numbers_is : fields_at (Listed ∷ fs) f ws
+      ≡ (numbers_at ws >>= λ r. fields_at fs (record f { list = r.0 }) r.1)
+  unfolding fields_at with_field numbers_at
+  numbers_is = at_word (word_at ws) (list_of number_of) (λ ns. record f { list = ns })
+      (fields_at fs)
+
+  flags_is : fields_at (Flagged ∷ fs) f ws
+      ≡ (flags_at ws >>= λ r. fields_at fs (record f { flags = r.0 }) r.1)
+  unfolding fields_at with_field flags_at
+  flags_is = at_word (word_at ws) (list_of flag_of) (λ bs. record f { flags = bs }) (fields_at fs)
+
+  colour_is : fields_at (Colour ∷ fs) f ws
+      ≡ (colour_at ws >>= λ r. fields_at fs (record f { colour = r.0 }) r.1)
+  unfolding fields_at with_field colour_at
+  colour_is = at_word (word_at ws) (λ w. some_or BadField (colour_of w))
+      (λ colour. record f { colour = colour }) (fields_at fs)
+
+  key_is : fields_at (Key ∷ fs) f ws
+      ≡ (key_at ws >>= λ r. fields_at fs (record f { key = r.0 }) r.1)
+  unfolding fields_at with_field key_at
+  key_is = at_word (word_at ws) (λ w. some_or BadField (key_of w)) (λ key. record f { key = key })
+      (fields_at fs)
+
 module _ (f : Fields) (ws : List Word) where
   type_is : fields_at (Typed ∷ []) f ws
       ≡ (elem_type_at ws >>= λ r. Ok (record f { elem_type = r.0 }, r.1))
@@ -124,15 +156,17 @@ module _ (f : Fields) (ws : List Word) where
       ∙ chain {C = (ℕ × ElemType × ℕ) × List Word} (number_at 4294967295 ws) (λ t. block_at t.1) (λ t b. ((t.0, b.0.0, b.0.1), b.1))
       (λ r. Ok (record f { root = r.0.0; elem_type = r.0.1; count = r.0.2 }, r.1))
 
-  gathered_is : fields_at (Root ∷ Typed ∷ []) f ws
-      ≡ (gathered_at ws >>= λ r. Ok (record f { root = r.0.0; elem_type = r.0.1 }, r.1))
-  unfolding gathered_at
-  gathered_is = root_is (Typed ∷ []) f ws
-      ∙ same (number_at 4294967295 ws) (λ t. fields_at (Typed ∷ []) (record f { root = t.0 }) t.1)
-      (λ t. elem_type_at t.1 >>= λ b. Ok (record f { root = t.0; elem_type = b.0 }, b.1))
-      (λ t. type_is (record f { root = t.0 }) t.1)
-      ∙ chain {C = (ℕ × ElemType) × List Word} (number_at 4294967295 ws) (λ t. elem_type_at t.1) (λ t b. ((t.0, b.0), b.1))
-      (λ r. Ok (record f { root = r.0.0; elem_type = r.0.1 }, r.1))
+gathered_is : (fs : List Form) (f : Fields) (ws : List Word) → fields_at (Root ∷ Typed ∷ fs) f ws
+    ≡ (gathered_at ws >>= λ r. fields_at fs (record f { root = r.0.0; elem_type = r.0.1 }) r.1)
+unfolding gathered_at
+gathered_is fs f ws = root_is (Typed ∷ fs) f ws
+    ∙ same (number_at 4294967295 ws) (λ t. fields_at (Typed ∷ fs) (record f { root = t.0 }) t.1)
+    (λ t. elem_type_at t.1
+    >>= λ b. fields_at fs (record f { root = t.0; elem_type = b.0 }) b.1)
+    (λ t. typed_is fs (record f { root = t.0 }) t.1)
+    ∙ chain {C = (ℕ × ElemType) × List Word} (number_at 4294967295 ws) (λ t. elem_type_at t.1)
+    (λ t b. ((t.0, b.0), b.1))
+    (λ r. fields_at fs (record f { root = r.0.0; elem_type = r.0.1 }) r.1)
 
 reduced_is : (f : Fields) (ws : List Word) →
     fields_at (Root ∷ Operation ∷ Typed ∷ Count ∷ []) f ws ≡ (reduced_at ws
@@ -216,7 +250,7 @@ plain_is kinds.Scan ws h =
 plain_is kinds.Exscan ws h =
     made kinds.Exscan ws (folded_at ws) of_folded (folded_is no_fields ws) (λ x. refl)
 plain_is kinds.Gatherv ws h = made kinds.Gatherv ws (gathered_at ws)
-    (λ r. record no_fields { root = r.0; elem_type = r.1 }) (gathered_is no_fields ws) (λ x. refl)
+    (λ r. record no_fields { root = r.0; elem_type = r.1 }) (gathered_is [] no_fields ws) (λ x. refl)
 plain_is kinds.Allgatherv ws h =
     made kinds.Allgatherv ws (elem_type_at ws) of_type (type_is no_fields ws) (λ x. refl)
 plain_is kinds.NeighborAllgatherv ws h =
@@ -238,3 +272,160 @@ pub plain_fails : (kind : Kind) (ws : List Word) (e : LineFault) → is_plain ki
     Fails e (plain_at kind ws) → Fails e (stated_at kind ws)
 plain_fails kind ws e h f = carried e (plain_at kind ws) (stated_at kind ws) f
     (λ k. plain_is kind ws h ∙ ap alone k)
+
+-- ---- kinds with lists, or with a colour and a key
+
+assoc : {A B C : Type 0} (m : Result A LineFault) (f : A → Result B LineFault)
+    (g : B → Result C LineFault) → ((m >>= f) >>= g) ≡ (m >>= λ x. (f x >>= g))
+assoc (Ok x) f g = refl
+assoc (Err e) f g = refl
+
+-- two fields one after the other, and what they make
+both : {A B : Type 0} (kind : Kind) (ws : List Word) (m : Result (A × List Word) LineFault)
+    (more : A × List Word → Result (B × List Word) LineFault)
+    (set : A → B → Fields) → fields_at (forms_of kind) no_fields ws
+    ≡ (m >>= λ x. (more x >>= λ y. beside y.1 (set x.0 y.0))) →
+    stated_at kind ws ≡ (m >>= λ x. (more x >>= λ y. makes kind (set x.0 y.0, y.1)))
+unfolding stated_at
+both kind ws m more set e =
+    ap (λ (n : Result (Fields × List Word) LineFault). n >>= makes kind) e
+    ∙ assoc m (λ x. more x >>= λ y. beside y.1 (set x.0 y.0)) (makes kind)
+    ∙ same m (λ x. (more x >>= λ y. beside y.1 (set x.0 y.0)) >>= makes kind)
+    (λ x. more x >>= λ y. makes kind (set x.0 y.0, y.1))
+    (λ x. assoc (more x) (λ y. beside y.1 (set x.0 y.0)) (makes kind))
+
+one : {A : Type 0} (kind : Kind) (ws : List Word) (m : Result (A × List Word) LineFault)
+    (set : A → Fields) → fields_at (forms_of kind) no_fields ws
+    ≡ (m >>= λ x. beside x.1 (set x.0)) →
+    stated_at kind ws ≡ (m >>= λ x. makes kind (set x.0, x.1))
+unfolding stated_at
+one kind ws m set e =
+    ap (λ (n : Result (Fields × List Word) LineFault). n >>= makes kind) e
+    ∙ assoc m (λ x. beside x.1 (set x.0)) (makes kind)
+
+module _ (f : Fields) (ws : List Word) where
+  typed_counts_is : fields_at (Typed ∷ Counts ∷ []) f ws
+      ≡ (elem_type_at ws >>= λ t. (numbers_at t.1
+      >>= λ ns. Ok (record f { elem_type = t.0; counts = ns.0 }, ns.1)))
+  unfolding fields_at
+  typed_counts_is = typed_is (Counts ∷ []) f ws
+      ∙ same (elem_type_at ws) (λ t. fields_at (Counts ∷ []) (record f { elem_type = t.0 }) t.1)
+      (λ t. numbers_at t.1 >>= λ ns. Ok (record f { elem_type = t.0; counts = ns.0 }, ns.1))
+      (λ t. counts_is [] (record f { elem_type = t.0 }) t.1)
+
+  typed_numbers_is : fields_at (Typed ∷ Listed ∷ []) f ws
+      ≡ (elem_type_at ws >>= λ t. (numbers_at t.1
+      >>= λ ns. Ok (record f { elem_type = t.0; list = ns.0 }, ns.1)))
+  unfolding fields_at
+  typed_numbers_is = typed_is (Listed ∷ []) f ws
+      ∙ same (elem_type_at ws) (λ t. fields_at (Listed ∷ []) (record f { elem_type = t.0 }) t.1)
+      (λ t. numbers_at t.1 >>= λ ns. Ok (record f { elem_type = t.0; list = ns.0 }, ns.1))
+      (λ t. numbers_is [] (record f { elem_type = t.0 }) t.1)
+
+module _ (f : Fields) (ws : List Word) where
+  scatterv_is : fields_at (Root ∷ Typed ∷ Counts ∷ []) f ws
+      ≡ (gathered_at ws >>= λ r. (numbers_at r.1
+      >>= λ ns. Ok (record f { root = r.0.0; elem_type = r.0.1; counts = ns.0 }, ns.1)))
+  unfolding fields_at
+  scatterv_is = gathered_is (Counts ∷ []) f ws
+      ∙ same (gathered_at ws)
+      (λ r. fields_at (Counts ∷ []) (record f { root = r.0.0; elem_type = r.0.1 }) r.1)
+      (λ r. numbers_at r.1
+      >>= λ ns. Ok (record f { root = r.0.0; elem_type = r.0.1; counts = ns.0 }, ns.1))
+      (λ r. counts_is [] (record f { root = r.0.0; elem_type = r.0.1 }) r.1)
+
+  reduce_scatter_is : fields_at (Operation ∷ Typed ∷ Listed ∷ []) f ws
+      ≡ (op_at ws >>= λ o. (elem_type_at o.1 >>= λ t. (numbers_at t.1
+      >>= λ ns. Ok (record f { op = o.0; elem_type = t.0; list = ns.0 }, ns.1))))
+  reduce_scatter_is = op_is (Typed ∷ Listed ∷ []) f ws
+      ∙ same (op_at ws) (λ o. fields_at (Typed ∷ Listed ∷ []) (record f { op = o.0 }) o.1)
+      (λ o. elem_type_at o.1 >>= λ t. (numbers_at t.1
+      >>= λ ns. Ok (record f { op = o.0; elem_type = t.0; list = ns.0 }, ns.1)))
+      (λ o. typed_numbers_is (record f { op = o.0 }) o.1)
+
+  split_is : fields_at (Colour ∷ Key ∷ []) f ws
+      ≡ (colour_at ws >>= λ c. (key_at c.1
+      >>= λ k. Ok (record f { colour = c.0; key = k.0 }, k.1)))
+  unfolding fields_at
+  split_is = colour_is (Key ∷ []) f ws
+      ∙ same (colour_at ws) (λ c. fields_at (Key ∷ []) (record f { colour = c.0 }) c.1)
+      (λ c. key_at c.1 >>= λ k. Ok (record f { colour = c.0; key = k.0 }, k.1))
+      (λ c. key_is [] (record f { colour = c.0 }) c.1)
+
+  cart_create_is : fields_at (Listed ∷ Flagged ∷ []) f ws
+      ≡ (numbers_at ws >>= λ d. (flags_at d.1
+      >>= λ p. Ok (record f { list = d.0; flags = p.0 }, p.1)))
+  unfolding fields_at
+  cart_create_is = numbers_is (Flagged ∷ []) f ws
+      ∙ same (numbers_at ws) (λ d. fields_at (Flagged ∷ []) (record f { list = d.0 }) d.1)
+      (λ d. flags_at d.1 >>= λ p. Ok (record f { list = d.0; flags = p.0 }, p.1))
+      (λ d. flags_is [] (record f { list = d.0 }) d.1)
+
+  create_is : fields_at (Listed ∷ []) f ws
+      ≡ (numbers_at ws >>= λ r. Ok (record f { list = r.0 }, r.1))
+  unfolding fields_at
+  create_is = numbers_is [] f ws
+
+  cart_sub_is : fields_at (Flagged ∷ []) f ws
+      ≡ (flags_at ws >>= λ r. Ok (record f { flags = r.0 }, r.1))
+  unfolding fields_at
+  cart_sub_is = flags_is [] f ws
+
+reduce_scatter_made : (ws : List Word) →
+    stated_at kinds.ReduceScatter ws ≡ listed_at kinds.ReduceScatter ws
+unfolding stated_at listed_at forms_of signature_by own_of
+reduce_scatter_made ws =
+    ap (λ (n : Result (Fields × List Word) LineFault). n >>= makes kinds.ReduceScatter)
+    (reduce_scatter_is no_fields ws)
+    ∙ assoc (op_at ws) (λ o. elem_type_at o.1 >>= λ t. (numbers_at t.1
+    >>= λ ns. Ok (record no_fields { op = o.0; elem_type = t.0; list = ns.0 }, ns.1)))
+    (makes kinds.ReduceScatter)
+    ∙ same (op_at ws)
+    (λ o. (elem_type_at o.1 >>= λ t. (numbers_at t.1
+    >>= λ ns. Ok (record no_fields { op = o.0; elem_type = t.0; list = ns.0 }, ns.1)))
+    >>= makes kinds.ReduceScatter)
+    (λ o. elem_type_at o.1 >>= λ t. (numbers_at t.1
+    >>= λ ns. makes kinds.ReduceScatter
+    (record no_fields { op = o.0; elem_type = t.0; list = ns.0 }, ns.1)))
+    (λ o. sym (chain (elem_type_at o.1) (λ t. numbers_at t.1)
+    (λ t ns. (record no_fields { op = o.0; elem_type = t.0; list = ns.0 }, ns.1))
+    (makes kinds.ReduceScatter)))
+
+-- what is read straight of these is what the fields make
+pub listed_is : (kind : Kind) (ws : List Word) → is_plain kind ≡ false →
+    stated_at kind ws ≡ listed_at kind ws
+unfolding listed_at forms_of signature_by own_of
+listed_is kinds.Scatterv ws h = both kinds.Scatterv ws (gathered_at ws) (λ r. numbers_at r.1)
+    (λ r ns. record no_fields { root = r.0; elem_type = r.1; counts = ns })
+    (scatterv_is no_fields ws)
+listed_is kinds.Alltoallv ws h = both kinds.Alltoallv ws (elem_type_at ws) (λ t. numbers_at t.1)
+    (λ t ns. record no_fields { elem_type = t; counts = ns }) (typed_counts_is no_fields ws)
+listed_is kinds.NeighborAlltoallv ws h =
+    both kinds.NeighborAlltoallv ws (elem_type_at ws) (λ t. numbers_at t.1)
+    (λ t ns. record no_fields { elem_type = t; counts = ns }) (typed_counts_is no_fields ws)
+listed_is kinds.ReduceScatter ws h = reduce_scatter_made ws
+listed_is kinds.Split ws h = both kinds.Split ws (colour_at ws) (λ c. key_at c.1)
+    (λ c k. record no_fields { colour = c; key = k }) (split_is no_fields ws)
+listed_is kinds.Create ws h = one kinds.Create ws (numbers_at ws)
+    (λ ns. record no_fields { list = ns }) (create_is no_fields ws)
+listed_is kinds.CartCreate ws h = both kinds.CartCreate ws (numbers_at ws) (λ d. flags_at d.1)
+    (λ ns bs. record no_fields { list = ns; flags = bs }) (cart_create_is no_fields ws)
+listed_is kinds.CartSub ws h = one kinds.CartSub ws (flags_at ws)
+    (λ bs. record no_fields { flags = bs }) (cart_sub_is no_fields ws)
+listed_is kinds.Barrier ws h = absurd cc
+listed_is kinds.Bcast ws h = absurd cc
+listed_is kinds.Gather ws h = absurd cc
+listed_is kinds.Gatherv ws h = absurd cc
+listed_is kinds.Scatter ws h = absurd cc
+listed_is kinds.Allgather ws h = absurd cc
+listed_is kinds.Allgatherv ws h = absurd cc
+listed_is kinds.Alltoall ws h = absurd cc
+listed_is kinds.Reduce ws h = absurd cc
+listed_is kinds.Allreduce ws h = absurd cc
+listed_is kinds.ReduceScatterBlock ws h = absurd cc
+listed_is kinds.Scan ws h = absurd cc
+listed_is kinds.Exscan ws h = absurd cc
+listed_is kinds.NeighborAllgather ws h = absurd cc
+listed_is kinds.NeighborAllgatherv ws h = absurd cc
+listed_is kinds.NeighborAlltoall ws h = absurd cc
+listed_is kinds.Dup ws h = absurd cc

@@ -15,7 +15,6 @@ use Rattle.coll_text.specs.declared.table.Form.{Form}
 use Rattle.coll_text.specs.declared.table.Form.TheVariants.{Root, Operation, Typed, Count, Counts}
 use Rattle.coll_text.specs.declared.table.Form.TheVariants.{Listed, Flagged, Colour, Key}
 use Rattle.coll_text.specs.Numbers.{Word}
-use Rattle.coll_text.specs.declared.table.Fields.{Fields}
 use Rattle.coll_text.specs.Reading.{◌>>=◌, Fails, some_or, word_at, list_of, flag_of}
 use Rattle.coll_text.specs.Table.{forms_of}
 use Rattle.coll_text.specs.Fields.{number_of, key_of, colour_of}
@@ -36,15 +35,10 @@ Shows view (Err fault) said = Fails fault said
 
 -- ---- words of private contracts
 
--- fields without their lists
-abbrev pub bare : Fields → Fields
-bare f = record f { counts = []; list = []; flags = [] }
-
-abbrev pub bare_of : Result Fields LineFault → Result Fields LineFault
-bare_of said = said >>= λ f. Ok (bare f)
-
-abbrev pub bared : Result (Fields × List Word) LineFault → Result (Fields × List Word) LineFault
-bared said = said >>= λ f. Ok (bare f.0, f.1)
+-- the words behind a part, where what it is does not matter
+abbrev pub passed : {A : Type 0} → Result (A × List Word) LineFault →
+    Result (Unit {0} × List Word) LineFault
+passed said = said >>= λ x. Ok (tt, x.1)
 
 -- the type behind a field of this form, where it was this one before
 unfoldable pub type_with : Form → Word → Option ElemType → Result (Option ElemType) LineFault

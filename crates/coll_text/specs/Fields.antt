@@ -13,13 +13,14 @@ use Rattle.coll_routes.specs.declared.kind.Kind.TheVariants as kinds
 use Rattle.coll_routes.specs.declared.signature.Signature.TheVariants as signatures
 use Rattle.coll_routes.specs.declared.signature.Signature.{Signature}
 use Rattle.coll_routes.specs.declared.statement.Own.{Own}
+use Rattle.coll_routes.specs.declared.statement.Own.TheVariants as owns
 use Rattle.coll_text.specs.declared.fault.LineFault.{LineFault}
 use Rattle.coll_text.specs.declared.fault.LineFault.TheVariants.{BadField, BadKind, BadType}
 use Rattle.coll_text.specs.declared.fault.LineFault.TheVariants.{UnknownOp}
 use Rattle.coll_text.specs.declared.table.Form.{Form}
 use Rattle.coll_text.specs.declared.table.Form.TheVariants.{Root, Operation, Typed, Count, Counts}
 use Rattle.coll_text.specs.declared.table.Form.TheVariants.{Listed, Flagged, Colour, Key}
-use Rattle.coll_text.specs.declared.table.Fields.{Fields}
+use Rattle.coll_text.specs.Table.{Fields}
 use Rattle.coll_text.specs.Numbers.{Word, signed_within}
 use Rattle.coll_text.specs.Reading.{◌>>=◌, some_or, word_at, number_at, number_up_to, list_of}
 use Rattle.coll_text.specs.Reading.{flag_of}
@@ -134,6 +135,32 @@ gathered_at ws = do
   ty ← elem_type_at root.1
   Ok ((root.0, ty.0), ty.1)
 
+-- a list of numbers
+unfoldable pub numbers_at : List Word → Result (List ℕ × List Word) LineFault
+numbers_at ws = do
+  w ← word_at ws
+  ns ← list_of number_of w.0
+  Ok (ns, w.1)
+
+-- a list of flags
+unfoldable pub flags_at : List Word → Result (List Bool × List Word) LineFault
+flags_at ws = do
+  w ← word_at ws
+  bs ← list_of flag_of w.0
+  Ok (bs, w.1)
+
+unfoldable pub colour_at : List Word → Result (Option ℤ × List Word) LineFault
+colour_at ws = do
+  w ← word_at ws
+  colour ← some_or BadField (colour_of w.0)
+  Ok (colour, w.1)
+
+unfoldable pub key_at : List Word → Result (ℤ × List Word) LineFault
+key_at ws = do
+  w ← word_at ws
+  key ← some_or BadField (key_of w.0)
+  Ok (key, w.1)
+
 -- the fields of this kind, and what they make
 unfoldable pub stated_at : Kind → List Word → Result ((Signature × Own) × List Word) LineFault
 stated_at kind ws = do
@@ -187,3 +214,38 @@ plain_at kinds.NeighborAllgatherv ws =
     elem_type_at ws >>= λ ty. Ok (signatures.NeighborAllgatherv ty.0, ty.1)
 plain_at kinds.Dup ws = Ok (signatures.Dup, ws)
 plain_at _ ws = Err BadKind
+
+-- the same of the others
+unfoldable pub listed_at : Kind → List Word → Result ((Signature × Own) × List Word) LineFault
+listed_at kinds.Scatterv ws = do
+  r ← gathered_at ws
+  ns ← numbers_at r.1
+  Ok ((signatures.Scatterv r.0.0 r.0.1, owns.Counts ns.0), ns.1)
+listed_at kinds.Alltoallv ws = do
+  ty ← elem_type_at ws
+  ns ← numbers_at ty.1
+  Ok ((signatures.Alltoallv ty.0, owns.Counts ns.0), ns.1)
+listed_at kinds.NeighborAlltoallv ws = do
+  ty ← elem_type_at ws
+  ns ← numbers_at ty.1
+  Ok ((signatures.NeighborAlltoallv ty.0, owns.Counts ns.0), ns.1)
+listed_at kinds.ReduceScatter ws = do
+  op ← op_at ws
+  ty ← elem_type_at op.1
+  ns ← numbers_at ty.1
+  Ok ((signatures.ReduceScatter op.0 ty.0 ns.0, owns.Plain), ns.1)
+listed_at kinds.Split ws = do
+  colour ← colour_at ws
+  key ← key_at colour.1
+  Ok ((signatures.Split, owns.Split colour.0 key.0), key.1)
+listed_at kinds.Create ws = do
+  ranks ← numbers_at ws
+  Ok ((signatures.Create ranks.0, owns.Plain), ranks.1)
+listed_at kinds.CartCreate ws = do
+  dims ← numbers_at ws
+  periods ← flags_at dims.1
+  Ok ((signatures.CartCreate dims.0 periods.0, owns.Plain), periods.1)
+listed_at kinds.CartSub ws = do
+  keep ← flags_at ws
+  Ok ((signatures.CartSub keep.0, owns.Plain), keep.1)
+listed_at _ ws = Err BadKind

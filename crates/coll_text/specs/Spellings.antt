@@ -12,7 +12,7 @@ use Rattle.coll_routes.specs.declared.statement.Own.{Own}
 use Rattle.coll_text.specs.declared.table.Form.{Form}
 use Rattle.coll_text.specs.declared.table.Form.TheVariants.{Root, Operation, Typed, Count, Counts}
 use Rattle.coll_text.specs.declared.table.Form.TheVariants.{Listed, Flagged, Colour, Key}
-use Rattle.coll_text.specs.declared.table.Fields.{Fields}
+use Rattle.coll_text.specs.Table.{Fields}
 use Rattle.coll_text.specs.Numbers.{Word, IsBetween}
 use Rattle.coll_text.specs.Table.{forms_of, fields_of}
 use Rattle.coll_routes.specs.Owns.{is_own_of}

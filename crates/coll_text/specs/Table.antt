@@ -1,8 +1,9 @@
 -- The fields of each kind in their order, and what they make. (Own format; the kinds are those of
 -- MPI 4.1, chapters 6 to 8.)
-use Rattle.std.specs.Prelude.{ℤ, pos, List, [], ◌∷◌, Option, None}
-use Rattle.std.specs.Prelude.{unwrap_or}
+use Rattle.std.specs.Prelude.{ℕ, ℤ, pos, Bool, List, [], ◌∷◌, Option, None, unwrap_or}
+use Rattle.wall_labels.specs.declared.op.Op.{Op}
 use Rattle.wall_labels.specs.declared.op.Op.TheVariants as ops
+use Rattle.mpi_elems.specs.declared.elem_type.ElemType.{ElemType}
 use Rattle.mpi_elems.specs.declared.elem_type.ElemType.TheVariants as types
 use Rattle.coll_routes.specs.declared.kind.Kind.{Kind}
 use Rattle.coll_routes.specs.declared.kind.Kind.TheVariants as kinds
@@ -15,7 +16,18 @@ use Rattle.coll_routes.specs.Rolls.{counts_in}
 use Rattle.coll_text.specs.declared.table.Form.{Form}
 use Rattle.coll_text.specs.declared.table.Form.TheVariants.{Root, Operation, Typed, Count, Counts}
 use Rattle.coll_text.specs.declared.table.Form.TheVariants.{Listed, Flagged, Colour, Key}
-use Rattle.coll_text.specs.declared.table.Fields.{Fields}
+
+-- the fields of a statement; a kind has some of them
+pub record Fields : Type 0 where
+  pub root : ℕ
+  pub op : Op
+  pub elem_type : ElemType
+  pub count : ℕ
+  pub counts : List ℕ
+  pub list : List ℕ
+  pub flags : List Bool
+  pub colour : Option ℤ
+  pub key : ℤ
 
 unfoldable pub forms_of : Kind → List Form
 forms_of kinds.Barrier = []

@@ -1,23 +1,21 @@
 //! Reads a kind with its fields.
 ghost use Rattle.std.specs.Prelude.{◌≡◌, ◌≢◌, true, false, IfOk, IsOk, Err};
-ghost use Rattle.coll_text.specs.Reading.{Leaves, Takes};
+ghost use Rattle.coll_text.specs.Reading.{Takes};
 ghost use Rattle.coll_routes.specs.Signatures.{kind, kind as kind_of_signature, elem_type};
-ghost use Rattle.coll_text.specs.Checks.{bare, bare_of, bared, type_stated};
-ghost use Rattle.coll_text.specs.Table.{no_fields};
+ghost use Rattle.coll_text.specs.Checks.{passed, type_stated};
 ghost use Rattle.coll_routes.specs.Owns.{is_own_of};
-ghost use Rattle.coll_text.specs.Fields.{colour_of, with_field, fields_at, statement_at};
+ghost use Rattle.coll_text.specs.Fields.{colour_of, colour_at, key_at, numbers_at, flags_at};
 ghost use Rattle.coll_text.specs.Fields.{elem_type_at, op_at, block_at, folded_at, rooted_at};
-ghost use Rattle.coll_text.specs.Fields.{stated_at, is_plain, plain_at, reduced_at, gathered_at};
-ghost use Rattle.coll_text.specs.Fields.{reduces};
+ghost use Rattle.coll_text.specs.Fields.{reduced_at, gathered_at, is_plain, reduces, plain_at};
+ghost use Rattle.coll_text.specs.Fields.{listed_at, stated_at, statement_at};
 
 use crate::fault::LineFault;
 use crate::lists::{flags_in, numbers_in};
 use crate::memory::Memory;
 use crate::numbers::signed32;
 use crate::parts::Parts;
-use crate::table::{Fields, Form, forms, made_of};
-use crate::words::{next_number32, next_word, number_in};
-use coll_routes::{Kind, Own, Signature};
+use crate::words::{next_number32, next_word};
+use coll_routes::{Flags, Kind, Numbers, Own, Signature};
 use mpi_elems::ElemType;
 use std::alloc::Global;
 use wall_labels::Op;
@@ -34,95 +32,6 @@ pub(crate) fn colour_in(word: &[u8]) -> Option<Option<i32>>
             Some(n) => Some(Some(n)),
         }
     }
-}
-
-// Reads the counts that the poster states for itself.
-#[tactic(auto, unfolding(crate::specs::Fields::with_field))]
-fn read_counts(memory: &mut Memory, word: &[u8], fields: &mut Fields) -> Result<(), LineFault>
-    ensures kept { memory.new ≡ false →
-        Leaves result fields.new (with_field Form.Counts word.now fields.old) }
-    ensures bare { Leaves result (bare fields.new)
-        (bare_of (with_field Form.Counts word.now fields.old)) }
-    ensures stays { memory.new ≡ false → memory.old ≡ false }
-    ensures memory { result ≢ Err LineFault.NoMemory }
-{
-    let numbers = numbers_in(memory, word)?;
-    fields.counts = numbers;
-    Ok(())
-}
-
-// Reads a list of numbers.
-#[tactic(auto, unfolding(crate::specs::Fields::with_field))]
-fn read_listed(memory: &mut Memory, word: &[u8], fields: &mut Fields) -> Result<(), LineFault>
-    ensures kept { memory.new ≡ false →
-        Leaves result fields.new (with_field Form.Listed word.now fields.old) }
-    ensures bare { Leaves result (bare fields.new)
-        (bare_of (with_field Form.Listed word.now fields.old)) }
-    ensures stays { memory.new ≡ false → memory.old ≡ false }
-    ensures memory { result ≢ Err LineFault.NoMemory }
-{
-    let numbers = numbers_in(memory, word)?;
-    fields.list = numbers;
-    Ok(())
-}
-
-// Reads a list of flags.
-#[tactic(auto, unfolding(crate::specs::Fields::with_field))]
-fn read_flagged(memory: &mut Memory, word: &[u8], fields: &mut Fields) -> Result<(), LineFault>
-    ensures kept { memory.new ≡ false →
-        Leaves result fields.new (with_field Form.Flagged word.now fields.old) }
-    ensures bare { Leaves result (bare fields.new)
-        (bare_of (with_field Form.Flagged word.now fields.old)) }
-    ensures stays { memory.new ≡ false → memory.old ≡ false }
-    ensures memory { result ≢ Err LineFault.NoMemory }
-{
-    let flags = flags_in(memory, word)?;
-    fields.flags = flags;
-    Ok(())
-}
-
-// Reads a field of this form.
-#[tactic(auto, unfolding(crate::specs::Fields::with_field))]
-fn read_field(
-    memory: &mut Memory,
-    form: Form,
-    word: &[u8],
-    fields: &mut Fields,
-) -> Result<(), LineFault>
-    ensures kept { memory.new ≡ false →
-        Leaves result fields.new (with_field form word.now fields.old) }
-    ensures bare { Leaves result (bare fields.new) (bare_of (with_field form word.now fields.old)) }
-    ensures stays { memory.new ≡ false → memory.old ≡ false }
-    ensures memory { result ≢ Err LineFault.NoMemory }
-{
-    match form {
-        Form::Root => fields.root = number_in(word)?,
-        Form::Operation => fields.op = Op::named(word).ok_or(LineFault::UnknownOp)?,
-        Form::Typed => fields.elem_type = ElemType::named(word).ok_or(LineFault::BadType)?,
-        Form::Count => fields.count = number_in(word)?,
-        Form::Counts => read_counts(memory, word, fields)?,
-        Form::Listed => read_listed(memory, word, fields)?,
-        Form::Flagged => read_flagged(memory, word, fields)?,
-        Form::Colour => fields.colour = colour_in(word).ok_or(LineFault::BadField)?,
-        Form::Key => fields.key = signed32(word).ok_or(LineFault::BadField)?,
-    }
-    Ok(())
-}
-
-// Reads the fields of these forms.
-fn next_fields(memory: &mut Memory, forms: &[Form], words: &mut Parts) -> Result<Fields, LineFault>
-    ensures kept { memory.new ≡ false →
-        Takes (λ f. f) result words.new (fields_at forms.now no_fields words.old) }
-    ensures bare { Takes bare result words.new (bared (fields_at forms.now no_fields words.old)) }
-    ensures stays { memory.new ≡ false → memory.old ≡ false }
-    ensures memory { result ≢ Err LineFault.NoMemory }
-{
-    let mut fields = Fields::new(memory.alloc());
-    for form in forms {
-        let word = next_word(words)?;
-        read_field(memory, *form, word, &mut fields)?;
-    }
-    Ok(fields)
 }
 
 // Reads a type of elements.
@@ -198,6 +107,54 @@ fn next_gathered(words: &mut Parts) -> Result<(u32, ElemType), LineFault>
     let root = next_number32(words)?;
     let elem_type = next_type(words)?;
     Ok((root, elem_type))
+}
+
+// Reads a list of numbers.
+#[tactic(auto, unfolding(crate::specs::Fields::numbers_at))]
+fn next_numbers(memory: &mut Memory, words: &mut Parts) -> Result<Numbers, LineFault>
+    ensures kept { memory.new ≡ false →
+        Takes (λ ns. ns) result words.new (numbers_at words.old) }
+    ensures sound { Takes (λ ns. tt) result words.new (passed (numbers_at words.old)) }
+    ensures stays { memory.new ≡ false → memory.old ≡ false }
+    ensures memory { result ≢ Err LineFault.NoMemory }
+{
+    let word = next_word(words)?;
+    let numbers = numbers_in(memory, word)?;
+    Ok(numbers)
+}
+
+// Reads a list of flags.
+#[tactic(auto, unfolding(crate::specs::Fields::flags_at))]
+fn next_flags(memory: &mut Memory, words: &mut Parts) -> Result<Flags, LineFault>
+    ensures kept { memory.new ≡ false →
+        Takes (λ bs. bs) result words.new (flags_at words.old) }
+    ensures sound { Takes (λ bs. tt) result words.new (passed (flags_at words.old)) }
+    ensures stays { memory.new ≡ false → memory.old ≡ false }
+    ensures memory { result ≢ Err LineFault.NoMemory }
+{
+    let word = next_word(words)?;
+    let flags = flags_in(memory, word)?;
+    Ok(flags)
+}
+
+// Reads a colour.
+#[tactic(auto, unfolding(crate::specs::Fields::colour_at))]
+fn next_colour(words: &mut Parts) -> Result<Option<i32>, LineFault>
+    ensures read { Takes (λ colour. colour) result words.new (colour_at words.old) }
+    ensures memory { result ≢ Err LineFault.NoMemory }
+{
+    let word = next_word(words)?;
+    colour_in(word).ok_or(LineFault::BadField)
+}
+
+// Reads a key.
+#[tactic(auto, unfolding(crate::specs::Fields::key_at))]
+fn next_key(words: &mut Parts) -> Result<i32, LineFault>
+    ensures read { Takes (λ key. key) result words.new (key_at words.old) }
+    ensures memory { result ≢ Err LineFault.NoMemory }
+{
+    let word = next_word(words)?;
+    signed32(word).ok_or(LineFault::BadField)
 }
 
 // Whether the kind's fields are no lists, no colour and no key.
@@ -339,24 +296,72 @@ fn next_signature(kind: Kind, words: &mut Parts) -> Result<Signature, LineFault>
     }
 }
 
-// Reads the fields of a kind with lists, or with a colour and a key.
-#[tactic(auto, unfolding(crate::specs::Fields::stated_at))]
-fn next_made(
+// Reads the fields of a kind with lists, or with a colour and a key, straight into what they make.
+#[tactic(auto, unfolding(crate::specs::Fields::listed_at, coll_routes::specs::Signatures::kind, coll_routes::specs::Signatures::elem_type))]
+fn next_listing(
     memory: &mut Memory,
     kind: Kind,
     words: &mut Parts,
 ) -> Result<(Signature, Own), LineFault>
     requires { is_plain kind ≡ false }
     ensures kept { memory.new ≡ false →
-        Takes (λ s. s) result words.new (stated_at kind words.old) }
+        Takes (λ s. s) result words.new (listed_at kind words.old) }
     ensures typed { Takes (λ s. elem_type s.0) result words.new
-        (type_stated (stated_at kind words.old)) }
+        (type_stated (listed_at kind words.old)) }
     ensures form { IfOk result (λ s. is_own_of (kind_of_signature s.0) s.1 ≡ true) }
     ensures stays { memory.new ≡ false → memory.old ≡ false }
     ensures memory { result ≢ Err LineFault.NoMemory }
 {
-    let fields = next_fields(memory, forms(kind), words)?;
-    Ok(made_of(kind, fields))
+    match kind {
+        Kind::Scatterv => {
+            let (root, elem_type) = next_gathered(words)?;
+            let counts = next_numbers(memory, words)?;
+            Ok((Signature::Scatterv { root, elem_type }, Own::Counts(counts)))
+        }
+        Kind::Alltoallv => {
+            let elem_type = next_type(words)?;
+            let counts = next_numbers(memory, words)?;
+            Ok((Signature::Alltoallv { elem_type }, Own::Counts(counts)))
+        }
+        Kind::NeighborAlltoallv => {
+            let elem_type = next_type(words)?;
+            let counts = next_numbers(memory, words)?;
+            Ok((
+                Signature::NeighborAlltoallv { elem_type },
+                Own::Counts(counts),
+            ))
+        }
+        Kind::ReduceScatter => {
+            let op = next_op(words)?;
+            let elem_type = next_type(words)?;
+            let counts = next_numbers(memory, words)?;
+            let sig = Signature::ReduceScatter {
+                op,
+                elem_type,
+                counts,
+            };
+            Ok((sig, Own::Plain))
+        }
+        Kind::Split => {
+            let colour = next_colour(words)?;
+            let key = next_key(words)?;
+            Ok((Signature::Split, Own::Split { colour, key }))
+        }
+        Kind::Create => {
+            let ranks = next_numbers(memory, words)?;
+            Ok((Signature::Create { ranks }, Own::Plain))
+        }
+        Kind::CartCreate => {
+            let dims = next_numbers(memory, words)?;
+            let periods = next_flags(memory, words)?;
+            Ok((Signature::CartCreate { dims, periods }, Own::Plain))
+        }
+        Kind::CartSub => {
+            let keep = next_flags(memory, words)?;
+            Ok((Signature::CartSub { keep }, Own::Plain))
+        }
+        _ => unreachable!(),
+    }
 }
 
 // Reads the fields of this kind.
@@ -377,7 +382,7 @@ fn next_stated(
         let sig = next_signature(kind, words)?;
         return Ok((sig, Own::Plain));
     }
-    next_made(memory, kind, words)
+    next_listing(memory, kind, words)
 }
 
 /// Reads a kind and its fields: what the members of an instance state alike, and what the poster

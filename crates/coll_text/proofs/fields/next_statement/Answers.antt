@@ -2,7 +2,7 @@ use Rattle.std.proofs.lemmas.Result.{err_from_is_err_and}
 use Rattle.coll_routes.specs.Signatures.{elem_type}
 use Rattle.coll_text.specs.Fields.{statement_at}
 use Rattle.coll_text.proofs.EachLemmas.{fails_before}
-use Rattle.coll_text.proofs.BareLemmas.{type_is_known}
+use Rattle.coll_text.proofs.CheckLemmas.{type_is_known}
 use Rattle.coll_text.proofs.fields.next_statement.Goals as goal
 
 pub returns-in_err-read-clause-statement : goal.returns-in_err-read-clause-statement
