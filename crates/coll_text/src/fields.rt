@@ -1,5 +1,5 @@
 //! Reads a kind with its fields.
-ghost use Rattle.std.specs.Prelude.{◌≡◌, ◌≢◌, true, false, IfOk, IsOk, Err};
+ghost use Rattle.std.specs.Prelude.{◌≡◌, ◌≢◌, true, false, IfOk, Err};
 ghost use Rattle.coll_text.specs.Reading.{Takes};
 ghost use Rattle.coll_routes.specs.Signatures.{kind, kind as kind_of_signature, elem_type};
 ghost use Rattle.coll_text.specs.Checks.{passed, type_stated};
@@ -17,11 +17,10 @@ use crate::parts::Parts;
 use crate::words::{next_number32, next_word};
 use coll_routes::{Flags, Kind, Numbers, Own, Signature};
 use mpi_elems::ElemType;
-use std::alloc::Global;
 use wall_labels::Op;
 
 #[tactic(auto, unfolding(crate::specs::Fields::colour_of))]
-pub(crate) fn colour_in(word: &[u8]) -> Option<Option<i32>>
+fn colour_in(word: &[u8]) -> Option<Option<i32>>
     ensures { result ≡ colour_of word.now }
 {
     if word == b"undefined".as_slice() {
@@ -409,19 +408,4 @@ pub fn next_statement_in(
     let word = next_word(words)?;
     let kind = Kind::named(word).ok_or(LineFault::BadKind)?;
     next_stated(memory, kind, words)
-}
-
-/// Reads a kind and its fields so by memory of its own: out of memory where that ran out and the
-/// words have no fault.
-pub fn next_statement(alloc: Global, words: &mut Parts) -> Result<(Signature, Own), LineFault>
-    ensures statement { Takes (λ s. s) result words.new (statement_at words.old) }
-    ensures form { IfOk result (λ s. is_own_of (kind s.0) s.1 ≡ true) }
-    ensures sound { result ≡ Err LineFault.NoMemory → IsOk (statement_at words.old) }
-{
-    let mut memory = Memory::new(alloc);
-    let read = next_statement_in(&mut memory, words)?;
-    if memory.ran_out() {
-        return Err(LineFault::NoMemory);
-    }
-    Ok(read)
 }

@@ -6,7 +6,6 @@
 #![tactic(auto)]
 
 mod append;
-mod check;
 mod digits;
 mod eights;
 mod fault;
@@ -25,10 +24,9 @@ mod table;
 mod words;
 
 pub use append::{put, put_behind, put_decimal, put_signed};
-pub use check::check_statement;
 pub use digits::{put_enclosed, put_number_at, put_spaced};
 pub use fault::LineFault;
-pub use fields::{next_statement, next_statement_in};
+pub use fields::next_statement_in;
 pub use labels::{label_in, label_text, rule_text};
 pub use memory::Memory;
 pub use numbers::{number, number32, signed, signed32};

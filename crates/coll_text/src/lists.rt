@@ -18,7 +18,7 @@ const ROOM: usize = 64;
 // So many numbers of 32 bits, each with its comma, have no more bytes.
 const ROOM_BYTES: usize = 704;
 
-pub(crate) fn flag_in(word: &[u8]) -> Result<bool, LineFault>
+fn flag_in(word: &[u8]) -> Result<bool, LineFault>
     ensures flag { Gives result (flag_of word.now) }
     ensures memory { result ≢ Err LineFault.NoMemory }
 {

@@ -8,10 +8,20 @@ use std::alloc::{AllocError, Global};
 use std::process::Abort;
 use std::test::Fail;
 
+// The next statement; out of memory where a growth was refused and the words have no fault.
+fn read(rt: &impl AllocGlobal, words: &mut Parts) -> Result<(Signature, Own), LineFault> {
+    let mut memory = Memory::new(rt.alloc());
+    let statement = next_statement_in(&mut memory, words)?;
+    if memory.ran_out() {
+        return Err(LineFault::NoMemory);
+    }
+    Ok(statement)
+}
+
 // Whether the line is read whole, and written again as it was.
 fn is_spelled(rt: &(impl AllocGlobal + Abort), line: &str) -> bool {
     let mut words = Parts::new(line.as_bytes(), b' ');
-    match next_statement(rt.alloc(), &mut words) {
+    match read(rt, &mut words) {
         Ok((sig, own)) => {
             let is_so = end_of(&mut words).is_ok() && is_put_as(rt, &sig, &own, line);
             drop(sig);
@@ -31,7 +41,7 @@ fn is_put_as(rt: &impl AllocGlobal, sig: &Signature, own: &Own, line: &str) -> b
 
 // The fault of the next words, none where they are a statement.
 fn next_fault(rt: &impl AllocGlobal, words: &mut Parts) -> Option<LineFault> {
-    match next_statement(rt.alloc(), words) {
+    match read(rt, words) {
         Ok((sig, own)) => {
             drop(sig);
             drop(own);
@@ -197,7 +207,7 @@ fn room_of(sig: Signature) -> Option<usize> {
 // The room that the lists of this constructor took.
 fn list_room(rt: &impl AllocGlobal, line: &str) -> Option<usize> {
     let mut words = Parts::new(line.as_bytes(), b' ');
-    match next_statement(rt.alloc(), &mut words) {
+    match read(rt, &mut words) {
         Ok((sig, own)) => {
             drop(own);
             room_of(sig)
