@@ -10,4 +10,3 @@ pub mod PlainLemmas
 pub mod LineLemmas
 pub mod SayableRowProofs
 pub mod TellingLemmas
-pub mod AskLemmas

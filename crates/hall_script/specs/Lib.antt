@@ -9,4 +9,3 @@ pub mod Splitting
 pub mod Spellings
 pub mod Telling
 pub mod Asks
-pub mod AskChecks

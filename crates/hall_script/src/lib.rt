@@ -4,7 +4,6 @@
 mod answer;
 mod answerer;
 mod ask;
-mod check;
 mod copies;
 mod device;
 mod elements;

@@ -1,15 +1,15 @@
 //! Reads a line: the call that it says, or its first fault from the left.
-ghost use Rattle.std.specs.Prelude.{◌≡◌, ◌≢◌, ◌≤◌, IfOk, IsOk, Ok, Err};
+ghost use Rattle.std.specs.Prelude.{◌≡◌, ◌≢◌, ◌≤◌, true, false, IfOk, IsOk, Ok, Err};
 ghost use Rattle.coll_text.specs.Reading.{Gives};
 ghost use Rattle.run_model.specs.Known.{IsKnownLabel, HasKnownLabel};
 ghost use Rattle.hall_script.specs.Lines.{labelled, given_of, post_of, last_number, act_of};
 ghost use Rattle.hall_script.specs.Lines.{verb_of, verb_at, call_of, answer_to, IsPost};
+ghost use Rattle.hall_script.specs.Checking.{Agrees};
 
-use crate::check::check_call;
 use crate::elements::values;
 use coll_text::{
-    LineFault, Parts, are_printable, end_of, label_in, next_number, next_number32, next_statement,
-    next_word,
+    LineFault, Memory, Parts, are_printable, end_of, label_in, next_number, next_number32,
+    next_statement_in, next_word,
 };
 use mpi_elems::{Buffer, ElemType};
 use run_model::{Act, Call, Posting};
@@ -20,41 +20,49 @@ use wall_policy::Policy;
 // What stands behind `as`.
 #[tactic(auto, unfolding(crate::specs::Lines::labelled))]
 fn next_labelled(
-    alloc: Global,
+    memory: &mut Memory,
     policy: &Policy,
     elem_type: ElemType,
     words: &mut Parts,
 ) -> Result<(Label, Buffer), LineFault>
-    ensures given { Gives result (labelled policy.now.dataset_names elem_type words.old) }
+    ensures kept { memory.new ≡ false →
+        Gives result (labelled policy.now.dataset_names elem_type words.old) }
+    ensures sound { Agrees result (labelled policy.now.dataset_names elem_type words.old) }
     ensures known { IfOk result (λ r. IsKnownLabel policy.now r.0) }
+    ensures stays { memory.new ≡ false → memory.old ≡ false }
+    ensures memory { result ≢ Err LineFault.NoMemory }
 {
     let word = next_word(words)?;
     let label = label_in(policy, word)?;
-    let elements = values(alloc, elem_type, words)?;
+    let elements = values(memory, elem_type, words)?;
     Ok((label, elements))
 }
 
 // The part of a post behind its statement, whose elements have this type.
 #[tactic(auto, unfolding(crate::specs::Lines::given_of))]
 fn next_given(
-    alloc: Global,
+    memory: &mut Memory,
     policy: &Policy,
     elem_type: Option<ElemType>,
     words: &mut Parts,
 ) -> Result<(Label, Buffer), LineFault>
-    ensures given { Gives result (given_of policy.now.dataset_names elem_type words.old) }
+    ensures kept { memory.new ≡ false →
+        Gives result (given_of policy.now.dataset_names elem_type words.old) }
+    ensures sound { Agrees result (given_of policy.now.dataset_names elem_type words.old) }
     ensures known { IfOk result (λ r. IsKnownLabel policy.now r.0) }
+    ensures stays { memory.new ≡ false → memory.old ≡ false }
+    ensures memory { result ≢ Err LineFault.NoMemory }
 {
     match words.next() {
         None => {
             let elem_type = elem_type.unwrap_or(ElemType::Int8);
-            Ok((Label::Public, Buffer::empty(alloc, elem_type)))
+            Ok((Label::Public, Buffer::empty(memory.alloc(), elem_type)))
         }
         Some(word) => match elem_type {
             None => Err(LineFault::BadShape),
             Some(elem_type) => {
                 if word == b"as".as_slice() {
-                    next_labelled(alloc, policy, elem_type, words)
+                    next_labelled(memory, policy, elem_type, words)
                 } else {
                     Err(LineFault::BadShape)
                 }
@@ -64,13 +72,15 @@ fn next_given(
 }
 
 #[tactic(auto, unfolding(crate::specs::Lines::post_of))]
-fn next_post(alloc: Global, policy: &Policy, words: &mut Parts) -> Result<Act, LineFault>
-    ensures act { Gives result (post_of policy.now.dataset_names words.old) }
+fn next_post(memory: &mut Memory, policy: &Policy, words: &mut Parts) -> Result<Act, LineFault>
+    ensures kept { memory.new ≡ false → Gives result (post_of policy.now.dataset_names words.old) }
+    ensures sound { Agrees result (post_of policy.now.dataset_names words.old) }
     ensures known { IfOk result (HasKnownLabel policy.now) }
+    ensures memory { result ≢ Err LineFault.NoMemory }
 {
     let comm = next_number32(words)?;
-    let (sig, own) = next_statement(alloc, words)?;
-    let (label, elements) = next_given(alloc, policy, sig.elem_type(), words)?;
+    let (sig, own) = next_statement_in(memory, words)?;
+    let (label, elements) = next_given(memory, policy, sig.elem_type(), words)?;
     Ok(Act::Post(Posting {
         comm,
         sig,
@@ -115,17 +125,20 @@ pub(crate) fn verb_in(word: &[u8]) -> Option<Verb>
 // What stands behind the verb and the process.
 #[tactic(auto, unfolding(crate::specs::Lines::act_of))]
 pub(crate) fn next_act(
-    alloc: Global,
+    memory: &mut Memory,
     policy: &Policy,
     verb: Verb,
     words: &mut Parts,
 ) -> Result<Act, LineFault>
-    ensures act { Gives result (act_of policy.now.dataset_names verb words.old) }
+    ensures kept { memory.new ≡ false →
+        Gives result (act_of policy.now.dataset_names verb words.old) }
+    ensures sound { Agrees result (act_of policy.now.dataset_names verb words.old) }
     ensures known { IfOk result (HasKnownLabel policy.now) }
-    ensures memory { result ≡ Err LineFault.NoMemory → verb ≡ Verb.Post }
+    ensures post { memory.old ≡ false → memory.new ≡ true → verb ≡ Verb.Post }
+    ensures memory { result ≢ Err LineFault.NoMemory }
 {
     match verb {
-        Verb::Post => next_post(alloc, policy, words),
+        Verb::Post => next_post(memory, policy, words),
         Verb::Take => Ok(Act::Take(last_number_in(words, u64::MAX)?)),
         Verb::Info => {
             let comm = last_number_in(words, u64::from(u32::MAX))?;
@@ -135,15 +148,17 @@ pub(crate) fn next_act(
 }
 
 #[tactic(auto, unfolding(crate::specs::Lines::call_of))]
-fn next_call(alloc: Global, policy: &Policy, words: &mut Parts) -> Result<Call, LineFault>
-    ensures call { Gives result (call_of policy.now.dataset_names words.old) }
+fn next_call(memory: &mut Memory, policy: &Policy, words: &mut Parts) -> Result<Call, LineFault>
+    ensures kept { memory.new ≡ false → Gives result (call_of policy.now.dataset_names words.old) }
+    ensures sound { Agrees result (call_of policy.now.dataset_names words.old) }
     ensures known { IfOk result (λ call. HasKnownLabel policy.now call.act) }
-    ensures memory { result ≡ Err LineFault.NoMemory → verb_at words.old ≡ Ok Verb.Post }
+    ensures post { memory.old ≡ false → memory.new ≡ true → verb_at words.old ≡ Ok Verb.Post }
+    ensures memory { result ≢ Err LineFault.NoMemory }
 {
     let word = next_word(words)?;
     let verb = verb_in(word).ok_or(LineFault::BadVerb)?;
     let process = next_number32(words)?;
-    let act = next_act(alloc, policy, verb, words)?;
+    let act = next_act(memory, policy, verb, words)?;
     Ok(Call { process, act })
 }
 
@@ -167,13 +182,10 @@ pub fn read_call(alloc: Global, policy: &Policy, line: &[u8]) -> Result<Call, Li
     if !are_printable(line) {
         return Err(LineFault::BadShape);
     }
-    let mut words = Parts::new(line, b' ');
-    match next_call(alloc, policy, &mut words) {
-        Ok(call) => Ok(call),
-        Err(LineFault::NoMemory) => {
-            check_call(policy, &mut Parts::new(line, b' '))?;
-            Err(LineFault::NoMemory)
-        }
-        Err(fault) => Err(fault),
+    let mut memory = Memory::new(alloc);
+    let call = next_call(&mut memory, policy, &mut Parts::new(line, b' '))?;
+    if memory.ran_out() {
+        return Err(LineFault::NoMemory);
     }
+    Ok(call)
 }

@@ -8,10 +8,10 @@ use Rattle.hall_script.proofs.elements.fill.Goals as goal
 pub loop-word-preserved : goal.loop-word-preserved
 loop-word-preserved c =
     let more = grows c.loop-word.builder c.push_word.new.builder c.in-Some.word.now
-    c.in_ok-push_word.ensures in
+    c.in_ok-push_word.ensures.word in
     let next = goes_on c.loop-word.builder c.push_word.new.builder c.in-Some.word.now
     c.loop-word.words c.next.new.self (with_words c.args.builder.now c.args.line)
-    c.in-Some.ensures c.in_ok-push_word.ensures c.loop-word.invariant.so_far in
+    c.in-Some.ensures c.in_ok-push_word.ensures.word c.loop-word.invariant.so_far in
     let plain = c.in_ok-words-2.ensures in
     record {
       so_far = plain.filled ∙ next;
@@ -31,7 +31,7 @@ returns-in_err-push_word-clause-filled c =
     c.from_residual-in_err-push_word.ensures.1 in
     rw (p.1, p.2) (stops c.in_err-push_word.field-0.0 c.loop-word.builder c.in-Some.word.now
     c.loop-word.words c.next.new.self (with_words c.args.builder.now c.args.line)
-    c.in-Some.ensures c.in_err-push_word.ensures c.loop-word.invariant.so_far)
+    c.in-Some.ensures c.in_err-push_word.ensures.word c.loop-word.invariant.so_far)
 
 pub returns-in_err-words-2-clause-filled : goal.returns-in_err-words-2-clause-filled
 returns-in_err-words-2-clause-filled c =
@@ -39,7 +39,7 @@ returns-in_err-words-2-clause-filled c =
     c.from_residual-in_err-words-2.ensures.1 in
     let next = goes_on c.loop-word.builder c.push_word.new.builder c.in-Some.word.now
     c.loop-word.words c.next.new.self (with_words c.args.builder.now c.args.line)
-    c.in-Some.ensures c.in_ok-push_word.ensures c.loop-word.invariant.so_far in
+    c.in-Some.ensures c.in_ok-push_word.ensures.word c.loop-word.invariant.so_far in
     rw (p.1, p.2) (subst (Fails c.in_err-words-2.field-0.0) next
     c.in_err-words-2.ensures.fault)
 

@@ -7,11 +7,11 @@ use Rattle.hall_script.proofs.elements.fill_plain.Goals as goal
 pub loop-word-preserved : goal.loop-word-preserved
 loop-word-preserved c =
     let more = grows c.loop-word.builder c.push_plain.new.builder c.in-Some.word.now
-    c.in_ok-push_plain.ensures in
+    c.in_ok-push_plain.ensures.word in
     record {
       so_far = goes_on c.loop-word.builder c.push_plain.new.builder c.in-Some.word.now
           c.loop-word.words c.next_plain.new.self (with_words c.args.builder.now c.args.line)
-          c.in-Some.ensures.part c.in_ok-push_plain.ensures c.loop-word.invariant.so_far;
+          c.in-Some.ensures.part c.in_ok-push_plain.ensures.word c.loop-word.invariant.so_far;
       kind = more.kind ∙ c.loop-word.invariant.kind;
       room = more.room ∙ c.loop-word.invariant.room;
       count = let split = ap length c.in-Some.ensures.part in
@@ -23,11 +23,11 @@ loop-word-preserved c =
 pub loop-word-preserved-in_default-narrow : goal.loop-word-preserved-in_default-narrow
 loop-word-preserved-in_default-narrow c =
     let more = grows c.loop-word.builder c.push_wide.new.builder c.in-Some.word.now
-    c.in_ok-push_wide.ensures in
+    c.in_ok-push_wide.ensures.word in
     record {
       so_far = goes_on c.loop-word.builder c.push_wide.new.builder c.in-Some.word.now
           c.loop-word.words c.next_plain.new.self (with_words c.args.builder.now c.args.line)
-          c.in-Some.ensures.part c.in_ok-push_wide.ensures c.loop-word.invariant.so_far;
+          c.in-Some.ensures.part c.in_ok-push_wide.ensures.word c.loop-word.invariant.so_far;
       kind = more.kind ∙ c.loop-word.invariant.kind;
       room = more.room ∙ c.loop-word.invariant.room;
       count = let split = ap length c.in-Some.ensures.part in
@@ -42,11 +42,11 @@ returns-in_err-push_plain-clause-fault c =
     c.from_residual-in_err-push_plain.ensures.1 in
     rw (p.1, p.2) (stops c.in_err-push_plain.field-0.0 c.loop-word.builder c.in-Some.word.now
     c.loop-word.words c.next_plain.new.self (with_words c.args.builder.now c.args.line)
-    c.in-Some.ensures.part c.in_err-push_plain.ensures c.loop-word.invariant.so_far)
+    c.in-Some.ensures.part c.in_err-push_plain.ensures.word c.loop-word.invariant.so_far)
 
 pub returns-in_err-push_wide-clause-fault : goal.returns-in_err-push_wide-clause-fault
 returns-in_err-push_wide-clause-fault c =
     let p = err_from_is_err_and c.from_residual.result c.from_residual.ensures.1 in
     rw (p.1, p.2) (stops c.in_err-push_wide.field-0.0 c.loop-word.builder c.in-Some.word.now
     c.loop-word.words c.next_plain.new.self (with_words c.args.builder.now c.args.line)
-    c.in-Some.ensures.part c.in_err-push_wide.ensures c.loop-word.invariant.so_far)
+    c.in-Some.ensures.part c.in_err-push_wide.ensures.word c.loop-word.invariant.so_far)

@@ -3,7 +3,7 @@ use Rattle.coll_text.specs.Reading.{each_of}
 use Rattle.coll_text.specs.Checks.{checked}
 use Rattle.coll_text.proofs.CollTextLemmas.{check_goes_on, check_ends, check_done}
 use Rattle.hall_script.specs.Lines.{value_of}
-use Rattle.hall_script.proofs.check.check_each_value.Goals as goal
+use Rattle.hall_script.proofs.elements.check_each_value.Goals as goal
 
 pub returns-in_err-value_in-clause-values : goal.returns-in_err-value_in-clause-values
 returns-in_err-value_in-clause-values c =
