@@ -1,10 +1,12 @@
 -- What crates above may cite of the lemmas of this crate. Everything else in proofs/ is its own.
 pub use Rattle.audit_book.proofs.AgainLemmas.{line_lacks, header_whole}
-pub use Rattle.audit_book.proofs.BookLemmas.{all_lines, book_found, end_step, ended_found}
+pub use Rattle.audit_book.proofs.BookLemmas.{all_lines, book_found, done, end_step, ended_found}
 pub use Rattle.audit_book.proofs.BookLemmas.{ended_lines, header_step, line_text, lines_are}
-pub use Rattle.audit_book.proofs.BookLemmas.{lines_more, more_found, text_in_lines}
+pub use Rattle.audit_book.proofs.BookLemmas.{lines_more, more_found, same_done, text_in_lines}
 pub use Rattle.audit_book.proofs.CheckLemmas.{accepted_is, bare_posts, few_is, word_is}
-pub use Rattle.audit_book.proofs.FaultLemmas.{cut_found, parts_lines, parts_more, some_parts}
+pub use Rattle.audit_book.proofs.FaultLemmas.{cut_found, no_bad_cut, parts_lines, parts_more}
+pub use Rattle.audit_book.proofs.FaultLemmas.{some_parts}
+pub use Rattle.audit_book.proofs.ReadLemmas.{with_none}
 pub use Rattle.audit_book.proofs.StepLemmas.{bad_end, length_front, ok_more, post_counts, posts_few}
 pub use Rattle.audit_book.proofs.StepLemmas.{err_more, take_more}
 pub use Rattle.audit_book.proofs.TextAgainLemmas.{book_again, entries_again, header_again}

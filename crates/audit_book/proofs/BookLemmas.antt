@@ -41,11 +41,11 @@ pub line_text : (wall : ChineseWall) (line : Word) (l : Line) → line_at wall l
 line_text wall line l h = sym (join_with_byte-slice_split 32 line)
     ∙ ap (join_with_byte 32) (line_found wall (parts 32 line) l h)
 
-abbrev done : List Entry → Result (List Entry) ReadFault
+abbrev pub done : List Entry → Result (List Entry) ReadFault
 done es = Ok es
 
-ok_is : (x y : List Entry) → done x ≡ done y → x ≡ y
-ok_is x y e = cc
+pub same_done : (xs ys : List Entry) → done xs ≡ done ys → xs ≡ ys
+same_done xs ys e = cc
 
 -- one entry more
 pub record More (e : Entry) (others : Result (List Entry) ReadFault) (es : List Entry)
@@ -57,12 +57,12 @@ pub record More (e : Entry) (others : Result (List Entry) ReadFault) (es : List 
 pub more_found : (e : Entry) (others : Result (List Entry) ReadFault) (es : List Entry) →
     with_front (e ∷ []) others ≡ Ok es → More e others es
 more_found e (Ok rest) es h =
-    record { rest = rest; read = refl; whole = sym (ok_is (e ∷ rest) es h) }
+    record { rest = rest; read = refl; whole = sym (same_done (e ∷ rest) es h) }
 more_found e (Err f) es h = absurd cc
 
 empty_is : (rest : Word) (n : ℕ) (es : List Entry) (t : Bool) → eqb (length rest) 0 ≡ t →
     cond t (Ok []) (Err (BadLine n)) ≡ Ok es → (length rest ≡ 0) × (es ≡ [])
-empty_is rest n es true e h = (eqb-true (length rest) 0 e, sym (ok_is [] es h))
+empty_is rest n es true e h = (eqb-true (length rest) 0 e, sym (same_done [] es h))
 empty_is rest n es false e h = absurd cc
 
 nothing : (rest : Word) → length rest ≡ 0 → rest ≡ []

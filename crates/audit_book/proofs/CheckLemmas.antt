@@ -1,5 +1,5 @@
 -- A state whose posts have no parts, for the check of a book.
-use Rattle.std.proofs.Common.{◌≡◌, ℕ, suc, ◌<◌, List, [], ◌∷◌, length, refl, sym, ap, ◌∙◌, subst}
+use Rattle.std.proofs.Common.{◌≡◌, ℕ, suc, ◌<◌, List, [], ◌∷◌, length, refl, sym, ap, ◌∙◌}
 use Rattle.std.proofs.Common.{arith, not, Some, None}
 use Rattle.std.specs.Option.{option_map}
 use Rattle.wall_policy.specs.Policy.{ChineseWall}
@@ -42,24 +42,16 @@ accepted_is wall seen past post_state stands p c s taken =
     ∙ ((λ i. fault wall (bare_posts past i) p c s.sig s.own (stated_type s.sig) s.given)
     ∙ taken.accepted)
 
-module _ (wall : ChineseWall) (seen : PostStateView (Unit {0})) (past : List Post)
+-- and its word is right, also of an equal statement
+pub word_is : (wall : ChineseWall) (seen : PostStateView (Unit {0})) (past : List Post)
     (stands : StandsForPosts wall seen (bare past)) (seat : Seat) (s stated : Stated)
-    (same : s ≡ stated) where
-  -- what was looked at, of an equal statement
-  pub looked_is : LookedAt seen seat stated.sig stated.own (stated_type stated.sig) stated.given →
-      LookedAt seen seat s.sig s.own (stated_type s.sig) s.given
-  looked_is looked = subst
-      (λ (q : Stated). LookedAt seen seat q.sig q.own (stated_type q.sig) q.given) (sym same)
-      looked
-
-  -- and its word is right
-  pub word_is : IsCounted wall (post_of seat.process seat.meeting.comm stated) past →
-      s.barred ≡ not (star (has seen.accesses) seat.process s.label)
-  word_is taken =
-      let held : histories wall past ≡ has seen.accesses = ap (λ posts. histories wall posts)
-      (sym (bare_posts past)) ∙ sym stands.histories in
-      ap (λ (q : Stated). q.barred) same
-      ∙ (taken.word ∙ (λ i. not (star (held i) seat.process (sym same i).label)))
+    (same : s ≡ stated) → IsCounted wall (post_of seat.process seat.meeting.comm stated) past →
+    s.barred ≡ not (star (has seen.accesses) seat.process s.label)
+word_is wall seen past stands seat s stated same taken =
+    let held : histories wall past ≡ has seen.accesses = ap (λ posts. histories wall posts)
+    (sym (bare_posts past)) ∙ sym stands.histories in
+    ap (λ (q : Stated). q.barred) same
+    ∙ (taken.word ∙ (λ i. not (star (held i) seat.process (sym same i).label)))
 
 pub few_is : (wall : ChineseWall) (seen : PostStateView (Unit {0})) (past : List Post) →
     StandsForPosts wall seen (bare past) → (seat : Seat) (sig : Signature) (own : Own)
@@ -83,11 +75,9 @@ told_by wall x past posts (Settled full k o) same told =
     let came : outcome wall x posts ≡ Some o = ap (λ ps. outcome wall x ps) (sym same) ∙ told.3 in
     ap (λ n. Some (settled x.comm n o)) at ∙ sym (ap (λ v. outcome_entry x posts v) came))
 
-pub told_is : (wall : ChineseWall) (p c : ℕ) (s stated : Stated) (past : List Post)
-    (e : Entered (Unit {0})) → s ≡ stated →
+pub told_is : (wall : ChineseWall) (p c : ℕ) (s : Stated) (past : List Post)
+    (e : Entered (Unit {0})) →
     Tells wall (record { post = post_of p c s; part = tt }) (bare past) e →
     option_map entry_of (due_after c e)
-    ≡ outcome_entry (post_of p c stated) past (outcome wall (post_of p c stated) past)
-told_is wall p c s stated past e same told = told_by wall (post_of p c stated) past past e
-    (bare_posts past)
-    (subst (λ q. Tells wall (record { post = post_of p c q; part = tt }) (bare past) e) same told)
+    ≡ outcome_entry (post_of p c s) past (outcome wall (post_of p c s) past)
+told_is wall p c s past e told = told_by wall (post_of p c s) past past e (bare_posts past) told

@@ -219,7 +219,7 @@ fault n = Err (BadLine n)
 same_line : (m n : ℕ) → fault m ≡ fault n → n ≡ m
 same_line m n h = cc
 
-no_bad_cut : (n : ℕ) → said (Err Cut) ≡ Err (BadLine n) → ⊥
+pub no_bad_cut : (n : ℕ) → said (Err Cut) ≡ Err (BadLine n) → ⊥
 no_bad_cut n h = cc
 
 last_bad : (m n : ℕ) (next : Word) (t : Bool) → eqb (length next) 0 ≡ t →

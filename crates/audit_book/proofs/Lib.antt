@@ -12,7 +12,6 @@ pub mod RangeLemmas
 pub mod WriteLemmas
 pub mod NamedLemmas
 pub mod FaultLemmas
-pub mod ScanLemmas
 pub mod SpelledRowProofs
 mod SameLemmas
 pub mod AuditBookLemmas

@@ -252,8 +252,8 @@ module _ (wall : ChineseWall) where
       let k : (Made f.0.0 n.0.0, n.0.1) ≡ x = ok_is (Made f.0.0 n.0.0, n.0.1) x n.2 in
       subst (λ (x : Outcome × List Word). IsKnownOutcome wall x.0) k tt
 
-  came_known : (c : OutcomeWord) (ws : List Word) (x : Outcome × List Word) → came_to wall c ws ≡ Ok x →
-      IsKnownOutcome wall x.0
+  came_known : (c : OutcomeWord) (ws : List Word) (x : Outcome × List Word) →
+      came_to wall c ws ≡ Ok x → IsKnownOutcome wall x.0
   came_known came.Granted ws x h =
       subst (λ (x : Outcome × List Word). IsKnownOutcome wall x.0) (ok_is (Granted, ws) x h) tt
   came_known came.Denied ws x h = denied_known ws x h

@@ -1,7 +1,8 @@
--- The lines of posts, piece by piece.
-use Rattle.std.proofs.Common.{◌≡◌, ℕ, List, [], ◌∷◌, ◌++◌, codes, sym, ap, ◌∙◌}
+-- The lines of entries, piece by piece.
+use Rattle.std.proofs.Common.{◌≡◌, ℕ, List, [], ◌∷◌, ◌++◌, codes, refl, sym, ap, ◌∙◌}
 use Rattle.std.proofs.Common.{append_assoc}
 use Rattle.std.specs.Fmt.{decimal}
+use Rattle.std.specs.List.{join_with_byte}
 use Rattle.std.proofs.lemmas.Grind.{flat_map-append}
 use Rattle.wall_policy.specs.Policy.{ChineseWall}
 use Rattle.coll_routes.specs.Kinds.{kind_name}
@@ -9,13 +10,15 @@ use Rattle.coll_routes.specs.Signatures.{kind}
 use Rattle.coll_routes.specs.declared.signature.Signature.{Signature}
 use Rattle.coll_routes.specs.declared.statement.Own.{Own}
 use Rattle.coll_routes.specs.declared.statement.Stated.{Stated}
+use Rattle.run_model.specs.declared.outcome.Outcome.{Outcome}
+use Rattle.run_model.specs.declared.outcome.Outcome.TheVariants.{Granted, Denied, Made, NoRoom}
 use Rattle.coll_text.specs.Numbers.{Word}
 use Rattle.coll_text.specs.Spaced.{behind_each}
 use Rattle.coll_text.specs.Spellings.{words_of, statement_words, statement_text}
 use Rattle.coll_text.specs.Table.{forms_of, fields_of}
 use Rattle.coll_text.proofs.CollTextLemmas.{join_cons}
-use Rattle.audit_book.specs.Text.{given_words, given_end, post_words}
-use Rattle.audit_book.specs.Text.{line_of}
+use Rattle.audit_book.specs.Text.{given_words, given_end, post_words, verdict_words}
+use Rattle.audit_book.specs.Text.{outcome_words, line_of}
 
 -- a line is its first word, and the others behind spaces
 line_cons : (w : Word) (ws : List Word) → line_of (w ∷ ws) ≡ w ++ (behind_each 32 ws ++ (10 ∷ []))
@@ -76,3 +79,31 @@ post_put wall p q c s old numbered begun stated new n same b m e =
     (given_end wall s)
     ∙ ap (λ (m : ℕ). old ++ (begin_of_post m c ++ (text ++ given_end wall s))) same
     ∙ ap (λ (t : List ℕ). old ++ t) (sym (post_line wall q c s))
+
+outcome_behind : (wall : ChineseWall) (o : Outcome) (w : Word) →
+    join_with_byte 32 (w ∷ outcome_words wall o)
+    ≡ w ++ (32 ∷ join_with_byte 32 (outcome_words wall o))
+outcome_behind wall Granted w = refl
+outcome_behind wall (Denied rule process label) w = refl
+outcome_behind wall (Made first number) w = refl
+outcome_behind wall NoRoom w = refl
+
+behind_three : (old a b c d : List ℕ) →
+    old ++ (a ++ (32 ∷ [])) ++ b ++ (32 ∷ []) ++ c ++ (32 ∷ []) ++ (d ++ (10 ∷ []))
+    ≡ old ++ ((a ++ (32 ∷ (b ++ (32 ∷ (c ++ (32 ∷ d)))))) ++ (10 ∷ []))
+behind_three old a b c d = simp append_assoc
+
+-- the same of a verdict, in three
+pub verdict_put : (wall : ChineseWall) (c k : ℕ) (o : Outcome) (old numbered begun new : List ℕ) →
+    numbered ≡ old ++ codes "verdict " ++ decimal c ++ codes " " ++ decimal k →
+    begun ≡ numbered ++ codes " " → new ≡ begun ++ line_of (outcome_words wall o) →
+    new ≡ old ++ line_of (verdict_words wall c k o)
+unfolding verdict_words
+verdict_put wall c k o old numbered begun new n b e =
+    e
+    ∙ ap (λ (t : List ℕ). t ++ line_of (outcome_words wall o))
+    (b ∙ ap (λ (t : List ℕ). t ++ codes " ") n)
+    ∙ behind_three old (codes "verdict") (decimal c) (decimal k)
+    (join_with_byte 32 (outcome_words wall o))
+    ∙ ap (λ (t : List ℕ). old ++ ((codes "verdict" ++ (32 ∷ (decimal c ++ (32 ∷ t))))
+    ++ (10 ∷ []))) (sym (outcome_behind wall o (decimal k)))

@@ -17,11 +17,16 @@ use Rattle.run_state.specs.declared.seat.Seat.{Seat}
 use Rattle.run_state.specs.Views.{PostStateValue, view_of, LookedAt}
 use Rattle.run_state.specs.Stands.{StandsForPosts}
 use Rattle.audit_book.specs.declared.due.Due.{Due}
+use Rattle.audit_book.specs.declared.check.Posting.{Posting}
 use Rattle.audit_book.specs.declared.check_fault.BookFault.{BookFault}
 use Rattle.audit_book.specs.declared.check_fault.BookFault.TheVariants.{BadEntry, NoMemory}
 
 abbrev pub post_of : (p c : ℕ) → Stated → Post
 post_of p c stated = record { process = p; comm = c; stated = stated }
+
+-- the post that stands in a book
+abbrev pub post_in : Posting → Post
+post_in posting = post_of posting.process posting.comm posting.stated.now
 
 -- the same posts, each without a part
 abbrev pub bare : List Post → List (Contribution (Unit {0}))
@@ -81,10 +86,10 @@ IsPostThatCounts wall post_state (Posted p c s) = (past : List Post) → Stands 
     → IsCounted wall (post_of p c s) past
 IsPostThatCounts wall post_state (Settled c k o) = ⊥
 
--- so many entries are right
-abbrev pub IsRightFor : ChineseWall → PostStateValue (Unit {0}) → Option Due → Type 0
-IsRightFor wall post_state due =
-    (entries : List Entry) × (length entries < 2 ^ 62) × IsRight wall post_state entries due
+-- so many entries are right, and none is due
+abbrev pub IsRightFor : ChineseWall → PostStateValue (Unit {0}) → Type 0
+IsRightFor wall post_state =
+    (entries : List Entry) × (length entries < 2 ^ 62) × IsRight wall post_state entries None
 
 -- what a fault says of a book; out of memory says nothing
 abbrev pub IsFaultOf : ChineseWall → List Entry → BookFault → Type 0

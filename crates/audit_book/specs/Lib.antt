@@ -14,7 +14,5 @@ pub mod Writing
 pub mod Checks
 -- what is due behind the entries of a book
 pub mod Dues
--- how lines are read and written one after the other (of private contracts)
+-- how lines are read one after the other, where memory may run out (of private contracts)
 pub mod LineSteps
--- how a text is gone through where memory ran out (of private contracts)
-pub mod LineChecks

@@ -1,6 +1,6 @@
 //! The check of a book.
 ghost use Rattle.std.specs.Prelude.{◌≡◌, ◌<◌, ◌^◌, ◌∷◌, ◌++◌, [], List, length, IfOk, IfErr};
-ghost use Rattle.std.specs.Prelude.{OnOk, true};
+ghost use Rattle.std.specs.Prelude.{OnOk, None, true};
 ghost use Rattle.std.specs.Result.{result_err};
 ghost use Rattle.wall_policy.specs.Policy.{ChineseWall};
 ghost use Rattle.coll_routes.specs.Faults.{stated_type};
@@ -14,8 +14,8 @@ ghost use Rattle.run_model.specs.EntryForms.{HasForm};
 ghost use Rattle.run_state.specs.Views.{LookedAt, view_of};
 ghost use Rattle.audit_book.specs.declared.check.Stopped.TheVariants.{Wrong};
 ghost use Rattle.audit_book.specs.declared.check.Stopped.TheVariants.{NoMemory as WantsMemory};
-ghost use Rattle.audit_book.specs.Checks.{post_of, due_after, Stands, MayEnter, HasEntered};
-ghost use Rattle.audit_book.specs.Checks.{HasCounted, IsRight, IsRightFor, IsFaultOf};
+ghost use Rattle.audit_book.specs.Checks.{post_of, post_in, due_after, Stands, MayEnter};
+ghost use Rattle.audit_book.specs.Checks.{HasEntered, HasCounted, IsRight, IsRightFor, IsFaultOf};
 ghost use Rattle.audit_book.specs.Checks.{IsPostThatCounts};
 ghost use Rattle.audit_book.specs.Dues.{IsFaultWithin};
 
@@ -88,7 +88,15 @@ pub(crate) fn follow_entries(
 {
     let mut due: Option<Due> = None;
     for at in 0..book.len() {
-        match follow(alloc, policy, post_state, due, book.get(at)) {
+        let entry = book.get(at);
+        if let Some(awaited) = due {
+            if !awaited.is_entry(entry) {
+                return Err(BookFault::BadEntry(at as u64 + 1));
+            }
+            due = None;
+            continue;
+        }
+        match follow(alloc, policy, post_state, entry) {
             Ok(next) => due = next,
             Err(Stopped::Wrong) => return Err(BookFault::BadEntry(at as u64 + 1)),
             Err(Stopped::NoMemory) => return Err(BookFault::NoMemory),
@@ -105,41 +113,46 @@ enum Stopped {
     NoMemory,
 }
 
-// Goes on by one entry, where a certain one may be due, and tells which is due then.
+// A post, as it stands in a book.
+#[derive(Clone, Copy)]
+struct Posting<'a> {
+    process: ProcessId,
+    comm: u32,
+    stated: &'a Stated,
+}
+
+// Goes on by one entry, where none is due, and tells which is due then.
 fn follow(
     alloc: Global,
     policy: &Policy,
     post_state: &mut PostState<()>,
-    due: Option<Due>,
     entry: &Entry,
 ) -> Result<Option<Due>, Stopped>
-    requires right { IsRightFor policy.now post_state.old due }
+    requires right { IsRightFor policy.now post_state.old }
     requires form { HasForm entry.now }
     ensures right { IfOk result (λ next. (entries : List Entry) →
-        IsRight policy.now post_state.old entries due →
+        IsRight policy.now post_state.old entries None →
         IsRight policy.now post_state.new (entries ++ entry.now ∷ []) next) }
     ensures wrong { IfErr result (λ stopped. stopped ≡ Wrong → (entries : List Entry) →
-        IsRight policy.now post_state.old entries due →
+        IsRight policy.now post_state.old entries None →
         ¬ (Begins policy.now (entries ++ entry.now ∷ []))) }
     ensures memory { IfErr result (λ stopped. stopped ≡ WantsMemory →
         IsPostThatCounts policy.now post_state.old entry.now) }
 {
-    match due {
-        Some(awaited) => {
-            if awaited.is_entry(entry) {
-                Ok(None)
-            } else {
-                Err(Stopped::Wrong)
-            }
-        }
-        None => match entry {
-            Entry::Posted {
-                process,
-                comm,
+    match entry {
+        Entry::Posted {
+            process,
+            comm,
+            stated,
+        } => {
+            let posting = Posting {
+                process: *process,
+                comm: *comm,
                 stated,
-            } => count(alloc, policy, post_state, *process, *comm, stated),
-            Entry::Settled { .. } => Err(Stopped::Wrong),
-        },
+            };
+            count(alloc, policy, post_state, &posting)
+        }
+        Entry::Settled { .. } => Err(Stopped::Wrong),
     }
 }
 
@@ -148,29 +161,31 @@ fn count(
     alloc: Global,
     policy: &Policy,
     post_state: &mut PostState<()>,
-    process: ProcessId,
-    comm: u32,
-    stated: &Stated,
+    posting: &Posting,
 ) -> Result<Option<Due>, Stopped>
     requires stands { (past : List Post) × (length past < 2 ^ 62)
         × Stands policy.now post_state.old past }
-    requires label { is_labelled stated.now ≡ true }
-    ensures counted { IfOk result (HasCounted policy.now post_state.old post_state.new
-        (post_of process comm stated.now)) }
+    requires label { is_labelled posting.now.stated.now ≡ true }
+    ensures counted { IfOk result
+        (HasCounted policy.now post_state.old post_state.new (post_in posting.now)) }
     ensures wrong { IfErr result (λ stopped. stopped ≡ Wrong → (past : List Post) →
         Stands policy.now post_state.old past →
-        ¬ (IsCounted policy.now (post_of process comm stated.now) past)) }
+        ¬ (IsCounted policy.now (post_in posting.now) past)) }
     ensures memory { IfErr result (λ stopped. stopped ≡ WantsMemory → (past : List Post) →
-        Stands policy.now post_state.old past →
-        IsCounted policy.now (post_of process comm stated.now) past) }
+        Stands policy.now post_state.old past → IsCounted policy.now (post_in posting.now) past) }
 {
-    match look(policy, post_state, process, comm, stated) {
+    match look(policy, post_state, posting) {
         Err(_) => Err(Stopped::Wrong),
         Ok(seat) => {
-            if stated.barred == passes(post_state, &seat, &stated.label) {
+            let stated = posting.stated;
+            let may_pass = passes(post_state, &seat, &stated.label);
+            if stated.barred == may_pass {
                 return Err(Stopped::Wrong);
             }
-            match enter(alloc, policy, post_state, seat, stated) {
+            let Ok(copy) = stated.copy(alloc) else {
+                return Err(Stopped::NoMemory);
+            };
+            match enter(policy, post_state, seat, copy) {
                 Ok(due) => Ok(due),
                 Err(_) => Err(Stopped::NoMemory),
             }
@@ -179,21 +194,17 @@ fn count(
 }
 
 // What a post meets, for the posts so far, or why it would be refused.
-fn look(
-    policy: &Policy,
-    post_state: &PostState<()>,
-    process: ProcessId,
-    comm: u32,
-    stated: &Stated,
-) -> Result<Seat, Refusal>
+fn look(policy: &Policy, post_state: &PostState<()>, posting: &Posting) -> Result<Seat, Refusal>
     ensures fault { (past : List Post) → Stands policy.now post_state.now past →
-        result_err result ≡ post_fault policy.now past (post_of process comm stated.now) }
-    ensures process { IfOk result (λ seat. seat.process ≡ process) }
-    ensures comm { IfOk result (λ seat. seat.meeting.comm ≡ comm) }
-    ensures looked { IfOk result (λ seat. LookedAt (view_of post_state.now) seat stated.now.sig
-        stated.now.own (stated_type stated.now.sig) stated.now.given) }
+        result_err result ≡ post_fault policy.now past (post_in posting.now) }
+    ensures process { IfOk result (λ seat. seat.process ≡ posting.now.process) }
+    ensures comm { IfOk result (λ seat. seat.meeting.comm ≡ posting.now.comm) }
+    ensures looked { IfOk result (λ seat. LookedAt (view_of post_state.now) seat
+        posting.now.stated.now.sig posting.now.stated.now.own
+        (stated_type posting.now.stated.now.sig) posting.now.stated.now.given) }
 {
-    post_state.look(policy, process.number(), comm, Terms::of(stated))
+    let terms = Terms::of(posting.stated);
+    post_state.look(policy, posting.process.number(), posting.comm, terms)
 }
 
 // Whether the star rule lets the process of the seat post elements with this label.
@@ -206,17 +217,15 @@ fn passes(post_state: &PostState<()>, seat: &Seat, label: &Option<Label>) -> boo
 
 // Enters a post that counts, as a look found it, and tells which entry is due after it.
 fn enter(
-    alloc: Global,
     policy: &Policy,
     post_state: &mut PostState<()>,
     seat: Seat,
-    stated: &Stated,
+    stated: Stated,
 ) -> Result<Option<Due>, NoMemory>
-    requires { MayEnter policy.now post_state.old seat stated.now }
+    requires { MayEnter policy.now post_state.old seat stated }
     ensures { IfOk result (HasEntered policy.now post_state.old post_state.new
-        (post_of seat.process seat.meeting.comm stated.now)) }
+        (post_of seat.process seat.meeting.comm stated)) }
 {
-    let stated = stated.copy(alloc)?;
     let comm = seat.meeting.comm;
     let does = seat.meeting.does;
     if let Next::Joins = does {

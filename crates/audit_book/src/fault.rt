@@ -1,7 +1,6 @@
 //! Why a book is not read, or not written.
 use std::alloc::AllocError;
 use thiserror::Error;
-use wall_labels::NoMemory as OutOfMemory;
 
 /// Why a text is no book. (Own format.)
 ///
@@ -18,17 +17,6 @@ pub enum ReadFault {
     /// Memory ran out.
     #[error("out of memory")]
     NoMemory,
-}
-
-impl From<OutOfMemory> for ReadFault {
-    ghost use Rattle.std.specs.Prelude.{◌≡◌};
-    ghost use Rattle.audit_book.specs.declared.fault.ReadFault.TheVariants.{NoMemory};
-
-    ghost from_gives = { λ _ e. e ≡ NoMemory };
-
-    fn from(_e: OutOfMemory) -> ReadFault {
-        ReadFault::NoMemory
-    }
 }
 
 /// Why a book was not written whole. A prefix of its text is written.

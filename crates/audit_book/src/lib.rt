@@ -24,7 +24,6 @@ pub mod laws;
 mod line;
 mod ranges;
 mod read;
-mod scan;
 mod words;
 mod write;
 

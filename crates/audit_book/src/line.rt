@@ -1,19 +1,24 @@
 //! Reads a line of a book.
-ghost use Rattle.std.specs.Prelude.{◌≢◌, IfOk, Err};
+//!
+//! Where memory runs out, that is said to the memory, and the line is read on: the first fault of
+//! it is told all the same, else whether it is an entry or the end.
+ghost use Rattle.std.specs.Prelude.{◌≡◌, ◌≢◌, false, IfOk, Err};
 ghost use Rattle.coll_text.specs.Reading.{Gives, Takes};
+ghost use Rattle.coll_text.specs.Checks.{checked, Shows};
 ghost use Rattle.run_model.specs.EntryForms.{HasForm};
 ghost use Rattle.audit_book.specs.Lines.{post_at, denied_at, made_at, came_to, outcome_at};
 ghost use Rattle.audit_book.specs.Lines.{verdict_at, end_at, line_behind, line_in, line_at};
-ghost use Rattle.audit_book.specs.LineSteps.{IsFormed};
+ghost use Rattle.audit_book.specs.LineSteps.{IsFormed, number_of_end, told};
 
 use crate::words::{
     OutcomeWord, Verb, came_in, next_given, next_label, next_named, next_process, next_rule,
     verb_in,
 };
 use coll_routes::Stated;
-use coll_text::{LineFault, Parts, end_of, next_number, next_number32, next_statement, next_word};
+use coll_text::{
+    LineFault, Memory, Parts, end_of, next_number, next_number32, next_statement_in, next_word,
+};
 use run_model::{Entry, Outcome};
-use std::alloc::Global;
 use wall_policy::Policy;
 
 /// A finished line behind the header.
@@ -27,13 +32,16 @@ pub enum Line {
 
 // What stands behind `post`.
 #[tactic(auto, unfolding(crate::specs::Lines::post_at))]
-fn next_post(alloc: Global, policy: &Policy, words: &mut Parts) -> Result<Entry, LineFault>
-    ensures entry { Gives result (post_at policy.now words.old) }
+fn next_post(memory: &mut Memory, policy: &Policy, words: &mut Parts) -> Result<Entry, LineFault>
+    ensures kept { memory.new ≡ false → Gives result (post_at policy.now words.old) }
+    ensures told { Shows (λ entry. tt) result (checked (post_at policy.now words.old)) }
     ensures form { IfOk result HasForm }
+    ensures stays { memory.new ≡ false → memory.old ≡ false }
+    ensures memory { result ≢ Err LineFault.NoMemory }
 {
     let process = next_process(policy, words)?;
     let comm = next_number32(words)?;
-    let (sig, own) = next_statement(alloc, words)?;
+    let (sig, own) = next_statement_in(memory, words)?;
     let given = next_given(policy, words)?;
     end_of(words)?;
     Ok(Entry::Posted {
@@ -98,7 +106,7 @@ fn next_outcome(policy: &Policy, words: &mut Parts) -> Result<Outcome, LineFault
 
 // What stands behind `verdict`.
 #[tactic(auto, unfolding(crate::specs::Lines::verdict_at))]
-pub(crate) fn next_verdict(policy: &Policy, words: &mut Parts) -> Result<Entry, LineFault>
+fn next_verdict(policy: &Policy, words: &mut Parts) -> Result<Entry, LineFault>
     ensures entry { Gives result (verdict_at policy.now words.old) }
     ensures form { IfOk result HasForm }
     ensures memory { result ≢ Err LineFault.NoMemory }
@@ -112,7 +120,7 @@ pub(crate) fn next_verdict(policy: &Policy, words: &mut Parts) -> Result<Entry, 
 
 // What stands behind `end`.
 #[tactic(auto, unfolding(crate::specs::Lines::end_at))]
-pub(crate) fn next_end(words: &mut Parts) -> Result<u64, LineFault>
+fn next_end(words: &mut Parts) -> Result<u64, LineFault>
     ensures number { Gives result (end_at words.old) }
     ensures memory { result ≢ Err LineFault.NoMemory }
 {
@@ -122,16 +130,19 @@ pub(crate) fn next_end(words: &mut Parts) -> Result<u64, LineFault>
 }
 
 fn next_behind(
-    alloc: Global,
+    memory: &mut Memory,
     policy: &Policy,
     verb: Verb,
     words: &mut Parts,
 ) -> Result<Line, LineFault>
-    ensures line { Gives result (line_behind policy.now verb words.old) }
+    ensures kept { memory.new ≡ false → Gives result (line_behind policy.now verb words.old) }
+    ensures told { Shows number_of_end result (told (line_behind policy.now verb words.old)) }
     ensures form { IfOk result IsFormed }
+    ensures stays { memory.new ≡ false → memory.old ≡ false }
+    ensures memory { result ≢ Err LineFault.NoMemory }
 {
     match verb {
-        Verb::Post => match next_post(alloc, policy, words) {
+        Verb::Post => match next_post(memory, policy, words) {
             Ok(entry) => Ok(Line::Said(entry)),
             Err(fault) => Err(fault),
         },
@@ -144,20 +155,30 @@ fn next_behind(
 }
 
 #[tactic(auto, unfolding(crate::specs::Lines::line_in))]
-fn next_line(alloc: Global, policy: &Policy, words: &mut Parts) -> Result<Line, LineFault>
-    ensures line { Gives result (line_in policy.now words.old) }
+fn next_line(memory: &mut Memory, policy: &Policy, words: &mut Parts) -> Result<Line, LineFault>
+    ensures kept { memory.new ≡ false → Gives result (line_in policy.now words.old) }
+    ensures told { Shows number_of_end result (told (line_in policy.now words.old)) }
     ensures form { IfOk result IsFormed }
+    ensures stays { memory.new ≡ false → memory.old ≡ false }
+    ensures memory { result ≢ Err LineFault.NoMemory }
 {
     let word = next_word(words)?;
     let verb = verb_in(word).ok_or(LineFault::BadVerb)?;
-    next_behind(alloc, policy, verb, words)
+    next_behind(memory, policy, verb, words)
 }
 
 /// Reads a line behind the header, without its end.
-pub(crate) fn read_line(alloc: Global, policy: &Policy, line: &[u8]) -> Result<Line, LineFault>
-    ensures line { Gives result (line_at policy.now line.now) }
+pub(crate) fn read_line(
+    memory: &mut Memory,
+    policy: &Policy,
+    line: &[u8],
+) -> Result<Line, LineFault>
+    ensures kept { memory.new ≡ false → Gives result (line_at policy.now line.now) }
+    ensures told { Shows number_of_end result (told (line_at policy.now line.now)) }
     ensures form { IfOk result IsFormed }
+    ensures stays { memory.new ≡ false → memory.old ≡ false }
+    ensures memory { result ≢ Err LineFault.NoMemory }
 {
     let mut words = Parts::new(line, b' ');
-    next_line(alloc, policy, &mut words)
+    next_line(memory, policy, &mut words)
 }

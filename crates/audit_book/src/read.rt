@@ -1,35 +1,68 @@
 //! Reads a book.
-ghost use Rattle.std.specs.Prelude.{◌≡◌, ◌≢◌, [], ◌∷◌, All, IfOk, IsOk, Err};
+//!
+//! Where memory runs out the text is read on, and its entries may be lacking in what was kept: a
+//! fault behind is told before out of memory.
+ghost use Rattle.std.specs.Prelude.{◌≡◌, ◌≢◌, ◌≤◌, false, [], ◌∷◌, ◌++◌, length, All};
+ghost use Rattle.std.specs.Prelude.{OnOk, IfOk, IsOk, Ok, Err};
 ghost use Rattle.audit_book.specs.Lines.{line_at};
 ghost use Rattle.audit_book.specs.Reading.{IsSaid, ended_at, entries_in, book_in};
-ghost use Rattle.audit_book.specs.LineSteps.{Adds, Reads};
+ghost use Rattle.audit_book.specs.LineSteps.{told, goes_on, Adds, text_told};
 ghost use Rattle.audit_book.specs.Text.{book_text};
+ghost use Rattle.run_model.specs.EntryForms.{HasForm};
 ghost use Rattle.run_model.specs.Known.{IsKnownEntry};
 
 use crate::fault::ReadFault;
 use crate::line::{Line, read_line};
-use crate::scan::check_lines;
 use crate::write::header_text;
-use coll_text::{LineFault, Parts};
-use run_state::Book;
+use coll_text::{Memory, Parts};
+use run_state::{Book, Entry};
 use std::alloc::Global;
 use wall_policy::Policy;
 
-// Takes a line that stands behind the book's entries. Answers whether it is an entry, which is
-// added, and not the end.
-fn take_line(
-    alloc: Global,
-    policy: &Policy,
-    line: &[u8],
-    book: &mut Book,
-) -> Result<bool, ReadFault>
-    ensures { Adds result book.old.list book.new.list (line_at policy.now line.now) }
+// The entries that were read so far. Where memory ran out, some are lacking.
+#[derive(Drop)]
+struct Kept {
+    memory: Memory,
+    book: Book,
+}
+
+impl Kept {
+    fn new(alloc: Global) -> Kept
+        ensures { result.book.list ≡ [] }
+    {
+        Kept {
+            memory: Memory::new(alloc),
+            book: Book::new(alloc),
+        }
+    }
+
+    // Adds an entry; where there is no room for it, memory ran out.
+    fn add(&mut self, entry: Entry)
+        requires { HasForm entry }
+        ensures kept { self.new.memory ≡ false →
+            self.new.book.list ≡ self.old.book.list ++ entry ∷ [] }
+        ensures stays { self.new.memory ≡ false → self.old.memory ≡ false }
+    {
+        match self.book.reserve(1) {
+            Ok(()) => self.book.push(entry),
+            Err(_) => self.memory.run_out(),
+        }
+    }
+}
+
+// Takes a line that stands behind so many entries. Answers whether it is an entry, which is added,
+// and not the end.
+fn take_line(policy: &Policy, line: &[u8], entries: u64, kept: &mut Kept) -> Result<bool, ReadFault>
+    requires { entries ≤ 9223372036854775808 }
+    ensures told { result ≡ goes_on entries (told (line_at policy.now line.now)) }
+    ensures kept { kept.new.memory ≡ false →
+        Adds kept.old.book.list kept.new.book.list (line_at policy.now line.now) }
+    ensures stays { kept.new.memory ≡ false → kept.old.memory ≡ false }
+    ensures memory { result ≢ Err ReadFault.NoMemory }
 {
-    let entries = book.len() as u64;
-    match read_line(alloc, policy, line) {
+    match read_line(&mut kept.memory, policy, line) {
         Ok(Line::Said(entry)) => {
-            book.reserve(1)?;
-            book.push(entry);
+            kept.add(entry);
             Ok(true)
         }
         Ok(Line::End(number)) => {
@@ -39,14 +72,13 @@ fn take_line(
                 Err(ReadFault::BadLine(entries + 2))
             }
         }
-        Err(LineFault::NoMemory) => Err(ReadFault::NoMemory),
         Err(_) => Err(ReadFault::BadLine(entries + 2)),
     }
 }
 
 // Sees that nothing stands behind the end.
-pub(crate) fn end_of(number: u64, rest: &[u8], lines: &mut Parts) -> Result<(), ReadFault>
-    ensures end { Reads result [] (ended_at number (rest.now ∷ lines.old)) }
+fn end_of(number: u64, rest: &[u8], lines: &mut Parts) -> Result<(), ReadFault>
+    ensures end { result ≡ text_told (ended_at number (rest.now ∷ lines.old)) }
     ensures memory { result ≢ Err ReadFault.NoMemory }
 {
     match lines.next() {
@@ -63,21 +95,26 @@ pub(crate) fn end_of(number: u64, rest: &[u8], lines: &mut Parts) -> Result<(), 
 
 // Takes the lines behind the header, of which the first is here.
 fn take_lines(
-    alloc: Global,
     policy: &Policy,
     first: &[u8],
     lines: &mut Parts,
-    book: &mut Book,
+    kept: &mut Kept,
 ) -> Result<(), ReadFault>
-    requires { book.old.list ≡ [] }
-    ensures { Reads result book.new.list (entries_in policy.now 0 (first.now ∷ lines.old)) }
+    requires few { length lines.old ≤ 9223372036854775808 }
+    requires none { kept.old.book.list ≡ [] }
+    ensures told { result ≡ text_told (entries_in policy.now 0 (first.now ∷ lines.old)) }
+    ensures kept { kept.new.memory ≡ false → OnOk result
+        (entries_in policy.now 0 (first.now ∷ lines.old) ≡ Ok kept.new.book.list) }
+    ensures memory { result ≢ Err ReadFault.NoMemory }
 {
     let mut line = first;
+    let mut entries: u64 = 0;
     while let Some(next) = lines.next_long() {
-        if !take_line(alloc, policy, line, book)? {
-            return end_of(book.len() as u64 + 3, next, lines);
+        if !take_line(policy, line, entries, kept)? {
+            return end_of(entries + 3, next, lines);
         }
         line = next;
+        entries += 1;
     }
     Err(ReadFault::Cut)
 }
@@ -106,14 +143,11 @@ pub fn read_book(alloc: Global, policy: &Policy, text: &[u8]) -> Result<Book, Re
     if header != header_text(policy).as_bytes() {
         return Err(ReadFault::BadLine(1));
     }
-    let mut again = lines.copy();
-    let mut book = Book::new(alloc);
-    match take_lines(alloc, policy, first, &mut lines, &mut book) {
-        Ok(()) => Ok(book),
-        Err(ReadFault::NoMemory) => {
-            check_lines(policy, first, &mut again)?;
-            Err(ReadFault::NoMemory)
-        }
-        Err(fault) => Err(fault),
+    let mut kept = Kept::new(alloc);
+    take_lines(policy, first, &mut lines, &mut kept)?;
+    let Kept { memory, book } = kept;
+    if memory.ran_out() {
+        return Err(ReadFault::NoMemory);
     }
+    Ok(book)
 }

@@ -4,16 +4,15 @@ ghost use Rattle.std.specs.Prelude.{codes, Ok};
 ghost use Rattle.std.specs.Fmt.{decimal};
 ghost use Rattle.std.specs.Io.KnownBytes.{Appends};
 ghost use Rattle.wall_labels.specs.Known.{AppendsPrefix};
-ghost use Rattle.audit_book.specs.Text.{given_word, passage_word, line_of, given_end, post_words};
-ghost use Rattle.audit_book.specs.Text.{verdict_words, outcome_words, entry_words, header_words};
-ghost use Rattle.audit_book.specs.Text.{header_line, end_words, entry_lines, book_text};
+ghost use Rattle.audit_book.specs.Text.{given_word, passage_word, line_of, given_end};
+ghost use Rattle.audit_book.specs.Text.{outcome_words, entry_words, header_words, header_line};
+ghost use Rattle.audit_book.specs.Text.{end_words, entry_lines, book_text};
 ghost use Rattle.coll_text.specs.Words.{rule_word};
 ghost use Rattle.coll_text.specs.Writing.{Moves};
 ghost use Rattle.audit_book.specs.Writing.{IsWriteFault};
 ghost use Rattle.audit_book.specs.Reading.{book_in};
 ghost use Rattle.audit_book.specs.Laws.{IsSpelled};
-ghost use Rattle.run_model.specs.Known.{IsKnownProcess, IsKnownIfAny, IsKnownOutcome, IsKnownEntry};
-ghost use Rattle.run_model.specs.Known.{IsKnownLabel};
+ghost use Rattle.run_model.specs.Known.{IsKnownIfAny, IsKnownOutcome, IsKnownEntry};
 
 use crate::fault::WriteFault;
 use crate::ranges::entry_is_spelled;
@@ -22,7 +21,7 @@ use coll_text::{label_text, put, put_behind, put_decimal, send, send_long, write
 use run_model::{Entry, Outcome};
 use run_state::Book;
 use std::alloc::{AllocError, Global};
-use wall_labels::{Label, NoMemory, ProcessId, Sink};
+use wall_labels::{Label, NoMemory, Sink};
 use wall_policy::Policy;
 use wall_rules::Rule;
 
@@ -75,45 +74,6 @@ fn put_given(policy: &Policy, stated: &Stated, text: &mut Vec<u8>) -> Result<(),
     put(text, passage_end(stated.barred))
 }
 
-fn put_post(
-    policy: &Policy,
-    process: ProcessId,
-    comm: u32,
-    stated: &Stated,
-    text: &mut Vec<u8>,
-) -> Result<(), NoMemory>
-    requires { IsKnownIfAny policy.now stated.now.label }
-    ensures { OnOk result (text.new.items
-        ≡ text.old.items ++ line_of (post_words policy.now process comm stated.now)) }
-{
-    let process = u64::from(process.number());
-    put_numbers("post ", process, u64::from(comm), text)?;
-    put(text, " ")?;
-    write_statement(&stated.sig, &stated.own, text)?;
-    put_given(policy, stated, text)?;
-    Ok(())
-}
-
-fn put_denied(
-    policy: &Policy,
-    rule: Rule,
-    process: ProcessId,
-    label: &Label,
-    text: &mut Vec<u8>,
-) -> Result<(), AllocError>
-    requires process { IsKnownProcess policy.now process }
-    requires label { IsKnownLabel policy.now label.now }
-    ensures { OnOk result (text.new.items
-        ≡ text.old.items
-        ++ line_of (outcome_words policy.now (Outcome.Denied rule process label.now))) }
-{
-    put(text, denied_by(rule))?;
-    put(text, policy.process_name(process))?;
-    put(text, " ")?;
-    put(text, label_text(policy, label))?;
-    put(text, "\n")
-}
-
 // An outcome to the end of its line.
 fn put_outcome(policy: &Policy, outcome: &Outcome, text: &mut Vec<u8>) -> Result<(), AllocError>
     requires { IsKnownOutcome policy.now outcome.now }
@@ -126,30 +86,19 @@ fn put_outcome(policy: &Policy, outcome: &Outcome, text: &mut Vec<u8>) -> Result
             rule,
             process,
             label,
-        } => put_denied(policy, *rule, *process, label, text),
+        } => {
+            put(text, denied_by(*rule))?;
+            put(text, policy.process_name(*process))?;
+            put(text, " ")?;
+            put(text, label_text(policy, label))?;
+            put(text, "\n")
+        }
         Outcome::Made { first, number } => {
             put_numbers("made ", u64::from(*first), u64::from(*number), text)?;
             put(text, "\n")
         }
         Outcome::NoRoom => put(text, "noroom\n"),
     }
-}
-
-#[tactic(auto, unfolding(crate::specs::Text::verdict_words))]
-fn put_verdict(
-    policy: &Policy,
-    comm: u32,
-    k: u64,
-    outcome: &Outcome,
-    text: &mut Vec<u8>,
-) -> Result<(), AllocError>
-    requires { IsKnownOutcome policy.now outcome.now }
-    ensures { OnOk result
-        (text.new.items ≡ text.old.items ++ line_of (verdict_words policy.now comm k outcome.now)) }
-{
-    put_numbers("verdict ", u64::from(comm), k, text)?;
-    put(text, " ")?;
-    put_outcome(policy, outcome, text)
 }
 
 /// Appends the line of an entry, whose processes and datasets are the policy's.
@@ -163,9 +112,18 @@ pub fn put_entry(policy: &Policy, entry: &Entry, text: &mut Vec<u8>) -> Result<(
             process,
             comm,
             stated,
-        } => put_post(policy, *process, *comm, stated, text),
+        } => {
+            let process = u64::from(process.number());
+            put_numbers("post ", process, u64::from(*comm), text)?;
+            put(text, " ")?;
+            write_statement(&stated.sig, &stated.own, text)?;
+            put_given(policy, stated, text)?;
+            Ok(())
+        }
         Entry::Settled { comm, k, outcome } => {
-            put_verdict(policy, *comm, *k, outcome, text)?;
+            put_numbers("verdict ", u64::from(*comm), *k, text)?;
+            put(text, " ")?;
+            put_outcome(policy, outcome, text)?;
             Ok(())
         }
     }

@@ -1,9 +1,8 @@
-use Rattle.std.proofs.Common.{[], ◌∷◌, ◌++◌, None, sym, ◌∙◌, subst, arith}
-use Rattle.std.proofs.lemmas.Bool.{false≢true}
+use Rattle.std.proofs.Common.{[], ◌∷◌, ◌++◌, sym, subst, arith}
 use Rattle.run_model.specs.Books.{Begins, posts_in}
 use Rattle.audit_book.specs.Checks.{IsRight}
-use Rattle.audit_book.proofs.StepLemmas.{settled_right, other_wrong, settled_wrong, posted_wrong}
-use Rattle.audit_book.proofs.StepLemmas.{posted_right, ok_more, err_more, posts_few}
+use Rattle.audit_book.proofs.StepLemmas.{settled_wrong, posted_wrong, posted_right, ok_more}
+use Rattle.audit_book.proofs.StepLemmas.{err_more, posts_few}
 use Rattle.audit_book.proofs.check.follow.Goals as goal
 
 pub count-requires-clause-stands : goal.count-requires-clause-stands
@@ -14,29 +13,13 @@ count-requires-clause-stands c =
       right.2.stood,
     )
 
-pub returns-then-is_entry-clause-right : goal.returns-then-is_entry-clause-right
-returns-then-is_entry-clause-right c = λ es right.
-    let is = c.is_entry.ensures.0 c.if-is_entry.true in
-    subst (λ e. IsRight c.args.policy.now c.args.post_state.now (es ++ e ∷ []) None) (sym is)
-    (settled_right c.args.policy.now c.args.post_state.now es c.in-Some.awaited
-    (subst (λ d. IsRight c.args.policy.now c.args.post_state.now es d) c.in-Some.is right))
-
-pub returns-else-is_entry-clause-wrong : goal.returns-else-is_entry-clause-wrong
-returns-else-is_entry-clause-wrong c = λ _ es right begins.
-    other_wrong c.args.policy.now c.args.post_state.now es c.in-Some.awaited c.args.entry.now
-    (subst (λ d. IsRight c.args.policy.now c.args.post_state.now es d) c.in-Some.is right)
-    (λ same. false≢true (sym c.if-is_entry.false ∙ c.is_entry.ensures.1 same))
-    begins
-
 pub returns-in-Posted-clause-right : goal.returns-in-Posted-clause-right
 returns-in-Posted-clause-right c = ok_more c.count.result _ _ (λ due counted es right.
-    let before = subst (λ d. IsRight c.args.policy.now c.args.post_state.now es d) c.in-None.is
-    right in
-    let now = counted (posts_in es) before.stood in
+    let now = counted (posts_in es) right.stood in
     subst (λ e. IsRight c.args.policy.now c.count.new.post_state (es ++ e ∷ []) due)
     (sym c.in-Posted.is)
     (posted_right c.args.policy.now c.args.post_state.now c.count.new.post_state es
-    c.in-Posted.process c.in-Posted.comm c.in-Posted.stated due before now.0 now.1 now.2))
+    c.in-Posted.process c.in-Posted.comm c.in-Posted.stated due right now.0 now.1 now.2))
     c.count.ensures.counted
 
 pub returns-in-Posted-clause-wrong : goal.returns-in-Posted-clause-wrong
@@ -49,6 +32,5 @@ returns-in-Posted-clause-wrong c = err_more c.count.result _ _ (λ stopped wrong
 pub returns-in-Settled-clause-wrong : goal.returns-in-Settled-clause-wrong
 returns-in-Settled-clause-wrong c = λ _ es right begins.
     settled_wrong c.args.policy.now c.args.post_state.now es c.in-Settled.comm c.in-Settled.k
-    c.in-Settled.outcome
-    (subst (λ d. IsRight c.args.policy.now c.args.post_state.now es d) c.in-None.is right)
+    c.in-Settled.outcome right
     (subst (λ e. Begins c.args.policy.now (es ++ e ∷ [])) c.in-Settled.is begins)

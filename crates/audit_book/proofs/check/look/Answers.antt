@@ -13,9 +13,10 @@ use Rattle.audit_book.proofs.check.look.Goals as goal
 
 pub returns-clause-fault : goal.returns-clause-fault
 returns-clause-fault c = λ past stands.
+    let of = c.of-terms.ensures in
     c.look.ensures.posts (bare past) stands
-    ∙ (λ i. fault c.args.policy.now (bare_posts past i) (c.number.ensures.value i) c.args.comm
-    (c.of.ensures.sig i) (c.of.ensures.own i) (c.of.ensures.elem_type i) (c.of.ensures.given i))
+    ∙ (λ i. fault c.args.policy.now (bare_posts past i) (c.number.ensures.value i)
+    c.args.posting.now.comm (of.sig i) (of.own i) (of.elem_type i) (of.given i))
 
 pub returns-clause-process : goal.returns-clause-process
 returns-clause-process c =
@@ -25,13 +26,15 @@ returns-clause-process c =
 pub returns-clause-looked : goal.returns-clause-looked
 returns-clause-looked c =
     let seen = view_of c.args.post_state.now in
-    let it = c.args.stated.now in
+    let it = c.args.posting.now.stated.now in
+    let terms = c.of-terms.result in
+    let of = c.of-terms.ensures in
     subst (λ n. IfOk c.look.result (λ (seat : Seat).
-    LookedAt seen seat it.sig it.own (stated_type it.sig) n)) c.of.ensures.given
+    LookedAt seen seat it.sig it.own (stated_type it.sig) n)) of.given
     (subst (λ (t : ElemType). IfOk c.look.result (λ (seat : Seat).
-    LookedAt seen seat it.sig it.own t c.of.result.given)) c.of.ensures.elem_type
+    LookedAt seen seat it.sig it.own t terms.given)) of.elem_type
     (subst (λ (o : Own). IfOk c.look.result (λ (seat : Seat).
-    LookedAt seen seat it.sig o c.of.result.elem_type c.of.result.given)) c.of.ensures.own
+    LookedAt seen seat it.sig o terms.elem_type terms.given)) of.own
     (subst (λ (s : Signature). IfOk c.look.result (λ (seat : Seat).
-    LookedAt seen seat s c.of.result.own.now c.of.result.elem_type c.of.result.given))
-    c.of.ensures.sig c.look.ensures.looked)))
+    LookedAt seen seat s terms.own.now terms.elem_type terms.given))
+    of.sig c.look.ensures.looked)))
