@@ -23,7 +23,7 @@ use Rattle.run_model.specs.declared.entry.Entry.TheVariants.{Settled}
 use Rattle.run_model.specs.Posts.{Post, comms, filled, histories, outcome, outcome_of, labelled}
 use Rattle.run_model.specs.Posts.{is_granted, with_delivery}
 use Rattle.run_model.specs.Books.{posted, posts_in}
-use Rattle.run_model.proofs.RunModelLemmas.{posts_in-append, granted_is}
+use Rattle.run_model.proofs.RunModelLemmas.{posts_in-append, granted_is, grow}
 use Rattle.audit_book.proofs.AuditBookLemmas.{take_more}
 use Rattle.book_report.specs.Held.{posts_to, histories_after, IsFirstAfter}
 
@@ -63,14 +63,6 @@ delivery_keeps : (wall : ChineseWall) (has : History) (before : ℕ) (roll : Opt
 delivery_keeps wall has before None p d h = h
 delivery_keeps wall has before (Some roll) p d h = or_left (has p d) _ h
 
-grows : (wall : ChineseWall) (later past : List Post) (p d : ℕ) →
-    histories wall past p d ≡ true → histories wall (later ++ past) p d ≡ true
-grows wall [] past p d h = h
-grows wall (x ∷ later) past p d h =
-    delivery_keeps wall (labelled (histories wall (later ++ past)) x)
-    (length (comms wall (later ++ past))) (filled (comms wall (later ++ past)) x (later ++ past)) p
-    d (or_left (histories wall (later ++ past) p d) _ (grows wall later past p d h))
-
 pub take_drop : (n : ℕ) (es : List Entry) → es ≡ take n es ++ drop n es
 take_drop n es = sym (take-append-drop n es)
 
@@ -84,7 +76,7 @@ held_later wall entries n m p d later h =
     ∙ posts_in-append (take n (take m entries)) (drop n (take m entries))
     ∙ ap (λ es. posts_in (drop n (take m entries)) ++ posts_in es) front in
     ap (λ past. histories wall past p d) parts
-    ∙ grows wall (posts_in (drop n (take m entries))) (posts_to entries n) p d h
+    ∙ grow wall (posts_in (drop n (take m entries))) (posts_to entries n) p d h
 
 -- a pair that entry n brings is held after it first
 pub first_after : (wall : ChineseWall) (entries : List Entry) (n p d : ℕ) → n < length entries →

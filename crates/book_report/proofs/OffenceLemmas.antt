@@ -9,6 +9,7 @@ use Rattle.wall_labels.specs.declared.label.Label.{Label}
 use Rattle.wall_labels.specs.declared.label.Label.TheVariants.{Of}
 use Rattle.wall_policy.specs.Policy.{ChineseWall}
 use Rattle.wall_policy.specs.Rivals.{AreRivals}
+use Rattle.wall_policy.proofs.WallPolicyLemmas.{rivals_turned}
 use Rattle.wall_rules.specs.Histories.{History}
 use Rattle.mpi_group.specs.Groups.{IsGroup, rank_in}
 use Rattle.coll_routes.specs.declared.roll.Roll.{Roll}
@@ -19,9 +20,6 @@ use Rattle.wall_verdict.specs.Meanings.{NamesOffence}
 use Rattle.book_report.specs.Walk.{GivesTo}
 use Rattle.book_report.specs.Reasons.{GivesRival, IsBeside}
 use Rattle.mpi_group.proofs.MpiGroupLemmas.{ranked}
-
-rivals_turned : (classes : List ℕ) (d e : ℕ) → AreRivals classes d e → AreRivals classes e d
-rivals_turned classes d e r = (λ same. r.0 (sym same), (r.1.0, r.1.2, r.1.1))
 
 -- one rank has one label
 one_label : (o : Option Label) (d e : ℕ) → o ≡ Some (Of d) → o ≡ Some (Of e) → d ≡ e

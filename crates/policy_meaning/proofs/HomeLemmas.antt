@@ -7,12 +7,11 @@ use Rattle.std.specs.List.{list_any}
 use Rattle.std.proofs.lemmas.Bool.{false≢true}
 use Rattle.wall_policy.specs.Policy.{ChineseWall, IsPolicy, home_of}
 use Rattle.mpi_cart.specs.Grids.{below}
-use Rattle.policy_meaning.specs.Warnings.{is_that, is_a_home}
+use Rattle.wall_verdict.specs.Charges.{is_that}
+use Rattle.wall_verdict.proofs.WallVerdictLemmas.{one_that}
+use Rattle.policy_meaning.specs.Warnings.{is_a_home}
 use Rattle.policy_meaning.proofs.BelowLemmas.{none_more, some_later}
 use Rattle.policy_meaning.proofs.FactLemmas.{home_known}
-
-pub is_that_one : (o : Option ℕ) (d : ℕ) → o ≡ Some d → is_that o d ≡ true
-is_that_one o d e = ap (λ h. is_that h d) e ∙ eq-eqb d d refl
 
 is_no_other : (o : Option ℕ) (d : ℕ) → (o ≡ Some d → ⊥) → is_that o d ≡ false
 is_no_other None d h = refl
@@ -23,7 +22,7 @@ pub a_home : (wall : ChineseWall) (d p : ℕ) → IsPolicy wall → home_of wall
     is_a_home wall d ≡ true
 a_home wall d p policy home = some_later (λ q. is_that (home_of wall q) d) p
     (length wall.process_names) (home_known wall p d policy home)
-    (is_that_one (home_of wall p) d home)
+    (one_that (home_of wall p) d home)
 
 -- one process more is not at home there
 pub no_home : (wall : ChineseWall) (d n : ℕ) →
@@ -40,7 +39,7 @@ pub nobodys : (wall : ChineseWall) (d n p : ℕ) → IsPolicy wall →
 nobodys wall d n p policy none all home =
     let known = home_known wall p d policy home in
     false≢true (sym none ∙ some_later (λ q. is_that (home_of wall q) d) p n (omega arith)
-    (is_that_one (home_of wall p) d home))
+    (one_that (home_of wall p) d home))
 
 pub none_is : (o : Option ℕ) (r : Bool) → is_some o ≡ not r → r ≡ is_none o
 none_is None true e = refl

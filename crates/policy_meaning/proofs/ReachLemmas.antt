@@ -24,16 +24,16 @@ use Rattle.coll_routes.specs.Signatures.{reduction}
 use Rattle.coll_routes.specs.Rolls.{ranks}
 use Rattle.wall_verdict.specs.Charges.{contribution, contributes, contributed, contributors}
 use Rattle.wall_verdict.specs.Charges.{different_datasets, is_at_most, sanitised}
-use Rattle.wall_verdict.specs.Charges.{is_that as is_its}
+use Rattle.wall_verdict.specs.Charges.{is_that}
+use Rattle.wall_verdict.proofs.WallVerdictLemmas.{one_that}
 use Rattle.wall_verdict.specs.Laws.{DifferentAreCountedOnce}
 use Rattle.policy_meaning.specs.declared.warning.Doubt.TheVariants.{TooFewProcesses}
 use Rattle.policy_meaning.specs.declared.warning.Doubt.TheVariants.{TooFewDatasets}
 use Rattle.policy_meaning.specs.declared.warning.Warning.TheVariants.{OfOperation}
-use Rattle.policy_meaning.specs.Warnings.{Warns, is_that, is_a_home, homes, homeless, most_labels}
+use Rattle.policy_meaning.specs.Warnings.{Warns, is_a_home, homes, homeless, most_labels}
 use Rattle.policy_meaning.specs.Laws.{IsOfPolicy, OutOfReachIsNeverSanitised}
 use Rattle.mpi_cart.proofs.MpiCartLemmas.{count_more}
 use Rattle.policy_meaning.proofs.BelowLemmas.{some_later}
-use Rattle.policy_meaning.proofs.HomeLemmas.{is_that_one}
 
 and_true : (a : Bool) → (a && true) ≡ a
 and_true true = refl
@@ -176,7 +176,7 @@ module _ (wall : ChineseWall) (roll : Roll) (j : ℕ) (of : IsOfPolicy wall roll
       let all = length-range_with_len 0 roll.shape.size in
       let few = few_ranks in omega arith
 
-  its_is : (o : Option ℕ) (d : ℕ) → is_its o d ≡ true → o ≡ Some d
+  its_is : (o : Option ℕ) (d : ℕ) → is_that o d ≡ true → o ≡ Some d
   its_is None d h = absurd cc
   its_is (Some e) d h = ap (λ (n : ℕ). Some n) (eqb-true e d h)
 
@@ -192,7 +192,7 @@ module _ (wall : ChineseWall) (roll : Roll) (j : ℕ) (of : IsOfPolicy wall roll
 
   giver : (d : ℕ) → contributed roll j d ≡ true → (p : ℕ) × GivesIt d p
   giver d h =
-      let some = Any-from_list_any (λ i. is_its (contribution roll i j) d) (below roll.shape.size) h
+      let some = Any-from_list_any (λ i. is_that (contribution roll i j) d) (below roll.shape.size) h
       in
       let all = length-range_with_len 0 roll.shape.size in
       let low : some.0 < roll.shape.size = (let within = some.2 in omega arith) in
@@ -217,7 +217,7 @@ module _ (wall : ChineseWall) (roll : Roll) (j : ℕ) (of : IsOfPolicy wall roll
         | inl home ↦
             let there : is_a_home wall d ≡ true =
             some_later (λ q. is_that (home_of wall q) d) one.0 (length wall.process_names)
-            (of.processes one.1.0 one.0 one.1.1) (is_that_one (home_of wall one.0) d home) in
+            (of.processes one.1.0 one.0 one.1.1) (one_that (home_of wall one.0) d home) in
             absurd (false≢true (ap not (sym there) ∙ parts.1))
         | inr none ↦
             (one.0, of.processes one.1.0 one.0 one.1.1, ap is_none none, one.1)

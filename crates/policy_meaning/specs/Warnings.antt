@@ -8,6 +8,7 @@ use Rattle.wall_labels.specs.Ops.{op_number}
 use Rattle.wall_policy.specs.Policy.{ChineseWall, home_of, least_of, distinct_of}
 use Rattle.wall_policy.specs.Rivals.{AreRivals, datasets_in}
 use Rattle.mpi_cart.specs.Grids.{below}
+use Rattle.wall_verdict.specs.Charges.{is_that}
 use Rattle.policy_meaning.specs.declared.warning.Doubt.{Doubt}
 use Rattle.policy_meaning.specs.declared.warning.Doubt.TheVariants.{TooFewProcesses}
 use Rattle.policy_meaning.specs.declared.warning.Doubt.TheVariants.{TooFewDatasets, TellsOneFigure}
@@ -24,10 +25,6 @@ picks Min = true
 picks Maxloc = true
 picks Minloc = true
 picks _ = false
-
-abbrev pub is_that : Option ℕ → ℕ → Bool
-is_that (Some home) d = home == d
-is_that None d = false
 
 -- some process is at home at d
 abbrev pub is_a_home : ChineseWall → ℕ → Bool

@@ -5,7 +5,7 @@ use Rattle.std.proofs.Common.{inl, inr, subst, arith, slice_get, find}
 use Rattle.std.specs.Prelude.{is_some, codes, option_and_then}
 use Rattle.std.specs.List.{list_all, list_any, position_from}
 use Rattle.std.specs.Option.{option_map_or}
-use Rattle.std.proofs.lemmas.Bool.{cases_Bool, false≢true}
+use Rattle.std.proofs.lemmas.Bool.{cases_Bool, false≢true, or_cases}
 use Rattle.toml.specs.Data.{Data, Members, no_members, member, as_table}
 use Rattle.wall_labels.specs.Ops.{op_of}
 use Rattle.wall_policy.specs.Names.{Name, is_name, is_dataset_name, is_in, comes_twice}
@@ -31,10 +31,6 @@ use Rattle.policy_places.specs.Laws.{has_word, WordsAreNamed}
 not_both : (a b : Bool) → not (a && b) ≡ true → (not a ≡ true) ⊎ (not b ≡ true)
 not_both true b h = inr h
 not_both false b h = inl refl
-
-one_of : (a b : Bool) → (a || b) ≡ true → (a ≡ true) ⊎ (b ≡ true)
-one_of true b h = inl refl
-one_of false b h = inr h
 
 first_there : {X : Type 0} (a b : Option X) → is_some a ≡ true → is_some (or_else a b) ≡ true
 first_there (Some x) b h = refl
@@ -76,9 +72,9 @@ one_of_four : {X : Type 0} (a b c d : Option X) (p q r s : Bool) → (p ≡ true
     (q ≡ true → is_some b ≡ true) → (r ≡ true → is_some c ≡ true) →
     (s ≡ true → is_some d ≡ true) → (p || q || r || s) ≡ true →
     is_some (or_else a (or_else b (or_else c d))) ≡ true
-one_of_four a b c d p q r s one two three four h = elim (one_of (p || q || r) s h) [
-  | inl earlier ↦ elim (one_of (p || q) r earlier) [
-    | inl front ↦ elim (one_of p q front) [
+one_of_four a b c d p q r s one two three four h = elim (or_cases (p || q || r) s h) [
+  | inl earlier ↦ elim (or_cases (p || q) r earlier) [
+    | inl front ↦ elim (or_cases p q front) [
       | inl first ↦ first_there a (or_else b (or_else c d)) (one first)
       | inr second ↦ then_there a (or_else b (or_else c d))
           (first_there b (or_else c d) (two second))

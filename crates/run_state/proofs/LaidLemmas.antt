@@ -16,6 +16,7 @@ use Rattle.coll_routes.specs.declared.roll.Shape.{Shape}
 use Rattle.coll_routes.specs.Fit.{IsSized, IsSizedGrid}
 use Rattle.run_model.specs.Comms.{Comm, with_grid, shape_of}
 use Rattle.run_model.specs.declared.outcome.Outcome.TheVariants.{Made, NoRoom}
+use Rattle.run_model.proofs.RunModelLemmas.{length_members_at}
 use Rattle.run_state.specs.Laid.{with_shapes, AreLaid, IsShape, laid}
 use Rattle.run_state.specs.Making.{Makes, is_left}
 
@@ -205,24 +206,6 @@ no_room_is gs new c own none lt e =
 
 -- ## lists of ranks
 
-length_at : (members ranks : List ℕ) → are_ranks (length members) ranks ≡ true →
-    length (members_at members ranks) ≡ length ranks
-unfolding members_at
-length_at members [] h = refl
-length_at members (r ∷ ranks) h =
-    let parts = and_parts (nat_lt r (length members))
-    (list_all (λ rank. nat_lt rank (length members)) ranks) h in
-    by (slice_get members r) refl
-    (Rattle.std.proofs.lemmas.Bool.ltb-true r (length members) parts.0)
-    (length_at members ranks parts.1)
-  where
-    by : (o : Option ℕ) → slice_get members r ≡ o → r < length members →
-        length (filter_map (slice_get members) ranks) ≡ length ranks →
-        length (filter_map (slice_get members) (r ∷ ranks)) ≡ suc (length ranks)
-    by None at lt rest = (let bad = sym
-        (Rattle.std.proofs.lemmas.Option.slice_get-get_or members r 0 lt) ∙ at in absurd (cc))
-    by (Some m) at lt rest = rw at (ap suc rest)
-
 -- groups of so many ranks each are as large as a grid of so many cells
 pub parts_sized : (g : Topology) (members : List ℕ) (lists : List (List ℕ)) →
     list_all (is_subgroup (length members)) lists ≡ true →
@@ -236,7 +219,7 @@ parts_sized g members (list ∷ lists) subs sizes =
     (list_all (λ l. length l == volume g.dims) lists) sizes in
     let ranks = and_parts (are_ranks (length members) list)
     (Rattle.mpi_group.specs.Groups.is_distinct list) sub.0 in (
-      sym (length_at members list ranks.0
+      sym (length_members_at members list ranks.0
           ∙ Rattle.std.proofs.lemmas.Bool.eqb-true (length list) (volume g.dims) size.0),
       parts_sized g members lists sub.1 size.1,
     )

@@ -17,6 +17,7 @@ use Rattle.mpi_cart.specs.Grids.{Topology, volume, below, cells, coords, same_li
 use Rattle.mpi_cart.specs.Laws.{IsCell}
 use Rattle.mpi_cart.proofs.MpiCartLemmas.{length-cells, cell_has_digits, digits, digits_in_range}
 use Rattle.run_model.specs.Comms.{grid_parts, ranks_apart}
+use Rattle.run_model.proofs.RunModelLemmas.{length_ranks_apart}
 use Rattle.run_state.specs.Parts.{apart_of}
 use Rattle.run_state.proofs.BelowLemmas.{map_more}
 use Rattle.mpi_cart.proofs.MpiCartLemmas.{below_more}
@@ -72,141 +73,6 @@ parts_subgroups g keep size le = all (cells (dropped keep g.dims))
 
 -- ## how many ranks a part has
 
-abbrev number : {A : Type 0} → (A → Bool) → List A → ℕ
-number test xs = length (filter test xs)
-
-number-append : {A : Type 0} (test : A → Bool) (xs ys : List A) →
-    number test (xs ++ ys) ≡ number test xs + number test ys
-number-append test [] ys = (let z : number test ys ≡ 0 + number test ys = omega arith in z)
-number-append test (x ∷ xs) ys = by (test x) (number-append test xs ys)
-  where
-    by : (b : Bool) → number test (xs ++ ys) ≡ number test xs + number test ys →
-        length (cond b (x ∷ filter test (xs ++ ys)) (filter test (xs ++ ys)))
-        ≡ length (cond b (x ∷ filter test xs) (filter test xs)) + number test ys
-    by true rest = (let z : suc (number test (xs ++ ys)) ≡ suc (number test xs) + number test ys =
-        omega (arith, rest) in z)
-    by false rest = rest
-
-number-map : {A B : Type 0} (test : B → Bool) (f : A → B) (xs : List A) →
-    number test (map f xs) ≡ number (λ x. test (f x)) xs
-number-map test f [] = refl
-number-map test f (x ∷ xs) = by (test (f x)) (number-map test f xs)
-  where
-    by : (b : Bool) → number test (map f xs) ≡ number (λ z. test (f z)) xs →
-        length (cond b (f x ∷ filter test (map f xs)) (filter test (map f xs)))
-        ≡ length (cond b (x ∷ filter (λ z. test (f z)) xs) (filter (λ z. test (f z)) xs))
-    by true rest = ap suc rest
-    by false rest = rest
-
-number-same : {A : Type 0} (test other : A → Bool) (xs : List A) → ((x : A) → test x ≡ other x) →
-    number test xs ≡ number other xs
-number-same {A} test other xs same = ap (λ (t : A → Bool). number t xs) (λ i x. same x i)
-
-number-none : {A : Type 0} (test : A → Bool) (xs : List A) → ((x : A) → test x ≡ false) →
-    number test xs ≡ 0
-number-none test [] none = refl
-number-none test (x ∷ xs) none = ap length
-    (cond-false (test x) (x ∷ filter test xs) (filter test xs) (none x))
-    ∙ number-none test xs none
-
--- rows with equally many
-number-rows : {A : Type 0} (test : A → Bool) (f : ℕ → List A) (v a n : ℕ) →
-    ((c : ℕ) → number test (f c) ≡ v) → number test (flat_map f (range_with_len a n)) ≡ n * v
-number-rows test f v a zero even = (let z : 0 ≡ 0 * v = omega arith in z)
-number-rows test f v a (suc n) even =
-    number-append test (f a) (flat_map f (range_with_len (a + 1) n))
-    ∙ ((λ i. even a i + number-rows test f v (a + 1) n even i)
-    ∙ (let z : v + n * v ≡ suc n * v = omega arith in z))
-
--- rows of which one alone has any
-number-row : {A : Type 0} (test : A → Bool) (f : ℕ → List A) (v a n q : ℕ) → q < n →
-    ((c : ℕ) → c ≢ a + q → number test (f c) ≡ 0) → number test (f (a + q)) ≡ v →
-    number test (flat_map f (range_with_len a n)) ≡ v
-number-row test f v a zero q lt none own = absurd (omega (arith, lt))
-number-row test f v a (suc n) zero lt none own =
-    number-append test (f a) (flat_map f (range_with_len (a + 1) n))
-    ∙ ((λ i. (ap (λ c. number test (f c)) (let z : a ≡ a + 0 = omega arith in z) ∙ own) i
-    + nothing (a + 1) n (omega arith) i)
-    ∙ (let z : v + 0 ≡ v = omega arith in z))
-  where
-    nothing : (b m : ℕ) → a < b → number test (flat_map f (range_with_len b m)) ≡ 0
-    nothing b zero lt = refl
-    nothing b (suc m) lt =
-        number-append test (f b) (flat_map f (range_with_len (b + 1) m))
-        ∙ ((λ i.
-        none b (λ e. absurd (omega (arith, lt, e))) i + nothing (b + 1) m (omega (arith, lt)) i)
-        ∙ (let z : 0 + 0 ≡ 0 = omega arith in z))
-number-row test f v a (suc n) (suc q) lt none own =
-    number-append test (f a) (flat_map f (range_with_len (a + 1) n))
-    ∙ ((λ i. none a (λ e. absurd (omega (arith, e))) i
-    + number-row test f v (a + 1) n q (omega (arith, lt))
-    (λ c ne. none c (λ e. ne (omega (arith, e))))
-    (ap (λ c. number test (f c)) (let z : (a + 1) + q ≡ a + suc q = omega arith in z) ∙ own)
-    i)
-    ∙ (let z : 0 + v ≡ v = omega arith in z))
-
--- the cells whose coordinates apart are these are as many as the cells of the dimensions kept
-number_apart : (keep : List Bool) (dims apart : List ℕ) → length keep ≡ length dims →
-    IsCell (dropped keep dims) apart →
-    number (λ cs. same_list (dropped keep cs) apart) (cells dims)
-    ≡ volume (items_where_true keep dims)
-unfolding cells
-number_apart [] [] [] e is = refl
-number_apart [] [] (a ∷ bs) e is = absurd is
-number_apart [] (n ∷ dims) apart e is = absurd (omega (arith, e))
-number_apart (b ∷ keep) [] apart e is = absurd (omega (arith, e))
-number_apart (true ∷ keep) (n ∷ dims) apart e is =
-    number-rows (λ cs. same_list (dropped (true ∷ keep) cs) apart)
-    (λ c. map (λ rest. c ∷ rest) (cells dims)) (volume (items_where_true keep dims)) 0 n
-    (λ c. number-map (λ cs. same_list (dropped (true ∷ keep) cs) apart) (λ rest. c ∷ rest)
-    (cells dims) ∙ number_apart keep dims apart (omega (arith, e)) is)
-number_apart (false ∷ keep) (n ∷ dims) [] e is = absurd is
-number_apart (false ∷ keep) (n ∷ dims) (a ∷ bs) e is =
-    number-row (λ cs. same_list (dropped (false ∷ keep) cs) (a ∷ bs))
-    (λ c. map (λ rest. c ∷ rest) (cells dims)) (volume (items_where_true keep dims)) 0 n a is.0
-    (λ c ne. number-map (λ cs. same_list (dropped (false ∷ keep) cs) (a ∷ bs)) (λ rest. c ∷ rest)
-    (cells dims)
-    ∙ number-none (λ rest. (c == a) && same_list (dropped keep rest) bs) (cells dims)
-    (λ rest. and_left (c == a) (same_list (dropped keep rest) bs)
-    (ne_eqb c a (λ z. ne (omega (arith, z))))))
-    (number-map (λ cs. same_list (dropped (false ∷ keep) cs) (a ∷ bs)) (λ rest. (0 + a) ∷ rest)
-    (cells dims)
-    ∙ (number-same (λ rest. ((0 + a) == a) && same_list (dropped keep rest) bs)
-    (λ rest. same_list (dropped keep rest) bs) (cells dims)
-    (λ rest. ap (λ t. t && same_list (dropped keep rest) bs) (eq-eqb (0 + a) a (omega arith)))
-    ∙ number_apart keep dims bs (omega (arith, e)) is.1))
-
--- those numbers whose item passes, of a list of items
-number_at : {A : Type 0} (test : A → Bool) (f : ℕ → A) (a : ℕ) (xs : List A) →
-    ((k : ℕ) (x : A) → slice_get xs k ≡ Some x → f (a + k) ≡ x) →
-    number (λ r. test (f r)) (range_with_len a (length xs)) ≡ number test xs
-number_at test f a [] at = refl
-number_at {A} test f a (x ∷ xs) at =
-    let own : f a ≡ x = ap f (let z : a ≡ a + 0 = omega arith in z) ∙ at 0 x refl in
-    by own (test (f a)) (test x) (ap test own) (number_at test f (a + 1) xs
-    (λ k y e. ap f (let z : (a + 1) + k ≡ a + suc k = omega arith in z) ∙ at (suc k) y e))
-  where
-    by : f a ≡ x → (b d : Bool) → b ≡ d →
-        number (λ r. test (f r)) (range_with_len (a + 1) (length xs)) ≡ number test xs →
-        length (cond b (a ∷ filter (λ r. test (f r)) (range_with_len (a + 1) (length xs)))
-        (filter (λ r. test (f r)) (range_with_len (a + 1) (length xs))))
-        ≡ length (cond d (x ∷ filter test xs) (filter test xs))
-    by own true true same rest = ap suc rest
-    by own false false same rest = rest
-    by own true false same rest = absurd (cc)
-    by own false true same rest = absurd (cc)
-
-part_size : (g : Topology) (keep : List Bool) (apart : List ℕ) → length keep ≡ length g.dims →
-    IsCell (dropped keep g.dims) apart →
-    length (ranks_apart g keep apart) ≡ volume (items_where_true keep g.dims)
-part_size g keep apart e is =
-    ap (λ n. number (λ r. same_list (dropped keep (coords g r)) apart) (below n))
-    (sym (length-cells g.dims))
-    ∙ (number_at (λ cs. same_list (dropped keep cs) apart) (coords g) 0 (cells g.dims)
-    (λ k x at. ap (λ n. coords g n) (let z : 0 + k ≡ k = omega arith in z)
-    ∙ ap (λ o. unwrap_or o []) at)
-    ∙ number_apart keep g.dims apart e is)
-
 -- each value of the coordinates apart is a cell
 all_cells : (test : List ℕ → Bool) (dims : List ℕ) →
     ((cs : List ℕ) → IsCell dims cs → test cs ≡ true) → list_all test (cells dims) ≡ true
@@ -240,7 +106,7 @@ part_sizes g keep e =
     (cells (dropped keep g.dims))
     (all_cells (λ apart. length (ranks_apart g keep apart) == volume (kept keep g).dims)
     (dropped keep g.dims) (λ cs is. eq-eqb (length (ranks_apart g keep cs))
-    (volume (kept keep g).dims) (part_size g keep cs e is)))
+    (volume (kept keep g).dims) (length_ranks_apart g keep cs e is)))
 
 -- ## coordinates, one after another
 

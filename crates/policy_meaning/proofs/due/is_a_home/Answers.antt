@@ -1,6 +1,6 @@
 use Rattle.std.proofs.Common.{◌≡◌, ◌<◌, ℕ, true, false, Some, None, sym, ◌∙◌, arith}
 use Rattle.wall_policy.specs.Policy.{home_of}
-use Rattle.policy_meaning.specs.Warnings.{is_that}
+use Rattle.wall_verdict.specs.Charges.{is_that}
 use Rattle.policy_meaning.proofs.HomeLemmas.{a_home, no_home, nobodys}
 use Rattle.policy_meaning.proofs.due.is_a_home.Goals as goal
 

@@ -2,7 +2,7 @@ use Rattle.std.proofs.Common.{◌≡◌, false}
 use Rattle.std.specs.List.{list_any}
 use Rattle.wall_policy.specs.Policy.{home_of}
 use Rattle.mpi_cart.specs.Grids.{below}
-use Rattle.policy_meaning.specs.Warnings.{is_that}
+use Rattle.wall_verdict.specs.Charges.{is_that}
 use Rattle.policy_meaning.proofs.due.is_a_home.Given as goal
 
 abbrev pub invariant-loop-number : goal.invariant-loop-number
