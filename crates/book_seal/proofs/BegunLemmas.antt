@@ -27,7 +27,7 @@ use Rattle.audit_book.proofs.AuditBookLemmas.{line_lacks, header_whole, ended_li
 use Rattle.audit_book.proofs.AuditBookLemmas.{line_text, lines_are, more_found, ended_found}
 use Rattle.audit_book.proofs.AuditBookLemmas.{end_step, header_step, cut_found, parts_more}
 use Rattle.audit_book.proofs.AuditBookLemmas.{step_again, header_again, entries_again, lines_whole}
-use Rattle.audit_book.proofs.AuditBookLemmas.{parts_ended}
+use Rattle.audit_book.proofs.AuditBookLemmas.{parts_ended, with_none}
 use Rattle.book_seal.specs.Seals.{all_but_last, finished_lines, finished, entry_told}
 use Rattle.book_seal.specs.Seals.{finished_entries}
 use Rattle.book_seal.proofs.FinishedLemmas.{AreLines, but_last, finished_is, parts_behind}
@@ -68,10 +68,6 @@ told_step wall l ls e said =
     ap (λ (r : Result Line LineFault). cons_option (entry_told r) (told wall ls)) said
 
 -- ---- lines of entries
-
-with_none : (r : Result (List Entry) ReadFault) → with_front [] r ≡ r
-with_none (Ok es) = refl
-with_none (Err f) = refl
 
 with_both : (e : Entry) (es : List Entry) (r : Result (List Entry) ReadFault) →
     with_front (e ∷ []) (with_front es r) ≡ with_front (e ∷ es) r

@@ -19,7 +19,7 @@ use Rattle.audit_book.specs.Lines.{line_at}
 use Rattle.audit_book.specs.Text.{header_line}
 use Rattle.audit_book.specs.Reading.{with_front, by_line, ended_at, entries_in, lines_in, book_in}
 use Rattle.audit_book.proofs.AuditBookLemmas.{more_found, ended_found, end_step, header_step}
-use Rattle.audit_book.proofs.AuditBookLemmas.{some_parts}
+use Rattle.audit_book.proofs.AuditBookLemmas.{some_parts, done, same_done}
 use Rattle.book_seal.specs.declared.fault.SealFault.{SealFault}
 use Rattle.book_seal.specs.declared.fault.SealFault.TheVariants as faults
 use Rattle.book_seal.specs.Seals.{finished, finished_lines, finished_entries}
@@ -49,12 +49,6 @@ one_only : (ls : List Word) (w v : Word) (ws : List Word) → ls ++ (w ∷ ws) �
 one_only [] w v ws e = refl
 one_only (l ∷ []) w v ws e = absurd cc
 one_only (l ∷ m ∷ ls) w v ws e = absurd cc
-
-abbrev done : List Entry → Read
-done es = Ok es
-
-same_done : (xs ys : List Entry) → done xs ≡ done ys → xs ≡ ys
-same_done xs ys e = cc
 
 ok_no_fault : (es : List Entry) (n : ℕ) → done es ≡ Err (BadLine n) → ⊥
 ok_no_fault es n e = cc

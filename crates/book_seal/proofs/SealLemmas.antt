@@ -14,12 +14,12 @@ use Rattle.run_model.specs.Books.{book, posts_in, IsSound, IsFirstBad}
 use Rattle.run_model.specs.EntryForms.{HasForm}
 use Rattle.run_model.proofs.RunModelLemmas.{posts_in-append}
 use Rattle.audit_book.specs.declared.fault.ReadFault.{ReadFault}
-use Rattle.audit_book.specs.declared.fault.ReadFault.TheVariants.{BadLine, Cut}
+use Rattle.audit_book.specs.declared.fault.ReadFault.TheVariants.{BadLine}
 use Rattle.audit_book.specs.Text.{line_of, end_words, entry_lines, book_text}
 use Rattle.audit_book.specs.Reading.{book_in}
 use Rattle.audit_book.specs.Laws.{IsSpelled}
 use Rattle.audit_book.specs.Dues.{IsDueBehind}
-use Rattle.audit_book.proofs.AuditBookLemmas.{bad_end, book_again, book_found}
+use Rattle.audit_book.proofs.AuditBookLemmas.{bad_end, book_again, book_found, no_bad_cut}
 use Rattle.book_seal.specs.declared.fault.SealFault.{SealFault}
 use Rattle.book_seal.specs.declared.fault.SealFault.TheVariants as faults
 use Rattle.book_seal.specs.Seals.{finished, finished_entries, IsSealOf}
@@ -116,12 +116,6 @@ module _ (wall : ChineseWall) (policy : IsPolicy wall) (text : List ℕ)
 
 -- ---- faults
 
-abbrev answer : Result (List Entry) ReadFault → Result (List Entry) ReadFault
-answer r = r
-
-no_bad : (n : ℕ) → answer (Err Cut) ≡ Err (BadLine n) → ⊥
-no_bad n e = cc
-
 module _ (wall : ChineseWall) (text : List ℕ) where
   ok_good : (r : Result (List Entry) ReadFault) (n : ℕ) → IsOk r → r ≡ Err (BadLine n) → ⊥
   ok_good (Ok es) n ok bad = cc
@@ -129,7 +123,7 @@ module _ (wall : ChineseWall) (text : List ℕ) where
 
   pub good_lines : (ended : Bool) → IsEnded wall text ended → (n : ℕ) → HasBadLine wall text n → ⊥
   good_lines true ok n bad = ok_good (book_in wall (finished text)) n ok bad
-  good_lines false cut n bad = no_bad n (sym cut ∙ bad)
+  good_lines false cut n bad = no_bad_cut n (sym cut ∙ bad)
 
   pub unread_is : (f : SealFault) → IsUnread wall text f → IsFaultOf wall text f
   unread_is (faults.BadLine n) h = h

@@ -9,6 +9,7 @@ use Rattle.audit_book.specs.declared.fault.ReadFault.{ReadFault}
 use Rattle.audit_book.specs.declared.fault.ReadFault.TheVariants.{BadLine, Cut, NoMemory}
 use Rattle.audit_book.specs.Reading.{IsSaid, book_in}
 use Rattle.audit_book.specs.Text.{line_of, end_words}
+use Rattle.audit_book.proofs.AuditBookLemmas.{done, same_done}
 use Rattle.book_seal.specs.Seals.{finished, finished_entries}
 use Rattle.book_seal.proofs.BegunLemmas.{none_told, two_parts, read_with_end}
 use Rattle.book_seal.proofs.begun.read_cut.Goals as goal
@@ -16,12 +17,6 @@ use Rattle.book_seal.proofs.begun.read_cut.Goals as goal
 some_of : (n : ℕ) → eqb n 0 ≡ false → 0 < n
 some_of zero e = absurd cc
 some_of (suc n) e = omega arith
-
-abbrev done : List Entry → Result (List Entry) ReadFault
-done es = Ok es
-
-same_done : (xs ys : List Entry) → done xs ≡ done ys → xs ≡ ys
-same_done xs ys e = cc
 
 module _ (wall : ChineseWall) (text front : List ℕ) (cut : book_in wall (finished text) ≡ Err Cut)
     (is : front ≡ finished text) (some : eqb (length front) 0 ≡ false) where
