@@ -3,13 +3,12 @@ use Rattle.std.proofs.Common.{◌≡◌, ◌≢◌, ℕ, zero, suc, ◌+◌, ◌
 use Rattle.std.proofs.Common.{List, [], ◌∷◌, ◌++◌, length, set, get_or, replicate, Option, Some}
 use Rattle.std.proofs.Common.{None, refl, sym, ap, ◌∙◌, arith, cond, ⊎_elim, ◌⊎◌}
 use Rattle.std.proofs.Common.{eqb-true, eq-eqb, slice_get}
-use Rattle.std.specs.Prelude.{is_some, ◌==◌, IsSome}
+use Rattle.std.specs.Prelude.{is_some, ◌==◌}
 use Rattle.std.proofs.lemmas.Bool.{cases_Bool, cond-true, cond-false, false≢true, and_parts}
 use Rattle.std.proofs.lemmas.Bool.{and_from}
 use Rattle.std.proofs.lemmas.Option.{slice_get-get_or}
 use Rattle.std.proofs.lemmas.List.Sums.{sum_by-append, sum_by_push, sum_by-set}
 use Rattle.hall_core.specs.declared.requests.Request.{Request}
-use Rattle.hall_core.proofs.FrontLemmas.{front_get, front_below}
 use Rattle.hall_core.specs.Asking.{opened, open_number, is_for, open_in, open_for, updated}
 
 -- ## one process
@@ -185,36 +184,3 @@ module _ (c k : ℕ) where
           let rest = for_updated n (omega (arith, low, apart)) in
           omega (arith, here, rest))
           (cases_Bool (n == p))
-
--- ## the window
-
--- an open request is in the window
-pub record IsInWindow (first : ℕ) (window : List (Option Request)) (number : ℕ) : Type 0 where
-  pub low : first ≤ number
-  pub within : number - first < length window
-  pub r : Request
-  pub at : get_or window (number - first) None ≡ Some r
-  pub is : opened (replicate first None ++ window) number ≡ Some r
-
-pub in_window : (first : ℕ) (window : List (Option Request)) (number : ℕ) →
-    IsSome (opened (replicate first None ++ window) number) → IsInWindow first window number
-in_window first window number some = by (opened (replicate first None ++ window) number) refl some
-  where
-    by : (o : Option Request) → opened (replicate first None ++ window) number ≡ o → IsSome o →
-        IsInWindow first window number
-    by None e some = absurd (cc)
-    by (Some r) e some =
-        let low : first ≤ number = ⊎_elim
-        (λ (below : number < first). absurd (let never : Some r ≡ None = sym e ∙ front_below first
-        None window number None below in cc))
-        (λ (low : first ≤ number). low)
-        (Rattle.std.proofs.lemmas.Bool.cases_lt number first) in
-        let at : get_or window (number - first) None ≡ Some r = sym
-        (front_get first None window number None low) ∙ e in
-        record
-        { low = low; within = is_within window (number - first) r at; r = r; at = at; is = e }
-
--- one fewer is counted in it
-pub window_closed : (window : List (Option Request)) (at : ℕ) (r : Request) →
-    get_or window at None ≡ Some r → open_number (set window at None) + 1 ≡ open_number window
-window_closed window at r e = count_closed window at r e

@@ -1,6 +1,6 @@
 -- Look-ups.
 use Rattle.std.proofs.Common.{◌≡◌, ℕ, zero, suc, ◌<◌, List, [], ◌∷◌, ◌++◌, length, refl, ap, ◌∙◌}
-use Rattle.std.proofs.Common.{arith, Option, Some, None, slice_get, take, drop}
+use Rattle.std.proofs.Common.{arith, Option, Some, None, slice_get, take, drop, take_at, drop_at}
 
 -- what stands in a list at a number within
 pub there : {X : Type 0} (xs : List X) (n : ℕ) → n < length xs → (x : X) × (slice_get xs n ≡ Some x)
@@ -27,15 +27,8 @@ row_next [] n k x e = absurd (cc)
 row_next (y ∷ xs) zero k x e = let same : y ≡ x = cc in ap (λ z. z ∷ take k xs) same
 row_next (y ∷ xs) (suc n) k x e = row_next xs n k x e
 
-take_front : {X : Type 0} (xs ys : List X) → take (length xs) (xs ++ ys) ≡ xs
-take_front [] ys = refl
-take_front (x ∷ xs) ys = ap (λ rest. x ∷ rest) (take_front xs ys)
-
-drop_front : {X : Type 0} (xs ys : List X) → drop (length xs) (xs ++ ys) ≡ ys
-drop_front [] ys = refl
-drop_front (x ∷ xs) ys = drop_front xs ys
-
 pub row_between : {X : Type 0} (xs ys zs : List X) →
     take (length ys) (drop (length xs) (xs ++ (ys ++ zs))) ≡ ys
 row_between xs ys zs =
-    ap (λ rest. take (length ys) rest) (drop_front xs (ys ++ zs)) ∙ take_front ys zs
+    ap (λ rest. take (length ys) rest) (drop_at xs (ys ++ zs) (length xs) refl)
+    ∙ take_at ys zs (length ys) refl

@@ -10,8 +10,6 @@ use Rattle.coll_routes.specs.Signatures.{is_constructor}
 use Rattle.coll_values.specs.declared.full.Full.{Full}
 use Rattle.coll_values.specs.Instances.{IsWhole}
 use Rattle.wall_rules.specs.Histories.{History}
-use Rattle.wall_verdict.specs.declared.verdict.Verdict.{Verdict}
-use Rattle.wall_verdict.specs.declared.verdict.Verdict.TheVariants as verdicts
 use Rattle.wall_verdict.specs.Verdicts.{verdict}
 use Rattle.run_model.specs.declared.outcome.Outcome.{Outcome}
 use Rattle.run_model.specs.declared.outcome.Outcome.TheVariants.{Made as MadeComms, NoRoom}
@@ -21,6 +19,7 @@ use Rattle.coll_routes.specs.Rolls.{is_full}
 use Rattle.run_model.specs.Posts.{labelled, histories, instance, kth_posts, roll_by}
 use Rattle.run_model.proofs.RunModelLemmas.{filled_is, comms_stay, comm_stays, IsSettled}
 use Rattle.run_model.proofs.RunModelLemmas.{settled_from, kth_later, comm_at_is, granted_whole}
+use Rattle.run_model.proofs.RunModelLemmas.{verdict_makes_none}
 use Rattle.run_model.specs.Replies.{posts_made, comm_at}
 use Rattle.hall_core.specs.declared.requests.Request.{Request}
 use Rattle.hall_core.specs.declared.settled.Settlement.{Settlement}
@@ -52,10 +51,6 @@ made_is before first number new e = go (fits before (length new)) refl e
     }
     go false f e = absurd (cc)
 
-not_made : (v : Verdict) (first number : ℕ) → by_verdict v ≡ MadeComms first number → ⊥
-not_made verdicts.Granted first number e = absurd (cc)
-not_made (verdicts.Denied rule p label) first number e = absurd (cc)
-
 outcome_made : (wall : ChineseWall) (has : History) (before first number : ℕ) (roll : Roll) →
     outcome_of wall has before roll ≡ MadeComms first number →
     IsMadeAt before first number (new_comms roll)
@@ -65,7 +60,7 @@ outcome_made wall has before first number roll e = go (is_constructor roll.sig) 
         cond b (constructor_outcome before (new_comms roll)) (by_verdict (verdict wall has roll))
         ≡ MadeComms first number → IsMadeAt before first number (new_comms roll)
     go true e = made_is before first number (new_comms roll) e
-    go false e = absurd (not_made (verdict wall has roll) first number e)
+    go false e = absurd (verdict_makes_none (verdict wall has roll) first number e)
 
 -- they stand in the table, from that number on
 pub record AreThere (table : List Comm) (first number : ℕ) (new : List Comm) : Type 0 where

@@ -4,8 +4,10 @@ pub mod Claims
 pub mod Halls
 pub mod Invariant
 pub mod Ledgers
+pub mod Lending
 pub mod Looks
 pub mod Moves
 pub mod Settling
 pub mod Sharing
+pub mod Windows
 pub mod Worlds

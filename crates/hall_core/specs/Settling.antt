@@ -1,22 +1,22 @@
 -- The places of instances, looked up by communicator and number.
 use Rattle.std.specs.Prelude.{◌≡◌, ℕ, ◌+◌, ◌-◌, ◌<◌, ◌≤◌, ◌==◌, ◌&&◌, List, [], length}
-use Rattle.std.specs.Prelude.{slice_index_or, slice_set, Option, None, Some, if◌then◌else◌}
+use Rattle.std.specs.Prelude.{slice_index_or, Option, None, Some, if◌then◌else◌}
 use Rattle.hall_core.specs.declared.settled.Settlement.{Settlement}
 use Rattle.hall_core.specs.declared.settled.Place.{Place}
 use Rattle.hall_core.specs.Asking.{open_for}
+use Rattle.hall_core.specs.Windows.{Windowed}
 use Rattle.hall_core.specs.declared.requests.Request.{Request}
 
--- The places of one communicator's instances by number. Nothing stands before the first of these.
-pub record Places : Type 0 where
-  pub first : ℕ
-  pub list : List Place
+-- the places of one communicator's instances by number
+abbrev pub Places : Type 0
+Places = Windowed Place
 
 -- a place where nothing stands
 abbrev pub nothing : Place
 nothing = record { waiting = 0; settlement = None }
 
 abbrev pub no_places : Places
-no_places = record { first = 0; list = [] }
+no_places = record { first = 0; list = []; room = 0 }
 
 abbrev pub place_in : List Place → (k : ℕ) → Place
 place_in list k = slice_index_or list k nothing
@@ -57,9 +57,6 @@ one_fewer place =
 -- this came of the instance
 abbrev pub settled_as : Place → Settlement → Place
 settled_as place s = record { waiting = place.waiting; settlement = Some s }
-
-abbrev pub with_place : Places → (k : ℕ) → Place → Places
-with_place row k place = record { first = row.first; list = slice_set row.list k place }
 
 -- two tables have the same in each place
 abbrev pub AreSame : (old new : List Places) → Type 0

@@ -303,7 +303,8 @@ fn pages_of_trades<R: Files + AllocGlobal + Abort>(rt: &R, hall: &mut Hall) -> R
     Ok(after.saturating_sub(before))
 }
 
-/// The same in a hall that is opened with the policy, before it is let go.
+/// How many more pages are resident after all trades in a hall that is opened with the policy,
+/// before it is let go.
 fn pages_at_a_hall<R: Files + AllocGlobal + Abort>(rt: &R, policy: &str) -> Result<u64, Fail> {
     let Ok(policy) = read_policy(rt.alloc(), policy.as_bytes()) else {
         return Err(Fail::from("the policy is not read"));

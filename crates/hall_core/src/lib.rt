@@ -13,6 +13,7 @@
 
 mod brief;
 mod claims;
+mod entering;
 mod gone;
 mod hall;
 mod instance;
@@ -29,6 +30,7 @@ mod settled;
 mod takes;
 #[cfg(test)]
 mod tests;
+mod window;
 mod worlds;
 #[cfg(test)]
 mod worlds_tests;

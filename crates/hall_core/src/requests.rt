@@ -1,17 +1,15 @@
 //! Requests.
-ghost use Rattle.std.specs.Prelude.{◌≡◌, ◌<◌, ◌≤◌, ◌+◌, [], ◌∷◌, ◌++◌, length, replicate, drop};
-ghost use Rattle.std.specs.Prelude.{slice_set, ◌^◌, IfOk, IfNone, OnOk, IsSome, IsTrue, IsFalse};
-ghost use Rattle.std.specs.Prelude.{Some, None, OnErr, if◌then◌else◌};
-ghost use Rattle.std.specs.VecDeque.{deque_len};
+ghost use Rattle.std.specs.Prelude.{◌≡◌, ◌<◌, ◌∷◌, ◌++◌, ◌^◌, [], length, slice_set};
+ghost use Rattle.std.specs.Prelude.{IfOk, IfNone, OnOk, OnErr, IsSome, IsFalse, Some, None};
+ghost use Rattle.std.specs.Prelude.{if◌then◌else◌};
 ghost use Rattle.run_model.specs.declared.refusal.Refusal.TheVariants.{TooManyRequests};
 ghost use Rattle.run_model.specs.Replies.{is_limit_reached as limit_test};
 ghost use Rattle.hall_core.specs.Asking.{opened, open_number, requests_of, room_of, with_request};
 ghost use Rattle.hall_core.specs.Asking.{with_closed};
 
-use crate::room::give_back;
+use crate::window::{Forgettable, Window};
 use run_model::Refusal;
 use std::alloc::{AllocError, Global};
-use std::collections::VecDeque;
 use std::marker::Model;
 
 /// The instance that a request is for: the communicator, and its number there.
@@ -22,30 +20,38 @@ pub struct Request {
 }
 
 /// The requests of one process in order, and room for more. One that was taken is forgotten but for
-/// its number: all before the window were taken, and the window has nothing in its place.
+/// its number.
 #[derive(Drop)]
 pub struct Requests {
-    first: usize,
-    window: VecDeque<Option<Request>>,
+    window: Window<Option<Request>>,
     waiting: usize,
 }
 
+impl Forgettable for Option<Request> {
+    ghost nothing = { None };
+
+    fn nothing() -> Option<Request> {
+        None
+    }
+
+    fn is_nothing(&self) -> bool {
+        self.is_none()
+    }
+}
+
 impl Model for Requests {
-    ghost use Rattle.std.specs.Prelude.{◌≡◌, ◌≤◌, ◌-◌, ◌+◌, ◌++◌, ◌^◌, None, length, replicate};
-    ghost use Rattle.std.specs.VecDeque.{deque_len, deque_capacity};
+    ghost use Rattle.std.specs.Prelude.{◌≡◌};
+    ghost use Rattle.std.specs.Prelude.{None};
     ghost use Rattle.hall_core.specs.Asking.{Asked, open_number};
+    ghost use Rattle.hall_core.specs.Windows.{IsTrimmed};
 
     ghost Value = { Asked };
 
-    ghost view = { λ r. record {
-      list = replicate r.first None ++ r.window.items;
-      room = deque_capacity r.window - deque_len r.window;
-    } };
+    ghost view = { λ r. record { list = r.window.list; room = r.window.room } };
 
     ghost invariant = { λ r. record {
-      waiting : r.waiting ≡ open_number r.window.items;
-      few : r.first + length r.window.items ≤ 2 ^ 62;
-      counted : deque_len r.window ≡ length r.window.items;
+      waiting : r.waiting ≡ open_number r.window.list;
+      trimmed : IsTrimmed None r.window;
     } };
 }
 
@@ -54,8 +60,7 @@ impl Requests {
         ensures { result.list ≡ [] }
     {
         Requests {
-            first: 0,
-            window: VecDeque::new(alloc),
+            window: Window::new(alloc),
             waiting: 0,
         }
     }
@@ -64,7 +69,7 @@ impl Requests {
     pub fn given(&self) -> usize
         ensures { result ≡ length self.now.list }
     {
-        self.first + self.window.len()
+        self.window.len()
     }
 
     /// How many are not taken.
@@ -78,10 +83,7 @@ impl Requests {
     pub fn opened(&self, number: usize) -> Option<Request>
         ensures { result ≡ opened self.now.list number }
     {
-        if number < self.first {
-            return None;
-        }
-        match self.window.get(number - self.first) {
+        match self.window.get(number) {
             Some(place) => *place,
             None => None,
         }
@@ -93,7 +95,7 @@ impl Requests {
         ensures room { OnOk result (0 < self.new.room) }
         ensures memory { OnErr result (self.old.room ≡ 0) }
     {
-        self.window.reserve(1)
+        self.window.reserve()
     }
 
     /// Gives one more.
@@ -102,28 +104,21 @@ impl Requests {
         requires few { length self.old.list < 2 ^ 62 }
         ensures { self.new.list ≡ self.old.list ++ Some request ∷ [] }
     {
-        self.window.push_back_reserved(Some(request));
+        self.window.push(Some(request));
         self.waiting += 1;
     }
 
     /// An open request is taken, and forgotten but for its number. Takes no memory.
-    #[tactic(auto, using(crate::proofs::FrontLemmas::front_all, crate::proofs::FrontLemmas::front_count))]
     pub fn take(&mut self, number: usize)
         requires { IsSome (opened self.old.list number) }
         ensures { self.new.list ≡ slice_set self.old.list number None }
     {
-        self.close(number);
-        self.first += drop_taken(&mut self.window);
-    }
-
-    // Puts nothing in the place of an open request.
-    fn close(&mut self, number: usize)
-        requires { IsSome (opened self.old.list number) }
-        ensures { self.new.list ≡ slice_set self.old.list number None }
-    {
-        let at = number - self.first;
-        self.window[at] = None;
+        let Some(place) = self.window.get_mut(number) else {
+            unreachable!()
+        };
+        *place = None;
         self.waiting -= 1;
+        self.window.forget();
     }
 }
 
@@ -131,38 +126,12 @@ impl Requests {
 impl Requests {
     /// How many are kept.
     pub fn kept(&self) -> usize {
-        self.window.len()
+        self.window.kept()
     }
 
     /// For how many there is memory.
     pub fn room(&self) -> usize {
-        self.window.capacity()
-    }
-}
-
-// Drops those in front that were taken, and says how many. Gives room back where much is left.
-#[tactic(auto, using(crate::proofs::FrontLemmas::taken_off))]
-fn drop_taken(window: &mut VecDeque<Option<Request>>) -> usize
-    ensures front { window.old.items ≡ replicate result None ++ window.new.items }
-    ensures number { length window.old.items ≡ result + length window.new.items }
-    ensures counted { deque_len window.new ≡ length window.new.items }
-{
-    let mut dropped = 0;
-    while is_taken_first(window) {
-        let _ = window.pop_front();
-        dropped += 1;
-    }
-    give_back(window);
-    dropped
-}
-
-// Whether there is a first one, and it was taken.
-fn is_taken_first(window: &VecDeque<Option<Request>>) -> bool
-    ensures { IsTrue result → window.now.items ≡ None ∷ drop 1 window.now.items }
-{
-    match window.front() {
-        Some(place) => place.is_none(),
-        None => false,
+        self.window.room()
     }
 }
 

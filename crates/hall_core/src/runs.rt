@@ -61,7 +61,7 @@ impl Replies {
 
 // Applies the calls in order to a hall that was opened for them, and gives one reply for each, in
 // order.
-pub(crate) fn apply_each(alloc: Global, hall: &mut Hall, calls: Calls) -> Result<Replies, NoMemory>
+fn apply_each(alloc: Global, hall: &mut Hall, calls: Calls) -> Result<Replies, NoMemory>
     requires labels { HaveKnownLabels hall.old.policy calls }
     requires begins { StandsFor hall.old [] }
     ensures policy { hall.new.policy ≡ hall.old.policy }

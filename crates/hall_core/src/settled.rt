@@ -1,19 +1,16 @@
 //! The places of instances, each with what came of it.
-ghost use Rattle.std.specs.Prelude.{◌≡◌, ◌<◌, ◌≤◌, ◌==◌, ◌+◌, ◌^◌, ◌∷◌, ◌++◌, ℕ, None, Some};
-ghost use Rattle.std.specs.Prelude.{length, replicate, drop, min, max, OnOk, OnErr, IsTrue};
-ghost use Rattle.std.specs.Prelude.{if◌then◌else◌, unwrap_or};
+ghost use Rattle.std.specs.Prelude.{◌≡◌, ◌<◌, ◌+◌, ◌^◌, ℕ, length, max, None};
+ghost use Rattle.std.specs.Prelude.{OnOk, OnErr, IsTrue, unwrap_or};
 ghost use Rattle.std.specs.Option.{option_copied};
-ghost use Rattle.std.specs.VecDeque.{deque_len};
 ghost use Rattle.run_model.specs.declared.outcome.Outcome.TheVariants.{Granted};
-ghost use Rattle.hall_core.specs.Settling.{nothing, no_places, place_in, place_at};
-ghost use Rattle.hall_core.specs.Settling.{open_at, HasPlace, one_more, one_fewer};
-ghost use Rattle.hall_core.specs.Settling.{settled_as, with_place, AreSame, IsPlaced};
+ghost use Rattle.hall_core.specs.Settling.{nothing, place_at, open_at, HasPlace, one_more};
+ghost use Rattle.hall_core.specs.Settling.{one_fewer, settled_as, places_of, AreSame, IsPlaced};
+ghost use Rattle.hall_core.specs.Windows.{IsTrimmed};
 
 use crate::instance::Instance;
-use crate::room::give_back;
+use crate::window::{Forgettable, Window};
 use run_model::Outcome;
 use std::alloc::Global;
-use std::collections::VecDeque;
 use std::marker::Model;
 use wall_labels::NoMemory;
 
@@ -68,23 +65,6 @@ impl Drop for Place {
 }
 
 impl Place {
-    // A place where nothing stands.
-    fn nothing() -> Place
-        ensures { result ≡ nothing }
-    {
-        Place {
-            waiting: 0,
-            settlement: None,
-        }
-    }
-
-    // Whether nothing stands there.
-    fn is_nothing(&self) -> bool
-        ensures { IsTrue result → self.now ≡ nothing }
-    {
-        self.waiting == 0 && self.settlement.is_none()
-    }
-
     // One open request fewer. With the last of them the instance is let go.
     fn leave(&mut self)
         requires { 0 < self.old.waiting }
@@ -120,176 +100,18 @@ fn share_in(alloc: Global, place: &mut Place)
     }
 }
 
-// Drops the places in front where nothing stands, and says how many. Gives room back where much is
-// left.
-#[tactic(auto, using(crate::proofs::FrontLemmas::taken_off))]
-fn drop_nothing(places: &mut VecDeque<Place>) -> usize
-    ensures front { places.old.items ≡ replicate result nothing ++ places.new.items }
-    ensures number { length places.old.items ≡ result + length places.new.items }
-    ensures counted { deque_len places.new ≡ length places.new.items }
-{
-    let mut dropped = 0;
-    while is_nothing_first(places) {
-        let _ = places.pop_front();
-        dropped += 1;
-    }
-    give_back(places);
-    dropped
-}
+impl Forgettable for Place {
+    ghost nothing = { nothing };
 
-// Whether there is a first place, and nothing stands there.
-fn is_nothing_first(places: &VecDeque<Place>) -> bool
-    ensures { IsTrue result → places.now.items ≡ nothing ∷ drop 1 places.now.items }
-{
-    match places.front() {
-        Some(place) => place.is_nothing(),
-        None => false,
-    }
-}
-
-/// The places of one communicator's instances, by number. Those of instances that were let go are
-/// dropped in front, and counted.
-struct Row {
-    first: usize,
-    places: VecDeque<Place>,
-}
-
-// By hand: a derived one is proved anew in each crate that drops one.
-impl Drop for Row {
-    fn drop(self) {
-        let Row { first: _, places } = self;
-        drop(places);
-    }
-}
-
-impl Model for Row {
-    ghost use Rattle.std.specs.Prelude.{◌≡◌, ◌+◌, ◌++◌, ◌≤◌, ◌^◌, length, replicate};
-    ghost use Rattle.std.specs.VecDeque.{deque_len};
-    ghost use Rattle.hall_core.specs.Settling.{Places, nothing};
-
-    ghost Value = { Places };
-
-    ghost view = { λ r. record {
-      first = r.first;
-      list = replicate r.first nothing ++ r.places.items;
-    } };
-
-    ghost invariant = { λ r. record {
-      few : r.first + length r.places.items ≤ 2 ^ 62;
-      counted : deque_len r.places ≡ length r.places.items;
-    } };
-}
-
-impl Row {
-    fn new(alloc: Global) -> Row
-        ensures { result ≡ no_places }
-    {
-        Row {
-            first: 0,
-            places: VecDeque::new(alloc),
+    fn nothing() -> Place {
+        Place {
+            waiting: 0,
+            settlement: None,
         }
     }
 
-    // The place of the instance of that number, if there is one.
-    #[tactic(auto, using(crate::proofs::SettlingLemmas::place_behind, crate::proofs::SettlingLemmas::place_ahead))]
-    fn place(&self, k: usize) -> Option<&Place>
-        ensures { unwrap_or (option_copied result) nothing ≡ place_in self.now.list k }
-    {
-        if k < self.first {
-            return None;
-        }
-        self.places.get(k - self.first)
-    }
-
-    // Makes a place for the instance of that number. Of those that were dropped it takes back only
-    // those from that number on. Takes no memory where there is a place.
-    fn ready(&mut self, k: usize) -> Result<(), NoMemory>
-        requires { k < 2 ^ 62 }
-        ensures same { (j : ℕ) → place_in self.new.list j ≡ place_in self.old.list j }
-        ensures first { OnOk result (self.new.first ≡ min self.old.first k) }
-        ensures within { OnOk result (k < length self.new.list) }
-        ensures memory { self.old.first ≤ k → k < length self.old.list → OnErr result ⊥ }
-    {
-        self.reach_back(k)?;
-        self.reach_on(k)
-    }
-
-    // Takes back the places from that number on which were dropped.
-    #[tactic(auto, using(crate::proofs::SettlingLemmas::front_pushed))]
-    fn reach_back(&mut self, k: usize) -> Result<(), NoMemory>
-        ensures same { self.new.list ≡ self.old.list }
-        ensures first { OnOk result (self.new.first ≡ min self.old.first k) }
-        ensures memory { self.old.first ≤ k → OnErr result ⊥ }
-    {
-        while k < self.first {
-            self.places.push_front(Place::nothing())?;
-            self.first -= 1;
-        }
-        Ok(())
-    }
-
-    // Makes places up to that number.
-    #[tactic(auto, using(crate::proofs::SettlingLemmas::end_pushed, crate::proofs::FrontLemmas::front_length))]
-    fn reach_on(&mut self, k: usize) -> Result<(), NoMemory>
-        requires low { self.old.first ≤ k }
-        requires few { k < 2 ^ 62 }
-        ensures same { (j : ℕ) → place_in self.new.list j ≡ place_in self.old.list j }
-        ensures first { self.new.first ≡ self.old.first }
-        ensures within { OnOk result (k < length self.new.list) }
-        ensures memory { k < length self.old.list → OnErr result ⊥ }
-    {
-        while self.places.len() <= k - self.first {
-            self.places.push_back(Place::nothing())?;
-        }
-        Ok(())
-    }
-
-    // One request more is for the instance of that number.
-    fn join(&mut self, k: usize)
-        requires low { self.old.first ≤ k }
-        requires within { k < length self.old.list }
-        requires few { (place_in self.old.list k).waiting < 2 ^ 62 }
-        ensures { self.new ≡ with_place self.old k (one_more (place_in self.old.list k)) }
-    {
-        let at = k - self.first;
-        self.places[at].waiting += 1;
-    }
-
-    // This came of the instance of that number.
-    fn put(&mut self, k: usize, settlement: Settlement)
-        requires low { self.old.first ≤ k }
-        requires within { k < length self.old.list }
-        ensures { self.new
-            ≡ with_place self.old k (settled_as (place_in self.old.list k) settlement) }
-    {
-        let at = k - self.first;
-        self.places[at].settlement = Some(settlement);
-    }
-
-    // Shares the instance of that number, where it was granted and there is memory.
-    #[tactic(auto, using(crate::proofs::SettlingLemmas::row_unchanged))]
-    fn freeze(&mut self, alloc: Global, k: usize)
-        ensures { self.new ≡ self.old }
-    {
-        if k < self.first {
-            return;
-        }
-        let at = k - self.first;
-        if at < self.places.len() {
-            freeze_place(alloc, &mut self.places[at]);
-        }
-    }
-
-    // One open request for the instance of that number fewer.
-    #[tactic(auto, using(crate::proofs::SettlingLemmas::row_there))]
-    fn leave(&mut self, k: usize)
-        requires { 0 < (place_in self.old.list k).waiting }
-        ensures { (j : ℕ) → place_in self.new.list j
-            ≡ (if j == k then one_fewer (place_in self.old.list k) else place_in self.old.list j) }
-    {
-        let at = k - self.first;
-        self.places[at].leave();
-        self.first += drop_nothing(&mut self.places);
+    fn is_nothing(&self) -> bool {
+        self.waiting == 0 && self.settlement.is_none()
     }
 }
 
@@ -298,7 +120,7 @@ impl Row {
 /// between the first and the last of a communicator.
 pub struct Settlements {
     alloc: Global,
-    rows: Vec<Row>,
+    rows: Vec<Window<Place>>,
 }
 
 // By hand: a derived one is proved anew in each crate that drops one.
@@ -332,7 +154,10 @@ impl Settlements {
     pub fn place(&self, comm: u32, k: u64) -> Option<&Place>
         ensures { unwrap_or (option_copied result) nothing ≡ place_at self.now comm k }
     {
-        place_of(&self.rows, comm as usize, k as usize)
+        match self.rows.get(comm as usize) {
+            Some(row) => row.get(k as usize),
+            None => None,
+        }
     }
 
     /// Makes a place for instance k of a communicator. Takes no memory where there is one.
@@ -344,7 +169,7 @@ impl Settlements {
         ensures memory { HasPlace self.old comm k → OnErr result ⊥ }
     {
         add_rows(self.alloc, &mut self.rows, comm as usize)?;
-        ready_at(&mut self.rows, comm as usize, k as usize)
+        self.rows[comm as usize].reach(k as usize)
     }
 
     /// One request more is for instance k of a communicator, for which there is a place.
@@ -354,7 +179,10 @@ impl Settlements {
         ensures placed { IsPlaced self.old self.new comm k (one_more (place_at self.old comm k)) }
         ensures place { HasPlace self.new comm k }
     {
-        join_at(&mut self.rows, comm as usize, k as usize);
+        let Some(place) = self.rows[comm as usize].get_mut(k as usize) else {
+            unreachable!()
+        };
+        place.waiting += 1;
     }
 
     /// This came of instance k of a communicator, for which there is a place.
@@ -363,7 +191,10 @@ impl Settlements {
         ensures { IsPlaced self.old self.new comm k
             (settled_as (place_at self.old comm k) settlement) }
     {
-        put_at(&mut self.rows, comm as usize, k as usize, settlement);
+        let Some(place) = self.rows[comm as usize].get_mut(k as usize) else {
+            unreachable!()
+        };
+        place.settlement = Some(settlement);
     }
 
     /// Shares instance k of a communicator, where it was granted and there is memory. Callers can
@@ -371,16 +202,28 @@ impl Settlements {
     pub fn freeze(&mut self, comm: u32, k: u64)
         ensures { AreSame self.old self.new }
     {
-        freeze_at(self.alloc, &mut self.rows, comm as usize, k as usize);
+        let Some(row) = self.rows.get_mut(comm as usize) else {
+            return;
+        };
+        if let Some(place) = row.get_mut(k as usize) {
+            freeze_place(self.alloc, place);
+        }
     }
 
     /// An open request for instance k of a communicator was taken. With the last of them the
     /// instance is let go. Takes no memory.
     pub fn leave(&mut self, comm: u32, k: u64)
         requires { 0 < open_at self.old comm k }
-        ensures { IsPlaced self.old self.new comm k (one_fewer (place_at self.old comm k)) }
+        ensures placed { IsPlaced self.old self.new comm k
+            (one_fewer (place_at self.old comm k)) }
+        ensures trimmed { IsTrimmed nothing (places_of self.new comm) }
     {
-        leave_at(&mut self.rows, comm as usize, k as usize);
+        let row = &mut self.rows[comm as usize];
+        let Some(place) = row.get_mut(k as usize) else {
+            unreachable!()
+        };
+        place.leave();
+        row.forget();
     }
 }
 
@@ -389,7 +232,7 @@ impl Settlements {
     /// How many places are kept for instances of a communicator.
     pub fn kept(&self, comm: u32) -> usize {
         match self.rows.get(comm as usize) {
-            Some(row) => row.places.len(),
+            Some(row) => row.kept(),
             None => 0,
         }
     }
@@ -397,26 +240,15 @@ impl Settlements {
     /// For how many instances of a communicator there is memory.
     pub fn room(&self, comm: u32) -> usize {
         match self.rows.get(comm as usize) {
-            Some(row) => row.places.capacity(),
+            Some(row) => row.room(),
             None => 0,
         }
     }
 }
 
-#[tactic(auto, using(crate::proofs::SettlingLemmas::rows_read, crate::proofs::SettlingLemmas::rows_past))]
-fn place_of(rows: &[Row], comm: usize, k: usize) -> Option<&Place>
-    ensures { unwrap_or (option_copied result) nothing ≡ place_at rows.now comm k }
-{
-    if comm < rows.len() {
-        rows[comm].place(k)
-    } else {
-        None
-    }
-}
-
 // Adds rows up to that of the communicator.
 #[tactic(auto, using(crate::proofs::SettlingLemmas::row_pushed))]
-fn add_rows(alloc: Global, rows: &mut Vec<Row>, comm: usize) -> Result<(), NoMemory>
+fn add_rows(alloc: Global, rows: &mut Vec<Window<Place>>, comm: usize) -> Result<(), NoMemory>
     ensures same { AreSame rows.old.items rows.new.items }
     ensures number { OnOk result
         (length rows.new.items ≡ max (length rows.old.items) (comm + 1)) }
@@ -424,54 +256,7 @@ fn add_rows(alloc: Global, rows: &mut Vec<Row>, comm: usize) -> Result<(), NoMem
     ensures memory { comm < length rows.old.items → OnErr result ⊥ }
 {
     while rows.len() <= comm {
-        rows.push(Row::new(alloc))?;
+        rows.push(Window::new(alloc))?;
     }
     Ok(())
-}
-
-fn ready_at(rows: &mut Vec<Row>, comm: usize, k: usize) -> Result<(), NoMemory>
-    requires there { comm < length rows.old.items }
-    requires few { k < 2 ^ 62 }
-    ensures same { AreSame rows.old.items rows.new.items }
-    ensures number { length rows.new.items ≡ length rows.old.items }
-    ensures room { OnOk result (HasPlace rows.new.items comm k) }
-    ensures memory { HasPlace rows.old.items comm k → OnErr result ⊥ }
-{
-    rows[comm].ready(k)
-}
-
-fn join_at(rows: &mut Vec<Row>, comm: usize, k: usize)
-    requires place { HasPlace rows.old.items comm k }
-    requires few { open_at rows.old.items comm k < 2 ^ 62 }
-    ensures placed { IsPlaced rows.old.items rows.new.items comm k
-        (one_more (place_at rows.old.items comm k)) }
-    ensures place { HasPlace rows.new.items comm k }
-{
-    rows[comm].join(k);
-}
-
-fn put_at(rows: &mut Vec<Row>, comm: usize, k: usize, settlement: Settlement)
-    requires { HasPlace rows.old.items comm k }
-    ensures { IsPlaced rows.old.items rows.new.items comm k
-        (settled_as (place_at rows.old.items comm k) settlement) }
-{
-    rows[comm].put(k, settlement);
-}
-
-#[tactic(auto, using(crate::proofs::SettlingLemmas::rows_same))]
-fn freeze_at(alloc: Global, rows: &mut Vec<Row>, comm: usize, k: usize)
-    ensures { AreSame rows.old.items rows.new.items }
-{
-    if comm < rows.len() {
-        rows[comm].freeze(alloc, k);
-    }
-}
-
-#[tactic(auto, using(crate::proofs::SettlingLemmas::row_counted, crate::proofs::SettlingLemmas::waits_there))]
-fn leave_at(rows: &mut Vec<Row>, comm: usize, k: usize)
-    requires { 0 < open_at rows.old.items comm k }
-    ensures { IsPlaced rows.old.items rows.new.items comm k
-        (one_fewer (place_at rows.old.items comm k)) }
-{
-    rows[comm].leave(k);
 }

@@ -46,7 +46,7 @@ pub fn found<'a>(
     }
 }
 
-// The same of one that was granted.
+// What a member finds of an instance that was granted, by this request for it.
 fn granted<'a>(member: ProcessId, settlement: &'a Settlement, it: Open) -> Due<'a>
     requires whole { IsWhole settlement.now.full }
     requires granted { settlement.now.outcome ≡ Granted }

@@ -8,11 +8,9 @@ ghost use Rattle.run_model.specs.Replies.{Legal};
 ghost use Rattle.run_model.specs.Runs.{run_of};
 ghost use Rattle.run_model.specs.Known.{HaveKnownLabels};
 ghost use Rattle.run_model.specs.RunRows.{alpha, gave, summed, relayed};
-ghost use Rattle.hall_core.specs.Halls.{StandsFor};
 ghost use Rattle.hall_core.specs.Worlds.{OneWallIn, CannotTellIn, DifferAsListed};
 
-use crate::hall::Hall;
-use crate::runs::{Calls, Replies, apply_each};
+use crate::runs::{Calls, Replies, run_calls};
 use std::alloc::Global;
 use wall_labels::NoMemory;
 use wall_policy::Policy;
@@ -26,80 +24,26 @@ pub struct TwoRuns {
     pub second: Replies,
 }
 
-// Each list in its hall, which was opened for it.
-fn run_in(
-    alloc: Global,
-    hall: &mut Hall,
-    fresh: &mut Hall,
-    first: Calls,
-    second: Calls,
-) -> Result<TwoRuns, NoMemory>
-    requires first_labels { HaveKnownLabels hall.old.policy first }
-    requires second_labels { HaveKnownLabels fresh.old.policy second }
-    requires first_begins { StandsFor hall.old [] }
-    requires second_begins { StandsFor fresh.old [] }
-    ensures first { IfOk result (λ two. Legal hall.old.policy (run_of first two.first)) }
-    ensures second { IfOk result (λ two. Legal fresh.old.policy (run_of second two.second)) }
-    ensures first_each { IfOk result (λ two. length two.first ≡ length first) }
-    ensures second_each { IfOk result (λ two. length two.second ≡ length second) }
-{
-    let first = apply_each(alloc, hall, first)?;
-    let second = apply_each(alloc, fresh, second)?;
-    Ok(TwoRuns { first, second })
-}
-
-// The second list in a hall that is opened for it.
-fn run_beside(
-    alloc: Global,
-    hall: &mut Hall,
-    copy: Policy,
-    first: Calls,
-    second: Calls,
-) -> Result<TwoRuns, NoMemory>
-    requires first_labels { HaveKnownLabels hall.old.policy first }
-    requires second_labels { HaveKnownLabels copy second }
-    requires begins { StandsFor hall.old [] }
-    ensures first { IfOk result (λ two. Legal hall.old.policy (run_of first two.first)) }
-    ensures second { IfOk result (λ two. Legal copy (run_of second two.second)) }
-    ensures first_each { IfOk result (λ two. length two.first ≡ length first) }
-    ensures second_each { IfOk result (λ two. length two.second ≡ length second) }
-{
-    match Hall::open(alloc, copy) {
-        Ok(mut fresh) => {
-            let two = run_in(alloc, hall, &mut fresh, first, second);
-            drop(fresh);
-            two
-        }
-        Err(_) => Err(NoMemory),
-    }
-}
-
 // Each list in a hall of its own, opened with the policy.
 fn run_each(alloc: Global, policy: Policy, first: Calls, second: Calls) -> Result<TwoRuns, NoMemory>
     requires first { HaveKnownLabels policy first }
     requires second { HaveKnownLabels policy second }
-    ensures first { IfOk result (λ two. Legal policy (run_of first two.first)) }
-    ensures second { IfOk result (λ two. Legal policy (run_of second two.second)) }
-    ensures first_each { IfOk result (λ two. length two.first ≡ length first) }
-    ensures second_each { IfOk result (λ two. length two.second ≡ length second) }
+    ensures first { IfOk result (λ two. Legal policy (run_of first two.first)
+        × (length two.first ≡ length first)) }
+    ensures second { IfOk result (λ two. Legal policy (run_of second two.second)
+        × (length two.second ≡ length second)) }
 {
-    // Halls and policies are let go by a call: at the end of a block the proof would take them
-    // apart.
+    // Policies are let go by a call: at the end of a block the proof would take them apart.
     let Ok(copy) = policy.copy(alloc) else {
         drop(policy);
         return Err(NoMemory);
     };
-    match Hall::open(alloc, policy) {
-        Ok(mut hall) => {
-            let two = run_beside(alloc, &mut hall, copy, first, second);
-            drop(hall);
-            two
-        }
-        Err(_) => {
-            drop(copy);
-            Err(NoMemory)
-        }
-    }
+    let Ok(first) = run_calls(alloc, policy, first) else {
+        drop(copy);
+        return Err(NoMemory);
+    };
+    let second = run_calls(alloc, copy, second)?;
+    Ok(TwoRuns { first, second })
 }
 
 /// Runs two lists of calls, each in a hall of its own that is opened for it with the policy, and

@@ -174,7 +174,7 @@ pub(crate) fn both(alloc: Global, pair: Pair, looked: Looked) -> Result<bool, No
     }
 }
 
-/// The same of lines that come after the groups were created.
+/// Whether `run_two` answers the lines' calls as they say once the groups were created.
 fn both_in_groups(alloc: Global, first: &[Line], second: &[Line]) -> Result<bool, NoMemory> {
     let first = after_groups(alloc, first)?;
     let second = after_groups(alloc, second)?;

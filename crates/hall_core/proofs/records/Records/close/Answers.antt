@@ -25,7 +25,7 @@ invariant_of-self-clause-counted c =
     (length c.args.self.now.requests.items) c.args.self.now.settled c.leave.new.self
     it.process it.request (instance_for it)
     (is_process c.args.self.now.requests.items it.process it.request (instance_for it) waits) waits
-    c.args.self.now.counted c.leave.ensures)
+    c.args.self.now.counted c.leave.ensures.placed)
 
 pub returns-clause-closes : goal.returns-clause-closes
 returns-clause-closes c =
@@ -39,8 +39,8 @@ returns-clause-closes c =
           (length c.args.self.now.requests.items) c.args.self.now.settled c.leave.new.self
           it.process it.request (instance_for it)
           (is_process c.args.self.now.requests.items it.process it.request (instance_for it) waits)
-          waits c.args.self.now.counted c.leave.ensures (requests_of c.take.new.requests.items)
-          c.take.ensures.requests
+          waits c.args.self.now.counted c.leave.ensures.placed
+          (requests_of c.take.new.requests.items) c.take.ensures.requests
           (λ q past. nobody_asks c.take.new.requests.items (length c.args.self.now.requests.items)
           q c.take.ensures.number past);
       book = refl;

@@ -1,12 +1,11 @@
 use Rattle.std.proofs.Common.{ℕ, ◌<◌, ◌∙◌, ap, length, sym, subst}
-use Rattle.hall_core.specs.declared.requests.Request.{Request}
 use Rattle.hall_core.specs.Asking.{requests_of, with_request}
 use Rattle.hall_core.proofs.CountLemmas.{counted_joined, counted_as, joined_some, joined_same}
 use Rattle.hall_core.proofs.records.Records.note.Goals as goal
 
 pub invariant_of-self-clause-counted : goal.invariant_of-self-clause-counted
 invariant_of-self-clause-counted c =
-    let r : Request = record { comm = c.args.comm; k = c.args.k } in
+    let r = c.args.request in
     let low : c.args.member < length c.args.self.now.requests.items =
     subst (λ n. c.args.member < n) (sym c.args.self.now.each) c.requires.process in
     let asked = requests_of c.args.self.now.requests.items in
@@ -18,7 +17,7 @@ invariant_of-self-clause-counted c =
 
 pub returns-clause-waits : goal.returns-clause-waits
 returns-clause-waits c =
-    let r : Request = record { comm = c.args.comm; k = c.args.k } in
+    let r = c.args.request in
     let low : c.args.member < length c.args.self.now.requests.items =
     subst (λ n. c.args.member < n) (sym c.args.self.now.each) c.requires.process in
     joined_some (requests_of c.args.self.now.requests.items)
@@ -27,7 +26,7 @@ returns-clause-waits c =
 
 pub returns-clause-settled : goal.returns-clause-settled
 returns-clause-settled c =
-    let r : Request = record { comm = c.args.comm; k = c.args.k } in
+    let r = c.args.request in
     let low : c.args.member < length c.args.self.now.requests.items =
     subst (λ n. c.args.member < n) (sym c.args.self.now.each) c.requires.process in
     joined_same (requests_of c.args.self.now.requests.items)
