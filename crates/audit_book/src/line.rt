@@ -16,7 +16,7 @@ use crate::words::{
 };
 use coll_routes::Stated;
 use coll_text::{
-    LineFault, Memory, Parts, end_of, next_number, next_number32, next_statement_in, next_word,
+    LineFault, Memory, Parts, end_of, next_number, next_number32, next_statement, next_word,
 };
 use run_model::{Entry, Outcome};
 use wall_policy::Policy;
@@ -41,7 +41,7 @@ fn next_post(memory: &mut Memory, policy: &Policy, words: &mut Parts) -> Result<
 {
     let process = next_process(policy, words)?;
     let comm = next_number32(words)?;
-    let (sig, own) = next_statement_in(memory, words)?;
+    let (sig, own) = next_statement(memory, words)?;
     let given = next_given(policy, words)?;
     end_of(words)?;
     Ok(Entry::Posted {

@@ -393,10 +393,7 @@ fn next_stated(
 /// `BadShape` where a field is empty or missing, `BadKind`, `BadType` and `UnknownOp` for a word
 /// that is none, `BadField` for any other field out of its form or range.
 #[tactic(auto, unfolding(crate::specs::Fields::statement_at, crate::specs::Fields::stated_at))]
-pub fn next_statement_in(
-    memory: &mut Memory,
-    words: &mut Parts,
-) -> Result<(Signature, Own), LineFault>
+pub fn next_statement(memory: &mut Memory, words: &mut Parts) -> Result<(Signature, Own), LineFault>
     ensures kept { memory.new ≡ false →
         Takes (λ s. s) result words.new (statement_at words.old) }
     ensures typed { Takes (λ s. elem_type s.0) result words.new

@@ -26,7 +26,7 @@ mod words;
 pub use append::{put, put_behind, put_decimal, put_signed};
 pub use digits::{put_enclosed, put_number_at, put_spaced};
 pub use fault::LineFault;
-pub use fields::next_statement_in;
+pub use fields::next_statement;
 pub use labels::{label_in, label_text, rule_text};
 pub use memory::Memory;
 pub use numbers::{number, number32, signed, signed32};

@@ -9,7 +9,7 @@ ghost use Rattle.hall_script.specs.Checking.{Agrees};
 use crate::elements::values;
 use coll_text::{
     LineFault, Memory, Parts, are_printable, end_of, label_in, next_number, next_number32,
-    next_statement_in, next_word,
+    next_statement, next_word,
 };
 use mpi_elems::{Buffer, ElemType};
 use run_model::{Act, Call, Posting};
@@ -79,7 +79,7 @@ fn next_post(memory: &mut Memory, policy: &Policy, words: &mut Parts) -> Result<
     ensures memory { result ≢ Err LineFault.NoMemory }
 {
     let comm = next_number32(words)?;
-    let (sig, own) = next_statement_in(memory, words)?;
+    let (sig, own) = next_statement(memory, words)?;
     let (label, elements) = next_given(memory, policy, sig.elem_type(), words)?;
     Ok(Act::Post(Posting {
         comm,

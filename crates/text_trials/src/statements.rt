@@ -11,7 +11,7 @@ use std::test::Fail;
 // The next statement; out of memory where a growth was refused and the words have no fault.
 fn read(rt: &impl AllocGlobal, words: &mut Parts) -> Result<(Signature, Own), LineFault> {
     let mut memory = Memory::new(rt.alloc());
-    let statement = next_statement_in(&mut memory, words)?;
+    let statement = next_statement(&mut memory, words)?;
     if memory.ran_out() {
         return Err(LineFault::NoMemory);
     }
