@@ -18,7 +18,7 @@ use Rattle.hall_turn.specs.declared.answer.Answer.TheVariants.{Reply as Replied,
 use Rattle.hall_turn.specs.Runs.{calls_of}
 use Rattle.hall_turn.specs.Known.{Known}
 use Rattle.hall_turn.specs.Answers.{IsSamePass, Answered, NamesKnown}
-use Rattle.rank_stage.specs.declared.board.SentHome.{SentHome}
+use Rattle.rank_stage.specs.declared.standing.SentHome.{SentHome}
 use Rattle.rank_run.specs.declared.rank.Job.{Job}
 use Rattle.rank_run.specs.declared.rank.Ending.TheVariants.{Whole, Cut, NotBegun}
 use Rattle.rank_run.specs.declared.rank.Played.{Played}

@@ -17,7 +17,7 @@ use Rattle.run_model.specs.Comms.{processes}
 use Rattle.hall_turn.specs.Answers.{IsSamePass, new_passes}
 use Rattle.rank_run.specs.declared.fault.RunFault.{RunFault}
 use Rattle.rank_run.specs.declared.fault.RunFault.TheVariants.{Exhausted as OutOfTurns, NoThread}
-use Rattle.rank_stage.specs.declared.board.SentHome.{SentHome}
+use Rattle.rank_stage.specs.declared.standing.SentHome.{SentHome}
 use Rattle.rank_stage.specs.declared.stage.Begun.{Begun}
 use Rattle.rank_stage.specs.declared.stage.GivenUp.{GivenUp}
 use Rattle.rank_run.specs.declared.rank.Job.{Job}

@@ -5,6 +5,8 @@
 
 mod board;
 mod stage;
+mod standing;
 
-pub use board::{Instance, Role, SentHome};
+pub use board::Instance;
 pub use stage::{Aside, Begun, GivenUp, Stage};
+pub use standing::{Role, SentHome};

@@ -1,8 +1,9 @@
 //! Which rank plays, and which sleep until an instance settles.
 //!
 //! Nothing is promised of when a rank makes its next call. What is proved is where the ranks stand
-//! at any time (`board.rt`): nobody sleeps for what has settled, where somebody stands in line
-//! somebody plays, where somebody sleeps somebody is awake, and whoever comes to play is called.
+//! at any time (`board.rt`, `standing.rt`): nobody sleeps for what has settled, where somebody
+//! stands in line somebody plays, where somebody sleeps somebody is awake, and whoever comes to
+//! play is called.
 //!
 //! The hall takes one call at a time, so one rank plays at a time and the others stand in line. A
 //! rank keeps its place until it ends, until it must wait for an instance that has not settled, or
@@ -16,10 +17,11 @@
 //!   before its poster raises the count; that poster is awake until it has. The counts beside the
 //!   board are raised after the lock: who reads them too early asks the board.
 //! - Whoever changes the board gets a `Call`, which cannot be let go by itself: what opens it rings
-//!   the bell of the rank that has come to play. Where all begin at once, or the run is given up, it
-//!   is a `CallAll`, and what opens that rings each bell. Who steps back calls nobody, and is told
-//!   whether it plays. A bell is std's parker and nothing beside it, so there is no order to keep:
-//!   one that is rung before its rank waits for it stays rung, and the wait takes that and ends.
+//!   the bell of the rank that has come to play. Where all begin at once, or the run is given up,
+//!   it is a `CallAll`, and what opens that rings each bell. Who steps back calls nobody, and is
+//!   told whether it plays. A bell is std's parker and nothing beside it, so there is no order to
+//!   keep: one that is rung before its rank waits for it stays rung, and the wait takes that and
+//!   ends.
 //! - A rank that wakes asks the board whether it plays, and waits on if it does not. It plays there
 //!   before its bell is rung, so it may be woken too often, and nothing is lost.
 //! - A rank that has begun has a `Role`, and one that has stepped aside an `Aside`: neither can be
@@ -46,7 +48,8 @@
 
 ghost use Rattle.std.specs.Prelude.{◌≡◌, IfOk, IfErr, true, false};
 
-use crate::board::{Entry, Instance, Rest, Role, SentHome, Standing};
+use crate::board::Instance;
+use crate::standing::{Entry, Rest, Role, SentHome, Standing};
 use std::alloc::{AllocError, Global};
 use std::sync::atomic::{AtomicU64, Ordering};
 use std::sync::{Mutex, MutexGuard, Wait};
