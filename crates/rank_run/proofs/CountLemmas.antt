@@ -1,11 +1,11 @@
 -- The calls of a run, counted by processes.
-use Rattle.std.proofs.Common.{◌≡◌, ℕ, zero, suc, ◌+◌, ◌*◌, ◌<◌, ◌≤◌, cond, true, false, eqb}
+use Rattle.std.proofs.Common.{◌≡◌, ℕ, zero, suc, ◌+◌, ◌*◌, ◌<◌, ◌≤◌}
 use Rattle.std.proofs.Common.{List, [], ◌∷◌, length, refl, sym, ap, subst, ◌∙◌, ⊎_elim, arith}
 use Rattle.std.proofs.Math.Nat.{mul-suc, eq-or-lt_of_le}
 use Rattle.std.proofs.lemmas.Bool.{cases_lt}
 use Rattle.run_model.specs.Runs.{Entry}
 use Rattle.hall_turn.specs.Runs.{calls_of}
-use Rattle.hall_turn.proofs.HallTurnLemmas.{calls_of-own, calls_of-none}
+use Rattle.hall_turn.proofs.HallTurnLemmas.{calls_of-own, calls_of-none, calls_grow}
 
 pub sum_le : (a b c d : ℕ) → a ≤ b → c ≤ d → a + c ≤ b + d
 sum_le a b c d h k = omega arith
@@ -22,20 +22,11 @@ abbrev pub calls_below : (n : ℕ) → List Entry → ℕ
 calls_below zero run = 0
 calls_below (suc n) run = calls_below n run + length (calls_of n run)
 
-own_keeps : (p : ℕ) (run : List Entry) (e : Entry)
-    → length (calls_of p run) ≤ length (calls_of p (e ∷ run))
-own_keeps p run e =
-    elim (eqb e.call.process p)
-    as (λ b. length (calls_of p run) ≤ length (cond b (e ∷ calls_of p run) (calls_of p run))) [
-      | true ↦ omega arith
-      | false ↦ omega arith
-    ]
-
 below_keeps : (n : ℕ) (run : List Entry) (e : Entry) → calls_below n run ≤ calls_below n (e ∷ run)
 below_keeps zero run e = omega arith
 below_keeps (suc n) run e =
     sum_le (calls_below n run) (calls_below n (e ∷ run)) (length (calls_of n run))
-    (length (calls_of n (e ∷ run))) (below_keeps n run e) (own_keeps n run e)
+    (length (calls_of n (e ∷ run))) (below_keeps n run e) (calls_grow n run e)
 
 below_more : (n : ℕ) (run : List Entry) (e : Entry) → e.call.process < n
     → calls_below n run + 1 ≤ calls_below n (e ∷ run)
@@ -53,7 +44,7 @@ below_more (suc n) run e lt =
     omega arith)
     (λ (low : e.call.process < n).
     let more = below_more n run e low in
-    let keeps = own_keeps n run e in
+    let keeps = calls_grow n run e in
     omega arith)
     (eq-or-lt_of_le le)
 

@@ -125,23 +125,27 @@ fn begin<R: Wait>(rt: &R, stage: &Stage, given_up: Option<GivenUp>) -> Result<Be
     }
 }
 
-// A thread for each job, as far as none is refused. Where one is, the run is given up: those that
-// had started go home, and the jobs that have no thread go home from here. All have ended, and are
-// joined, when it returns.
-fn run_each<R: Threads + Wait + Sync, G: Gate + Sync>(
+// A thread for each job, as far as none is refused, in the room that was made for them. Where one
+// is, the run is given up: those that had started go home, and the jobs that have no thread go home
+// from here. All have ended, and are joined, when it returns. It takes no memory.
+fn run_jobs<R: Threads + Wait + Sync, G: Gate + Sync>(
     rt: &R,
     setting: &Setting<G>,
     jobs: Vec<Job>,
-    mut sent: Vec<Sent>,
-    ended: Vec<Played>,
-) -> Back
+    room: Room,
+) -> Ended
     requires fresh { All (IsFresh setting.now.door.now) jobs.items }
-    requires sent { (sent.items ≡ []) × (vec_len jobs ≤ vec_capacity sent) }
-    requires ended { (ended.items ≡ []) × (vec_len jobs ≤ vec_capacity ended) }
-    ensures { AllPlayed PATIENCE jobs.items result.played.items }
+    requires room { HasRoomFor (vec_len jobs) room }
+    ensures { HaveEnded PATIENCE jobs.items result }
 {
     let Setting { door, gate, stage } = *setting;
-    thread::scope(
+    let Room {
+        passes,
+        replies,
+        ended,
+        mut sent,
+    } = room;
+    let back = thread::scope(
         thread::scope_env(),
         rt,
         move |scope| -> Back
@@ -177,27 +181,7 @@ fn run_each<R: Threads + Wait + Sync, G: Gate + Sync>(
             let played = join_all(rt, sent, ended);
             Back { told, played }
         },
-    )
-}
-
-// All jobs, each in a thread of its own, in the room that was made for them. It takes no memory.
-fn run_jobs<R: Threads + Wait + Sync, G: Gate + Sync>(
-    rt: &R,
-    setting: &Setting<G>,
-    jobs: Vec<Job>,
-    room: Room,
-) -> Ended
-    requires fresh { All (IsFresh setting.now.door.now) jobs.items }
-    requires room { HasRoomFor (vec_len jobs) room }
-    ensures { HaveEnded PATIENCE jobs.items result }
-{
-    let Room {
-        passes,
-        replies,
-        ended,
-        sent,
-    } = room;
-    let back = run_each(rt, setting, jobs, sent, ended);
+    );
     sort_out(back, passes, replies)
 }
 

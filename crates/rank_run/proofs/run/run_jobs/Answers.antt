@@ -5,8 +5,8 @@ use Rattle.rank_run.proofs.run.run_jobs.Goals as goal
 
 pub sort_out-requires-clause-passes : goal.sort_out-requires-clause-passes
 sort_out-requires-clause-passes g c =
-    let back = c.run_each-back in
-    let long = played_long PATIENCE c.args.jobs.items back.result.played.items back.ensures in
+    let back = c.scoped-back in
+    let long = played_long PATIENCE c.args.jobs.items back.result.played.items back.ensures.1 in
     let jobs = c.args.jobs.ok in
     let played = back.result.played.ok in
     let room = c.requires.room.passes in
@@ -14,8 +14,8 @@ sort_out-requires-clause-passes g c =
 
 pub sort_out-requires-clause-replies : goal.sort_out-requires-clause-replies
 sort_out-requires-clause-replies g c =
-    let back = c.run_each-back in
-    let long = played_long PATIENCE c.args.jobs.items back.result.played.items back.ensures in
+    let back = c.scoped-back in
+    let long = played_long PATIENCE c.args.jobs.items back.result.played.items back.ensures.1 in
     let jobs = c.args.jobs.ok in
     let played = back.result.played.ok in
     let room = c.requires.room.replies in

@@ -6,7 +6,7 @@ use Rattle.rank_run.specs.declared.rank.Sent.TheVariants.{Away, Home}
 use Rattle.rank_run.specs.Jobs.{HasPlayed}
 use Rattle.rank_run.specs.declared.waiting.TheConstants.{PATIENCE}
 use Rattle.rank_run.proofs.RunLemmas.{one_sent, all_done}
-use Rattle.rank_run.proofs.run.fn.run_each.scope.Goals as goal
+use Rattle.rank_run.proofs.run.fn.run_jobs.scope.Goals as goal
 
 pub loop-job-preserved-then-is_some : goal.loop-job-preserved-then-is_some
 loop-job-preserved-then-is_some g c =

@@ -2,7 +2,7 @@ use Rattle.std.proofs.Common.{◌≡◌, ◌++◌, ◌≤◌, length, vec_len, v
 use Rattle.std.specs.Vec.Iter.{into_iter_items, into_iter_len}
 use Rattle.rank_run.specs.declared.waiting.TheConstants.{PATIENCE}
 use Rattle.rank_run.specs.Jobs.{AllSent}
-use Rattle.rank_run.proofs.run.fn.run_each.scope.Given as goal
+use Rattle.rank_run.proofs.run.fn.run_jobs.scope.Given as goal
 
 abbrev pub invariant-loop-job : goal.invariant-loop-job
 invariant-loop-job g l = record {
