@@ -9,9 +9,10 @@ ghost use Rattle.live_book.specs.Writing.{Writes, sink_value};
 
 use crate::begun::Begun;
 use crate::finished::{Finished, Unopened};
-use crate::lines::{write_end, write_entries, write_header};
+use crate::lines::write_header;
 use crate::sink::BookSink;
 use crate::unbooked::Unbooked;
+use crate::writer::BookWriter;
 use hall_core::{BriefHall, Call, Claim, Reply};
 use hall_turn::Applied;
 use std::alloc::Global;
@@ -23,12 +24,7 @@ use wall_policy::Policy;
 /// more, if so.
 pub struct BookedHall<B: BookSink, K: Begun> {
     hall: BriefHall,
-    sink: B,
-    // Room for lines; empty between calls as long as all was written.
-    text: Vec<u8>,
-    // How many entries were written.
-    entries: u64,
-    fault: Option<Unbooked>,
+    writer: BookWriter<B>,
     of: PhantomData<K>,
 }
 
@@ -37,12 +33,15 @@ impl<B: BookSink + Drop, K: Begun> Drop for BookedHall<B, K> {
     fn drop(self) {
         let BookedHall {
             hall,
+            writer,
+            of: _,
+        } = self;
+        let BookWriter {
             sink,
             text,
             entries: _,
             fault: _,
-            of: _,
-        } = self;
+        } = writer;
         drop(hall);
         drop(sink);
         drop(text);
@@ -63,70 +62,15 @@ impl<B: BookSink, K: Begun> Model for BookedHall<B, K> {
     ghost view = { λ b. record {
       hall = b.hall.hall;
       begun = K.begun;
-      sink = sink_value B.contents B.lasting B.failures b.sink;
-      fault = b.fault;
+      sink = sink_value B.contents B.lasting B.failures b.writer.sink;
+      fault = b.writer.fault;
     } };
 
     ghost invariant = { λ b. record {
       news : b.hall.news ≡ [];
-      text : b.fault ≡ None → b.text.items ≡ [];
-      entries : b.fault ≡ None → b.entries ≡ length b.hall.gone;
+      text : b.writer.fault ≡ None → b.writer.text.items ≡ [];
+      entries : b.writer.fault ≡ None → b.writer.entries ≡ length b.hall.gone;
     } };
-}
-
-// Writes the news of the hall, if there was no fault, and says whether there is one now.
-fn write_down<B: BookSink>(
-    hall: &BriefHall,
-    settled: bool,
-    text: &mut Vec<u8>,
-    entries: &mut u64,
-    sink: &mut B,
-    fault: Option<Unbooked>,
-) -> Option<Unbooked>
-    requires { fault ≡ None → text.old.items ≡ [] }
-    ensures writes { Writes fault result (sink_value B.contents B.lasting B.failures sink.old)
-        (sink_value B.contents B.lasting B.failures sink.new)
-        (entry_lines hall.now.hall.policy hall.now.news) }
-    ensures before { result ≡ None → fault ≡ None }
-    ensures text { result ≡ None → text.new.items ≡ [] }
-    ensures entries { result ≡ None → entries.new ≡ entries.old + length hall.now.news }
-    ensures lasts { IsTrue settled → result ≡ None →
-        Keeps (B.lasting sink.new) (B.contents sink.new) }
-{
-    if let Some(fault) = fault {
-        return Some(fault);
-    }
-    let news = hall.news();
-    let Some(count) = entries.checked_add(news.len() as u64) else {
-        return Some(Unbooked::TooLong);
-    };
-    match write_entries(hall.policy(), news, settled, text, sink) {
-        Ok(()) => {
-            *entries = count;
-            None
-        }
-        Err(fault) => Some(fault),
-    }
-}
-
-// Writes the last line, if there was no fault.
-fn write_last<B: BookSink>(
-    entries: u64,
-    text: &mut Vec<u8>,
-    sink: &mut B,
-    fault: Option<Unbooked>,
-) -> Option<Unbooked>
-    requires { fault ≡ None → text.old.items ≡ [] }
-    ensures { Writes fault result (sink_value B.contents B.lasting B.failures sink.old)
-        (sink_value B.contents B.lasting B.failures sink.new) (line_of (end_words entries)) }
-{
-    if let Some(fault) = fault {
-        return Some(fault);
-    }
-    match write_end(entries, text, sink) {
-        Ok(()) => None,
-        Err(fault) => Some(fault),
-    }
 }
 
 impl<B: BookSink, K: Begun> BookedHall<B, K> {
@@ -162,14 +106,19 @@ impl<B: BookSink, K: Begun> BookedHall<B, K> {
         };
         let mut text = Vec::new(alloc);
         match write_header(hall.policy(), &mut text, &mut sink) {
-            Ok(()) => Ok(BookedHall {
-                hall,
-                sink,
-                text,
-                entries: 0,
-                fault: None,
-                of: PhantomData,
-            }),
+            Ok(()) => {
+                let writer = BookWriter {
+                    sink,
+                    text,
+                    entries: 0,
+                    fault: None,
+                };
+                Ok(BookedHall {
+                    hall,
+                    writer,
+                    of: PhantomData,
+                })
+            }
             Err(fault) => {
                 drop(hall);
                 drop(text);
@@ -205,14 +154,7 @@ impl<B: BookSink, K: Begun> BookedHall<B, K> {
     {
         let reply = self.hall.apply(call);
         let settled = self.hall.news().len() == 2;
-        self.fault = write_down(
-            &self.hall,
-            settled,
-            &mut self.text,
-            &mut self.entries,
-            &mut self.sink,
-            self.fault,
-        );
+        self.writer.write_down(&self.hall, settled);
         self.hall.forget();
         Applied { reply, settled }
     }
@@ -255,7 +197,7 @@ impl<B: BookSink, K: Begun> BookedHall<B, K> {
     pub fn is_booked(&self) -> bool
         ensures { result ≡ is_all_booked self.now }
     {
-        self.fault.is_none()
+        self.writer.fault.is_none()
     }
 
     /// Writes the last line of the book, and gives the sink back. The whole text of the run's book
@@ -275,17 +217,19 @@ impl<B: BookSink, K: Begun> BookedHall<B, K> {
     {
         let BookedHall {
             hall,
-            sink,
-            text,
-            entries,
-            fault,
+            mut writer,
             of: _,
         } = self;
         // What is still kept is nothing, so that its book is as long as the entries were many.
         let _ = hall.news();
         drop(hall);
-        let (mut sink, mut text) = (sink, text);
-        let fault = write_last(entries, &mut text, &mut sink, fault);
+        writer.write_last();
+        let BookWriter {
+            sink,
+            text,
+            entries: _,
+            fault,
+        } = writer;
         drop(text);
         let written = match fault {
             None => Ok(()),

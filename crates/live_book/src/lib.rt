@@ -15,6 +15,7 @@ mod lines;
 mod machine;
 mod sink;
 mod unbooked;
+mod writer;
 
 pub use begun::Begun;
 pub use booked::BookedHall;

@@ -11,6 +11,7 @@ use crate::sink::BookSink;
 use crate::unbooked::Unbooked;
 use audit_book::{put_end, put_entry, put_header};
 use coll_text::send;
+use hall_core::BriefHall;
 use run_state::Book;
 use wall_policy::Policy;
 
@@ -82,20 +83,17 @@ pub fn write_header<B: BookSink>(
     send_text(text, sink)
 }
 
-/// Writes the lines of entries, whose processes and datasets are the policy's. Where they settle an
-/// instance the sink is then told so.
+/// Writes the lines of the news of a hall. Where they settle an instance the sink is then told so.
 #[tactic(auto, using(crate::proofs::WritingLemmas::appends_kept, crate::proofs::WritingLemmas::whole_front, crate::proofs::WritingLemmas::no_front))]
-pub fn write_entries<B: BookSink>(
-    policy: &Policy,
-    news: &Book,
+pub fn write_news<B: BookSink>(
+    hall: &BriefHall,
     settled: bool,
     text: &mut Vec<u8>,
     sink: &mut B,
 ) -> Result<(), Unbooked>
-    requires known { All (IsKnownEntry policy.now) news.now.list }
-    requires none { text.old.items ≡ [] }
+    requires { text.old.items ≡ [] }
     ensures written { OnOk result (Appends (B.contents sink.old) (B.contents sink.new)
-        (entry_lines policy.now news.now.list)) }
+        (entry_lines hall.now.hall.policy hall.now.news)) }
     ensures went { OnOk result (B.failures sink.new ≡ B.failures sink.old) }
     ensures none { OnOk result (text.new.items ≡ []) }
     ensures lasts { IsTrue settled →
@@ -103,9 +101,9 @@ pub fn write_entries<B: BookSink>(
     ensures fault { IfErr result
         (λ fault. IsUnbooked fault (B.failures sink.old) (B.failures sink.new)) }
     ensures front { OnErr result (AppendsPrefix (B.contents sink.old) (B.contents sink.new)
-        (entry_lines policy.now news.now.list)) }
+        (entry_lines hall.now.hall.policy hall.now.news)) }
 {
-    put_entries(policy, news, text)?;
+    put_entries(hall.policy(), hall.news(), text)?;
     send_text(text, sink)?;
     tell(settled, sink)
 }

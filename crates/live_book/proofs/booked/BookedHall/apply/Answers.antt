@@ -23,23 +23,25 @@ returns-clause-runs g c = rw (← c.self.view_is) (λ run legal stands.
           (sym same) after.0,
       stands_more c.self.inside.hall.hall c.forget.new.self.hall
           g.K.Begun.begun
-          (sink_value g.B.Sink.contents g.B.BookSink.lasting g.B.Sink.failures c.self.inside.sink)
           (sink_value g.B.Sink.contents g.B.BookSink.lasting g.B.Sink.failures
-          c.write_down-self-inside.new.sink)
-          c.self.inside.fault c.write_down-self-inside.result run
+          c.self.inside.writer.sink)
+          (sink_value g.B.Sink.contents g.B.BookSink.lasting g.B.Sink.failures
+          c.write_down.new.self.sink)
+          c.self.inside.writer.fault c.write_down.new.self.fault run
           (entry c.args.call c.apply-reply.result) c.apply-reply.new.self.hall.policy
           c.self.inside.hall.news c.apply-reply.new.self.news c.self.invariant.news
           (same ∙ c.apply-reply.ensures.policy) c.apply-reply.ensures.policy
           (c.forget.ensures.runs (entry c.args.call c.apply-reply.result ∷ run) after.1)
           (c.apply-reply.ensures.news run legal stands.hall)
-          c.write_down-self-inside.ensures.writes stands,
+          c.write_down.ensures.writes stands,
     ))
 
 pub returns-clause-sticks : goal.returns-clause-sticks
-returns-clause-sticks g c = rw (← c.self.view_is) (sticks_by c.self.inside.fault
-    c.write_down-self-inside.result
-    (sink_value g.B.Sink.contents g.B.BookSink.lasting g.B.Sink.failures c.self.inside.sink)
+returns-clause-sticks g c = rw (← c.self.view_is) (sticks_by c.self.inside.writer.fault
+    c.write_down.new.self.fault
     (sink_value g.B.Sink.contents g.B.BookSink.lasting g.B.Sink.failures
-    c.write_down-self-inside.new.sink)
+    c.self.inside.writer.sink)
+    (sink_value g.B.Sink.contents g.B.BookSink.lasting g.B.Sink.failures
+    c.write_down.new.self.sink)
     (entry_lines c.apply-reply.new.self.hall.policy c.apply-reply.new.self.news)
-    c.write_down-self-inside.ensures.writes)
+    c.write_down.ensures.writes)

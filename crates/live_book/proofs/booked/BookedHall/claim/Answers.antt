@@ -10,7 +10,8 @@ returns-clause-runs g c = rw (← c.self.view_is) (λ run legal stands.
       after.0,
       stands_on c.self.inside.hall.hall c.claim.new.self.hall
           g.K.Begun.begun
-          (sink_value g.B.Sink.contents g.B.BookSink.lasting g.B.Sink.failures c.self.inside.sink)
-          c.self.inside.fault run (claim_entry c.args.process c.args.request c.claim.result)
+          (sink_value g.B.Sink.contents g.B.BookSink.lasting g.B.Sink.failures
+          c.self.inside.writer.sink)
+          c.self.inside.writer.fault run (claim_entry c.args.process c.args.request c.claim.result)
           c.claim.ensures.policy after.1 refl stands,
     ))

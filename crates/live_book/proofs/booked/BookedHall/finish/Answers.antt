@@ -11,16 +11,18 @@ returns-clause-written g c = rw (← c.self.view_is) (λ wall run stands.
     let sv = sink_value g.B.Sink.contents g.B.BookSink.lasting g.B.Sink.failures in
     elim c.match-fault.branch [
       | in-None w ↦ rw w.written-is (last_written wall g.K.Begun.begun
-          (sv c.self.inside.sink) (sv c.write_last-fault.new.sink) run c.self.inside.entries
-          c.self.inside.fault
+          (sv c.self.inside.writer.sink) (sv c.write_last.new.self.sink) run
+          c.self.inside.writer.entries
+          c.self.inside.writer.fault
           (λ none. count_is wall c.self.inside.hall.hall.policy run c.self.inside.hall.gone
-          c.self.inside.hall.news c.self.inside.entries stands.policy
+          c.self.inside.hall.news c.self.inside.writer.entries stands.policy
           (c.news.ensures.runs run stands.hall) c.self.invariant.news
           (c.self.invariant.entries none))
           stands.book
-          (subst (λ (o : Option Unbooked). Writes c.self.inside.fault o (sv c.self.inside.sink)
-          (sv c.write_last-fault.new.sink) (line_of (end_words c.self.inside.entries)))
-          w.in-None.is c.write_last-fault.ensures))
+          (subst (λ (o : Option Unbooked). Writes c.self.inside.writer.fault o
+          (sv c.self.inside.writer.sink)
+          (sv c.write_last.new.self.sink) (line_of (end_words c.self.inside.writer.entries)))
+          w.in-None.is c.write_last.ensures))
       | in-Some w ↦ rw w.written-is tt
     ])
 
@@ -30,14 +32,16 @@ returns-clause-front g c = rw (← c.self.view_is) (λ wall run stands.
     elim c.match-fault.branch [
       | in-None w ↦ rw w.written-is tt
       | in-Some w ↦ rw w.written-is (last_front wall g.K.Begun.begun
-          (sv c.self.inside.sink) (sv c.write_last-fault.new.sink) run c.self.inside.entries
-          c.self.inside.fault w.in-Some.fault
+          (sv c.self.inside.writer.sink) (sv c.write_last.new.self.sink) run
+          c.self.inside.writer.entries
+          c.self.inside.writer.fault w.in-Some.fault
           (λ none. count_is wall c.self.inside.hall.hall.policy run c.self.inside.hall.gone
-          c.self.inside.hall.news c.self.inside.entries stands.policy
+          c.self.inside.hall.news c.self.inside.writer.entries stands.policy
           (c.news.ensures.runs run stands.hall) c.self.invariant.news
           (c.self.invariant.entries none))
           stands.book
-          (subst (λ (o : Option Unbooked). Writes c.self.inside.fault o (sv c.self.inside.sink)
-          (sv c.write_last-fault.new.sink) (line_of (end_words c.self.inside.entries)))
-          w.in-Some.is c.write_last-fault.ensures))
+          (subst (λ (o : Option Unbooked). Writes c.self.inside.writer.fault o
+          (sv c.self.inside.writer.sink)
+          (sv c.write_last.new.self.sink) (line_of (end_words c.self.inside.writer.entries)))
+          w.in-Some.is c.write_last.ensures))
     ])

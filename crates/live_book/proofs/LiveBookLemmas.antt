@@ -1,0 +1,2 @@
+-- What crates above may cite of the lemmas of this crate. Everything else in proofs/ is its own.
+pub use Rattle.live_book.proofs.WritingLemmas.{front_more, front_then}
