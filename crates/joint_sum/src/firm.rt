@@ -8,11 +8,12 @@ ghost use Rattle.hall_turn.specs.Answers.{IsSamePass};
 ghost use Rattle.rank_run.specs.Waits.{script_patience};
 ghost use Rattle.joint_sum.specs.Told.{WasTold, WasAwaited, IsFirstNumber};
 
+use crate::setting::Setting;
 use anyhow::{Result, bail};
 use coll_routes::{Own, Signature};
 use hall_core::{Block, Posting, Reply};
 use hall_script::write_reply;
-use hall_turn::{Answer, Door, Pass};
+use hall_turn::{Answer, Pass};
 use mpi_elems::{Buffer, ElemType};
 use rank_run::{OpenGate, PATIENCE, wait};
 use std::alloc::Global;
@@ -64,31 +65,29 @@ fn posting(alloc: Global, sig: Signature, label: Label, number: Option<i128>) ->
 // Posts, waits for the outcome, and appends its line. The outcome is what the pass was told last,
 // in the legal run that it has seen. It is tried for as often as a take of a script is.
 fn exchange<R: Wait>(
-    rt: &R,
-    door: &Door,
-    policy: &Policy,
+    setting: &Setting<R>,
     pass: &mut Pass,
     posting: Posting,
     told: &mut Vec<u8>,
 ) -> Result<Reply>
-    requires policy { policy.now ≡ door.now.policy }
-    requires pass { pass.old.door ≡ door.now }
-    requires label { IsKnownLabel policy.now posting.label }
+    requires pass { pass.old.door ≡ setting.now.door.now }
+    requires label { IsKnownLabel setting.now.policy.now posting.label }
     ensures same { IsSamePass pass.old pass.new }
-    ensures legal { Legal policy.now pass.new.seen }
+    ensures legal { Legal setting.now.policy.now pass.new.seen }
     ensures told { IfOk result (WasTold pass.new) }
     ensures waited { IfOk result (λ reply.
         WasAwaited script_patience pass.old (ToPost posting) reply pass.new) }
     ensures line { IfOk result (λ reply.
-        told.new.items ≡ told.old.items ++ reply_line policy.now reply) }
+        told.new.items ≡ told.old.items ++ reply_line setting.now.policy.now reply) }
 {
+    let Setting { rt, door, .. } = *setting;
     let Answer::Reply(Reply::Posted(request)) = door.post(rt, pass, posting) else {
         bail!("a post was not counted, or was barred");
     };
     let Answer::Reply(outcome) = wait(rt, door, pass, request, PATIENCE, &OpenGate) else {
         bail!("the door is exhausted");
     };
-    write_reply(policy, &outcome, told)?;
+    write_reply(setting.policy, &outcome, told)?;
     Ok(outcome)
 }
 
@@ -107,17 +106,11 @@ fn first_number(reply: &Reply) -> Option<i128>
 
 // Gives its figure to a sum; then the first process sends its figure to the last one, which would
 // relay it to all.
-fn take_part<R: Wait>(
-    rt: &R,
-    alloc: Global,
-    door: &Door,
-    policy: &Policy,
-    pass: &mut Pass,
-) -> Result<Vec<u8>>
-    requires policy { policy.now ≡ door.now.policy }
-    requires pass { pass.old.door ≡ door.now }
+fn take_part<R: Wait>(setting: &Setting<R>, pass: &mut Pass) -> Result<Vec<u8>>
+    requires { pass.old.door ≡ setting.now.door.now }
     ensures { IsSamePass pass.old pass.new }
 {
+    let Setting { alloc, policy, .. } = *setting;
     let process = pass.process();
     let figure = FIGURES.get(process as usize).copied();
     let mut told = Vec::new(alloc);
@@ -127,7 +120,7 @@ fn take_part<R: Wait>(
         count: 1,
     };
     let post = posting(alloc, sum, home(policy, process), figure)?;
-    exchange(rt, door, policy, pass, post, &mut told)?;
+    exchange(setting, pass, post, &mut told)?;
 
     let send = Signature::Gatherv {
         root: 3,
@@ -135,7 +128,7 @@ fn take_part<R: Wait>(
     };
     let given = if process == 0 { figure } else { None };
     let post = posting(alloc, send, home(policy, process), given)?;
-    let sent = exchange(rt, door, policy, pass, post, &mut told)?;
+    let sent = exchange(setting, pass, post, &mut told)?;
 
     let relay = Signature::Bcast {
         root: 3,
@@ -143,16 +136,15 @@ fn take_part<R: Wait>(
         count: 1,
     };
     let post = posting(alloc, relay, home(policy, 0), first_number(&sent))?;
-    exchange(rt, door, policy, pass, post, &mut told)?;
+    exchange(setting, pass, post, &mut told)?;
     Ok(told)
 }
 
 /// All that a process does. Its pass comes back, also where it stopped before the end.
-pub fn play<R: Wait>(rt: &R, alloc: Global, door: &Door, policy: &Policy, mut pass: Pass) -> Firm
-    requires policy { policy.now ≡ door.now.policy }
-    requires pass { pass.door ≡ door.now }
-    ensures { result.pass.door ≡ door.now }
+pub fn play<R: Wait>(setting: &Setting<R>, mut pass: Pass) -> Firm
+    requires { pass.door ≡ setting.now.door.now }
+    ensures { result.pass.door ≡ setting.now.door.now }
 {
-    let told = take_part(rt, alloc, door, policy, &mut pass);
+    let told = take_part(setting, &mut pass);
     Firm { pass, told }
 }

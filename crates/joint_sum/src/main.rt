@@ -10,12 +10,14 @@ ghost use Rattle.joint_sum.specs.Reports.{IsReportOfRun, IsSomeReport};
 mod firm;
 mod printed;
 mod reports;
+mod setting;
 mod threads;
 
 use anyhow::{Result, bail};
 use hall_turn::{Door, Passes};
 use printed::{Printed, print};
 use reports::report;
+use setting::Setting;
 use std::alloc::Global;
 use std::rt::{Env, Files};
 use std::sync::Wait;
@@ -59,30 +61,22 @@ fn close(alloc: Global, door: Door, ended: Ended) -> Result<Vec<u8>>
     }
 }
 
-// All processes at this door, and what they were told.
-fn meet<R: Threads + Wait + Sync>(
-    rt: &R,
-    alloc: Global,
-    door: Door,
-    policy: &Policy,
-    passes: Passes,
-) -> Result<Vec<u8>>
-    requires policy { policy.now ≡ door.policy }
-    requires passes { All (λ pass. pass.door ≡ door) passes.items }
-    ensures { IfOk result (λ text. IsSomeReport policy.now text.items) }
-{
-    match play_all(rt, alloc, &door, policy, passes) {
-        Ok(ended) => close(alloc, door, ended),
-        Err(fault) => Err(fault),
-    }
-}
-
-// A door under the policy, and all that happens there.
+// A door under the policy, all processes there, and what they were told.
 fn run<R: Threads + Wait + Sync>(rt: &R, alloc: Global, policy: &Policy) -> Result<Vec<u8>>
     ensures { IfOk result (λ text. IsSomeReport policy.now text.items) }
 {
-    match open(alloc, policy) {
-        Ok((door, passes)) => meet(rt, alloc, door, policy, passes),
+    let (door, passes) = match open(alloc, policy) {
+        Ok(opened) => opened,
+        Err(fault) => return Err(fault),
+    };
+    let setting = Setting {
+        rt,
+        alloc,
+        door: &door,
+        policy,
+    };
+    match play_all(&setting, passes) {
+        Ok(ended) => close(alloc, door, ended),
         Err(fault) => Err(fault),
     }
 }

@@ -3,14 +3,13 @@ ghost use Rattle.std.specs.Prelude.{◌≡◌, ◌≤◌, [], IfOk, vec_len, vec
 ghost use Rattle.std.specs.List.{All};
 
 use crate::firm::{Firm, play};
+use crate::setting::Setting;
 use anyhow::{Error, Result, bail};
 use hall_turn::{Door, Pass, Passes};
-use std::alloc::Global;
 use std::snapshot::Snapshot;
 use std::sync::{Mutex, Wait};
 use std::thread;
 use std::thread::{Promise, PromisedHandle, Threads};
-use wall_policy::Policy;
 
 /// What the processes came to.
 #[derive(Drop)]
@@ -32,21 +31,13 @@ impl Promise<Firm> for Playing {
 
 // Plays once all threads have started: until then the lock is held. Makes no call where one was
 // refused, since nobody would wait for the same posts then.
-fn play_with_all<R: Wait>(
-    rt: &R,
-    alloc: Global,
-    door: &Door,
-    policy: &Policy,
-    pass: Pass,
-    all_started: &Mutex<bool>,
-) -> Firm
-    requires policy { policy.now ≡ door.now.policy }
-    requires pass { pass.door ≡ door.now }
-    ensures { result.pass.door ≡ door.now }
+fn play_with_all<R: Wait>(setting: &Setting<R>, pass: Pass, all_started: &Mutex<bool>) -> Firm
+    requires { pass.door ≡ setting.now.door.now }
+    ensures { result.pass.door ≡ setting.now.door.now }
 {
-    let begins = *all_started.lock(rt);
+    let begins = *all_started.lock(setting.rt);
     if begins {
-        play(rt, alloc, door, policy, pass)
+        play(setting, pass)
     } else {
         Firm {
             pass,
@@ -60,37 +51,38 @@ fn sort_out<R: Threads>(
     rt: &R,
     door: &Door,
     handles: Vec<PromisedHandle<Firm, Playing>>,
-    mut passes: Passes,
-    mut told: Vec<Result<Vec<u8>>>,
+    mut ended: Ended,
 ) -> Ended
     requires of { All (λ handle. handle.promise.0.value.door ≡ door.now) handles.items }
-    requires passes { (passes.items ≡ []) × (vec_len handles ≤ vec_capacity passes) }
-    requires told { (told.items ≡ []) × (vec_len handles ≤ vec_capacity told) }
+    requires passes { (ended.passes.items ≡ []) × (vec_len handles ≤ vec_capacity ended.passes) }
+    requires told { (ended.told.items ≡ []) × (vec_len handles ≤ vec_capacity ended.told) }
     ensures { All (λ pass. pass.door ≡ door.now) result.passes.items }
 {
     for handle in handles {
         let firm = handle.join(rt);
-        passes.push_reserved(firm.pass);
-        told.push_reserved(firm.told);
+        ended.passes.push_reserved(firm.pass);
+        ended.told.push_reserved(firm.told);
     }
-    Ended { passes, told }
+    ended
 }
 
 /// All processes at the same time, each in a thread of its own. Where a thread is refused no call
 /// is made.
-pub fn play_all<R: Threads + Wait + Sync>(
-    rt: &R,
-    alloc: Global,
-    door: &Door,
-    policy: &Policy,
-    passes: Passes,
-) -> Result<Ended>
-    requires policy { policy.now ≡ door.now.policy }
-    requires passes { All (λ pass. pass.door ≡ door.now) passes.items }
-    ensures { IfOk result (λ ended. All (λ pass. pass.door ≡ door.now) ended.passes.items) }
+pub fn play_all<R: Threads + Wait + Sync>(setting: &Setting<R>, passes: Passes) -> Result<Ended>
+    requires { All (λ pass. pass.door ≡ setting.now.door.now) passes.items }
+    ensures { IfOk result
+        (λ ended. All (λ pass. pass.door ≡ setting.now.door.now) ended.passes.items) }
 {
-    let back = Vec::with_capacity(alloc, passes.len())?;
-    let told = Vec::with_capacity(alloc, passes.len())?;
+    let Setting {
+        rt,
+        alloc,
+        door,
+        policy,
+    } = *setting;
+    let back = Ended {
+        passes: Vec::with_capacity(alloc, passes.len())?,
+        told: Vec::with_capacity(alloc, passes.len())?,
+    };
     let mut handles = Vec::with_capacity(alloc, passes.len())?;
     let lock = Mutex::new(false);
     let all_started = &lock;
@@ -101,8 +93,8 @@ pub fn play_all<R: Threads + Wait + Sync>(
             requires policy { policy.now ≡ door.now.policy }
             requires passes { All (λ pass. pass.door ≡ door.now) passes.items }
             requires handles { (handles.items ≡ []) × (vec_len passes ≤ vec_capacity handles) }
-            requires back { (back.items ≡ []) × (vec_len passes ≤ vec_capacity back) }
-            requires told { (told.items ≡ []) × (vec_len passes ≤ vec_capacity told) }
+            requires back { (back.passes.items ≡ []) × (vec_len passes ≤ vec_capacity back.passes) }
+            requires told { (back.told.items ≡ []) × (vec_len passes ≤ vec_capacity back.told) }
             ensures { IfOk result
                 (λ ended. All (λ pass. pass.door ≡ door.entry.now) ended.passes.items) }
         {
@@ -115,7 +107,15 @@ pub fn play_all<R: Threads + Wait + Sync>(
                         requires policy { policy.now ≡ door.now.policy }
                         requires pass { pass.door ≡ door.now }
                         ensures { result.pass.door ≡ door.entry.now }
-                    { play_with_all(rt, alloc, door, policy, pass, all_started) },
+                    {
+                        let setting = Setting {
+                            rt,
+                            alloc,
+                            door,
+                            policy,
+                        };
+                        play_with_all(&setting, pass, all_started)
+                    },
                 ) else {
                     bail!("a thread was refused");
                 };
@@ -123,7 +123,7 @@ pub fn play_all<R: Threads + Wait + Sync>(
             }
             *begins = true;
             drop(begins);
-            Ok(sort_out(rt, door, handles, back, told))
+            Ok(sort_out(rt, door, handles, back))
         },
     )
 }

@@ -9,7 +9,7 @@ invariant-loop-pass g l = record {
   handles : All (λ handle. handle.promise.0.value.door ≡ l.door) l.handles.items;
   fit : vec_len l.handles + length (into_iter_items l.pass-iterator) ≤ vec_capacity l.handles;
   back_fits : vec_len l.handles + length (into_iter_items l.pass-iterator)
-      ≤ vec_capacity l.back;
+      ≤ vec_capacity l.back.passes;
   told_fits : vec_len l.handles + length (into_iter_items l.pass-iterator)
-      ≤ vec_capacity l.told;
+      ≤ vec_capacity l.back.told;
 }
