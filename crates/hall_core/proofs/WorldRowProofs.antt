@@ -23,8 +23,23 @@ use Rattle.run_model.specs.Runs.{Entry, run_of}
 use Rattle.run_model.specs.RunRows.{alpha, gave, summed, relayed}
 use Rattle.run_model.specs.Worlds.{SameCallButForValues, NobodyLacksMemory}
 use Rattle.run_model.specs.WorldRows.{told}
-use Rattle.run_model.proofs.RunModelLemmas.{is_want, none_wanted, same_self}
+use Rattle.run_model.proofs.RunModelLemmas.{same_self}
 use Rattle.hall_core.specs.Worlds.{called, DifferAsListed}
+
+is_want : Reply → Bool
+is_want (Refused NoMemory) = true
+is_want other = false
+
+wanted : (a : Reply) → a ≡ Refused NoMemory → is_want a ≡ true
+unfolding is_want
+wanted a e = ap is_want e
+
+none_wanted : (run : List Entry) → list_all (λ e. not (is_want e.reply)) run ≡ true →
+    NobodyLacksMemory run
+none_wanted [] h = tt
+none_wanted (e ∷ run) h =
+    let parts = and_parts (not (is_want e.reply)) (list_all (λ f. not (is_want f.reply)) run) h in
+    (none_wanted run parts.1, λ is. false≢true (ap not (sym (wanted e.reply is)) ∙ parts.0))
 
 -- the same calls in both
 same_calls : (calls : List Call) → AllZip SameCallButForValues calls calls
