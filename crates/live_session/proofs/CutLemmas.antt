@@ -16,9 +16,6 @@ behind_none : (later : List Word) → 0 < length later → behind [] later ≡ l
 behind_none [] l = absurd (omega arith)
 behind_none (part ∷ later) l = refl
 
-pub some_parts : (text : List ℕ) → 0 < length (parts 10 text)
-some_parts text = omega (arith, length-slice_split (λ b. eqb b 10) text)
-
 -- the parts of what was there end with this line, and those of what goes on begin with it
 abbrev GoesOn : (old new later : List Word) → Type 0
 GoesOn old new later = (lines : List Word) (line : Word) → old ≡ lines ++ line ∷ [] →
@@ -49,10 +46,14 @@ pub parts_behind : (text more : List ℕ) (lines : List Word) (line : Word) →
     parts 10 (text ++ more) ≡ lines ++ behind line (parts 10 more)
 parts_behind [] more [] line e =
     let k : [] ≡ line = cc in
-    sym (behind_none (parts 10 more) (some_parts more)) ∙ ap (λ l. behind l (parts 10 more)) k
+    let long : 0 < length (parts 10 more) = omega
+    (arith, length-slice_split (λ b. eqb b 10) more) in
+    sym (behind_none (parts 10 more) long) ∙ ap (λ l. behind l (parts 10 more)) k
 parts_behind [] more (l ∷ lines) line e =
     let k : [] ≡ lines ++ line ∷ [] = cc in
     let long = ap length k in absurd (omega (arith, length-append lines (line ∷ [])))
 parts_behind (c ∷ text) more lines line e =
-    one_more (eqb c 10) c (parts 10 text) (parts 10 (text ++ more)) (parts 10 more)
-    (some_parts text) (parts_behind text more) lines line e
+    let long : 0 < length (parts 10 text) = omega
+    (arith, length-slice_split (λ b. eqb b 10) text) in
+    one_more (eqb c 10) c (parts 10 text) (parts 10 (text ++ more)) (parts 10 more) long
+    (parts_behind text more) lines line e

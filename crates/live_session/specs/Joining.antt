@@ -14,7 +14,7 @@ use Rattle.live_session.specs.declared.peer.Session.{Session}
 use Rattle.live_session.specs.declared.peer.Job.{Job}
 use Rattle.live_session.specs.declared.peer.Played.{Played}
 use Rattle.live_session.specs.declared.peer.Serving.{Serving}
-use Rattle.live_session.specs.declared.run.Room.{Room}
+use Rattle.live_session.specs.declared.ready.Room.{Room}
 use Rattle.live_session.specs.declared.run.Ended.{Ended}
 use Rattle.live_session.specs.declared.ending.SessionEnd.{SessionEnd}
 use Rattle.live_session.specs.Hearing.{Heard}

@@ -9,8 +9,8 @@ ghost use Rattle.hall_turn.specs.Answers.{ClaimNamesKnown, MayFinish, StoodAt, C
 ghost use Rattle.live_session.specs.Sessions.{Stood};
 ghost use Rattle.live_session.specs.Steps.{Waited, CameTo, CameNamesKnown, came_of};
 
-use crate::place::Place;
 use crate::seat::Seat;
+use crate::setting::Setting;
 use hall_core::{Reply, finish};
 use hall_script::Ask;
 use hall_turn::{Answer, Claimed, Machine, PassTo};
@@ -48,7 +48,7 @@ fn came_of(seat: &mut Seat, answer: Answer, is_booked: bool) -> Came
     }
 }
 
-impl<'p, R: Wait, M: Machine> Place<'p, R, M> {
+impl<'s, R: Wait, M: Machine> Setting<'s, R, M> {
     // All of a take that needs the hall, at the pass's turn, while no other session calls.
     fn claim(&self, pass: &mut PassTo<M>, request: u64) -> Claimed
         requires door { pass.old.door ≡ self.now.door.now }

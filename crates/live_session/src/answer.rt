@@ -11,8 +11,8 @@ ghost use Rattle.live_session.specs.Steps.{AnswersLine};
 use crate::acting::Came;
 use crate::ending::SessionEnd;
 use crate::line::{Lines, bad_line};
-use crate::place::Place;
 use crate::seat::Seat;
+use crate::setting::Setting;
 use coll_text::{put, send};
 use hall_script::write_reply;
 use hall_turn::{Machine, PassTo};
@@ -60,7 +60,7 @@ fn put_came(policy: &Policy, came: &Came, text: &mut Vec<u8>) -> Result<Next, No
     }
 }
 
-impl<'p, R: Wait, M: Machine> Place<'p, R, M> {
+impl<'s, R: Wait, M: Machine> Setting<'s, R, M> {
     // Acts on a finished line, and puts its answer.
     fn put_answer(
         &self,

@@ -8,15 +8,16 @@ mod desk;
 mod ending;
 mod line;
 mod peer;
-mod place;
+mod ready;
 mod requests;
 mod run;
 mod seat;
 mod session;
+mod setting;
 
 pub use desk::Desk;
 pub use ending::SessionEnd;
 pub use line::{BadLine, LINE_LIMIT};
 pub use peer::{Peer, Session};
 pub use run::{ServeFault, Served, serve_all};
-pub use session::serve;
+pub use setting::Setting;

@@ -7,17 +7,15 @@ ghost use Rattle.hall_turn.specs.Ending.{ClosedTo};
 ghost use Rattle.live_session.specs.Sessions.{Stood};
 ghost use Rattle.live_session.specs.Served.{ServedAll};
 ghost use Rattle.live_session.specs.Joining.{IsFresh, HasServed, AllServed, handed};
-ghost use Rattle.live_session.specs.Joining.{passes_of, peers_of, passes_in, ends_of, ends_in};
-ghost use Rattle.live_session.specs.Joining.{ArePrepared, HaveEnded, HasRoomFor};
+ghost use Rattle.live_session.specs.Joining.{passes_in, ends_of, ends_in, HaveEnded, HasRoomFor};
 
 use crate::desk::Desk;
 use crate::peer::{Job, Peer, Played, Serving, Session};
-use crate::place::Place;
-use hall_core::NoMemory;
+use crate::ready::{Ready, Room, prepare};
+use crate::setting::Setting;
 use hall_turn::{DoorTo, Machine, PassesTo};
-use mpi_comm::COMMUNICATOR_LIMIT;
-use rank_stage::{Begun, GivenUp, Stage};
-use std::alloc::{AllocError, Global};
+use rank_stage::{Begun, GivenUp};
+use std::alloc::Global;
 use std::snapshot::Snapshot;
 use std::sync::{Mutex, Wait};
 use std::thread;
@@ -27,10 +25,10 @@ use wall_policy::Policy;
 
 // A session from its start to its end; or nothing of it, where the run is given up.
 fn play<R: Wait, M: Machine, S: Desk<O> + Drop, O: Sink + Drop>(
-    place: &Place<R, M>,
+    setting: &Setting<R, M>,
     job: Job<M, S, O>,
 ) -> Played<M, S, O>
-    requires { IsFresh place.now.door.now job }
+    requires { IsFresh setting.now.door.now job }
     ensures { HasServed (Stood M.stands M.is_booked) S.failures S.remaining S.heard O.failures
         O.contents job result }
 {
@@ -41,34 +39,12 @@ fn play<R: Wait, M: Machine, S: Desk<O> + Drop, O: Sink + Drop>(
             mut sink,
         },
     } = job;
-    let ended = place.serve(&mut pass, &mut source, &mut sink);
+    let ended = setting.serve(&mut pass, &mut source, &mut sink);
     Played {
         pass,
         peer: Peer { source, sink },
         ended,
     }
-}
-
-// Joins all threads, and keeps what they gave.
-fn join_all<R, M, S, O>(
-    rt: &R,
-    handles: Vec<PromisedHandle<Played<M, S, O>, Serving<M, S, O>>>,
-    mut ended: Vec<Played<M, S, O>>,
-) -> Vec<Played<M, S, O>>
-where
-    R: Threads,
-    M: Machine + Send + Drop,
-    S: Desk<O> + Send + Drop,
-    O: Sink + Send + Drop,
-    requires { (ended.items ≡ []) × (vec_len handles ≤ vec_capacity ended) }
-    ensures served { AllServed (Stood M.stands M.is_booked) S.failures S.remaining S.heard
-        O.failures O.contents (handed handles.items) result.items }
-    ensures len { vec_len result ≡ vec_len handles }
-{
-    for handle in handles {
-        ended.push_reserved(handle.join(rt));
-    }
-    ended
 }
 
 // All sessions, which were told to begin or to go home, have ended, and are joined, when it
@@ -77,7 +53,7 @@ fn end_all<R, M, S, O>(
     rt: &R,
     told: Result<Begun, GivenUp>,
     handles: Vec<PromisedHandle<Played<M, S, O>, Serving<M, S, O>>>,
-    ended: Vec<Played<M, S, O>>,
+    mut ended: Vec<Played<M, S, O>>,
 ) -> Result<Vec<Played<M, S, O>>, GivenUp>
 where
     R: Threads,
@@ -90,83 +66,16 @@ where
         (handed handles.items) all.items) }
     ensures begun { IfOk result (λ _. IsOk told) }
 {
-    let played = join_all(rt, handles, ended);
+    for handle in handles {
+        ended.push_reserved(handle.join(rt));
+    }
     match told {
-        Ok(_) => Ok(played),
+        Ok(_) => Ok(ended),
         Err(given_up) => {
-            drop(played);
+            drop(ended);
             Err(given_up)
         }
     }
-}
-
-// A thread for each job, as far as none is refused.
-fn run_each<R, M, S, O>(
-    place: &Place<R, M>,
-    jobs: Vec<Job<M, S, O>>,
-    mut handles: Vec<PromisedHandle<Played<M, S, O>, Serving<M, S, O>>>,
-    ended: Vec<Played<M, S, O>>,
-) -> Result<Vec<Played<M, S, O>>, GivenUp>
-where
-    R: Threads + Wait + Sync,
-    M: Machine + Send + Drop,
-    S: Desk<O> + Send + Drop,
-    O: Sink + Send + Drop,
-    requires fresh { All (IsFresh place.now.door.now) jobs.items }
-    requires handles { (handles.items ≡ []) × (vec_len jobs ≤ vec_capacity handles) }
-    requires ended { (ended.items ≡ []) × (vec_len jobs ≤ vec_capacity ended) }
-    ensures { IfOk result
-        (λ all. AllServed (Stood M.stands M.is_booked) S.failures S.remaining S.heard O.failures
-        O.contents jobs.items all.items) }
-{
-    let Place {
-        rt,
-        alloc,
-        door,
-        policy,
-        stage,
-        turn,
-    } = *place;
-    thread::scope(
-        thread::scope_env(),
-        rt,
-        move |scope| -> Result<Vec<Played<M, S, O>>, GivenUp>
-            requires policy { policy.now ≡ door.now.policy }
-            requires fresh { All (IsFresh door.now) jobs.items }
-            requires handles { (handles.items ≡ []) × (vec_len jobs ≤ vec_capacity handles) }
-            requires ended { (ended.items ≡ []) × (vec_len jobs ≤ vec_capacity ended) }
-            ensures { IfOk result
-                (λ all. AllServed (Stood M.stands M.is_booked) S.failures S.remaining S.heard
-                O.failures O.contents jobs.items all.items) }
-        {
-            for job in jobs {
-                let promise = Serving(Snapshot::of(&job));
-                let Ok(handle) = scope.spawn_with(
-                    promise,
-                    move || -> Played<M, S, O>
-                        requires policy { policy.now ≡ door.now.policy }
-                        requires fresh { IsFresh door.now job }
-                        ensures { HasServed (Stood M.stands M.is_booked) S.failures S.remaining
-                            S.heard O.failures O.contents job result }
-                    {
-                        let place = Place {
-                            rt,
-                            alloc,
-                            door,
-                            policy,
-                            stage,
-                            turn,
-                        };
-                        play(&place, job)
-                    },
-                ) else {
-                    return end_all(rt, stage.release(rt, false), handles, ended);
-                };
-                handles.push_reserved(handle);
-            }
-            end_all(rt, stage.release(rt, true), handles, ended)
-        },
-    )
 }
 
 /// What all sessions came to.
@@ -189,102 +98,11 @@ pub enum ServeFault {
     NoMemory,
 }
 
-// Room for what the threads of the sessions give back.
-#[derive(Drop)]
-pub(crate) struct Room<M: Machine, S: Desk<O> + Drop, O: Sink + Drop> {
-    passes: PassesTo<M>,
-    sessions: Vec<Session<S, O>>,
-    ended: Vec<Played<M, S, O>>,
-    handles: Vec<PromisedHandle<Played<M, S, O>, Serving<M, S, O>>>,
-}
-
-// A door, a stage, a job for each process there, and room for all of them.
-#[derive(Drop)]
-pub(crate) struct Ready<M: Machine + Drop, S: Desk<O> + Drop, O: Sink + Drop> {
-    door: DoorTo<M>,
-    stage: Stage,
-    jobs: Vec<Job<M, S, O>>,
-    room: Room<M, S, O>,
-}
-
 // What the threads gave back, sorted.
 #[derive(Drop)]
 pub(crate) struct Ended<M: Machine, S, O> {
     passes: PassesTo<M>,
     sessions: Vec<Session<S, O>>,
-}
-
-// A pass and its devices for each process.
-fn share_out<M: Machine, S: Drop, O: Drop>(
-    alloc: Global,
-    passes: PassesTo<M>,
-    peers: Vec<Peer<S, O>>,
-) -> Result<Vec<Job<M, S, O>>, NoMemory>
-    requires { vec_len passes ≡ vec_len peers }
-    ensures passes { IfOk result (λ jobs. passes_of jobs.items ≡ passes.items) }
-    ensures peers { IfOk result (λ jobs. peers_of jobs.items ≡ peers.items) }
-{
-    let mut jobs = Vec::with_capacity(alloc, passes.len())?;
-    let mut passes = passes.into_iter();
-    for peer in peers {
-        let Some(pass) = passes.next() else {
-            unreachable!()
-        };
-        jobs.push_reserved(Job { pass, peer });
-    }
-    Ok(jobs)
-}
-
-// A stage and room for so many sessions.
-fn make_room<M: Machine, S: Desk<O> + Drop, O: Sink + Drop>(
-    alloc: Global,
-    count: usize,
-) -> Result<(Stage, Room<M, S, O>), AllocError>
-    ensures { IfOk result (λ made. HasRoomFor count made.1) }
-{
-    let passes = Vec::with_capacity(alloc, count)?;
-    let sessions = Vec::with_capacity(alloc, count)?;
-    let ended = Vec::with_capacity(alloc, count)?;
-    let handles = Vec::with_capacity(alloc, count)?;
-    let stage = Stage::new(alloc, count, COMMUNICATOR_LIMIT as usize, false)?;
-    let room = Room {
-        passes,
-        sessions,
-        ended,
-        handles,
-    };
-    Ok((stage, room))
-}
-
-// A door to the machine, a stage, a job for each process there, and room for all of them.
-fn prepare<M: Machine + Drop, S: Desk<O> + Drop, O: Sink + Drop>(
-    alloc: Global,
-    policy: &Policy,
-    machine: M,
-    peers: Vec<Peer<S, O>>,
-) -> Result<Ready<M, S, O>, NoMemory>
-    requires stands { M.stands policy.now machine [] }
-    requires peers { vec_len peers ≡ processes policy.now }
-    ensures prepared { IfOk result
-        (λ ready. ArePrepared policy.now peers.items ready.door ready.jobs.items) }
-    ensures room { IfOk result (λ ready. HasRoomFor (vec_len ready.jobs) ready.room) }
-{
-    let (door, passes) = DoorTo::over(alloc, policy, machine)?;
-    let Ok(jobs) = share_out(alloc, passes, peers) else {
-        drop(door);
-        return Err(NoMemory);
-    };
-    let Ok((stage, room)) = make_room(alloc, jobs.len()) else {
-        drop(jobs);
-        drop(door);
-        return Err(NoMemory);
-    };
-    Ok(Ready {
-        door,
-        stage,
-        jobs,
-        room,
-    })
 }
 
 // The passes, and the sessions; none where a session did not begin.
@@ -310,9 +128,10 @@ fn sort_out<M: Machine, S: Drop, O: Drop>(
     Some(Ended { passes, sessions })
 }
 
-// All sessions at the same time, in the room that was made for them. None where none began.
+// A thread for each job, as far as none is refused, in the room that was made for them. None where
+// no session began.
 fn run_jobs<R, M, S, O>(
-    place: &Place<R, M>,
+    setting: &Setting<R, M>,
     jobs: Vec<Job<M, S, O>>,
     room: Room<M, S, O>,
 ) -> Option<Ended<M, S, O>>
@@ -321,19 +140,67 @@ where
     M: Machine + Send + Drop,
     S: Desk<O> + Send + Drop,
     O: Sink + Send + Drop,
-    requires fresh { All (IsFresh place.now.door.now) jobs.items }
+    requires fresh { All (IsFresh setting.now.door.now) jobs.items }
     requires room { HasRoomFor (vec_len jobs) room }
     ensures { IfSome result
         (HaveEnded (Stood M.stands M.is_booked) S.failures S.remaining S.heard O.failures O.contents
         jobs.items) }
 {
+    let Setting {
+        rt,
+        alloc,
+        door,
+        policy,
+        stage,
+        turn,
+    } = *setting;
     let Room {
         passes,
         sessions,
         ended,
-        handles,
+        mut handles,
     } = room;
-    match run_each(place, jobs, handles, ended) {
+    let served = thread::scope(
+        thread::scope_env(),
+        rt,
+        move |scope| -> Result<Vec<Played<M, S, O>>, GivenUp>
+            requires policy { policy.now ≡ door.now.policy }
+            requires fresh { All (IsFresh door.now) jobs.items }
+            requires handles { (handles.items ≡ []) × (vec_len jobs ≤ vec_capacity handles) }
+            requires ended { (ended.items ≡ []) × (vec_len jobs ≤ vec_capacity ended) }
+            ensures { IfOk result
+                (λ all. AllServed (Stood M.stands M.is_booked) S.failures S.remaining S.heard
+                O.failures O.contents jobs.items all.items) }
+        {
+            for job in jobs {
+                let promise = Serving(Snapshot::of(&job));
+                let Ok(handle) = scope.spawn_with(
+                    promise,
+                    move || -> Played<M, S, O>
+                        requires policy { policy.now ≡ door.now.policy }
+                        requires fresh { IsFresh door.now job }
+                        ensures { HasServed (Stood M.stands M.is_booked) S.failures S.remaining
+                            S.heard O.failures O.contents job result }
+                    {
+                        let setting = Setting {
+                            rt,
+                            alloc,
+                            door,
+                            policy,
+                            stage,
+                            turn,
+                        };
+                        play(&setting, job)
+                    },
+                ) else {
+                    return end_all(rt, stage.release(rt, false), handles, ended);
+                };
+                handles.push_reserved(handle);
+            }
+            end_all(rt, stage.release(rt, true), handles, ended)
+        },
+    );
+    match served {
         Ok(all) => sort_out(all, passes, sessions),
         Err(_) => None,
     }
@@ -395,7 +262,7 @@ where
         room,
     } = ready;
     let turn = Mutex::new(());
-    let place = Place {
+    let setting = Setting {
         rt,
         alloc,
         door: &door,
@@ -403,7 +270,7 @@ where
         stage: &stage,
         turn: &turn,
     };
-    let Some(ended) = run_jobs(&place, jobs, room) else {
+    let Some(ended) = run_jobs(&setting, jobs, room) else {
         drop(door);
         return Err(ServeFault::NoThread);
     };

@@ -10,18 +10,15 @@ ghost use Rattle.live_session.specs.Steps.{Holds, TakesIn, behind};
 use crate::desk::Desk;
 use crate::ending::SessionEnd;
 use crate::line::{Lines, Unfinished};
-use crate::place::Place;
 use crate::requests::Requests;
 use crate::seat::Seat;
+use crate::setting::Setting;
 use coll_text::Parts;
-use hall_turn::{DoorTo, Machine, PassTo};
-use rank_stage::Stage;
-use std::alloc::Global;
-use std::sync::{Mutex, Wait};
+use hall_turn::{Machine, PassTo};
+use std::sync::Wait;
 use wall_labels::Sink;
-use wall_policy::Policy;
 
-impl<'p, R: Wait, M: Machine> Place<'p, R, M> {
+impl<'s, R: Wait, M: Machine> Setting<'s, R, M> {
     // Acts on the lines that these bytes finish, and keeps the rest.
     fn take_in<O: Sink>(
         &self,
@@ -99,8 +96,24 @@ impl<'p, R: Wait, M: Machine> Place<'p, R, M> {
         unreachable!()
     }
 
-    /// As [`serve`] does.
-    pub(crate) fn serve<S: Desk<O>, O: Sink>(
+    /// Serves a process until its session ends: reads its lines, and answers each finished line by
+    /// one line before the next is acted on. The session begins as soon as the stage says so; none
+    /// where that sends it home, and then nothing was done.
+    ///
+    /// A line is `post C KIND FIELDS`, with `as LABEL V ..` behind it, or `take REQUEST`, or
+    /// `info C`, or `wait REQUEST`, or `leave`; it ends at LF, and one CR before that is dropped. A
+    /// call is answered by the line of its reply. A wait takes the request, and again when its
+    /// instance has settled, and is answered as the last of these takes was: `pending` where every
+    /// other session has ended or waits too, so that nobody is left who could settle it. `leave` is
+    /// answered by `left`, and ends the session, as does a call after 2^62 turns of the door,
+    /// answered by `exhausted`. So does a call behind whose turn the machine is not booked: it was
+    /// made, and in place of its reply stands `unbooked`. Any other line is answered by `bad NAME`:
+    /// then nothing was done, and the session goes on.
+    ///
+    /// No turn is held while it reads, works out a delivery, writes or sleeps. The source is told
+    /// when the session begins, before its first line is read, and when it has ended; no turn and
+    /// no place of the stage is held meanwhile.
+    pub fn serve<S: Desk<O>, O: Sink>(
         &self,
         pass: &mut PassTo<M>,
         source: &mut S,
@@ -134,54 +147,4 @@ impl<'p, R: Wait, M: Machine> Place<'p, R, M> {
         source.close(end, calls);
         Some(end)
     }
-}
-
-/// Serves a process until its session ends: reads its lines, and answers each finished line by one
-/// line before the next is acted on. `policy` is the door's, and `stage` that on which all sessions
-/// at the door stand, each by the number of its process. The session begins as soon as the stage
-/// says so; none where that sends it home, and then nothing was done.
-///
-/// A line is `post C KIND FIELDS`, with `as LABEL V ..` behind it, or `take REQUEST`, or `info C`,
-/// or `wait REQUEST`, or `leave`; it ends at LF, and one CR before that is dropped. A call is
-/// answered by the line of its reply. A wait takes the request, and again when its instance has
-/// settled, and is answered as the last of these takes was: `pending` where every other session has
-/// ended or waits too, so that nobody is left who could settle it. `leave` is answered by `left`,
-/// and ends the session, as does a call after 2^62 turns of the door, answered by `exhausted`. So
-/// does a call behind whose turn the machine is not booked: it was made, and in place of its reply
-/// stands `unbooked`. Any other line is answered by `bad NAME`: then nothing was done, and the
-/// session goes on.
-///
-/// `turn` is one for all sessions at the door: a session holds it while it calls there, and not
-/// while it reads, works out a delivery, writes or sleeps.
-///
-/// The source is told when the session begins, before its first line is read, and when it has
-/// ended; no turn and no place of the stage is held meanwhile.
-pub fn serve<R: Wait, M: Machine, S: Desk<O>, O: Sink>(
-    rt: &R,
-    alloc: Global,
-    door: &DoorTo<M>,
-    policy: &Policy,
-    stage: &Stage,
-    turn: &Mutex<()>,
-    pass: &mut PassTo<M>,
-    source: &mut S,
-    sink: &mut O,
-) -> Option<SessionEnd>
-    requires door { pass.old.door ≡ door.now }
-    requires policy { policy.now ≡ door.now.policy }
-    ensures same { IsSamePass pass.old pass.new }
-    ensures serves { ServesIfBegun (Stood M.stands M.is_booked) S.heard policy.now
-        (used S.failures S.remaining source.old source.new)
-        (used O.failures O.contents sink.old sink.new)
-        pass.old pass.new result }
-{
-    let place = Place {
-        rt,
-        alloc,
-        door,
-        policy,
-        stage,
-        turn,
-    };
-    place.serve(pass, source, sink)
 }

@@ -5,13 +5,14 @@ ghost use Rattle.std.specs.List.{All};
 use crate::devices::{Due, Heard, new_answers, new_client, nothing_heard};
 use crate::parties::wall;
 use hall_turn::{Door, Pass, Passes};
-use live_session::{SessionEnd, serve};
+use live_session::{Desk, SessionEnd, Setting};
 use rank_stage::Stage;
 use std::alloc::Global;
 use std::process::Abort;
 use std::sync::{Mutex, Wait};
 use std::test::Fail;
 use trial_kit::policies::ALONE;
+use wall_labels::Sink;
 use wall_labels::memory::Fuse;
 use wall_policy::Policy;
 
@@ -50,6 +51,35 @@ fn last<R: Abort>(rt: &R, door: &Door, passes: &mut Passes) -> Pass
     passes.pop().expect(rt, "no pass is left")
 }
 
+/// How the session ends of a process that is alone at a door under the policy, with these devices.
+/// None where it does not begin: `begins` says whether its stage is released or given up.
+pub(crate) fn end_alone<R: Abort + Wait, S: Desk<O>, O: Sink>(
+    rt: &R,
+    alloc: Global,
+    policy: &Policy,
+    begins: bool,
+    source: &mut S,
+    sink: &mut O,
+) -> Option<SessionEnd> {
+    let (door, mut pass) = door_alone(rt, alloc, policy);
+    let stage = Stage::new(alloc, 1, 1024, false).expect(rt, "no stage");
+    let _ = stage.release(rt, begins);
+    let turn = Mutex::new(());
+    let setting = Setting {
+        rt,
+        alloc,
+        door: &door,
+        policy,
+        stage: &stage,
+        turn: &turn,
+    };
+    let end = setting.serve(&mut pass, source, sink);
+    drop(stage);
+    drop(pass);
+    drop(door);
+    end
+}
+
 // Whether the session ends as it is to, with these answers; `begins` says whether its stage is
 // released or given up.
 fn is_served<R: Abort + Wait>(
@@ -77,28 +107,10 @@ fn serve_alone<R: Abort + Wait>(
 ) -> Option<SessionEnd> {
     let (reads, writes) = fuses;
     let policy = wall(rt, alloc, ALONE);
-    let (door, mut pass) = door_alone(rt, alloc, &policy);
-    let stage = Stage::new(alloc, 1, 1024, false).expect(rt, "no stage");
-    let _ = stage.release(rt, begins);
     let mut source = new_client(session.lines, reads, piece, session.due, heard);
     let mut sink = new_answers(session.answers, writes, heard);
-    let turn = Mutex::new(());
-    let end = serve(
-        rt,
-        alloc,
-        &door,
-        &policy,
-        &stage,
-        &turn,
-        &mut pass,
-        &mut source,
-        &mut sink,
-    );
-    let are_all = sink.are_all();
-    drop(stage);
-    drop(pass);
-    drop(door);
-    if are_all { end } else { None }
+    let end = end_alone(rt, alloc, &policy, begins, &mut source, &mut sink);
+    if sink.are_all() { end } else { None }
 }
 
 pub(crate) const LINES: &[u8] = b"info 0\nfoo\n\nposts 1\ntake 0\r\n\

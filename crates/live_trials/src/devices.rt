@@ -8,8 +8,8 @@ use std::thread;
 use wall_labels::memory::{ExpectingSink, Fuse, MemorySource};
 use wall_labels::{Failed, Sink, Source};
 
-/// How often a device looks before it gives up, where nothing else is said.
-pub(crate) const LOOKS: u64 = 10_000_000;
+// How often a device looks before it gives up, where nothing else is said.
+const LOOKS: u64 = 10_000_000;
 
 /// What is heard of a session.
 #[derive(Drop)]
@@ -85,6 +85,16 @@ pub(crate) struct Hold<'a> {
 }
 
 impl<'a> Hold<'a> {
+    /// A device waits so at its call of this number, until the count is as high as that.
+    pub(crate) fn until(call: u64, count: &'a AtomicU64, wanted: u64) -> Hold<'a> {
+        Hold {
+            call,
+            count,
+            wanted,
+            looks: LOOKS,
+        }
+    }
+
     // Looks until the count is there. False after too many looks.
     fn ends(&self) -> bool {
         for _ in 0..self.looks {

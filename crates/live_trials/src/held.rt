@@ -1,9 +1,7 @@
 //! A session that is held, by a client that does not go on, holds up nobody; and one that waits
 //! takes no processor.
 
-use crate::devices::{
-    Answers, Client, Due, Hold, LOOKS, hearers, new_answers, new_client, nothing_heard,
-};
+use crate::devices::{Answers, Client, Due, Hold, hearers, new_answers, new_client, nothing_heard};
 use crate::machines::hall;
 use crate::parties::{many, wall};
 use live_session::{Desk, Peer, SessionEnd, serve_all};
@@ -29,9 +27,17 @@ fn at_end(calls: u64) -> Due {
 fn both_end<'a, R: Abort + Threads + Wait + Sync>(
     rt: &R,
     alloc: Global,
-    one: Peer<Client<'a>, Answers<'a>>,
-    other: Peer<Client<'a>, Answers<'a>>,
+    one: (Client<'a>, Answers<'a>),
+    other: (Client<'a>, Answers<'a>),
 ) -> bool {
+    let one = Peer {
+        source: one.0,
+        sink: one.1,
+    };
+    let other = Peer {
+        source: other.0,
+        sink: other.1,
+    };
     let policy = wall(rt, alloc, FRIENDS);
     let peers = Vec::from_array(alloc, [one, other]).expect(rt, "no memory");
     let machine = hall(rt, alloc, &policy);
@@ -70,26 +76,9 @@ fn a_client_that_does_not_read_holds_up_nobody(rt: HostRuntime) {
         Fuse::Whole,
         &second,
     );
-    one_sink.hold = Some(Hold {
-        call: 0,
-        count: &second.writes,
-        wanted: 3,
-        looks: LOOKS,
-    });
-    other_source.hold = Some(Hold {
-        call: 0,
-        count: &first.writes,
-        wanted: 1,
-        looks: LOOKS,
-    });
-    let one = Peer {
-        source: one_source,
-        sink: one_sink,
-    };
-    let other = Peer {
-        source: other_source,
-        sink: other_sink,
-    };
+    one_sink.hold = Some(Hold::until(0, &second.writes, 3));
+    other_source.hold = Some(Hold::until(0, &first.writes, 1));
+    let (one, other) = ((one_source, one_sink), (other_source, other_sink));
     assert!(&rt; both_end(&rt, rt.alloc(), one, other));
     assert!(&rt; first.is_whole() && second.is_whole());
 }
@@ -109,26 +98,9 @@ fn a_client_that_stops_in_a_line_holds_up_nobody(rt: HostRuntime) {
     let one_sink = new_answers("posted 0\npending\n", Fuse::Whole, &first);
     let mut other_source = new_client(b"info 0\nfoo\n", Fuse::Whole, 64, at_end(1), &second);
     let other_sink = new_answers("info size 2 rank 1\nbad BadVerb\n", Fuse::Whole, &second);
-    one_source.hold = Some(Hold {
-        call: 1,
-        count: &second.writes,
-        wanted: 2,
-        looks: LOOKS,
-    });
-    other_source.hold = Some(Hold {
-        call: 0,
-        count: &first.reads,
-        wanted: 2,
-        looks: LOOKS,
-    });
-    let one = Peer {
-        source: one_source,
-        sink: one_sink,
-    };
-    let other = Peer {
-        source: other_source,
-        sink: other_sink,
-    };
+    one_source.hold = Some(Hold::until(1, &second.writes, 2));
+    other_source.hold = Some(Hold::until(0, &first.reads, 2));
+    let (one, other) = ((one_source, one_sink), (other_source, other_sink));
     assert!(&rt; both_end(&rt, rt.alloc(), one, other));
     assert!(&rt; first.is_whole() && second.is_whole());
 }
@@ -139,20 +111,15 @@ fn who_is_held_is_noticed(rt: HostRuntime) {
     let (first, second) = (nothing_heard(), nothing_heard());
     let one_source = new_client(b"info 0\n", Fuse::Whole, 64, at_end(1), &first);
     let mut one_sink = new_answers("info size 2 rank 0\n", Fuse::Whole, &first);
-    let other = Peer {
-        source: new_client(b"info 0\n", Fuse::Whole, 64, at_end(1), &second),
-        sink: new_answers("info size 2 rank 1\n", Fuse::Whole, &second),
-    };
+    let other_source = new_client(b"info 0\n", Fuse::Whole, 64, at_end(1), &second);
+    let other_sink = new_answers("info size 2 rank 1\n", Fuse::Whole, &second);
     one_sink.hold = Some(Hold {
         call: 0,
         count: &second.writes,
         wanted: 2,
         looks: 1000,
     });
-    let one = Peer {
-        source: one_source,
-        sink: one_sink,
-    };
+    let (one, other) = ((one_source, one_sink), (other_source, other_sink));
     assert!(&rt; both_end(&rt, rt.alloc(), one, other));
     assert!(&rt; !first.is_whole() && second.is_whole());
 }

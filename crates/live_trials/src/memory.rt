@@ -1,13 +1,12 @@
 //! What a session keeps does not grow with its lines.
 
-use crate::alone::door_alone;
+use crate::alone::end_alone;
 use crate::parties::wall;
-use live_session::{Desk, SessionEnd, serve};
-use rank_stage::Stage;
+use live_session::{Desk, SessionEnd};
 use std::fs;
 use std::process::Abort;
 use std::rt::Files;
-use std::sync::{Mutex, Wait};
+use std::sync::Wait;
 use std::test::Fail;
 use trial_kit::policies::ALONE;
 use wall_labels::memory::{ExpectingSink, Fuse, MemorySource};
@@ -22,13 +21,15 @@ fn resident_pages<R: Files + AllocGlobal>(rt: &R) -> Option<u64> {
     word.parse::<u64>().ok()
 }
 
-/// Lines, at whose end the pages are counted.
+/// Lines, at whose beginning and end the pages are counted.
 #[derive(Drop)]
 struct Measured<'a, R> {
     lines: MemorySource<'a>,
     rt: &'a R,
-    /// How many are resident at the end. None where the system does not tell.
-    pages: Option<u64>,
+    /// How many are resident at the first read, and at the end. None where the system does not
+    /// tell.
+    before: Option<u64>,
+    after: Option<u64>,
 }
 
 impl<'a, R: Files + AllocGlobal> Desk<ExpectingSink<'a>> for Measured<'a, R> {
@@ -39,8 +40,11 @@ impl<'a, R: Files + AllocGlobal> Desk<ExpectingSink<'a>> for Measured<'a, R> {
     fn open(&self) {}
 
     fn hear(&mut self, _sink: &ExpectingSink<'a>, buffer: &mut [u8]) -> Result<usize, Failed> {
+        if self.before.is_none() {
+            self.before = resident_pages(self.rt);
+        }
         if self.lines.rest.is_empty() {
-            self.pages = resident_pages(self.rt);
+            self.after = resident_pages(self.rt);
         }
         self.lines.read(buffer)
     }
@@ -48,48 +52,32 @@ impl<'a, R: Files + AllocGlobal> Desk<ExpectingSink<'a>> for Measured<'a, R> {
     fn close(&self, _end: SessionEnd, _calls: u64) {}
 }
 
-// How many pages more are resident at the end of these lines than before them.
+// How many pages more are resident at the end of these lines than at the first read.
 fn pages_more<R>(rt: &R, lines: &[u8], answers: &[u8]) -> u64
 where
     R: Files + AllocGlobal + Wait + Abort,
 {
     let alloc = rt.alloc();
     let policy = wall(rt, alloc, ALONE);
-    let (door, mut pass) = door_alone(rt, alloc, &policy);
-    let stage = Stage::new(alloc, 1, 1024, false).expect(rt, "no stage");
-    let _ = stage.release(rt, true);
-    let before = resident_pages(rt).expect(rt, "no pages are told");
     let mut source = Measured {
         lines: MemorySource {
             rest: lines,
             fuse: Fuse::Whole,
         },
         rt,
-        pages: None,
+        before: None,
+        after: None,
     };
     let mut sink = ExpectingSink {
         rest: answers,
         is_same: true,
         fuse: Fuse::Whole,
     };
-    let turn = Mutex::new(());
-    let end = serve(
-        rt,
-        alloc,
-        &door,
-        &policy,
-        &stage,
-        &turn,
-        &mut pass,
-        &mut source,
-        &mut sink,
-    );
-    drop(stage);
-    drop(pass);
-    drop(door);
+    let end = end_alone(rt, alloc, &policy, true, &mut source, &mut sink);
     assert!(rt; end == Some(SessionEnd::EndOfStream));
     assert!(rt; sink.is_same && sink.rest.is_empty());
-    let after = source.pages.expect(rt, "no pages are told");
+    let before = source.before.expect(rt, "no pages are told");
+    let after = source.after.expect(rt, "no pages are told");
     after.saturating_sub(before)
 }
 

@@ -2,14 +2,13 @@
 //! had been written to the sink beside it.
 ghost use Rattle.std.specs.Prelude.{◌≡◌, map, Some};
 
-use crate::alone::{ANSWERS, LINES, door_alone};
+use crate::alone::{ANSWERS, LINES, end_alone};
 use crate::parties::wall;
-use live_session::{Desk, SessionEnd, serve};
-use rank_stage::Stage;
+use live_session::{Desk, SessionEnd};
 use std::alloc::Global;
 use std::collections::VecDeque;
 use std::process::Abort;
-use std::sync::{Mutex, Wait};
+use std::sync::Wait;
 use trial_kit::policies::ALONE;
 use wall_labels::memory::{Fuse, MemorySource};
 use wall_labels::{Failed, Sink, Source};
@@ -125,27 +124,10 @@ fn make_watched<'a, R: Abort>(rt: &'a R, alloc: Global, piece: usize) -> Watched
 // Whether a session over these pieces answers each line before it reads on.
 fn is_served_promptly<R: Abort + Wait>(rt: &R, alloc: Global, piece: usize) -> bool {
     let policy = wall(rt, alloc, ALONE);
-    let (door, mut pass) = door_alone(rt, alloc, &policy);
-    let stage = Stage::new(alloc, 1, 1024, false).expect(rt, "no stage");
-    let _ = stage.release(rt, true);
     let mut source = make_watched(rt, alloc, piece);
     let bytes = Vec::new(alloc);
     let mut sink = Kept { rt, bytes };
-    let turn = Mutex::new(());
-    let end = serve(
-        rt,
-        alloc,
-        &door,
-        &policy,
-        &stage,
-        &turn,
-        &mut pass,
-        &mut source,
-        &mut sink,
-    );
-    drop(stage);
-    drop(pass);
-    drop(door);
+    let end = end_alone(rt, alloc, &policy, true, &mut source, &mut sink);
     let answers = ANSWERS.as_bytes();
     let is_whole = end == Some(SessionEnd::EndOfStream) && sink.bytes.as_slice() == answers;
     is_whole && is_prompt(&source.reads, answers)

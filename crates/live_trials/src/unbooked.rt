@@ -1,6 +1,6 @@
 //! Sessions at a machine that is booked for a while: no reply is told from then on.
 
-use crate::devices::{Answers, Client, Due, Heard, Hold, LOOKS, hearers, new_answers, new_client};
+use crate::devices::{Answers, Client, Due, Heard, Hold, hearers, new_answers, new_client};
 use crate::machines::{booked_for, booked_till_it_settles};
 use crate::parties::wall;
 use crate::together::{Row, served_at, sound_row};
@@ -110,12 +110,7 @@ fn in_turn<'a>(
         let lines = b"post 0 barrier\nwait 0\ninfo 0\n";
         let mut source = new_client(lines, Fuse::Whole, usize::MAX, due, heard);
         if let Some(before) = before {
-            source.hold = Some(Hold {
-                call: 0,
-                count: &before.writes,
-                wanted: 1,
-                looks: LOOKS,
-            });
+            source.hold = Some(Hold::until(0, &before.writes, 1));
         }
         before = Some(heard);
         let sink = new_answers(answers, Fuse::Whole, heard);
