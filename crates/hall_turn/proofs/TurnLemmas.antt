@@ -164,8 +164,8 @@ module _ {M : Type 0} (stands : ChineseWall → M → List Entry → Type 0) whe
       × Carries stands old new call reply
       → ((new : M) → after ≡ Some new → b ≡ is_booked new)
       → (machine : M) × stands v.policy machine m5.0.seen × (b ≡ is_booked machine)
-  stood_after v m1 m2 m3 m4 m5 in_slot after call reply is_booked b policy holds slot writes declares
-      serves carries books =
+  stood_after v m1 m2 m3 m4 m5 in_slot after call reply is_booked b policy holds slot writes
+      declares serves carries books =
       let same : holds.machine ≡ carries.0 = cc (was_machine m1.0 m2 in_slot holds slot, carries.2)
       in
       let more = carries.4 v.policy holds.run

@@ -69,8 +69,9 @@ SaysOf before (Replied reply) after = SaysWhether after
 SaysOf before Exhausted after = after.settled ≡ before.settled
 
 module _ {M : Type 0} (stands : ChineseWall → M → List Entry → Type 0) (is_booked : M → Bool) where
-  -- There is the machine as it was at the end of the turn that made the newest entry which the pass
-  -- has seen: it stands for exactly what the pass has seen, and the pass says whether it was booked.
+  -- There is the machine as it was at the end of the turn that made the newest entry which the
+  -- pass has seen: it stands for exactly what the pass has seen, and the pass says whether it was
+  -- booked.
   abbrev pub SaysBooked : Known → Type 0
   SaysBooked after = (machine : M) × stands after.door.policy machine after.seen
       × (after.booked ≡ is_booked machine)

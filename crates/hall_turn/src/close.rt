@@ -33,14 +33,16 @@ pub struct UnclosedTo<M: Machine> {
 pub type Unclosed = UnclosedTo<Hall>;
 
 impl<M: Machine> DoorTo<M> {
-    /// The machine, at the end of the run of all calls that were made at the door. It takes no memory.
+    /// The machine, at the end of the run of all calls that were made at the door. It takes no
+    /// memory.
     ///
     /// `MissingPass` is answered exactly if there are fewer passes than processes; then door and
     /// passes come back as they were. The caller sees to it that the passes are of this door. It
     /// waits for nobody.
     pub fn close(self, passes: PassesTo<M>) -> Result<M, UnclosedTo<M>>
         requires { All (λ pass. pass.door ≡ self) passes.items }
-        ensures machine { IfOk result (λ machine. ClosedTo M.stands self.policy machine passes.items) }
+        ensures machine { IfOk result
+            (λ machine. ClosedTo M.stands self.policy machine passes.items) }
         ensures missing { IsErr result ↔ (length passes.items < processes self.policy) }
         ensures back { IfErr result
             (λ unclosed. (unclosed.door ≡ self) × (unclosed.passes.items ≡ passes.items)) }

@@ -107,7 +107,7 @@ impl<M: Machine + Drop> DoorTo<M> {
         DoorTo::set_up(alloc, &key, policy.processes(), machine)
     }
 
-    // The same, for whoever has a policy's value and number of processes in hand.
+    // What `over` does, for whoever has the value of a policy and the number of its processes.
     fn set_up(
         alloc: Global,
         key: &Snapshot<Policy>,

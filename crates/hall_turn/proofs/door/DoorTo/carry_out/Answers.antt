@@ -32,12 +32,12 @@ returns-clause-enters g c =
     c.requires.by ∙ ap (λ (k : Known). k.process) (sym c.pass.view_is) in
     subst (λ (d : Doorway). EntersAnd c.args.pass.now e (Tells d.policy) after) c.requires.door
     (subst (λ (k : Known). EntersAnd k e (Tells k.door.policy) after) c.pass.view_is
-    (carried g.M.Machine.stands door new_door p old.settled new.settled old.booked new.booked e Tells c.look.result (step 1 0 0 0 none) s.me
-    c.look.new.seat.me t.me refl by c.pass.invariant c.look.ensures.looks c.turn-told.ensures.turned
-    c.turn-told.ensures.tells))
+    (carried g.M.Machine.stands door new_door p old.settled new.settled old.booked new.booked e
+    Tells c.look.result (step 1 0 0 0 none) s.me c.look.new.seat.me t.me refl by c.pass.invariant
+    c.look.ensures.looks c.turn-told.ensures.turned c.turn-told.ensures.tells))
 
 pub returns-clause-settled : goal.returns-clause-settled
 returns-clause-settled g c =
     let e : Entry = entry (g.D.Deed.call c.args.deed) (g.D.Deed.reply c.turn-told.result) in
-    says_whether g.M.Machine.stands c.turn-told.new.settled e c.look.new.seat.me c.turn-told.new.seat.me
-    c.turn-told.ensures.turned c.turn-told.ensures.settled
+    says_whether g.M.Machine.stands c.turn-told.new.settled e c.look.new.seat.me
+    c.turn-told.new.seat.me c.turn-told.ensures.turned c.turn-told.ensures.settled

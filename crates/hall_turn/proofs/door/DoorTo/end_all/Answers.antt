@@ -10,7 +10,7 @@ returns g c =
     let d = c.into_turns-turns.result.table.shared.key.value in
     let same = c.into_turns-turns.ensures.policy in
     subst (λ (x : ChineseWall). ClosedTo g.M.Machine.stands x c.end.result c.args.passes.items) same
-    (closed g.M.Machine.stands d c.end.result c.args.passes.items c.gather-seat.result.me c.gather-seat.ensures.has
-    c.end.ensures
+    (closed g.M.Machine.stands d c.end.result c.args.passes.items c.gather-seat.result.me
+    c.gather-seat.ensures.has c.end.ensures
     (subst (λ (x : ChineseWall). processes x ≤ length c.args.passes.items) (sym same)
     c.requires.enough))

@@ -41,8 +41,8 @@ join_seat-requires g c =
           i.of,
       p.slots,
       omega arith,
-      joins_pass g.M.Machine.stands t.table.shared.key.value m.id m.me.0 o.id o.me.0 i.gathers.out p.out
-          i.gathers.some_part (omega arith) i.gathers.ticket p.ticket,
+      joins_pass g.M.Machine.stands t.table.shared.key.value m.id m.me.0 o.id o.me.0 i.gathers.out
+          p.out i.gathers.some_part (omega arith) i.gathers.ticket p.ticket,
     )
 
 pub loop-pass-preserved : goal.loop-pass-preserved
