@@ -18,27 +18,9 @@ use std::sync::atomic::{AtomicU64, Ordering};
 use std::sync::{Mutex, Wait};
 use std::thread;
 use std::thread::Threads;
+use trial_kit::policies::FOUR_OF_A_BANK;
 use wall_labels::Label;
 use wall_policy::Policy;
-
-/// The policy of the four.
-pub(crate) const FOUR: &str = r#"version = 1
-[[class]]
-name = "banks"
-datasets = ["alpha"]
-[[process]]
-name = "p0"
-home = "alpha"
-[[process]]
-name = "p1"
-home = "alpha"
-[[process]]
-name = "p2"
-home = "alpha"
-[[process]]
-name = "p3"
-home = "alpha"
-"#;
 
 /// How often a gate is looked through before it gives up.
 const LOOKS: u64 = 10_000_000;
@@ -355,7 +337,7 @@ fn check<R: Abort>(rt: &R, replies: &RunReplies) {
 
 /// The scripts are run under a gate, and each process has its replies.
 fn run<R: Threads + Wait + Sync + Abort, G: Gate + Sync>(rt: &R, alloc: Global, gate: &G) {
-    let policy = wall(rt, alloc, FOUR);
+    let policy = wall(rt, alloc, FOUR_OF_A_BANK);
     let scripts = scripts(rt, alloc, &policy);
     let run = run_ranks(rt, alloc, policy, scripts, gate).expect(rt, "the ranks did not run");
     check(rt, &run.replies);
@@ -466,7 +448,7 @@ fn tally<R: Threads + Wait + Sync + Abort>(rt: &R, alloc: Global) {
     let gate = Tallying {
         tries: AtomicU64::new(0),
     };
-    let policy = wall(rt, alloc, FOUR);
+    let policy = wall(rt, alloc, FOUR_OF_A_BANK);
     let scripts = twin_scripts(rt, alloc, &policy);
     let run = run_ranks(rt, alloc, policy, scripts, &gate).expect(rt, "the ranks did not run");
     drop(run);
@@ -518,7 +500,7 @@ fn no_late_take_is_tried_twice(rt: HostRuntime) {
     let gate = Tallying {
         tries: AtomicU64::new(0),
     };
-    let policy = wall(&rt, rt.alloc(), FOUR);
+    let policy = wall(&rt, rt.alloc(), FOUR_OF_A_BANK);
     let scripts = barring_scripts(&rt, rt.alloc(), &policy);
     let run = run_ranks(&rt, rt.alloc(), policy, scripts, &gate).expect(&rt, "no run");
     drop(run);

@@ -4,7 +4,7 @@ ghost use Rattle.std.specs.Prelude.{◌≡◌};
 ghost use Rattle.std.specs.List.{All};
 ghost use Rattle.run_model.specs.Known.{HasKnownLabel, ScriptsHaveKnownLabels};
 
-use crate::gates::{FOUR, nothing};
+use crate::gates::nothing;
 use crate::parties::{label, wall};
 use crate::ranks::{add, put, stands};
 use coll_routes::{Own, Signature};
@@ -17,7 +17,7 @@ use std::sync::Wait;
 use std::sync::atomic::{AtomicU64, Ordering};
 use std::thread;
 use std::thread::Threads;
-use trial_kit::policies::BANKS_AND_OIL;
+use trial_kit::policies::{BANKS_AND_OIL, FOUR_OF_A_BANK};
 use wall_labels::Label;
 use wall_policy::Policy;
 
@@ -200,7 +200,7 @@ fn scripts<R: Abort>(rt: &R, alloc: Global, policy: &Policy, play: Play) -> Scri
 fn run<R: Threads + Wait + Sync + Abort>(rt: &R, alloc: Global, gate: &Outcomes, play: Play) {
     let text = match play {
         Play::Rivals => BANKS_AND_OIL,
-        Play::Large | Play::Dups => FOUR,
+        Play::Large | Play::Dups => FOUR_OF_A_BANK,
     };
     let policy = wall(rt, alloc, text);
     let scripts = scripts(rt, alloc, &policy, play);

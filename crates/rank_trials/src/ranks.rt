@@ -107,6 +107,13 @@ fn posting<R: Abort>(rt: &R, alloc: Global, label: Label, number: i128) -> Posti
     ensures { result.label ≡ label }
 {
     let elements = Buffer::from_numbers(alloc, ElemType::Int32, &[number]).expect(rt, "no number");
+    to_sum(label, elements)
+}
+
+/// A post of these elements, of which there is one, for the sum of what all processes give.
+pub(crate) fn to_sum(label: Label, elements: Buffer) -> Posting
+    ensures { result.label ≡ label }
+{
     Posting {
         comm: 0,
         sig: Signature::Allreduce {

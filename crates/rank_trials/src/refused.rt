@@ -20,7 +20,7 @@ use std::process::Abort;
 use std::sync::Wait;
 use std::thread::Threads;
 use trial_kit::policies::BANKS_AND_OIL;
-use wall_labels::{Label, Op};
+use wall_labels::Label;
 use wall_policy::{Policy, PolicyFault, read_policy};
 
 /// What is answered, or what is answered to the same once more where this fault was.
@@ -70,17 +70,7 @@ fn posting<R: Abort>(rt: &R, alloc: Global, label: &Label, number: i128) -> Post
     let Ok(elements) = again!(Buffer::from_numbers(alloc, ElemType::Int32, &numbers), _) else {
         panic!(rt; "no elements")
     };
-    Posting {
-        comm: 0,
-        sig: Signature::Allreduce {
-            op: Op::Sum,
-            elem_type: ElemType::Int32,
-            count: 1,
-        },
-        own: Own::Plain,
-        label: *label,
-        elements,
-    }
+    ranks::to_sum(*label, elements)
 }
 
 /// The pass posts a number for the sum.
