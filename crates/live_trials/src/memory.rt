@@ -21,15 +21,13 @@ fn resident_pages<R: Files + AllocGlobal>(rt: &R) -> Option<u64> {
     word.parse::<u64>().ok()
 }
 
-/// Lines, at whose beginning and end the pages are counted.
+/// Lines, at whose end the pages are counted.
 #[derive(Drop)]
 struct Measured<'a, R> {
     lines: MemorySource<'a>,
     rt: &'a R,
-    /// How many are resident at the first read, and at the end. None where the system does not
-    /// tell.
-    before: Option<u64>,
-    after: Option<u64>,
+    /// How many are resident at the end. None where the system does not tell.
+    pages: Option<u64>,
 }
 
 impl<'a, R: Files + AllocGlobal> Desk<ExpectingSink<'a>> for Measured<'a, R> {
@@ -40,11 +38,8 @@ impl<'a, R: Files + AllocGlobal> Desk<ExpectingSink<'a>> for Measured<'a, R> {
     fn open(&self) {}
 
     fn hear(&mut self, _sink: &ExpectingSink<'a>, buffer: &mut [u8]) -> Result<usize, Failed> {
-        if self.before.is_none() {
-            self.before = resident_pages(self.rt);
-        }
         if self.lines.rest.is_empty() {
-            self.after = resident_pages(self.rt);
+            self.pages = resident_pages(self.rt);
         }
         self.lines.read(buffer)
     }
@@ -52,21 +47,21 @@ impl<'a, R: Files + AllocGlobal> Desk<ExpectingSink<'a>> for Measured<'a, R> {
     fn close(&self, _end: SessionEnd, _calls: u64) {}
 }
 
-// How many pages more are resident at the end of these lines than at the first read.
+// How many pages more are resident at the end of these lines than before there was a door.
 fn pages_more<R>(rt: &R, lines: &[u8], answers: &[u8]) -> u64
 where
     R: Files + AllocGlobal + Wait + Abort,
 {
     let alloc = rt.alloc();
     let policy = wall(rt, alloc, ALONE);
+    let before = resident_pages(rt).expect(rt, "no pages are told");
     let mut source = Measured {
         lines: MemorySource {
             rest: lines,
             fuse: Fuse::Whole,
         },
         rt,
-        before: None,
-        after: None,
+        pages: None,
     };
     let mut sink = ExpectingSink {
         rest: answers,
@@ -76,8 +71,7 @@ where
     let end = end_alone(rt, alloc, &policy, true, &mut source, &mut sink);
     assert!(rt; end == Some(SessionEnd::EndOfStream));
     assert!(rt; sink.is_same && sink.rest.is_empty());
-    let before = source.before.expect(rt, "no pages are told");
-    let after = source.after.expect(rt, "no pages are told");
+    let after = source.pages.expect(rt, "no pages are told");
     after.saturating_sub(before)
 }
 
