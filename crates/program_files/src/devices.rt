@@ -227,18 +227,24 @@ pub fn only_new() -> OpenOptions
     how
 }
 
+// The path of a file, in its system.
+#[derive(Drop)]
+struct Place<'p, R> {
+    rt: &'p R,
+    path: &'p str,
+}
+
 // Makes a file: in place of one that was there, or, where it is to be new, never.
-fn made_at<R: Files>(rt: &R, path: &str, is_new: bool) -> io::Result<R::File> {
+fn made_at<R: Files>(place: &Place<R>, is_new: bool) -> io::Result<R::File> {
     if is_new {
-        return only_new().open(rt, path);
+        return only_new().open(place.rt, place.path);
     }
-    File::create(rt, path)
+    File::create(place.rt, place.path)
 }
 
 // Writes to a file that was made, or makes it first.
 fn write_made<R: Files>(
-    rt: &R,
-    path: &str,
+    place: &Place<R>,
     is_new: bool,
     file: &mut Option<R::File>,
     bytes: &[u8],
@@ -252,7 +258,7 @@ fn write_made<R: Files>(
     match file {
         Some(made) => made.write(bytes),
         None => {
-            let mut made = made_at(rt, path, is_new)?;
+            let mut made = made_at(place, is_new)?;
             let outcome = made.write(bytes);
             *file = Some(made);
             outcome
@@ -283,7 +289,11 @@ impl<'a, R: Files, L: Ledger> Sink for FileSink<'a, R, L> {
         if bytes.is_empty() {
             return Ok(0);
         }
-        let outcome = write_made(self.rt, self.path, false, &mut self.file, bytes);
+        let place = Place {
+            rt: self.rt,
+            path: self.path,
+        };
+        let outcome = write_made(&place, false, &mut self.file, bytes);
         counted(outcome, &mut self.failures)
     }
 }
@@ -322,7 +332,11 @@ impl<'a, R: Files, L: Ledger> Sink for NewFileSink<'a, R, L> {
         if bytes.is_empty() {
             return Ok(0);
         }
-        let outcome = write_made(self.rt, self.path, true, &mut self.file, bytes);
+        let place = Place {
+            rt: self.rt,
+            path: self.path,
+        };
+        let outcome = write_made(&place, true, &mut self.file, bytes);
         counted(outcome, &mut self.failures)
     }
 }
