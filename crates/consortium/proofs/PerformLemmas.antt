@@ -9,11 +9,10 @@ use Rattle.program_commands.specs.Endings.{EndsSo}
 use Rattle.program_commands.specs.declared.earlier.Earlier.{Earlier}
 use Rattle.program_commands.specs.Continuing.{RunAfterEnds}
 use Rattle.program_commands.specs.Reporting.{ReportEnds}
-use Rattle.consortium.specs.Performing.{FileKind, FileUse, used_file, path_unopened, RunsFiles}
-use Rattle.consortium.specs.Performing.{AreListed, EarlierUse, used_earlier}
-use Rattle.consortium.specs.Performing.{Causes, ReportsFiles}
-use Rattle.program_commands.proofs.ProgramCommandsLemmas.{kept_nowhere}
-use Rattle.program_commands.proofs.ReportLemmas.{unpaged}
+use Rattle.consortium.specs.Kinds.{FileKind, Kinds, path_unopened}
+use Rattle.consortium.specs.Performing.{FileUse, used_file, RunsFiles, AreListed, EarlierUse}
+use Rattle.consortium.specs.Performing.{used_earlier, Causes, ReportsFiles}
+use Rattle.program_commands.proofs.ProgramCommandsLemmas.{kept_nowhere, unpaged}
 
 -- a device that is not opened has its path
 pub at_path : {F : Type 0} {file : Option F} {path want : Text}
@@ -69,35 +68,34 @@ all_listed kind paths i books all listed =
     (take_all i paths all) listed
 
 -- a run whose book no file was named for
-module _ {P D S O A B E : Type 0} (policies : FileKind P) (olds : FileKind D)
-    (seconds : FileKind S) (books : FileKind B) (files : RunFiles) (out : Used O) (err : Used E)
-    (status : ℕ) where
-  pub ran_bookless : (policy : FileUse policies files.policy)
-      (earlier : EarlierUse olds files.after) (script : FileUse seconds files.script)
+module _ {P D S B W O A E : Type 0} (kinds : Kinds P D S B W) (files : RunFiles) (out : Used O)
+    (err : Used E) (status : ℕ) where
+  pub ran_bookless : (policy : FileUse kinds.policies files.policy)
+      (earlier : EarlierUse kinds.listed files.after) (script : FileUse kinds.seconds files.script)
       → files.book ≡ None
-      → EndsSo (RunAfterEnds {B = A} (used_file policies policy) (used_earlier olds earlier)
-      (used_file seconds script) out None)
-      err status → RunsFiles policies olds seconds books files out err status
+      → EndsSo (RunAfterEnds {B = A} (used_file kinds.policies policy)
+      (used_earlier kinds.listed earlier) (used_file kinds.seconds script) out None)
+      err status → RunsFiles kinds files out err status
   ran_bookless policy earlier script none ended =
-      let policy' = used_file policies policy in
-      let earlier' = used_earlier olds earlier in
-      let script' = used_file seconds script in
+      let policy' = used_file kinds.policies policy in
+      let earlier' = used_earlier kinds.listed earlier in
+      let script' = used_file kinds.seconds script in
       let run = kept_nowhere policy' earlier' script' out ended.0 {A = A} {B = B} ended.1 in
       rw none (policy, earlier, script, tt, (ended.0, run, ended.2, ended.3))
 
 -- a report whose page no file was named for
-module _ {P D S O A B E : Type 0} (policies : FileKind P) (olds : FileKind D)
-    (seconds : FileKind S) (pages : FileKind B) (files : ReportFiles) (out : Used O)
-    (err : Used E) (status : ℕ) where
-  pub reported_unpaged : (policy : FileUse policies files.policy)
-      (earlier : EarlierUse olds files.after) (book : FileUse seconds files.book)
+module _ {P D S B W O A E : Type 0} (kinds : Kinds P D S B W) (files : ReportFiles)
+    (out : Used O) (err : Used E) (status : ℕ) where
+  pub reported_unpaged : (policy : FileUse kinds.policies files.policy)
+      (earlier : EarlierUse kinds.listed files.after) (book : FileUse kinds.seconds files.book)
       (causes : Causes P D S) → files.html ≡ None
       → EndsSo (ReportEnds {W = A} files.policy (causes.of_policy policy.new)
-      (used_file policies policy) causes.of_listed (used_earlier olds earlier)
-      files.book (causes.of_second book.new) (used_file seconds book) out None)
-      err status → ReportsFiles policies olds seconds pages files out err status
+      (used_file kinds.policies policy) causes.of_listed (used_earlier kinds.listed earlier)
+      files.book (causes.of_second book.new) (used_file kinds.seconds book) out None)
+      err status → ReportsFiles kinds files out err status
   reported_unpaged policy earlier book causes none ended =
-      let report = unpaged files.policy (causes.of_policy policy.new) (used_file policies policy)
-      causes.of_listed (used_earlier olds earlier) files.book (causes.of_second book.new)
-      (used_file seconds book) out ended.0 {A = A} {W = B} ended.1 in
+      let report = unpaged files.policy (causes.of_policy policy.new)
+      (used_file kinds.policies policy) causes.of_listed (used_earlier kinds.listed earlier)
+      files.book (causes.of_second book.new) (used_file kinds.seconds book) out ended.0
+      {A = A} {W = B} ended.1 in
       rw none (policy, earlier, book, tt, causes, (ended.0, report, ended.2, ended.3))

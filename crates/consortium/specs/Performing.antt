@@ -19,6 +19,7 @@ use Rattle.program_words.specs.declared.usage.TheConstants.{VERSION}
 use Rattle.consortium.specs.declared.commands.LivePaths.{LivePaths}
 use Rattle.consortium.specs.declared.commands.Performed.{Performed}
 use Rattle.consortium.specs.declared.commands.Performed.TheVariants as performs
+use Rattle.consortium.specs.Kinds.{FileKind, Kinds}
 use Rattle.consortium.specs.declared.serving.Outcome.{Outcome}
 use Rattle.consortium.specs.declared.serving.Outcome.TheVariants as outcomes
 use Rattle.program_commands.specs.Earlier.{EarlierBooks, earlier_books}
@@ -32,25 +33,6 @@ use Rattle.program_files.specs.declared.cause.Cause.{Cause}
 abbrev pub refusal_ending : ArgFault → Ending
 refusal_ending refusals.BadArguments = BadArguments
 refusal_ending refusals.NoMemory = NoMemory
-
--- Devices over files, of one type: how many of its calls failed, its bytes where they are known,
--- and its path where its file is still to be opened; and how many failures such a device begins
--- with.
-pub record FileKind (D : Type 0) : Type 0 where
-  pub failures : D → ℕ
-  pub bytes : D → Option (List ℕ)
-  pub unopened : D → Option Text
-  pub before : ℕ
-
-abbrev pub file_kind : {D : Type 0} → (D → ℕ) → (D → Option (List ℕ))
-    → (D → Option Text) → (before : ℕ) → FileKind D
-file_kind failures bytes unopened before =
-    record { failures = failures; bytes = bytes; unopened = unopened; before = before }
-
--- the path of a device whose file is not opened
-abbrev pub path_unopened : {F : Type 0} → Text → Option F → Option Text
-path_unopened path None = Some path
-path_unopened path (Some file) = None
 
 -- a device for the file at this path, before the file was opened and after its use
 pub record FileUse {D : Type 0} (kind : FileKind D) (path : Text) : Type 0 where
@@ -115,63 +97,63 @@ pub record Causes (P D S : Type 0) : Type 0 where
   pub of_second : S → Option Cause
 
 -- a replay of these files, with this status
-abbrev pub ReplaysFiles : {P D S B O E : Type 0} → FileKind P → FileKind D → FileKind S
-    → FileKind B → ReplayFiles → Used O → Used E → (status : ℕ) → Type 0
-ReplaysFiles policies olds seconds books files out err status =
-    (policy : FileUse policies files.policy) × (earlier : EarlierUse olds files.after)
-    × (script : FileUse seconds files.script) × (book : BookUse books files.book)
-    × EndsSo (ReplayAfterEnds (used_file policies policy) (used_earlier olds earlier)
-    (used_file seconds script) out (used_book books files.book book)) err status
+abbrev pub ReplaysFiles : {P D S B W O E : Type 0} → Kinds P D S B W → ReplayFiles → Used O
+    → Used E → (status : ℕ) → Type 0
+ReplaysFiles kinds files out err status = (policy : FileUse kinds.policies files.policy)
+    × (earlier : EarlierUse kinds.listed files.after)
+    × (script : FileUse kinds.seconds files.script) × (book : BookUse kinds.books files.book)
+    × EndsSo (ReplayAfterEnds (used_file kinds.policies policy)
+    (used_earlier kinds.listed earlier) (used_file kinds.seconds script) out
+    (used_book kinds.books files.book book)) err status
 
 -- a run of these files, with this status
-abbrev pub RunsFiles : {P D S B O E : Type 0} → FileKind P → FileKind D → FileKind S
-    → FileKind B → RunFiles → Used O → Used E → (status : ℕ) → Type 0
-RunsFiles policies olds seconds books files out err status =
-    (policy : FileUse policies files.policy) × (earlier : EarlierUse olds files.after)
-    × (script : FileUse seconds files.script) × (book : BookUse books files.book)
-    × EndsSo (RunAfterEnds (used_file policies policy) (used_earlier olds earlier)
-    (used_file seconds script) out (used_book books files.book book)) err status
+abbrev pub RunsFiles : {P D S B W O E : Type 0} → Kinds P D S B W → RunFiles → Used O → Used E
+    → (status : ℕ) → Type 0
+RunsFiles kinds files out err status = (policy : FileUse kinds.policies files.policy)
+    × (earlier : EarlierUse kinds.listed files.after)
+    × (script : FileUse kinds.seconds files.script) × (book : BookUse kinds.books files.book)
+    × EndsSo (RunAfterEnds (used_file kinds.policies policy) (used_earlier kinds.listed earlier)
+    (used_file kinds.seconds script) out (used_book kinds.books files.book book)) err status
 
 -- an audit of these files, with this status
-abbrev pub AuditsFiles : {P D S O E : Type 0} → FileKind P → FileKind D → FileKind S
-    → AuditFiles → Used O → Used E → (status : ℕ) → Type 0
-AuditsFiles policies olds seconds files out err status =
-    (policy : FileUse policies files.policy) × (earlier : EarlierUse olds files.after)
-    × (book : FileUse seconds files.book)
-    × EndsSo (AuditAfterEnds (used_file policies policy) (used_earlier olds earlier)
-    (used_file seconds book) out) err status
+abbrev pub AuditsFiles : {P D S B W O E : Type 0} → Kinds P D S B W → AuditFiles → Used O
+    → Used E → (status : ℕ) → Type 0
+AuditsFiles kinds files out err status = (policy : FileUse kinds.policies files.policy)
+    × (earlier : EarlierUse kinds.listed files.after) × (book : FileUse kinds.seconds files.book)
+    × EndsSo (AuditAfterEnds (used_file kinds.policies policy) (used_earlier kinds.listed earlier)
+    (used_file kinds.seconds book) out) err status
 
 -- a seal of these files, with this status
-abbrev pub SealsFiles : {P D S W O E : Type 0} → FileKind P → FileKind D → FileKind S
-    → FileKind W → SealFiles → Used O → Used E → (status : ℕ) → Type 0
-SealsFiles policies olds seconds seals files out err status =
-    (policy : FileUse policies files.policy) × (earlier : EarlierUse olds files.after)
-    × (book : FileUse seconds files.book) × (sealed : FileUse seals files.out)
-    × EndsSo (SealEnds (used_file policies policy) (used_earlier olds earlier)
-    (used_file seconds book) (used_file seals sealed) out) err status
+abbrev pub SealsFiles : {P D S B W O E : Type 0} → Kinds P D S B W → SealFiles → Used O → Used E
+    → (status : ℕ) → Type 0
+SealsFiles kinds files out err status = (policy : FileUse kinds.policies files.policy)
+    × (earlier : EarlierUse kinds.listed files.after) × (book : FileUse kinds.seconds files.book)
+    × (sealed : FileUse kinds.seals files.out)
+    × EndsSo (SealEnds (used_file kinds.policies policy) (used_earlier kinds.listed earlier)
+    (used_file kinds.seconds book) (used_file kinds.seals sealed) out) err status
 
 -- a report on these files, with this status, and its page, where one is asked for
-abbrev pub ReportsFiles : {P D S B O E : Type 0} → FileKind P → FileKind D → FileKind S
-    → FileKind B → ReportFiles → Used O → Used E → (status : ℕ) → Type 0
-ReportsFiles {P} {D} {S} policies olds seconds pages files out err status =
-    (policy : FileUse policies files.policy) × (earlier : EarlierUse olds files.after)
-    × (book : FileUse seconds files.book) × (page : BookUse pages files.html)
-    × (causes : Causes P D S)
-    × EndsSo (ReportEnds files.policy (causes.of_policy policy.new) (used_file policies policy)
-    causes.of_listed (used_earlier olds earlier)
-    files.book (causes.of_second book.new) (used_file seconds book)
-    out (used_book pages files.html page)) err status
+abbrev pub ReportsFiles : {P D S B W O E : Type 0} → Kinds P D S B W → ReportFiles → Used O
+    → Used E → (status : ℕ) → Type 0
+ReportsFiles {P} {D} {S} kinds files out err status =
+    (policy : FileUse kinds.policies files.policy)
+    × (earlier : EarlierUse kinds.listed files.after) × (book : FileUse kinds.seconds files.book)
+    × (page : BookUse kinds.books files.html) × (causes : Causes P D S)
+    × EndsSo (ReportEnds files.policy (causes.of_policy policy.new)
+    (used_file kinds.policies policy) causes.of_listed (used_earlier kinds.listed earlier)
+    files.book (causes.of_second book.new) (used_file kinds.seconds book)
+    out (used_book kinds.books files.html page)) err status
 
 -- a check of these files, with this status
-abbrev pub ChecksFiles : {P D O E : Type 0} → FileKind P → FileKind D → CheckFiles → Used O
+abbrev pub ChecksFiles : {P D S B W O E : Type 0} → Kinds P D S B W → CheckFiles → Used O
     → Used E → (status : ℕ) → Type 0
-ChecksFiles {P} {D} policies others files out err status =
-    (policy : FileUse policies files.policy) × (script : UseIfAny others files.script)
-    × (book : UseIfAny others files.book) × (causes : Causes P D D)
+ChecksFiles {P} {D} kinds files out err status = (policy : FileUse kinds.policies files.policy)
+    × (script : UseIfAny kinds.listed files.script) × (book : UseIfAny kinds.listed files.book)
+    × (causes : Causes P D D)
     × EndsSo (CheckEnds files.policy (unwrap_or files.script []) (unwrap_or files.book [])
-    (used_file policies policy) (causes.of_policy policy.new)
-    (used_if_any others causes.of_listed script) (used_if_any others causes.of_second book) out)
-    err status
+    (used_file kinds.policies policy) (causes.of_policy policy.new)
+    (used_if_any kinds.listed causes.of_listed script)
+    (used_if_any kinds.listed causes.of_second book) out) err status
 
 -- nothing was done but to tell this ending
 abbrev pub Declines : {O E : Type 0} → Ending → Used O → Used E → (status : ℕ) → Type 0
@@ -186,6 +168,10 @@ TellsText None out err status = Declines BadArguments out err status
 abbrev pub TellsUsage : {O E : Type 0} → (command : Option Text) → Used O → Used E
     → (status : ℕ) → Type 0
 TellsUsage command out err status = TellsText (usage_of command) out err status
+
+-- its version
+abbrev pub TellsVersion : {O E : Type 0} → Used O → Used E → (status : ℕ) → Type 0
+TellsVersion out err status = TellsText (Some VERSION.now) out err status
 
 -- the files of a server, as they are kept
 abbrev pub live_files : LivePaths → ServeFiles
@@ -205,35 +191,31 @@ OrNoMemory done out err status = done out err status ⊎ Declines NoMemory out e
 -- What was asked for was done, over a device for each file that it names, or memory ran out
 -- before. Where nothing was asked for, the words are bad, or memory ran out. (To serve is not done
 -- here.)
-abbrev pub IsDone : {P D S B W O E : Type 0} → FileKind P → FileKind D → FileKind S → FileKind B
-    → FileKind W → Option Asked → Used O → Used E → (status : ℕ) → Type 0
-IsDone policies olds seconds books seals None out err status =
-    OrNoMemory (Declines BadArguments) out err status
-IsDone policies olds seconds books seals (Some (to_replay files)) out err status =
-    OrNoMemory (ReplaysFiles policies olds seconds books files) out err status
-IsDone policies olds seconds books seals (Some (to_run files)) out err status =
-    OrNoMemory (RunsFiles policies olds seconds books files) out err status
-IsDone policies olds seconds books seals (Some (to_audit files)) out err status =
-    OrNoMemory (AuditsFiles policies olds seconds files) out err status
-IsDone policies olds seconds books seals (Some (to_seal files)) out err status =
-    OrNoMemory (SealsFiles policies olds seconds seals files) out err status
-IsDone policies olds seconds books seals (Some (to_report files)) out err status =
-    OrNoMemory (ReportsFiles policies olds seconds books files) out err status
-IsDone policies olds seconds books seals (Some (to_check files)) out err status =
-    OrNoMemory (ChecksFiles policies olds files) out err status
-IsDone policies olds seconds books seals (Some (to_usage command)) out err status =
+abbrev pub IsDone : {P D S B W O E : Type 0} → Kinds P D S B W → Option Asked → Used O → Used E
+    → (status : ℕ) → Type 0
+IsDone kinds None out err status = OrNoMemory (Declines BadArguments) out err status
+IsDone kinds (Some (to_replay files)) out err status =
+    OrNoMemory (ReplaysFiles kinds files) out err status
+IsDone kinds (Some (to_run files)) out err status =
+    OrNoMemory (RunsFiles kinds files) out err status
+IsDone kinds (Some (to_audit files)) out err status =
+    OrNoMemory (AuditsFiles kinds files) out err status
+IsDone kinds (Some (to_seal files)) out err status =
+    OrNoMemory (SealsFiles kinds files) out err status
+IsDone kinds (Some (to_report files)) out err status =
+    OrNoMemory (ReportsFiles kinds files) out err status
+IsDone kinds (Some (to_check files)) out err status =
+    OrNoMemory (ChecksFiles kinds files) out err status
+IsDone kinds (Some (to_usage command)) out err status =
     OrNoMemory (TellsUsage command) out err status
-IsDone policies olds seconds books seals (Some to_version) out err status =
-    OrNoMemory (TellsText (Some VERSION.now)) out err status
-IsDone policies olds seconds books seals (Some (to_serve files)) out err status =
-    Declines NoMemory out err status
+IsDone kinds (Some to_version) out err status = OrNoMemory TellsVersion out err status
+IsDone kinds (Some (to_serve files)) out err status = Declines NoMemory out err status
 
 -- It is done, with this status; or it is to serve live, by these files, and nothing is done yet.
-abbrev pub Performs : {P D S B W O E : Type 0} → FileKind P → FileKind D → FileKind S → FileKind B
-    → FileKind W → Option Asked → Used O → Used E → Performed → Type 0
-Performs policies olds seconds books seals asked out err (performs.Ended status) =
-    IsDone policies olds seconds books seals asked out err status
-Performs policies olds seconds books seals asked out err (performs.ToServe paths) =
+abbrev pub Performs : {P D S B W O E : Type 0} → Kinds P D S B W → Option Asked → Used O → Used E
+    → Performed → Type 0
+Performs kinds asked out err (performs.Ended status) = IsDone kinds asked out err status
+Performs kinds asked out err (performs.ToServe paths) =
     (asked ≡ Some (to_serve (live_files paths))) × IsUntouched out × IsUntouched err
 
 -- What was performed, or refused, becomes of the command line: the status is that of what was done,

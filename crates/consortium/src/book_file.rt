@@ -3,7 +3,7 @@
 //!
 //! That the file is new, that it is locked, and that what was synced outlives the machine, no
 //! contract can say. `tests/live` looks at the first two, with the built program.
-ghost use Rattle.std.specs.Prelude.{◌≡◌, Ok};
+ghost use Rattle.consortium.specs.Kinds.{Opens};
 
 use live_book::BookSink;
 use program_commands::{Ending, Unready, end, refuse};
@@ -23,6 +23,12 @@ pub(crate) struct NewBook<'a> {
     pub(crate) is_synced: bool,
 }
 
+/// The same with a new ledger for its failures.
+pub(crate) struct CountedBook<'a> {
+    pub(crate) book: NewBook<'a>,
+    pub(crate) blank: Blank,
+}
+
 /// The book's file, while a server writes to it.
 #[derive(Drop)]
 pub(crate) struct BookFile<'a, L: Ledger> {
@@ -32,11 +38,10 @@ pub(crate) struct BookFile<'a, L: Ledger> {
 
 impl<'a, L: Ledger> BookFile<'a, L> {
     /// To be written to this file.
-    pub(crate) fn new(book: NewBook<'a>, blank: Blank) -> BookFile<'a, L>
-        requires name { blank.name ≡ L.name }
-        requires parts { blank.parts ≡ L.parts }
-        requires one { blank.parts ≡ 1 }
+    pub(crate) fn new(counted: CountedBook<'a>) -> BookFile<'a, L>
+        requires { Opens counted.blank L.name L.parts }
     {
+        let CountedBook { book, blank } = counted;
         let NewBook {
             files,
             path,

@@ -1,13 +1,25 @@
 //! The devices of a command, for files that are opened at their first use.
 ghost use Rattle.std.specs.Prelude.{◌≡◌, None, map, option_map, IfOk, false};
-ghost use Rattle.consortium.specs.Performing.{file_kind, path_unopened, AreListed, IsListedIfAny};
+ghost use Rattle.consortium.specs.Kinds.{listed_kind};
+ghost use Rattle.consortium.specs.Performing.{AreListed, IsListedIfAny};
 
 use program_commands::Earlier;
 use program_files::{Count, FileSink, FileSource, ListedFile, NewFileSink};
 use std::alloc::{AllocError, Global};
 use std::rt::Files;
 use std::sync::ledger::Ledger;
-use wall_labels::Source;
+
+/// The files of a system, and the counts of what fails at those of a command.
+#[derive(Drop)]
+pub struct CountedFiles<'a, F: Files, P: Ledger, S: Ledger, B: Ledger> {
+    pub files: &'a F,
+    /// At its policy.
+    pub policy: Count<P>,
+    /// At its script, or at the book that it audits or seals.
+    pub second: Count<S>,
+    /// At the book that it writes.
+    pub kept: Count<B>,
+}
 
 /// Readers for earlier books at these paths, in order.
 pub(crate) fn listed<'a, F: Files>(
@@ -15,10 +27,8 @@ pub(crate) fn listed<'a, F: Files>(
     files: &'a F,
     paths: &[&'a str],
 ) -> Result<Vec<Earlier<'a, ListedFile<'a, F>>>, AllocError>
-    ensures { let earlier = file_kind ⟦<ListedFile<'a, F> as Source>⟧.failures
-        ⟦<ListedFile<'a, F> as Source>⟧.remaining
-        (λ d. path_unopened d.path.now d.file) 0 in
-        IfOk result (λ books. AreListed earlier (map (λ p. p.now) paths.now) books.items) }
+    ensures { IfOk result (λ books.
+        AreListed listed_kind (map (λ p. p.now) paths.now) books.items) }
 {
     let mut books = Vec::new(alloc);
     for path in paths {
@@ -57,10 +67,7 @@ pub(crate) fn listed_if_any<'a, F: Files>(
     files: &'a F,
     path: Option<&'a str>,
 ) -> Option<ListedFile<'a, F>>
-    ensures { let kind = file_kind ⟦<ListedFile<'a, F> as Source>⟧.failures
-        ⟦<ListedFile<'a, F> as Source>⟧.remaining
-        (λ d. path_unopened d.path.now d.file) 0 in
-        IsListedIfAny kind (option_map (λ p. p.now) path.entry) result }
+    ensures { IsListedIfAny listed_kind (option_map (λ p. p.now) path.entry) result }
 {
     match path {
         Some(path) => Some(listed_at(files, path)),

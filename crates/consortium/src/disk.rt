@@ -71,10 +71,6 @@ pub struct Disk<'a> {
     pub open: Cell<u64>,
 }
 
-fn refused() -> io::Error {
-    io::Error::from(ErrorKind::Other)
-}
-
 impl<'a> Disk<'a> {
     // One more call at this file; the last one fails.
     fn turn(&self, name: Name) -> io::Result<()> {
@@ -164,6 +160,10 @@ impl<'a> Disk<'a> {
             Err(_) => Err(refused()),
         }
     }
+}
+
+fn refused() -> io::Error {
+    io::Error::from(ErrorKind::Other)
 }
 
 // Whether it asks for a file in place of one that was there.

@@ -1,183 +1,117 @@
 //! The commands that look at files and write to their output alone.
-ghost use Rattle.std.specs.Prelude.{option_map, Some};
-ghost use Rattle.hall_script.specs.Devices.{used};
-ghost use Rattle.program_commands.specs.Earlier.{earlier_books};
-ghost use Rattle.program_commands.specs.Endings.{EndsSo};
-ghost use Rattle.program_commands.specs.Reporting.{ReportEnds};
+ghost use Rattle.std.specs.Prelude.{option_map};
+ghost use Rattle.program_commands.specs.Using.{out_stream, err_stream};
 ghost use Rattle.program_words.specs.Grammar.{report_files, check_files};
-ghost use Rattle.consortium.specs.Performing.{file_kind, path_unopened, OrNoMemory};
-ghost use Rattle.consortium.specs.Performing.{ReportsFiles, ChecksFiles, TellsUsage};
+ghost use Rattle.consortium.specs.Kinds.{kinds_of};
+ghost use Rattle.consortium.specs.Performing.{OrNoMemory, ReportsFiles, ChecksFiles};
+ghost use Rattle.consortium.specs.Performing.{TellsUsage, TellsVersion};
 
-use crate::commands::Counts;
-use crate::devices::{listed, listed_if_any, unmade, unopened};
-use program_commands::{Earlier, Ending, check_on, end, report_on, text_on};
-use program_files::{Explains, FileSink, FileSource, ListedFile};
-use program_words::{CheckPaths, ReportPaths, usage_text};
+use crate::devices::{CountedFiles, listed, listed_if_any, unmade, unopened};
+use program_commands::{
+    CheckFiles, Devices, Ending, ReportFiles, Streams, check_on, end, report_on, text_on,
+};
+use program_words::{CheckPaths, ReportPaths, VERSION, usage_text};
 use std::alloc::Global;
 use std::rt::Files;
 use std::sync::ledger::Ledger;
-use wall_labels::{Sink, Source};
+use wall_labels::Sink;
 
 /// A report on the files that the words name.
 pub(crate) fn report_files<'a, F: Files, P: Ledger, S: Ledger, B: Ledger, O: Sink, E: Sink>(
     alloc: Global,
-    files: &'a F,
+    files: CountedFiles<'a, F, P, S, B>,
     paths: ReportPaths<'a>,
-    counts: Counts<P, S, B>,
-    out: &mut O,
-    err: &mut E,
+    streams: Streams<O, E>,
 ) -> u8
-    ensures { let policies = file_kind ⟦<FileSource<'a, F, P> as Source>⟧.failures
-        ⟦<FileSource<'a, F, P> as Source>⟧.remaining
-        (λ d. path_unopened d.path.now d.file) counts.policy in
-        let earlier = file_kind ⟦<ListedFile<'a, F> as Source>⟧.failures
-        ⟦<ListedFile<'a, F> as Source>⟧.remaining
-        (λ d. path_unopened d.path.now d.file) 0 in
-        let seconds = file_kind ⟦<FileSource<'a, F, S> as Source>⟧.failures
-        ⟦<FileSource<'a, F, S> as Source>⟧.remaining
-        (λ d. path_unopened d.path.now d.file) counts.second in
-        let pages = file_kind ⟦<FileSink<'a, F, B> as Sink>⟧.failures
-        ⟦<FileSink<'a, F, B> as Sink>⟧.contents
-        (λ d. path_unopened d.path.now d.file) counts.kept in
-        let outs = used O.failures O.contents out.old out.new in
-        let errs = used E.failures E.contents err.old err.new in
-        OrNoMemory (ReportsFiles policies earlier seconds pages (report_files paths.entry))
-        outs errs result }
+    ensures { let kinds = kinds_of F.File.remaining F.File.contents files.entry in
+        OrNoMemory (ReportsFiles kinds (report_files paths.entry))
+        (out_stream O.failures O.contents streams.entry streams.exit)
+        (err_stream E.failures E.contents streams.entry streams.exit)
+        result }
 {
-    let Counts {
+    let CountedFiles {
+        files,
         policy,
         second,
         kept,
-    } = counts;
+    } = files;
+    let Streams { out, err } = streams;
     let Ok(earlier) = listed(alloc, files, &paths.after) else {
         return end(err, Ending::NoMemory);
     };
     let mut policy = unopened(files, paths.policy, policy);
     let mut book = unopened(files, paths.book, second);
+    let devices = Devices {
+        policy: &mut policy,
+        subject: &mut book,
+        out,
+        err,
+    };
+    let named = ReportFiles {
+        policy_path: paths.policy,
+        earlier,
+        book_path: paths.book,
+    };
     match paths.html {
         Some(path) => {
             let mut page = unmade(files, path, kept);
-            report_to(
-                alloc,
-                &mut policy,
-                paths.policy,
-                earlier,
-                &mut book,
-                paths.book,
-                out,
-                err,
-                &mut page,
-            )
+            report_on(alloc, devices, named, Some(&mut page))
         }
-        None => {
-            let (policy, book) = (&mut policy, &mut book);
-            report_on::<_, _, _, _, _, O>(
-                alloc,
-                policy,
-                paths.policy,
-                earlier,
-                book,
-                paths.book,
-                out,
-                err,
-                None,
-            )
-        }
+        None => report_on::<_, _, _, _, _, O>(alloc, devices, named, None),
     }
-}
-
-fn report_to<
-    P: Source + Explains,
-    D: Source + Explains + Drop,
-    B: Source + Explains,
-    O: Sink,
-    E: Sink,
-    W: Sink,
->(
-    alloc: Global,
-    policy: &mut P,
-    policy_path: &str,
-    earlier: Vec<Earlier<D>>,
-    book: &mut B,
-    path: &str,
-    out: &mut O,
-    err: &mut E,
-    page: &mut W,
-) -> u8
-    ensures { EndsSo
-        (ReportEnds
-        policy_path.now (P.cause policy.new)
-        (used P.failures P.remaining policy.old policy.new)
-        D.cause (earlier_books D.failures D.remaining earlier.entry.items)
-        path.now (B.cause book.new)
-        (used B.failures B.remaining book.old book.new)
-        (used O.failures O.contents out.old out.new)
-        (Some (used W.failures W.contents page.old page.new)))
-        (used E.failures E.contents err.old err.new)
-        result }
-{
-    report_on(
-        alloc,
-        policy,
-        policy_path,
-        earlier,
-        book,
-        path,
-        out,
-        err,
-        Some(page),
-    )
 }
 
 /// A check of the files that the words name.
 pub(crate) fn check_files<'a, F: Files, P: Ledger, S: Ledger, B: Ledger, O: Sink, E: Sink>(
     alloc: Global,
-    files: &'a F,
+    files: CountedFiles<'a, F, P, S, B>,
     paths: CheckPaths<'a>,
-    counts: Counts<P, S, B>,
-    out: &mut O,
-    err: &mut E,
+    streams: Streams<O, E>,
 ) -> u8
-    ensures { let policies = file_kind ⟦<FileSource<'a, F, P> as Source>⟧.failures
-        ⟦<FileSource<'a, F, P> as Source>⟧.remaining
-        (λ d. path_unopened d.path.now d.file) counts.policy in
-        let others = file_kind ⟦<ListedFile<'a, F> as Source>⟧.failures
-        ⟦<ListedFile<'a, F> as Source>⟧.remaining
-        (λ d. path_unopened d.path.now d.file) 0 in
-        ChecksFiles policies others (check_files paths.entry)
-        (used O.failures O.contents out.old out.new)
-        (used E.failures E.contents err.old err.new)
+    ensures { let kinds = kinds_of F.File.remaining F.File.contents files.entry in
+        ChecksFiles kinds (check_files paths.entry)
+        (out_stream O.failures O.contents streams.entry streams.exit)
+        (err_stream E.failures E.contents streams.entry streams.exit)
         result }
 {
-    let Counts { policy, .. } = counts;
+    let CountedFiles { files, policy, .. } = files;
     let mut policy = unopened(files, paths.policy, policy);
     let script = listed_if_any(files, paths.script);
     let book = listed_if_any(files, paths.book);
-    let path = paths.script.unwrap_or("");
+    let script_path = paths.script.unwrap_or("");
     let book_path = paths.book.unwrap_or("");
-    check_on(
-        alloc,
-        &mut policy,
-        paths.policy,
-        path,
+    let named = CheckFiles {
+        policy_path: paths.policy,
+        script_path,
         script,
         book_path,
         book,
-        out,
-        err,
-    )
+    };
+    check_on(alloc, &mut policy, named, streams)
 }
 
 /// Tells how the program is used, or the command of this name; where there is none, the words are
 /// bad.
-pub(crate) fn tell_usage<O: Sink, E: Sink>(command: Option<&str>, out: &mut O, err: &mut E) -> u8
+pub(crate) fn tell_usage<O: Sink, E: Sink>(command: Option<&str>, streams: Streams<O, E>) -> u8
     ensures { TellsUsage (option_map (λ c. c.now) command.entry)
-        (used O.failures O.contents out.old out.new)
-        (used E.failures E.contents err.old err.new)
+        (out_stream O.failures O.contents streams.entry streams.exit)
+        (err_stream E.failures E.contents streams.entry streams.exit)
         result }
 {
+    let Streams { out, err } = streams;
     match usage_text(command) {
         Some(text) => text_on(text.as_bytes(), out, err),
         None => end(err, Ending::BadArguments),
     }
+}
+
+/// Tells the version of the program.
+pub(crate) fn tell_version<O: Sink, E: Sink>(streams: Streams<O, E>) -> u8
+    ensures { TellsVersion
+        (out_stream O.failures O.contents streams.entry streams.exit)
+        (err_stream E.failures E.contents streams.entry streams.exit)
+        result }
+{
+    let Streams { out, err } = streams;
+    text_on(VERSION.as_bytes(), out, err)
 }

@@ -22,13 +22,14 @@ mod pipes;
 mod server;
 mod serving;
 
-pub use commands::{Counts, LivePaths, Performed, perform};
+pub use commands::{LivePaths, Performed, perform};
+pub use devices::CountedFiles;
 pub use program_commands::{
     audit_after, audit_on, check_on, read_wall_after, replay_after, replay_on, report_on,
     run_after, run_on, seal_on, serve_on,
 };
 pub use program_words::read_words;
-use server::serve_live;
+use server::{ServerBlanks, System, serve_live};
 use serving::{Blanks, Outcome, Served, serve};
 use std::io::{Stderr, Stdout};
 use std::marker::Brand;
@@ -68,11 +69,16 @@ fn main(rt: HostRuntime) -> Served {
     match outcome {
         Outcome::Ended(served) => served,
         Outcome::ToServe(paths) => {
-            let (out, err) = (rt.stdout(), rt.stderr());
-            let (read, told) = (Blank::new(1), Blank::new(1));
-            Served::with(serve_live::<HostRuntime, Brand, Brand>(
-                &rt, &rt, out, err, &paths, read, told,
-            ))
+            let system = System {
+                files: &rt,
+                out: rt.stdout(),
+                err: rt.stderr(),
+            };
+            let blanks = ServerBlanks {
+                policy: Blank::new(1),
+                err: Blank::new(1),
+            };
+            Served::with(serve_live::<HostRuntime, Brand, Brand>(&rt, system, &paths, blanks))
         }
     }
 }

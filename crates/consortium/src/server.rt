@@ -1,9 +1,9 @@
 //! The server: the processes of a policy, served at their named pipes.
 //!
 //! What the sessions come to says the contract of `serve_on`; the pipes, and so this, have none.
-ghost use Rattle.std.specs.Prelude.{◌≡◌};
+ghost use Rattle.consortium.specs.Kinds.{Opens};
 
-use crate::book_file::{BookFile, NewBook, new_file};
+use crate::book_file::{BookFile, CountedBook, NewBook, new_file};
 use crate::commands::LivePaths;
 use crate::desk::{desks_at, peers_at};
 use crate::devices::listed;
@@ -25,51 +25,67 @@ use wall_policy::Policy;
 // The status where a write failed.
 const WRITE_FAULT: u8 = 3;
 
+/// The system of a server: its files, and its streams.
+pub(crate) struct System<'a> {
+    pub(crate) files: &'a HostRuntime,
+    pub(crate) out: Stdout,
+    pub(crate) err: Stderr,
+}
+
+/// A new ledger for the failures of each device of a server's own.
+pub(crate) struct ServerBlanks {
+    pub(crate) policy: Blank,
+    pub(crate) err: Blank,
+}
+
 /// Serves the processes of a policy at their pipes until all have left, and gives the status. Its
 /// events go to standard output, and the line of a fault to standard error.
 pub(crate) fn serve_live<R, P: Ledger, E: Ledger>(
     rt: &R,
-    files: &HostRuntime,
-    out: Stdout,
-    err: Stderr,
+    system: System,
     paths: &LivePaths,
-    read: Blank,
-    told: Blank,
+    blanks: ServerBlanks,
 ) -> u8
 where
     R: AllocGlobal + Threads + Wait + Sync,
-    requires read { (read.name ≡ P.name) × (read.parts ≡ P.parts) × (read.parts ≡ 1) }
-    requires told { (told.name ≡ E.name) × (told.parts ≡ E.parts) × (told.parts ≡ 1) }
+    requires policy { Opens blanks.policy P.name P.parts }
+    requires err { Opens blanks.err E.name E.parts }
 {
+    let System { files, out, err } = system;
+    let ServerBlanks { policy, err: told } = blanks;
     let mut err = StreamSink {
         stream: err,
         failures: Count::<E>::new(told),
     };
-    let policy = match policy_at::<P>(rt.alloc(), files, paths, read) {
+    let policy = match policy_at::<P>(rt.alloc(), files, paths, policy) {
         Ok(policy) => policy,
         Err(ending) => return end(&mut err, ending),
     };
-    let server = PipeServer { files, out };
-    let status = server.serve_under(rt, &policy, paths, &mut err);
+    let server = PipeServer {
+        rt,
+        files,
+        out,
+        paths,
+    };
+    let status = server.serve_under(&policy, &mut err);
     drop(policy);
     status
 }
 
 // The pipes of the system, and where events go.
 #[derive(Drop)]
-struct PipeServer<'a> {
+struct PipeServer<'a, R> {
+    rt: &'a R,
     files: &'a HostRuntime,
     out: Stdout,
+    paths: &'a LivePaths,
 }
 
-impl<'a> PipeServer<'a> {
+impl<'a, R: AllocGlobal + Threads + Wait + Sync> PipeServer<'a, R> {
     // Looks at the pipes, and serves at them if none is amiss.
-    fn serve_under<R, E: Sink>(&self, rt: &R, policy: &Policy, paths: &LivePaths, err: &mut E) -> u8
-    where
-        R: AllocGlobal + Threads + Wait + Sync,
-    {
-        let alloc = rt.alloc();
-        let Ok(all) = pipes_in(alloc, policy, &paths.pipes) else {
+    fn serve_under<E: Sink>(&self, policy: &Policy, err: &mut E) -> u8 {
+        let alloc = self.rt.alloc();
+        let Ok(all) = pipes_in(alloc, policy, &self.paths.pipes) else {
             return end(err, Ending::NoMemory);
         };
         if let Some(unready) = first_fault(self.files, &all) {
@@ -78,33 +94,29 @@ impl<'a> PipeServer<'a> {
         let Ok(events) = Events::new(alloc, self.out) else {
             return end(err, Ending::NoMemory);
         };
-        self.serve_at(rt, policy, &all, &events, paths, err)
+        self.serve_at(policy, &all, &events, err)
     }
 
     // Makes the devices and the book, and serves.
-    fn serve_at<R, E: Sink>(
+    fn serve_at<E: Sink>(
         &self,
-        rt: &R,
         policy: &Policy,
         all: &[Pipes],
         events: &Events<Stdout>,
-        paths: &LivePaths,
         err: &mut E,
-    ) -> u8
-    where
-        R: AllocGlobal + Threads + Wait + Sync,
-    {
-        let (alloc, files) = (rt.alloc(), self.files);
+    ) -> u8 {
+        let (rt, files) = (self.rt, self.files);
+        let alloc = rt.alloc();
         let Ok(desks) = desks_at(rt, alloc, files, all, events) else {
             return end(err, Ending::NoMemory);
         };
         let Ok(peers) = peers_at(alloc, &desks) else {
             return end(err, Ending::NoMemory);
         };
-        let kept = match &paths.book {
+        let kept = match &self.paths.book {
             Some(path) => match new_file(files, path, err) {
                 Ok(file) => {
-                    let is_synced = paths.sync;
+                    let is_synced = self.paths.sync;
                     Some(NewBook {
                         files,
                         path,
@@ -120,7 +132,8 @@ impl<'a> PipeServer<'a> {
         let ended = match kept {
             Some(book) => {
                 let blank = Blank::new(1);
-                serve_keeping::<_, _, _, _, Brand>(rt, policy, peers, err, book, blank)
+                let book = CountedBook { book, blank };
+                serve_keeping::<_, _, _, _, Brand>(rt, policy, peers, err, book)
             }
             None => serve_bookless(rt, policy, peers, err),
         };
@@ -139,29 +152,13 @@ struct Ended {
     sessions: usize,
 }
 
-// Serves, and writes the book to this file.
-fn serve_keeping<R, S, O, E: Sink, B: Ledger + Send>(
-    rt: &R,
-    policy: &Policy,
-    peers: Vec<Peer<S, O>>,
-    err: &mut E,
-    book: NewBook,
-    blank: Blank,
-) -> Ended
-where
-    R: AllocGlobal + Threads + Wait + Sync,
-    S: Desk<O> + Send + Drop,
-    O: Sink + Send + Drop,
-    requires name { blank.name ≡ B.name }
-    requires parts { blank.parts ≡ B.parts }
-    requires one { blank.parts ≡ 1 }
-{
-    let book = BookFile::<B>::new(book, blank);
+// Lets the devices of the sessions and the file of the book go.
+fn let_go<S: Drop, O: Drop, B: Drop>(end: ServeEnd<S, O, B>) -> Ended {
     let ServeEnd {
         status,
         sessions,
         book,
-    } = serve_on(rt, rt.alloc(), policy, peers, err, Some(book));
+    } = end;
     drop(book);
     let count = sessions.len();
     drop(sessions);
@@ -169,6 +166,24 @@ where
         status,
         sessions: count,
     }
+}
+
+// Serves, and writes the book to this file.
+fn serve_keeping<R, S, O, E: Sink, B: Ledger + Send>(
+    rt: &R,
+    policy: &Policy,
+    peers: Vec<Peer<S, O>>,
+    err: &mut E,
+    book: CountedBook,
+) -> Ended
+where
+    R: AllocGlobal + Threads + Wait + Sync,
+    S: Desk<O> + Send + Drop,
+    O: Sink + Send + Drop,
+    requires { Opens book.blank B.name B.parts }
+{
+    let book = BookFile::<B>::new(book);
+    let_go(serve_on(rt, rt.alloc(), policy, peers, err, Some(book)))
 }
 
 // Serves, and keeps no book.
@@ -183,18 +198,7 @@ where
     S: Desk<O> + Send + Drop,
     O: Sink + Send + Drop,
 {
-    let ServeEnd {
-        status,
-        sessions,
-        book,
-    } = serve_on::<_, _, _, _, BookFile<Brand>>(rt, rt.alloc(), policy, peers, err, None);
-    drop(book);
-    let count = sessions.len();
-    drop(sessions);
-    Ended {
-        status,
-        sessions: count,
-    }
+    let_go(serve_on::<_, _, _, _, BookFile<Brand>>(rt, rt.alloc(), policy, peers, err, None))
 }
 
 // Reads a policy file, and then the earlier books.
@@ -204,9 +208,7 @@ fn policy_at<'a, L: Ledger>(
     paths: &'a LivePaths,
     blank: Blank,
 ) -> Result<Policy, Ending<'a>>
-    requires name { blank.name ≡ L.name }
-    requires parts { blank.parts ≡ L.parts }
-    requires one { blank.parts ≡ 1 }
+    requires { Opens blank L.name L.parts }
 {
     let mut source = FileSource {
         rt: files,

@@ -3,13 +3,16 @@ ghost use Rattle.std.specs.Prelude.{◌≡◌, IfOk, OnErr, List, map, drop, str
 ghost use Rattle.clap.specs.Words.{Text};
 ghost use Rattle.std.specs.Vec.Iter.{into_iter_items};
 ghost use Rattle.std.specs.Process.{exit_status};
-ghost use Rattle.hall_script.specs.Devices.{used};
+ghost use Rattle.hall_script.specs.Devices.{used, IsUntouched};
 ghost use Rattle.program_words.specs.Grammar.{asked};
-ghost use Rattle.consortium.specs.Performing.{file_kind, path_unopened, Performs, Settles};
+ghost use Rattle.program_commands.specs.Using.{out_stream, err_stream};
+ghost use Rattle.consortium.specs.Kinds.{kinds_of, Opens};
+ghost use Rattle.consortium.specs.Performing.{Performs, Settles};
 
-use crate::commands::{Counts, LivePaths, Performed, fault_ending, perform};
-use program_commands::end;
-use program_files::{Count, FileSink, FileSource, ListedFile, NewFileSink, StreamSink};
+use crate::commands::{LivePaths, Performed, fault_ending, perform};
+use crate::devices::CountedFiles;
+use program_commands::{Streams, end};
+use program_files::{Count, StreamSink};
 use program_words::ArgFault;
 use std::alloc::{AllocError, Global};
 use std::env;
@@ -20,7 +23,7 @@ use std::rt::{Env, Files};
 use std::sync::Wait;
 use std::sync::ledger::{Blank, Ledger};
 use std::thread::Threads;
-use wall_labels::{Sink, Source};
+use wall_labels::Sink;
 
 // A new ledger for the failures of each device: the policy, the second file that a command reads,
 // the book that it writes, and the streams.
@@ -85,16 +88,11 @@ where
     F: Files + Env,
     W: Output,
     V: Complaints,
-    requires policy { let blank = blanks.policy in
-        (blank.name ≡ P.name) × (blank.parts ≡ P.parts) × (blank.parts ≡ 1) }
-    requires second { let blank = blanks.second in
-        (blank.name ≡ S.name) × (blank.parts ≡ S.parts) × (blank.parts ≡ 1) }
-    requires kept { let blank = blanks.kept in
-        (blank.name ≡ B.name) × (blank.parts ≡ B.parts) × (blank.parts ≡ 1) }
-    requires out { let blank = blanks.out in
-        (blank.name ≡ O.name) × (blank.parts ≡ O.parts) × (blank.parts ≡ 1) }
-    requires err { let blank = blanks.err in
-        (blank.name ≡ E.name) × (blank.parts ≡ E.parts) × (blank.parts ≡ 1) }
+    requires policy { Opens blanks.policy P.name P.parts }
+    requires second { Opens blanks.second S.name S.parts }
+    requires kept { Opens blanks.kept B.name B.parts }
+    requires out { Opens blanks.out O.name O.parts }
+    requires err { Opens blanks.err E.name E.parts }
 {
     let Blanks {
         policy,
@@ -103,7 +101,8 @@ where
         out: said,
         err: told,
     } = blanks;
-    let counts = Counts {
+    let files = CountedFiles {
+        files: system,
         policy: Count::<P>::new(policy),
         second: Count::<S>::new(second),
         kept: Count::<B>::new(kept),
@@ -116,7 +115,11 @@ where
         stream: err,
         failures: Count::<E>::new(told),
     };
-    let outcome = answered(rt, system, counts, &mut out, &mut err);
+    let streams = Streams {
+        out: &mut out,
+        err: &mut err,
+    };
+    let outcome = answered(rt, files, streams);
     settle(outcome, &mut err)
 }
 
@@ -125,37 +128,23 @@ where
 // cannot be read nothing is.
 fn answered<'a, R, F: Files + Env, P: Ledger, S: Ledger, B: Ledger, O: Sink, E: Sink>(
     rt: &R,
-    system: &'a F,
-    counts: Counts<P, S, B>,
-    out: &mut O,
-    err: &mut E,
+    files: CountedFiles<'a, F, P, S, B>,
+    streams: Streams<O, E>,
 ) -> Result<Performed, ArgFault>
 where
     R: AllocGlobal + Threads + Wait + Sync,
-    ensures done { let policies = file_kind ⟦<FileSource<'a, F, P> as Source>⟧.failures
-        ⟦<FileSource<'a, F, P> as Source>⟧.remaining
-        (λ d. path_unopened d.path.now d.file) counts.policy in
-        let earlier = file_kind ⟦<ListedFile<'a, F> as Source>⟧.failures
-        ⟦<ListedFile<'a, F> as Source>⟧.remaining
-        (λ d. path_unopened d.path.now d.file) 0 in
-        let seconds = file_kind ⟦<FileSource<'a, F, S> as Source>⟧.failures
-        ⟦<FileSource<'a, F, S> as Source>⟧.remaining
-        (λ d. path_unopened d.path.now d.file) counts.second in
-        let books = file_kind ⟦<FileSink<'a, F, B> as Sink>⟧.failures
-        ⟦<FileSink<'a, F, B> as Sink>⟧.contents
-        (λ d. path_unopened d.path.now d.file) counts.kept in
-        let seals = file_kind ⟦<NewFileSink<'a, F, B> as Sink>⟧.failures
-        ⟦<NewFileSink<'a, F, B> as Sink>⟧.contents
-        (λ d. path_unopened d.path.now d.file) counts.kept in
-        let outs = used O.failures O.contents out.old out.new in
-        let errs = used E.failures E.contents err.old err.new in
+    ensures done { let kinds = kinds_of F.File.remaining F.File.contents files.entry in
+        let outs = out_stream O.failures O.contents streams.entry streams.exit in
+        let errs = err_stream E.failures E.contents streams.entry streams.exit in
         IfOk result (λ performed. (words : List Text)
-        × Performs policies earlier seconds books seals (asked words) outs errs performed) }
-    ensures refused { OnErr result ((out.new ≡ out.old) × (err.new ≡ err.old)) }
+        × Performs kinds (asked words) outs errs performed) }
+    ensures refused { let outs = out_stream O.failures O.contents streams.entry streams.exit in
+        let errs = err_stream E.failures E.contents streams.entry streams.exit in
+        OnErr result (IsUntouched outs × IsUntouched errs) }
 {
-    let words = given_words(rt.alloc(), system)?;
+    let words = given_words(rt.alloc(), files.files)?;
     let texts = texts(rt.alloc(), &words)?;
-    Ok(perform(rt, system, &texts, counts, out, err))
+    Ok(perform(rt, files, &texts, streams))
 }
 
 // The status of what was done; or the line of a fault, and its status.

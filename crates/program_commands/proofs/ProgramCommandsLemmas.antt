@@ -1,5 +1,5 @@
--- What this crate offers to the proofs of others: a run without a book, whichever kind of writer
--- there is none of.
+-- What this crate offers to the proofs of others: a run without a book, and a report without a
+-- page, whichever kind of writer there is none of.
 use Rattle.std.proofs.Common.{◌⊎◌, inl, inr, List, Option, None}
 use Rattle.wall_policy.specs.Policy.{ChineseWall}
 use Rattle.run_model.specs.declared.call.Act.{Act}
@@ -9,6 +9,7 @@ use Rattle.program_commands.specs.Replaying.{IsUnkept}
 use Rattle.program_commands.specs.Running.{IsNoRun, Tells, Runs}
 use Rattle.program_commands.specs.Earlier.{EarlierBooks}
 use Rattle.program_commands.specs.Continuing.{RunAfterEnds}
+pub use Rattle.program_commands.proofs.ReportLemmas.{unpaged}
 
 abbrev no_writer : (W : Type 0) → Option (Used W)
 no_writer W = None

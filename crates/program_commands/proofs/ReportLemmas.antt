@@ -1,5 +1,5 @@
 -- Reports: faults that are told, and reports without a page.
-use Rattle.std.proofs.Common.{◌≡◌, inl, inr, ℕ, List, Option, Some, None, sym, ap, ◌∙◌, subst}
+use Rattle.std.proofs.Common.{◌≡◌, inl, inr, ℕ, List, Option, None, sym, ap, ◌∙◌, subst}
 use Rattle.std.proofs.Common.{Result, Ok, Err}
 use Rattle.std.specs.Prelude.{IfOk, IfErr}
 use Rattle.wall_policy.specs.Policy.{ChineseWall}

@@ -1,3 +1,4 @@
+pub mod Using
 pub mod Endings
 pub mod Unreading
 pub mod Walls

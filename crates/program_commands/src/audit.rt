@@ -9,7 +9,9 @@ ghost use Rattle.program_commands.specs.Auditing.{IsBookOf, GivesNoBook};
 ghost use Rattle.program_commands.specs.Auditing.{IsNoBook, IsFound, Announces, Audits, AuditEnds};
 ghost use Rattle.program_commands.specs.Earlier.{earlier_books};
 ghost use Rattle.program_commands.specs.Continuing.{AuditAfterEnds};
+ghost use Rattle.program_commands.specs.Using.{policy_used, subject_used, out_used, err_used};
 
+use crate::devices::Devices;
 use crate::earlier::{Earlier, no_earlier, read_wall_after};
 use crate::ending::{Ending, end, write_numbered};
 use audit_book::{Book, BookFault, ReadFault, check_book, read_book};
@@ -159,28 +161,37 @@ pub fn audit_on<P: Source, B: Source, O: Sink, E: Sink>(
         (used E.failures E.contents err.old err.new)
         result }
 {
-    audit_after(alloc, policy, no_earlier(alloc), book, out, err)
+    let devices = Devices {
+        policy: &mut *policy,
+        subject: &mut *book,
+        out: &mut *out,
+        err: &mut *err,
+    };
+    audit_after(alloc, devices, no_earlier(alloc))
 }
 
 /// What `audit_on` does, under the policy for what comes after earlier books, as `read_wall_after`
 /// gives it.
 pub fn audit_after<P: Source, D: Source + Drop, B: Source, O: Sink, E: Sink>(
     alloc: Global,
-    policy: &mut P,
+    devices: Devices<P, B, O, E>,
     earlier: Vec<Earlier<D>>,
-    book: &mut B,
-    out: &mut O,
-    err: &mut E,
 ) -> u8
     ensures { EndsSo
         (AuditAfterEnds
-        (used P.failures P.remaining policy.old policy.new)
+        (policy_used P.failures P.remaining devices.entry devices.exit)
         (earlier_books D.failures D.remaining earlier.entry.items)
-        (used B.failures B.remaining book.old book.new)
-        (used O.failures O.contents out.old out.new))
-        (used E.failures E.contents err.old err.new)
+        (subject_used B.failures B.remaining devices.entry devices.exit)
+        (out_used O.failures O.contents devices.entry devices.exit))
+        (err_used E.failures E.contents devices.entry devices.exit)
         result }
 {
+    let Devices {
+        policy,
+        subject: book,
+        out,
+        err,
+    } = devices;
     let wall = match read_wall_after(alloc, policy, earlier) {
         Ok(wall) => wall,
         Err(ending) => return end(err, ending),

@@ -1,32 +1,27 @@
 //! Tells what a policy means, and what of a script and of a book is at fault, over any devices.
-ghost use Rattle.std.specs.Prelude.{◌≡◌, ◌++◌, [], OnOk, OnErr, IfOk, Err};
-ghost use Rattle.hall_script.specs.Devices.{used, IsWritten, BrokeOff};
+ghost use Rattle.std.specs.Prelude.{◌≡◌, []};
+ghost use Rattle.hall_script.specs.Devices.{used};
 ghost use Rattle.program_commands.specs.Endings.{EndsSo};
 ghost use Rattle.program_commands.specs.Checking.{first_ending, script_ending, TellsMeaning};
 ghost use Rattle.program_commands.specs.Checking.{TellsLines, TellsScript, TellsFound};
 ghost use Rattle.program_commands.specs.Checking.{found_ending};
 ghost use Rattle.program_commands.specs.Checking.{TellsBook, TellsScriptIfAny, TellsBookIfAny};
-ghost use Rattle.program_commands.specs.Checking.{if_any, Checks, TellsPlace};
-ghost use Rattle.program_commands.specs.Checking.{TellsRefused, ChecksText, CheckEnds};
-ghost use Rattle.wall_policy.specs.Answer.{answer_to};
-ghost use Rattle.policy_places.specs.Named.{named_at};
-ghost use Rattle.check_text.specs.Policies.{policy_line};
+ghost use Rattle.program_commands.specs.Checking.{if_any, Checks, ChecksText, CheckEnds};
+ghost use Rattle.program_commands.specs.Using.{out_stream, err_stream};
 
 use crate::audit::BOOK_LIMIT;
-use crate::ending::{Ending, end, write_two};
+use crate::devices::Streams;
+use crate::ending::{Ending, end, write_three};
+use crate::refused::{PolicyText, tell_refused};
 use crate::unread::unread;
 use book_places::{Found, found_in, put_found};
-use check_text::{LineFault, ScriptFaults, put_policy_line, script_lines};
+use check_text::{LineFault, ScriptFaults, script_lines};
 use hall_script::{DeviceFault, SCRIPT_LIMIT, read_device};
 use meaning_text::meaning_text;
-use policy_places::{Found as FoundInPolicy, Place, named_at, place_of};
 use program_files::Explains;
 use std::alloc::Global;
-use wall_labels::{Failed, NoMemory, Sink, Source, write_all};
+use wall_labels::{Sink, Source};
 use wall_policy::{Policy, PolicyFault, read_policy};
-
-/// The most bytes of a policy for whose fault a line is looked for.
-pub const PLACE_LIMIT: usize = 262144;
 
 // What is told of a file, and how the check ends by it.
 #[derive(Drop)]
@@ -202,48 +197,36 @@ fn tell_book_if_any<'a, B: Source + Explains + Drop>(
     }
 }
 
-// Writes three texts, one behind the other.
-fn write_three<O: Sink>(out: &mut O, a: &[u8], b: &[u8], c: &[u8]) -> Result<(), Failed>
-    ensures written { let device = used O.failures O.contents out.old out.new in
-        OnOk result (IsWritten device (a.now ++ (b.now ++ c.now))) }
-    ensures broken { let device = used O.failures O.contents out.old out.new in
-        OnErr result (BrokeOff device (a.now ++ (b.now ++ c.now))) }
-{
-    match write_all(out, a) {
-        Ok(()) => match write_two(out, b, c) {
-            Ok(()) => Ok(()),
-            Err(_) => Err(Failed),
-        },
-        Err(_) => Err(Failed),
-    }
-}
-
-// The files of a check but the policy itself, each with its path; a script and a book, if there are
-// any.
+/// The files of a check, as people are told of them, and the readers of all but its policy.
 #[derive(Drop)]
-struct Files<'a, S, B> {
-    policy_path: &'a str,
-    path: &'a str,
-    script: Option<S>,
-    book_path: &'a str,
-    book: Option<B>,
+pub struct CheckFiles<'a, S, B> {
+    /// The path of its policy.
+    pub policy_path: &'a str,
+    /// The path of its script.
+    pub script_path: &'a str,
+    /// The reader of its script, if there is one.
+    pub script: Option<S>,
+    /// The path of its book.
+    pub book_path: &'a str,
+    /// The reader of its book, if there is one.
+    pub book: Option<B>,
 }
 
 // Checks script and book under the policy, and writes all that there is to tell.
 fn check_under<'a, S: Source + Explains + Drop, B: Source + Explains + Drop, O: Sink>(
     alloc: Global,
     wall: &Policy,
-    files: Files<'a, S, B>,
+    files: CheckFiles<'a, S, B>,
     out: &mut O,
 ) -> Ending<'a>
-    ensures { Checks wall.now files.entry.path.now files.entry.book_path.now
+    ensures { Checks wall.now files.entry.script_path.now files.entry.book_path.now
         (if_any S.failures S.remaining S.cause files.entry.script)
         (if_any B.failures B.remaining B.cause files.entry.book)
         (used O.failures O.contents out.old out.new)
         result }
 {
     let meaning = tell_meaning(alloc, wall);
-    let lines = tell_script_if_any(alloc, wall, files.path, files.script);
+    let lines = tell_script_if_any(alloc, wall, files.script_path, files.script);
     let found = tell_book_if_any(alloc, wall, files.book_path, files.book);
     let behind = first_ending(lines.ending, found.ending);
     let ending = first_ending(meaning.ending, behind);
@@ -257,80 +240,14 @@ fn check_under<'a, S: Source + Explains + Drop, B: Source + Explains + Drop, O: 
     }
 }
 
-// The bytes of a policy, and the path of its file.
-#[derive(Clone, Copy)]
-struct PolicyText<'t> {
-    path: &'t str,
-    text: &'t [u8],
-}
-
-// The line of the fault of a policy.
-fn line_of(alloc: Global, policy: &PolicyText, found: FoundInPolicy) -> Result<Vec<u8>, NoMemory>
-    ensures { let path = policy.now.path.now in
-        let text = policy.now.text.now in
-        IfOk result (λ line. line.items ≡ policy_line path found (named_at text found)) }
-{
-    let named = named_at(alloc, policy.text, found)?;
-    let mut text = Vec::new(alloc);
-    put_policy_line(&mut text, policy.path, found, &named)?;
-    Ok(text)
-}
-
-// Tells the line on which the fault of a policy stands, if it stands on one, and what is wrong
-// there.
-fn tell_place<O: Sink>(
-    alloc: Global,
-    policy: &PolicyText,
-    place: Place,
-    out: &mut O,
-) -> Ending<'static>
-    ensures { TellsPlace policy.now.path.now policy.now.text.now place.fault place.found
-        (used O.failures O.contents out.old out.new)
-        result }
-{
-    match place.found {
-        Some(found) => match line_of(alloc, policy, found) {
-            Ok(line) => match write_all(out, &line) {
-                Ok(()) => Ending::BadPolicy(place.fault),
-                Err(_) => Ending::WriteFault,
-            },
-            Err(_) => Ending::NoMemory,
-        },
-        None => Ending::BadPolicy(place.fault),
-    }
-}
-
-// Tells of a policy that is refused on which line its fault stands, if it stands on one. Of a text
-// of more than `PLACE_LIMIT` bytes it is not looked for.
-fn tell_refused<O: Sink>(
-    alloc: Global,
-    policy: &PolicyText,
-    fault: PolicyFault,
-    out: &mut O,
-) -> Ending<'static>
-    requires { answer_to policy.now.text.now ≡ Err fault }
-    ensures { TellsRefused policy.now.path.now policy.now.text.now fault
-        (used O.failures O.contents out.old out.new)
-        result }
-{
-    if policy.text.len() > PLACE_LIMIT {
-        return Ending::BadPolicy(fault);
-    }
-    match place_of(alloc, policy.text) {
-        Ok(Some(place)) => tell_place(alloc, policy, place, out),
-        Ok(None) => Ending::BadPolicy(fault),
-        Err(_) => Ending::NoMemory,
-    }
-}
-
 // Judges the bytes of a policy, and then checks script and book under it.
 fn check_policy<'a, S: Source + Explains + Drop, B: Source + Explains + Drop, O: Sink>(
     alloc: Global,
     text: &[u8],
-    files: Files<'a, S, B>,
+    files: CheckFiles<'a, S, B>,
     out: &mut O,
 ) -> Ending<'a>
-    ensures { ChecksText text.now files.entry.policy_path.now files.entry.path.now
+    ensures { ChecksText text.now files.entry.policy_path.now files.entry.script_path.now
         files.entry.book_path.now
         (if_any S.failures S.remaining S.cause files.entry.script)
         (if_any B.failures B.remaining B.cause files.entry.book)
@@ -356,8 +273,9 @@ fn check_devices<
     S: Source + Explains + Drop,
     B: Source + Explains + Drop,
     O: Sink,
->(alloc: Global, policy: &mut P, files: Files<'a, S, B>, out: &mut O) -> Ending<'a>
-    ensures { CheckEnds files.entry.policy_path.now files.entry.path.now files.entry.book_path.now
+>(alloc: Global, policy: &mut P, files: CheckFiles<'a, S, B>, out: &mut O) -> Ending<'a>
+    ensures { CheckEnds
+        files.entry.policy_path.now files.entry.script_path.now files.entry.book_path.now
         (used P.failures P.remaining policy.old policy.new)
         (P.cause policy.new)
         (if_any S.failures S.remaining S.cause files.entry.script)
@@ -379,51 +297,34 @@ fn check_devices<
 
 /// Reads the policy, and where there are any a script and a book, and writes to `out` what the
 /// policy means and what in it is hardly meant, then a line `PATH:LINE:COLUMN: ..` for each line of
-/// the script that is no call, where `path` is its PATH, and then of the book `sound N`, or
-/// `PATH:LINE: ..`, where `book_path` is its PATH, and what is at fault there. It writes the line
-/// of the first fault to `err`, and gives the status: 0 exactly where all of it reads, the book is
-/// sound, and all was written.
+/// the script that is no call, and then of the book `sound N`, or `PATH:LINE: ..` and what is at
+/// fault there. It writes the line of the first fault to `err`, and gives the status: 0 exactly
+/// where all of it reads, the book is sound, and all was written.
 ///
 /// What is told of one file does not hang on the others. Where the policy is refused the others are
-/// not looked at, and `PATH:LINE: ..` is written to `out`, with `policy_path` as its PATH, the line
-/// on which its fault stands, if it stands on one, and what is wrong there. Of a policy of more
-/// than `PLACE_LIMIT` bytes no line is looked for. A file that was not read is told by its path and
-/// why: for the cause that its reader tells, or since it has more than `SCRIPT_LIMIT` or
-/// `BOOK_LIMIT` bytes.
+/// not looked at, and `PATH:LINE: ..` is written to `out`, the line on which its fault stands, if it
+/// stands on one, and what is wrong there. Of a policy of more than `PLACE_LIMIT` bytes no line is
+/// looked for. A file that was not read is told by its path and why: for the cause that its reader
+/// tells, or since it has more than `SCRIPT_LIMIT` or `BOOK_LIMIT` bytes.
 pub fn check_on<
     P: Source + Explains,
     S: Source + Explains + Drop,
     B: Source + Explains + Drop,
     O: Sink,
     E: Sink,
->(
-    alloc: Global,
-    policy: &mut P,
-    policy_path: &str,
-    path: &str,
-    script: Option<S>,
-    book_path: &str,
-    book: Option<B>,
-    out: &mut O,
-    err: &mut E,
-) -> u8
+>(alloc: Global, policy: &mut P, files: CheckFiles<S, B>, streams: Streams<O, E>) -> u8
     ensures { EndsSo
-        (CheckEnds policy_path.now path.now book_path.now
+        (CheckEnds
+        files.entry.policy_path.now files.entry.script_path.now files.entry.book_path.now
         (used P.failures P.remaining policy.old policy.new)
         (P.cause policy.new)
-        (if_any S.failures S.remaining S.cause script)
-        (if_any B.failures B.remaining B.cause book)
-        (used O.failures O.contents out.old out.new))
-        (used E.failures E.contents err.old err.new)
+        (if_any S.failures S.remaining S.cause files.entry.script)
+        (if_any B.failures B.remaining B.cause files.entry.book)
+        (out_stream O.failures O.contents streams.entry streams.exit))
+        (err_stream E.failures E.contents streams.entry streams.exit)
         result }
 {
-    let files = Files {
-        policy_path,
-        path,
-        script,
-        book_path,
-        book,
-    };
+    let Streams { out, err } = streams;
     let ending = check_devices(alloc, policy, files, out);
     end(err, ending)
 }

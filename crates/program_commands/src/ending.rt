@@ -135,6 +135,27 @@ pub(crate) fn write_two<W: Sink>(sink: &mut W, first: &[u8], second: &[u8]) -> R
     }
 }
 
+// Writes one after the other.
+pub(crate) fn write_three<W: Sink>(
+    sink: &mut W,
+    first: &[u8],
+    second: &[u8],
+    third: &[u8],
+) -> Result<(), Failed>
+    ensures written { let device = used W.failures W.contents sink.old sink.new in
+        OnOk result (IsWritten device (first.now ++ (second.now ++ third.now))) }
+    ensures broken { let device = used W.failures W.contents sink.old sink.new in
+        OnErr result (BrokeOff device (first.now ++ (second.now ++ third.now))) }
+{
+    match write_all(sink, first) {
+        Ok(()) => match write_two(sink, second, third) {
+            Ok(()) => Ok(()),
+            Err(_) => Err(Failed),
+        },
+        Err(_) => Err(Failed),
+    }
+}
+
 // Writes the words, the text and the end of the line.
 pub(crate) fn write_worded<W: Sink>(sink: &mut W, words: &[u8], text: &[u8]) -> Result<(), Failed>
     ensures written { let device = used W.failures W.contents sink.old sink.new in
@@ -142,11 +163,8 @@ pub(crate) fn write_worded<W: Sink>(sink: &mut W, words: &[u8], text: &[u8]) -> 
     ensures broken { let device = used W.failures W.contents sink.old sink.new in
         OnErr result (BrokeOff device (words.now ++ (text.now ++ codes "\n"))) }
 {
-    match write_all(sink, words) {
-        Ok(()) => match write_two(sink, text, b"\n") {
-            Ok(()) => Ok(()),
-            Err(_) => Err(Failed),
-        },
+    match write_three(sink, words, text, b"\n") {
+        Ok(()) => Ok(()),
         Err(_) => Err(Failed),
     }
 }
@@ -237,11 +255,8 @@ fn write_longer<W: Sink>(sink: &mut W, most: u64) -> Result<(), Failed>
 {
     let mut buffer = itoa::Buffer::new();
     let digits = buffer.format(most);
-    match write_two(sink, b": longer than ", digits.as_bytes()) {
-        Ok(()) => match write_all(sink, b" bytes\n") {
-            Ok(()) => Ok(()),
-            Err(_) => Err(Failed),
-        },
+    match write_three(sink, b": longer than ", digits.as_bytes(), b" bytes\n") {
+        Ok(()) => Ok(()),
         Err(_) => Err(Failed),
     }
 }

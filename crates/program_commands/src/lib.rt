@@ -4,8 +4,10 @@
 
 mod audit;
 mod check;
+mod devices;
 mod earlier;
 mod ending;
+mod refused;
 mod replay;
 mod report;
 mod run;
@@ -17,11 +19,12 @@ mod unready;
 mod wall;
 
 pub use audit::{BOOK_LIMIT, audit_after, audit_on};
-pub use check::check_on;
+pub use check::{CheckFiles, check_on};
+pub use devices::{Devices, Streams};
 pub use earlier::{Earlier, read_wall_after};
 pub use ending::{EarlierFault, Ending, Why, end};
 pub use replay::{replay_after, replay_on};
-pub use report::report_on;
+pub use report::{ReportFiles, report_on};
 pub use run::{run_after, run_on};
 pub use seal::seal_on;
 pub use serve::{ServeEnd, serve_on};

@@ -8,7 +8,9 @@ ghost use Rattle.program_commands.specs.Replaying.{script_ending, text_of, perha
 ghost use Rattle.program_commands.specs.Replaying.{ReplaysIfRead, KeepsIfRan, ending_of};
 ghost use Rattle.program_commands.specs.Earlier.{earlier_books};
 ghost use Rattle.program_commands.specs.Continuing.{ReplayAfterEnds};
+ghost use Rattle.program_commands.specs.Using.{policy_used, subject_used, out_used, err_used};
 
+use crate::devices::Devices;
 use crate::earlier::{Earlier, read_wall_after};
 use crate::ending::{Ending, end};
 use crate::wall::read_wall;
@@ -64,12 +66,8 @@ fn replay_under<'a, S: Source, O: Sink>(
     }
 }
 
-/// Writes the book of the hall, if there is one.
-pub(crate) fn keep_ran<'a, B: Sink>(
-    alloc: Global,
-    hall: Result<Hall, Ending<'a>>,
-    book: &mut B,
-) -> Ending<'a>
+// Writes the book of the hall, if there is one.
+fn keep_ran<'a, B: Sink>(alloc: Global, hall: Result<Hall, Ending<'a>>, book: &mut B) -> Ending<'a>
     ensures { KeepsIfRan hall.entry (Some (used B.failures B.contents book.old book.new)) result }
 {
     let hall = match hall {
@@ -81,8 +79,8 @@ pub(crate) fn keep_ran<'a, B: Sink>(
     ending
 }
 
-/// Lets the hall go, if there is one: no book is asked for.
-pub(crate) fn let_go<'a>(hall: Result<Hall, Ending<'a>>) -> Ending<'a>
+// Lets the hall go, if there is one: no book is asked for.
+fn let_go<'a>(hall: Result<Hall, Ending<'a>>) -> Ending<'a>
     ensures { result ≡ ending_of hall.entry }
 {
     match hall {
@@ -92,6 +90,32 @@ pub(crate) fn let_go<'a>(hall: Result<Hall, Ending<'a>>) -> Ending<'a>
         }
         Err(ending) => ending,
     }
+}
+
+/// Writes the book of the hall, if there is one, and tells how that ended.
+pub(crate) fn end_with_book<B: Sink, E: Sink>(
+    alloc: Global,
+    hall: Result<Hall, Ending>,
+    book: &mut B,
+    err: &mut E,
+) -> u8
+    ensures { EndsSo
+        (KeepsIfRan hall.entry (Some (used B.failures B.contents book.old book.new)))
+        (used E.failures E.contents err.old err.new)
+        result }
+{
+    let ending = keep_ran(alloc, hall, book);
+    end(err, ending)
+}
+
+/// Lets the hall go, if there is one, and tells how it ended: no book is asked for.
+pub(crate) fn end_without_book<E: Sink>(hall: Result<Hall, Ending>, err: &mut E) -> u8
+    ensures { EndsSo (λ ending. ending ≡ ending_of hall.entry)
+        (used E.failures E.contents err.old err.new)
+        result }
+{
+    let ending = let_go(hall);
+    end(err, ending)
 }
 
 /// Reads the policy, replays the script on it, writes the replies to `out` and the line of a fault
@@ -119,49 +143,40 @@ pub fn replay_on<P: Source, S: Source, O: Sink, E: Sink, B: Sink>(
 {
     let wall = read_wall(alloc, policy);
     let hall = replay_under(alloc, wall, script, out);
-    match book {
-        Some(book) => {
-            let ending = keep_ran(alloc, hall, book);
-            end(err, ending)
-        }
-        None => {
-            let ending = let_go(hall);
-            end(err, ending)
-        }
-    }
+    let Some(book) = book else {
+        return end_without_book(hall, err);
+    };
+    end_with_book(alloc, hall, book, err)
 }
 
 /// What `replay_on` does, under the policy for what comes after earlier books, as `read_wall_after`
 /// gives it. The earlier books are read and judged before the script is looked at.
-pub fn replay_after<P: Source, D: Source + Drop, S: Source, O: Sink, E: Sink, B: Sink>(
+pub fn replay_after<'d, P: Source, D: Source + Drop, S: Source, O: Sink, E: Sink, B: Sink>(
     alloc: Global,
-    policy: &mut P,
+    devices: Devices<'d, P, S, O, E>,
     earlier: Vec<Earlier<D>>,
-    script: &mut S,
-    out: &mut O,
-    err: &mut E,
-    book: Option<&mut B>,
+    book: Option<&'d mut B>,
 ) -> u8
     ensures { EndsSo
         (ReplayAfterEnds
-        (used P.failures P.remaining policy.old policy.new)
+        (policy_used P.failures P.remaining devices.entry devices.exit)
         (earlier_books D.failures D.remaining earlier.entry.items)
-        (used S.failures S.remaining script.old script.new)
-        (used O.failures O.contents out.old out.new)
+        (subject_used S.failures S.remaining devices.entry devices.exit)
+        (out_used O.failures O.contents devices.entry devices.exit)
         (perhaps B.failures B.contents book.entry book.exit))
-        (used E.failures E.contents err.old err.new)
+        (err_used E.failures E.contents devices.entry devices.exit)
         result }
 {
+    let Devices {
+        policy,
+        subject: script,
+        out,
+        err,
+    } = devices;
     let wall = read_wall_after(alloc, policy, earlier);
     let hall = replay_under(alloc, wall, script, out);
-    match book {
-        Some(book) => {
-            let ending = keep_ran(alloc, hall, book);
-            end(err, ending)
-        }
-        None => {
-            let ending = let_go(hall);
-            end(err, ending)
-        }
-    }
+    let Some(book) = book else {
+        return end_without_book(hall, err);
+    };
+    end_with_book(alloc, hall, book, err)
 }

@@ -8,8 +8,10 @@ ghost use Rattle.program_commands.specs.Replaying.{perhaps, no_book};
 ghost use Rattle.program_commands.specs.Reporting.{ReportsEntries, ReportEnds, WritesBoth};
 ghost use Rattle.program_commands.specs.Reporting.{IsNoWallTold, IsNoBookTold, IsNoReading};
 ghost use Rattle.program_commands.specs.Reporting.{TellsFault, ReportsIfRead};
+ghost use Rattle.program_commands.specs.Using.{policy_used, subject_used, out_used, err_used};
 
 use crate::audit::{BOOK_LIMIT, Finding, read_entries, tell};
+use crate::devices::Devices;
 use crate::earlier::{Earlier, read_links};
 use crate::ending::{Ending, end};
 use crate::text::write_text;
@@ -240,17 +242,28 @@ fn page_read<'a, O: Sink, W: Sink>(
     }
 }
 
-/// Reads the policy, the earlier books and a book, checks the book as `audit_after` does, and
+/// The files of a report, as people are told of them.
+#[derive(Drop)]
+pub struct ReportFiles<'a, D> {
+    /// The path of its policy.
+    pub policy_path: &'a str,
+    /// The earlier books, the oldest first.
+    pub earlier: Vec<Earlier<'a, D>>,
+    /// The path of its book.
+    pub book_path: &'a str,
+}
+
+/// Reads the policy, the earlier books and its book, checks the book as `audit_after` does, and
 /// writes to `out` what it tells: who came to hold what, by which entry and how, what became of
-/// each instance, and why posts were barred and instances denied. Where there is a `file`, it then
+/// each instance, and why posts were barred and instances denied. Where there is a `page`, it then
 /// writes the same to it as a page. It writes the line of a fault to `err`, and gives the status: 0
 /// exactly where the book is sound and its whole report was written, and the page.
 ///
 /// Of a book that is unsound it writes `unsound at entry N`, and no report and no page. A file that
-/// was not read is told by its path, which for the policy is `policy_path` and for the book `path`,
-/// and why: for the cause that its reader tells, or since it has more than `SCRIPT_LIMIT` or
-/// `BOOK_LIMIT` bytes.
+/// was not read is told by its path, and why: for the cause that its reader tells, or since it has
+/// more than `SCRIPT_LIMIT` or `BOOK_LIMIT` bytes.
 pub fn report_on<
+    'd,
     P: Source + Explains,
     D: Source + Explains + Drop,
     B: Source + Explains,
@@ -259,40 +272,46 @@ pub fn report_on<
     W: Sink,
 >(
     alloc: Global,
-    policy: &mut P,
-    policy_path: &str,
-    earlier: Vec<Earlier<D>>,
-    book: &mut B,
-    path: &str,
-    out: &mut O,
-    err: &mut E,
-    file: Option<&mut W>,
+    devices: Devices<'d, P, B, O, E>,
+    files: ReportFiles<D>,
+    page: Option<&'d mut W>,
 ) -> u8
-    ensures { EndsSo
+    ensures { let policy = policy_used P.failures P.remaining devices.entry devices.exit in
+        let book = subject_used B.failures B.remaining devices.entry devices.exit in
+        EndsSo
         (ReportEnds
-        policy_path.now (P.cause policy.new)
-        (used P.failures P.remaining policy.old policy.new)
-        D.cause (earlier_books D.failures D.remaining earlier.entry.items)
-        path.now (B.cause book.new)
-        (used B.failures B.remaining book.old book.new)
-        (used O.failures O.contents out.old out.new)
-        (perhaps W.failures W.contents file.entry file.exit))
-        (used E.failures E.contents err.old err.new)
+        files.entry.policy_path.now (P.cause policy.new) policy
+        D.cause (earlier_books D.failures D.remaining files.entry.earlier.items)
+        files.entry.book_path.now (B.cause book.new) book
+        (out_used O.failures O.contents devices.entry devices.exit)
+        (perhaps W.failures W.contents page.entry page.exit))
+        (err_used E.failures E.contents devices.entry devices.exit)
         result }
 {
+    let ReportFiles {
+        policy_path,
+        earlier,
+        book_path,
+    } = files;
+    let Devices {
+        policy,
+        subject,
+        out,
+        err,
+    } = devices;
     let policy = Named {
         device: policy,
         path: policy_path,
     };
-    let reading = read_all(alloc, policy, earlier, Named { device: book, path });
-    match file {
-        Some(file) => {
-            let ending = page_read(alloc, reading, out, file);
-            end(err, ending)
-        }
-        None => {
-            let ending = report_read(alloc, reading, out);
-            end(err, ending)
-        }
-    }
+    let book = Named {
+        device: subject,
+        path: book_path,
+    };
+    let reading = read_all(alloc, policy, earlier, book);
+    let Some(page) = page else {
+        let ending = report_read(alloc, reading, out);
+        return end(err, ending);
+    };
+    let ending = page_read(alloc, reading, out, page);
+    end(err, ending)
 }

@@ -16,10 +16,12 @@ ghost use Rattle.program_commands.specs.Running.{FellShort, Reached, RunsIfRead,
 ghost use Rattle.program_commands.specs.Running.{process_lines};
 ghost use Rattle.program_commands.specs.Earlier.{earlier_books};
 ghost use Rattle.program_commands.specs.Continuing.{RunAfterEnds};
+ghost use Rattle.program_commands.specs.Using.{policy_used, subject_used, out_used, err_used};
 
+use crate::devices::Devices;
 use crate::earlier::{Earlier, read_wall_after};
-use crate::ending::{Ending, end};
-use crate::replay::{keep_ran, let_go, script_ending};
+use crate::ending::Ending;
+use crate::replay::{end_with_book, end_without_book, script_ending};
 use crate::wall::read_wall;
 use audit_book::WriteFault;
 use hall_core::{Hall, Reply};
@@ -300,52 +302,43 @@ pub fn run_on<R: Threads + Wait + Sync, P: Source, S: Source, O: Sink, E: Sink, 
 {
     let wall = read_wall(alloc, policy);
     let hall = run_under(rt, alloc, wall, Stage { script, out });
-    match book {
-        Some(book) => {
-            let ending = keep_ran(alloc, hall, book);
-            end(err, ending)
-        }
-        None => {
-            let ending = let_go(hall);
-            end(err, ending)
-        }
-    }
+    let Some(book) = book else {
+        return end_without_book(hall, err);
+    };
+    end_with_book(alloc, hall, book, err)
 }
 
 /// What `run_on` does, under the policy for what comes after earlier books, as `read_wall_after`
 /// gives it. The earlier books are read and judged before the script is looked at.
-pub fn run_after<R, P: Source, D: Source + Drop, S: Source, O: Sink, E: Sink, B: Sink>(
+pub fn run_after<'d, R, P: Source, D: Source + Drop, S: Source, O: Sink, E: Sink, B: Sink>(
     rt: &R,
     alloc: Global,
-    policy: &mut P,
+    devices: Devices<'d, P, S, O, E>,
     earlier: Vec<Earlier<D>>,
-    script: &mut S,
-    out: &mut O,
-    err: &mut E,
-    book: Option<&mut B>,
+    book: Option<&'d mut B>,
 ) -> u8
 where
     R: Threads + Wait + Sync,
     ensures { EndsSo
         (RunAfterEnds
-        (used P.failures P.remaining policy.old policy.new)
+        (policy_used P.failures P.remaining devices.entry devices.exit)
         (earlier_books D.failures D.remaining earlier.entry.items)
-        (used S.failures S.remaining script.old script.new)
-        (used O.failures O.contents out.old out.new)
+        (subject_used S.failures S.remaining devices.entry devices.exit)
+        (out_used O.failures O.contents devices.entry devices.exit)
         (perhaps B.failures B.contents book.entry book.exit))
-        (used E.failures E.contents err.old err.new)
+        (err_used E.failures E.contents devices.entry devices.exit)
         result }
 {
+    let Devices {
+        policy,
+        subject: script,
+        out,
+        err,
+    } = devices;
     let wall = read_wall_after(alloc, policy, earlier);
     let hall = run_under(rt, alloc, wall, Stage { script, out });
-    match book {
-        Some(book) => {
-            let ending = keep_ran(alloc, hall, book);
-            end(err, ending)
-        }
-        None => {
-            let ending = let_go(hall);
-            end(err, ending)
-        }
-    }
+    let Some(book) = book else {
+        return end_without_book(hall, err);
+    };
+    end_with_book(alloc, hall, book, err)
 }

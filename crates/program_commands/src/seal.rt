@@ -6,8 +6,10 @@ ghost use Rattle.program_commands.specs.Endings.{EndsSo};
 ghost use Rattle.program_commands.specs.Earlier.{earlier_books};
 ghost use Rattle.program_commands.specs.Sealing.{AnnouncesSeal, KeepsBook, TellsFault, SealsText};
 ghost use Rattle.program_commands.specs.Sealing.{Seals, SealEnds};
+ghost use Rattle.program_commands.specs.Using.{policy_used, subject_used, out_used, err_used};
 
 use crate::audit::{BOOK_LIMIT, Finding, tell};
+use crate::devices::Devices;
 use crate::earlier::{Earlier, read_wall_after};
 use crate::ending::{Ending, end, write_numbered};
 use audit_book::{Book, WriteFault, write_book};
@@ -111,7 +113,7 @@ fn seal_under<B: Source, W: Sink, O: Sink>(
     }
 }
 
-/// Reads the policy, the earlier books and a book that was cut, and writes the whole book to
+/// Reads the policy, the earlier books and its book, which was cut, and writes the whole book to
 /// `sealed`: what is not finished is left out, the verdict that its last post settles is added if
 /// it is missing, and the `end` line. Then it writes `sealed N`, with the number of its entries, to
 /// `out`, and the line of a fault to `err`, and gives the status: 0 exactly where the whole book
@@ -122,23 +124,26 @@ fn seal_under<B: Source, W: Sink, O: Sink>(
 /// fault.
 pub fn seal_on<P: Source, D: Source + Drop, B: Source, W: Sink, O: Sink, E: Sink>(
     alloc: Global,
-    policy: &mut P,
+    devices: Devices<P, B, O, E>,
     earlier: Vec<Earlier<D>>,
-    book: &mut B,
     sealed: &mut W,
-    out: &mut O,
-    err: &mut E,
 ) -> u8
     ensures { EndsSo
         (SealEnds
-        (used P.failures P.remaining policy.old policy.new)
+        (policy_used P.failures P.remaining devices.entry devices.exit)
         (earlier_books D.failures D.remaining earlier.entry.items)
-        (used B.failures B.remaining book.old book.new)
+        (subject_used B.failures B.remaining devices.entry devices.exit)
         (used W.failures W.contents sealed.old sealed.new)
-        (used O.failures O.contents out.old out.new))
-        (used E.failures E.contents err.old err.new)
+        (out_used O.failures O.contents devices.entry devices.exit))
+        (err_used E.failures E.contents devices.entry devices.exit)
         result }
 {
+    let Devices {
+        policy,
+        subject: book,
+        out,
+        err,
+    } = devices;
     let wall = match read_wall_after(alloc, policy, earlier) {
         Ok(wall) => wall,
         Err(ending) => return end(err, ending),

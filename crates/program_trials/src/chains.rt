@@ -1,7 +1,7 @@
 //! Commands after earlier books: what was held at their end is held before, and what is wrong with
 //! one of them is told by its path.
 use crate::endings::{sink, source};
-use program_commands::{Earlier, audit_after, read_wall_after, replay_after, run_after};
+use program_commands::{Devices, Earlier, audit_after, read_wall_after, replay_after, run_after};
 use std::alloc::{AllocError, Global};
 use std::process::Abort;
 use std::sync::Wait;
@@ -179,15 +179,13 @@ fn replays_so(rt: &impl AllocGlobal, case: &Case) -> Result<bool, Fail> {
     let mut err = sink(case.line.as_bytes(), Fuse::Whole);
     let mut kept = sink(case.kept.as_bytes(), Fuse::Whole);
     let earlier = books(rt.alloc(), case.earlier)?;
-    let status = replay_after(
-        rt.alloc(),
-        &mut policy,
-        earlier,
-        &mut script,
-        &mut out,
-        &mut err,
-        Some(&mut kept),
-    );
+    let devices = Devices {
+        policy: &mut policy,
+        subject: &mut script,
+        out: &mut out,
+        err: &mut err,
+    };
+    let status = replay_after(rt.alloc(), devices, earlier, Some(&mut kept));
     let is_all = out.rest.is_empty() && err.rest.is_empty() && kept.rest.is_empty();
     let is_same = out.is_same && err.is_same && kept.is_same;
     Ok(status == case.status && is_all && is_same)
@@ -203,16 +201,13 @@ where
     let mut err = sink(case.line.as_bytes(), Fuse::Whole);
     let mut kept = sink(case.kept.as_bytes(), Fuse::Whole);
     let earlier = books(rt.alloc(), case.earlier)?;
-    let status = run_after(
-        rt,
-        rt.alloc(),
-        &mut policy,
-        earlier,
-        &mut script,
-        &mut out,
-        &mut err,
-        Some(&mut kept),
-    );
+    let devices = Devices {
+        policy: &mut policy,
+        subject: &mut script,
+        out: &mut out,
+        err: &mut err,
+    };
+    let status = run_after(rt, rt.alloc(), devices, earlier, Some(&mut kept));
     let is_all = out.rest.is_empty() && err.rest.is_empty() && kept.rest.is_empty();
     let is_same = out.is_same && err.is_same && kept.is_same;
     Ok(status == case.status && is_all && is_same)
@@ -224,14 +219,13 @@ fn audits_so(rt: &impl AllocGlobal, case: &Case) -> Result<bool, Fail> {
     let mut out = sink(case.said.as_bytes(), Fuse::Whole);
     let mut err = sink(case.line.as_bytes(), Fuse::Whole);
     let earlier = books(rt.alloc(), case.earlier)?;
-    let status = audit_after(
-        rt.alloc(),
-        &mut policy,
-        earlier,
-        &mut book,
-        &mut out,
-        &mut err,
-    );
+    let devices = Devices {
+        policy: &mut policy,
+        subject: &mut book,
+        out: &mut out,
+        err: &mut err,
+    };
+    let status = audit_after(rt.alloc(), devices, earlier);
     let is_all = out.rest.is_empty() && err.rest.is_empty();
     Ok(status == case.status && is_all && out.is_same && err.is_same)
 }
@@ -361,14 +355,17 @@ fn runs_begin_where_books_end(rt: HostRuntime) -> Result<(), Fail> {
         let mut out = sink(said.as_bytes(), Fuse::Whole);
         let mut err = sink(b"", Fuse::Whole);
         let earlier = books(rt.alloc(), earlier)?;
+        let devices = Devices {
+            policy: &mut policy,
+            subject: &mut script,
+            out: &mut out,
+            err: &mut err,
+        };
         let status = run_after(
             &rt,
             rt.alloc(),
-            &mut policy,
+            devices,
             earlier,
-            &mut script,
-            &mut out,
-            &mut err,
             None::<&mut wall_labels::memory::ExpectingSink>,
         );
         assert!(&rt;
@@ -540,15 +537,13 @@ fn readers_of_earlier_books_fail(rt: HostRuntime) -> Result<(), Fail> {
             path: "y",
             device: source(EMPTY.as_bytes(), Fuse::After(second)),
         })?;
-        let status = replay_after(
-            rt.alloc(),
-            &mut policy,
-            earlier,
-            &mut script,
-            &mut out,
-            &mut err,
-            Some(&mut kept),
-        );
+        let devices = Devices {
+            policy: &mut policy,
+            subject: &mut script,
+            out: &mut out,
+            err: &mut err,
+        };
+        let status = replay_after(rt.alloc(), devices, earlier, Some(&mut kept));
         assert!(&rt; status == 3 && err.is_same && err.rest.is_empty());
         assert!(&rt; out.is_same && kept.is_same && script.rest.len() == 3);
     }

@@ -3,7 +3,9 @@
 use crate::chains::{ALPHA, ALPHA_TO_N0, BETA_TO_N0, WALL, books};
 use crate::endings::{sink, source};
 use audit_book::read_book;
-use program_commands::{Earlier, check_on, report_on, text_on};
+use program_commands::{
+    CheckFiles, Devices, Earlier, ReportFiles, Streams, check_on, report_on, text_on,
+};
 use report_page::report_page;
 use std::process::Abort;
 use std::test::Fail;
@@ -95,17 +97,18 @@ fn checks_so(
     };
     let mut out = sink(said.as_bytes(), Fuse::Whole);
     let mut err = sink(line.as_bytes(), Fuse::Whole);
-    let ended = check_on(
-        rt.alloc(),
-        &mut policy,
-        "policy.toml",
-        "calls.txt",
+    let files = CheckFiles {
+        policy_path: "policy.toml",
+        script_path: "calls.txt",
         script,
-        "calls.book",
+        book_path: "calls.book",
         book,
-        &mut out,
-        &mut err,
-    );
+    };
+    let streams = Streams {
+        out: &mut out,
+        err: &mut err,
+    };
+    let ended = check_on(rt.alloc(), &mut policy, files, streams);
     let is_all = out.rest.is_empty() && err.rest.is_empty();
     ended == status && is_all && out.is_same && err.is_same
 }
@@ -168,17 +171,18 @@ fn reports_so(
     let mut out = sink(said.as_bytes(), Fuse::Whole);
     let mut err = sink(line.as_bytes(), Fuse::Whole);
     let earlier = books(rt.alloc(), earlier)?;
-    let ended = report_on::<_, _, _, _, _, ExpectingSink>(
-        rt.alloc(),
-        &mut policy,
-        "policy.toml",
+    let devices = Devices {
+        policy: &mut policy,
+        subject: &mut book,
+        out: &mut out,
+        err: &mut err,
+    };
+    let files = ReportFiles {
+        policy_path: "policy.toml",
         earlier,
-        &mut book,
-        "calls.book",
-        &mut out,
-        &mut err,
-        None,
-    );
+        book_path: "calls.book",
+    };
+    let ended = report_on::<_, _, _, _, _, ExpectingSink>(rt.alloc(), devices, files, None);
     let is_all = out.rest.is_empty() && err.rest.is_empty();
     Ok(ended == status && is_all && out.is_same && err.is_same)
 }
@@ -224,17 +228,18 @@ fn pages_so(
         path: "monday.book",
         device: source(b"book 1\nend 0\n", of_earlier),
     })?;
-    let ended = report_on(
-        rt.alloc(),
-        &mut policy,
-        "policy.toml",
+    let devices = Devices {
+        policy: &mut policy,
+        subject: &mut book,
+        out: &mut out,
+        err: &mut err,
+    };
+    let files = ReportFiles {
+        policy_path: "policy.toml",
         earlier,
-        &mut book,
-        "calls.book",
-        &mut out,
-        &mut err,
-        Some(&mut file),
-    );
+        book_path: "calls.book",
+    };
+    let ended = report_on(rt.alloc(), devices, files, Some(&mut file));
     let is_out = out.is_same && (out.rest.is_empty() || of_out != Fuse::Whole);
     let is_page = file.is_same && (file.rest.is_empty() || of_page != Fuse::Whole);
     let is_all = is_out && is_page && err.is_same && err.rest.is_empty();

@@ -16,7 +16,8 @@ abbrev pub ghosts-serve-E-Ledger : goal.ghosts-serve-E-Ledger
 ghosts-serve-E-Ledger g a = record { name = a.blanks.err.name; parts = a.blanks.err.parts }
 
 abbrev pub ghosts-serve_live-P-Ledger : goal.ghosts-serve_live-P-Ledger
-ghosts-serve_live-P-Ledger g a = record { name = a.read.name; parts = a.read.parts }
+ghosts-serve_live-P-Ledger g a =
+    record { name = a.blanks.policy.name; parts = a.blanks.policy.parts }
 
 abbrev pub ghosts-serve_live-E-Ledger : goal.ghosts-serve_live-E-Ledger
-ghosts-serve_live-E-Ledger g a = record { name = a.told.name; parts = a.told.parts }
+ghosts-serve_live-E-Ledger g a = record { name = a.blanks.err.name; parts = a.blanks.err.parts }

@@ -1,6 +1,6 @@
-use Rattle.std.proofs.Common.{inl, map, subst, None}
-use Rattle.program_files.specs.Files.{failed_once}
-use Rattle.consortium.specs.Performing.{AreListed, file_kind, path_unopened}
+use Rattle.std.proofs.Common.{inl, map, subst}
+use Rattle.consortium.specs.Kinds.{listed_kind}
+use Rattle.consortium.specs.Performing.{AreListed}
 use Rattle.consortium.proofs.PerformLemmas.{at_path}
 use Rattle.consortium.proofs.commands.seal_files.Goals as goal
 
@@ -8,19 +8,18 @@ pub returns : goal.returns
 returns g c = inl (
   record {
     old = c.unopened-policy.result;
-    new = c.seal_on.new.policy;
+    new = c.seal_on.new.devices.0;
     at = at_path c.unopened-policy.ensures.unopened c.unopened-policy.ensures.path;
     begins = c.unopened-policy.ensures.count;
   },
   record {
     books = c.in-Ok.earlier.items;
-    listed = subst (λ l. AreListed (file_kind (λ d. failed_once d.has_failed) (λ d. None)
-        (λ d. path_unopened d.path.now d.file) 0) (map (λ p. p.now) l) c.in-Ok.earlier.items)
+    listed = subst (λ l. AreListed listed_kind (map (λ p. p.now) l) c.in-Ok.earlier.items)
         c.deref.ensures.value c.in-Ok.ensures;
   },
   record {
     old = c.unopened-cut.result;
-    new = c.seal_on.new.book;
+    new = c.seal_on.new.devices.1.0;
     at = at_path c.unopened-cut.ensures.unopened c.unopened-cut.ensures.path;
     begins = c.unopened-cut.ensures.count;
   },

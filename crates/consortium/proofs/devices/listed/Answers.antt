@@ -1,15 +1,13 @@
-use Rattle.std.proofs.Common.{ap, None}
+use Rattle.std.proofs.Common.{ap}
 use Rattle.program_files.specs.Files.{failed_once}
-use Rattle.consortium.specs.Performing.{file_kind, path_unopened}
+use Rattle.consortium.specs.Kinds.{listed_kind}
 use Rattle.consortium.proofs.PerformLemmas.{at_path, read_listed, all_listed}
 use Rattle.consortium.proofs.devices.listed.Goals as goal
 
 pub loop-path-preserved : goal.loop-path-preserved
 loop-path-preserved g c =
     rw c.in_ok-push.ensures.items
-    (read_listed
-    (file_kind (λ d. failed_once d.has_failed) (λ d. None)
-    (λ d. path_unopened d.path.now d.file) 0)
+    (read_listed listed_kind
     c.args.paths.now c.loop-path.path-index _
     c.loop-path.books.items c.earlier_at.result c.loop-path-test.true
     c.loop-path.invariant c.earlier_at.ensures.name
@@ -18,8 +16,6 @@ loop-path-preserved g c =
 
 pub returns : goal.returns
 returns g c =
-    all_listed
-    (file_kind (λ d. failed_once d.has_failed) (λ d. None)
-    (λ d. path_unopened d.path.now d.file) 0)
+    all_listed listed_kind
     c.args.paths.now c.loop-path.path-index c.loop-path.books.items
     c.loop-path-test.false c.loop-path.invariant

@@ -11,7 +11,7 @@ path_of None d none = none
 
 pub returns : goal.returns
 returns g c =
-    let path = ap (λ (b : Bor (List ℕ)). b.now) c.unwrap_or-path.ensures
+    let path = ap (λ (b : Bor (List ℕ)). b.now) c.unwrap_or-script_path.ensures
     ∙ path_of c.args.paths.script _ refl in
     let book_path = ap (λ (b : Bor (List ℕ)). b.now) c.unwrap_or-book_path.ensures
     ∙ path_of c.args.paths.book _ refl in (

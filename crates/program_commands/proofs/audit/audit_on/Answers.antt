@@ -5,7 +5,7 @@ use Rattle.program_commands.proofs.audit.audit_on.Goals as goal
 pub returns : goal.returns
 returns g c =
     let policy = used g.P.Source.failures g.P.Source.remaining c.args.policy.now
-    c.audit_after.new.policy in
+    c.audit_after.new.devices.0 in
     let ended = c.audit_after.ensures in (
       ended.0,
       both_cases (rw c.no_earlier.ensures at ended.1)
