@@ -6,28 +6,11 @@ use Rattle.std.specs.Io.KnownBytes.{Appends}
 use Rattle.wall_labels.specs.Known.{AppendsPrefix}
 use Rattle.wall_labels.proofs.WallLabelsLemmas.{Appends-then}
 use Rattle.hall_script.specs.Devices.{used, IsWritten, BrokeOff}
+use Rattle.live_book.proofs.LiveBookLemmas.{front_more, front_then}
 
 pub appends_none : (a : Option (List ℕ)) → Appends a a []
 appends_none None = tt
 appends_none (Some xs) = sym (append-nil xs)
-
--- a prefix of the first is a prefix of both
-pub front_more : (a b : Option (List ℕ)) (xs ys : List ℕ) → AppendsPrefix a b xs →
-    AppendsPrefix a b (xs ++ ys)
-front_more a b xs ys f =
-    (f.0, f.1 ++ ys, sym (append_assoc f.0 f.1 ys) ∙ ap (λ (t : List ℕ). t ++ ys) f.2, f.3)
-
--- the first, and a prefix of the second
-pub front_then : (a b c : Option (List ℕ)) (xs ys : List ℕ) → Appends a b xs →
-    AppendsPrefix b c ys → AppendsPrefix a c (xs ++ ys)
-front_then a b c xs ys p f = (
-  xs ++ f.0,
-  f.1,
-  append_assoc xs f.0 f.1 ∙ ap (λ (t : List ℕ). xs ++ t) f.2,
-  Appends-then a b c xs f.0 p f.3,
-)
-
--- ---- a writer, through two calls
 
 module _ {W : Type 0} (failures : W → ℕ) (contents : W → Option (List ℕ)) where
   pub both_written : (a b c : W) (xs ys : List ℕ) → IsWritten (used failures contents a b) xs →

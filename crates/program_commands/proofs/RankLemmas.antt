@@ -23,7 +23,8 @@ use Rattle.program_commands.specs.Running.{break_ending}
 use Rattle.program_commands.specs.Running.{IsScriptOf, IsNoRun, Tells, Breaks, Runs, Reached}
 use Rattle.program_commands.specs.Running.{FellShort, RunsIfRead}
 use Rattle.wall_labels.proofs.WallLabelsLemmas.{Appends-then}
-use Rattle.program_commands.proofs.KnownLemmas.{appends_none, front_more, front_then}
+use Rattle.live_book.proofs.LiveBookLemmas.{front_more, front_then}
+use Rattle.program_commands.proofs.KnownLemmas.{appends_none}
 use Rattle.program_commands.proofs.ReplayLemmas.{no_hall}
 
 -- the text of one process more
