@@ -1,9 +1,7 @@
 -- Known bytes, through two calls.
 use Rattle.std.proofs.Common.{ℕ, ◌+◌, List, [], ◌++◌, Option, Some, None, sym, ap, ◌∙◌}
-use Rattle.std.proofs.Common.{append_assoc}
 use Rattle.std.proofs.lemmas.List.{append-nil}
 use Rattle.std.specs.Io.KnownBytes.{Appends}
-use Rattle.wall_labels.specs.Known.{AppendsPrefix}
 use Rattle.wall_labels.proofs.WallLabelsLemmas.{Appends-then}
 use Rattle.hall_script.specs.Devices.{used, IsWritten, BrokeOff}
 use Rattle.live_book.proofs.LiveBookLemmas.{front_more, front_then}
@@ -11,6 +9,8 @@ use Rattle.live_book.proofs.LiveBookLemmas.{front_more, front_then}
 pub appends_none : (a : Option (List ℕ)) → Appends a a []
 appends_none None = tt
 appends_none (Some xs) = sym (append-nil xs)
+
+-- ---- a writer, through two calls
 
 module _ {W : Type 0} (failures : W → ℕ) (contents : W → Option (List ℕ)) where
   pub both_written : (a b c : W) (xs ys : List ℕ) → IsWritten (used failures contents a b) xs →
