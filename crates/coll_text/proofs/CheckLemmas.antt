@@ -5,13 +5,9 @@ use Rattle.coll_text.specs.declared.fault.LineFault.{LineFault}
 use Rattle.coll_text.specs.Numbers.{Word}
 use Rattle.coll_text.specs.Reading.{◌>>=◌, Fails, each_of}
 use Rattle.coll_text.specs.Checks.{checked}
-use Rattle.coll_text.proofs.EachLemmas.{carried, fails_before}
+use Rattle.coll_text.proofs.EachLemmas.{carried}
 
 -- ---- a text that was checked
-
-pub same_fault : {A : Type 0} (e : LineFault) (said : Result A LineFault) → Fails e (checked said) →
-    Fails e said
-same_fault e said h = fails_before e said (λ x. tt) h
 
 pub is_said : {A : Type 0} (said : Result A LineFault) → checked said ≡ Ok tt → IsOk said
 is_said (Ok x) h = refl

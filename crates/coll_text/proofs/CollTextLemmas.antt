@@ -1,7 +1,7 @@
 -- What crates above may cite of the lemmas of this crate. Everything else in proofs/ is its own.
 pub use Rattle.coll_text.proofs.AgainLemmas.{positive, statement_again}
 pub use Rattle.coll_text.proofs.CheckLemmas.{check_done, check_ends, check_goes_on, check_then}
-pub use Rattle.coll_text.proofs.CheckLemmas.{is_said, same_fault}
+pub use Rattle.coll_text.proofs.CheckLemmas.{is_said}
 pub use Rattle.coll_text.proofs.EachLemmas.{carried, fails_before, fails_then}
 pub use Rattle.coll_text.proofs.FoundLemmas.{bind_ok, done, ok_is, signed_found, some_ok}
 pub use Rattle.coll_text.proofs.FoundLemmas.{statement_found, word_found}

@@ -3,7 +3,6 @@ pub mod FrontLemmas
 pub mod StepLemmas
 pub mod DigitLemmas
 pub mod EachLemmas
-pub mod StatedLemmas
 pub mod CheckLemmas
 pub mod NumberLemmas
 pub mod FoundLemmas

@@ -1,7 +1,7 @@
 -- A kind with its fields, read from the left: the grammar that scripts and books share. (Own
 -- format.)
 use Rattle.std.specs.Prelude.{ℕ, ℤ, List, [], ◌∷◌, codes, Option, Some, None, option_map}
-use Rattle.std.specs.Prelude.{Result, Ok, Err, Bool, true, false, if◌then◌else◌}
+use Rattle.std.specs.Prelude.{Result, Ok, Bool, true, false, if◌then◌else◌}
 use Rattle.std.specs.Str.{bytes_eq}
 use Rattle.wall_labels.specs.Ops.{op_of}
 use Rattle.wall_labels.specs.declared.op.Op.{Op}
@@ -10,10 +10,8 @@ use Rattle.mpi_elems.specs.declared.elem_type.ElemType.{ElemType}
 use Rattle.coll_routes.specs.Kinds.{kind_of}
 use Rattle.coll_routes.specs.declared.kind.Kind.{Kind}
 use Rattle.coll_routes.specs.declared.kind.Kind.TheVariants as kinds
-use Rattle.coll_routes.specs.declared.signature.Signature.TheVariants as signatures
 use Rattle.coll_routes.specs.declared.signature.Signature.{Signature}
 use Rattle.coll_routes.specs.declared.statement.Own.{Own}
-use Rattle.coll_routes.specs.declared.statement.Own.TheVariants as owns
 use Rattle.coll_text.specs.declared.fault.LineFault.{LineFault}
 use Rattle.coll_text.specs.declared.fault.LineFault.TheVariants.{BadField, BadKind, BadType}
 use Rattle.coll_text.specs.declared.fault.LineFault.TheVariants.{UnknownOp}
@@ -187,65 +185,3 @@ reduces kinds.ReduceScatterBlock = true
 reduces kinds.Scan = true
 reduces kinds.Exscan = true
 reduces _ = false
-
--- the same of plain kinds, read field by field
-unfoldable pub plain_at : Kind → List Word → Result (Signature × List Word) LineFault
-plain_at kinds.Barrier ws = Ok (signatures.Barrier, ws)
-plain_at kinds.Bcast ws = rooted_at ws >>= λ r. Ok (signatures.Bcast r.0.0 r.0.1 r.0.2, r.1)
-plain_at kinds.Gather ws = rooted_at ws >>= λ r. Ok (signatures.Gather r.0.0 r.0.1 r.0.2, r.1)
-plain_at kinds.Scatter ws = rooted_at ws >>= λ r. Ok (signatures.Scatter r.0.0 r.0.1 r.0.2, r.1)
-plain_at kinds.Allgather ws = block_at ws >>= λ r. Ok (signatures.Allgather r.0.0 r.0.1, r.1)
-plain_at kinds.Alltoall ws = block_at ws >>= λ r. Ok (signatures.Alltoall r.0.0 r.0.1, r.1)
-plain_at kinds.NeighborAllgather ws =
-    block_at ws >>= λ r. Ok (signatures.NeighborAllgather r.0.0 r.0.1, r.1)
-plain_at kinds.NeighborAlltoall ws =
-    block_at ws >>= λ r. Ok (signatures.NeighborAlltoall r.0.0 r.0.1, r.1)
-plain_at kinds.Reduce ws =
-    reduced_at ws >>= λ r. Ok (signatures.Reduce r.0.0 r.0.1 r.0.2 r.0.3, r.1)
-plain_at kinds.Allreduce ws =
-    folded_at ws >>= λ r. Ok (signatures.Allreduce r.0.0 r.0.1 r.0.2, r.1)
-plain_at kinds.ReduceScatterBlock ws =
-    folded_at ws >>= λ r. Ok (signatures.ReduceScatterBlock r.0.0 r.0.1 r.0.2, r.1)
-plain_at kinds.Scan ws = folded_at ws >>= λ r. Ok (signatures.Scan r.0.0 r.0.1 r.0.2, r.1)
-plain_at kinds.Exscan ws = folded_at ws >>= λ r. Ok (signatures.Exscan r.0.0 r.0.1 r.0.2, r.1)
-plain_at kinds.Gatherv ws = gathered_at ws >>= λ r. Ok (signatures.Gatherv r.0.0 r.0.1, r.1)
-plain_at kinds.Allgatherv ws = elem_type_at ws >>= λ ty. Ok (signatures.Allgatherv ty.0, ty.1)
-plain_at kinds.NeighborAllgatherv ws =
-    elem_type_at ws >>= λ ty. Ok (signatures.NeighborAllgatherv ty.0, ty.1)
-plain_at kinds.Dup ws = Ok (signatures.Dup, ws)
-plain_at _ ws = Err BadKind
-
--- the same of the others
-unfoldable pub listed_at : Kind → List Word → Result ((Signature × Own) × List Word) LineFault
-listed_at kinds.Scatterv ws = do
-  r ← gathered_at ws
-  ns ← numbers_at r.1
-  Ok ((signatures.Scatterv r.0.0 r.0.1, owns.Counts ns.0), ns.1)
-listed_at kinds.Alltoallv ws = do
-  ty ← elem_type_at ws
-  ns ← numbers_at ty.1
-  Ok ((signatures.Alltoallv ty.0, owns.Counts ns.0), ns.1)
-listed_at kinds.NeighborAlltoallv ws = do
-  ty ← elem_type_at ws
-  ns ← numbers_at ty.1
-  Ok ((signatures.NeighborAlltoallv ty.0, owns.Counts ns.0), ns.1)
-listed_at kinds.ReduceScatter ws = do
-  op ← op_at ws
-  ty ← elem_type_at op.1
-  ns ← numbers_at ty.1
-  Ok ((signatures.ReduceScatter op.0 ty.0 ns.0, owns.Plain), ns.1)
-listed_at kinds.Split ws = do
-  colour ← colour_at ws
-  key ← key_at colour.1
-  Ok ((signatures.Split, owns.Split colour.0 key.0), key.1)
-listed_at kinds.Create ws = do
-  ranks ← numbers_at ws
-  Ok ((signatures.Create ranks.0, owns.Plain), ranks.1)
-listed_at kinds.CartCreate ws = do
-  dims ← numbers_at ws
-  periods ← flags_at dims.1
-  Ok ((signatures.CartCreate dims.0 periods.0, owns.Plain), periods.1)
-listed_at kinds.CartSub ws = do
-  keep ← flags_at ws
-  Ok ((signatures.CartSub keep.0, owns.Plain), keep.1)
-listed_at _ ws = Err BadKind

@@ -2,20 +2,20 @@
 ghost use Rattle.std.specs.Prelude.{◌≡◌, ◌≢◌, true, false, IfOk, Err};
 ghost use Rattle.coll_text.specs.Reading.{Takes};
 ghost use Rattle.coll_routes.specs.Signatures.{kind, kind as kind_of_signature, elem_type};
-ghost use Rattle.coll_text.specs.Checks.{passed, type_stated};
+ghost use Rattle.coll_text.specs.Checks.{type_stated};
 ghost use Rattle.coll_routes.specs.Owns.{is_own_of};
-ghost use Rattle.coll_text.specs.Fields.{colour_of, colour_at, key_at, numbers_at, flags_at};
+ghost use Rattle.coll_text.specs.Fields.{colour_of, colour_at, key_at};
 ghost use Rattle.coll_text.specs.Fields.{elem_type_at, op_at, block_at, folded_at, rooted_at};
-ghost use Rattle.coll_text.specs.Fields.{reduced_at, gathered_at, is_plain, reduces, plain_at};
-ghost use Rattle.coll_text.specs.Fields.{listed_at, stated_at, statement_at};
+ghost use Rattle.coll_text.specs.Fields.{reduced_at, gathered_at, is_plain, reduces, stated_at};
+ghost use Rattle.coll_text.specs.Fields.{statement_at};
 
 use crate::fault::LineFault;
-use crate::lists::{flags_in, numbers_in};
+use crate::lists::{next_flags, next_numbers};
 use crate::memory::Memory;
 use crate::numbers::signed32;
 use crate::parts::Parts;
 use crate::words::{next_number32, next_word};
-use coll_routes::{Flags, Kind, Numbers, Own, Signature};
+use coll_routes::{Kind, Own, Signature};
 use mpi_elems::ElemType;
 use wall_labels::Op;
 
@@ -108,34 +108,6 @@ fn next_gathered(words: &mut Parts) -> Result<(u32, ElemType), LineFault>
     Ok((root, elem_type))
 }
 
-// Reads a list of numbers.
-#[tactic(auto, unfolding(crate::specs::Fields::numbers_at))]
-fn next_numbers(memory: &mut Memory, words: &mut Parts) -> Result<Numbers, LineFault>
-    ensures kept { memory.new ≡ false →
-        Takes (λ ns. ns) result words.new (numbers_at words.old) }
-    ensures sound { Takes (λ ns. tt) result words.new (passed (numbers_at words.old)) }
-    ensures stays { memory.new ≡ false → memory.old ≡ false }
-    ensures memory { result ≢ Err LineFault.NoMemory }
-{
-    let word = next_word(words)?;
-    let numbers = numbers_in(memory, word)?;
-    Ok(numbers)
-}
-
-// Reads a list of flags.
-#[tactic(auto, unfolding(crate::specs::Fields::flags_at))]
-fn next_flags(memory: &mut Memory, words: &mut Parts) -> Result<Flags, LineFault>
-    ensures kept { memory.new ≡ false →
-        Takes (λ bs. bs) result words.new (flags_at words.old) }
-    ensures sound { Takes (λ bs. tt) result words.new (passed (flags_at words.old)) }
-    ensures stays { memory.new ≡ false → memory.old ≡ false }
-    ensures memory { result ≢ Err LineFault.NoMemory }
-{
-    let word = next_word(words)?;
-    let flags = flags_in(memory, word)?;
-    Ok(flags)
-}
-
 // Reads a colour.
 #[tactic(auto, unfolding(crate::specs::Fields::colour_at))]
 fn next_colour(words: &mut Parts) -> Result<Option<i32>, LineFault>
@@ -174,10 +146,10 @@ fn is_plain(kind: Kind) -> bool
 }
 
 // Reads the fields of such a kind that reduces, straight into its signature.
-#[tactic(auto, unfolding(crate::specs::Fields::plain_at, coll_routes::specs::Signatures::kind))]
+#[tactic(auto, unfolding(crate::specs::Fields::stated_at, crate::specs::Fields::fields_at, crate::specs::Fields::with_field, crate::specs::Table::forms_of, crate::specs::Table::own_of, coll_routes::specs::Signatures::signature_by, coll_routes::specs::Signatures::kind, crate::specs::Fields::elem_type_at, crate::specs::Fields::op_at, crate::specs::Fields::block_at, crate::specs::Fields::folded_at, crate::specs::Fields::reduced_at))]
 fn next_reduction(kind: Kind, words: &mut Parts) -> Result<Signature, LineFault>
     requires { reduces kind ≡ true }
-    ensures statement { Takes (λ s. s) result words.new (plain_at kind words.old) }
+    ensures statement { Takes (λ s. (s, Own.Plain)) result words.new (stated_at kind words.old) }
     ensures form { IfOk result (λ s. is_own_of (kind_of_signature s) Own.Plain ≡ true) }
     ensures memory { result ≢ Err LineFault.NoMemory }
 {
@@ -228,9 +200,10 @@ fn next_reduction(kind: Kind, words: &mut Parts) -> Result<Signature, LineFault>
 }
 
 // The same of each such kind.
-#[tactic(auto, unfolding(crate::specs::Fields::plain_at, coll_routes::specs::Signatures::kind))]
+#[tactic(auto, unfolding(crate::specs::Fields::stated_at, crate::specs::Fields::fields_at, crate::specs::Fields::with_field, crate::specs::Table::forms_of, crate::specs::Table::own_of, coll_routes::specs::Signatures::signature_by, coll_routes::specs::Signatures::kind, crate::specs::Fields::elem_type_at, crate::specs::Fields::block_at, crate::specs::Fields::rooted_at, crate::specs::Fields::gathered_at))]
 fn next_signature(kind: Kind, words: &mut Parts) -> Result<Signature, LineFault>
-    ensures statement { Takes (λ s. s) result words.new (plain_at kind words.old) }
+    requires { is_plain kind ≡ true }
+    ensures statement { Takes (λ s. (s, Own.Plain)) result words.new (stated_at kind words.old) }
     ensures form { IfOk result (λ s. is_own_of (kind_of_signature s) Own.Plain ≡ true) }
     ensures memory { result ≢ Err LineFault.NoMemory }
 {
@@ -291,12 +264,12 @@ fn next_signature(kind: Kind, words: &mut Parts) -> Result<Signature, LineFault>
         Kind::Dup => Ok(Signature::Dup),
         Kind::Reduce | Kind::Allreduce | Kind::ReduceScatterBlock | Kind::Scan | Kind::Exscan =>
             next_reduction(kind, words),
-        _ => Err(LineFault::BadKind),
+        _ => unreachable!(),
     }
 }
 
 // Reads the fields of a kind with lists, or with a colour and a key, straight into what they make.
-#[tactic(auto, unfolding(crate::specs::Fields::listed_at, coll_routes::specs::Signatures::kind, coll_routes::specs::Signatures::elem_type))]
+#[tactic(auto, unfolding(crate::specs::Fields::stated_at, crate::specs::Fields::fields_at, crate::specs::Fields::with_field, crate::specs::Table::forms_of, crate::specs::Table::own_of, coll_routes::specs::Signatures::signature_by, coll_routes::specs::Signatures::kind, coll_routes::specs::Signatures::elem_type, crate::specs::Fields::elem_type_at, crate::specs::Fields::op_at, crate::specs::Fields::gathered_at, crate::specs::Fields::numbers_at, crate::specs::Fields::flags_at, crate::specs::Fields::colour_at, crate::specs::Fields::key_at))]
 fn next_listing(
     memory: &mut Memory,
     kind: Kind,
@@ -304,9 +277,9 @@ fn next_listing(
 ) -> Result<(Signature, Own), LineFault>
     requires { is_plain kind ≡ false }
     ensures kept { memory.new ≡ false →
-        Takes (λ s. s) result words.new (listed_at kind words.old) }
+        Takes (λ s. s) result words.new (stated_at kind words.old) }
     ensures typed { Takes (λ s. elem_type s.0) result words.new
-        (type_stated (listed_at kind words.old)) }
+        (type_stated (stated_at kind words.old)) }
     ensures form { IfOk result (λ s. is_own_of (kind_of_signature s.0) s.1 ≡ true) }
     ensures stays { memory.new ≡ false → memory.old ≡ false }
     ensures memory { result ≢ Err LineFault.NoMemory }

@@ -1,14 +1,15 @@
 //! Lists of numbers and of flags between commas.
 ghost use Rattle.std.specs.Prelude.{◌≡◌, ◌≢◌, ◌≤◌, [], ◌∷◌, ◌++◌, true, false, MatchOption, IfSome};
 ghost use Rattle.std.specs.Prelude.{Err};
-ghost use Rattle.coll_text.specs.Reading.{Gives, each_of, list_of, flag_of, parts as parts_of};
-ghost use Rattle.coll_text.specs.Fields.{number_of};
-ghost use Rattle.coll_text.specs.Checks.{checked, Shows};
+ghost use Rattle.coll_text.specs.Reading.{Gives, Takes, each_of, list_of, flag_of};
+ghost use Rattle.coll_text.specs.Reading.{parts as parts_of};
+ghost use Rattle.coll_text.specs.Fields.{number_of, numbers_at, flags_at};
+ghost use Rattle.coll_text.specs.Checks.{checked, passed, Shows};
 
 use crate::fault::LineFault;
 use crate::memory::Memory;
 use crate::parts::Parts;
-use crate::words::number_in;
+use crate::words::{next_word, number_in};
 use coll_routes::{Flags, Numbers};
 use std::alloc::AllocError;
 
@@ -107,7 +108,7 @@ fn each_number(memory: &mut Memory, word: &[u8]) -> Result<Numbers, LineFault>
 ///
 /// Where memory ran out, that it spells some is all that is known.
 #[tactic(auto, unfolding(crate::specs::Reading::list_of))]
-pub(crate) fn numbers_in(memory: &mut Memory, word: &[u8]) -> Result<Numbers, LineFault>
+fn numbers_in(memory: &mut Memory, word: &[u8]) -> Result<Numbers, LineFault>
     ensures kept { memory.new ≡ false → Gives result (list_of number_of word.now) }
     ensures sound { Shows (λ ns. tt) result (checked (list_of number_of word.now)) }
     ensures stays { memory.new ≡ false → memory.old ≡ false }
@@ -149,7 +150,7 @@ fn each_flag(memory: &mut Memory, word: &[u8]) -> Result<Flags, LineFault>
 ///
 /// Where memory ran out, that it spells some is all that is known.
 #[tactic(auto, unfolding(crate::specs::Reading::list_of))]
-pub(crate) fn flags_in(memory: &mut Memory, word: &[u8]) -> Result<Flags, LineFault>
+fn flags_in(memory: &mut Memory, word: &[u8]) -> Result<Flags, LineFault>
     ensures kept { memory.new ≡ false → Gives result (list_of flag_of word.now) }
     ensures sound { Shows (λ bs. tt) result (checked (list_of flag_of word.now)) }
     ensures stays { memory.new ≡ false → memory.old ≡ false }
@@ -159,4 +160,32 @@ pub(crate) fn flags_in(memory: &mut Memory, word: &[u8]) -> Result<Flags, LineFa
         return Ok(Flags::from(Vec::new(memory.alloc())));
     }
     each_flag(memory, word)
+}
+
+/// Reads a list of numbers.
+#[tactic(auto, unfolding(crate::specs::Fields::numbers_at))]
+pub(crate) fn next_numbers(memory: &mut Memory, words: &mut Parts) -> Result<Numbers, LineFault>
+    ensures kept { memory.new ≡ false →
+        Takes (λ ns. ns) result words.new (numbers_at words.old) }
+    ensures sound { Takes (λ ns. tt) result words.new (passed (numbers_at words.old)) }
+    ensures stays { memory.new ≡ false → memory.old ≡ false }
+    ensures memory { result ≢ Err LineFault.NoMemory }
+{
+    let word = next_word(words)?;
+    let numbers = numbers_in(memory, word)?;
+    Ok(numbers)
+}
+
+/// Reads a list of flags.
+#[tactic(auto, unfolding(crate::specs::Fields::flags_at))]
+pub(crate) fn next_flags(memory: &mut Memory, words: &mut Parts) -> Result<Flags, LineFault>
+    ensures kept { memory.new ≡ false →
+        Takes (λ bs. bs) result words.new (flags_at words.old) }
+    ensures sound { Takes (λ bs. tt) result words.new (passed (flags_at words.old)) }
+    ensures stays { memory.new ≡ false → memory.old ≡ false }
+    ensures memory { result ≢ Err LineFault.NoMemory }
+{
+    let word = next_word(words)?;
+    let flags = flags_in(memory, word)?;
+    Ok(flags)
 }
