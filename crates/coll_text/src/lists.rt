@@ -104,9 +104,9 @@ fn each_number(memory: &mut Memory, word: &[u8]) -> Result<Numbers, LineFault>
     Ok(Numbers::from(numbers))
 }
 
-/// The numbers that the word spells: `-` for none, or numbers between commas.
-///
-/// Where memory ran out, that it spells some is all that is known.
+// The numbers that the word spells: `-` for none, or numbers between commas.
+//
+// Where memory ran out, that it spells some is all that is known.
 #[tactic(auto, unfolding(crate::specs::Reading::list_of))]
 fn numbers_in(memory: &mut Memory, word: &[u8]) -> Result<Numbers, LineFault>
     ensures kept { memory.new ≡ false → Gives result (list_of number_of word.now) }
@@ -146,9 +146,9 @@ fn each_flag(memory: &mut Memory, word: &[u8]) -> Result<Flags, LineFault>
     Ok(Flags::from(flags))
 }
 
-/// The flags that the word spells: `-` for none, or `0` and `1` between commas.
-///
-/// Where memory ran out, that it spells some is all that is known.
+// The flags that the word spells: `-` for none, or `0` and `1` between commas.
+//
+// Where memory ran out, that it spells some is all that is known.
 #[tactic(auto, unfolding(crate::specs::Reading::list_of))]
 fn flags_in(memory: &mut Memory, word: &[u8]) -> Result<Flags, LineFault>
     ensures kept { memory.new ≡ false → Gives result (list_of flag_of word.now) }
