@@ -79,9 +79,9 @@ pub fn read_ask(alloc: Global, policy: &Policy, line: &[u8]) -> Result<Ask, Line
         return Err(LineFault::BadShape);
     }
     let mut memory = Memory::new(alloc);
-    let ask = next_ask(&mut memory, policy, &mut Parts::new(line, b' '))?;
-    if memory.ran_out() {
+    let ask = next_ask(&mut memory, policy, &mut Parts::new(line, b' '));
+    if memory.ran_out() && ask.is_ok() {
         return Err(LineFault::NoMemory);
     }
-    Ok(ask)
+    ask
 }
