@@ -7,7 +7,7 @@ pub use Rattle.audit_book.proofs.CheckLemmas.{accepted_is, bare_posts, few_is, w
 pub use Rattle.audit_book.proofs.FaultLemmas.{cut_found, no_bad_cut, parts_lines, parts_more}
 pub use Rattle.audit_book.proofs.FaultLemmas.{some_parts}
 pub use Rattle.audit_book.proofs.ReadLemmas.{with_none}
-pub use Rattle.audit_book.proofs.StepLemmas.{bad_end, length_front, ok_more, post_counts, posts_few}
-pub use Rattle.audit_book.proofs.StepLemmas.{err_more, take_more}
+pub use Rattle.audit_book.proofs.StepLemmas.{bad_end, length_prefix, ok_more, post_counts}
+pub use Rattle.audit_book.proofs.StepLemmas.{err_more, posts_few, take_more}
 pub use Rattle.audit_book.proofs.TextAgainLemmas.{book_again, entries_again, header_again}
 pub use Rattle.audit_book.proofs.TextAgainLemmas.{lines_whole, parts_ended, step_again}

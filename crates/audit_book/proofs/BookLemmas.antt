@@ -21,7 +21,7 @@ use Rattle.audit_book.specs.declared.line.Line.TheVariants.{Said, End}
 use Rattle.audit_book.specs.Lines.{line_at}
 use Rattle.audit_book.specs.Text.{line_of, entry_words, end_words, header_words, header_line}
 use Rattle.audit_book.specs.Text.{entry_lines, book_text}
-use Rattle.audit_book.specs.Reading.{with_front, by_line, ended_at, entries_in, lines_in, book_in}
+use Rattle.audit_book.specs.Reading.{with_prefix, by_line, ended_at, entries_in, lines_in, book_in}
 use Rattle.audit_book.proofs.FoundLemmas.{line_words, line_found}
 
 -- lines with their ends
@@ -55,7 +55,7 @@ pub record More (e : Entry) (others : Result (List Entry) ReadFault) (es : List 
   pub whole : es ≡ e ∷ rest
 
 pub more_found : (e : Entry) (others : Result (List Entry) ReadFault) (es : List Entry) →
-    with_front (e ∷ []) others ≡ Ok es → More e others es
+    with_prefix (e ∷ []) others ≡ Ok es → More e others es
 more_found e (Ok rest) es h =
     record { rest = rest; read = refl; whole = sym (same_done (e ∷ rest) es h) }
 more_found e (Err f) es h = absurd cc

@@ -20,7 +20,7 @@ use Rattle.audit_book.specs.declared.fault.ReadFault.TheVariants.{BadLine, Cut}
 use Rattle.audit_book.specs.declared.line.Line.{Line}
 use Rattle.audit_book.specs.declared.line.Line.TheVariants.{Said, End}
 use Rattle.audit_book.specs.Lines.{line_at}
-use Rattle.audit_book.specs.Reading.{with_front, by_line, ended_at, entries_in, lines_in, book_in}
+use Rattle.audit_book.specs.Reading.{with_prefix, by_line, ended_at, entries_in, lines_in, book_in}
 use Rattle.audit_book.specs.Faults.{IsLine, IsEntryLine, text_of, IsCut, IsBadAt}
 use Rattle.audit_book.specs.Text.{header_line}
 use Rattle.audit_book.proofs.AgainLemmas.{line_lacks, header_whole}
@@ -71,25 +71,25 @@ parts_more (l ∷ ls) h rest =
     ∙ slice_split_at (λ b. eqb b 10) l 10 (ended_lines ls ++ rest) h.0 refl
     ∙ ap (λ ws. l ∷ ws) (parts_more ls h.1 rest)
 
-join_more : (front : List Word) (w : Word) (ws : List Word) →
-    join_with_byte 10 (front ++ (w ∷ ws)) ≡ ended_lines front ++ join_with_byte 10 (w ∷ ws)
+join_more : (prefix : List Word) (w : Word) (ws : List Word) →
+    join_with_byte 10 (prefix ++ (w ∷ ws)) ≡ ended_lines prefix ++ join_with_byte 10 (w ∷ ws)
 join_more [] w ws = refl
 join_more (l ∷ []) w ws = sym (ap (λ t. t ++ join_with_byte 10 (w ∷ ws))
     (append-nil (l ++ (10 ∷ []))) ∙ append_assoc l (10 ∷ []) (join_with_byte 10 (w ∷ ws)))
-join_more (l ∷ m ∷ front) w ws =
-    ap (λ t. l ++ (10 ∷ t)) (join_more (m ∷ front) w ws)
-    ∙ sym (append_assoc (l ++ (10 ∷ [])) (ended_lines (m ∷ front)) (join_with_byte 10 (w ∷ ws))
-    ∙ append_assoc l (10 ∷ []) (ended_lines (m ∷ front) ++ join_with_byte 10 (w ∷ ws)))
+join_more (l ∷ m ∷ prefix) w ws =
+    ap (λ t. l ++ (10 ∷ t)) (join_more (m ∷ prefix) w ws)
+    ∙ sym (append_assoc (l ++ (10 ∷ [])) (ended_lines (m ∷ prefix)) (join_with_byte 10 (w ∷ ws))
+    ∙ append_assoc l (10 ∷ []) (ended_lines (m ∷ prefix) ++ join_with_byte 10 (w ∷ ws)))
 
 -- ---- cut
 
 abbrev said : Result (List Entry) ReadFault → Result (List Entry) ReadFault
 said r = r
 
-front_fault : (e : Entry) (r : Result (List Entry) ReadFault) (f : ReadFault) →
-    with_front (e ∷ []) r ≡ Err f → r ≡ Err f
-front_fault e (Ok es) f h = absurd cc
-front_fault e (Err d) f h = h
+prefix_fault : (e : Entry) (r : Result (List Entry) ReadFault) (f : ReadFault) →
+    with_prefix (e ∷ []) r ≡ Err f → r ≡ Err f
+prefix_fault e (Ok es) f h = absurd cc
+prefix_fault e (Err d) f h = h
 
 rest_cut : (t : Bool) (n : ℕ) → said (cond t (Ok []) (Err (BadLine n))) ≡ Err Cut → ⊥
 rest_cut true n h = cc
@@ -107,11 +107,11 @@ end_no_cut false k n next more h = cc
 module _ (wall : ChineseWall) where
   -- lines of entries, and one that is not finished
   record CutRest (ls : List Word) : Type 0 where
-    front : List Word
+    prefix : List Word
     last : Word
-    entries : AllByRecursion (IsEntryLine wall) front
+    entries : AllByRecursion (IsEntryLine wall) prefix
     unfinished : IsLine last
-    split : ls ≡ front ++ (last ∷ [])
+    split : ls ≡ prefix ++ (last ∷ [])
 
   cut_step : (k : ℕ) (line next : Word) (more : List Word) (r : Result Line LineFault) →
       line_at wall line ≡ r → IsLine line
@@ -120,9 +120,9 @@ module _ (wall : ChineseWall) where
       by_line k r (entries_in wall (k + 1) (next ∷ more)) (ended_at (k + 3) (next ∷ more))
       ≡ Err Cut → CutRest (line ∷ next ∷ more)
   cut_step k line next more (Ok (Said e)) is l behind h =
-      let c = behind (front_fault e (entries_in wall (k + 1) (next ∷ more)) Cut h) in
+      let c = behind (prefix_fault e (entries_in wall (k + 1) (next ∷ more)) Cut h) in
       record {
-        front = line ∷ c.front;
+        prefix = line ∷ c.prefix;
         last = c.last;
         entries = ((l, (e, is)), c.entries);
         unfinished = c.unfinished;
@@ -136,7 +136,7 @@ module _ (wall : ChineseWall) where
       entries_in wall k (line ∷ more) ≡ Err Cut → CutRest (line ∷ more)
   unfolding entries_in
   cut_rest k line [] ls h =
-      record { front = []; last = line; entries = tt; unfinished = ls.0; split = refl }
+      record { prefix = []; last = line; entries = tt; unfinished = ls.0; split = refl }
   cut_rest k line (next ∷ more) ls h =
       cut_step k line next more (line_at wall line) refl ls.0 (cut_rest (k + 1) next more ls.1) h
 
@@ -152,12 +152,12 @@ module _ (wall : ChineseWall) where
       let header : line ≡ header_line wall.version =
       (bytes_eq-Decides line (header_line wall.version)).0 e in
       inr (record {
-        lines = c.front;
+        lines = c.prefix;
         last = c.last;
         entries = c.entries;
         unfinished = c.unfinished;
         whole = (λ i. header i ++ (10 ∷ join_with_byte 10 (c.split i)))
-            ∙ ap (λ t. header_line wall.version ++ (10 ∷ t)) (join_more c.front c.last []);
+            ∙ ap (λ t. header_line wall.version ++ (10 ∷ t)) (join_more c.prefix c.last []);
       })
   cut_header line next more false e ls h = absurd cc
 
@@ -182,7 +182,7 @@ module _ (wall : ChineseWall) where
   entries_cut k [] last h = refl
   entries_cut k (l ∷ ls) last h = step_again wall k l (ls ++ (last ∷ [])) h.0.1.0
       (some_behind ls last) h.0.1.1
-      ∙ ap (with_front (h.0.1.0 ∷ [])) (entries_cut (k + 1) ls last h.1)
+      ∙ ap (with_prefix (h.0.1.0 ∷ [])) (entries_cut (k + 1) ls last h.1)
 
   header_in : (ls : List Word) → 0 < length ls →
       lines_in wall (header_line wall.version ∷ ls) ≡ entries_in wall 0 ls
@@ -250,22 +250,22 @@ module _ (wall : ChineseWall) where
       × (0 < length (join_with_byte 10 (next ∷ more))))
 
   record BadRest (k n : ℕ) (ls : List Word) : Type 0 where
-    front : List Word
+    prefix : List Word
     line : Word
     next : Word
     more : List Word
     count : ℕ
-    entries : AllByRecursion (IsEntryLine wall) front
+    entries : AllByRecursion (IsEntryLine wall) prefix
     finished : IsLine line
-    split : ls ≡ front ++ (line ∷ next ∷ more)
-    sum : count ≡ k + length front
+    split : ls ≡ prefix ++ (line ∷ next ∷ more)
+    sum : count ≡ k + length prefix
     why : IsWrong count n line next more
 
   -- the first line is bad
   at_once : (k n : ℕ) (line next : Word) (more : List Word) → IsLine line →
       IsWrong k n line next more → BadRest k n (line ∷ next ∷ more)
   at_once k n line next more l w = record {
-    front = [];
+    prefix = [];
     line = line;
     next = next;
     more = more;
@@ -307,10 +307,10 @@ module _ (wall : ChineseWall) where
       by_line k r (entries_in wall (k + 1) (next ∷ more)) (ended_at (k + 3) (next ∷ more))
       ≡ Err (BadLine n) → BadRest k n (line ∷ next ∷ more)
   bad_step k n line next more (Ok (Said e)) is l behind h =
-      let b = behind (front_fault e (entries_in wall (k + 1) (next ∷ more)) (BadLine n) h) in
-      let sum : b.count ≡ k + 1 + length b.front = b.sum in
+      let b = behind (prefix_fault e (entries_in wall (k + 1) (next ∷ more)) (BadLine n) h) in
+      let sum : b.count ≡ k + 1 + length b.prefix = b.sum in
       record {
-        front = line ∷ b.front;
+        prefix = line ∷ b.prefix;
         line = b.line;
         next = b.next;
         more = b.more;
@@ -333,13 +333,13 @@ module _ (wall : ChineseWall) where
   bad_rest k n line (next ∷ more) ls h = bad_step k n line next more (line_at wall line) refl ls.0
       (bad_rest (k + 1) n next more ls.1) h
 
-  bad_text : (n : ℕ) (text : List ℕ) (front : List Word) (line next : Word) (more : List Word) →
-      AllByRecursion (IsEntryLine wall) front → IsLine line
-      → text ≡ text_of wall front (line ++ (10 ∷ join_with_byte 10 (next ∷ more))) →
-      IsWrong (length front) n line next more → IsBadAt wall text n
-  bad_text n text front line next more entries l whole (inl w) =
+  bad_text : (n : ℕ) (text : List ℕ) (prefix : List Word) (line next : Word) (more : List Word) →
+      AllByRecursion (IsEntryLine wall) prefix → IsLine line
+      → text ≡ text_of wall prefix (line ++ (10 ∷ join_with_byte 10 (next ∷ more))) →
+      IsWrong (length prefix) n line next more → IsBadAt wall text n
+  bad_text n text prefix line next more entries l whole (inl w) =
       inr (inl (record {
-        lines = front;
+        lines = prefix;
         line = line;
         rest = join_with_byte 10 (next ∷ more);
         entries = entries;
@@ -349,9 +349,9 @@ module _ (wall : ChineseWall) where
         whole = whole;
         place = w.1;
       }))
-  bad_text n text front line next more entries l whole (inr w) =
+  bad_text n text prefix line next more entries l whole (inr w) =
       inr (inr (record {
-        lines = front;
+        lines = prefix;
         line = line;
         rest = join_with_byte 10 (next ∷ more);
         entries = entries;
@@ -370,13 +370,13 @@ module _ (wall : ChineseWall) where
       let b = bad_rest 0 n next more ls.1 h in
       let header : line ≡ header_line wall.version =
       (bytes_eq-Decides line (header_line wall.version)).0 e in
-      let sum : b.count ≡ 0 + length b.front = b.sum in
-      let count : b.count ≡ length b.front = omega (arith, sum) in
-      bad_text n (join_with_byte 10 (line ∷ next ∷ more)) b.front b.line b.next b.more b.entries
+      let sum : b.count ≡ 0 + length b.prefix = b.sum in
+      let count : b.count ≡ length b.prefix = omega (arith, sum) in
+      bad_text n (join_with_byte 10 (line ∷ next ∷ more)) b.prefix b.line b.next b.more b.entries
       b.finished
       ((λ i. header i ++ (10 ∷ join_with_byte 10 (b.split i)))
       ∙ ap (λ t. header_line wall.version ++ (10 ∷ t))
-      (join_more b.front b.line (b.next ∷ b.more)))
+      (join_more b.prefix b.line (b.next ∷ b.more)))
       (subst (λ (j : ℕ). IsWrong j n b.line b.next b.more) count b.why)
   bad_header n line next more false e ls h =
       inl (record {
@@ -416,18 +416,18 @@ module _ (wall : ChineseWall) where
   header_bad line ls other p = ap (λ (ls : List Word). lines_in wall (line ∷ ls)) p.2
       ∙ rw (not_header line (bytes_eq line (header_line wall.version)) refl other) refl
 
-  entries_bad : (k : ℕ) (front ls : List Word) (f : ReadFault) →
-      AllByRecursion (IsEntryLine wall) front → 0 < length ls →
-      entries_in wall (k + length front) ls ≡ Err f → entries_in wall k (front ++ ls) ≡ Err f
+  entries_bad : (k : ℕ) (prefix ls : List Word) (f : ReadFault) →
+      AllByRecursion (IsEntryLine wall) prefix → 0 < length ls →
+      entries_in wall (k + length prefix) ls ≡ Err f → entries_in wall k (prefix ++ ls) ≡ Err f
   entries_bad k [] ls f h some e =
       let none : k ≡ k + 0 = omega arith in ap (λ (j : ℕ). entries_in wall j ls) none ∙ e
-  entries_bad k (l ∷ front) ls f h some e =
-      let sum : k + 1 + length front ≡ k + suc (length front) = omega arith in
-      let all = length-append front ls in
-      let behind : entries_in wall (k + 1) (front ++ ls) ≡ Err f = entries_bad (k + 1) front ls f
+  entries_bad k (l ∷ prefix) ls f h some e =
+      let sum : k + 1 + length prefix ≡ k + suc (length prefix) = omega arith in
+      let all = length-append prefix ls in
+      let behind : entries_in wall (k + 1) (prefix ++ ls) ≡ Err f = entries_bad (k + 1) prefix ls f
       h.1 some (ap (λ (j : ℕ). entries_in wall j ls) sum ∙ e) in
-      step_again wall k l (front ++ ls) h.0.1.0 (omega (arith, all, some)) h.0.1.1
-      ∙ ap (with_front (h.0.1.0 ∷ [])) behind
+      step_again wall k l (prefix ++ ls) h.0.1.0 (omega (arith, all, some)) h.0.1.1
+      ∙ ap (with_prefix (h.0.1.0 ∷ [])) behind
 
   not_end : (k m : ℕ) (line : Word) (t : Bool) → eqb m k ≡ t → line_at wall line ≡ Ok (End m) →
       line_at wall line ≢ Ok (End k) → t ≡ false
@@ -466,38 +466,38 @@ module _ (wall : ChineseWall) where
       ∙ ap (λ (j : ℕ). Err (BadLine j)) (sym w.1)
 
   -- the parts of a text behind its header
-  parts_behind : (front : List Word) (line : Word) (rest : List ℕ) →
-      AllByRecursion (IsEntryLine wall) front → IsLine line
+  parts_behind : (prefix : List Word) (line : Word) (rest : List ℕ) →
+      AllByRecursion (IsEntryLine wall) prefix → IsLine line
       →
-      parts 10 (text_of wall front (line ++ (10 ∷ rest)))
-      ≡ header_line wall.version ∷ (front ++ (line ∷ parts 10 rest))
-  parts_behind front line rest entries l =
-      header_first wall (ended_lines front ++ (line ++ (10 ∷ rest)))
-      ∙ ap (λ (ls : List Word). header_line wall.version ∷ ls) (parts_more front
-      (lines_of wall front entries) (line ++ (10 ∷ rest))
-      ∙ ap (λ (ls : List Word). front ++ ls)
+      parts 10 (text_of wall prefix (line ++ (10 ∷ rest)))
+      ≡ header_line wall.version ∷ (prefix ++ (line ∷ parts 10 rest))
+  parts_behind prefix line rest entries l =
+      header_first wall (ended_lines prefix ++ (line ++ (10 ∷ rest)))
+      ∙ ap (λ (ls : List Word). header_line wall.version ∷ ls) (parts_more prefix
+      (lines_of wall prefix entries) (line ++ (10 ∷ rest))
+      ∙ ap (λ (ls : List Word). prefix ++ ls)
       (slice_split_at (λ b. eqb b 10) line 10 rest l refl))
 
-  bad_behind : (n : ℕ) (text : List ℕ) (front : List Word) (line : Word) (rest : List ℕ) →
-      AllByRecursion (IsEntryLine wall) front → IsLine line →
-      text ≡ text_of wall front (line ++ (10 ∷ rest))
+  bad_behind : (n : ℕ) (text : List ℕ) (prefix : List Word) (line : Word) (rest : List ℕ) →
+      AllByRecursion (IsEntryLine wall) prefix → IsLine line →
+      text ≡ text_of wall prefix (line ++ (10 ∷ rest))
       → ((next : Word) (more : List Word) → join_with_byte 10 (next ∷ more) ≡ rest →
-      IsWrong (length front) n line next more) → book_in wall text ≡ Err (BadLine n)
+      IsWrong (length prefix) n line next more) → book_in wall text ≡ Err (BadLine n)
   unfolding book_in
-  bad_behind n text front line rest entries l whole wrong =
+  bad_behind n text prefix line rest entries l whole wrong =
       let p = some_parts rest in
       let ls = line ∷ p.0 ∷ p.1 in
       let joined : join_with_byte 10 (p.0 ∷ p.1) ≡ rest = ap (join_with_byte 10) (sym p.2) ∙
       join_with_byte-slice_split 10 rest in
-      let none : 0 + length front ≡ length front = omega arith in
-      let all = length-append front ls in
+      let none : 0 + length prefix ≡ length prefix = omega arith in
+      let all = length-append prefix ls in
       ap (λ (t : List ℕ). lines_in wall (parts 10 t)) whole
-      ∙ ap (lines_in wall) (parts_behind front line rest entries l
-      ∙ ap (λ (ls : List Word). header_line wall.version ∷ (front ++ (line ∷ ls))) p.2)
-      ∙ header_in wall (front ++ ls) (omega (arith, all))
-      ∙ entries_bad 0 front ls (BadLine n) entries (omega arith) (ap
+      ∙ ap (lines_in wall) (parts_behind prefix line rest entries l
+      ∙ ap (λ (ls : List Word). header_line wall.version ∷ (prefix ++ (line ∷ ls))) p.2)
+      ∙ header_in wall (prefix ++ ls) (omega (arith, all))
+      ∙ entries_bad 0 prefix ls (BadLine n) entries (omega arith) (ap
       (λ (j : ℕ). entries_in wall j ls) none
-      ∙ wrong_bad (length front) n line p.0 p.1 (wrong p.0 p.1 joined))
+      ∙ wrong_bad (length prefix) n line p.0 p.1 (wrong p.0 p.1 joined))
 
   pub bad_so : (text : List ℕ) (n : ℕ) → IsBadAt wall text n → book_in wall text ≡ Err (BadLine n)
   unfolding book_in

@@ -16,22 +16,22 @@ use Rattle.audit_book.specs.declared.fault.ReadFault.TheVariants.{BadLine, Cut, 
 use Rattle.audit_book.specs.declared.line.Line.{Line}
 use Rattle.audit_book.specs.declared.line.Line.TheVariants.{Said, End}
 use Rattle.audit_book.specs.Lines.{line_at}
-use Rattle.audit_book.specs.Reading.{IsSaid, with_front, by_line, ended_at, entries_in}
-use Rattle.audit_book.specs.LineSteps.{told, goes_on, Adds, text_told}
+use Rattle.audit_book.specs.Reading.{IsSaid, with_prefix, by_line, ended_at, entries_in}
+use Rattle.audit_book.specs.LineSteps.{end_number, goes_on, Adds, text_told}
 
-regroup : (front : List Entry) (e : Entry) (r : Result (List Entry) ReadFault) →
-    with_front front (with_front (e ∷ []) r) ≡ with_front (front ++ e ∷ []) r
-regroup front e (Ok es) = ap Ok (sym (append_assoc front (e ∷ []) es))
-regroup front e (Err f) = refl
+regroup : (prefix : List Entry) (e : Entry) (r : Result (List Entry) ReadFault) →
+    with_prefix prefix (with_prefix (e ∷ []) r) ≡ with_prefix (prefix ++ e ∷ []) r
+regroup prefix e (Ok es) = ap Ok (sym (append_assoc prefix (e ∷ []) es))
+regroup prefix e (Err f) = refl
 
-pub with_none : (r : Result (List Entry) ReadFault) → with_front [] r ≡ r
+pub with_none : (r : Result (List Entry) ReadFault) → with_prefix [] r ≡ r
 with_none (Ok es) = refl
 with_none (Err f) = refl
 
-front_told : (front : List Entry) (r : Result (List Entry) ReadFault) →
-    text_told (with_front front r) ≡ text_told r
-front_told front (Ok es) = refl
-front_told front (Err f) = refl
+prefix_told : (prefix : List Entry) (r : Result (List Entry) ReadFault) →
+    text_told (with_prefix prefix r) ≡ text_told r
+prefix_told prefix (Ok es) = refl
+prefix_told prefix (Err f) = refl
 
 -- ---- a line
 
@@ -50,31 +50,31 @@ if_bad true f g ended h = absurd cc
 if_bad false f g ended h = ap Err (let k : f ≡ g = cc in k)
 
 -- a line behind which the text goes on is an entry
-entry_in : (n : ℕ) (said : Result Line LineFault) → goes_on n (told said) ≡ Ok true →
+entry_in : (n : ℕ) (said : Result Line LineFault) → goes_on n (end_number said) ≡ Ok true →
     (e : Entry) × (said ≡ Ok (Said e))
 entry_in n (Ok (Said e)) h = (e, refl)
 entry_in n (Ok (End m)) h = absurd (no_entry (m == n) (BadLine (n + 2)) h)
 entry_in n (Err f) h = absurd cc
 
-added : (old new front : List Entry) (said : Result Line LineFault) (e : Entry) →
-    said ≡ Ok (Said e) → Adds old new said → old ≡ front → new ≡ front ++ e ∷ []
-added old new front said e is h same = subst (Adds old new) is h ∙ ap (λ es. es ++ e ∷ []) same
+added : (old new prefix : List Entry) (said : Result Line LineFault) (e : Entry) →
+    said ≡ Ok (Said e) → Adds old new said → old ≡ prefix → new ≡ prefix ++ e ∷ []
+added old new prefix said e is h same = subst (Adds old new) is h ∙ ap (λ es. es ++ e ∷ []) same
 
 -- the end adds nothing
 by_end : (n : ℕ) (said : Result Line LineFault) (others ended : Result (List Entry) ReadFault) →
-    goes_on n (told said) ≡ Ok false → by_line n said others ended ≡ ended
+    goes_on n (end_number said) ≡ Ok false → by_line n said others ended ≡ ended
 by_end n (Ok (Said e)) others ended h = absurd cc
 by_end n (Ok (End m)) others ended h = if_ended (m == n) (BadLine (n + 2)) ended h
 by_end n (Err f) others ended h = absurd cc
 
 same_still : (n : ℕ) (old new : List Entry) (said : Result Line LineFault) →
-    goes_on n (told said) ≡ Ok false → Adds old new said → new ≡ old
+    goes_on n (end_number said) ≡ Ok false → Adds old new said → new ≡ old
 same_still n old new (Ok (Said e)) h adds = absurd cc
 same_still n old new (Ok (End m)) h adds = adds
 same_still n old new (Err f) h adds = adds
 
 bad : (n : ℕ) (g : ReadFault) (said : Result Line LineFault)
-    (others ended : Result (List Entry) ReadFault) → goes_on n (told said) ≡ Err g →
+    (others ended : Result (List Entry) ReadFault) → goes_on n (end_number said) ≡ Err g →
     by_line n said others ended ≡ Err g
 bad n g (Ok (Said e)) others ended h = absurd cc
 bad n g (Ok (End m)) others ended h = if_bad (m == n) (BadLine (n + 2)) g ended h
@@ -99,61 +99,64 @@ on_ok (Err f) h = tt
 -- The entries of the lines so far are in the book, unless memory ran out.
 pub record HasEntries (wall : ChineseWall) (ran_out : Bool) (book : List Entry) (entries : ℕ)
     (line : Word) (lines : List Word) (total : Result (List Entry) ReadFault) : Type 0 where
-  pub front : List Entry
-  pub kept : ran_out ≡ false → book ≡ front
-  pub so_far : with_front front (entries_in wall entries (line ∷ lines)) ≡ total
+  pub prefix : List Entry
+  pub kept : ran_out ≡ false → book ≡ prefix
+  pub so_far : with_prefix prefix (entries_in wall entries (line ∷ lines)) ≡ total
 
 pub begins : (wall : ChineseWall) (ran_out : Bool) (book : List Entry) (line : Word)
     (lines : List Word) → book ≡ [] →
     HasEntries wall ran_out book 0 line lines (entries_in wall 0 (line ∷ lines))
 begins wall ran_out book line lines none =
-    record { front = []; kept = λ _. none; so_far = with_none (entries_in wall 0 (line ∷ lines)) }
+    record { prefix = []; kept = λ _. none; so_far = with_none (entries_in wall 0 (line ∷ lines)) }
 
 module _ (wall : ChineseWall) (was : Bool) (book : List Entry) (n : ℕ) (line next : Word)
     (before more : List Word) (total : Result (List Entry) ReadFault) (split : before ≡ next ∷ more)
     (so : HasEntries wall was book n line before total) where
-  opened : with_front so.front (by_line n (line_at wall line)
+  opened : with_prefix so.prefix (by_line n (line_at wall line)
       (entries_in wall (n + 1) (next ∷ more)) (ended_at (n + 3) (next ∷ more))) ≡ total
   unfolding entries_in
-  opened = sym (ap (λ (ls : List Word). with_front so.front (entries_in wall n (line ∷ ls))) split)
+  opened =
+      sym (ap (λ (ls : List Word). with_prefix so.prefix (entries_in wall n (line ∷ ls))) split)
       ∙ so.so_far
 
   pub reads_on : (is : Bool) (new : List Entry) →
-      Ok true ≡ goes_on n (told (line_at wall line)) →
+      Ok true ≡ goes_on n (end_number (line_at wall line)) →
       (is ≡ false → Adds book new (line_at wall line)) → (is ≡ false → was ≡ false) →
       HasEntries wall is new (n + 1) next more total
   reads_on is new h adds stays =
       let others = entries_in wall (n + 1) (next ∷ more) in
       let ended = ended_at (n + 3) (next ∷ more) in
       let it = entry_in n (line_at wall line) (sym h) in record {
-        front = so.front ++ it.0 ∷ [];
-        kept = λ off. added book new so.front (line_at wall line) it.0 it.1 (adds off)
+        prefix = so.prefix ++ it.0 ∷ [];
+        kept = λ off. added book new so.prefix (line_at wall line) it.0 it.1 (adds off)
             (so.kept (stays off));
-        so_far = sym (regroup so.front it.0 others)
-            ∙ ap (λ said. with_front so.front (by_line n said others ended)) (sym it.1)
+        so_far = sym (regroup so.prefix it.0 others)
+            ∙ ap (λ said. with_prefix so.prefix (by_line n said others ended)) (sym it.1)
             ∙ opened;
       }
 
-  pub stops : (f : ReadFault) → Err f ≡ goes_on n (told (line_at wall line)) →
+  pub stops : (f : ReadFault) → Err f ≡ goes_on n (end_number (line_at wall line)) →
       Err f ≡ text_told total
-  stops f h = ap text_told (sym (ap (with_front so.front)
+  stops f h = ap text_told (sym (ap (with_prefix so.prefix)
       (bad n f (line_at wall line) (entries_in wall (n + 1) (next ∷ more))
       (ended_at (n + 3) (next ∷ more)) (sym h))) ∙ opened)
 
-  module _ (h : Ok false ≡ goes_on n (told (line_at wall line))) (r : Result (Unit {0}) ReadFault)
+  module _ (h : Ok false ≡ goes_on n (end_number (line_at wall line)))
+      (r : Result (Unit {0}) ReadFault)
       (end : r ≡ text_told (ended_at (n + 3) (next ∷ more))) where
-    ends : with_front so.front (ended_at (n + 3) (next ∷ more)) ≡ total
-    ends = sym (ap (with_front so.front) (by_end n (line_at wall line)
+    ends : with_prefix so.prefix (ended_at (n + 3) (next ∷ more)) ≡ total
+    ends = sym (ap (with_prefix so.prefix) (by_end n (line_at wall line)
         (entries_in wall (n + 1) (next ∷ more)) (ended_at (n + 3) (next ∷ more)) (sym h)))
         ∙ opened
 
     pub end_told : r ≡ text_told total
-    end_told = end ∙ sym (front_told so.front (ended_at (n + 3) (next ∷ more))) ∙ ap text_told ends
+    end_told = end ∙ sym (prefix_told so.prefix (ended_at (n + 3) (next ∷ more)))
+        ∙ ap text_told ends
 
-    end_found : Ok tt ≡ r → total ≡ Ok so.front
+    end_found : Ok tt ≡ r → total ≡ Ok so.prefix
     end_found k = sym ends
-        ∙ ap (with_front so.front) (ended_none (n + 3) (next ∷ more) (k ∙ end))
-        ∙ ap Ok (append-nil so.front)
+        ∙ ap (with_prefix so.prefix) (ended_none (n + 3) (next ∷ more) (k ∙ end))
+        ∙ ap Ok (append-nil so.prefix)
 
     pub end_kept : (is : Bool) (new : List Entry) →
         (is ≡ false → Adds book new (line_at wall line)) → (is ≡ false → was ≡ false) →
@@ -166,7 +169,7 @@ pub cut : (wall : ChineseWall) (ran_out : Bool) (book : List Entry) (n : ℕ) (l
     HasEntries wall ran_out book n line lines total → Err Cut ≡ text_told total
 unfolding entries_in
 cut wall ran_out book n line lines total none so = ap text_told (sym (ap (λ (ls : List Word).
-    with_front so.front (entries_in wall n (line ∷ ls))) none) ∙ so.so_far)
+    with_prefix so.prefix (entries_in wall n (line ∷ ls))) none) ∙ so.so_far)
 
 -- ---- a text
 

@@ -208,8 +208,8 @@ bad_end wall es before unsound = record {
   missing = λ _ sound. unsound sound;
 }
 
-pub length_front : (es : List Entry) (n : ℕ) → length (take n es) ≤ length es
-length_front [] zero = omega arith
-length_front [] (suc n) = omega arith
-length_front (x ∷ es) zero = omega arith
-length_front (x ∷ es) (suc n) = let rest = length_front es n in omega arith
+pub length_prefix : (es : List Entry) (n : ℕ) → length (take n es) ≤ length es
+length_prefix [] zero = omega arith
+length_prefix [] (suc n) = omega arith
+length_prefix (x ∷ es) zero = omega arith
+length_prefix (x ∷ es) (suc n) = let rest = length_prefix es n in omega arith

@@ -1,4 +1,4 @@
--- The text of a book is read again, and each proper front of it is cut.
+-- The text of a book is read again, and each proper prefix of it is cut.
 use Rattle.std.proofs.Common.{◌≡◌, ℕ, zero, suc, ◌+◌, ◌<◌, ◌≤◌, eqb, ltb, true, List, [], ◌∷◌, ◌++◌}
 use Rattle.std.proofs.Common.{length, take, Result, Ok, Err, inl, inr, ◌⊎◌, refl, sym, ap}
 use Rattle.std.proofs.Common.{◌∙◌, append_assoc, arith, eq-eqb}
@@ -17,7 +17,7 @@ use Rattle.audit_book.specs.declared.line.Line.{Line}
 use Rattle.audit_book.specs.declared.line.Line.TheVariants.{Said}
 use Rattle.audit_book.specs.Lines.{line_at}
 use Rattle.audit_book.specs.Text.{entry_words, end_words, header_line, book_text}
-use Rattle.audit_book.specs.Reading.{with_front, by_line, ended_at, entries_in, lines_in, book_in}
+use Rattle.audit_book.specs.Reading.{with_prefix, by_line, ended_at, entries_in, lines_in, book_in}
 use Rattle.audit_book.specs.Laws.{IsSpelled}
 use Rattle.audit_book.proofs.BookLemmas.{ended_lines, all_lines, text_is}
 use Rattle.audit_book.proofs.AgainLemmas.{is_line, line_lacks, header_whole, entry_line_again}
@@ -37,14 +37,14 @@ pub some_behind : (ls : List Word) (w : Word) → 0 < length (ls ++ (w ∷ []))
 some_behind ls w = omega (arith, length-append ls (w ∷ []))
 
 -- a prefix of lines: so many finished ones, and the beginning of the next
-record Front (ls : List Word) (front : List ℕ) : Type 0 where
+record Prefix (ls : List Word) (prefix : List ℕ) : Type 0 where
   finished : ℕ
   last : Word
   some : finished < length ls
-  lines : parts 10 front ≡ take finished ls ++ (last ∷ [])
+  lines : parts 10 prefix ≡ take finished ls ++ (last ∷ [])
 
 abbrev Later : Word → List ℕ → List ℕ → List ℕ → Type 0
-Later l more front rest = (after : List ℕ) × (front ≡ l ++ (10 ∷ after)) × (after ++ rest ≡ more)
+Later l more prefix rest = (after : List ℕ) × (prefix ≡ l ++ (10 ∷ after)) × (after ++ rest ≡ more)
 
 longer : (c b : ℕ) (l : Word) (bs more rest : List ℕ) → ltb 10 c ≡ true → b ≡ c →
     (is_line bs ≡ true) ⊎ Later l more bs rest →
@@ -53,8 +53,8 @@ longer c b l bs more rest far same (inl h) =
     inl (and_from (ltb 10 b) (is_line bs) (ap (ltb 10) same ∙ far) h)
 longer c b l bs more rest far same (inr r) = inr (r.0, (λ i. same i ∷ r.1 i), r.2)
 
-within : (l : Word) → is_line l ≡ true → (more front rest : List ℕ) →
-    front ++ rest ≡ l ++ (10 ∷ more) → (is_line front ≡ true) ⊎ Later l more front rest
+within : (l : Word) → is_line l ≡ true → (more prefix rest : List ℕ) →
+    prefix ++ rest ≡ l ++ (10 ∷ more) → (is_line prefix ≡ true) ⊎ Later l more prefix rest
 within l h more [] rest e = inl refl
 within [] h more (b ∷ bs) rest e =
     let same : b ≡ 10 = cc in
@@ -66,19 +66,20 @@ within (c ∷ l) h more (b ∷ bs) rest e =
     let p = and_parts _ (is_line l) h in
     longer c b l bs more rest (p.0) same (within l p.1 more bs rest tail)
 
-here : (l : Word) (ls : List Word) (front : List ℕ) → is_line front ≡ true → Front (l ∷ ls) front
-here l ls front h = record {
+here : (l : Word) (ls : List Word) (prefix : List ℕ) → is_line prefix ≡ true →
+    Prefix (l ∷ ls) prefix
+here l ls prefix h = record {
   finished = 0;
-  last = front;
+  last = prefix;
   some = omega arith;
-  lines = slice_split_none (λ b. eqb b 10) front (line_lacks front h);
+  lines = slice_split_none (λ b. eqb b 10) prefix (line_lacks prefix h);
 }
 
-front_step : {rest : List ℕ} (l : Word) (ls : List Word) → is_line l ≡ true → (front : List ℕ) →
-    ((after : List ℕ) → after ++ rest ≡ ended_lines ls → Front ls after)
-    → (is_line front ≡ true) ⊎ Later l (ended_lines ls) front rest → Front (l ∷ ls) front
-front_step l ls h front behind (inl f) = here l ls front f
-front_step l ls h front behind (inr r) =
+prefix_step : {rest : List ℕ} (l : Word) (ls : List Word) → is_line l ≡ true → (prefix : List ℕ) →
+    ((after : List ℕ) → after ++ rest ≡ ended_lines ls → Prefix ls after)
+    → (is_line prefix ≡ true) ⊎ Later l (ended_lines ls) prefix rest → Prefix (l ∷ ls) prefix
+prefix_step l ls h prefix behind (inl f) = here l ls prefix f
+prefix_step l ls h prefix behind (inr r) =
     let f = behind r.0 r.2 in
     record {
       finished = suc f.finished;
@@ -88,18 +89,18 @@ front_step l ls h front behind (inr r) =
           ∙ ap (λ ws. l ∷ ws) f.lines;
     }
 
-front_parts : (ls : List Word) → AreLines ls → (front rest : List ℕ) →
-    front ++ rest ≡ ended_lines ls → 0 < length rest → Front ls front
-front_parts [] h front rest e some = absurd (let n = length-append front rest in
-    let m : length (front ++ rest) ≡ 0 = ap length e in omega (arith, n, m))
-front_parts (l ∷ ls) h front rest e some =
-    front_step l ls h.0 front (λ after g. front_parts ls h.1 after rest g some)
-    (within l h.0 (ended_lines ls) front rest (e ∙ append_assoc l (10 ∷ []) (ended_lines ls)))
+prefix_parts : (ls : List Word) → AreLines ls → (prefix rest : List ℕ) →
+    prefix ++ rest ≡ ended_lines ls → 0 < length rest → Prefix ls prefix
+prefix_parts [] h prefix rest e some = absurd (let n = length-append prefix rest in
+    let m : length (prefix ++ rest) ≡ 0 = ap length e in omega (arith, n, m))
+prefix_parts (l ∷ ls) h prefix rest e some =
+    prefix_step l ls h.0 prefix (λ after g. prefix_parts ls h.1 after rest g some)
+    (within l h.0 (ended_lines ls) prefix rest (e ∙ append_assoc l (10 ∷ []) (ended_lines ls)))
 
 -- one entry more
 pub step_again : (wall : ChineseWall) (k : ℕ) (line : Word) (ls : List Word) (e : Entry) →
     0 < length ls → line_at wall line ≡ Ok (Said e) →
-    entries_in wall k (line ∷ ls) ≡ with_front (e ∷ []) (entries_in wall (k + 1) ls)
+    entries_in wall k (line ∷ ls) ≡ with_prefix (e ∷ []) (entries_in wall (k + 1) ls)
 unfolding entries_in
 step_again wall k line [] e some said = absurd (omega arith)
 step_again wall k line (next ∷ more) e some said = ap (λ (r : Result Line _).
@@ -123,7 +124,7 @@ module _ (wall : ChineseWall) (policy : IsPolicy wall) where
   entries_again k n (e ∷ es) h small sum =
       step_again wall k (join_with_byte 32 (entry_words wall e)) (all_lines wall es n ++ ([] ∷ []))
       e (some_behind (all_lines wall es n) []) (entry_line_again wall policy e h.0)
-      ∙ ap (with_front (e ∷ [])) (entries_again (k + 1) n es h.1 small (omega (arith, sum)))
+      ∙ ap (with_prefix (e ∷ [])) (entries_again (k + 1) n es h.1 small (omega (arith, sum)))
 
   pub header_again : (ls : List Word) → 0 < length ls →
       lines_in wall (header_line wall.version ∷ ls) ≡ entries_in wall 0 ls
@@ -146,17 +147,17 @@ module _ (wall : ChineseWall) (policy : IsPolicy wall) where
 
   -- ---- fronts
 
-  front_cut : (k n j : ℕ) (es : List Entry) (last : Word) → AllByRecursion (IsSpelled wall) es →
+  prefix_cut : (k n j : ℕ) (es : List Entry) (last : Word) → AllByRecursion (IsSpelled wall) es →
       j < length (all_lines wall es n) →
       entries_in wall k (take j (all_lines wall es n) ++ (last ∷ [])) ≡ Err Cut
   unfolding entries_in
-  front_cut k n zero es last h lt = refl
-  front_cut k n (suc j) [] last h lt = absurd (omega arith)
-  front_cut k n (suc j) (e ∷ es) last h lt =
+  prefix_cut k n zero es last h lt = refl
+  prefix_cut k n (suc j) [] last h lt = absurd (omega arith)
+  prefix_cut k n (suc j) (e ∷ es) last h lt =
       step_again wall k (join_with_byte 32 (entry_words wall e))
       (take j (all_lines wall es n) ++ (last ∷ [])) e
       (some_behind (take j (all_lines wall es n)) last) (entry_line_again wall policy e h.0)
-      ∙ ap (with_front (e ∷ [])) (front_cut (k + 1) n j es last h.1 (omega arith))
+      ∙ ap (with_prefix (e ∷ [])) (prefix_cut (k + 1) n j es last h.1 (omega arith))
 
   lines_cut : (n j : ℕ) (es : List Entry) (last : Word) → AllByRecursion (IsSpelled wall) es →
       j < length (header_line wall.version ∷ all_lines wall es n) →
@@ -166,15 +167,15 @@ module _ (wall : ChineseWall) (policy : IsPolicy wall) where
   lines_cut n (suc j) es last h lt =
       header_again (take j (all_lines wall es n) ++ (last ∷ []))
       (some_behind (take j (all_lines wall es n)) last)
-      ∙ front_cut 0 n j es last h (omega arith)
+      ∙ prefix_cut 0 n j es last h (omega arith)
 
-  pub book_cut : (es : List Entry) (front rest : List ℕ) → AllByRecursion (IsSpelled wall) es →
-      length es ≤ 18446744073709551615 → front ++ rest ≡ book_text wall es → 0 < length rest →
-      book_in wall front ≡ Err Cut
+  pub book_cut : (es : List Entry) (prefix rest : List ℕ) → AllByRecursion (IsSpelled wall) es →
+      length es ≤ 18446744073709551615 → prefix ++ rest ≡ book_text wall es → 0 < length rest →
+      book_in wall prefix ≡ Err Cut
   unfolding book_in
-  book_cut es front rest h small e some =
+  book_cut es prefix rest h small e some =
       let n = length es in
-      let f = front_parts (header_line wall.version ∷ all_lines wall es n)
-      (header_whole wall.version, lines_whole es n h small) front rest
+      let f = prefix_parts (header_line wall.version ∷ all_lines wall es n)
+      (header_whole wall.version, lines_whole es n h small) prefix rest
       (e ∙ sym (text_is wall es)) some in
       ap (lines_in wall) f.lines ∙ lines_cut n f.finished es f.last h f.some

@@ -70,20 +70,20 @@ module _ (wall : ChineseWall) (es : List Entry) (text : List ℕ) where
     one_more = subst (λ (t : List ℕ). Moves a b t mid) (lines_more i e at)
         (moves_more a b (lines i) now mid (line wall e) m put)
 
-    -- a line more was put behind the text, of which a front is written
+    -- a line more was put behind the text, of which a prefix is written
     pub breaks : AppendsPrefix b c mid → AppendsPrefix a c all
     breaks n = moves_break a b c (lines (i + 1)) mid (entry_lines wall (drop (i + 1) es)) all
         one_more n (lines_split (i + 1))
 
-    -- of which a front is written and the rest is left
+    -- of which a prefix is written and the rest is left
     pub goes_on : (new : List ℕ) → Moves b c mid new → Moves a c (lines (i + 1)) new
     goes_on new n = moves_then a b c (lines (i + 1)) mid new one_more n
 
 -- ---- the whole book: begun has its header, and whole its end too
 
-front_more : (a b : Option (List ℕ)) (bytes more whole : List ℕ) → AppendsPrefix a b bytes →
+prefix_more : (a b : Option (List ℕ)) (bytes more whole : List ℕ) → AppendsPrefix a b bytes →
     bytes ++ more ≡ whole → AppendsPrefix a b whole
-front_more a b bytes more whole f e = (
+prefix_more a b bytes more whole f e = (
   f.0,
   f.1 ++ more,
   sym (append_assoc f.0 f.1 more) ∙ ap (λ (t : List ℕ). t ++ more) f.2 ∙ e,
@@ -105,7 +105,7 @@ module _ (wall : ChineseWall) (es : List Entry) (empty begun : List ℕ) (none :
   pub book_broken : (a b : Option (List ℕ)) → AppendsPrefix a b (begun ++ entry_lines wall es) →
       AppendsPrefix a b (book_text wall es)
   book_broken a b f =
-      front_more a b (begun ++ entry_lines wall es) last (book_text wall es) f whole_is
+      prefix_more a b (begun ++ entry_lines wall es) last (book_text wall es) f whole_is
 
   module _ (a b : Option (List ℕ)) (now : List ℕ)
       (m : Moves a b (begun ++ entry_lines wall es) now) where

@@ -21,8 +21,8 @@ number_of_end (Said entry) = None
 number_of_end (End n) = Some n
 
 -- what is told of a line: the number of its end, none where it is an entry, or its fault
-abbrev pub told : Result Line LineFault → Result (Option ℕ) LineFault
-told said = said >>= λ line. Ok (number_of_end line)
+abbrev pub end_number : Result Line LineFault → Result (Option ℕ) LineFault
+end_number said = said >>= λ line. Ok (number_of_end line)
 
 -- whether a text goes on behind so many entries and a line of which this is told, or else is ended
 abbrev pub goes_on : (entries : ℕ) → Result (Option ℕ) LineFault → Result Bool ReadFault

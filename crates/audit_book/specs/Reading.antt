@@ -21,9 +21,9 @@ IsSaid view (Ok x) said = said ≡ Ok (view x)
 IsSaid view (Err NoMemory) said = Unit {0}
 IsSaid view (Err fault) said = said ≡ Err fault
 
-abbrev pub with_front : List Entry → Result (List Entry) ReadFault → Result (List Entry) ReadFault
-with_front front (Ok entries) = Ok (front ++ entries)
-with_front front (Err fault) = Err fault
+abbrev pub with_prefix : List Entry → Result (List Entry) ReadFault → Result (List Entry) ReadFault
+with_prefix prefix (Ok entries) = Ok (prefix ++ entries)
+with_prefix prefix (Err fault) = Err fault
 
 -- no byte stands behind the end
 abbrev pub ended_at : (number : ℕ) → List Word → Result (List Entry) ReadFault
@@ -34,7 +34,7 @@ ended_at number _ = Err (BadLine number)
 -- end. The header is line 1.
 abbrev pub by_line : (entries : ℕ) → Result Line LineFault →
     (others ended : Result (List Entry) ReadFault) → Result (List Entry) ReadFault
-by_line entries (Ok (Said entry)) others ended = with_front (entry ∷ []) others
+by_line entries (Ok (Said entry)) others ended = with_prefix (entry ∷ []) others
 by_line entries (Ok (End n)) others ended =
     if n == entries then ended else Err (BadLine (entries + 2))
 by_line entries (Err fault) others ended = Err (BadLine (entries + 2))

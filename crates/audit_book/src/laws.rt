@@ -38,9 +38,9 @@ pub fn books_are_read_again()
 
 /// The text of a book that lacks bytes at its end is cut.
 pub fn prefixes_of_books_are_cut()
-    ensures { (wall : ChineseWall) (entries : List Entry) (front rest : List ℕ) → IsPolicy wall →
+    ensures { (wall : ChineseWall) (entries : List Entry) (prefix rest : List ℕ) → IsPolicy wall →
         AllByRecursion (IsSpelled wall) entries → length entries ≤ 18446744073709551615 →
-        front ++ rest ≡ book_text wall entries → 0 < length rest → book_in wall front ≡ Err Cut }
+        prefix ++ rest ≡ book_text wall entries → 0 < length rest → book_in wall prefix ≡ Err Cut }
 {}
 
 /// The answer is `Cut` exactly for a text that stops before a finished `end` line, where all

@@ -8,7 +8,7 @@ ghost use Rattle.coll_text.specs.Checks.{checked, Shows};
 ghost use Rattle.run_model.specs.EntryForms.{HasForm};
 ghost use Rattle.audit_book.specs.Lines.{post_at, denied_at, made_at, came_to, outcome_at};
 ghost use Rattle.audit_book.specs.Lines.{verdict_at, end_at, line_behind, line_in, line_at};
-ghost use Rattle.audit_book.specs.LineSteps.{IsFormed, number_of_end, told};
+ghost use Rattle.audit_book.specs.LineSteps.{IsFormed, number_of_end, end_number};
 
 use crate::words::{
     OutcomeWord, Verb, came_in, next_given, next_label, next_named, next_process, next_rule,
@@ -136,7 +136,7 @@ fn next_behind(
     words: &mut Parts,
 ) -> Result<Line, LineFault>
     ensures kept { memory.new ≡ false → Gives result (line_behind policy.now verb words.old) }
-    ensures told { Shows number_of_end result (told (line_behind policy.now verb words.old)) }
+    ensures told { Shows number_of_end result (end_number (line_behind policy.now verb words.old)) }
     ensures form { IfOk result IsFormed }
     ensures stays { memory.new ≡ false → memory.old ≡ false }
     ensures memory { result ≢ Err LineFault.NoMemory }
@@ -157,7 +157,7 @@ fn next_behind(
 #[tactic(auto, unfolding(crate::specs::Lines::line_in))]
 fn next_line(memory: &mut Memory, policy: &Policy, words: &mut Parts) -> Result<Line, LineFault>
     ensures kept { memory.new ≡ false → Gives result (line_in policy.now words.old) }
-    ensures told { Shows number_of_end result (told (line_in policy.now words.old)) }
+    ensures told { Shows number_of_end result (end_number (line_in policy.now words.old)) }
     ensures form { IfOk result IsFormed }
     ensures stays { memory.new ≡ false → memory.old ≡ false }
     ensures memory { result ≢ Err LineFault.NoMemory }
@@ -174,7 +174,7 @@ pub(crate) fn read_line(
     line: &[u8],
 ) -> Result<Line, LineFault>
     ensures kept { memory.new ≡ false → Gives result (line_at policy.now line.now) }
-    ensures told { Shows number_of_end result (told (line_at policy.now line.now)) }
+    ensures told { Shows number_of_end result (end_number (line_at policy.now line.now)) }
     ensures form { IfOk result IsFormed }
     ensures stays { memory.new ≡ false → memory.old ≡ false }
     ensures memory { result ≢ Err LineFault.NoMemory }

@@ -6,7 +6,7 @@ ghost use Rattle.std.specs.Prelude.{◌≡◌, ◌≢◌, ◌≤◌, false, [], 
 ghost use Rattle.std.specs.Prelude.{OnOk, IfOk, IsOk, Ok, Err};
 ghost use Rattle.audit_book.specs.Lines.{line_at};
 ghost use Rattle.audit_book.specs.Reading.{IsSaid, ended_at, entries_in, book_in};
-ghost use Rattle.audit_book.specs.LineSteps.{told, goes_on, Adds, text_told};
+ghost use Rattle.audit_book.specs.LineSteps.{end_number, goes_on, Adds, text_told};
 ghost use Rattle.audit_book.specs.Text.{book_text};
 ghost use Rattle.run_model.specs.EntryForms.{HasForm};
 ghost use Rattle.run_model.specs.Known.{IsKnownEntry};
@@ -54,7 +54,7 @@ impl Kept {
 // and not the end.
 fn take_line(policy: &Policy, line: &[u8], entries: u64, kept: &mut Kept) -> Result<bool, ReadFault>
     requires { entries ≤ 9223372036854775808 }
-    ensures told { result ≡ goes_on entries (told (line_at policy.now line.now)) }
+    ensures told { result ≡ goes_on entries (end_number (line_at policy.now line.now)) }
     ensures kept { kept.new.memory ≡ false →
         Adds kept.old.book.list kept.new.book.list (line_at policy.now line.now) }
     ensures stays { kept.new.memory ≡ false → kept.old.memory ≡ false }

@@ -170,7 +170,7 @@ fn write_entries<W: Sink>(
         (λ fault. IsWriteFault fault (W.failures sink.old) (W.failures sink.new)) }
     ensures moved { OnOk result (Moves (W.contents sink.old) (W.contents sink.new)
         (text.old.items ++ entry_lines policy.now book.now.list) text.new.items) }
-    ensures front { OnErr result (AppendsPrefix (W.contents sink.old) (W.contents sink.new)
+    ensures prefix { OnErr result (AppendsPrefix (W.contents sink.old) (W.contents sink.new)
         (text.old.items ++ entry_lines policy.now book.now.list)) }
     ensures spelled { OnOk result (All (IsSpelled policy.now) book.now.list) }
 {
@@ -194,7 +194,7 @@ fn write_entries<W: Sink>(
 /// What was written is read again as this very book, unless memory runs out there.
 ///
 /// `Write` where the writer failed, `NoMemory` where memory ran out. What was written is then the
-/// front of the text.
+/// prefix of the text.
 #[tactic(auto, unfolding(crate::specs::Text::book_text))]
 pub fn write_book<W: Sink>(
     alloc: Global,
@@ -210,7 +210,7 @@ pub fn write_book<W: Sink>(
     ensures went { OnOk result (W.failures sink.new ≡ W.failures sink.old) }
     ensures fault { IfErr result
         (λ fault. IsWriteFault fault (W.failures sink.old) (W.failures sink.new)) }
-    ensures front { OnErr result (AppendsPrefix (W.contents sink.old) (W.contents sink.new)
+    ensures prefix { OnErr result (AppendsPrefix (W.contents sink.old) (W.contents sink.new)
         (book_text policy.now book.now.list)) }
 {
     let _ = policy.processes();

@@ -1,4 +1,4 @@
--- the front of a policy under which a book is read
-pub mod FrontLemmas
--- chains of books under a front of a policy
+-- the prefix of a policy under which a book is read
+pub mod PrefixLemmas
+-- chains of books under a prefix of a policy
 pub mod StandLemmas

@@ -1,4 +1,4 @@
--- A book that fits the front of a policy goes on a chain of books, and what each process held at
+-- A book that fits the prefix of a policy goes on a chain of books, and what each process held at
 -- its end can be held under the whole policy.
 use Rattle.std.proofs.Common.{◌≡◌, ◌⊎◌, inl, inr, ℕ, zero, suc, ◌<◌, ◌≤◌, Bool, true, false}
 use Rattle.std.proofs.Common.{◌||◌, ◌&&◌, List, [], ◌∷◌, ◌++◌, length, take, drop, nat_eq, nat_lt}
@@ -10,7 +10,7 @@ use Rattle.std.proofs.lemmas.List.{append-nil, length-take, take-append-drop}
 use Rattle.wall_policy.specs.Policy.{ChineseWall, IsPolicy, HasAtFirst, has_pair, with_held}
 use Rattle.wall_policy.specs.Policy.{first_processes, CanBeHeld, home_if_any, home_of}
 use Rattle.wall_policy.specs.Rivals.{AreRivals}
-use Rattle.wall_policy.proofs.WallPolicyLemmas.{has_pair-front, first_processes-IsPolicy}
+use Rattle.wall_policy.proofs.WallPolicyLemmas.{has_pair-prefix, first_processes-IsPolicy}
 use Rattle.run_model.specs.declared.entry.Entry.{Entry}
 use Rattle.run_model.specs.Books.{posts_in, IsSound}
 use Rattle.run_model.specs.Holding.{had_at_first}
@@ -18,7 +18,7 @@ use Rattle.run_model.specs.Chains.{Link, IsChain, IsPrefix, GrewFrom, IsPolicyAf
 use Rattle.run_model.specs.Chains.{NobodyEverHeldBoth}
 use Rattle.run_model.proofs.RunModelLemmas.{chains_keep_the_wall}
 use Rattle.book_chain.specs.Chain.{ChainValue, IsHeldBelow, IsNumberOf, IsAdded, StandsFor}
-use Rattle.book_chain.specs.Fronts.{HoldsAfter}
+use Rattle.book_chain.specs.Prefixes.{HoldsAfter}
 
 ---- Lists that go on.
 
@@ -26,12 +26,12 @@ prefix_of : {X : Type 0} (n : ℕ) (xs : List X) → IsPrefix (take n xs) xs
 prefix_of n xs = (drop n xs, take-append-drop n xs)
 
 -- what a list goes on from is in each front of it that is no shorter
-prefix_within : {X : Type 0} (front rest whole : List X) (n : ℕ) → front ++ rest ≡ whole →
-    length front ≤ n → IsPrefix front (take n whole)
+prefix_within : {X : Type 0} (prefix rest whole : List X) (n : ℕ) → prefix ++ rest ≡ whole →
+    length prefix ≤ n → IsPrefix prefix (take n whole)
 prefix_within [] rest whole n is low = (take n whole, refl)
-prefix_within (x ∷ front) rest whole zero is low = absurd (omega (arith, low))
-prefix_within (x ∷ front) rest whole (suc n) is low =
-    let more = prefix_within front rest (front ++ rest) n refl (omega (arith, low)) in (
+prefix_within (x ∷ prefix) rest whole zero is low = absurd (omega (arith, low))
+prefix_within (x ∷ prefix) rest whole (suc n) is low =
+    let more = prefix_within prefix rest (prefix ++ rest) n refl (omega (arith, low)) in (
       more.0,
       ap (λ l. x ∷ l) more.1 ∙ ap (λ l. take (suc n) l) is,
     )
@@ -63,23 +63,23 @@ has_pair-kept n [] p d low has = has
 has_pair-kept n (x ∷ pairs) p d low has =
     kept_more n x pairs p d low (has_pair-kept n pairs p d low) has
 
----- A front, and the policy after it.
+---- A prefix, and the policy after it.
 
-grew_from_front : (n : ℕ) (wall : ChineseWall) (pairs : List (ℕ × ℕ)) →
+grew_from_prefix : (n : ℕ) (wall : ChineseWall) (pairs : List (ℕ × ℕ)) →
     GrewFrom (first_processes n wall) (with_held wall pairs)
-grew_from_front n wall pairs = record {
+grew_from_prefix n wall pairs = record {
   datasets = ([], append-nil wall.dataset_names);
   classes = ([], append-nil wall.classes);
   processes = prefix_of n wall.process_names;
   homes = prefix_of n wall.homes;
 }
 
--- what was held at the end of a book under a front is what was held before under the whole
-pub after_front : (n : ℕ) (wall : ChineseWall) (entries : List Entry) (pairs : List (ℕ × ℕ)) →
+-- what was held at the end of a book under a prefix is what was held before under the whole
+pub after_prefix : (n : ℕ) (wall : ChineseWall) (entries : List Entry) (pairs : List (ℕ × ℕ)) →
     HoldsAfter (first_processes n wall) entries pairs →
     IsPolicyAfter (first_processes n wall) (posts_in entries) (with_held wall pairs)
-after_front n wall entries pairs holds = record {
-  grew = grew_from_front n wall pairs;
+after_prefix n wall entries pairs holds = record {
+  grew = grew_from_prefix n wall pairs;
   held = holds.after.held;
 }
 
@@ -92,7 +92,7 @@ home_kept (suc n) [] p d low home = home
 home_kept (suc n) (h ∷ homes) zero d low home = home
 home_kept (suc n) (h ∷ homes) (suc p) d low home = home_kept n homes p d (omega (arith, low)) home
 
--- nobody past a front is at home in it
+-- nobody past a prefix is at home in it
 home_past : (n : ℕ) (homes : List (Option ℕ)) (p d : ℕ) → n ≤ p →
     home_if_any (slice_get (take n homes) p) ≡ Some d → ⊥
 home_past zero homes p d high home = cc
@@ -108,11 +108,11 @@ module _ (n : ℕ) (wall : ChineseWall) (entries : List Entry) (pairs : List (�
       omega (arith, (holds.policy.known_held p d has).0, length-take n wall.process_names)
 
   -- a process begins with what it has in the front, or is none of it and at home alone
-  in_front : (p d : ℕ) → HasAtFirst (with_held wall pairs) p d →
+  in_prefix : (p d : ℕ) → HasAtFirst (with_held wall pairs) p d →
       HasAtFirst (with_held (first_processes n wall) pairs) p d
       ⊎ ((n ≤ p) × (home_of wall p ≡ Some d))
-  in_front p d (inr has) = inl (inr has)
-  in_front p d (inl home) = by (cases_lt p n)
+  in_prefix p d (inr has) = inl (inr has)
+  in_prefix p d (inl home) = by (cases_lt p n)
     where
       by : (p < n) ⊎ (n ≤ p) → HasAtFirst (with_held (first_processes n wall) pairs) p d
           ⊎ ((n ≤ p) × (home_of wall p ≡ Some d))
@@ -130,10 +130,10 @@ module _ (n : ℕ) (wall : ChineseWall) (entries : List Entry) (pairs : List (�
         (omega (arith, known.0, length-take n wall.process_names), known.1);
     kept = λ p d has.
         let known = policy.known_held p d has in
-        let front = has_pair-kept n wall.held p d (below p d has) has in
+        let prefix = has_pair-kept n wall.held p d (below p d has) has in
         (holds.after.held p d (omega (arith, known.1, policy.few_datasets))).1
-        (had_at_first (inr front));
-    apart = λ p d e a b rivals. apart p d e rivals (in_front p d a) (in_front p e b);
+        (had_at_first (inr prefix));
+    apart = λ p d e a b rivals. apart p d e rivals (in_prefix p d a) (in_prefix p e b);
   }
     where
       apart : (p d e : ℕ) → AreRivals wall.classes d e →
@@ -150,11 +150,11 @@ module _ (n : ℕ) (wall : ChineseWall) (entries : List Entry) (pairs : List (�
 
 ---- Chains.
 
--- what was held after a book that the front goes on from
-front_after : (n : ℕ) (wall : ChineseWall) (r : Link) → length r.wall.process_names ≤ n →
+-- what was held after a book that the prefix goes on from
+prefix_after : (n : ℕ) (wall : ChineseWall) (r : Link) → length r.wall.process_names ≤ n →
     length r.wall.homes ≤ n → IsHeldBelow n wall → IsPolicyAfter r.wall (posts_in r.book) wall →
     IsPolicyAfter r.wall (posts_in r.book) (first_processes n wall)
-front_after n wall r names homes below after = record {
+prefix_after n wall r names homes below after = record {
   grew = record {
     datasets = after.grew.datasets;
     classes = after.grew.classes;
@@ -163,7 +163,7 @@ front_after n wall r names homes below after = record {
     homes = prefix_within r.wall.homes after.grew.homes.0 wall.homes n after.grew.homes.1 homes;
   };
   held = λ p d low. (
-    λ has. (after.held p d low).0 (has_pair-front n wall.held p d has).0,
+    λ has. (after.held p d low).0 (has_pair-prefix n wall.held p d has).0,
     λ held.
         let has = (after.held p d low).1 held in
         has_pair-kept n wall.held p d (below p d has) has,
@@ -174,15 +174,15 @@ pub below_more : (least n : ℕ) (wall : ChineseWall) → least ≤ n → IsHeld
     IsHeldBelow n wall
 below_more least n wall low below p d has = omega (arith, low, below p d has)
 
--- a chain before a policy is one before each front of it that is no shorter than the newest
-pub front_chain : (n : ℕ) (was : ChainValue) (older : List Link) → was.least ≤ n →
+-- a chain before a policy is one before each prefix of it that is no shorter than the newest
+pub prefix_chain : (n : ℕ) (was : ChainValue) (older : List Link) → was.least ≤ n →
     IsHeldBelow n was.wall → StandsFor was older → IsChain older (first_processes n was.wall)
-front_chain n was [] low below stands = tt
-front_chain n was (r ∷ older) low below stands =
+prefix_chain n was [] low below stands = tt
+prefix_chain n was (r ∷ older) low below stands =
     let chain = stands.0 in (
       chain.0,
       chain.1,
-      front_after n was.wall r (omega (arith, low, stands.1.0)) (omega (arith, low, stands.1.1))
+      prefix_after n was.wall r (omega (arith, low, stands.1.0)) (omega (arith, low, stands.1.1))
           below chain.2,
     )
 
@@ -194,9 +194,9 @@ pub one_more : (n : ℕ) (was : ChainValue) (entries : List Entry) (pairs : List
     (record { wall = first_processes n was.wall; book = entries } ∷ older)
 one_more n was entries pairs older low below sound holds stands = (
   (
-    front_chain n was older low below stands,
+    prefix_chain n was older low below stands,
     sound,
-    after_front n was.wall entries pairs holds,
+    after_prefix n was.wall entries pairs holds,
   ),
   (
     omega (arith, length-take n was.wall.process_names),
@@ -211,7 +211,7 @@ pub added : (n : ℕ) (was : ChainValue) (entries : List Entry) (pairs : List (�
 added n was entries pairs number holds = record {
   number = number;
   rest = refl;
-  held = after_front n was.wall entries pairs holds;
+  held = after_prefix n was.wall entries pairs holds;
 }
 
 -- over the chain with it nobody ever held two rivals
@@ -222,5 +222,5 @@ pub still_kept : (n : ℕ) (was : ChainValue) (entries : List Entry) (older : Li
     (record { wall = first_processes n was.wall; book = entries } ∷ older)
 still_kept n was entries older some low policy below sound stands =
     chains_keep_the_wall older (first_processes n was.wall) entries
-    (first_processes-IsPolicy n was.wall some policy) (front_chain n was older low below stands)
+    (first_processes-IsPolicy n was.wall some policy) (prefix_chain n was older low below stands)
     sound

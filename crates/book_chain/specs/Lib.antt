@@ -1,4 +1,4 @@
 -- what a chain of earlier books comes to
 pub mod Chain
--- the front of a policy under which a book is read: words of private contracts
-pub mod Fronts
+-- the prefix of a policy under which a book is read: words of private contracts
+pub mod Prefixes

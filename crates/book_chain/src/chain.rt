@@ -5,7 +5,7 @@ ghost use Rattle.run_model.specs.Known.{IsKnownEntry};
 ghost use Rattle.run_model.specs.Chains.{Link, NobodyEverHeldBoth};
 ghost use Rattle.book_chain.specs.Chain.{ChainValue, IsAdded, IsNotAdded, StandsFor, begun};
 
-use crate::front::{Front, front_of};
+use crate::prefix::{Prefix, prefix_of};
 use audit_book::BookFault;
 use run_state::Book;
 use std::alloc::Global;
@@ -86,7 +86,7 @@ impl Chain {
         ensures fault { IfErr result (IsNotAdded self book.now.list) }
     {
         let _ = self.policy.processes();
-        let Front { number, pairs } = front_of(alloc, &self.policy, self.least, book)?;
+        let Prefix { number, pairs } = prefix_of(alloc, &self.policy, self.least, book)?;
         Ok(Chain {
             policy: self.policy.after(pairs),
             least: number,

@@ -9,7 +9,7 @@
 #![tactic(auto)]
 
 mod chain;
-mod front;
+mod prefix;
 
 pub use audit_book::{Book, BookFault};
 pub use chain::Chain;

@@ -17,7 +17,7 @@ use Rattle.audit_book.specs.declared.line.Line.{Line}
 use Rattle.audit_book.specs.declared.line.Line.TheVariants.{Said, End}
 use Rattle.audit_book.specs.Lines.{line_at}
 use Rattle.audit_book.specs.Text.{header_line}
-use Rattle.audit_book.specs.Reading.{with_front, ended_at, by_line, entries_in, lines_in, book_in}
+use Rattle.audit_book.specs.Reading.{with_prefix, ended_at, by_line, entries_in, lines_in, book_in}
 use Rattle.book_places.specs.Places.{IsLineOf}
 use Rattle.book_places.specs.Owed.{said_in, StandsAt}
 

@@ -28,18 +28,18 @@ no_post (Settled c k o) h = refl
 no_post (Posted p c s) h = absurd (cc)
 
 module _ (wall : ChineseWall) where
-  -- a front of what a sound book begins with
-  begins_front : (es : List Entry) (m : ℕ) → Begins wall es → Begins wall (take m es)
-  begins_front es m (rest, sound) =
+  -- a prefix of what a sound book begins with
+  begins_prefix : (es : List Entry) (m : ℕ) → Begins wall es → Begins wall (take m es)
+  begins_prefix es m (rest, sound) =
       let same : es ++ rest ≡ take m es ++ (drop m es ++ rest) =
       ap (λ xs. xs ++ rest) (sym (take-append-drop m es))
       ∙ append_assoc (take m es) (drop m es) rest in
       (drop m es ++ rest, subst (IsSound wall) same sound)
 
-  -- no front of it is bad
+  -- no prefix of it is bad
   pub none_bad : (es : List Entry) (m : ℕ) → Begins wall es → IsFirstBad wall es m →
       m ≤ length es → ⊥
-  none_bad es m begins bad low = bad.wrong low (begins_front es m begins)
+  none_bad es m begins bad low = bad.wrong low (begins_prefix es m begins)
 
   -- a sound book goes on with a post that counts
   post_goes_on : (es : List Entry) (x : Post) → IsSound wall es →
@@ -86,9 +86,9 @@ module _ (wall : ChineseWall) where
               (post_goes_on (before n es) x sound counted);
         }
 
-    pub lacks_verdict : (front : List Entry) → front ≡ before n es → (due : Entry) →
-        IsDueBehind wall front (Some due) → LacksVerdict wall es n due
-    lacks_verdict front same due behind = record {
+    pub lacks_verdict : (prefix : List Entry) → prefix ≡ before n es → (due : Entry) →
+        IsDueBehind wall prefix (Some due) → LacksVerdict wall es n due
+    lacks_verdict prefix same due behind = record {
       sound = subst (λ f. IsSound wall (f ++ due ∷ [])) same behind.sound;
       verdict = no_post due behind.no_post;
       other = λ e there is. wrong_at e there (
@@ -101,16 +101,16 @@ module _ (wall : ChineseWall) where
     }
 
     -- the entries before are no book with a bad entry
-    pub none_within : (front : List Entry) → front ≡ before n es → (m : ℕ) →
-        IsFirstBad wall front m → m ≤ length front → ⊥
-    none_within front same m first low =
-        none_bad front m (subst (Begins wall) (sym same) bad.before) first low
+    pub none_within : (prefix : List Entry) → prefix ≡ before n es → (m : ℕ) →
+        IsFirstBad wall prefix m → m ≤ length prefix → ⊥
+    none_within prefix same m first low =
+        none_bad prefix m (subst (Begins wall) (sym same) bad.before) first low
 
     -- what is due behind known entries is known
-    pub owed_known : (front : List Entry) → front ≡ before n es → (due : Entry) →
-        IsPolicy wall → IsDueBehind wall front (Some due) → All (IsKnownEntry wall) es →
+    pub owed_known : (prefix : List Entry) → prefix ≡ before n es → (due : Entry) →
+        IsPolicy wall → IsDueBehind wall prefix (Some due) → All (IsKnownEntry wall) es →
         IsKnownEntry wall due
-    owed_known front same due policy behind known =
-        due_known wall front due policy
+    owed_known prefix same due policy behind known =
+        due_known wall prefix due policy
         (subst (All (IsKnownEntry wall)) (sym same) (All-take (IsKnownEntry wall) (n - 1) es known))
         behind

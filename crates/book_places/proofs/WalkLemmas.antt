@@ -17,7 +17,7 @@ use Rattle.audit_book.specs.declared.line.Line.{Line}
 use Rattle.audit_book.specs.declared.line.Line.TheVariants.{Said, End}
 use Rattle.audit_book.specs.Lines.{line_at}
 use Rattle.audit_book.specs.Text.{header_line}
-use Rattle.audit_book.specs.Reading.{with_front, ended_at, by_line, entries_in, lines_in, book_in}
+use Rattle.audit_book.specs.Reading.{with_prefix, ended_at, by_line, entries_in, lines_in, book_in}
 use Rattle.book_places.specs.Places.{LacksHeader}
 
 module _ (wall : ChineseWall) where
@@ -36,10 +36,10 @@ module _ (wall : ChineseWall) where
         (entry : Entry) × (line_at wall l ≡ Ok (Said entry))
     pub why : Why e i n line
 
-  front_fails : (front : List Entry) (r : Result (List Entry) ReadFault) (fault : ReadFault) →
-      with_front front r ≡ Err fault → r ≡ Err fault
-  front_fails front (Ok xs) fault h = absurd cc
-  front_fails front (Err f) fault h = h
+  prefix_fails : (prefix : List Entry) (r : Result (List Entry) ReadFault) (fault : ReadFault) →
+      with_prefix prefix r ≡ Err fault → r ≡ Err fault
+  prefix_fails prefix (Ok xs) fault h = absurd cc
+  prefix_fails prefix (Err f) fault h = h
 
   behind_end : (number : ℕ) (ls : List Word) (n : ℕ) → ended_at number ls ≡ Err (BadLine n) →
       n ≡ number
@@ -113,7 +113,7 @@ module _ (wall : ChineseWall) where
       go (Ok (Said entry)) is h more_bad =
           later e line (next ∷ more) n entry is
           (more_bad
-          (front_fails (entry ∷ []) (entries_in wall (e + 1) (next ∷ more)) (BadLine n) h))
+          (prefix_fails (entry ∷ []) (entries_in wall (e + 1) (next ∷ more)) (BadLine n) h))
       go (Ok (End m)) is h more_bad = elim (eqb_tells m e) [
         | inl t ↦
             let at = behind_end (e + 3) (next ∷ more) n

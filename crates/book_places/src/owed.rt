@@ -71,16 +71,16 @@ fn copy_of(alloc: Global, entry: &Entry) -> Result<Entry, NoMemory>
 }
 
 // The book of the first so many entries.
-fn front(alloc: Global, book: &Book, number: usize) -> Result<Book, NoMemory>
+fn prefix(alloc: Global, book: &Book, number: usize) -> Result<Book, NoMemory>
     requires { number ≤ length book.now.list }
-    ensures { IfOk result (λ front. front.list ≡ take number book.now.list) }
+    ensures { IfOk result (λ prefix. prefix.list ≡ take number book.now.list) }
 {
-    let mut front = Book::new(alloc);
-    front.reserve(number)?;
+    let mut prefix = Book::new(alloc);
+    prefix.reserve(number)?;
     for at in 0..number {
-        front.push(copy_of(alloc, book.get(at))?);
+        prefix.push(copy_of(alloc, book.get(at))?);
     }
-    Ok(front)
+    Ok(prefix)
 }
 
 // What was due at the first bad entry, where the entries before it are a sound book.
@@ -109,8 +109,8 @@ pub fn owed_at(alloc: Global, policy: &Policy, book: &Book, number: u64) -> Resu
 {
     let _ = policy.processes();
     let _ = book.len();
-    let front = front(alloc, book, (number - 1) as usize)?;
-    match due_behind(alloc, policy, &front) {
+    let prefix = prefix(alloc, book, (number - 1) as usize)?;
+    match due_behind(alloc, policy, &prefix) {
         Ok(Some(verdict)) => Ok(Owed::Verdict(verdict)),
         Ok(None) => Ok(owed_none(policy, book, number)),
         Err(BookFault::NoMemory) => Err(NoMemory),

@@ -70,11 +70,11 @@ take_drop n es = sym (take-append-drop n es)
 pub held_later : (wall : ChineseWall) (entries : List Entry) (n m p d : ℕ) → n ≤ m →
     histories_after wall entries n p d ≡ true → histories_after wall entries m p d ≡ true
 held_later wall entries n m p d later h =
-    let front : take n (take m entries) ≡ take n entries = take-take n m entries later in
+    let prefix : take n (take m entries) ≡ take n entries = take-take n m entries later in
     let parts : posts_to entries m ≡ posts_in (drop n (take m entries)) ++ posts_to entries n =
     ap (λ es. posts_in es) (take_drop n (take m entries))
     ∙ posts_in-append (take n (take m entries)) (drop n (take m entries))
-    ∙ ap (λ es. posts_in (drop n (take m entries)) ++ posts_in es) front in
+    ∙ ap (λ es. posts_in (drop n (take m entries)) ++ posts_in es) prefix in
     ap (λ past. histories wall past p d) parts
     ∙ grow wall (posts_in (drop n (take m entries))) (posts_to entries n) p d h
 
@@ -103,8 +103,8 @@ label_cases has p label passed q d h =
       | inl old ↦ inl old
       | inr new ↦
           let parts = and_parts (nat_eq q p && passed) (is_that (dataset_in label) d) new in
-          let front = and_parts (nat_eq q p) passed parts.0 in
-          inr (eqb-true q p front.0, front.1, label_of_that label d parts.1)
+          let prefix = and_parts (nat_eq q p) passed parts.0 in
+          inr (eqb-true q p prefix.0, prefix.1, label_of_that label d parts.1)
     ]
   where
     label_of_that : (label : Option Label) (d : ℕ) → is_that (dataset_in label) d ≡ true →

@@ -12,7 +12,7 @@ use Rattle.run_model.specs.declared.entry.Entry.{Entry}
 use Rattle.run_model.specs.declared.entry.Entry.TheVariants.{Settled}
 use Rattle.run_model.specs.Posts.{Post, place, outcome}
 use Rattle.run_model.specs.Books.{posted, outcome_entry, entries_for, book, posts_in, IsSound}
-use Rattle.run_model.proofs.RunModelLemmas.{posts_in-book, before_seam, after_seam, get_front}
+use Rattle.run_model.proofs.RunModelLemmas.{posts_in-book, before_seam, after_seam, get_prefix}
 use Rattle.book_report.specs.Held.{posts_to}
 
 ---- places in joined lists
@@ -58,24 +58,24 @@ behind_of_book wall [] i x o = λ at came. absurd (cc)
 behind_of_book wall (y ∷ past) i x o = λ at came.
     elim (cases_lt i (length (book wall past))) [
       | inl low ↦
-          let front : take i (book wall past ++ entries_for wall y past)
+          let prefix : take i (book wall past ++ entries_for wall y past)
           ≡ take i (book wall past) =
           take-append-le i (book wall past) (entries_for wall y past) (omega arith) in
           let old = sym (before_seam (book wall past) (entries_for wall y past) i low) ∙ at in
-          let older = subst (λ es. outcome wall x (posts_in es) ≡ Some o) front came in
-          get_front (book wall past) (entries_for wall y past) (i + 1) _
+          let older = subst (λ es. outcome wall x (posts_in es) ≡ Some o) prefix came in
+          get_prefix (book wall past) (entries_for wall y past) (i + 1) _
           (behind_of_book wall past i x o old older)
-          ∙ ap (λ es. Some (Settled x.comm (place x (posts_in es)) o)) (sym front)
+          ∙ ap (λ es. Some (Settled x.comm (place x (posts_in es)) o)) (sym prefix)
       | inr high ↦
           let new = sym (after_seam (book wall past) (entries_for wall y past) i
           (i - length (book wall past)) (omega arith)) ∙ at in
           let is = only_post y past (outcome wall y past) (i - length (book wall past)) x new in
           let here : i ≡ length (book wall past) = omega (arith, is.0, high) in
-          let front : take i (book wall past ++ entries_for wall y past) ≡ book wall past =
+          let prefix : take i (book wall past ++ entries_for wall y past) ≡ book wall past =
           ap (λ n. take n (book wall past ++ entries_for wall y past)) here
           ∙ take-append_seam (book wall past) (entries_for wall y past) in
           let posts : posts_in (take i (book wall past ++ entries_for wall y past)) ≡ past =
-          ap posts_in front ∙ posts_in-book wall past in
+          ap posts_in prefix ∙ posts_in-book wall past in
           let its : outcome wall y past ≡ Some o =
           ap (λ z. outcome wall z past) is.1 ∙ (ap (λ ps. outcome wall x ps) (sym posts) ∙ came) in
           after_seam (book wall past) (entries_for wall y past) (i + 1) 1 (omega (arith, here))
@@ -108,7 +108,7 @@ before_in_book wall (y ∷ past) i c k o at =
           let old = sym (before_seam (book wall past) (entries_for wall y past) i low) ∙ at in
           let f = before_in_book wall past i c k o old in
           let next = f.next in
-          let front : take f.m (book wall past ++ entries_for wall y past)
+          let prefix : take f.m (book wall past ++ entries_for wall y past)
           ≡ take f.m (book wall past) =
           take-append-le f.m (book wall past) (entries_for wall y past)
           (omega (arith, next, low)) in
@@ -116,8 +116,8 @@ before_in_book wall (y ∷ past) i c k o at =
             m = f.m;
             x = f.x;
             next = next;
-            at = get_front (book wall past) (entries_for wall y past) f.m _ f.at;
-            came = subst (λ es. outcome wall f.x (posts_in es) ≡ Some o) (sym front) f.came;
+            at = get_prefix (book wall past) (entries_for wall y past) f.m _ f.at;
+            came = subst (λ es. outcome wall f.x (posts_in es) ≡ Some o) (sym prefix) f.came;
           }
       | inr high ↦
           let new = sym (after_seam (book wall past) (entries_for wall y past) i

@@ -27,7 +27,7 @@ use Rattle.run_state.specs.declared.entered.Entered.TheVariants.{Settled as sett
 use Rattle.run_state.specs.Views.{PostStateValue, view_of}
 use Rattle.run_state.specs.Stands.{StandsForPosts, Tells}
 use Rattle.audit_book.specs.Checks.{Stands, bare}
-use Rattle.audit_book.proofs.AuditBookLemmas.{posts_few, length_front, bare_posts}
+use Rattle.audit_book.proofs.AuditBookLemmas.{posts_few, length_prefix, bare_posts}
 use Rattle.book_report.specs.declared.row.Row.{Row}
 use Rattle.book_report.specs.declared.row.Way.TheVariants.{OwnPost}
 use Rattle.book_report.specs.declared.known.Known.{Known}
@@ -76,7 +76,7 @@ pub few_posts : (entries : List Entry) (n : ℕ) → length entries < 2 ^ 62 →
     length (posts_to entries n) < 2 ^ 62
 few_posts entries n few =
     let short = posts_few (take n entries) in
-    let front = length_front entries n in
+    let prefix = length_prefix entries n in
     omega arith
 
 ---- the rows of a post

@@ -20,7 +20,7 @@ use Rattle.audit_book.specs.declared.line.Line.TheVariants.{Said, End}
 use Rattle.audit_book.specs.Lines.{verb_of, line_in, line_at}
 use Rattle.audit_book.specs.Text.{line_of, entry_words, end_words, header_words, header_line}
 use Rattle.audit_book.specs.Text.{entry_lines, book_text}
-use Rattle.audit_book.specs.Reading.{with_front, by_line, ended_at, entries_in, lines_in, book_in}
+use Rattle.audit_book.specs.Reading.{with_prefix, by_line, ended_at, entries_in, lines_in, book_in}
 use Rattle.audit_book.specs.Faults.{IsLine, IsEntryLine, text_of, IsCut}
 use Rattle.audit_book.specs.Laws.{IsSpelled}
 use Rattle.audit_book.proofs.AuditBookLemmas.{line_lacks, header_whole, ended_lines, all_lines}
@@ -70,7 +70,7 @@ told_step wall l ls e said =
 -- ---- lines of entries
 
 with_both : (e : Entry) (es : List Entry) (r : Result (List Entry) ReadFault) →
-    with_front (e ∷ []) (with_front es r) ≡ with_front (e ∷ es) r
+    with_prefix (e ∷ []) (with_prefix es r) ≡ with_prefix (e ∷ es) r
 with_both e es (Ok more) = refl
 with_both e es (Err f) = refl
 
@@ -97,16 +97,16 @@ module _ (wall : ChineseWall) where
 
   pub told_read : (k : ℕ) (ls rest : List Word) → AreEntryLines wall ls → 0 < length rest →
       entries_in wall k (ls ++ rest)
-      ≡ with_front (told wall ls) (entries_in wall (k + length ls) rest)
+      ≡ with_prefix (told wall ls) (entries_in wall (k + length ls) rest)
   told_read k [] rest h some =
       ap (λ (n : ℕ). entries_in wall n rest) (let z : k ≡ k + 0 = omega arith in z)
       ∙ sym (with_none (entries_in wall (k + 0) rest))
   told_read k (l ∷ ls) rest h some =
       let sum : k + 1 + length ls ≡ k + suc (length ls) = omega arith in
       step_again wall k l (ls ++ rest) h.0.1.0 (some_behind ls rest some) h.0.1.1
-      ∙ ap (with_front (h.0.1.0 ∷ [])) (told_read (k + 1) ls rest h.1 some)
+      ∙ ap (with_prefix (h.0.1.0 ∷ [])) (told_read (k + 1) ls rest h.1 some)
       ∙ with_both h.0.1.0 (told wall ls) (entries_in wall (k + 1 + length ls) rest)
-      ∙ (λ i. with_front (sym (told_step wall l ls h.0.1.0 h.0.1.1) i)
+      ∙ (λ i. with_prefix (sym (told_step wall l ls h.0.1.0 h.0.1.1) i)
       (entries_in wall (sum i) rest))
 
   lines_of : (ls : List Word) → AreEntryLines wall ls → AreLines ls
@@ -201,7 +201,7 @@ module _ (wall : ChineseWall) where
       ++ parts_ended (all_lines wall more n) (lines_whole wall policy more n spelled small) i))
       ∙ header_again wall policy (h.lines ++ ends) (some_behind h.lines ends some)
       ∙ told_read 0 h.lines ends h.entries some
-      ∙ ap (with_front (told wall h.lines))
+      ∙ ap (with_prefix (told wall h.lines))
       (entries_again wall policy (0 + length h.lines) n more spelled small (omega (arith, sum)))
 
 -- ---- a text that is cut, with an end put behind it

@@ -17,7 +17,7 @@ use Rattle.audit_book.specs.declared.line.Line.{Line}
 use Rattle.audit_book.specs.declared.line.Line.TheVariants.{Said, End}
 use Rattle.audit_book.specs.Lines.{line_at}
 use Rattle.audit_book.specs.Text.{header_line}
-use Rattle.audit_book.specs.Reading.{with_front, by_line, ended_at, entries_in, lines_in, book_in}
+use Rattle.audit_book.specs.Reading.{with_prefix, by_line, ended_at, entries_in, lines_in, book_in}
 use Rattle.audit_book.proofs.AuditBookLemmas.{more_found, ended_found, end_step, header_step}
 use Rattle.audit_book.proofs.AuditBookLemmas.{some_parts, done, same_done}
 use Rattle.book_seal.specs.declared.fault.SealFault.{SealFault}
@@ -40,10 +40,10 @@ record Extends (told : List Entry) (alone : Read) (all : List Entry) : Type 0 wh
   good : (n : ℕ) → alone ≡ Err (BadLine n) → ⊥
   whole : (es : List Entry) → alone ≡ Ok es → es ≡ all
 
-front_fault : (e : Entry) (r : Read) (n : ℕ) → with_front (e ∷ []) r ≡ Err (BadLine n) →
+prefix_fault : (e : Entry) (r : Read) (n : ℕ) → with_prefix (e ∷ []) r ≡ Err (BadLine n) →
     r ≡ Err (BadLine n)
-front_fault e (Ok es) n h = absurd cc
-front_fault e (Err d) n h = h
+prefix_fault e (Ok es) n h = absurd cc
+prefix_fault e (Err d) n h = h
 
 one_only : (ls : List Word) (w v : Word) (ws : List Word) → ls ++ (w ∷ ws) ≡ v ∷ [] → ls ≡ []
 one_only [] w v ws e = refl
@@ -75,7 +75,7 @@ module _ (wall : ChineseWall) where
         more = b.more;
         is = m.whole ∙ ap (λ es. e ∷ es) b.is
             ∙ ap (λ es. es ++ b.more) (sym (told_step wall l ls e said));
-        good = λ n bad. b.good n (front_fault e (entries_in wall (k + 1) (v ∷ vs)) n bad);
+        good = λ n bad. b.good n (prefix_fault e (entries_in wall (k + 1) (v ∷ vs)) n bad);
         whole = λ es read.
             let a = more_found e (entries_in wall (k + 1) (v ∷ vs)) es read in
             a.whole ∙ ap (λ rest. e ∷ rest) (b.whole a.rest a.read) ∙ sym m.whole;
@@ -182,7 +182,7 @@ module _ (wall : ChineseWall) where
   pub starts_unsoundly : (text : List ℕ) (f : SealFault) → IsFaultOf wall text f →
       f ≢ faults.NoMemory → StartsSoundly wall text → ⊥
   starts_unsoundly text (faults.BadLine n) h other s =
-      (text_extends text s.front.0 s.entries (ap (book_in wall) s.front.1 ∙ s.read)).good n h
+      (text_extends text s.prefix.0 s.entries (ap (book_in wall) s.prefix.1 ∙ s.read)).good n h
   starts_unsoundly text (faults.BadEntry n) h other s = no_bad_entry text n s.entries h s.sound
-      (text_extends text s.front.0 s.entries (ap (book_in wall) s.front.1 ∙ s.read))
+      (text_extends text s.prefix.0 s.entries (ap (book_in wall) s.prefix.1 ∙ s.read))
   starts_unsoundly text faults.NoMemory h other s = other refl

@@ -84,14 +84,14 @@ finished_none b line = ap (λ (ls : List Word). ended_lines (all_but_last ls))
 abbrev pub AreLines : List Word → Type 0
 AreLines ls = AllByRecursion IsLine ls
 
-front_lines : (ls : List Word) → AreLines ls → AreLines (all_but_last ls)
-front_lines [] h = tt
-front_lines (l ∷ []) h = tt
-front_lines (l ∷ m ∷ ls) h = (h.0, front_lines (m ∷ ls) h.1)
+prefix_lines : (ls : List Word) → AreLines ls → AreLines (all_but_last ls)
+prefix_lines [] h = tt
+prefix_lines (l ∷ []) h = tt
+prefix_lines (l ∷ m ∷ ls) h = (h.0, prefix_lines (m ∷ ls) h.1)
 
 pub finished_are_lines : (text : List ℕ) → AreLines (finished_lines text)
 unfolding finished_lines
-finished_are_lines text = front_lines (parts 10 text) (parts_lines text)
+finished_are_lines text = prefix_lines (parts 10 text) (parts_lines text)
 
 pub finished_is : (text : List ℕ) → finished text ≡ ended_lines (finished_lines text)
 unfolding finished
@@ -142,7 +142,7 @@ up_to_here text n low feed line =
     ∙ (λ i. feed i ∷ drop (sym next i) text) in
     let whole : text ≡ take n text ++ (10 ∷ drop (n + 1) text) =
     sym (take-append-drop n text) ∙ ap (λ t. take n text ++ t) behind in
-    let front : take (suc n) text ≡ take n text ++ (10 ∷ []) =
+    let prefix : take (suc n) text ≡ take n text ++ (10 ∷ []) =
     take-suc text n 0 low ∙ ap (λ b. take n text ++ (b ∷ [])) feed in
     ap finished whole ∙ finished_up_to (take n text) (drop (n + 1) text) line
-    ∙ sym front ∙ ap (λ (m : ℕ). take m text) (sym next)
+    ∙ sym prefix ∙ ap (λ (m : ℕ). take m text) (sym next)

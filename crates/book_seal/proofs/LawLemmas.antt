@@ -48,5 +48,5 @@ own_seal wall text es read sound =
       read = read;
       sound = sound;
       posts = ap posts_in (sym (whole_told wall text es (ap (book_in wall) whole ∙ read)));
-      front = ([], append-nil (finished text) ∙ whole);
+      prefix = ([], append-nil (finished text) ∙ whole);
     }

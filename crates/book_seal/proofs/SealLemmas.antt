@@ -62,7 +62,7 @@ module _ (wall : ChineseWall) (policy : IsPolicy wall) (text : List ℕ)
         read = ap (book_in wall) (sym whole) ∙ v.1 ∙ ap (λ es. Ok es) is;
         sound = sound_is;
         posts = posts_are;
-        front = ([], append-nil (finished text) ∙ whole);
+        prefix = ([], append-nil (finished text) ∙ whole);
       }
 
   of_nothing : finished text ≡ [] → IsSealOf wall text (book_text wall sealed)
@@ -75,7 +75,7 @@ module _ (wall : ChineseWall) (policy : IsPolicy wall) (text : List ℕ)
             (subst (λ es. AllByRecursion (IsSpelled wall) es) (sym same) done.spelled) done.few;
         sound = sound_is;
         posts = posts_are;
-        front = (book_text wall sealed, ap (λ t. t ++ book_text wall sealed) none);
+        prefix = (book_text wall sealed, ap (λ t. t ++ book_text wall sealed) none);
       }
 
   of_header : HasHeader wall text → IsSealOf wall text (book_text wall sealed)
@@ -98,7 +98,7 @@ module _ (wall : ChineseWall) (policy : IsPolicy wall) (text : List ℕ)
             ∙ ap (λ es. Ok es) (sym same);
         sound = sound_is;
         posts = posts_are;
-        front = (rest, whole);
+        prefix = (rest, whole);
       }
 
   of_cut : (finished text ≡ []) ⊎ HasHeader wall text → IsSealOf wall text (book_text wall sealed)

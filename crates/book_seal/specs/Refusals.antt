@@ -16,7 +16,7 @@ pub record StartsSoundly (wall : ChineseWall) (text : List ℕ) : Type 0 where
   pub entries : List Entry
   pub read : book_in wall whole ≡ Ok entries
   pub sound : IsSound wall entries
-  pub front : Starts (finished text) whole
+  pub prefix : Starts (finished text) whole
 
 -- the line of this number is the first finished one that should not stand there
 abbrev pub HasBadLine : ChineseWall → (text : List ℕ) → (number : ℕ) → Type 0

@@ -42,8 +42,8 @@ finished_entries wall text =
 
 -- ## the seal
 
-abbrev pub Starts : (front whole : List ℕ) → Type 0
-Starts front whole = (rest : List ℕ) × (front ++ rest ≡ whole)
+abbrev pub Starts : (prefix whole : List ℕ) → Type 0
+Starts prefix whole = (rest : List ℕ) × (prefix ++ rest ≡ whole)
 
 -- The seal of a text is read as a sound book. Its posts are those of the finished lines, in their
 -- order, and it starts with these lines.
@@ -52,4 +52,4 @@ pub record IsSealOf (wall : ChineseWall) (text sealed : List ℕ) : Type 0 where
   pub read : book_in wall sealed ≡ Ok entries
   pub sound : IsSound wall entries
   pub posts : posts_in entries ≡ posts_in (finished_entries wall text)
-  pub front : Starts (finished text) sealed
+  pub prefix : Starts (finished text) sealed

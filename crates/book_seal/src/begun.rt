@@ -43,12 +43,12 @@ fn read_cut(alloc: Global, policy: &Policy, text: &[u8]) -> Result<Book, NoMemor
     ensures known { IfOk result (λ book. All (IsKnownEntry policy.now) book.list) }
 {
     let _ = policy.processes();
-    let front = finished_of(text);
-    if front.is_empty() {
+    let prefix = finished_of(text);
+    if prefix.is_empty() {
         return Ok(Book::new(alloc));
     }
-    let entries = Parts::new(front, b'\n').count() - 2;
-    let whole = with_end(alloc, front, entries)?;
+    let entries = Parts::new(prefix, b'\n').count() - 2;
+    let whole = with_end(alloc, prefix, entries)?;
     match read_book(alloc, policy, &whole) {
         Ok(book) => Ok(book),
         Err(ReadFault::NoMemory) => Err(NoMemory),
@@ -58,11 +58,11 @@ fn read_cut(alloc: Global, policy: &Policy, text: &[u8]) -> Result<Book, NoMemor
 }
 
 // The lines with the end of so many entries behind them.
-fn with_end(alloc: Global, front: &[u8], entries: usize) -> Result<Vec<u8>, AllocError>
-    ensures { IfOk result (λ whole. whole.items ≡ front.now ++ line_of (end_words entries)) }
+fn with_end(alloc: Global, prefix: &[u8], entries: usize) -> Result<Vec<u8>, AllocError>
+    ensures { IfOk result (λ whole. whole.items ≡ prefix.now ++ line_of (end_words entries)) }
 {
     let mut whole = Vec::new(alloc);
-    whole.extend_from_slice(front)?;
+    whole.extend_from_slice(prefix)?;
     put_end(entries, &mut whole)?;
     Ok(whole)
 }

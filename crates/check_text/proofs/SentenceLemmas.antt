@@ -148,9 +148,9 @@ word_few w = cond_both (leb (length w) 36) (map shown w) (map shown (take 34 w) 
 quoted_few : (w : Word) → length (quoted w) ≤ 38
 quoted_few w =
     let both = length-append (codes "\"" ++ shown_word w) (codes "\"") in
-    let front = length-append (codes "\"") (shown_word w) in
+    let prefix = length-append (codes "\"") (shown_word w) in
     let word = word_few w in
-    omega (arith, both, front, word)
+    omega (arith, both, prefix, word)
 
 subject_few : (w : Word) → length (subject w) ≤ 38
 subject_few w = cond_both (length w == 0) (codes "the end of the line") (quoted w)
@@ -171,9 +171,9 @@ complaint_few NoMemory = lit≤ tt
 complaint_of_few : (w : Word) (fault : LineFault) → AreFew (complaint_of w fault)
 complaint_of_few w fault =
     let both = length-append (subject w) (complaint fault) in
-    let front = subject_few w in
+    let prefix = subject_few w in
     let back = complaint_few fault in
-    omega (arith, both, front, back)
+    omega (arith, both, prefix, back)
 
 byte_few : (w : Word) (b : ℕ) → b < 256 → AreFew (shape_of_byte w b)
 byte_few w b low = cond_both (is_printable b)
@@ -182,9 +182,9 @@ byte_few w b low = cond_both (is_printable b)
     (λ e. cond_both (b == 32) (codes "an empty field: one space too many") (complaint_of w BadShape)
     AreFew (λ f. lit≤ tt) (λ f. complaint_of_few w BadShape))
     (λ e. let both = length-append (codes "byte " ++ decimal b) (codes " is not printable ASCII") in
-    let front = length-append (codes "byte ") (decimal b) in
+    let prefix = length-append (codes "byte ") (decimal b) in
     let digits = length-decimal-le 3 b (omega arith) (omega arith) (omega arith) in
-    omega (arith, both, front, digits))
+    omega (arith, both, prefix, digits))
 
 end_few : (line : List ℕ) → AreFew (shape_of_end line)
 end_few line = cond_both (ends_in_space line)

@@ -80,10 +80,10 @@ from_word (v ∷ ws) line zero w e at =
 from_word (v ∷ []) line (suc i) w e at = absurd cc
 from_word (v ∷ u ∷ ws) line (suc i) w e at =
     let two = apart line v u ws e in
-    let front = sum_by-cons (λ (x : Word). length x + 1) v (take i (u ∷ ws)) in
+    let prefix = sum_by-cons (λ (x : Word). length x + 1) v (take i (u ∷ ws)) in
     let gone : drop (length v + 1) line ≡ two.rest =
     ap (drop (length v + 1)) two.whole ∙ past_space v two.space two.rest in
-    ap (λ n. get_or (parts 32 (drop n line)) 0 []) front
+    ap (λ n. get_or (parts 32 (drop n line)) 0 []) prefix
     ∙ ap (λ ys. get_or (parts 32 ys) 0 []) (sym (drop-drop (before (u ∷ ws) i) (length v + 1) line)
     ∙ ap (drop (before (u ∷ ws) i)) gone)
     ∙ from_word (u ∷ ws) two.rest i w two.words at
@@ -167,13 +167,13 @@ last_space (v ∷ ws) line zero e at none some = let short = ap length none in a
 last_space (v ∷ []) line (suc i) e at none some = absurd cc
 last_space (v ∷ u ∷ ws) line (suc i) e at none some =
     let two = apart line v u ws e in
-    let front = sum_by-cons (λ (x : Word). length x + 1) v (take i (u ∷ ws)) in
+    let prefix = sum_by-cons (λ (x : Word). length x + 1) v (take i (u ∷ ws)) in
     let gone : drop (length v + 1) line ≡ two.rest =
     ap (drop (length v + 1)) two.whole ∙ past_space v two.space two.rest in
     let left : drop (before (u ∷ ws) i) two.rest ≡ [] =
     ap (drop (before (u ∷ ws) i)) (sym gone)
     ∙ drop-drop (before (u ∷ ws) i) (length v + 1) line
-    ∙ ap (λ n. drop n line) (sym front) ∙ none in
+    ∙ ap (λ n. drop n line) (sym prefix) ∙ none in
     ap (λ l. get_or l (length l - 1) 0 == 32) two.whole
     ∙ ap (λ b. b == 32) (last_byte v two.space two.rest)
     ∙ go two.rest two.words left (λ l. last_space (u ∷ ws) l i)

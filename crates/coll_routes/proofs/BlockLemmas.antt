@@ -12,8 +12,8 @@ pub sum_more : (sizes : List ℕ) (k : ℕ) → k < length sizes →
     sum (take (k + 1) sizes) ≡ sum (take k sizes) + get_or sizes k 0
 sum_more sizes k h = sum_by_more (λ x. x) sizes k 0 h
 
-pub sum_front : (sizes : List ℕ) (k : ℕ) → sum (take k sizes) ≤ sum sizes
-sum_front sizes k = sum_by-take-le (λ x. x) sizes k
+pub sum_prefix : (sizes : List ℕ) (k : ℕ) → sum (take k sizes) ≤ sum sizes
+sum_prefix sizes k = sum_by-take-le (λ x. x) sizes k
 
 pub sum_whole : (sizes : List ℕ) (k : ℕ) → length sizes ≤ k → sum (take k sizes) ≡ sum sizes
 sum_whole sizes k h = ap sum (take_all k sizes h)
@@ -97,7 +97,7 @@ size_past zero size b h = refl
 size_past (suc n) size zero h = absurd (omega arith)
 size_past (suc n) size (suc b) h = size_past n size b (omega arith)
 
-pub ruleset blocks = (sum_more, sum_front, sum_whole)
+pub ruleset blocks = (sum_more, sum_prefix, sum_whole)
 
 pub ruleset even_blocks = (even_whole, even_start, even_past)
 

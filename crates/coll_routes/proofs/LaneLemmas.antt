@@ -33,7 +33,7 @@ use Rattle.coll_routes.specs.Faults.{no_topology, is_listed, is_of_type, is_abov
 use Rattle.coll_routes.specs.Faults.{is_asked_above_limit, stated_type}
 use Rattle.coll_routes.specs.Fit.{IsFit}
 use Rattle.coll_routes.proofs.AnyLemmas.{any_at, any_none}
-use Rattle.coll_routes.proofs.BlockLemmas.{even_whole, sum_front, size_more, empty_block}
+use Rattle.coll_routes.proofs.BlockLemmas.{even_whole, sum_prefix, size_more, empty_block}
 use Rattle.coll_routes.proofs.FitLemmas.{no_fault, given_is}
 
 -- the tests of a post with no fault fail
@@ -179,7 +179,7 @@ module _ (roll : Roll) (i : ℕ) (s : Stated) (fit : IsFit roll) (said : stated_
   pub block_within : (b end : ℕ) → end ≡ sum (take (b + 1) stated_sizes) → end ≤ given roll i
   block_within b end to =
       let same = given_is roll i s said in
-      let front = sum_front stated_sizes (b + 1) in
+      let prefix = sum_prefix stated_sizes (b + 1) in
       let fits = sizes_fit in
       omega arith
 
@@ -189,7 +189,7 @@ module _ (roll : Roll) (i : ℕ) (s : Stated) (fit : IsFit roll) (said : stated_
   any_block b =
       let same = given_is roll i s said in
       let fits = sizes_fit in
-      let front = sum_front stated_sizes (b + 1) in
+      let prefix = sum_prefix stated_sizes (b + 1) in
       let more = size_more stated_sizes b in
       ⊎_elim
       (λ some.

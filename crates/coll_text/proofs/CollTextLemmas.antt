@@ -10,6 +10,6 @@ pub use Rattle.coll_text.proofs.NumberLemmas.{signed_is_read}
 pub use Rattle.coll_text.proofs.SendLemmas.{Appends-none, moves_break, moves_end, moves_more}
 pub use Rattle.coll_text.proofs.SendLemmas.{moves_stop, moves_then}
 pub use Rattle.coll_text.proofs.SolidLemmas.{all_joint, decimal_solid, statement_solid}
-pub use Rattle.coll_text.proofs.SpacedLemmas.{front_behind, join_cons}
+pub use Rattle.coll_text.proofs.SpacedLemmas.{prefix_behind, join_cons}
 pub use Rattle.coll_text.proofs.WordLemmas.{decimal_some, label_again, label_found, label_some}
 pub use Rattle.coll_text.proofs.WordLemmas.{name_at_of, name_some, place_found}

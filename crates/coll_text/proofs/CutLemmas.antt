@@ -48,10 +48,10 @@ whole_part s i w low h e =
     let all : list_all (ltb 44) w ≡ true = rw (take_all i w (omega (arith, e))) at h in
     slice_split_none (λ b. eqb b s) w (free s w low all)
 
-pub front_part : (s i : ℕ) (w : List ℕ) → s < 45 → list_all (ltb 44) (take i w) ≡ true →
+pub prefix_part : (s i : ℕ) (w : List ℕ) → s < 45 → list_all (ltb 44) (take i w) ≡ true →
     i < length w → get_or w i 0 ≡ s →
     slice_split (λ b. eqb b s) w ≡ take i w ∷ slice_split (λ b. eqb b s) (drop (i + 1) w)
-front_part s i w low h lt e =
+prefix_part s i w low h lt e =
     let cut : take i w ++ get_or w i 0 ∷ drop (i + 1) w ≡ w = ap (λ (v : List ℕ). take i w ++ v)
     (sym (drop_more w i 0 lt)) ∙ take-append-drop i w in
     ap (slice_split (λ b. eqb b s)) (sym cut)

@@ -42,49 +42,49 @@ pub fails_before : {A B : Type 0} (e : LineFault) (r : Result A LineFault) (made
 fails_before e r made h = carried e (r >>= λ x. Ok (made x)) r h (is_fault e r made)
 
 -- what was read before, and what is still read
-abbrev pub with_front : {A : Type 0} → List A → Result (List A) LineFault →
+abbrev pub with_prefix : {A : Type 0} → List A → Result (List A) LineFault →
     Result (List A) LineFault
-with_front front read = read >>= λ xs. Ok (front ++ xs)
+with_prefix prefix read = read >>= λ xs. Ok (prefix ++ xs)
 
-regroup : {A : Type 0} (front : List A) (x : A) (read : Result (List A) LineFault) →
-    with_front front (read >>= λ xs. Ok (x ∷ xs)) ≡ with_front (front ++ x ∷ []) read
-regroup front x (Ok xs) = ap Ok (sym (append_assoc front (x ∷ []) xs))
-regroup front x (Err f) = refl
+regroup : {A : Type 0} (prefix : List A) (x : A) (read : Result (List A) LineFault) →
+    with_prefix prefix (read >>= λ xs. Ok (x ∷ xs)) ≡ with_prefix (prefix ++ x ∷ []) read
+regroup prefix x (Ok xs) = ap Ok (sym (append_assoc prefix (x ∷ []) xs))
+regroup prefix x (Err f) = refl
 
-pub goes_on : {A : Type 0} (read : Word → Result A LineFault) (front : List A) (w : Word)
+pub goes_on : {A : Type 0} (read : Word → Result A LineFault) (prefix : List A) (w : Word)
     (before ws : List Word) (x : A) (total : Result (List A) LineFault) → before ≡ w ∷ ws →
     read w ≡ Ok x
-    → with_front front (each_of read before) ≡ total →
-    with_front (front ++ x ∷ []) (each_of read ws) ≡ total
+    → with_prefix prefix (each_of read before) ≡ total →
+    with_prefix (prefix ++ x ∷ []) (each_of read ws) ≡ total
 unfolding each_of
-goes_on read front w before ws x total split h so_far =
-    let one : with_front front (each_of read before) ≡ with_front (front ++ x ∷ [])
-    (each_of read ws) = rw (split, h) (regroup front x (each_of read ws)) in
+goes_on read prefix w before ws x total split h so_far =
+    let one : with_prefix prefix (each_of read before) ≡ with_prefix (prefix ++ x ∷ [])
+    (each_of read ws) = rw (split, h) (regroup prefix x (each_of read ws)) in
     sym one ∙ so_far
 
-stops : {A : Type 0} (read : Word → Result A LineFault) (front : List A) (w : Word)
+stops : {A : Type 0} (read : Word → Result A LineFault) (prefix : List A) (w : Word)
     (before ws : List Word) (f : LineFault) (total : Result (List A) LineFault) →
     before ≡ w ∷ ws → read w ≡ Err f
-    → with_front front (each_of read before) ≡ total → total ≡ Err f
+    → with_prefix prefix (each_of read before) ≡ total → total ≡ Err f
 unfolding each_of
-stops read front w before ws f total split h so_far =
-    let one : with_front front (each_of read before) ≡ Err f = rw (split, h) refl in
+stops read prefix w before ws f total split h so_far =
+    let one : with_prefix prefix (each_of read before) ≡ Err f = rw (split, h) refl in
     sym so_far ∙ one
 
-pub ends : {A : Type 0} (e : LineFault) (read : Word → Result A LineFault) (front : List A)
+pub ends : {A : Type 0} (e : LineFault) (read : Word → Result A LineFault) (prefix : List A)
     (w : Word) (before ws : List Word) (total : Result (List A) LineFault) →
     before ≡ w ∷ ws → Fails e (read w)
-    → with_front front (each_of read before) ≡ total → Fails e total
-ends e read front w before ws total split h so_far =
-    carried e (read w) total h (λ f. stops read front w before ws e total split f so_far)
+    → with_prefix prefix (each_of read before) ≡ total → Fails e total
+ends e read prefix w before ws total split h so_far =
+    carried e (read w) total h (λ f. stops read prefix w before ws e total split f so_far)
 
-pub is_done : {A : Type 0} (read : Word → Result A LineFault) (front : List A) (before : List Word)
+pub is_done : {A : Type 0} (read : Word → Result A LineFault) (prefix : List A) (before : List Word)
     (total : Result (List A) LineFault) → before ≡ []
-    → with_front front (each_of read before) ≡ total → total ≡ Ok front
+    → with_prefix prefix (each_of read before) ≡ total → total ≡ Ok prefix
 unfolding each_of
-is_done read front before total none so_far =
-    let one : with_front front (each_of read before) ≡ Ok front = rw none (ap Ok (append-nil front))
-    in
+is_done read prefix before total none so_far =
+    let one : with_prefix prefix (each_of read before) ≡ Ok prefix = rw none
+    (ap Ok (append-nil prefix)) in
     sym so_far ∙ one
 
 -- ---- the same where memory may have run out
@@ -92,18 +92,18 @@ is_done read front before total none so_far =
 -- What was read so far is in the list, unless memory ran out.
 pub record HasRead {A : Type 0} (read : Word → Result A LineFault) (ran_out : Bool)
     (list : List A) (ws : List Word) (total : Result (List A) LineFault) : Type 0 where
-  pub front : List A
-  pub kept : ran_out ≡ false → list ≡ front
-  pub so_far : with_front front (each_of read ws) ≡ total
+  pub prefix : List A
+  pub kept : ran_out ≡ false → list ≡ prefix
+  pub so_far : with_prefix prefix (each_of read ws) ≡ total
 
-front_none : {A : Type 0} (r : Result (List A) LineFault) → with_front [] r ≡ r
-front_none (Ok xs) = refl
-front_none (Err f) = refl
+prefix_none : {A : Type 0} (r : Result (List A) LineFault) → with_prefix [] r ≡ r
+prefix_none (Ok xs) = refl
+prefix_none (Err f) = refl
 
 pub begins : {A : Type 0} (read : Word → Result A LineFault) (ran_out : Bool) (list : List A)
     (ws : List Word) → list ≡ [] → HasRead read ran_out list ws (each_of read ws)
 begins read ran_out list ws none =
-    record { front = []; kept = λ _. none; so_far = front_none (each_of read ws) }
+    record { prefix = []; kept = λ _. none; so_far = prefix_none (each_of read ws) }
 
 module _ {A : Type 0} (read : Word → Result A LineFault) (was : Bool) (list : List A) (w : Word)
     (before ws : List Word) (total : Result (List A) LineFault)
@@ -112,19 +112,19 @@ module _ {A : Type 0} (read : Word → Result A LineFault) (was : Bool) (list : 
       (is ≡ false → new ≡ list ++ x ∷ []) → (is ≡ false → was ≡ false) →
       HasRead read is new ws total
   reads_on is new x split h adds stays = record {
-    front = so.front ++ x ∷ [];
+    prefix = so.prefix ++ x ∷ [];
     kept = λ off. adds off ∙ ap (λ xs. xs ++ x ∷ []) (so.kept (stays off));
-    so_far = goes_on read so.front w before ws x total split h so.so_far;
+    so_far = goes_on read so.prefix w before ws x total split h so.so_far;
   }
 
   pub stops_at : (e : LineFault) → before ≡ w ∷ ws → Fails e (read w) → Fails e total
-  stops_at e split h = ends e read so.front w before ws total split h so.so_far
+  stops_at e split h = ends e read so.prefix w before ws total split h so.so_far
 
 module _ {A : Type 0} (read : Word → Result A LineFault) (ran_out : Bool) (list : List A)
     (before : List Word) (total : Result (List A) LineFault) (none : before ≡ [])
     (so : HasRead read ran_out list before total) where
   pub all_kept : ran_out ≡ false → total ≡ Ok list
-  all_kept off = is_done read so.front before total none so.so_far ∙ ap Ok (sym (so.kept off))
+  all_kept off = is_done read so.prefix before total none so.so_far ∙ ap Ok (sym (so.kept off))
 
   pub all_read : checked total ≡ Ok tt
-  all_read = ap checked (is_done read so.front before total none so.so_far)
+  all_read = ap checked (is_done read so.prefix before total none so.so_far)

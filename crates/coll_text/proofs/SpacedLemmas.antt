@@ -43,25 +43,26 @@ put_behind (Err x) old mid new first rest whole h g e = tt
 
 -- ---- what stands at the front of a text
 
-pub front_same : (old new : List ℕ) → new ≡ old → KeepsPrefix old new
-front_same old new e = ap (take (length old)) e ∙ take_all (length old) old (omega arith)
+pub prefix_same : (old new : List ℕ) → new ≡ old → KeepsPrefix old new
+prefix_same old new e = ap (take (length old)) e ∙ take_all (length old) old (omega arith)
 
-pub front_put : (old new more : List ℕ) → new ≡ old ++ more → KeepsPrefix old new
-front_put old new more e = ap (take (length old)) e ∙ take-append_seam old more
+pub prefix_put : (old new more : List ℕ) → new ≡ old ++ more → KeepsPrefix old new
+prefix_put old new more e = ap (take (length old)) e ∙ take-append_seam old more
 
-front_back : (old new : List ℕ) → KeepsPrefix old new → old ++ drop (length old) new ≡ new
-front_back old new f =
+prefix_back : (old new : List ℕ) → KeepsPrefix old new → old ++ drop (length old) new ≡ new
+prefix_back old new f =
     ap (λ (t : List ℕ). t ++ drop (length old) new) (sym f) ∙ take-append-drop (length old) new
 
-pub front_then : (old mid new : List ℕ) → KeepsPrefix old mid → KeepsPrefix mid new → KeepsPrefix old new
-front_then old mid new f g =
-    let a = front_back old mid f in
-    let b = front_back mid new g in
-    front_put old new (drop (length old) mid ++ drop (length mid) new)
+pub prefix_then : (old mid new : List ℕ) → KeepsPrefix old mid → KeepsPrefix mid new →
+    KeepsPrefix old new
+prefix_then old mid new f g =
+    let a = prefix_back old mid f in
+    let b = prefix_back mid new g in
+    prefix_put old new (drop (length old) mid ++ drop (length mid) new)
     (sym b ∙ ap (λ (t : List ℕ). t ++ drop (length mid) new) (sym a)
     ∙ append_assoc old (drop (length old) mid) (drop (length mid) new))
 
 -- with words put between
-pub front_behind : (old mid new more : List ℕ) → mid ≡ old ++ more → KeepsPrefix mid new →
+pub prefix_behind : (old mid new more : List ℕ) → mid ≡ old ++ more → KeepsPrefix mid new →
     KeepsPrefix old new
-front_behind old mid new more e f = front_then old mid new (front_put old mid more e) f
+prefix_behind old mid new more e f = prefix_then old mid new (prefix_put old mid more e) f

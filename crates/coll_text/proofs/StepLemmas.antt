@@ -20,7 +20,7 @@ use Rattle.std.proofs.Math.Nat.{mul_assoc, pow-succ', pow-le-pow_right, mod-eq_o
 use Rattle.std.proofs.Math.Nat.{mul-lt-mul_of_pos_right, add-mul-mod_self_right}
 use Rattle.coll_text.specs.Numbers.{Word, is_digit, value_after}
 use Rattle.coll_text.specs.Eights.{less_zero, IsFrontValue}
-use Rattle.coll_text.proofs.FrontLemmas.{value_after-append, digit_range}
+use Rattle.coll_text.proofs.PrefixLemmas.{value_after-append, digit_range}
 
 -- a value before digits counts for each of them tenfold
 value_behind : (n m : ℕ) (w : Word) → value_after (n + m) w ≡ value_after n w + m * 10 ^ length w
@@ -60,17 +60,17 @@ module _ (w : Word) (i n v e : ℕ) (near : i + n ≤ length w) where
       ∙ list_all-append is_digit (take i w) (take n (drop i w))
       ∙ and_from (list_all is_digit (take i w)) (list_all is_digit (take n (drop i w))) h k
 
-  pub front_more : IsFrontValue w v i → list_all is_digit (take n (drop i w)) ≡ true →
+  pub prefix_more : IsFrontValue w v i → list_all is_digit (take n (drop i w)) ≡ true →
       e ≡ value_after 0 (take n (drop i w)) → e < 10 ^ n → IsFrontValue w (e + v * 10 ^ n) (i + n)
-  front_more f d k lt = record {
+  prefix_more f d k lt = record {
     within = near;
     digits = digits_on f.digits d;
     value = omega (arith, value_on f.value k);
     small = omega (arith, small_on i n v e f.small lt);
   }
 
-front_fits : (v i : ℕ) → v < 10 ^ i → i ≤ 19 → v < 2 ^ 64
-front_fits v i lt le =
+prefix_fits : (v i : ℕ) → v < 10 ^ i → i ≤ 19 → v < 2 ^ 64
+prefix_fits v i lt le =
     let e : 10 ^ i ≤ 10 ^ 19 = pow-le-pow_right (omega arith) le in omega (arith, e)
 
 module _ (i c : ℕ) (w : Word) (le : i ≤ c) (digits : list_all is_digit (take c w) ≡ true) where
@@ -90,9 +90,9 @@ module _ (i c : ℕ) (w : Word) (le : i ≤ c) (digits : list_all is_digit (take
   digits_behind = digits_parts.1
 
 -- ---- bytes less the digit 0
-less_front : (c n : ℕ) (w : Word) → c ≤ n →
+less_prefix : (c n : ℕ) (w : Word) → c ≤ n →
     take c (map less_zero (take n w)) ≡ map less_zero (take c w)
-less_front c n w le =
+less_prefix c n w le =
     take-map less_zero c (take n w) ∙ ap (map less_zero) (take-take c n w le)
 
 digit_low : (b : ℕ) → b < 256 → less_zero b < 10 → is_digit b ≡ true
@@ -136,11 +136,11 @@ marks_are n ys size le =
     ap (λ m. mask_l m % 2 ^ 64) (tops_compared w8 ltb (replicate n 9) ys
     ∙ zip2_splat_left ltb 9 n ys size) ∙ mask_l-mod (map (ltb 9) ys) 64 long
 
-front_step : (s : Bool) (y : ℕ) (ys : List ℕ) → ltb 9 y ≡ s →
+prefix_step : (s : Bool) (y : ℕ) (ys : List ℕ) → ltb 9 y ≡ s →
     AllBelowBase 10 (take (prefix_len (λ x. not (ltb 9 x)) ys) ys) →
     AllBelowBase 10 (take (cond (not s) (1 + prefix_len (λ x. not (ltb 9 x)) ys) 0) (y ∷ ys))
-front_step true y ys e h = tt
-front_step false y ys e h =
+prefix_step true y ys e h = tt
+prefix_step false y ys e h =
     let le : y ≤ 9 = ltb-false 9 y e in
     let next : 1 + prefix_len (λ x. not (ltb 9 x)) ys ≡ suc (prefix_len (λ x. not (ltb 9 x)) ys)
     = omega arith in
@@ -148,7 +148,7 @@ front_step false y ys e h =
 
 low_front : (ys : List ℕ) → AllBelowBase 10 (take (prefix_len (λ x. not (ltb 9 x)) ys) ys)
 low_front [] = tt
-low_front (y ∷ ys) = front_step (ltb 9 y) y ys refl (low_front ys)
+low_front (y ∷ ys) = prefix_step (ltb 9 y) y ys refl (low_front ys)
 
 module _ (n : ℕ) (w : Word) (long : n ≤ length w) (lanes : n ≤ 64)
     (fits : (k : ℕ) → Fits w8 (get_or w k 0)) where
@@ -164,7 +164,7 @@ module _ (n : ℕ) (w : Word) (long : n ≤ length w) (lanes : n ≤ 64)
       let le : c ≤ n = omega (arith, e, size, prefix_len-le-length (λ x. not (ltb 9 x)) less) in
       let low : AllBelowBase 10 (take c less) = subst (λ k. AllBelowBase 10 (take k less)) (sym e)
       (low_front less) in
-      (le, digits_low c w fits (subst (AllBelowBase 10) (less_front c n w le) low))
+      (le, digits_low c w fits (subst (AllBelowBase 10) (less_prefix c n w le) low))
 
   pub none_stops : marks_of n less ≡ 0 → list_all is_digit (take n w) ≡ true
   none_stops none =
@@ -251,7 +251,7 @@ pub table_fits : (v i n e : ℕ) → v < 10 ^ i → e < 10 ^ n → n ≤ 8 → i
     e + v * get_or tens n 0 < 2 ^ 64
 table_fits v i n e lt le few all =
     let t : v * get_or tens n 0 ≡ v * 10 ^ n = ap (λ k. v * k) (tens_is n few) in
-    let h = front_fits (v * 10 ^ n + e) (i + n) (small_on i n v e lt le) all in omega (arith, h, t)
+    let h = prefix_fits (v * 10 ^ n + e) (i + n) (small_on i n v e lt le) all in omega (arith, h, t)
 
 abbrev pub ups : List ℕ
 ups = 0 ∷ 72057594037927936 ∷ 281474976710656 ∷ 1099511627776 ∷ 4294967296 ∷ 16777216 ∷ 65536 ∷ 256
@@ -278,7 +278,7 @@ module _ (w : Word) (c : ℕ) (room : 8 ≤ length w) (few : c ≤ 8)
       let ds = map less_zero (take 8 w) in
       let n = number_l 256 (map less_zero (take c w)) in
       let parts : number_l 256 ds ≡ n + 256 ^ c * number_l 256 (drop c ds) = word_parts c ds
-      ∙ ap (λ r. number_l 256 r + 256 ^ c * number_l 256 (drop c ds)) (less_front c 8 w few) in
+      ∙ ap (λ r. number_l 256 r + 256 ^ c * number_l 256 (drop c ds)) (less_prefix c 8 w few) in
       let below : n < 256 ^ c = subst (λ k. n < 256 ^ k) count
       (word_below (map less_zero (take c w)) low) in
       let all : c + (8 - c) ≡ 8 = omega arith in

@@ -96,7 +96,7 @@ fn put_spaced_up_to(
     requires within { to ≤ length numbers.now.numbers }
     ensures ok { OnOk result (text.new.items
         ≡ text.old.items ++ spaced_numbers (drop from (take to numbers.now.numbers))) }
-    ensures front { KeepsPrefix text.old.items text.new.items }
+    ensures prefix { KeepsPrefix text.old.items text.new.items }
 {
     let mut i = from;
     while i < to {
@@ -113,7 +113,7 @@ pub fn put_spaced(text: &mut Vec<u8>, numbers: &Buffer, from: usize) -> Result<(
     requires { from ≤ length numbers.now.numbers }
     ensures ok { OnOk result
         (text.new.items ≡ text.old.items ++ spaced_numbers (drop from numbers.now.numbers)) }
-    ensures front { KeepsPrefix text.old.items text.new.items }
+    ensures prefix { KeepsPrefix text.old.items text.new.items }
 {
     put_spaced_up_to(text, numbers, from, numbers.len())
 }
@@ -160,7 +160,7 @@ fn put_many(
     requires within { to ≤ length numbers.now.numbers }
     ensures ok { OnOk result (text.new.items ≡ text.old.items
         ++ enclosed_numbers before (drop from (take to numbers.now.numbers)) behind) }
-    ensures front { KeepsPrefix text.old.items text.new.items }
+    ensures prefix { KeepsPrefix text.old.items text.new.items }
 {
     text.extend_from_slice(&[before])?;
     put_number_at(text, numbers, from)?;
@@ -182,7 +182,7 @@ pub fn put_enclosed(
     requires within { to ≤ length numbers.now.numbers }
     ensures ok { OnOk result (text.new.items ≡ text.old.items
         ++ enclosed_numbers before (drop from (take to numbers.now.numbers)) behind) }
-    ensures front { KeepsPrefix text.old.items text.new.items }
+    ensures prefix { KeepsPrefix text.old.items text.new.items }
 {
     if from == to {
         return text.extend_from_slice(&[before, behind]);

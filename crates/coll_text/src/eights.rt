@@ -117,7 +117,7 @@ fn value_of_few(text: &[u8], count: usize) -> u64
 // The value with so many digits more, from the eight bytes behind those that were read.
 #[inline(always)]
 fn with_more(text: &[u8], value: u64, len: usize, count: usize) -> u64
-    requires front { IsFrontValue text.now value len }
+    requires prefix { IsFrontValue text.now value len }
     requires within { len + 8 ≤ length text.now }
     requires few { (count ≤ 8) × (len + count ≤ 19) }
     requires digits { list_all is_digit (take count (drop len text.now)) ≡ true }
@@ -146,7 +146,7 @@ fn digits_in(text: &[u8]) -> usize
 #[inline(always)]
 fn front_sixteen(text: &[u8]) -> (u64, usize)
     requires { 16 ≤ length text.now }
-    ensures front { IsFrontValue text.now result.0 result.1 }
+    ensures prefix { IsFrontValue text.now result.0 result.1 }
     ensures few { result.1 ≤ 16 }
 {
     let count = digits_in(text);
@@ -160,7 +160,7 @@ fn front_sixteen(text: &[u8]) -> (u64, usize)
 /// Goes on digit by digit.
 #[inline(always)]
 pub(crate) fn one_by_one(text: &[u8], value: u64, len: usize) -> (u64, usize)
-    requires front { IsFrontValue text.now value len }
+    requires prefix { IsFrontValue text.now value len }
     requires few { len ≤ 19 }
     ensures { IsFrontValue text.now result.0 result.1 }
 {
@@ -188,12 +188,12 @@ pub(crate) fn front_digits(text: &[u8]) -> (u64, usize)
     let mut value = 0;
     let mut len = 0;
     if text.len() >= 2 * STEP {
-        let front = front_sixteen(text);
-        if front.1 < 2 * STEP {
-            return front;
+        let prefix = front_sixteen(text);
+        if prefix.1 < 2 * STEP {
+            return prefix;
         }
-        value = front.0;
-        len = front.1;
+        value = prefix.0;
+        len = prefix.1;
     }
     while text.len() - len >= STEP {
         let (_, rest) = text.split_at(len);

@@ -56,8 +56,8 @@ fn next_listed<'a>(parts: &mut Parts<'a>) -> Option<(&'a [u8], Result<u32, LineF
 fn room_for(word: &[u8]) -> usize
     ensures { result ≤ ROOM }
 {
-    let (front, _) = word.split_at(word.len().min(ROOM_BYTES));
-    Parts::new(front, b',').count().min(ROOM)
+    let (prefix, _) = word.split_at(word.len().min(ROOM_BYTES));
+    Parts::new(prefix, b',').count().min(ROOM)
 }
 
 // Makes that room, where no number was entered yet.

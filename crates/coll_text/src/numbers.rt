@@ -53,14 +53,14 @@ fn long_number(word: &[u8], most: u64) -> Option<u64>
     Some(value)
 }
 
-// The number of the word, whose front was read as this one.
+// The number of the word, whose prefix was read as this one.
 #[inline(always)]
-fn whole_number(front: Option<(u64, usize)>, word: &[u8], most: u64) -> Option<u64>
-    requires read { IfSome front (λ r. number_within u64.MAX (take r.1 word.now) ≡ Some r.0) }
+fn whole_number(prefix: Option<(u64, usize)>, word: &[u8], most: u64) -> Option<u64>
+    requires read { IfSome prefix (λ r. number_within u64.MAX (take r.1 word.now) ≡ Some r.0) }
     ensures value { result ≡ number_within most word.now }
     ensures below { IfSome result (λ n. n ≤ most) }
 {
-    match front {
+    match prefix {
         None => long_number(word, most),
         Some((n, len)) => {
             if len < word.len() {

@@ -45,8 +45,8 @@ fn count_parts(text: &[u8], separator: u8) -> usize
     let mut count = 0;
     let mut rest = text;
     while rest.len() > 255 {
-        let (front, back) = rest.split_at(224);
-        count += usize::from(count_few(front, separator));
+        let (prefix, back) = rest.split_at(224);
+        count += usize::from(count_few(prefix, separator));
         rest = back;
     }
     count + usize::from(count_few(rest, separator)) + 1
@@ -125,7 +125,7 @@ fn take_front<'a, N: Drop>(
     requires within { read.1 ≤ length rest.old.now }
     requires solid { list_all (λ b. nat_lt 44 b) (take read.1 rest.old.now) ≡ true }
     ensures none { result ≡ None → (rest.new.now ≡ rest.old.now) × (is_done.new ≡ false) }
-    ensures front { IfSome result (λ r. r.0.now ≡ take read.1 rest.old.now) }
+    ensures prefix { IfSome result (λ r. r.0.now ≡ take read.1 rest.old.now) }
     ensures number { IfSome result (λ r. r.1 ≡ read.0) }
     ensures part { IfSome result (λ r. slice_split (λ b. b == separator) rest.old.now
         ≡ r.0.now ∷ (if is_done.new then [] else slice_split (λ b. b == separator) rest.new.now)) }

@@ -16,7 +16,7 @@ pub fn send<W: Sink>(text: &mut Vec<u8>, sink: &mut W) -> Result<(), Failed>
     ensures sent { OnOk result
         (Appends (W.contents sink.old) (W.contents sink.new) text.old.items) }
     ensures none { OnOk result (text.new.items ≡ []) }
-    ensures front { OnErr result
+    ensures prefix { OnErr result
         (AppendsPrefix (W.contents sink.old) (W.contents sink.new) text.old.items) }
 {
     write_all(sink, text)?;
@@ -31,7 +31,7 @@ pub fn send_long<W: Sink>(text: &mut Vec<u8>, sink: &mut W) -> Result<(), Failed
     ensures failed { OnErr result (W.failures sink.new ≡ W.failures sink.old + 1) }
     ensures moved { OnOk result
         (Moves (W.contents sink.old) (W.contents sink.new) text.old.items text.new.items) }
-    ensures front { OnErr result
+    ensures prefix { OnErr result
         (AppendsPrefix (W.contents sink.old) (W.contents sink.new) text.old.items) }
 {
     if text.len() < CHUNK {

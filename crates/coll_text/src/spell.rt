@@ -36,7 +36,7 @@ fn own_key(own: &Own) -> i32
 // The numbers, each behind a comma.
 fn put_more_numbers(text: &mut Vec<u8>, numbers: &[u32]) -> Result<(), AllocError>
     ensures ok { OnOk result (text.new.items ≡ text.old.items ++ behind_comma decimal numbers.now) }
-    ensures front { KeepsPrefix text.old.items text.new.items }
+    ensures prefix { KeepsPrefix text.old.items text.new.items }
 {
     for n in numbers {
         put_behind(text, b',', u64::from(*n))?;
@@ -47,7 +47,7 @@ fn put_more_numbers(text: &mut Vec<u8>, numbers: &[u32]) -> Result<(), AllocErro
 #[tactic(auto, using(crate::proofs::SpacedLemmas::list_word_cons))]
 fn put_numbers(text: &mut Vec<u8>, numbers: &[u32]) -> Result<(), AllocError>
     ensures ok { OnOk result (text.new.items ≡ text.old.items ++ list_word decimal numbers.now) }
-    ensures front { KeepsPrefix text.old.items text.new.items }
+    ensures prefix { KeepsPrefix text.old.items text.new.items }
 {
     match numbers {
         [] => put(text, "-"),
@@ -67,7 +67,7 @@ fn flag_text(flag: bool) -> &'static str
 // The flags, each behind a comma.
 fn put_more_flags(text: &mut Vec<u8>, flags: &[bool]) -> Result<(), AllocError>
     ensures ok { OnOk result (text.new.items ≡ text.old.items ++ behind_comma flag_word flags.now) }
-    ensures front { KeepsPrefix text.old.items text.new.items }
+    ensures prefix { KeepsPrefix text.old.items text.new.items }
 {
     for flag in flags {
         put(text, ",")?;
@@ -79,7 +79,7 @@ fn put_more_flags(text: &mut Vec<u8>, flags: &[bool]) -> Result<(), AllocError>
 #[tactic(auto, using(crate::proofs::SpacedLemmas::list_word_cons))]
 fn put_flags(text: &mut Vec<u8>, flags: &[bool]) -> Result<(), AllocError>
     ensures ok { OnOk result (text.new.items ≡ text.old.items ++ list_word flag_word flags.now) }
-    ensures front { KeepsPrefix text.old.items text.new.items }
+    ensures prefix { KeepsPrefix text.old.items text.new.items }
 {
     match flags {
         [] => put(text, "-"),
@@ -92,7 +92,7 @@ fn put_flags(text: &mut Vec<u8>, flags: &[bool]) -> Result<(), AllocError>
 
 fn put_colour(text: &mut Vec<u8>, colour: Option<i32>) -> Result<(), AllocError>
     ensures ok { OnOk result (text.new.items ≡ text.old.items ++ colour_word colour) }
-    ensures front { KeepsPrefix text.old.items text.new.items }
+    ensures prefix { KeepsPrefix text.old.items text.new.items }
 {
     match colour {
         None => put(text, "undefined"),
@@ -102,7 +102,7 @@ fn put_colour(text: &mut Vec<u8>, colour: Option<i32>) -> Result<(), AllocError>
 
 fn put_number(text: &mut Vec<u8>, number: u32) -> Result<(), AllocError>
     ensures ok { OnOk result (text.new.items ≡ text.old.items ++ decimal number) }
-    ensures front { KeepsPrefix text.old.items text.new.items }
+    ensures prefix { KeepsPrefix text.old.items text.new.items }
 {
     put_decimal(text, u64::from(number))
 }
@@ -112,7 +112,7 @@ fn put_number(text: &mut Vec<u8>, number: u32) -> Result<(), AllocError>
 fn put_field(text: &mut Vec<u8>, form: Form, sig: &Signature, own: &Own) -> Result<(), AllocError>
     ensures ok { OnOk result
         (text.new.items ≡ text.old.items ++ word_of form (fields_of sig.now own.now)) }
-    ensures front { KeepsPrefix text.old.items text.new.items }
+    ensures prefix { KeepsPrefix text.old.items text.new.items }
 {
     match form {
         Form::Root => put_number(text, sig.root().unwrap_or(0)),
@@ -136,7 +136,7 @@ fn put_fields(
 ) -> Result<(), AllocError>
     ensures ok { OnOk result (text.new.items
         ≡ text.old.items ++ behind_each 32 (words_of forms.now (fields_of sig.now own.now))) }
-    ensures front { KeepsPrefix text.old.items text.new.items }
+    ensures prefix { KeepsPrefix text.old.items text.new.items }
 {
     for form in forms {
         put(text, " ")?;
@@ -148,7 +148,7 @@ fn put_fields(
 #[tactic(auto, unfolding(crate::specs::Spellings::statement_words), using(crate::proofs::SpacedLemmas::join_cons))]
 fn put_statement(text: &mut Vec<u8>, sig: &Signature, own: &Own) -> Result<(), AllocError>
     ensures ok { OnOk result (text.new.items ≡ text.old.items ++ statement_text sig.now own.now) }
-    ensures front { KeepsPrefix text.old.items text.new.items }
+    ensures prefix { KeepsPrefix text.old.items text.new.items }
 {
     let kind = sig.kind();
     put(text, kind.name())?;

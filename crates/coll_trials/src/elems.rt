@@ -340,8 +340,8 @@ fn holds_as_many_as_a_post_may_give(rt: HostRuntime) {
     };
     for (ty, numbers) in TYPES {
         assert!(&rt; *numbers <= zeros.len());
-        let (front, _) = zeros.split_at(*numbers);
-        expect_most(&rt, *ty, front);
+        let (prefix, _) = zeros.split_at(*numbers);
+        expect_most(&rt, *ty, prefix);
         expect_room(&rt, *ty, 65_536);
     }
     drop(zeros);

@@ -49,22 +49,22 @@ module _ {E : Type 0} (test : ℕ → Bool) where
       (h a (omega arith) (omega arith))
       ∙ kept_none (a + 1) xs (λ y low high. h y (omega arith) (omega arith))
 
-  kept_front : (k a : ℕ) (xs : List E) →
+  kept_prefix : (k a : ℕ) (xs : List E) →
       ((y : ℕ) → a ≤ y → y < a + length xs → test y ≡ nat_lt y (a + k)) → kept a xs ≡ take k xs
-  kept_front zero a xs h =
+  kept_prefix zero a xs h =
       kept_none a xs (λ y low high. h y low high ∙ le-ltb y (a + 0) (omega arith))
-  kept_front (suc k) a [] h = refl
-  kept_front (suc k) a (x ∷ xs) h =
+  kept_prefix (suc k) a [] h = refl
+  kept_prefix (suc k) a (x ∷ xs) h =
       cond-true (test a) (x ∷ kept (a + 1) xs) (kept (a + 1) xs)
       (h a (omega arith) (omega arith) ∙ lt-ltb a (a + suc k) (omega arith))
-      ∙ ap (λ ys. x ∷ ys) (kept_front k (a + 1) xs (λ y low high.
+      ∙ ap (λ ys. x ∷ ys) (kept_prefix k (a + 1) xs (λ y low high.
       h y (omega arith) (omega arith)
       ∙ ap (nat_lt y) (let e : a + suc k ≡ a + 1 + k = omega arith in e)))
 
   kept_range : (d k a : ℕ) (xs : List E) →
       ((y : ℕ) → a ≤ y → y < a + length xs → test y ≡ (nat_le (a + d) y && nat_lt y (a + d + k))) →
       kept a xs ≡ take k (drop d xs)
-  kept_range zero k a xs h = kept_front k a xs (λ y low high.
+  kept_range zero k a xs h = kept_prefix k a xs (λ y low high.
       h y low high
       ∙ (ap (λ b. b && nat_lt y (a + 0 + k)) (le-leb (a + 0) y (omega arith))
       ∙ ap (nat_lt y) (let e : a + 0 + k ≡ a + k = omega arith in e)))

@@ -195,8 +195,8 @@ impl<'a> Read for Opened<'a> {
         self.disk.turn(self.name)?;
         let rest = self.rest;
         let count = rest.len().min(buffer.len()).min(self.disk.step);
-        let (front, after) = rest.split_at(count);
-        buffer[..count].copy_from_slice(front);
+        let (prefix, after) = rest.split_at(count);
+        buffer[..count].copy_from_slice(prefix);
         self.rest = after;
         Ok(count)
     }

@@ -350,7 +350,7 @@ fn most_calls(case: &Case, step: usize) -> u64 {
 // that file, and what is written is a prefix.
 fn is_broken_at(name: Name, ended: &Ended, case: &Case) -> bool {
     let is_ended = ended.status == ExitCode::from(3) && ended.open == 0;
-    let is_front = case.kept.starts_with(&ended.kept) && case.opened.starts_with(&ended.opened);
+    let is_prefix = case.kept.starts_with(&ended.kept) && case.opened.starts_with(&ended.opened);
     let is_told = match name {
         Name::Kept => {
             ended.err.as_slice() == b"write fault\n".as_slice() && ended.out.as_slice() == case.out
@@ -361,7 +361,7 @@ fn is_broken_at(name: Name, ended: &Ended, case: &Case) -> bool {
             ended.err.as_slice() == b"read fault\n".as_slice() && is_none
         }
     };
-    is_ended && is_front && is_told
+    is_ended && is_prefix && is_told
 }
 
 // Fails each call at the files once, and gives how many there are.
@@ -429,9 +429,9 @@ where
             };
         }
         let is_told = ended.err.as_slice() == b"write fault\n".as_slice();
-        let is_front = case.out.starts_with(&ended.out) && case.opened.starts_with(&ended.opened);
+        let is_prefix = case.out.starts_with(&ended.out) && case.opened.starts_with(&ended.opened);
         let is_kept = ended.kept.as_slice() == kept_before_output(case);
-        if !is_told || !is_front || !is_kept || ended.open != 0 {
+        if !is_told || !is_prefix || !is_kept || ended.open != 0 {
             return Err(Fail::from("a use with a fault at its output ended otherwise"));
         }
     }

@@ -99,8 +99,8 @@ fn is_broken_so(ended: &Ended, whole: &Ended, name: Name, is_denied: bool) -> bo
         Name::Kept => ended.out.as_slice() == whole.out.as_slice(),
         _ => ended.out.is_empty() && ended.kept.is_empty(),
     };
-    let is_front = whole.kept.starts_with(&ended.kept);
-    is_told && is_out && is_front && ended.open == 0 && ended.status == ExitCode::from(3)
+    let is_prefix = whole.kept.starts_with(&ended.kept);
+    is_told && is_out && is_prefix && ended.open == 0 && ended.status == ExitCode::from(3)
 }
 
 // Fails each call at the files of a report with its page once, and gives how many there are.

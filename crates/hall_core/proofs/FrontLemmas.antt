@@ -25,8 +25,8 @@ module _ {X : Type 0} (n : ℕ) (e : X) (xs : List X) where
   front_set k y low = set-append_right (replicate n e) xs n k y (length-replicate n e) low
 
   -- one more in front
-  pub front_more : replicate n e ++ e ∷ xs ≡ replicate (n + 1) e ++ xs
-  front_more =
+  pub prefix_more : replicate n e ++ e ∷ xs ≡ replicate (n + 1) e ++ xs
+  prefix_more =
       sym (append_assoc (replicate n e) (e ∷ []) xs) ∙ ap (λ ys. ys ++ xs) (replicate_more n e)
 
 -- the first of a list with so many in front goes too
@@ -35,13 +35,13 @@ pub taken_off : {X : Type 0} (e : X) (n : ℕ) (all xs ys : List X) → all ≡ 
 taken_off e n all xs ys same first rest =
     same
     ∙ (ap (λ zs. replicate n e ++ zs) (first ∙ ap (λ zs. e ∷ zs) (sym rest))
-    ∙ front_more n e ys)
+    ∙ prefix_more n e ys)
 
 -- one less in front
 pub front_less : {X : Type 0} (n less : ℕ) (e : X) (xs : List X) → n ≡ less + 1 →
     replicate less e ++ e ∷ xs ≡ replicate n e ++ xs
 front_less n less e xs is =
-    front_more less e xs ∙ ap (λ (m : ℕ). replicate m e ++ xs) (sym is)
+    prefix_more less e xs ∙ ap (λ (m : ℕ). replicate m e ++ xs) (sym is)
 
 -- something more, which is what is found past the end
 pub push_default : {X : Type 0} (xs : List X) (d : X) (j : ℕ) →

@@ -29,7 +29,7 @@ use Rattle.hall_core.specs.Halls.{settlement_in}
 use Rattle.hall_core.specs.Moves.{number_in, entries_of, IsSettledBy, IsRecorded}
 use Rattle.run_model.proofs.RunModelLemmas.{request_new}
 use Rattle.hall_core.proofs.RequestLemmas.{updated_same, updated_other, same_or_not}
-use Rattle.run_model.proofs.RunModelLemmas.{get_front}
+use Rattle.run_model.proofs.RunModelLemmas.{get_prefix}
 use Rattle.hall_core.proofs.RequestLemmas.{taken_more, opened_more}
 use Rattle.hall_core.proofs.PlaceLemmas.{unsettled}
 
@@ -224,7 +224,7 @@ module _ (old new : HallView) (m : Effects) (g : Contribution Contents) (entered
   kept_old q r f e = record {
     at = ⊎_elim
         (λ is. ap (λ rs. slice_get rs r) (requests_own_now q is)
-        ∙ get_front (requests p (posts_made m)) ((g.post.comm, place g.post (posts_made m)) ∷ []) r
+        ∙ get_prefix (requests p (posts_made m)) ((g.post.comm, place g.post (posts_made m)) ∷ []) r
         (instance_of f)
         (ap (λ n. slice_get (requests n (posts_made m)) r) (sym is) ∙ stands.waiting q r f e))
         (λ apart. ap (λ rs. slice_get rs r) (requests_still q apart) ∙ stands.waiting q r f e)

@@ -22,7 +22,7 @@ use Rattle.run_model.specs.declared.reply.Reply.TheVariants.{Posted, Barred, Ref
 use Rattle.run_model.specs.Runs.{Entry, run_of}
 use Rattle.run_model.specs.RunRows.{alpha, gave, summed, relayed}
 use Rattle.run_model.specs.Worlds.{SameCallButForValues, NobodyLacksMemory}
-use Rattle.run_model.specs.WorldRows.{told}
+use Rattle.run_model.specs.WorldRows.{replies_in}
 use Rattle.run_model.proofs.RunModelLemmas.{same_self}
 use Rattle.hall_core.specs.Worlds.{called, DifferAsListed}
 
@@ -96,10 +96,10 @@ broadcasts a b = record {
 -- ## sums
 
 sum_has_memory : (a c total : ℤ) →
-    NobodyLacksMemory (run_of (called (summed a c total)) (told (summed a c total)))
+    NobodyLacksMemory (run_of (called (summed a c total)) (replies_in (summed a c total)))
 unfolding is_want
 sum_has_memory a c total =
-    none_wanted (run_of (called (summed a c total)) (told (summed a c total))) refl
+    none_wanted (run_of (called (summed a c total)) (replies_in (summed a c total))) refl
 
 pub sums : (a b c total other : ℤ) → DifferAsListed (summed a c total) (summed b c other)
 sums a b c total other = record {
@@ -160,9 +160,10 @@ relays_differ a b = in_front (called (take 12 (relayed a)))
       ),
     )
 
-relay_has_memory : (a : ℤ) → NobodyLacksMemory (run_of (called (relayed a)) (told (relayed a)))
+relay_has_memory : (a : ℤ) →
+    NobodyLacksMemory (run_of (called (relayed a)) (replies_in (relayed a)))
 unfolding is_want
-relay_has_memory a = none_wanted (run_of (called (relayed a)) (told (relayed a))) refl
+relay_has_memory a = none_wanted (run_of (called (relayed a)) (replies_in (relayed a))) refl
 
 pub relays : (a b : ℤ) → DifferAsListed (relayed a) (relayed b)
 relays a b = record {

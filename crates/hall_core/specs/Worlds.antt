@@ -9,7 +9,7 @@ use Rattle.run_model.specs.declared.reply.Reply.{Reply}
 use Rattle.run_model.specs.Runs.{Entry, posts, run_of}
 use Rattle.run_model.specs.Worlds.{SameCallButForValues, NobodyLacksMemory, AreOneToTheWall}
 use Rattle.run_model.specs.Worlds.{DifferOnlyIn, CannotTell}
-use Rattle.run_model.specs.WorldRows.{told}
+use Rattle.run_model.specs.WorldRows.{replies_in}
 
 -- the calls are equal but for values, and none was answered out of memory
 pub record DifferInValues (first second : List Call) (told other : List Reply) : Type 0 where
@@ -42,4 +42,5 @@ called entries = map (λ (e : Entry). e.call) entries
 
 -- what is asked of two lists holds of these calls with their replies
 abbrev pub DifferAsListed : (one other : List Entry) → Type 0
-DifferAsListed one other = DifferInValues (called one) (called other) (told one) (told other)
+DifferAsListed one other = DifferInValues (called one) (called other)
+    (replies_in one) (replies_in other)

@@ -143,13 +143,13 @@ given_found datasets (Some ty) (w ∷ ws) g e =
 -- ---- calls
 
 -- more words in front
-in_front : (nothing : Type 0) (front words said : List Word) → IsSpelled nothing words said →
-    IsSpelled nothing (front ++ words) (front ++ said)
-in_front nothing front words said (inl e) = inl (ap (λ ws. front ++ ws) e)
-in_front nothing front words said (inr e) = inr (
+in_front : (nothing : Type 0) (prefix words said : List Word) → IsSpelled nothing words said →
+    IsSpelled nothing (prefix ++ words) (prefix ++ said)
+in_front nothing prefix words said (inl e) = inl (ap (λ ws. prefix ++ ws) e)
+in_front nothing prefix words said (inr e) = inr (
   e.0,
-  ap (λ ws. front ++ ws) e.1
-      ∙ sym (append_assoc front words (codes "as" ∷ codes "public" ∷ [])),
+  ap (λ ws. prefix ++ ws) e.1
+      ∙ sym (append_assoc prefix words (codes "as" ∷ codes "public" ∷ [])),
 )
 
 number_found : (most : ℕ) (ws : List Word) (x : ℕ × List Word) → most < 2 ^ 64 →
@@ -207,18 +207,18 @@ post_found datasets p ws act e =
     ok_is
     (Post (record { comm = a.0.0; sig = s.0.0; own = s.0.1; label = c.0.0; elements = c.0.1 }))
     act c.2 in
-    let front = codes "post" ∷ decimal p ∷ decimal a.0.0 ∷ statement_words s.0.0 s.0.1 in
-    let split : codes "post" ∷ decimal p ∷ ws ≡ front ++ s.1 =
+    let prefix = codes "post" ∷ decimal p ∷ decimal a.0.0 ∷ statement_words s.0.0 s.0.1 in
+    let split : codes "post" ∷ decimal p ∷ ws ≡ prefix ++ s.1 =
     ap (λ vs. codes "post" ∷ decimal p ∷ vs) (number_found 4294967295 ws a.0 (omega arith) a.1)
     ∙ ap (λ vs. codes "post" ∷ decimal p ∷ decimal a.0.0 ∷ vs)
     (statement_found a.0.1 s.0.0 s.0.1 s.1 b.1).words in
-    let said = in_front (given_words datasets c.0.0 c.0.1.numbers ≡ []) front
+    let said = in_front (given_words datasets c.0.0 c.0.1.numbers ≡ []) prefix
     (given_words datasets c.0.0 c.0.1.numbers) s.1
     (given_found datasets (elem_type s.0.0) s.1 c.0 c.1) in
     subst (λ (x : Act). IsSpelled (GivesNothing datasets x) (act_words datasets p x)
     (codes "post" ∷ decimal p ∷ ws)) made (subst (λ vs.
     IsSpelled (given_words datasets c.0.0 c.0.1.numbers ≡ [])
-    (front ++ given_words datasets c.0.0 c.0.1.numbers) vs) (sym split) said)
+    (prefix ++ given_words datasets c.0.0 c.0.1.numbers) vs) (sym split) said)
 
 take_found : (datasets : List Word) (p : ℕ) (ws : List Word) (act : Act) →
     (last_number 18446744073709551615 ws >>= λ request. Ok (Take request)) ≡ Ok act →

@@ -26,28 +26,28 @@ unfolding buffer_of
 buffer_checked ty ns = buffer_by ty ns (is_pair ty && not (eqb (length ns % 2) 0))
 
 -- behind as many numbers as there are words
-behind_numbers : (ty : ElemType) (front : ℕ → ℕ) (ws : List Word) →
-    (each_of (value_of ty) ws >>= λ ns. paired ty (front (length ns)))
-    ≡ (checked (each_of (value_of ty) ws) >>= λ u. paired ty (front (length ws)))
+behind_numbers : (ty : ElemType) (prefix : ℕ → ℕ) (ws : List Word) →
+    (each_of (value_of ty) ws >>= λ ns. paired ty (prefix (length ns)))
+    ≡ (checked (each_of (value_of ty) ws) >>= λ u. paired ty (prefix (length ws)))
 unfolding each_of
-behind_numbers ty front [] = refl
-behind_numbers ty front (w ∷ ws) =
-    by_value (value_of ty w) (each_of (value_of ty) ws) (behind_numbers ty (λ n. front (suc n)) ws)
+behind_numbers ty prefix [] = refl
+behind_numbers ty prefix (w ∷ ws) =
+    by_value (value_of ty w) (each_of (value_of ty) ws) (behind_numbers ty (λ n. prefix (suc n)) ws)
   where
     by_rest : (z : ℤ) (r : Result (List ℤ) LineFault) → (r
-        >>= λ ns. paired ty (front (suc (length ns))))
-        ≡ (checked r >>= λ u. paired ty (front (suc (length ws)))) →
-        ((r >>= λ zs. Ok (z ∷ zs)) >>= λ ns. paired ty (front (length ns)))
-        ≡ (checked (r >>= λ zs. Ok (z ∷ zs)) >>= λ u. paired ty (front (suc (length ws))))
+        >>= λ ns. paired ty (prefix (suc (length ns))))
+        ≡ (checked r >>= λ u. paired ty (prefix (suc (length ws)))) →
+        ((r >>= λ zs. Ok (z ∷ zs)) >>= λ ns. paired ty (prefix (length ns)))
+        ≡ (checked (r >>= λ zs. Ok (z ∷ zs)) >>= λ u. paired ty (prefix (suc (length ws))))
     by_rest z (Ok zs) h = h
     by_rest z (Err e) h = refl
 
     by_value : (v : Result ℤ LineFault) (r : Result (List ℤ) LineFault) →
-        (r >>= λ ns. paired ty (front (suc (length ns))))
-        ≡ (checked r >>= λ u. paired ty (front (suc (length ws)))) →
-        ((v >>= λ z. (r >>= λ zs. Ok (z ∷ zs))) >>= λ ns. paired ty (front (length ns)))
+        (r >>= λ ns. paired ty (prefix (suc (length ns))))
+        ≡ (checked r >>= λ u. paired ty (prefix (suc (length ws)))) →
+        ((v >>= λ z. (r >>= λ zs. Ok (z ∷ zs))) >>= λ ns. paired ty (prefix (length ns)))
         ≡ (checked (v >>= λ z. (r >>= λ zs. Ok (z ∷ zs)))
-        >>= λ u. paired ty (front (suc (length ws))))
+        >>= λ u. paired ty (prefix (suc (length ws))))
     by_value (Ok z) r h = by_rest z r h
     by_value (Err e) r h = refl
 

@@ -30,7 +30,7 @@ fn put_stretch(
     requires along { IfSome stretch (IsAlong full.now) }
     ensures ok { OnOk result
         (line.new.items ≡ line.old.items ++ block_text (block_along full.now stretch)) }
-    ensures front { KeepsPrefix line.old.items line.new.items }
+    ensures prefix { KeepsPrefix line.old.items line.new.items }
 {
     match stretch {
         None => put(line, "-"),
@@ -47,7 +47,7 @@ fn put_copies(line: &mut Vec<u8>, full: &Full<Buffer>, rank: u32) -> Result<(), 
     requires copies { reduction full.now.roll.sig ≡ None }
     ensures ok { OnOk result
         (line.new.items ≡ line.old.items ++ blocks_text (value full.now rank)) }
-    ensures front { KeepsPrefix line.old.items line.new.items }
+    ensures prefix { KeepsPrefix line.old.items line.new.items }
 {
     values_fill_places();
     let number = places(&full.roll, rank);
@@ -64,7 +64,7 @@ fn put_copied(line: &mut Vec<u8>, full: &Full<Buffer>, rank: u32) -> Result<(), 
     requires copies { reduction full.now.roll.sig ≡ None }
     ensures ok { OnOk result (line.new.items
         ≡ line.old.items ++ delivery_text (value full.now rank) ++ codes "\n") }
-    ensures front { KeepsPrefix line.old.items line.new.items }
+    ensures prefix { KeepsPrefix line.old.items line.new.items }
 {
     values_fill_places();
     if places(&full.roll, rank) == 0 {

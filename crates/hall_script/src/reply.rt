@@ -49,21 +49,21 @@ pub(crate) fn put_numbers_between(
     requires within { to ≤ length numbers.now.numbers }
     ensures ok { OnOk result (line.new.items
         ≡ line.old.items ++ numbers_text (drop from (take to numbers.now.numbers))) }
-    ensures front { KeepsPrefix line.old.items line.new.items }
+    ensures prefix { KeepsPrefix line.old.items line.new.items }
 {
     put_enclosed(line, b'[', numbers, from, to, b']')
 }
 
 fn put_numbers(line: &mut Vec<u8>, numbers: &Integers) -> Result<(), AllocError>
     ensures ok { OnOk result (line.new.items ≡ line.old.items ++ numbers_text numbers.now) }
-    ensures front { KeepsPrefix line.old.items line.new.items }
+    ensures prefix { KeepsPrefix line.old.items line.new.items }
 {
     put_numbers_between(line, numbers.as_buffer(), 0, numbers.len())
 }
 
 fn put_block(line: &mut Vec<u8>, block: &Block) -> Result<(), AllocError>
     ensures ok { OnOk result (line.new.items ≡ line.old.items ++ block_text block.now) }
-    ensures front { KeepsPrefix line.old.items line.new.items }
+    ensures prefix { KeepsPrefix line.old.items line.new.items }
 {
     match block {
         Block::Missing => put(line, "-"),
@@ -74,7 +74,7 @@ fn put_block(line: &mut Vec<u8>, block: &Block) -> Result<(), AllocError>
 // The blocks, each behind a space.
 fn put_blocks(line: &mut Vec<u8>, blocks: &[Block]) -> Result<(), AllocError>
     ensures ok { OnOk result (line.new.items ≡ line.old.items ++ blocks_text blocks.now) }
-    ensures front { KeepsPrefix line.old.items line.new.items }
+    ensures prefix { KeepsPrefix line.old.items line.new.items }
 {
     for block in blocks {
         put(line, " ")?;
@@ -85,7 +85,7 @@ fn put_blocks(line: &mut Vec<u8>, blocks: &[Block]) -> Result<(), AllocError>
 
 fn put_delivery(line: &mut Vec<u8>, blocks: &[Block]) -> Result<(), AllocError>
     ensures ok { OnOk result (line.new.items ≡ line.old.items ++ delivery_text blocks.now) }
-    ensures front { KeepsPrefix line.old.items line.new.items }
+    ensures prefix { KeepsPrefix line.old.items line.new.items }
 {
     if blocks.is_empty() {
         return put(line, "delivered none");
@@ -107,7 +107,7 @@ fn denied_by(rule: Rule) -> &'static str
 fn put_denial(line: &mut Vec<u8>, rule: Rule, process: &str, label: &str) -> Result<(), AllocError>
     ensures ok { OnOk result
         (line.new.items ≡ line.old.items ++ denial_text rule process.now label.now) }
-    ensures front { KeepsPrefix line.old.items line.new.items }
+    ensures prefix { KeepsPrefix line.old.items line.new.items }
 {
     put(line, denied_by(rule))?;
     put(line, process)?;
@@ -119,7 +119,7 @@ fn put_new_comm(line: &mut Vec<u8>, comm: u32, rank: u32, size: u32) -> Result<(
     ensures ok { OnOk result (line.new.items
         ≡ line.old.items ++ codes "comm " ++ decimal comm ++ codes " rank " ++ decimal rank
         ++ codes " size " ++ decimal size) }
-    ensures front { KeepsPrefix line.old.items line.new.items }
+    ensures prefix { KeepsPrefix line.old.items line.new.items }
 {
     put(line, "comm ")?;
     put_decimal(line, u64::from(comm))?;
@@ -131,7 +131,7 @@ fn put_new_comm(line: &mut Vec<u8>, comm: u32, rank: u32, size: u32) -> Result<(
 
 fn put_info(line: &mut Vec<u8>, size: u32, rank: u32, dims: Option<u32>) -> Result<(), AllocError>
     ensures ok { OnOk result (line.new.items ≡ line.old.items ++ info_text size rank dims) }
-    ensures front { KeepsPrefix line.old.items line.new.items }
+    ensures prefix { KeepsPrefix line.old.items line.new.items }
 {
     put(line, "info size ")?;
     put_decimal(line, u64::from(size))?;
@@ -151,7 +151,7 @@ fn put_info(line: &mut Vec<u8>, size: u32, rank: u32, dims: Option<u32>) -> Resu
 fn put_reply(line: &mut Vec<u8>, policy: &Policy, reply: &Reply) -> Result<(), AllocError>
     requires { IsKnownReply policy.now reply.now }
     ensures ok { OnOk result (line.new.items ≡ line.old.items ++ reply_text policy.now reply.now) }
-    ensures front { KeepsPrefix line.old.items line.new.items }
+    ensures prefix { KeepsPrefix line.old.items line.new.items }
 {
     match reply {
         Reply::Posted(request) => {
@@ -191,7 +191,7 @@ fn put_reply(line: &mut Vec<u8>, policy: &Policy, reply: &Reply) -> Result<(), A
 fn put_reply_line(line: &mut Vec<u8>, policy: &Policy, reply: &Reply) -> Result<(), AllocError>
     requires { IsKnownReply policy.now reply.now }
     ensures ok { OnOk result (line.new.items ≡ line.old.items ++ reply_line policy.now reply.now) }
-    ensures front { KeepsPrefix line.old.items line.new.items }
+    ensures prefix { KeepsPrefix line.old.items line.new.items }
 {
     put_reply(line, policy, reply)?;
     put(line, "\n")

@@ -20,7 +20,7 @@ use Rattle.hall_turn.specs.Machines.{Settles, entries_of}
 use Rattle.live_book.specs.declared.unbooked.Unbooked.{Unbooked}
 use Rattle.live_book.specs.Books.{IsBooked, IsCut, IsUnbooked, IsWritten, SinkValue}
 use Rattle.live_book.specs.Books.{StandsWithBook, book_of, text_so_far}
-use Rattle.live_book.specs.Writing.{Writes, WritesAll, WritesFront}
+use Rattle.live_book.specs.Writing.{Writes, WritesAll, WritesPrefix}
 
 -- ## bytes
 
@@ -32,29 +32,29 @@ appends_kept (Some a) None c xs p k = absurd p
 appends_kept (Some a) (Some b) None xs p k = absurd k
 appends_kept (Some a) (Some b) (Some c) xs p k = k ∙ p
 
--- all of them are a front of them
-pub whole_front : (a b : Option (List ℕ)) (xs : List ℕ) → Appends a b xs → AppendsPrefix a b xs
-whole_front a b xs p = (xs, [], append-nil xs, p)
+-- all of them are a prefix of them
+pub whole_prefix : (a b : Option (List ℕ)) (xs : List ℕ) → Appends a b xs → AppendsPrefix a b xs
+whole_prefix a b xs p = (xs, [], append-nil xs, p)
 
--- nothing is a front
-pub no_front : (a : Option (List ℕ)) (xs : List ℕ) → AppendsPrefix a a xs
-no_front None xs = ([], xs, refl, tt)
-no_front (Some a) xs = ([], xs, refl, sym (append-nil a))
+-- nothing is a prefix
+pub no_prefix : (a : Option (List ℕ)) (xs : List ℕ) → AppendsPrefix a a xs
+no_prefix None xs = ([], xs, refl, tt)
+no_prefix (Some a) xs = ([], xs, refl, sym (append-nil a))
 
--- a front of bytes is one of more bytes
-pub front_more : (a b : Option (List ℕ)) (xs ys : List ℕ) → AppendsPrefix a b xs →
+-- a prefix of bytes is one of more bytes
+pub prefix_more : (a b : Option (List ℕ)) (xs ys : List ℕ) → AppendsPrefix a b xs →
     AppendsPrefix a b (xs ++ ys)
-front_more a b xs ys p = (
+prefix_more a b xs ys p = (
   p.0,
   p.1 ++ ys,
   sym (append_assoc p.0 p.1 ys) ∙ ap (λ (t : List ℕ). t ++ ys) p.2,
   p.3,
 )
 
--- bytes, and then a front of others
-pub front_then : (a b c : Option (List ℕ)) (xs ys : List ℕ) → Appends a b xs →
+-- bytes, and then a prefix of others
+pub prefix_then : (a b c : Option (List ℕ)) (xs ys : List ℕ) → Appends a b xs →
     AppendsPrefix b c ys → AppendsPrefix a c (xs ++ ys)
-front_then a b c xs ys p q = (
+prefix_then a b c xs ys p q = (
   xs ++ q.0,
   q.1,
   append_assoc xs q.0 q.1 ∙ ap (λ (t : List ℕ). xs ++ t) q.2,
@@ -93,9 +93,9 @@ module _ (wall : ChineseWall) (begun : SinkValue) (run : List Entry) (e : Entry)
     went = by.went ∙ is.went;
   }
 
-  -- all was written, and of this a front
+  -- all was written, and of this a prefix
   cut_now : (old new : SinkValue) (fault : Unbooked) → IsBooked wall begun old run →
-      WritesFront fault old new (entry_lines wall added) → IsCut wall begun new (e ∷ run) fault
+      WritesPrefix fault old new (entry_lines wall added) → IsCut wall begun new (e ∷ run) fault
   cut_now old new fault is by = record {
     past = run;
     later = e ∷ [];
@@ -104,7 +104,7 @@ module _ (wall : ChineseWall) (begun : SinkValue) (run : List Entry) (e : Entry)
     written = is.written;
     next = added;
     is_book = is_book;
-    front = by.front;
+    prefix = by.prefix;
     is_fault = subst (λ (n : ℕ). IsUnbooked fault n new.failures) is.went by.is_fault;
   }
 
@@ -122,11 +122,11 @@ module _ (wall : ChineseWall) (begun : SinkValue) (run : List Entry) (e : Entry)
         is_book = is_book
             ∙ (ap (λ (l : List BookEntry). l ++ added) is.is_book
             ∙ append_assoc (book_of wall is.past) is.next added);
-        front = subst (AppendsPrefix is.held old.contents)
+        prefix = subst (AppendsPrefix is.held old.contents)
             (sym (flat_map-append (λ (entry : BookEntry). line_of (entry_words wall entry))
             is.next added))
-            (front_more is.held old.contents (entry_lines wall is.next) (entry_lines wall added)
-            is.front);
+            (prefix_more is.held old.contents (entry_lines wall is.next) (entry_lines wall added)
+            is.prefix);
         is_fault = is.is_fault;
       })
 
@@ -254,19 +254,19 @@ written_first wall begun sink by went = record {
 
 -- ## the last line
 
--- of a cut book a front of the whole was written
-cut_front : (wall : ChineseWall) (begun sink : SinkValue) (run : List Entry) (fault : Unbooked) →
+-- of a cut book a prefix of the whole was written
+cut_prefix : (wall : ChineseWall) (begun sink : SinkValue) (run : List Entry) (fault : Unbooked) →
     IsCut wall begun sink run fault →
     AppendsPrefix begun.contents sink.contents (book_text wall (book_of wall run))
-cut_front wall begun sink run fault is = subst (AppendsPrefix begun.contents sink.contents)
+cut_prefix wall begun sink run fault is = subst (AppendsPrefix begun.contents sink.contents)
     (sym (text_whole wall (book_of wall run)
     ∙ ap (λ (t : List ℕ). t ++ line_of (end_words (length (book_of wall run))))
     (ap (text_so_far wall) is.is_book ∙ text_more wall (book_of wall is.past) is.next)))
-    (front_more begun.contents sink.contents
+    (prefix_more begun.contents sink.contents
     (text_so_far wall (book_of wall is.past) ++ entry_lines wall is.next)
     (line_of (end_words (length (book_of wall run))))
-    (front_then begun.contents is.held sink.contents (text_so_far wall (book_of wall is.past))
-    (entry_lines wall is.next) is.written is.front))
+    (prefix_then begun.contents is.held sink.contents (text_so_far wall (book_of wall is.past))
+    (entry_lines wall is.next) is.written is.prefix))
 
 module _ (wall : ChineseWall) (begun old new : SinkValue) (run : List Entry) (n : ℕ)
     (count : n ≡ length (book_of wall run)) where
@@ -286,11 +286,11 @@ module _ (wall : ChineseWall) (begun old new : SinkValue) (run : List Entry) (n 
       (Appends-then begun.contents old.contents new.contents
       (text_so_far wall (book_of wall run)) last is.written by.written)
 
-  pub front_written : (fault : Unbooked) → IsBooked wall begun old run →
-      WritesFront fault old new last → AppendsPrefix begun.contents new.contents whole
-  front_written fault is by = subst (AppendsPrefix begun.contents new.contents) is_whole
-      (front_then begun.contents old.contents new.contents
-      (text_so_far wall (book_of wall run)) last is.written by.front)
+  pub prefix_written : (fault : Unbooked) → IsBooked wall begun old run →
+      WritesPrefix fault old new last → AppendsPrefix begun.contents new.contents whole
+  prefix_written fault is by = subst (AppendsPrefix begun.contents new.contents) is_whole
+      (prefix_then begun.contents old.contents new.contents
+      (text_so_far wall (book_of wall run)) last is.written by.prefix)
 
 -- how the last line went, after what was written before
 module _ (wall : ChineseWall) (begun old new : SinkValue) (run : List Entry) (n : ℕ) where
@@ -307,15 +307,15 @@ module _ (wall : ChineseWall) (begun old new : SinkValue) (run : List Entry) (n 
       no_fault : (fault : Unbooked) → None ≡ Some fault → ⊥
       no_fault fault h = cc
 
-  pub last_front : (before : Option Unbooked) (fault : Unbooked) →
+  pub last_prefix : (before : Option Unbooked) (fault : Unbooked) →
       (before ≡ None → n ≡ length (book_of wall run)) →
       IsWritten wall begun old before run → Writes before (Some fault) old new end_line →
       AppendsPrefix begun.contents new.contents (book_text wall (book_of wall run))
-  last_front None fault count is by =
-      front_written wall begun old new run n (count refl) fault is by
-  last_front (Some was) fault count is by =
+  last_prefix None fault count is by =
+      prefix_written wall begun old new run n (count refl) fault is by
+  last_prefix (Some was) fault count is by =
       subst (λ (s : SinkValue). AppendsPrefix begun.contents s.contents
-      (book_text wall (book_of wall run))) (sym by.1) (cut_front wall begun old run was is)
+      (book_text wall (book_of wall run))) (sym by.1) (cut_prefix wall begun old run was is)
 
 -- the entries that are gone are all of the run's book
 pub count_is : (wall w : ChineseWall) (run : List Entry) (gone news : List BookEntry) (n : ℕ) →

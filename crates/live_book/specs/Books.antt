@@ -57,7 +57,7 @@ pub record IsBooked (wall : ChineseWall) (begun sink : SinkValue) (run : List En
   pub went : sink.failures ≡ begun.failures
 
 -- Of a beginning of the run all was written, and of the lines of the entries that came next a
--- front.
+-- prefix.
 pub record IsCut (wall : ChineseWall) (begun sink : SinkValue) (run : List Entry) (fault : Unbooked)
     : Type 0 where
   pub past : List Entry
@@ -68,7 +68,7 @@ pub record IsCut (wall : ChineseWall) (begun sink : SinkValue) (run : List Entry
   pub written : Appends begun.contents held (text_so_far wall (book_of wall past))
   pub next : List BookEntry
   pub is_book : book_of wall run ≡ book_of wall past ++ next
-  pub front : AppendsPrefix held sink.contents (entry_lines wall next)
+  pub prefix : AppendsPrefix held sink.contents (entry_lines wall next)
   pub is_fault : IsUnbooked fault begun.failures sink.failures
 
 -- the one as long as nothing went wrong, and then the other

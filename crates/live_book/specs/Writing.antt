@@ -19,9 +19,9 @@ pub record WritesAll (old new : SinkValue) (bytes : List ℕ) : Type 0 where
   pub written : Appends old.contents new.contents bytes
   pub went : new.failures ≡ old.failures
 
--- a front of them was, and why no more
-pub record WritesFront (fault : Unbooked) (old new : SinkValue) (bytes : List ℕ) : Type 0 where
-  pub front : AppendsPrefix old.contents new.contents bytes
+-- a prefix of them was, and why no more
+pub record WritesPrefix (fault : Unbooked) (old new : SinkValue) (bytes : List ℕ) : Type 0 where
+  pub prefix : AppendsPrefix old.contents new.contents bytes
   pub is_fault : IsUnbooked fault old.failures new.failures
 
 -- Nothing is written where there was a fault, and the fault stays. Else all bytes are, or there is
@@ -29,4 +29,4 @@ pub record WritesFront (fault : Unbooked) (old new : SinkValue) (bytes : List �
 abbrev pub Writes : (before after : Option Unbooked) → (old new : SinkValue) → List ℕ → Type 0
 Writes (Some fault) after old new bytes = (after ≡ Some fault) × (new ≡ old)
 Writes None None old new bytes = WritesAll old new bytes
-Writes None (Some fault) old new bytes = WritesFront fault old new bytes
+Writes None (Some fault) old new bytes = WritesPrefix fault old new bytes

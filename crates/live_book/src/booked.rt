@@ -85,7 +85,7 @@ impl<B: BookSink, K: Begun> BookedHall<B, K> {
     ghost use Rattle.live_book.specs.Books.{StandsWithBook, book_of, is_all_booked};
 
     /// A hall that stands for the empty run, with the first line of its book written. Else the sink
-    /// comes back, with a front of that line, and why: `NoMemory` only where a growth was refused.
+    /// comes back, with a prefix of that line, and why: `NoMemory` only where a growth was refused.
     pub fn open(alloc: Global, policy: Policy, sink: B) -> Result<BookedHall<B, K>, Unopened<B>>
         requires { K.begun ≡ sink_value B.contents B.lasting B.failures sink }
         ensures stands { IfOk result (λ m. StandsWithBook policy m []) }
@@ -93,7 +93,7 @@ impl<B: BookSink, K: Begun> BookedHall<B, K> {
         ensures booked { IfOk result (λ m. IsTrue (is_all_booked m)) }
         ensures fault { IfErr result (λ unopened.
             IsUnbooked unopened.fault (B.failures sink) (B.failures unopened.sink)) }
-        ensures front { IfErr result (λ unopened.
+        ensures prefix { IfErr result (λ unopened.
             AppendsPrefix (B.contents sink) (B.contents unopened.sink)
             (line_of (header_words policy.version))) }
     {
@@ -201,12 +201,12 @@ impl<B: BookSink, K: Begun> BookedHall<B, K> {
     }
 
     /// Writes the last line of the book, and gives the sink back. The whole text of the run's book
-    /// was written then, or a front of it.
+    /// was written then, or a prefix of it.
     pub fn finish(self) -> Finished<B>
         ensures written { (wall : ChineseWall) (run : List Entry) → StandsWithBook wall self run →
             OnOk result.written (Appends self.begun.contents (B.contents result.sink)
             (book_text wall (book_of wall run))) }
-        ensures front { (wall : ChineseWall) (run : List Entry) → StandsWithBook wall self run →
+        ensures prefix { (wall : ChineseWall) (run : List Entry) → StandsWithBook wall self run →
             OnErr result.written (AppendsPrefix self.begun.contents (B.contents result.sink)
             (book_text wall (book_of wall run))) }
         ensures fault { (wall : ChineseWall) (run : List Entry) → StandsWithBook wall self run →

@@ -23,7 +23,7 @@ fn send_text<B: BookSink>(text: &mut Vec<u8>, sink: &mut B) -> Result<(), Unbook
     ensures none { OnOk result (text.new.items ≡ []) }
     ensures fault { IfErr result
         (λ fault. IsUnbooked fault (B.failures sink.old) (B.failures sink.new)) }
-    ensures front { OnErr result
+    ensures prefix { OnErr result
         (AppendsPrefix (B.contents sink.old) (B.contents sink.new) text.old.items) }
 {
     match send(text, sink) {
@@ -76,7 +76,7 @@ pub fn write_header<B: BookSink>(
     ensures none { OnOk result (text.new.items ≡ []) }
     ensures fault { IfErr result
         (λ fault. IsUnbooked fault (B.failures sink.old) (B.failures sink.new)) }
-    ensures front { OnErr result (AppendsPrefix (B.contents sink.old) (B.contents sink.new)
+    ensures prefix { OnErr result (AppendsPrefix (B.contents sink.old) (B.contents sink.new)
         (line_of (header_words policy.now.version))) }
 {
     put_header(policy, text)?;
@@ -84,7 +84,7 @@ pub fn write_header<B: BookSink>(
 }
 
 /// Writes the lines of the news of a hall. Where they settle an instance the sink is then told so.
-#[tactic(auto, using(crate::proofs::WritingLemmas::appends_kept, crate::proofs::WritingLemmas::whole_front, crate::proofs::WritingLemmas::no_front))]
+#[tactic(auto, using(crate::proofs::WritingLemmas::appends_kept, crate::proofs::WritingLemmas::whole_prefix, crate::proofs::WritingLemmas::no_prefix))]
 pub fn write_news<B: BookSink>(
     hall: &BriefHall,
     settled: bool,
@@ -100,7 +100,7 @@ pub fn write_news<B: BookSink>(
         OnOk result (Keeps (B.lasting sink.new) (B.contents sink.new)) }
     ensures fault { IfErr result
         (λ fault. IsUnbooked fault (B.failures sink.old) (B.failures sink.new)) }
-    ensures front { OnErr result (AppendsPrefix (B.contents sink.old) (B.contents sink.new)
+    ensures prefix { OnErr result (AppendsPrefix (B.contents sink.old) (B.contents sink.new)
         (entry_lines hall.now.hall.policy hall.now.news)) }
 {
     put_entries(hall.policy(), hall.news(), text)?;
@@ -120,7 +120,7 @@ pub fn write_end<B: BookSink>(
     ensures went { OnOk result (B.failures sink.new ≡ B.failures sink.old) }
     ensures fault { IfErr result
         (λ fault. IsUnbooked fault (B.failures sink.old) (B.failures sink.new)) }
-    ensures front { OnErr result (AppendsPrefix (B.contents sink.old) (B.contents sink.new)
+    ensures prefix { OnErr result (AppendsPrefix (B.contents sink.old) (B.contents sink.new)
         (line_of (end_words entries))) }
 {
     put_end(entries as usize, text)?;

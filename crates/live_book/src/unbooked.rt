@@ -3,7 +3,7 @@ use std::alloc::AllocError;
 use thiserror::Error;
 use wall_labels::{Failed, NoMemory as OutOfMemory};
 
-/// Why a book is not written any more. A front of its text is.
+/// Why a book is not written any more. A prefix of its text is.
 #[derive(Clone, Copy, Debug, PartialEq, Eq, Error)]
 pub enum Unbooked {
     /// The writer failed.

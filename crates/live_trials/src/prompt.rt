@@ -87,7 +87,7 @@ fn ends(bytes: &[u8]) -> usize {
     bytes.iter().filter(|byte| **byte == b'\n').count()
 }
 
-// Whether these bytes are so many whole lines, from the front of the answers.
+// Whether these bytes are so many whole lines, from the prefix of the answers.
 fn are_first(written: &[u8], answers: &[u8], count: usize) -> bool {
     let is_whole = written.is_empty() || written.ends_with(b"\n");
     is_whole && ends(written) == count && answers.starts_with(written)

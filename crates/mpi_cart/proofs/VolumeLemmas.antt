@@ -1,4 +1,4 @@
--- Products of sizes, from the front on; and lists made from the front on.
+-- Products of sizes, from the prefix on; and lists made from the prefix on.
 use Rattle.std.proofs.Common.{◌≡◌, ℕ, zero, suc, ◌+◌, ◌*◌, ◌/◌, ◌<◌, ◌≤◌, List, [], ◌∷◌, ◌++◌}
 use Rattle.std.proofs.Common.{length, get_or, drop, ◌∙◌, ap, sym, refl, subst, arith, Bool, true}
 use Rattle.std.proofs.Common.{false, ◌&&◌, cond, nat_lt, add-one, append_assoc}

@@ -23,7 +23,7 @@ abbrev pub keep_fault : List Bool → List ℕ → Option GridFault
 keep_fault keep dims = if length keep == length dims then None else Some BadDims
 
 -- what a fault says of the arguments: out of memory, that they have no other
-abbrev pub told : GridFault → Option GridFault
-told NoMemory = None
-told BadDims = Some BadDims
-told TooLarge = Some TooLarge
+abbrev pub input_fault : GridFault → Option GridFault
+input_fault NoMemory = None
+input_fault BadDims = Some BadDims
+input_fault TooLarge = Some TooLarge

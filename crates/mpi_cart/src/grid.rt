@@ -48,7 +48,7 @@ impl Model for Grid {
 }
 
 impl Grid {
-    ghost use Rattle.mpi_cart.specs.Faults.{first_fault, keep_fault, told};
+    ghost use Rattle.mpi_cart.specs.Faults.{first_fault, keep_fault, input_fault};
     ghost use Rattle.mpi_cart.specs.declared.fault.GridFault.TheVariants.{NoMemory};
 
     /// A grid over the lowest ranks of so many processes. Of its faults the answer is the lowest
@@ -56,7 +56,7 @@ impl Grid {
     pub fn new(alloc: Global, dims: &[u32], periods: &[bool], size: u32) -> Result<Grid, GridFault>
         ensures made { IfOk result (λ g. g ≡ record { dims = dims.now; periods = periods.now }) }
         ensures fits { OnOk result (first_fault dims.now periods.now size ≡ None) }
-        ensures fault { IfErr result (λ f. first_fault dims.now periods.now size ≡ told f) }
+        ensures fault { IfErr result (λ f. first_fault dims.now periods.now size ≡ input_fault f) }
         ensures memory { IsErrOf result NoMemory → 0 < length dims.now }
     {
         if let Some(fault) = fault_of(dims, periods, size) {
@@ -70,7 +70,7 @@ impl Grid {
     pub fn sub(&self, alloc: Global, keep: &[bool]) -> Result<Grid, GridFault>
         ensures made { IfOk result (λ g. g ≡ kept keep.now self.now) }
         ensures fits { OnOk result (keep_fault keep.now self.now.dims ≡ None) }
-        ensures fault { IfErr result (λ f. keep_fault keep.now self.now.dims ≡ told f) }
+        ensures fault { IfErr result (λ f. keep_fault keep.now self.now.dims ≡ input_fault f) }
         ensures memory { IsErrOf result NoMemory → 0 < length (kept keep.now self.now).dims }
     {
         if keep.len() != self.dims.len() {

@@ -148,7 +148,7 @@ asked_push colour asks ask =
     (λ b. map place (cond b ((length asks, ask) ∷ []) [])
     ≡ cond b ((ask.key, length asks) ∷ []) []) [ true ↦ refl | false ↦ refl ])
 
--- the front of the asks, up to one more
+-- the prefix of the asks, up to one more
 pub asked_more : (colour : ℤ) (asks : List Ask) (i : ℕ) (ask : Ask) → i < length asks →
     ask ≡ get_or asks i ask →
     asked colour (take (i + 1) asks)

@@ -16,7 +16,7 @@ fault_of ty numbers =
     else None
 
 -- what an answer says against the numbers: out of memory says nothing
-abbrev pub told : BufferFault → Option BufferFault
-told BadNumber = Some BadNumber
-told OddPair = Some OddPair
-told NoMemory = None
+abbrev pub input_fault : BufferFault → Option BufferFault
+input_fault BadNumber = Some BadNumber
+input_fault OddPair = Some OddPair
+input_fault NoMemory = None

@@ -8,7 +8,7 @@ ghost use Rattle.mpi_elems.specs.Operations.{is_allowed, is_of_pairs as is_of_pa
 ghost use Rattle.mpi_elems.specs.Elements.{elements_of, combine};
 ghost use Rattle.mpi_elems.specs.Lists.{merged, zip_with};
 ghost use Rattle.mpi_elems.specs.Contents.{contents, elements, IsFit};
-ghost use Rattle.mpi_elems.specs.Faults.{fault_of, told};
+ghost use Rattle.mpi_elems.specs.Faults.{fault_of, input_fault};
 ghost use Rattle.mpi_elems.specs.Shown.{AreFit, shown};
 
 use crate::cells::{
@@ -74,7 +74,7 @@ impl Buffer {
         ensures made { IfOk result
             (λ b. b ≡ contents ty numbers.now (length (elements_of ty numbers.now))) }
         ensures sound { OnOk result (fault_of ty numbers.now ≡ None) }
-        ensures fault { IfErr result (λ f. fault_of ty numbers.now ≡ told f) }
+        ensures fault { IfErr result (λ f. fault_of ty numbers.now ≡ input_fault f) }
         ensures no_need { length numbers.now ≡ 0 → IsOk result }
     {
         if !has_numbers(ty, numbers) {

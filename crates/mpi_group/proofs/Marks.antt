@@ -18,19 +18,19 @@ no_marks (suc n) zero = refl
 no_marks (suc n) (suc q) = no_marks n q
 
 -- one more number, marked
-pub mark_more : (front : List ℕ) (marks : List Bool) (x q : ℕ) → x < length marks →
-    get_or marks q false ≡ is_member front q →
-    get_or (set marks x true) q false ≡ is_member (front ++ x ∷ []) q
-mark_more front marks x q lt here =
-    sym (is_member-append front (x ∷ []) q
+pub mark_more : (prefix : List ℕ) (marks : List Bool) (x q : ℕ) → x < length marks →
+    get_or marks q false ≡ is_member prefix q →
+    get_or (set marks x true) q false ≡ is_member (prefix ++ x ∷ []) q
+mark_more prefix marks x q lt here =
+    sym (is_member-append prefix (x ∷ []) q
     ∙ (elim (cases_eq x q) as
-    (λ _. (is_member front q || (eqb x q || false)) ≡ get_or (set marks x true) q false) [
+    (λ _. (is_member prefix q || (eqb x q || false)) ≡ get_or (set marks x true) q false) [
       | inl e
           ↦ rw (eq-eqb x q e, ← e, get_or-set_same marks x true false lt)
-          (elim (is_member front x) as (λ b. (b || true) ≡ true) [ true ↦ refl | false ↦ refl ])
+          (elim (is_member prefix x) as (λ b. (b || true) ≡ true) [ true ↦ refl | false ↦ refl ])
       | inr ne
           ↦ rw (ne_eqb x q ne, get_or-set_other marks x q true false (λ same. ne (sym same)), here)
-          (elim (is_member front q) as (λ b. (b || false) ≡ b) [ true ↦ refl | false ↦ refl ])
+          (elim (is_member prefix q) as (λ b. (b || false) ≡ b) [ true ↦ refl | false ↦ refl ])
     ]))
 
 -- a number that stands further in front
@@ -42,15 +42,15 @@ distinct_no_more xs i x lt is there =
     in
     ap is_distinct (sym whole) ∙ twice (take i xs) x (drop (i + 1) xs) there
 
-pub front_more : (xs : List ℕ) (i x : ℕ) → i < length xs → x ≡ get_or xs i x →
+pub prefix_more : (xs : List ℕ) (i x : ℕ) → i < length xs → x ≡ get_or xs i x →
     take (i + 1) xs ≡ take i xs ++ x ∷ []
-front_more xs i x lt is = take_more xs i x lt ∙ ap (λ (y : ℕ). take i xs ++ y ∷ []) (sym is)
+prefix_more xs i x lt is = take_more xs i x lt ∙ ap (λ (y : ℕ). take i xs ++ y ∷ []) (sym is)
 
 pub distinct_more : (xs : List ℕ) (i x : ℕ) → i < length xs → x ≡ get_or xs i x →
     is_distinct (take i xs) ≡ true → is_member (take i xs) x ≡ false →
     is_distinct (take (i + 1) xs) ≡ true
 distinct_more xs i x lt is one none =
-    ap is_distinct (front_more xs i x lt is) ∙ is_distinct-push (take i xs) x one none
+    ap is_distinct (prefix_more xs i x lt is) ∙ is_distinct-push (take i xs) x one none
 
 -- the member at one more rank
 pub at_more : (members ranks : List ℕ) (i r m : ℕ) → i < length ranks → r ≡ get_or ranks i r →
@@ -60,7 +60,7 @@ unfolding members_at
 at_more members ranks i r m lt is within read =
     let member : slice_get members r ≡ Some m = slice_get_read members (length members) r m refl
     within read in
-    ap (filter_map (slice_get members)) (front_more ranks i r lt is)
+    ap (filter_map (slice_get members)) (prefix_more ranks i r lt is)
     ∙ filter_map-append (slice_get members) (take i ranks) (r ∷ []) ∙ rw member refl
 
 pub none_at : (members : List ℕ) → members_at members [] ≡ []

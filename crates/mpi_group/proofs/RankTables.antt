@@ -150,11 +150,11 @@ reach_absent (x ∷ xs) p past =
     (λ same. let bad : x + 1 ≤ x = omega arith in absurd (omega arith)) in
     rw (other, reach_absent xs p (omega arith)) refl
 
--- the front of a whole table
-pub table_front : (members : List ℕ) (ranks : List (Option ℕ)) → IsGroup members
+-- the prefix of a whole table
+pub table_prefix : (members : List ℕ) (ranks : List (Option ℕ)) → IsGroup members
     → length ranks ≡ PROCESS_LIMIT → IsIndex members ranks
     → IsTable members (take (reach members) ranks)
-table_front members ranks group long index =
+table_prefix members ranks group long index =
     let few = reach_below members PROCESS_LIMIT group.below in
     let cut : length (take (reach members) ranks) ≡ reach members =
     length-take-le (reach members) ranks (omega arith) in
@@ -175,14 +175,14 @@ module _ (members : List ℕ) (ranks : List (Option ℕ)) (i reached : ℕ) (all
   pub whole_group : IsGroup members
   whole_group = subst IsGroup (take_all i members all) group
 
-  pub whole_front : reached ≤ length ranks
-  whole_front = let few = reach_below (take i members) PROCESS_LIMIT group.below in omega arith
+  pub whole_prefix : reached ≤ length ranks
+  whole_prefix = let few = reach_below (take i members) PROCESS_LIMIT group.below in omega arith
 
   pub whole_table : IsTable members (take reached ranks)
   whole_table =
       rw at
       (subst (λ l. IsTable l (take (reach (take i members)) ranks)) (take_all i members all)
-      (table_front (take i members) ranks group long index))
+      (table_prefix (take i members) ranks group long index))
 
 -- a table that has entries has a member
 pub some_entry : (members : List ℕ) (ranks : List (Option ℕ)) → IsTable members ranks

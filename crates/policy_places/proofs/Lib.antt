@@ -1,5 +1,5 @@
 -- where lines end, byte by byte
-mod FrontLemmas
+mod PrefixLemmas
 -- what a document has, over the lists that the code walks
 mod ViewLemmas
 -- the line of a sign

@@ -14,7 +14,7 @@ use Rattle.policy_places.specs.declared.part.Part.{Part}
 use Rattle.policy_places.specs.declared.part.Part.TheVariants.{Class, Process, Rule}
 use Rattle.policy_places.specs.declared.sign.Sign.{Sign}
 use Rattle.policy_places.specs.declared.sign.Sign.TheVariants as signs
-use Rattle.policy_places.specs.Fronts.{front}
+use Rattle.policy_places.specs.Prefixes.{prefix}
 use Rattle.policy_places.specs.Parts.{tables_at, texts_in, datasets_in}
 use Rattle.policy_places.specs.Signs.{known_of, stated_version, shows, sign_of, is_file_key}
 use Rattle.policy_places.specs.Signs.{is_key_of, all_keys, has_keys, has_stray, has, lacks}
@@ -74,7 +74,7 @@ one_of_four : {X : Type 0} (a b c d : Option X) (p q r s : Bool) → (p ≡ true
     is_some (or_else a (or_else b (or_else c d))) ≡ true
 one_of_four a b c d p q r s one two three four h = elim (or_cases (p || q || r) s h) [
   | inl earlier ↦ elim (or_cases (p || q) r earlier) [
-    | inl front ↦ elim (or_cases p q front) [
+    | inl prefix ↦ elim (or_cases p q prefix) [
       | inl first ↦ first_there a (or_else b (or_else c d)) (one first)
       | inr second ↦ then_there a (or_else b (or_else c d))
           (first_there b (or_else c d) (two second))
@@ -360,14 +360,14 @@ words_are_named text place found is there word = go (tree_of text)
 
     by_sign : (whole : Members) (o : Option Sign) → IsFoundBy text whole o (Some found) →
         is_some (option_and_then (names whole (known_of whole) found.sign)
-        (tree_of (front found.line text))) ≡ true
+        (tree_of (prefix found.line text))) ≡ true
     by_sign whole None h = absurd h
-    by_sign whole (Some sign) h = at whole (tree_of (front found.line text))
-        (subst (λ (s : Sign). in_tree (shows (known_of whole) s) (tree_of (front found.line text))
+    by_sign whole (Some sign) h = at whole (tree_of (prefix found.line text))
+        (subst (λ (s : Sign). in_tree (shows (known_of whole) s) (tree_of (prefix found.line text))
         ≡ true) (sym h.0) h.1.here)
 
     go : (o : Option Members) → IsFoundIn text place.fault o (Some found) →
         is_some (option_and_then (λ whole. option_and_then (names whole (known_of whole) found.sign)
-        (tree_of (front found.line text))) o) ≡ true
+        (tree_of (prefix found.line text))) o) ≡ true
     go None h = absurd (false≢true (sym (ap has_word h.0) ∙ word))
     go (Some whole) h = by_sign whole (sign_of whole place.fault) h

@@ -14,10 +14,10 @@ use Rattle.toml.proofs.OnLiterals.{toml_on_literals}
 use Rattle.wall_policy.specs.Answer.{tree_of, in_tree}
 use Rattle.wall_policy.specs.declared.fault.PolicyFault.{PolicyFault}
 use Rattle.policy_places.specs.declared.sign.Sign.{Sign}
-use Rattle.policy_places.specs.Fronts.{front}
+use Rattle.policy_places.specs.Prefixes.{prefix}
 use Rattle.policy_places.specs.Ends.{AreEnds}
 use Rattle.policy_places.specs.Signs.{Known, known_of, shows, signs_of, sign_of}
-use Rattle.policy_places.specs.Places.{IsFirst, front_shows, EndsToml}
+use Rattle.policy_places.specs.Places.{IsFirst, prefix_shows, EndsToml}
 
 -- an empty text is a document
 nothing_is_toml : tree_of [] ≡ Some no_members
@@ -50,12 +50,12 @@ shown_by_all text whole fault known sign read is found =
     ∙ found_passes (λ s. shows (known_of whole) s whole) (signs_of fault) sign found
 
 -- the bytes up to the end of line n are the first n lines
-pub front_is : (text ends : List ℕ) → AreEnds text ends → (n : ℕ) → 1 ≤ n → n ≤ length ends →
-    take (get_or ends (n - 1) 0) text ≡ front n text
-front_is text ends all n some most =
+pub prefix_is : (text ends : List ℕ) → AreEnds text ends → (n : ℕ) → 1 ≤ n → n ≤ length ends →
+    take (get_or ends (n - 1) 0) text ≡ prefix n text
+prefix_is text ends all n some most =
     let same : n - 1 + 1 ≡ n = omega arith in
-    subst (λ j. take (get_or ends (n - 1) 0) text ≡ front j text) same
-    (all.fronts (n - 1) (get_or ends (n - 1) 0) (slice_get-get_or ends (n - 1) 0 (omega arith)))
+    subst (λ j. take (get_or ends (n - 1) 0) text ≡ prefix j text) same
+    (all.prefixes (n - 1) (get_or ends (n - 1) 0) (slice_get-get_or ends (n - 1) 0 (omega arith)))
 
 pub end_within : (text ends : List ℕ) → AreEnds text ends → (n : ℕ) → 1 ≤ n → n ≤ length ends →
     get_or ends (n - 1) 0 ≤ length text
@@ -64,30 +64,30 @@ end_within text ends all n some most =
 
 module _ (text : List ℕ) where
   -- one line fewer is no TOML either
-  pub behind_more : (n : ℕ) → tree_of (front n text) ≡ None →
-      ((m : ℕ) → n < m → tree_of (front m text) ≡ None) →
-      (m : ℕ) → n - 1 < m → tree_of (front m text) ≡ None
+  pub behind_more : (n : ℕ) → tree_of (prefix n text) ≡ None →
+      ((m : ℕ) → n < m → tree_of (prefix m text) ≡ None) →
+      (m : ℕ) → n - 1 < m → tree_of (prefix m text) ≡ None
   behind_more n refused behind m low = elim (cases_lt n m) [
     | inl later ↦ behind m later
     | inr here ↦ elim (cases_lt m n) [
       | inl less ↦ absurd (omega arith)
       | inr same ↦
           let is : n ≡ m = omega arith in
-          subst (λ j. tree_of (front j text) ≡ None) is refused
+          subst (λ j. tree_of (prefix j text) ≡ None) is refused
     ]
   ]
 
-  pub ends_here : (n : ℕ) → is_some (tree_of (front n text)) ≡ true →
-      ((m : ℕ) → n < m → tree_of (front m text) ≡ None) → EndsToml text (n + 1)
+  pub ends_here : (n : ℕ) → is_some (tree_of (prefix n text)) ≡ true →
+      ((m : ℕ) → n < m → tree_of (prefix m text) ≡ None) → EndsToml text (n + 1)
   ends_here n read behind =
       let same : n ≡ n + 1 - 1 = omega arith in
       record {
         counted = omega arith;
-        before = subst (λ j. is_some (tree_of (front j text)) ≡ true) same read;
+        before = subst (λ j. is_some (tree_of (prefix j text)) ≡ true) same read;
         behind = λ m low. behind m (omega arith);
       }
 
-  pub ends_at_once : ((m : ℕ) → 0 < m → tree_of (front m text) ≡ None) → EndsToml text 1
+  pub ends_at_once : ((m : ℕ) → 0 < m → tree_of (prefix m text) ≡ None) → EndsToml text 1
   ends_at_once behind = record {
     counted = omega arith;
     before = ap (λ (o : Option Members). is_some o) nothing_is_toml;
@@ -96,12 +96,12 @@ module _ (text : List ℕ) where
 
   module _ (known : Known) (sign : Sign) where
     pub not_before_more : (n : ℕ) →
-        ((m : ℕ) → 1 ≤ m → m < n → front_shows text known sign m ≡ false) →
-        front_shows text known sign n ≡ false →
-        (m : ℕ) → 1 ≤ m → m < n + 1 → front_shows text known sign m ≡ false
+        ((m : ℕ) → 1 ≤ m → m < n → prefix_shows text known sign m ≡ false) →
+        prefix_shows text known sign n ≡ false →
+        (m : ℕ) → 1 ≤ m → m < n + 1 → prefix_shows text known sign m ≡ false
     not_before_more n before here m counted low = elim (cases_lt m n) [
       | inl earlier ↦ before m counted earlier
       | inr now ↦
           let same : n ≡ m = omega arith in
-          subst (λ j. front_shows text known sign j ≡ false) same here
+          subst (λ j. prefix_shows text known sign j ≡ false) same here
     ]

@@ -84,33 +84,34 @@ position_on test vs i d low =
 
 -- texts that were found, and those that are still to be found
 module _ (read : Data → Option Name) where
-  pub found_on : (front : List Name) (name : Name) (vs : List Value) (i : ℕ) (d : Value)
+  pub found_on : (prefix : List Name) (name : Name) (vs : List Value) (i : ℕ) (d : Value)
       (all : List Name) → i < length vs → read (view (get_or vs i d)) ≡ Some name →
-      front ++ filter_map read (map view (drop i vs)) ≡ all →
-      (front ++ name ∷ []) ++ filter_map read (map view (drop (i + 1) vs)) ≡ all
-  found_on front name vs i d all low is so_far =
-      append_assoc front (name ∷ []) (filter_map read (map view (drop (i + 1) vs)))
-      ∙ sym (ap (λ (us : List Value). front ++ filter_map read (map view us)) (drop_more vs i d low)
+      prefix ++ filter_map read (map view (drop i vs)) ≡ all →
+      (prefix ++ name ∷ []) ++ filter_map read (map view (drop (i + 1) vs)) ≡ all
+  found_on prefix name vs i d all low is so_far =
+      append_assoc prefix (name ∷ []) (filter_map read (map view (drop (i + 1) vs)))
+      ∙ sym
+      (ap (λ (us : List Value). prefix ++ filter_map read (map view us)) (drop_more vs i d low)
       ∙ ap (λ (o : Option Name).
-      front ++ cons_option o (filter_map read (map view (drop (i + 1) vs)))) is)
+      prefix ++ cons_option o (filter_map read (map view (drop (i + 1) vs)))) is)
       ∙ so_far
 
-  pub none_on : (front : List Name) (vs : List Value) (i : ℕ) (d : Value) (all : List Name) →
+  pub none_on : (prefix : List Name) (vs : List Value) (i : ℕ) (d : Value) (all : List Name) →
       i < length vs → read (view (get_or vs i d)) ≡ None →
-      front ++ filter_map read (map view (drop i vs)) ≡ all →
-      front ++ filter_map read (map view (drop (i + 1) vs)) ≡ all
-  none_on front vs i d all low is so_far =
-      sym (ap (λ (us : List Value). front ++ filter_map read (map view us)) (drop_more vs i d low)
+      prefix ++ filter_map read (map view (drop i vs)) ≡ all →
+      prefix ++ filter_map read (map view (drop (i + 1) vs)) ≡ all
+  none_on prefix vs i d all low is so_far =
+      sym (ap (λ (us : List Value). prefix ++ filter_map read (map view us)) (drop_more vs i d low)
       ∙ ap (λ (o : Option Name).
-      front ++ cons_option o (filter_map read (map view (drop (i + 1) vs)))) is)
+      prefix ++ cons_option o (filter_map read (map view (drop (i + 1) vs)))) is)
       ∙ so_far
 
 -- the same of lists of texts
-pub lists_on : (read : Data → List Name) (front : List Name) (vs : List Value) (i : ℕ) (d : Value)
+pub lists_on : (read : Data → List Name) (prefix : List Name) (vs : List Value) (i : ℕ) (d : Value)
     (all : List Name) → i < length vs →
-    front ++ flat_map read (map view (drop i vs)) ≡ all →
-    (front ++ read (view (get_or vs i d))) ++ flat_map read (map view (drop (i + 1) vs)) ≡ all
-lists_on read front vs i d all low so_far =
-    append_assoc front (read (view (get_or vs i d))) (flat_map read (map view (drop (i + 1) vs)))
-    ∙ sym (ap (λ (us : List Value). front ++ flat_map read (map view us)) (drop_more vs i d low))
+    prefix ++ flat_map read (map view (drop i vs)) ≡ all →
+    (prefix ++ read (view (get_or vs i d))) ++ flat_map read (map view (drop (i + 1) vs)) ≡ all
+lists_on read prefix vs i d all low so_far =
+    append_assoc prefix (read (view (get_or vs i d))) (flat_map read (map view (drop (i + 1) vs)))
+    ∙ sym (ap (λ (us : List Value). prefix ++ flat_map read (map view us)) (drop_more vs i d low))
     ∙ so_far

@@ -1,4 +1,4 @@
-pub mod Fronts
+pub mod Prefixes
 pub mod Ends
 pub mod Parts
 pub mod Signs

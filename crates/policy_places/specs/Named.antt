@@ -17,7 +17,7 @@ use Rattle.policy_places.specs.declared.sign.Sign.TheVariants.{BadName, Duplicat
 use Rattle.policy_places.specs.declared.sign.Sign.TheVariants.{UnknownDataset, BadOp, BadLeast}
 use Rattle.policy_places.specs.declared.sign.Sign.TheVariants.{TooMany}
 use Rattle.policy_places.specs.declared.place.Found.{Found}
-use Rattle.policy_places.specs.Fronts.{front}
+use Rattle.policy_places.specs.Prefixes.{prefix}
 use Rattle.policy_places.specs.Parts.{tables_at, texts_in, datasets_in}
 use Rattle.policy_places.specs.Signs.{Known, known_of, is_file_key, is_key_of, has}
 use Rattle.policy_places.specs.Signs.{has_bad_least, has_bad_distinct}
@@ -122,7 +122,7 @@ too_many_in ms = if nat_lt process_limit (length (tables_at Process ms)) then co
 ---- signs
 
 -- What is named of a document that shows the sign, where this is known of the whole document whose
--- front it is. Nothing of three signs; of a table that lacks a key, which the whole table lacks.
+-- prefix it is. Nothing of three signs; of a table that lacks a key, which the whole table lacks.
 abbrev pub names : (whole : Members) → Known → Sign → Members → Option Named
 names whole k NotToml ms = None
 names whole k Version ms = None
@@ -147,5 +147,5 @@ names whole k TooMany ms = named_in None (Some (too_many_in ms))
 abbrev pub named_at : (text : List ℕ) → Found → Option Named
 named_at text found =
     option_and_then (λ whole.
-    option_and_then (names whole (known_of whole) found.sign) (tree_of (front found.line text)))
+    option_and_then (names whole (known_of whole) found.sign) (tree_of (prefix found.line text)))
     (tree_of text)

@@ -10,7 +10,7 @@ use Rattle.policy_places.specs.declared.sign.Sign.{Sign}
 use Rattle.policy_places.specs.declared.sign.Sign.TheVariants.{NotToml}
 use Rattle.policy_places.specs.declared.place.Found.{Found}
 use Rattle.policy_places.specs.declared.place.Place.{Place}
-use Rattle.policy_places.specs.Fronts.{front}
+use Rattle.policy_places.specs.Prefixes.{prefix}
 use Rattle.policy_places.specs.Signs.{Known, known_of, shows, sign_of}
 
 -- n, counted from 1, is the first number that passes
@@ -20,21 +20,21 @@ pub record IsFirst (test : ℕ → Bool) (n : ℕ) : Type 0 where
   pub not_before : (m : ℕ) → 1 ≤ m → m < n → test m ≡ false
 
 -- the first n lines are a document that shows the sign
-abbrev pub front_shows : (text : List ℕ) → Known → Sign → ℕ → Bool
-front_shows text known sign n = in_tree (shows known sign) (tree_of (front n text))
+abbrev pub prefix_shows : (text : List ℕ) → Known → Sign → ℕ → Bool
+prefix_shows text known sign n = in_tree (shows known sign) (tree_of (prefix n text))
 
 -- The lines before this one are TOML, and no longer part of the text is.
 pub record EndsToml (text : List ℕ) (line : ℕ) : Type 0 where
   pub counted : 1 ≤ line
-  pub before : is_some (tree_of (front (line - 1) text)) ≡ true
-  pub behind : (n : ℕ) → line ≤ n → tree_of (front n text) ≡ None
+  pub before : is_some (tree_of (prefix (line - 1) text)) ≡ true
+  pub behind : (n : ℕ) → line ≤ n → tree_of (prefix n text) ≡ None
 
 -- What is found of a document with this fault: the sign that it shows, on the first line up to
 -- which the text shows it. Nothing, where the document shows none of the signs.
 abbrev pub IsFoundBy : (text : List ℕ) → (whole : Members) → Option Sign → Option Found → Type 0
 IsFoundBy text whole None None = Unit {0}
 IsFoundBy text whole (Some sign) (Some found) = (found.sign ≡ sign)
-    × IsFirst (front_shows text (known_of whole) sign) found.line
+    × IsFirst (prefix_shows text (known_of whole) sign) found.line
 IsFoundBy text whole None (Some found) = ⊥
 IsFoundBy text whole (Some sign) None = ⊥
 

@@ -175,7 +175,7 @@ table_there ms None test = false
 table_there ms (Some (part, n)) test =
     option_map_or (test part) (slice_get (tables_at part ms) n) false
 
--- A document shows the sign, where this is known of the whole document whose front it is.
+-- A document shows the sign, where this is known of the whole document whose prefix it is.
 abbrev pub shows : Known → Sign → Members → Bool
 shows k NotToml ms = false
 shows k Version ms = has (codes "version") ms

@@ -1,7 +1,7 @@
 //! A text by its lines.
 ghost use Rattle.std.specs.Prelude.{◌≡◌, ℕ, ◌≤◌, ◌<◌, ◌^◌, List, IfOk};
 ghost use Rattle.policy_places.specs.Ends.{AreEnds};
-ghost use Rattle.policy_places.specs.Fronts.{front};
+ghost use Rattle.policy_places.specs.Prefixes.{prefix};
 
 use std::alloc::{AllocError, Global};
 use std::marker::Model;
@@ -33,14 +33,14 @@ impl<'a> Lines<'a> {
     pub(crate) fn count(&self) -> u64
         ensures some { 1 ≤ result }
         ensures few { result < 2 ^ 63 }
-        ensures whole { (n : ℕ) → result ≤ n → front n self.now ≡ self.now }
+        ensures whole { (n : ℕ) → result ≤ n → prefix n self.now ≡ self.now }
     {
         self.ends.len() as u64
     }
 
     /// The lines up to the one of this number, counted from 1.
-    pub(crate) fn front(&self, line: u64) -> &'a [u8]
-        ensures { result.now ≡ front line self.now }
+    pub(crate) fn prefix(&self, line: u64) -> &'a [u8]
+        ensures { result.now ≡ prefix line self.now }
     {
         let ends = self.ends.as_slice();
         if line == 0 {

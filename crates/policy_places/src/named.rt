@@ -243,9 +243,9 @@ pub fn named_at(alloc: Global, policy: &[u8], found: Found) -> Result<Option<Nam
         return Ok(None);
     };
     let lines = Lines::of(alloc, policy)?;
-    let Some(front) = tree_of(alloc, lines.front(found.line))? else {
+    let Some(prefix) = tree_of(alloc, lines.prefix(found.line))? else {
         return Ok(None);
     };
     let known = known_of(alloc, &whole)?;
-    Ok(known.names(alloc, &whole, found.sign, &front)?)
+    Ok(known.names(alloc, &whole, found.sign, &prefix)?)
 }

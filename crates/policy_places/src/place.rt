@@ -3,7 +3,7 @@ ghost use Rattle.std.specs.Prelude.{◌≡◌, ◌≢◌, IfOk, Err, Some, None,
 ghost use Rattle.toml.specs.View.{table_view};
 ghost use Rattle.wall_policy.specs.Answer.{answer_to, in_tree, tree_of};
 ghost use Rattle.policy_places.specs.Signs.{known_of, shows};
-ghost use Rattle.policy_places.specs.Places.{IsFirst, front_shows, EndsToml, IsFoundBy, IsFoundIn};
+ghost use Rattle.policy_places.specs.Places.{IsFirst, prefix_shows, EndsToml, IsFoundBy, IsFoundIn};
 ghost use Rattle.policy_places.specs.Places.{IsPlaceIfAny};
 
 use crate::document::tree_of;
@@ -39,7 +39,7 @@ fn end_of_toml(alloc: Global, lines: &Lines) -> Result<u64, NoMemory>
 {
     let mut line = lines.count();
     while line > 0 {
-        if tree_of(alloc, lines.front(line))?.is_some() {
+        if tree_of(alloc, lines.prefix(line))?.is_some() {
             return Ok(line + 1);
         }
         line -= 1;
@@ -47,11 +47,11 @@ fn end_of_toml(alloc: Global, lines: &Lines) -> Result<u64, NoMemory>
     Ok(1)
 }
 
-// Whether the front is a document that shows the sign.
-fn front_shows(alloc: Global, front: &[u8], known: &Known, sign: Sign) -> Result<bool, NoMemory>
-    ensures { IfOk result (λ b. b ≡ in_tree (shows known.now sign) (tree_of front.now)) }
+// Whether the prefix is a document that shows the sign.
+fn prefix_shows(alloc: Global, prefix: &[u8], known: &Known, sign: Sign) -> Result<bool, NoMemory>
+    ensures { IfOk result (λ b. b ≡ in_tree (shows known.now sign) (tree_of prefix.now)) }
 {
-    match tree_of(alloc, front)? {
+    match tree_of(alloc, prefix)? {
         Some(tree) => Ok(known.shows(alloc, sign, &tree)?),
         None => Ok(false),
     }
@@ -60,12 +60,12 @@ fn front_shows(alloc: Global, front: &[u8], known: &Known, sign: Sign) -> Result
 // The first line up to which the text shows the sign, where the whole text does.
 fn line_of(alloc: Global, lines: &Lines, known: &Known, sign: Sign) -> Result<u64, NoMemory>
     requires { in_tree (shows known.now sign) (tree_of lines.now) ≡ true }
-    ensures { IfOk result (IsFirst (front_shows lines.now known.now sign)) }
+    ensures { IfOk result (IsFirst (prefix_shows lines.now known.now sign)) }
 {
     let count = lines.count();
     let mut line = 1;
     while line < count {
-        if front_shows(alloc, lines.front(line), known, sign)? {
+        if prefix_shows(alloc, lines.prefix(line), known, sign)? {
             return Ok(line);
         }
         line += 1;
@@ -111,7 +111,7 @@ fn place_in(alloc: Global, text: &[u8], fault: PolicyFault) -> Result<Place, NoM
 ///
 /// The fault is that of `read_policy`. It stands on the first line up to which the text shows it:
 /// something that is a part of no policy, or at least of none that goes on as this text does. Each
-/// front of the text is read, from the first line on, so the time grows with the square of the
+/// prefix of the text is read, from the first line on, so the time grows with the square of the
 /// number of lines.
 pub fn place_of(alloc: Global, policy: &[u8]) -> Result<Option<Place>, NoMemory>
     ensures { IfOk result (IsPlaceIfAny policy.now) }

@@ -4,7 +4,7 @@ use Rattle.std.proofs.lemmas.List.{append-nil}
 use Rattle.std.specs.Io.KnownBytes.{Appends}
 use Rattle.wall_labels.proofs.WallLabelsLemmas.{Appends-then}
 use Rattle.hall_script.specs.Devices.{used, IsWritten, BrokeOff}
-use Rattle.live_book.proofs.LiveBookLemmas.{front_more, front_then}
+use Rattle.live_book.proofs.LiveBookLemmas.{prefix_more, prefix_then}
 
 pub appends_none : (a : Option (List ℕ)) → Appends a a []
 appends_none None = tt
@@ -24,7 +24,7 @@ module _ {W : Type 0} (failures : W → ℕ) (contents : W → Option (List ℕ)
   -- it broke off in the first
   pub first_broke : (a b : W) (xs ys : List ℕ) → BrokeOff (used failures contents a b) xs →
       BrokeOff (used failures contents a b) (xs ++ ys)
-  first_broke a b xs ys first = (first.0, front_more (contents a) (contents b) xs ys first.1)
+  first_broke a b xs ys first = (first.0, prefix_more (contents a) (contents b) xs ys first.1)
 
   -- it broke off in the second
   pub second_broke : (a b c : W) (xs ys : List ℕ) → IsWritten (used failures contents a b) xs →
@@ -32,5 +32,5 @@ module _ {W : Type 0} (failures : W → ℕ) (contents : W → Option (List ℕ)
       → BrokeOff (used failures contents a c) (xs ++ ys)
   second_broke a b c xs ys first second = (
     second.0 ∙ ap (λ (n : ℕ). n + 1) first.0,
-    front_then (contents a) (contents b) (contents c) xs ys first.1 second.1,
+    prefix_then (contents a) (contents b) (contents c) xs ys first.1 second.1,
   )

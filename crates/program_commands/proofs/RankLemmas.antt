@@ -23,7 +23,7 @@ use Rattle.program_commands.specs.Running.{break_ending}
 use Rattle.program_commands.specs.Running.{IsScriptOf, IsNoRun, Tells, Breaks, Runs, Reached}
 use Rattle.program_commands.specs.Running.{FellShort, RunsIfRead}
 use Rattle.wall_labels.proofs.WallLabelsLemmas.{Appends-then}
-use Rattle.live_book.proofs.LiveBookLemmas.{front_more, front_then}
+use Rattle.live_book.proofs.LiveBookLemmas.{prefix_more, prefix_then}
 use Rattle.program_commands.proofs.KnownLemmas.{appends_none}
 use Rattle.program_commands.proofs.ReplayLemmas.{no_hall}
 
@@ -37,17 +37,17 @@ unfolding ranks_text
 ranks_more wall rows n = let e : n + 1 ≡ suc n = omega arith in ap (ranks_text wall rows) e
 
 -- the text of the first processes begins that of more of them
-pub ranks_front : (wall : ChineseWall) (rows : List (List Reply)) (n more : ℕ)
+pub ranks_prefix : (wall : ChineseWall) (rows : List (List Reply)) (n more : ℕ)
     → (rest : List ℕ) × (ranks_text wall rows n ++ rest ≡ ranks_text wall rows (n + more))
-ranks_front wall rows n zero = let e : n ≡ n + 0 = omega arith in
+ranks_prefix wall rows n zero = let e : n ≡ n + 0 = omega arith in
     ([], append-nil (ranks_text wall rows n) ∙ ap (ranks_text wall rows) e)
-ranks_front wall rows n (suc more) =
-    let front = ranks_front wall rows n more in
+ranks_prefix wall rows n (suc more) =
+    let prefix = ranks_prefix wall rows n more in
     let last = rank_line wall (n + more) ++ reply_lines wall (slice_index_or rows (n + more) []) in
     let e : n + more + 1 ≡ n + suc more = omega arith in (
-      front.0 ++ last,
-      sym (append_assoc (ranks_text wall rows n) front.0 last)
-          ∙ ap (λ (l : List ℕ). l ++ last) front.1
+      prefix.0 ++ last,
+      sym (append_assoc (ranks_text wall rows n) prefix.0 last)
+          ∙ ap (λ (l : List ℕ). l ++ last) prefix.1
           ∙ sym (ranks_more wall rows (n + more)) ∙ ap (ranks_text wall rows) e,
     )
 
@@ -79,11 +79,11 @@ ranks_broken wall rows n p given a b c is are lt before broken =
     broken in
     let last = rank_line wall n ++ reply_lines wall (slice_index_or rows n []) in
     let begun = subst (AppendsPrefix a c) (sym (ranks_more wall rows n))
-    (front_then a b c (ranks_text wall rows n) last before broken') in
-    let whole = ranks_front wall rows (n + 1) (length rows - (n + 1)) in
+    (prefix_then a b c (ranks_text wall rows n) last before broken') in
+    let whole = ranks_prefix wall rows (n + 1) (length rows - (n + 1)) in
     let e : n + 1 + (length rows - (n + 1)) ≡ length rows = omega arith in
     subst (AppendsPrefix a c) (whole.1 ∙ ap (ranks_text wall rows) e)
-    (front_more a c (ranks_text wall rows (n + 1)) whole.0 begun)
+    (prefix_more a c (ranks_text wall rows (n + 1)) whole.0 begun)
 
 pub ranks_done : (wall : ChineseWall) (rows : List (List Reply)) (n : ℕ) (a b : Option (List ℕ)) →
     n ≡ length rows → Appends a b (ranks_text wall rows n)

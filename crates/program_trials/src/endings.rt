@@ -481,8 +481,8 @@ const AUDITS: &[(&str, &str, &str, &str, &str, u8)] = &[
 
 #[test]
 fn books_are_audited(rt: HostRuntime) -> Result<(), Fail> {
-    for (policy, front, rest, said, line, status) in AUDITS {
-        let book = format!(in rt.alloc(); "{front}{rest}")?;
+    for (policy, prefix, rest, said, line, status) in AUDITS {
+        let book = format!(in rt.alloc(); "{prefix}{rest}")?;
         assert!(&rt;
             audits_so(&rt, policy, &book, said, line, *status),
             "{book}"
@@ -627,8 +627,8 @@ take 2 0
 
 #[test]
 fn books_are_kept(rt: HostRuntime) -> Result<(), Fail> {
-    for (policy, script, replies, front, rest) in KEPT {
-        let book = format!(in rt.alloc(); "{front}{rest}")?;
+    for (policy, script, replies, prefix, rest) in KEPT {
+        let book = format!(in rt.alloc(); "{prefix}{rest}")?;
         assert!(&rt;
             keeps_so(&rt, policy, script, replies, &book, "", 0),
             "{book}"

@@ -29,7 +29,7 @@ const BLOCK: &[u8; 1024] = &[b'#'; 1024];
 // Some bytes, and then so many `#`.
 #[derive(Drop)]
 struct Repeating<'a> {
-    front: &'a [u8],
+    prefix: &'a [u8],
     left: usize,
 }
 
@@ -37,12 +37,12 @@ impl<'a> Source for Repeating<'a> {
     ghost failures = { λ _. 0 };
 
     fn read(&mut self, buffer: &mut [u8]) -> Result<usize, Failed> {
-        let front = self.front;
-        if !front.is_empty() {
-            let count = front.len().min(buffer.len());
-            let (now, after) = front.split_at(count);
+        let prefix = self.prefix;
+        if !prefix.is_empty() {
+            let count = prefix.len().min(buffer.len());
+            let (now, after) = prefix.split_at(count);
             buffer[..count].copy_from_slice(now);
-            self.front = after;
+            self.prefix = after;
             return Ok(count);
         }
         let count = self.left.min(buffer.len()).min(BLOCK.len());
@@ -54,10 +54,10 @@ impl<'a> Source for Repeating<'a> {
 
 // So many bytes: these, and then `#` again and again, for a lifetime where the number is the
 // largest.
-fn long<'a>(front: &'a [u8], length: usize) -> Repeating<'a> {
+fn long<'a>(prefix: &'a [u8], length: usize) -> Repeating<'a> {
     Repeating {
-        front,
-        left: length.saturating_sub(front.len()),
+        prefix,
+        left: length.saturating_sub(prefix.len()),
     }
 }
 

@@ -364,14 +364,14 @@ const LONGER: &[(&str, u32, &str)] = &[
 
 #[test]
 fn lists_of_millions_of_numbers_are_read(rt: HostRuntime) -> Result<(), Fail> {
-    for (front, numbers, said) in LONGER {
-        let mut script = format!(in rt.alloc(); "post 0 0 {front}")?;
+    for (prefix, numbers, said) in LONGER {
+        let mut script = format!(in rt.alloc(); "post 0 0 {prefix}")?;
         for _ in 1..*numbers {
             script.push_str(",1")?;
         }
         assert!(&rt;
             ends_so(&rt, ALONE, script.as_bytes(), said, "", 0),
-            "{front}"
+            "{prefix}"
         );
     }
     Ok(())

@@ -40,10 +40,11 @@ ok_then (Ok x) P Q more h = more h
 ok_then (Err e) P Q more h = h
 
 -- what is written behind a front that was written
-pub behind : {A E : Type 0} (r : Result A E) (old front mid back new : List ℕ) →
-    mid ≡ old ++ front → OnOk r (new ≡ mid ++ back) → OnOk r (new ≡ old ++ (front ++ back))
-behind r old front mid back new first = ok_then r (new ≡ mid ++ back) (new ≡ old ++ (front ++ back))
-    (λ then. then ∙ ap (λ t. t ++ back) first ∙ append_assoc old front back)
+pub behind : {A E : Type 0} (r : Result A E) (old prefix mid back new : List ℕ) →
+    mid ≡ old ++ prefix → OnOk r (new ≡ mid ++ back) → OnOk r (new ≡ old ++ (prefix ++ back))
+behind r old prefix mid back new first = ok_then r (new ≡ mid ++ back)
+    (new ≡ old ++ (prefix ++ back))
+    (λ then. then ∙ ap (λ t. t ++ back) first ∙ append_assoc old prefix back)
 
 -- there is one at each number below the length
 pub one_at : {A : Type 0} (xs : List A) (i : ℕ) → i < length xs →

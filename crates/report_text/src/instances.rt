@@ -101,11 +101,11 @@ fn put_instance(
     ensures { OnOk result (text.new.items ≡ text.old.items ++ instance_line policy.now
         filled.now.kind.now filled.now.comm filled.now.k filled.now.entry outcome.now) }
 {
-    let mut front = Vec::new(*text.allocator());
-    put_filled(&mut front, filled)?;
+    let mut prefix = Vec::new(*text.allocator());
+    put_filled(&mut prefix, filled)?;
     let mut came = Vec::new(*text.allocator());
     put_outcome(&mut came, policy, outcome)?;
-    put_folded(text, COLUMNS, &front, &came)?;
+    put_folded(text, COLUMNS, &prefix, &came)?;
     put(text, "\n")
 }
 

@@ -61,29 +61,29 @@ pub record AreGiven (wall : ChineseWall) (entries : List Entry) : Type 0 where
   pub rest : List Entry
   pub given : entries ++ rest ≡ book wall (posts_in entries)
 
--- the front of a joined list is a prefix of the first part, or goes on into the second
-front_of : (xs rest as' bs : List Entry) → xs ++ rest ≡ as' ++ bs → ((r : List Entry)
+-- the prefix of a joined list is a prefix of the first part, or goes on into the second
+prefix_of : (xs rest as' bs : List Entry) → xs ++ rest ≡ as' ++ bs → ((r : List Entry)
     × (xs ++ r ≡ as')) ⊎ ((ys : List Entry) × (xs ≡ as' ++ ys) × (ys ++ rest ≡ bs))
-front_of xs rest [] bs e = inr (xs, refl, e)
-front_of [] rest (a ∷ as') bs e = inl (a ∷ as', refl)
-front_of (x ∷ xs) rest (a ∷ as') bs e =
+prefix_of xs rest [] bs e = inr (xs, refl, e)
+prefix_of [] rest (a ∷ as') bs e = inl (a ∷ as', refl)
+prefix_of (x ∷ xs) rest (a ∷ as') bs e =
     let head : x ≡ a = cc in
     let tail : xs ++ rest ≡ as' ++ bs = cc in
     ⊎_elim
     (λ (h : (r : List Entry) × (xs ++ r ≡ as')). inl (h.0, cc))
     (λ (h : (ys : List Entry) × (xs ≡ as' ++ ys) × (ys ++ rest ≡ bs)). inr (h.0, cc, h.2))
-    (front_of xs rest as' bs tail)
+    (prefix_of xs rest as' bs tail)
 
 -- a prefix of what one post gives is nothing, the post, or all of it
-given_front : (x : Post) (o : Option Entry) (ys rest : List Entry) →
+given_prefix : (x : Post) (o : Option Entry) (ys rest : List Entry) →
     ys ++ rest ≡ posted x ∷ option_to_list o →
     (ys ≡ []) ⊎ ((ys ≡ posted x ∷ []) ⊎ (ys ≡ posted x ∷ option_to_list o))
-given_front x o [] rest e = inl refl
-given_front x o (y ∷ []) rest e = inr (inl (let h : y ≡ posted x = cc in ap (λ z. z ∷ []) h))
-given_front x None (y ∷ z ∷ ys) rest e = absurd (cc)
-given_front x (Some v) (y ∷ z ∷ []) rest e =
+given_prefix x o [] rest e = inl refl
+given_prefix x o (y ∷ []) rest e = inr (inl (let h : y ≡ posted x = cc in ap (λ z. z ∷ []) h))
+given_prefix x None (y ∷ z ∷ ys) rest e = absurd (cc)
+given_prefix x (Some v) (y ∷ z ∷ []) rest e =
     inr (inr (let h : y ≡ posted x = cc in let k : z ≡ v = cc in cc))
-given_front x (Some v) (y ∷ z ∷ w ∷ ys) rest e = absurd (cc)
+given_prefix x (Some v) (y ∷ z ∷ w ∷ ys) rest e = absurd (cc)
 
 post_only : (wall : ChineseWall) (x : Post) (past : List Post) →
     posts_in (book wall past ++ posted x ∷ []) ≡ x ∷ past
@@ -124,8 +124,8 @@ given_of_book wall (x ∷ past) entries rest taken e = ⊎_elim
           append-nil (book wall (x ∷ past)) ∙ ap (book wall) (sym (posts_in-book wall (x ∷ past)));
     }))
     some)
-    (given_front x (outcome_entry x past (outcome wall x past)) h.0 rest h.2)))
-    (front_of entries rest (book wall past) (entries_for wall x past) e)
+    (given_prefix x (outcome_entry x past (outcome wall x past)) h.0 rest h.2)))
+    (prefix_of entries rest (book wall past) (entries_for wall x past) e)
 
 pub begins_given : (wall : ChineseWall) (entries : List Entry) → Begins wall entries →
     AreGiven wall entries
@@ -232,7 +232,7 @@ word_at wall (x ∷ past) i p c s taken at = ⊎_elim
     (i - length (book wall past)) (omega arith)) ∙ at in
     let is = only_post x past (outcome wall x past) (i - length (book wall past)) p c s new in
     let i_is : i ≡ length (book wall past) = omega (arith, is.0, high) in
-    let front : take i (book wall past ++ entries_for wall x past) ≡ book wall past = ap
+    let prefix : take i (book wall past ++ entries_for wall x past) ≡ book wall past = ap
     (λ n. take n (book wall past ++ entries_for wall x past)) i_is ∙ take-append_seam
     (book wall past) (entries_for wall x past) in
     let label : x.stated ≡ s = is.2 in
@@ -240,7 +240,7 @@ word_at wall (x ∷ past) i p c s taken at = ⊎_elim
     ∙ (ap (λ q. not (star (histories wall past) q x.stated.label)) is.1
     ∙ (ap (λ (t : Stated). not (star (histories wall past) p t.label)) label
     ∙ ap (λ es. not (star (histories wall es) p s.label))
-    (sym (ap posts_in front ∙ posts_in-book wall past))))))
+    (sym (ap posts_in prefix ∙ posts_in-book wall past))))))
     (cases_lt i (length (book wall past)))
 
 pub words_are_of_the_star_rule : WordsAreOfTheStarRule

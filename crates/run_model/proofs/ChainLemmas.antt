@@ -4,7 +4,7 @@ use Rattle.std.proofs.Common.{sym, subst, inl, inr, arith}
 use Rattle.wall_labels.specs.declared.ids.TheConstants.{DATASET_LIMIT}
 use Rattle.wall_policy.specs.Policy.{ChineseWall}
 use Rattle.wall_policy.specs.Rivals.{AreRivals}
-use Rattle.wall_policy.proofs.WallPolicyLemmas.{rivals_in_front}
+use Rattle.wall_policy.proofs.WallPolicyLemmas.{rivals_in_prefix}
 use Rattle.run_model.specs.declared.entry.Entry.{Entry}
 use Rattle.run_model.specs.Posts.{Post}
 use Rattle.run_model.specs.Books.{posts_in}
@@ -58,7 +58,7 @@ rivals_in_grown : (old new : ChineseWall) (d e : ℕ) → GrewFrom old new →
     AreRivals old.classes d e → AreRivals new.classes d e
 rivals_in_grown old new d e grew rivals =
     subst (λ classes. AreRivals classes d e) grew.classes.1
-    (rivals_in_front old.classes grew.classes.0 d e rivals)
+    (rivals_in_prefix old.classes grew.classes.0 d e rivals)
 
 pub rivals_stay : RivalsStay
 rivals_stay [] wall d e chain were = absurd were

@@ -53,11 +53,11 @@ at_either [] ys i y e = inr (i, e)
 at_either (x ∷ xs) ys zero y e = inl e
 at_either (x ∷ xs) ys (suc i) y e = at_either xs ys i y e
 
-pub at_front : {X : Type 0} (xs ys : List X) (i : ℕ) (y : X) → slice_get xs i ≡ Some y →
+pub at_prefix : {X : Type 0} (xs ys : List X) (i : ℕ) (y : X) → slice_get xs i ≡ Some y →
     slice_get (xs ++ ys) i ≡ Some y
-at_front [] ys i y e = absurd (cc)
-at_front (x ∷ xs) ys zero y e = e
-at_front (x ∷ xs) ys (suc i) y e = at_front xs ys i y e
+at_prefix [] ys i y e = absurd (cc)
+at_prefix (x ∷ xs) ys zero y e = e
+at_prefix (x ∷ xs) ys (suc i) y e = at_prefix xs ys i y e
 
 ---- Ranks of members.
 

@@ -22,7 +22,7 @@ use Rattle.run_model.specs.Posts.{Post, posts_on, kth_posts, filled, comms}
 use Rattle.run_model.specs.Refusals.{refused_for, or_else, mismatches, fault_as, fault_on, fault}
 use Rattle.run_model.specs.Books.{IsCounted, AreCounted}
 use Rattle.run_model.specs.Holding.{IsMoment}
-use Rattle.run_model.proofs.CommLemmas.{at_front}
+use Rattle.run_model.proofs.CommLemmas.{at_prefix}
 
 -- what a post without a refusal is
 pub record IsAccepted (wall : ChineseWall) (past : List Post) (p c : ℕ) (sig : Signature)
@@ -173,7 +173,7 @@ pub comm_stays : (wall : ChineseWall) (later past : List Post) (c : ℕ) (comm :
     slice_get (comms wall past) c ≡ Some comm → slice_get (comms wall (later ++ past)) c ≡ Some comm
 comm_stays wall later past c comm at =
     let s = comms_stay wall later past in
-    ap (λ table. slice_get table c) s.1 ∙ at_front (comms wall past) s.0 c comm at
+    ap (λ table. slice_get table c) s.1 ∙ at_prefix (comms wall past) s.0 c comm at
 
 pub comm_later : (wall : ChineseWall) (past : List Post) (y : Post) (then : List Post) (c : ℕ)
     (comm : Comm) → IsMoment past y then → slice_get (comms wall then) c ≡ Some comm →

@@ -15,11 +15,11 @@ use Rattle.run_model.specs.Holding.{IsMoment}
 
 ---- A place in a list that grows at its end.
 
-pub get_front : {X : Type 0} (xs ys : List X) (k : ℕ) (x : X) → slice_get xs k ≡ Some x →
+pub get_prefix : {X : Type 0} (xs ys : List X) (k : ℕ) (x : X) → slice_get xs k ≡ Some x →
     slice_get (xs ++ ys) k ≡ Some x
-get_front [] ys k x e = absurd (cc)
-get_front (y ∷ xs) ys zero x e = e
-get_front (y ∷ xs) ys (suc k) x e = get_front xs ys k x e
+get_prefix [] ys k x e = absurd (cc)
+get_prefix (y ∷ xs) ys zero x e = e
+get_prefix (y ∷ xs) ys (suc k) x e = get_prefix xs ys k x e
 
 pub get_end : {X : Type 0} (xs : List X) (x : X) → slice_get (xs ++ x ∷ []) (length xs) ≡ Some x
 get_end [] x = refl
@@ -52,7 +52,7 @@ posts_kth c q (z ∷ later) y then there by =
     ⊎_elim
     (λ t. ap (λ ps. slice_get ps k)
     (cond-true (z.comm == c && z.process == q) (now ++ z.stated ∷ []) now t)
-    ∙ get_front now (z.stated ∷ []) k y.stated rest)
+    ∙ get_prefix now (z.stated ∷ []) k y.stated rest)
     (λ f. ap (λ ps. slice_get ps k)
     (cond-false (z.comm == c && z.process == q) (now ++ z.stated ∷ []) now f) ∙ rest)
     (cases_Bool (z.comm == c && z.process == q))

@@ -12,7 +12,7 @@ use Rattle.run_model.specs.Comms.{Comm}
 use Rattle.run_model.specs.Posts.{Post, place, comms}
 use Rattle.run_model.specs.Books.{AreCounted}
 use Rattle.run_model.specs.Holding.{IsMoment}
-use Rattle.run_model.proofs.PostLemmas.{get_front, get_end, get_either}
+use Rattle.run_model.proofs.PostLemmas.{get_prefix, get_end, get_either}
 use Rattle.run_model.proofs.CountedLemmas.{taken_accepted, taken_at, comm_later}
 use Rattle.run_model.specs.Runs.{requests}
 
@@ -74,7 +74,7 @@ pub request_stays : (p r : ℕ) (ck : ℕ × ℕ) (later past : List Post) →
     slice_get (requests p past) r ≡ Some ck → slice_get (requests p (later ++ past)) r ≡ Some ck
 request_stays p r ck later past e =
     let more = requests_grow p later past in
-    ap (λ rs. slice_get rs r) more.1 ∙ get_front (requests p past) more.0 r ck e
+    ap (λ rs. slice_get rs r) more.1 ∙ get_prefix (requests p past) more.0 r ck e
 
 pub requests_never_fewer : (p : ℕ) (later past : List Post) →
     length (requests p past) ≤ length (requests p (later ++ past))

@@ -136,12 +136,12 @@ books_grow wall later run =
 
 pub words_are_of_the_star_rule : laws.WordsAreOfTheStarRule
 words_are_of_the_star_rule wall later run e posting barred h is =
-    let front = prefixes_are_legal wall later (e ∷ run) h in
+    let prefix = prefixes_are_legal wall later (e ∷ run) h in
     let now : posts (e ∷ run) ≡ record
     { process = e.call.process; comm = posting.comm; stated = statement posting barred } ∷ posts
     run = ap (λ o. posts_of (Rattle.std.specs.List.cons_option
     (contribution_by e.call.process o) (contributions run))) is in
-    (subst (AreCounted wall) now (legal_posts_count wall (e ∷ run) front)).1.word
+    (subst (AreCounted wall) now (legal_posts_count wall (e ∷ run) prefix)).1.word
 
 -- ## requests that were taken
 

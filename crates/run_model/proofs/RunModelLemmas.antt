@@ -18,7 +18,7 @@ pub use Rattle.run_model.proofs.FitLemmas.{filled_is_fit}
 pub use Rattle.run_model.proofs.KnownLemmas.{book_named, outcome_named}
 pub use Rattle.run_model.proofs.PostLawLemmas.{granted_is, grow, posts_keep_the_wall}
 pub use Rattle.run_model.proofs.PostLemmas.{IsFilled, filled_is, kth_from, stated_at, stated_by}
-pub use Rattle.run_model.proofs.PostLemmas.{get_front}
+pub use Rattle.run_model.proofs.PostLemmas.{get_prefix}
 pub use Rattle.run_model.proofs.PostingLemmas.{posts_within}
 pub use Rattle.run_model.proofs.ProperLemmas.{legal_proper, proper_step}
 pub use Rattle.run_model.proofs.RequestLemmas.{request_member, request_new, requests_other}

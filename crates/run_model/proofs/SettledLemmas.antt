@@ -22,7 +22,7 @@ use Rattle.run_model.specs.Posts.{filled, comms, outcome, outcome_at}
 use Rattle.run_model.specs.Books.{IsCounted, AreCounted}
 use Rattle.run_model.specs.Holding.{IsMoment}
 use Rattle.mpi_group.proofs.MpiGroupLemmas.{rank_is}
-use Rattle.run_model.proofs.PostLemmas.{get_front, filled_is}
+use Rattle.run_model.proofs.PostLemmas.{get_prefix, filled_is}
 use Rattle.run_model.proofs.CountedLemmas.{taken_accepted, comm_stays}
 use Rattle.run_model.specs.Contributions.{Contribution, posts_of, parts_on, kth_parts, parts_in}
 use Rattle.run_model.specs.Contributions.{full_at, full_in}
@@ -45,7 +45,7 @@ rows_stay {X} f g k (m ∷ members) grow full =
   where
     kept : (o : Option X) → slice_get (f m) k ≡ o → is_some o ≡ true →
         slice_get (f m ++ (grow m).0) k ≡ slice_get (f m) k
-    kept (Some x) e h = get_front (f m) (grow m).0 k x e ∙ sym e
+    kept (Some x) e h = get_prefix (f m) (grow m).0 k x e ∙ sym e
     kept None e h = absurd (false≢true h)
 
 same_length : {X Y : Type 0} (xs : List X) (ys : List Y) (k : ℕ) → length xs ≡ length ys →

@@ -239,11 +239,11 @@ outcome_makes p full (Some (MadeComms first many)) number rank size e =
     }
 outcome_makes p full (Some NoneMade) number rank size e = absurd (cc)
 
-after_front : {X : Type 0} (xs ys : List X) (i : ℕ) →
+after_prefix : {X : Type 0} (xs ys : List X) (i : ℕ) →
     slice_get (xs ++ ys) (length xs + i) ≡ slice_get ys i
-after_front [] ys i = ap (slice_get ys) (let e : 0 + i ≡ i = omega arith in e)
-after_front (x ∷ xs) ys i = ap (slice_get (x ∷ xs ++ ys))
-    (let e : suc (length xs) + i ≡ suc (length xs + i) = omega arith in e) ∙ after_front xs ys i
+after_prefix [] ys i = ap (slice_get ys) (let e : 0 + i ≡ i = omega arith in e)
+after_prefix (x ∷ xs) ys i = ap (slice_get (x ∷ xs ++ ys))
+    (let e : suc (length xs) + i ≡ suc (length xs + i) = omega arith in e) ∙ after_prefix xs ys i
 
 fit_made : (fit : Bool) (before many first number : ℕ) →
     (if fit then MadeComms before many else NoneMade) ≡ MadeComms first number →
@@ -284,7 +284,7 @@ made_there wall run c k first many h i comm at =
     let after : slice_get (comms wall (h.x ∷ h.before)) (first + i) ≡ Some comm =
     ap (λ new. slice_get (table ++ new) (first + i)) adds
     ∙ (ap (λ n. slice_get (table ++ new_comms h.roll) (n + i)) is.1
-    ∙ (after_front table (new_comms h.roll) i ∙ at)) in
+    ∙ (after_prefix table (new_comms h.roll) i ∙ at)) in
     ap (λ ps. slice_get (comms wall ps) (first + i)) (sym h.moment.1)
     ∙ comm_stays wall h.moment.0 (h.x ∷ h.before) (first + i) comm after
 

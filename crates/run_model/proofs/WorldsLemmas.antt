@@ -44,7 +44,7 @@ use Rattle.run_model.specs.Replies.{reply_by, reply, IsAnswer}
 use Rattle.run_model.specs.Worlds.{SamePostingButForValues, SameActButForValues}
 use Rattle.run_model.specs.Worlds.{SameCallButForValues, AreTwoWorlds, form_of_reply}
 use Rattle.run_model.specs.Worlds.{SameButForNumbers, RepliesSameButForNumbers, WallSeesOne}
-use Rattle.run_model.specs.Worlds.{AtEachTurn, ValuesDecideNothing, FrontsOfWorldsAreWorlds}
+use Rattle.run_model.specs.Worlds.{AtEachTurn, ValuesDecideNothing, PrefixesOfWorldsAreWorlds}
 use Rattle.run_model.proofs.RunLemmas.{one_reply_is_due}
 use Rattle.run_model.proofs.SeenLemmas.{View, seen, seen_all, same_posts, pairs}
 use Rattle.coll_values.proofs.CollValuesLemmas.{map_cons_option}
@@ -420,12 +420,12 @@ replies_same wall (e ∷ run) (f ∷ other) w =
 
 -- ## at each turn
 
-pub fronts_of_worlds_are_worlds : FrontsOfWorldsAreWorlds
-fronts_of_worlds_are_worlds wall [] [] w = w
-fronts_of_worlds_are_worlds wall [] (f ∷ other) w = absurd w.calls
-fronts_of_worlds_are_worlds wall (e ∷ run) [] w = absurd w.calls
-fronts_of_worlds_are_worlds wall (e ∷ run) (f ∷ other) w =
-    (fronts_of_worlds_are_worlds wall run other (older wall e f run other w), w)
+pub prefixes_of_worlds_are_worlds : PrefixesOfWorldsAreWorlds
+prefixes_of_worlds_are_worlds wall [] [] w = w
+prefixes_of_worlds_are_worlds wall [] (f ∷ other) w = absurd w.calls
+prefixes_of_worlds_are_worlds wall (e ∷ run) [] w = absurd w.calls
+prefixes_of_worlds_are_worlds wall (e ∷ run) (f ∷ other) w =
+    (prefixes_of_worlds_are_worlds wall run other (older wall e f run other w), w)
 
 at_each_turn : (Are So : List Entry → List Entry → Type 0) →
     ((run other : List Entry) → Are run other → So run other) →
@@ -450,6 +450,6 @@ wall_sees_one wall run other w =
 pub values_decide_nothing : ValuesDecideNothing
 values_decide_nothing wall run other w = record {
   turns = at_each_turn (AreTwoWorlds wall) (WallSeesOne wall) (wall_sees_one wall) run other
-      (fronts_of_worlds_are_worlds wall run other w);
+      (prefixes_of_worlds_are_worlds wall run other w);
   replies = replies_same wall run other w;
 }

@@ -13,8 +13,8 @@ use Rattle.run_model.specs.PostLaws.{IsWhatIsHeld}
 
 ---- The policy after posts.
 
-abbrev pub IsPrefix : {X : Type 0} → (front whole : List X) → Type 0
-IsPrefix {X} front whole = (rest : List X) × (front ++ rest ≡ whole)
+abbrev pub IsPrefix : {X : Type 0} → (prefix whole : List X) → Type 0
+IsPrefix {X} prefix whole = (rest : List X) × (prefix ++ rest ≡ whole)
 
 -- A policy that only grew: what an earlier one has stands in it at the same numbers, with the same
 -- names, classes and homes, and more may stand behind it.

@@ -19,8 +19,8 @@ abbrev pub LookAlike : (d p : ℕ) → (one other : List Entry) → Type 0
 LookAlike d p one other = CannotTell banks_and_oil d p (reverse one) (reverse other)
 
 -- what was answered, in order
-abbrev pub told : List Entry → List Reply
-told entries = map (λ (e : Entry). e.reply) entries
+abbrev pub replies_in : List Entry → List Reply
+replies_in entries = map (λ (e : Entry). e.reply) entries
 
 -- what p is delivered of the sanitised sum, after its four posts, is spared for alpha
 abbrev pub sum_is_spared : (p : ℕ) → Bool

@@ -106,8 +106,8 @@ ValuesDecideNothing = (wall : ChineseWall) (run other : List Entry) →
     AreTwoWorlds wall run other → AreOneToTheWall wall run other
 
 -- the runs with which two worlds begin are two worlds at each turn
-abbrev pub FrontsOfWorldsAreWorlds : Type 0
-FrontsOfWorldsAreWorlds = (wall : ChineseWall) (run other : List Entry) →
+abbrev pub PrefixesOfWorldsAreWorlds : Type 0
+PrefixesOfWorldsAreWorlds = (wall : ChineseWall) (run other : List Entry) →
     AreTwoWorlds wall run other → AtEachTurn (AreTwoWorlds wall) run other
 
 -- ## worlds that are alike outside a dataset

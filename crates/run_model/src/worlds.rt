@@ -2,10 +2,10 @@
 //! differ in the values of elements alone.
 ghost use Rattle.std.specs.Prelude.{◌≡◌, true, pos};
 ghost use Rattle.run_model.specs.RunRows.{relayed, summed, two_offers, barred_allgather};
-ghost use Rattle.run_model.specs.Worlds.{ValuesDecideNothing, FrontsOfWorldsAreWorlds};
+ghost use Rattle.run_model.specs.Worlds.{ValuesDecideNothing, PrefixesOfWorldsAreWorlds};
 ghost use Rattle.run_model.specs.Worlds.{WhoHoldsNothingLearnsNothing, NoQuestionTellsWorldsApart};
 ghost use Rattle.run_model.specs.Worlds.{RivalsLearnNothing, HomesOfRivalsSeeNothing};
-ghost use Rattle.run_model.specs.WorldRows.{Worlds, Alike, LookAlike, told, sum_is_spared};
+ghost use Rattle.run_model.specs.WorldRows.{Worlds, Alike, LookAlike, replies_in, sum_is_spared};
 
 /// The wall goes by no value: where calls are equal but for values, verdicts, histories and books
 /// are equal at each turn, and the replies are equal but for numbers in deliveries.
@@ -14,9 +14,9 @@ pub fn values_decide_nothing()
 {}
 
 /// The runs with which two worlds begin are two worlds.
-#[tactic(auto, using(crate::proofs::WorldsLemmas::fronts_of_worlds_are_worlds))]
-pub fn fronts_of_worlds_are_worlds()
-    ensures { FrontsOfWorldsAreWorlds }
+#[tactic(auto, using(crate::proofs::WorldsLemmas::prefixes_of_worlds_are_worlds))]
+pub fn prefixes_of_worlds_are_worlds()
+    ensures { PrefixesOfWorldsAreWorlds }
 {}
 
 /// Who doesn't hold a dataset after the first of two worlds that are alike outside it sees the same
@@ -81,7 +81,8 @@ pub fn two_sums()
 /// A barred post's numbers reach nobody: two worlds that differ in them alone have equal replies.
 pub fn two_barred_posts()
     ensures alike { Alike 2 (barred_allgather (pos 4)) (barred_allgather (pos 8)) }
-    ensures replies { told (barred_allgather (pos 4)) ≡ told (barred_allgather (pos 8)) }
+    ensures replies {
+        replies_in (barred_allgather (pos 4)) ≡ replies_in (barred_allgather (pos 8)) }
     ensures same { LookAlike 2 0 (barred_allgather (pos 4)) (barred_allgather (pos 8)) }
 {
     coll_values::laws::values_are_of_routed_ranks();

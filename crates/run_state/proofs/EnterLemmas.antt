@@ -16,7 +16,7 @@ use Rattle.run_state.specs.declared.seat.Seat.{Seat}
 use Rattle.run_state.specs.Views.{PostStateValue, PostStateView, IsPostState, view_of, LookedAt}
 use Rattle.run_state.specs.Views.{seen}
 use Rattle.run_state.specs.Upcoming.{IsNext, IsPrepared, roll_next}
-use Rattle.run_state.proofs.RowLemmas.{get-front}
+use Rattle.run_state.proofs.RowLemmas.{get-prefix}
 use Rattle.run_state.proofs.SeenLemmas.{is_next}
 use Rattle.run_state.proofs.PostStateLemmas.{parts_seen}
 
@@ -100,7 +100,7 @@ module _ {X : Type 0} (comms : List Comm) (lines : State X) (accesses : Accesses
           IsSpotted (parts_seen table accesses waiting) seat s looked.comm
       readied table waiting made unchanged prepared = record {
         there = ap (λ xs. slice_get xs seat.meeting.comm) (prepared looked.comm there).comms
-            ∙ get-front comms (added (length comms) (if_full
+            ∙ get-prefix comms (added (length comms) (if_full
             (roll_next old.waiting seat.meeting.comm seat.meeting.rank looked.comm s)))
             seat.meeting.comm looked.comm there;
         rank = looked.rank;

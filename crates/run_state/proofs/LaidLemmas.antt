@@ -111,11 +111,11 @@ pub plain_sized : (new : List (List ℕ)) → AreSized None new
 plain_sized [] = tt
 plain_sized (g ∷ gs) = (tt, plain_sized gs)
 
-pub dropped_front : {A : Type 0} (xs ys : List A) (n : ℕ) → n ≡ length xs → drop n (xs ++ ys) ≡ ys
-dropped_front [] ys zero e = refl
-dropped_front [] ys (suc n) e = absurd (omega (arith, e))
-dropped_front (x ∷ xs) ys zero e = absurd (omega (arith, e))
-dropped_front (x ∷ xs) ys (suc n) e = dropped_front xs ys n (omega (arith, e))
+pub dropped_prefix : {A : Type 0} (xs ys : List A) (n : ℕ) → n ≡ length xs → drop n (xs ++ ys) ≡ ys
+dropped_prefix [] ys zero e = refl
+dropped_prefix [] ys (suc n) e = absurd (omega (arith, e))
+dropped_prefix (x ∷ xs) ys zero e = absurd (omega (arith, e))
+dropped_prefix (x ∷ xs) ys (suc n) e = dropped_prefix xs ys n (omega (arith, e))
 
 pub length_with_grid : (grid : Option Topology) (groups : List (List ℕ)) →
     length (with_grid grid groups) ≡ length groups

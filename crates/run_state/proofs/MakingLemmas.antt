@@ -22,7 +22,7 @@ use Rattle.run_state.specs.Laid.{with_shapes, AreLaid, laid}
 use Rattle.run_state.specs.Making.{Makes}
 use Rattle.run_state.proofs.LaidLemmas.{some_at, laid_length, laid_append, AreSized, laid_within}
 use Rattle.run_state.proofs.LaidLemmas.{laid_group, laid_sized, makes_some}
-use Rattle.run_state.proofs.LaidLemmas.{makes_none, fits_is, no_room_is, dropped_front}
+use Rattle.run_state.proofs.LaidLemmas.{makes_none, fits_is, no_room_is, dropped_prefix}
 
 -- ## shapes that are entered one by one
 
@@ -140,7 +140,7 @@ module _ (gs : List (List ℕ)) (ss : List Shape) (h : AreLaid gs ss) where
   all_entered grid new after before shapes same grown entered =
       entered ∙ ((λ i. same i ++ laid grid (drop (length (same i)) (grown i)))
       ∙ ap (λ xs. ss ++ laid grid xs)
-      (dropped_front gs new (length ss) (sym (laid_length gs ss h))))
+      (dropped_prefix gs new (length ss) (sym (laid_length gs ss h))))
 
   pub now_laid : (grid : Option Topology) (new after : List (List ℕ)) (shapes : List Shape) →
       AreSized grid new → after ≡ gs ++ new → shapes ≡ ss ++ laid grid new → AreLaid after shapes

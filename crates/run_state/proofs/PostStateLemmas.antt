@@ -35,7 +35,7 @@ use Rattle.run_state.specs.Entering.{Spot, IsAt, Enters, Changes, Answers, place
 use Rattle.run_state.specs.Entering.{if_waiting, written}
 use Rattle.run_state.specs.Upcoming.{IsNext, IsPrepared, roll_next, constructed}
 use Rattle.run_state.specs.Stands.{StandsForPosts}
-use Rattle.run_state.proofs.RowLemmas.{get-front, some_same}
+use Rattle.run_state.proofs.RowLemmas.{get-prefix, some_same}
 use Rattle.run_state.proofs.StandLemmas.{at_own, at_beside, at_other, same_or_not, grown}
 use Rattle.run_state.proofs.StandLemmas.{unused_waits, unused_arrivals}
 use Rattle.run_state.proofs.SeenLemmas.{roll_is, sig_is, members_is, shape_is, sound_next}
@@ -50,7 +50,7 @@ module _ {X : Type 0} (old new : PostStateView X) (c k : ℕ) (comm : Comm) (mor
     (pending : new.waiting.pending ≡ updated_at old.waiting.pending c k (if_waiting inst))
     (of : IsInstanceOf comm inst) where
   there_now : slice_get new.comms c ≡ Some comm
-  there_now = ap (λ table. slice_get table c) comms ∙ get-front old.comms more c comm there
+  there_now = ap (λ table. slice_get table c) comms ∙ get-prefix old.comms more c comm there
 
   known_own : new.waiting.known c ≡ Some (communicator_of comm)
   known_own = (λ i. known i c)

@@ -30,11 +30,11 @@ get-snoc_other [] y (suc k) apart = refl
 get-snoc_other (x ∷ xs) y zero apart = refl
 get-snoc_other (x ∷ xs) y (suc k) apart = get-snoc_other xs y k (λ e. apart (ap suc e))
 
-pub get-front : {A : Type 0} (xs ys : List A) (k : ℕ) (x : A) → slice_get xs k ≡ Some x →
+pub get-prefix : {A : Type 0} (xs ys : List A) (k : ℕ) (x : A) → slice_get xs k ≡ Some x →
     slice_get (xs ++ ys) k ≡ Some x
-get-front [] ys k x e = absurd (cc)
-get-front (y ∷ xs) ys zero x e = e
-get-front (y ∷ xs) ys (suc k) x e = get-front xs ys k x e
+get-prefix [] ys k x e = absurd (cc)
+get-prefix (y ∷ xs) ys zero x e = e
+get-prefix (y ∷ xs) ys (suc k) x e = get-prefix xs ys k x e
 
 -- ## rows of the items that each member has at one place
 

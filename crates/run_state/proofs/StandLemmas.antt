@@ -28,7 +28,7 @@ use Rattle.run_state.specs.Views.{PostStateView}
 use Rattle.run_state.specs.Entering.{Spot, Answers, Enters, place_at, after, fills, if_waiting}
 use Rattle.run_state.specs.Stands.{StandsForPosts, Tells, arrivals_in, arrivals_as, waiting_by}
 use Rattle.run_state.specs.Stands.{waiting_in}
-use Rattle.run_state.proofs.RowLemmas.{length_snoc, get-front, map-same, rows-other, begun_nothing}
+use Rattle.run_state.proofs.RowLemmas.{length_snoc, get-prefix, map-same, rows-other, begun_nothing}
 use Rattle.run_state.proofs.RowLemmas.{parts_back}
 use Rattle.run_state.proofs.ContributionLemmas.{posts-grow, parts-grow, posts-elsewhere}
 use Rattle.run_state.proofs.ContributionLemmas.{parts-elsewhere}
@@ -62,7 +62,7 @@ pub grown : {A : Type 0} (xs ys : List A) (n : ℕ) → ((x : A) × (slice_get x
     × (slice_get (xs ++ ys) n ≡ Some x)) ⊎ ((length xs ≤ n) × (slice_get xs n ≡ None))
 grown {A} xs ys n = ⊎_elim
     (λ (there : (x : A) × (n < length xs) × (slice_get xs n ≡ Some x) × (get_or xs n x ≡ x)).
-    inl (there.0, there.2, get-front xs ys n there.0 there.2))
+    inl (there.0, there.2, get-prefix xs ys n there.0 there.2))
     (λ past. inr past)
     (slice_get_cases xs n).1
 
@@ -157,7 +157,8 @@ module _ {X : Type 0} (wall : ChineseWall) (old new : PostStateView X)
   -- the posted communicator is still there
   there_now : slice_get new.comms c ≡ Some spot.comm
   there_now = ap (λ table. slice_get table c) moves.comms
-      ∙ get-front old.comms (added (length old.comms) (fills old spot g)) c spot.comm moves.at.there
+      ∙ get-prefix old.comms (added (length old.comms) (fills old spot g)) c spot.comm
+      moves.at.there
 
   -- ## arrivals
 

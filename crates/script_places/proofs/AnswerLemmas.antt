@@ -85,9 +85,9 @@ module _ (datasets : List Word) (line : List ℕ) (fault : LineFault)
 
 ---- words at the front of a line
 
-pub printable_front : (n : ℕ) (line : List ℕ) → list_all is_printable line ≡ true →
+pub printable_prefix : (n : ℕ) (line : List ℕ) → list_all is_printable line ≡ true →
     list_all is_printable (take n line) ≡ true
-printable_front n line printable = (and_parts (list_all is_printable (take n line))
+printable_prefix n line printable = (and_parts (list_all is_printable (take n line))
     (list_all is_printable (drop n line))
     (sym (list_all-append is_printable (take n line) (drop n line))
     ∙ ap (list_all is_printable) (sym (take_drop n line)) ∙ printable)).0
@@ -113,19 +113,19 @@ module _ (datasets : List Word) (line ends : List ℕ) (fault : LineFault)
       (sym (take_all (length ends) (parts 32 line) (omega (arith, count)))) have
 
   -- the words up to the m-th, which are those of the bytes up to its end
-  pub have_front : (m : ℕ) → 1 ≤ m → m ≤ length ends →
+  pub have_prefix : (m : ℕ) → 1 ≤ m → m ≤ length ends →
       HaveFault datasets (parts 32 (take (get_or ends (m - 1) 0) line)) fault →
       HaveFault datasets (take m (parts 32 line)) fault
-  have_front m some within have =
+  have_prefix m some within have =
       let cut = cut_at line ends (m - 1) all (omega arith) in
       let same : m - 1 + 1 ≡ m = omega arith in
       subst (λ k. HaveFault datasets (take k (parts 32 line)) fault) same
       (subst (λ ws. HaveFault datasets ws fault) cut.1 have)
 
-  pub no_front : (m : ℕ) → 1 ≤ m → m ≤ length ends →
+  pub no_prefix : (m : ℕ) → 1 ≤ m → m ≤ length ends →
       (HaveFault datasets (parts 32 (take (get_or ends (m - 1) 0) line)) fault → ⊥) →
       HaveFault datasets (take m (parts 32 line)) fault → ⊥
-  no_front m some within none have =
+  no_prefix m some within none have =
       let cut = cut_at line ends (m - 1) all (omega arith) in
       let same : m - 1 + 1 ≡ m = omega arith in
       none (subst (λ ws. HaveFault datasets ws fault) (sym cut.1)

@@ -26,9 +26,9 @@ module _ (datasets ws : List Word) (fault : LineFault) where
   have_more : (n m : ℕ) → n ≤ m → HaveFault datasets (take n ws) fault →
       HaveFault datasets (take m ws) fault
   have_more n m more have rest =
-      let front : take n (take m ws) ≡ take n ws = take-take n m ws more in
+      let prefix : take n (take m ws) ≡ take n ws = take-take n m ws more in
       ap (λ vs. call_of datasets (vs ++ rest))
-      (take_drop n (take m ws) ∙ ap (λ vs. vs ++ drop n (take m ws)) front)
+      (take_drop n (take m ws) ∙ ap (λ vs. vs ++ drop n (take m ws)) prefix)
       ∙ ap (call_of datasets) (append_assoc (take n ws) (drop n (take m ws)) rest)
       ∙ have (drop n (take m ws) ++ rest)
 
@@ -59,22 +59,22 @@ printable_at (x ∷ xs) (suc n) b all at =
     printable_at xs n b (and_parts (is_printable x) (list_all is_printable xs) all).1 at
 
 -- a byte at the front
-front_at : (line : List ℕ) (n m b : ℕ) → n < m → slice_get line n ≡ Some b →
+prefix_at : (line : List ℕ) (n m b : ℕ) → n < m → slice_get line n ≡ Some b →
     slice_get (take m line) n ≡ Some b
-front_at [] n m b low at = absurd cc
-front_at (x ∷ xs) n zero b low at = absurd (omega arith)
-front_at (x ∷ xs) zero (suc m) b low at = at
-front_at (x ∷ xs) (suc n) (suc m) b low at = front_at xs n m b (omega arith) at
+prefix_at [] n m b low at = absurd cc
+prefix_at (x ∷ xs) n zero b low at = absurd (omega arith)
+prefix_at (x ∷ xs) zero (suc m) b low at = at
+prefix_at (x ∷ xs) (suc n) (suc m) b low at = prefix_at xs n m b (omega arith) at
 
 one_byte : (line : List ℕ) (c d : ℕ) → IsUnprintable line c → IsUnprintable line d → c ≡ d
 one_byte line c d one two = elim (cases_lt one.before two.before) [
   | inl low ↦ absurd (false≢true (sym one.unprintable
       ∙ printable_at (take two.before line) one.before one.byte two.first
-      (front_at line one.before two.before one.byte low one.there)))
+      (prefix_at line one.before two.before one.byte low one.there)))
   | inr high ↦ elim (cases_lt two.before one.before) [
     | inl low ↦ absurd (false≢true (sym two.unprintable
         ∙ printable_at (take one.before line) two.before two.byte one.first
-        (front_at line two.before one.before two.byte low two.there)))
+        (prefix_at line two.before one.before two.byte low two.there)))
     | inr same ↦ omega (arith, one.place, two.place)
   ]
 ]

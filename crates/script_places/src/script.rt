@@ -18,7 +18,7 @@ fn trim(line: &[u8]) -> &[u8]
     ensures { result.now ≡ trimmed line.now }
 {
     match line {
-        [front @ .., b'\r'] => front,
+        [prefix @ .., b'\r'] => prefix,
         _ => line,
     }
 }

@@ -89,13 +89,13 @@ fn cut_everywhere(
     let text = text_of(rt.alloc(), book)?;
     let bytes = text.as_bytes();
     for end in 0..bytes.len() {
-        let (front, _) = bytes.split_at(end);
+        let (prefix, _) = bytes.split_at(end);
         let sealed = seal_of(rt.alloc(), book, end)?;
         if is_line_end(bytes, end) {
             assert!(rt; is_sound(rt.alloc(), policy, sealed.as_str()), "{end}");
         }
         assert!(rt;
-            is_sealed_as(rt.alloc(), policy, front, Ok(sealed.as_str())),
+            is_sealed_as(rt.alloc(), policy, prefix, Ok(sealed.as_str())),
             "{end}"
         );
     }

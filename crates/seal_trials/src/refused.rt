@@ -61,10 +61,10 @@ const SPOILT: &[(&str, &str, SealFault)] = &[
 // The text of the book with a part of it in another's place.
 fn spoilt(rt: &(impl AllocGlobal + Abort), old: &str, new: &str) -> Result<String, Fail> {
     let book = text_of(rt.alloc(), &DENIED)?;
-    let Some((front, rest)) = book.as_str().split_once(old) else {
+    let Some((prefix, rest)) = book.as_str().split_once(old) else {
         panic!(rt; "the book lacks {old}")
     };
-    let text = format!(in rt.alloc(); "{front}{new}{rest}")?;
+    let text = format!(in rt.alloc(); "{prefix}{new}{rest}")?;
     Ok(text)
 }
 

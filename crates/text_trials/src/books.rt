@@ -128,16 +128,16 @@ fn version_2(rt: &(impl AllocGlobal + Abort), policy: &Policy) -> Result<(), Fai
 }
 
 #[test]
-fn a_front_of_a_book_is_cut(rt: HostRuntime) -> Result<(), Fail> {
-    under(&rt, BANKS_AND_OIL, |policy| fronts(&rt, policy))
+fn a_prefix_of_a_book_is_cut(rt: HostRuntime) -> Result<(), Fail> {
+    under(&rt, BANKS_AND_OIL, |policy| prefixes(&rt, policy))
 }
 
-fn fronts(rt: &(impl AllocGlobal + Abort), policy: &Policy) -> Result<(), Fail> {
+fn prefixes(rt: &(impl AllocGlobal + Abort), policy: &Policy) -> Result<(), Fail> {
     let text = BOOK.as_bytes();
     for end in 0..text.len() {
-        let (front, _) = text.split_at(end);
+        let (prefix, _) = text.split_at(end);
         assert!(rt;
-            fault_of(rt.alloc(), policy, front) == Some(ReadFault::Cut),
+            fault_of(rt.alloc(), policy, prefix) == Some(ReadFault::Cut),
             "{end}"
         );
     }
@@ -179,10 +179,10 @@ fn spoilt_books_have_a_first_bad_line(rt: HostRuntime) -> Result<(), Fail> {
 
 fn spoilt(rt: &(impl AllocGlobal + Abort), policy: &Policy) -> Result<(), Fail> {
     for (old, new, line) in SPOILT {
-        let Some((front, rest)) = BOOK.split_once(old) else {
+        let Some((prefix, rest)) = BOOK.split_once(old) else {
             panic!(rt; "the book lacks {old}")
         };
-        let text = format!(in rt.alloc(); "{front}{new}{rest}")?;
+        let text = format!(in rt.alloc(); "{prefix}{new}{rest}")?;
         let fault = fault_of(rt.alloc(), policy, text.as_bytes());
         assert!(rt; fault == Some(ReadFault::BadLine(*line)), "{new}");
     }
@@ -272,11 +272,11 @@ fn long_lines_are_read_and_written(rt: HostRuntime) -> Result<(), Fail> {
 }
 
 fn long_lines(rt: &(impl AllocGlobal + Abort), policy: &Policy) -> Result<(), Fail> {
-    for (front, rest) in LONG {
+    for (prefix, rest) in LONG {
         for numbers in [256, 1000] {
-            let list = listing(rt.alloc(), front, numbers, 1)?;
+            let list = listing(rt.alloc(), prefix, numbers, 1)?;
             let text = format!(in rt.alloc(); "book 1\n{list}{rest}\nend 1\n")?;
-            assert!(rt; is_whole(rt.alloc(), policy, text.as_bytes()), "{front}");
+            assert!(rt; is_whole(rt.alloc(), policy, text.as_bytes()), "{prefix}");
         }
     }
     Ok(())
@@ -292,7 +292,7 @@ fn is_as_said(alloc: Global, policy: &Policy, text: &[u8], is_form: bool) -> boo
 }
 
 #[test]
-fn a_front_is_written_where_the_writer_fails(rt: HostRuntime) -> Result<(), Fail> {
+fn a_prefix_is_written_where_the_writer_fails(rt: HostRuntime) -> Result<(), Fail> {
     under(&rt, BANKS_AND_OIL, |policy| broken_off(&rt, policy))
 }
 

@@ -386,26 +386,26 @@ fn told(rt: &(impl AllocGlobal + Abort), wall: &str, script: &str) -> Vec<u8> {
 }
 
 // How many replies begin so.
-fn count_of_replies(replies: &str, front: &str) -> usize {
+fn count_of_replies(replies: &str, prefix: &str) -> usize {
     replies
         .lines()
-        .filter(|line| line.starts_with(front))
+        .filter(|line| line.starts_with(prefix))
         .count()
 }
 
 // The script had replies of all kinds, and none that puts the posts of its processes out of step.
 fn expect_rich(rt: &impl Abort, replies: &str) {
-    for front in [
+    for prefix in [
         "delivered [",
         "delivered none",
         "pending",
         "posted",
         "refused NoSuchRequest",
     ] {
-        assert!(rt; 200 < count_of_replies(replies, front), "{front}");
+        assert!(rt; 200 < count_of_replies(replies, prefix), "{prefix}");
     }
-    for front in ["refused Mismatch", "refused TooManyRequests"] {
-        assert!(rt; count_of_replies(replies, front) == 0, "{front}");
+    for prefix in ["refused Mismatch", "refused TooManyRequests"] {
+        assert!(rt; count_of_replies(replies, prefix) == 0, "{prefix}");
     }
     assert!(rt; 10 <= replies.lines().filter(|line| line.len() >= 1000).count());
 }

@@ -66,7 +66,7 @@ fn call_of(rt: &(impl AllocGlobal + Abort), policy: &Policy, line: &str) -> Call
 /// Whether the bytes are this text and a line feed.
 fn is_line(bytes: &[u8], text: &str) -> bool {
     match bytes.split_last() {
-        Some((last, front)) => *last == b'\n' && front == text.as_bytes(),
+        Some((last, prefix)) => *last == b'\n' && prefix == text.as_bytes(),
         None => false,
     }
 }
@@ -170,7 +170,7 @@ fn make_groups(rt: &(impl AllocGlobal + Abort), hall: &mut Hall) {
     }
 }
 
-/// The book has this text, and where there is no memory to write it, a front of it.
+/// The book has this text, and where there is no memory to write it, a prefix of it.
 fn expect_text(rt: &(impl AllocGlobal + Abort), policy: &Policy, book: &Book, text: &str)
     requires { All (IsKnownEntry policy.now) book.now.list }
 {

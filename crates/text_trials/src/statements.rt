@@ -114,11 +114,11 @@ const LONG: &[(&str, u32)] = &[
 /// The statement with a list of so many numbers: those from 0 on, up to the most.
 pub(crate) fn listing(
     alloc: Global,
-    front: &str,
+    prefix: &str,
     numbers: u32,
     most: u32,
 ) -> Result<String, AllocError> {
-    let mut line = String::from_str(alloc, front)?;
+    let mut line = String::from_str(alloc, prefix)?;
     let mut comma = "";
     for number in 0..numbers {
         let number = number.min(most);
@@ -132,10 +132,10 @@ pub(crate) fn listing(
 // far more, which it is the rules' part to refuse.
 #[test]
 fn long_lists_are_read_and_written(rt: HostRuntime) -> Result<(), Fail> {
-    for (front, most) in LONG {
+    for (prefix, most) in LONG {
         for numbers in [256, 257, 5000] {
-            let line = listing(rt.alloc(), front, numbers, *most)?;
-            assert!(&rt; is_spelled(&rt, &line), "{front}");
+            let line = listing(rt.alloc(), prefix, numbers, *most)?;
+            assert!(&rt; is_spelled(&rt, &line), "{prefix}");
         }
     }
     Ok(())

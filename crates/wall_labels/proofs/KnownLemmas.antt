@@ -22,7 +22,7 @@ Consumes-then (Some a) (Some b) (Some c) xs ys p q =
 
 -- a prefix of the bytes was written, and this is the rest
 abbrev pub Wrote : Option (List ℕ) → Option (List ℕ) → List ℕ → List ℕ → Type 0
-Wrote old new bytes rest = (front : List ℕ) × (front ++ rest ≡ bytes) × Appends old new front
+Wrote old new bytes rest = (prefix : List ℕ) × (prefix ++ rest ≡ bytes) × Appends old new prefix
 
 pub wrote_more : (old mid new : Option (List ℕ)) (bytes rest after : List ℕ) (n : ℕ) →
     Wrote old mid bytes rest → Appends mid new (take n rest) → after ≡ drop n rest →

@@ -16,7 +16,7 @@ pub trait Source {
     /// The bytes that are still to be read, where they are known.
     ghost remaining: { Self → Option (List ℕ) } = { λ _. None };
 
-    /// Reads some bytes into the front of the buffer; none only at the end, or where the buffer is
+    /// Reads some bytes into the prefix of the buffer; none only at the end, or where the buffer is
     /// empty.
     fn read(&mut self, buffer: &mut [u8]) -> Result<usize, Failed>
         ensures within { IfOk result (λ n. n ≤ length buffer.new) }
@@ -33,7 +33,7 @@ pub trait Sink {
     /// The bytes that were written, where they are known.
     ghost contents: { Self → Option (List ℕ) } = { λ _. None };
 
-    /// Writes bytes from the front of those given, at least one where there is one.
+    /// Writes bytes from the prefix of those given, at least one where there is one.
     fn write(&mut self, bytes: &[u8]) -> Result<usize, Failed>
         ensures within { IfOk result (λ n. n ≤ length bytes.now) }
         ensures some { IfOk result (λ n. 0 < length bytes.now → 0 < n) }
@@ -47,7 +47,7 @@ pub fn write_all<W: Sink>(sink: &mut W, bytes: &[u8]) -> Result<(), Failed>
     ensures went { OnOk result (W.failures sink.new ≡ W.failures sink.old) }
     ensures failed { OnErr result (W.failures sink.new ≡ W.failures sink.old + 1) }
     ensures written { OnOk result (Appends (W.contents sink.old) (W.contents sink.new) bytes.now) }
-    ensures front { OnErr result
+    ensures prefix { OnErr result
         (AppendsPrefix (W.contents sink.old) (W.contents sink.new) bytes.now) }
 {
     let mut rest = bytes;

@@ -71,8 +71,8 @@ impl<'a> Source for MemorySource<'a> {
         }
         let rest = self.rest;
         let count = rest.len().min(buffer.len());
-        let (front, after) = rest.split_at(count);
-        buffer[..count].copy_from_slice(front);
+        let (prefix, after) = rest.split_at(count);
+        buffer[..count].copy_from_slice(prefix);
         self.rest = after;
         Ok(count)
     }

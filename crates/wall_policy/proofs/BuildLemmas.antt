@@ -1,4 +1,4 @@
--- What a list that is built item by item says, over a list that is walked from its front.
+-- What a list that is built item by item says, over a list that is walked from its prefix.
 use Rattle.std.proofs.Common.{◌≡◌, ℕ, ℤ, ◌+◌, ◌<◌, List, [], ◌∷◌, ◌++◌, length, get_or, drop, map}
 use Rattle.std.proofs.Common.{Option, Some, None, refl, sym, ap, ◌∙◌, append_assoc, length-append}
 use Rattle.std.proofs.lemmas.List.{drop_more, length-map}
@@ -9,38 +9,38 @@ use Rattle.wall_policy.specs.Names.{Name}
 use Rattle.wall_policy.specs.Checks.{dataset_names}
 use Rattle.wall_policy.specs.Meaning.{class_numbers, natural, with_rule, numbers_in}
 
-pub map_goes_on : {A B : Type 0} (f : A → B) (front : List B) (xs : List A) (i : ℕ) (x : A)
-    (all : List B) → i < length xs → x ≡ get_or xs i x → front ++ map f (drop i xs) ≡ all →
-    (front ++ f x ∷ []) ++ map f (drop (i + 1) xs) ≡ all
-map_goes_on f front xs i x all lt same h =
-    append_assoc front (f x ∷ []) _
-    ∙ ap (λ y. front ++ f y ∷ map f (drop (i + 1) xs)) same
-    ∙ ap (λ ys. front ++ map f ys) (sym (drop_more xs i x lt))
+pub map_goes_on : {A B : Type 0} (f : A → B) (prefix : List B) (xs : List A) (i : ℕ) (x : A)
+    (all : List B) → i < length xs → x ≡ get_or xs i x → prefix ++ map f (drop i xs) ≡ all →
+    (prefix ++ f x ∷ []) ++ map f (drop (i + 1) xs) ≡ all
+map_goes_on f prefix xs i x all lt same h =
+    append_assoc prefix (f x ∷ []) _
+    ∙ ap (λ y. prefix ++ f y ∷ map f (drop (i + 1) xs)) same
+    ∙ ap (λ ys. prefix ++ map f ys) (sym (drop_more xs i x lt))
     ∙ h
 
-module _ (number : RuleText → ℤ) (front : List (Op × ℕ)) (rs : List RuleText) (i : ℕ) (r : RuleText)
-    (all : List (Op × ℕ)) (lt : i < length rs) (same : r ≡ get_or rs i r)
-    (h : front ++ numbers_in number (drop i rs) ≡ all)
+module _ (number : RuleText → ℤ) (prefix : List (Op × ℕ)) (rs : List RuleText) (i : ℕ)
+    (r : RuleText) (all : List (Op × ℕ)) (lt : i < length rs) (same : r ≡ get_or rs i r)
+    (h : prefix ++ numbers_in number (drop i rs) ≡ all)
   where
     abbrev rest : List (Op × ℕ)
     rest = numbers_in number (drop (i + 1) rs)
 
-    rule_on : front ++ with_rule (op_of r.op) (number r) rest ≡ all
+    rule_on : prefix ++ with_rule (op_of r.op) (number r) rest ≡ all
     rule_on =
-        ap (λ (k : RuleText). front ++ with_rule (op_of k.op) (number k) rest) same
-        ∙ ap (λ ks. front ++ numbers_in number ks) (sym (drop_more rs i r lt))
+        ap (λ (k : RuleText). prefix ++ with_rule (op_of k.op) (number k) rest) same
+        ∙ ap (λ ks. prefix ++ numbers_in number ks) (sym (drop_more rs i r lt))
         ∙ h
 
     pub named_goes_on : (op : Op) → op_of r.op ≡ Some op →
-        (front ++ (op, natural (number r)) ∷ []) ++ rest ≡ all
+        (prefix ++ (op, natural (number r)) ∷ []) ++ rest ≡ all
     named_goes_on op named =
-        append_assoc front ((op, natural (number r)) ∷ []) rest
-        ∙ ap (λ (o : Option Op). front ++ with_rule o (number r) rest) (sym named)
+        append_assoc prefix ((op, natural (number r)) ∷ []) rest
+        ∙ ap (λ (o : Option Op). prefix ++ with_rule o (number r) rest) (sym named)
         ∙ rule_on
 
-    pub unnamed_goes_on : op_of r.op ≡ None → front ++ rest ≡ all
+    pub unnamed_goes_on : op_of r.op ≡ None → prefix ++ rest ≡ all
     unnamed_goes_on none =
-        ap (λ (o : Option Op). front ++ with_rule o (number r) rest) (sym none) ∙ rule_on
+        ap (λ (o : Option Op). prefix ++ with_rule o (number r) rest) (sym none) ∙ rule_on
 
 -- The classes of the datasets.
 

@@ -3,7 +3,7 @@ pub mod KeyLemmas
 pub mod NameLemmas
 pub mod RepeatLemmas
 pub mod BuildLemmas
-pub mod FrontLemmas
+pub mod PrefixLemmas
 pub mod LowestLemmas
 pub mod PlaceLemmas
 pub mod PolicyLemmas

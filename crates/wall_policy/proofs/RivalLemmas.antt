@@ -126,26 +126,26 @@ in_both n d xs ys zero lt is later = (0, omega arith, is)
 in_both n d xs ys (suc k) lt is later = behind n ys d (later (k, omega (arith, lt), is))
 
 -- a dataset of a class stays in it
-listed_in_front : (cs rest : List ℕ) (n class d : ℕ) → Contains (datasets_from n cs class) d →
+listed_in_prefix : (cs rest : List ℕ) (n class d : ℕ) → Contains (datasets_from n cs class) d →
     Contains (datasets_from n (cs ++ rest) class) d
-listed_in_front [] rest n class d h = absurd (omega (arith, h.1))
-listed_in_front (c ∷ cs) rest n class d h = elim (eqb_tells c class) [
+listed_in_prefix [] rest n class d h = absurd (omega (arith, h.1))
+listed_in_prefix (c ∷ cs) rest n class d h = elim (eqb_tells c class) [
   | inl e ↦
       let here = rw e.0 at h in
       rw e.0 (in_both n d (datasets_from (n + 1) cs class)
       (datasets_from (n + 1) (cs ++ rest) class) here.0 here.1 here.2
-      (listed_in_front cs rest (n + 1) class d))
-  | inr e ↦ rw e.0 (listed_in_front cs rest (n + 1) class d (rw e.0 at h))
+      (listed_in_prefix cs rest (n + 1) class d))
+  | inr e ↦ rw e.0 (listed_in_prefix cs rest (n + 1) class d (rw e.0 at h))
 ]
 
 -- rivals stay rivals
-pub rivals_in_front : (front rest : List ℕ) (d e : ℕ) → AreRivals front d e →
-    AreRivals (front ++ rest) d e
-rivals_in_front front rest d e (apart, (class, one, other)) = (
+pub rivals_in_prefix : (prefix rest : List ℕ) (d e : ℕ) → AreRivals prefix d e →
+    AreRivals (prefix ++ rest) d e
+rivals_in_prefix prefix rest d e (apart, (class, one, other)) = (
   apart,
   (
     class,
-    listed_in_front front rest 0 class d one,
-    listed_in_front front rest 0 class e other,
+    listed_in_prefix prefix rest 0 class d one,
+    listed_in_prefix prefix rest 0 class e other,
   ),
 )

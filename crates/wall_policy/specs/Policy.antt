@@ -147,7 +147,7 @@ pub record CanBeHeld (w : ChineseWall) (pairs : List (ℕ × ℕ)) : Type 0 wher
   pub kept : (p d : ℕ) → held_of w p d ≡ true → has_pair pairs p d ≡ true
   pub apart : NobodyHasRivalsAtFirst (with_held w pairs)
 
--- ## a front of the processes
+-- ## a prefix of the processes
 
 -- the policy of the first n processes: what belongs to the others is not in it
 abbrev pub first_processes : ℕ → ChineseWall → ChineseWall

@@ -219,7 +219,7 @@ impl Policy {
     ///
     /// For books that were written before processes were added.
     pub fn up_to(&self, alloc: Global, last: ProcessId) -> Result<Policy, NoMemory>
-        ensures { IfOk result (λ front. front ≡ first_processes (last + 1) self.now) }
+        ensures { IfOk result (λ prefix. prefix ≡ first_processes (last + 1) self.now) }
     {
         let copy = self.copy(alloc)?;
         Ok(copy.first(last.number() as usize + 1))

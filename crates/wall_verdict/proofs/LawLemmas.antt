@@ -18,7 +18,7 @@ use Rattle.wall_verdict.specs.declared.verdict.Verdict.TheVariants.{Granted}
 use Rattle.wall_verdict.specs.Charges.{is_that, contribution, contributed_below, contributed}
 use Rattle.wall_verdict.specs.Charges.{charged, sanitised}
 use Rattle.wall_verdict.specs.Verdicts.{member, meets, meets_rival, offends, first_barred}
-use Rattle.wall_verdict.specs.Verdicts.{first_offence, told, verdict, verdict_by}
+use Rattle.wall_verdict.specs.Verdicts.{first_offence, stated_label, verdict, verdict_by}
 use Rattle.wall_verdict.specs.Meanings.{IsVerdict, NamesBarred, NamesOffence, NobodyIsBarred}
 use Rattle.wall_verdict.specs.Meanings.{MembersStayApart}
 use Rattle.mpi_cart.proofs.MpiCartLemmas.{any_more}
@@ -38,9 +38,9 @@ member_at roll j fit h =
     let e = slice_get-get_or roll.members j 0 within in
     e ∙ ap (λ (p : ℕ). Some p) (sym (ap (λ o. unwrap_or o 0) e))
 
-told_is : (o : Option Label) → IsSome o → o ≡ Some (told o)
-told_is (Some label) h = refl
-told_is None h = absurd (false≢true h)
+stated_is : (o : Option Label) → IsSome o → o ≡ Some (stated_label o)
+stated_is (Some label) h = refl
+stated_is None h = absurd (false≢true h)
 
 labelled : (roll : Roll) (i : ℕ) → IsFit roll → (o : Option Stated) → stated_by roll i ≡ o →
     barred_in o ≡ true → IsSome (label_in o)
@@ -51,7 +51,7 @@ labelled roll i fit None e b = absurd (false≢true b)
 
 module _ (wall : ChineseWall) (has : History) (roll : Roll) (fit : IsFit roll) where
   names_barred : (i : ℕ) → IsFirst (is_barred roll) roll.shape.size i →
-      NamesBarred roll (member roll i) (told (label_of roll i))
+      NamesBarred roll (member roll i) (stated_label (label_of roll i))
   names_barred i first = record {
     rank = i;
     lowest = record {
@@ -60,12 +60,12 @@ module _ (wall : ChineseWall) (has : History) (roll : Roll) (fit : IsFit roll) w
       lowest = λ k h. none_at (is_barred roll) i k h first.none;
     };
     is_member = member_at roll i fit first.within;
-    is_label = told_is (label_of roll i) (labelled roll i fit (stated_by roll i) refl first.passes);
+    is_label = stated_is (label_of roll i) (labelled roll i fit (stated_by roll i) refl first.passes);
   }
 
   names_offence : (j i : ℕ) →
       IsFirstPair (offends wall has roll) roll.shape.size roll.shape.size j i →
-      NamesOffence wall has roll (member roll j) (told (label_of roll i))
+      NamesOffence wall has roll (member roll j) (stated_label (label_of roll i))
   names_offence j i first =
       let o = offence_opens wall has roll j i (member roll j) (member_at roll j fit first.receiver)
       first.passes in
@@ -83,7 +83,7 @@ module _ (wall : ChineseWall) (has : History) (roll : Roll) (fit : IsFit roll) w
               before);
         };
         is_member = member_at roll j fit first.receiver;
-        is_label = told_is (label_of roll i) (ap is_some o.charged.label);
+        is_label = stated_is (label_of roll i) (ap is_some o.charged.label);
       }
 
   nobody : first_barred roll ≡ None → NobodyIsBarred roll

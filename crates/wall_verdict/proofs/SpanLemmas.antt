@@ -34,7 +34,7 @@ use Rattle.coll_routes.specs.declared.statement.Own.TheVariants.{Plain, Counts, 
 use Rattle.coll_routes.specs.Faults.{is_met, asked, gives, stated_type}
 use Rattle.coll_routes.specs.Fit.{IsFit}
 use Rattle.coll_routes.proofs.CollRoutesLemmas.{any_at, any_none, empty_block, size_more}
-use Rattle.coll_routes.proofs.CollRoutesLemmas.{size_inside, sum_front, even_whole, count_is_good}
+use Rattle.coll_routes.proofs.CollRoutesLemmas.{size_inside, sum_prefix, even_whole, count_is_good}
 use Rattle.coll_routes.proofs.CollRoutesLemmas.{met, is_there, no_fault, sends_is, by_place}
 use Rattle.coll_routes.proofs.CollRoutesLemmas.{stated_there}
 use Rattle.wall_verdict.specs.Charges.{contribution, dataset_in}
@@ -161,7 +161,7 @@ block_sends : (sizes : List ℕ) (given b : ℕ) → sum sizes ≡ given →
 block_sends sizes given b whole =
     let more : sum (take (b + 1) sizes) ≡ sum (take b sizes) + get_or sizes b 0 = size_more sizes b
     in
-    let front = sum_front sizes (b + 1) in
+    let prefix = sum_prefix sizes (b + 1) in
     ⊎_elim
     (λ some.
     let filled : 0 < get_or sizes b 0 = ltb-true 0 (get_or sizes b 0) some in

@@ -48,12 +48,13 @@ first_offence wall has roll =
     find (λ (pair : ℕ × ℕ). offends wall has roll pair.0 pair.1) (pairs roll)
 
 -- the label that a denial names; who is named has one
-abbrev pub told : Option Label → Label
-told label = unwrap_or label Public
+abbrev pub stated_label : Option Label → Label
+stated_label label = unwrap_or label Public
 
 abbrev pub verdict_by : Roll → (barred : Option ℕ) → (offence : Option (ℕ × ℕ)) → Verdict
-verdict_by roll (Some i) offence = Denied Star (member roll i) (told (label_of roll i))
-verdict_by roll None (Some pair) = Denied Simple (member roll pair.0) (told (label_of roll pair.1))
+verdict_by roll (Some i) offence = Denied Star (member roll i) (stated_label (label_of roll i))
+verdict_by roll None (Some pair) =
+    Denied Simple (member roll pair.0) (stated_label (label_of roll pair.1))
 verdict_by roll None None = Granted
 
 -- The verdict: denied by the star rule if a post was barred, else by the simple rule if a pair

@@ -5,7 +5,8 @@ ghost use Rattle.wall_rules.specs.Histories.{has, HoldsOneOf, NobodyHoldsRivals}
 ghost use Rattle.wall_rules.specs.Rules.{HoldsNoRivals, joined, clashes};
 ghost use Rattle.coll_routes.specs.Fit.{IsFit};
 ghost use Rattle.coll_routes.specs.Rolls.{ranks, label_of, is_barred};
-ghost use Rattle.wall_verdict.specs.Verdicts.{meets, offends, first_barred, first_offence, told};
+ghost use Rattle.wall_verdict.specs.Verdicts.{meets, offends, first_barred, first_offence};
+ghost use Rattle.wall_verdict.specs.Verdicts.{stated_label};
 ghost use Rattle.wall_verdict.specs.Verdicts.{verdict};
 ghost use Rattle.wall_verdict.specs.Inflows.{IsWhole, IsCollected};
 ghost use Rattle.wall_verdict.specs.Meanings.{IsVerdict, MembersStayApart};
@@ -104,8 +105,8 @@ fn is_barred(roll: &Roll, rank: u32) -> bool
 }
 
 /// The label of the rank, which has one.
-fn told(roll: &Roll, rank: u32) -> Label
-    ensures { result ≡ told (label_of roll.now rank) }
+fn stated_label(roll: &Roll, rank: u32) -> Label
+    ensures { result ≡ stated_label (label_of roll.now rank) }
 {
     label_of(roll, rank).unwrap_or(Label::Public)
 }
@@ -233,14 +234,14 @@ impl Case<'_> {
             return Verdict::Denied {
                 rule: Rule::Star,
                 process: self.roll.members.at(rank),
-                label: told(self.roll, rank),
+                label: stated_label(self.roll, rank),
             };
         }
         match self.least_offence(collected) {
             Some((to, from)) => Verdict::Denied {
                 rule: Rule::Simple,
                 process: self.roll.members.at(to),
-                label: told(self.roll, from),
+                label: stated_label(self.roll, from),
             },
             None => Verdict::Granted,
         }

@@ -2,7 +2,7 @@ use Rattle.std.proofs.Common.{◌≤◌, ◌++◌, ◌∷◌, [], length, take, 
 use Rattle.std.proofs.lemmas.Bool.{false≢true}
 use Rattle.std.proofs.lemmas.Option.{slice_get_within}
 use Rattle.audit_book.specs.Checks.{IsRight}
-use Rattle.audit_book.proofs.StepLemmas.{right_begins, take_more, take_whole, bad_at, length_front}
+use Rattle.audit_book.proofs.StepLemmas.{right_begins, take_more, take_whole, bad_at, length_prefix}
 use Rattle.audit_book.proofs.StepLemmas.{settled_right, other_wrong}
 use Rattle.audit_book.proofs.check.follow_entries.Goals as goal
 
@@ -39,9 +39,9 @@ pub follow-requires-clause-right : goal.follow-requires-clause-right
 follow-requires-clause-right c =
     let before = take c.loop-at.at c.args.book.now.list in
     let few = c.len-at-end.ensures.few in
-    let front = length_front c.args.book.now.list c.loop-at.at in (
+    let prefix = length_prefix c.args.book.now.list c.loop-at.at in (
       before,
-      omega (arith, few, front),
+      omega (arith, few, prefix),
       subst (λ d. IsRight c.args.policy.now c.loop-at.post_state before d) c.in_default.is
           c.loop-at.invariant,
     )

@@ -2,5 +2,5 @@ use Rattle.audit_book.proofs.TextAgainLemmas.{book_cut}
 use Rattle.audit_book.proofs.laws.prefixes_of_books_are_cut.Goals as goal
 
 pub returns : goal.returns
-returns c = λ wall entries front rest policy h small e some.
-    book_cut wall policy entries front rest h small e some
+returns c = λ wall entries prefix rest policy h small e some.
+    book_cut wall policy entries prefix rest h small e some

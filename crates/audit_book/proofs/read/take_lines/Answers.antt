@@ -2,7 +2,7 @@ use Rattle.std.proofs.Common.{◌≡◌, Bool, Ok, ◌∷◌, length, ap, subst,
 use Rattle.std.proofs.lemmas.Result.{err_from_is_err_and}
 use Rattle.audit_book.specs.Lines.{line_at}
 use Rattle.audit_book.specs.Reading.{entries_in}
-use Rattle.audit_book.specs.LineSteps.{told, goes_on}
+use Rattle.audit_book.specs.LineSteps.{end_number, goes_on}
 use Rattle.audit_book.proofs.ReadLemmas.{begins, reads_on, stops, end_told, end_kept, cut}
 use Rattle.audit_book.proofs.read.take_lines.Goals as goal
 
@@ -25,7 +25,7 @@ returns-in_err-take_line-clause-told c =
 pub returns-then-not-branch-clause-told : goal.returns-then-not-branch-clause-told
 returns-then-not-branch-clause-told c =
     let end = subst (λ (b : Bool). Ok b ≡ goes_on c.loop-next.entries
-    (told (line_at c.args.policy.now c.loop-next.line.now))) c.if-not-branch.true
+    (end_number (line_at c.args.policy.now c.loop-next.line.now))) c.if-not-branch.true
     c.in_ok-take_line.ensures.told in
     end_told c.args.policy.now c.loop-next.kept.memory c.loop-next.kept.book.list
     c.loop-next.entries c.loop-next.line.now c.in-Some.next.now c.loop-next.lines
@@ -35,7 +35,7 @@ returns-then-not-branch-clause-told c =
 pub returns-then-not-branch-clause-kept : goal.returns-then-not-branch-clause-kept
 returns-then-not-branch-clause-kept c =
     let end = subst (λ (b : Bool). Ok b ≡ goes_on c.loop-next.entries
-    (told (line_at c.args.policy.now c.loop-next.line.now))) c.if-not-branch.true
+    (end_number (line_at c.args.policy.now c.loop-next.line.now))) c.if-not-branch.true
     c.in_ok-take_line.ensures.told in
     end_kept c.args.policy.now c.loop-next.kept.memory c.loop-next.kept.book.list
     c.loop-next.entries c.loop-next.line.now c.in-Some.next.now c.loop-next.lines
@@ -47,7 +47,7 @@ returns-then-not-branch-clause-kept c =
 pub loop-next-preserved : goal.loop-next-preserved
 loop-next-preserved c =
     let entry = subst (λ (b : Bool). Ok b ≡ goes_on c.loop-next.entries
-    (told (line_at c.args.policy.now c.loop-next.line.now))) c.if-not-branch.false
+    (end_number (line_at c.args.policy.now c.loop-next.line.now))) c.if-not-branch.false
     c.in_ok-take_line.ensures.told in record {
       few =
           let split = ap length c.in-Some.ensures in

@@ -18,21 +18,21 @@ some_of : (n : ℕ) → eqb n 0 ≡ false → 0 < n
 some_of zero e = absurd cc
 some_of (suc n) e = omega arith
 
-module _ (wall : ChineseWall) (text front : List ℕ) (cut : book_in wall (finished text) ≡ Err Cut)
-    (is : front ≡ finished text) (some : eqb (length front) 0 ≡ false) where
+module _ (wall : ChineseWall) (text prefix : List ℕ) (cut : book_in wall (finished text) ≡ Err Cut)
+    (is : prefix ≡ finished text) (some : eqb (length prefix) 0 ≡ false) where
   some_finished : 0 < length (finished text)
-  some_finished = subst (λ (t : List ℕ). 0 < length t) is (some_of (length front) some)
+  some_finished = subst (λ (t : List ℕ). 0 < length t) is (some_of (length prefix) some)
 
-  two : 2 ≤ length (parts 10 front)
+  two : 2 ≤ length (parts 10 prefix)
   two = subst (λ (t : List ℕ). 2 ≤ length (parts 10 t)) (sym is)
       (two_parts wall text cut some_finished)
 
-  read_is : IsPolicy wall → (whole : List ℕ) (count : ℕ) → count ≡ length (parts 10 front) →
-      count < 18446744073709551616 → whole ≡ front ++ line_of (end_words (count - 2)) →
+  read_is : IsPolicy wall → (whole : List ℕ) (count : ℕ) → count ≡ length (parts 10 prefix) →
+      count < 18446744073709551616 → whole ≡ prefix ++ line_of (end_words (count - 2)) →
       book_in wall whole ≡ Ok (finished_entries wall text)
   read_is policy whole count same small joined =
       let low = two in
-      let all : count - 2 + 2 ≡ length (parts 10 front) = omega (arith, same, low) in
+      let all : count - 2 + 2 ≡ length (parts 10 prefix) = omega (arith, same, low) in
       let few : count - 2 ≤ 18446744073709551615 = omega (arith, small) in
       ap (book_in wall) (joined
       ∙ ap (λ (t : List ℕ). t ++ line_of (end_words (count - 2))) is)
@@ -55,24 +55,24 @@ bad_is_other f n is e = let both : BadLine n ≡ NoMemory = sym is ∙ e in cc
 
 pub returns-then-is_empty-clause-told : goal.returns-then-is_empty-clause-told
 returns-then-is_empty-clause-told c =
-    let none = eqb-true (length c.finished-front.result.now) 0
+    let none = eqb-true (length c.finished-prefix.result.now) 0
     (sym c.is_empty.ensures ∙ c.if-is_empty.true) in
     none_told c.args.policy.now c.args.text.now
-    (sym c.finished-front.ensures ∙ nil_from_length c.finished-front.result.now none)
+    (sym c.finished-prefix.ensures ∙ nil_from_length c.finished-prefix.result.now none)
     ∙ sym c.new.ensures
 
 pub overflow_sub-entries : goal.overflow_sub-entries
 overflow_sub-entries c =
-    let low = two c.args.policy.now c.args.text.now c.finished-front.result.now c.requires
-    c.finished-front.ensures (sym c.is_empty.ensures ∙ c.if-is_empty.false) in
+    let low = two c.args.policy.now c.args.text.now c.finished-prefix.result.now c.requires
+    c.finished-prefix.ensures (sym c.is_empty.ensures ∙ c.if-is_empty.false) in
     let count = c.count-entries.ensures ∙ ap length c.new-2.ensures in
     omega (arith, low, count)
 
 pub returns-in-Ok-clause-told : goal.returns-in-Ok-clause-told
 returns-in-Ok-clause-told c =
     same_done (finished_entries c.args.policy.now c.args.text.now) c.in-Ok.book.list
-    (sym (read_is c.args.policy.now c.args.text.now c.finished-front.result.now c.requires
-    c.finished-front.ensures (sym c.is_empty.ensures ∙ c.if-is_empty.false)
+    (sym (read_is c.args.policy.now c.args.text.now c.finished-prefix.result.now c.requires
+    c.finished-prefix.ensures (sym c.is_empty.ensures ∙ c.if-is_empty.false)
     c.processes.ensures.policy c.deref.result.now c.count-entries.result
     (c.count-entries.ensures ∙ ap length c.new-2.ensures) c.count-entries.type_inv
     (c.deref.ensures.value ∙ c.in_ok-whole.ensures)) ∙ c.in-Ok.ensures.answer)
@@ -80,8 +80,8 @@ returns-in-Ok-clause-told c =
 pub unreachable-requires : goal.unreachable-requires
 unreachable-requires c =
     no_fault _ (finished_entries c.args.policy.now c.args.text.now) c.in-Err-Cut.field-0
-    (read_is c.args.policy.now c.args.text.now c.finished-front.result.now c.requires
-    c.finished-front.ensures (sym c.is_empty.ensures ∙ c.if-is_empty.false)
+    (read_is c.args.policy.now c.args.text.now c.finished-prefix.result.now c.requires
+    c.finished-prefix.ensures (sym c.is_empty.ensures ∙ c.if-is_empty.false)
     c.processes.ensures.policy c.deref.result.now c.count-entries.result
     (c.count-entries.ensures ∙ ap length c.new-2.ensures) c.count-entries.type_inv
     (c.deref.ensures.value ∙ c.in_ok-whole.ensures)) c.in-Err-Cut.ensures.answer
@@ -90,8 +90,8 @@ unreachable-requires c =
 pub unreachable-requires-in-Err-BadLine : goal.unreachable-requires-in-Err-BadLine
 unreachable-requires-in-Err-BadLine c =
     no_fault _ (finished_entries c.args.policy.now c.args.text.now) c.in-Err-BadLine.field-0
-    (read_is c.args.policy.now c.args.text.now c.finished-front.result.now c.requires
-    c.finished-front.ensures (sym c.is_empty.ensures ∙ c.if-is_empty.false)
+    (read_is c.args.policy.now c.args.text.now c.finished-prefix.result.now c.requires
+    c.finished-prefix.ensures (sym c.is_empty.ensures ∙ c.if-is_empty.false)
     c.processes.ensures.policy c.deref.result.now c.count-entries.result
     (c.count-entries.ensures ∙ ap length c.new-2.ensures) c.count-entries.type_inv
     (c.deref.ensures.value ∙ c.in_ok-whole.ensures)) c.in-Err-BadLine.ensures.answer

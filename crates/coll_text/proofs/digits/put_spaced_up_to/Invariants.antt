@@ -8,7 +8,7 @@ invariant-loop-i l = record {
   within : l.i ≤ l.to;
   so_far : l.fn.text.items ++ spaced_numbers (drop l.from (take l.to l.numbers.numbers))
       ≡ l.text.items ++ spaced_numbers (drop l.i (take l.to l.numbers.numbers));
-  front : KeepsPrefix l.fn.text.items l.text.items;
+  prefix : KeepsPrefix l.fn.text.items l.text.items;
 }
 
 abbrev pub decreases-loop-i : goal.decreases-loop-i

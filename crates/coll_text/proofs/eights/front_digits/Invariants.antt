@@ -4,7 +4,7 @@ use Rattle.coll_text.proofs.eights.front_digits.Given as goal
 
 abbrev pub invariant-loop-len : goal.invariant-loop-len
 invariant-loop-len l = record {
-  front : IsFrontValue l.text l.value l.len;
+  prefix : IsFrontValue l.text l.value l.len;
   few : l.len ≤ 16;
 }
 

@@ -4,7 +4,7 @@ use Rattle.coll_routes.specs.Signatures.{kind}
 use Rattle.coll_text.specs.Table.{forms_of, fields_of}
 use Rattle.coll_text.specs.Spellings.{words_of, statement_words, statement_text}
 use Rattle.coll_text.specs.Spaced.{behind_each}
-use Rattle.coll_text.proofs.SpacedLemmas.{join_cons, put_behind, front_behind}
+use Rattle.coll_text.proofs.SpacedLemmas.{join_cons, put_behind, prefix_behind}
 use Rattle.coll_text.proofs.spell.put_statement.Goals as goal
 
 pub returns-clause-ok : goal.returns-clause-ok
@@ -22,6 +22,6 @@ returns-clause-ok c =
     (statement_text c.args.sig.now c.args.own.now)
     h name (join_cons 32 (kind_name k) (words_of (forms_of k) fields))
 
-pub returns-clause-front : goal.returns-clause-front
-returns-clause-front c = front_behind c.args.text.now.items c.put.new.text.items
-    c.put_fields.new.text.items c.name.result.now c.in_ok-put.ensures.ok c.put_fields.ensures.front
+pub returns-clause-prefix : goal.returns-clause-prefix
+returns-clause-prefix c = prefix_behind c.args.text.now.items c.put.new.text.items
+    c.put_fields.new.text.items c.name.result.now c.in_ok-put.ensures.ok c.put_fields.ensures.prefix

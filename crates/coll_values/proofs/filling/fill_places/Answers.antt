@@ -14,39 +14,39 @@ use Rattle.coll_values.proofs.filling.fill_places.Goals as goal
 
 pub prove-unreachable-requires : goal.prove-unreachable-requires
 prove-unreachable-requires c =
-    let front = ap (λ ls. c.loop-line.yielded ++ ls) (sym c.in-Some.ensures.steps.0) ∙
+    let prefix = ap (λ ls. c.loop-line.yielded ++ ls) (sym c.in-Some.ensures.steps.0) ∙
     c.loop-line.invariant.rest in
     let has = line_has c.args.full.now c.args.to c.loop-line.yielded _ c.args.lines.items
-    c.in-Some.line c.loop-line.place c.requires.sizes front c.loop-line.invariant.place in
+    c.in-Some.line c.loop-line.place c.requires.sizes prefix c.loop-line.invariant.place in
     let number = c.places-number.ensures in
     let past = c.if-prove.true in
     omega (arith, has.0)
 
 pub fill_place-requires-clause-one_type : goal.fill_place-requires-clause-one_type
 fill_place-requires-clause-one_type c =
-    let front = ap (λ ls. c.loop-line.yielded ++ ls) (sym c.in-Some.ensures.steps.0) ∙
+    let prefix = ap (λ ls. c.loop-line.yielded ++ ls) (sym c.in-Some.ensures.steps.0) ∙
     c.loop-line.invariant.rest in
     let has = line_has c.args.full.now c.args.to c.loop-line.yielded _ c.args.lines.items
-    c.in-Some.line c.loop-line.place c.requires.sizes front c.loop-line.invariant.place in
+    c.in-Some.line c.loop-line.place c.requires.sizes prefix c.loop-line.invariant.place in
     let is = line_is (stated_type c.args.full.now.roll.sig) c.loop-line.yielded _ c.args.lines.items
-    c.in-Some.line c.requires.lines front in
+    c.in-Some.line c.requires.lines prefix in
     typed_place c.args.full.now.roll c.args.to c.loop-line.place has.0
     ∙ ap (λ (t : ElemType). Some t) (sym is.0)
 
 pub fill_place-requires-clause-empty : goal.fill_place-requires-clause-empty
 fill_place-requires-clause-empty c =
-    let front = ap (λ ls. c.loop-line.yielded ++ ls) (sym c.in-Some.ensures.steps.0) ∙
+    let prefix = ap (λ ls. c.loop-line.yielded ++ ls) (sym c.in-Some.ensures.steps.0) ∙
     c.loop-line.invariant.rest in
     let is = line_is (stated_type c.args.full.now.roll.sig) c.loop-line.yielded _ c.args.lines.items
-    c.in-Some.line c.requires.lines front in
+    c.in-Some.line c.requires.lines prefix in
     is.1
 
 pub fill_place-requires-clause-room : goal.fill_place-requires-clause-room
 fill_place-requires-clause-room c =
-    let front = ap (λ ls. c.loop-line.yielded ++ ls) (sym c.in-Some.ensures.steps.0) ∙
+    let prefix = ap (λ ls. c.loop-line.yielded ++ ls) (sym c.in-Some.ensures.steps.0) ∙
     c.loop-line.invariant.rest in
     let has = line_has c.args.full.now c.args.to c.loop-line.yielded _ c.args.lines.items
-    c.in-Some.line c.loop-line.place c.requires.sizes front c.loop-line.invariant.place in
+    c.in-Some.line c.loop-line.place c.requires.sizes prefix c.loop-line.invariant.place in
     omega (arith, has.1)
 
 pub push_reserved-requires : goal.push_reserved-requires
@@ -64,14 +64,15 @@ push_reserved-requires c =
 
 pub loop-line-preserved : goal.loop-line-preserved
 loop-line-preserved c =
-    let front = ap (λ ls. c.loop-line.yielded ++ ls) (sym c.in-Some.ensures.steps.0) ∙
+    let prefix = ap (λ ls. c.loop-line.yielded ++ ls) (sym c.in-Some.ensures.steps.0) ∙
     c.loop-line.invariant.rest in
     let block : ℕ → Block = λ t. block_of (at_place c.args.full.now c.args.to t) in
     record {
       place = (let before = c.loop-line.invariant.place in
           omega (arith, length-append c.loop-line.yielded (c.in-Some.line ∷ [])));
       rest =
-          append_assoc c.loop-line.yielded (c.in-Some.line ∷ []) c.next.new.self.rest.items ∙ front;
+          append_assoc c.loop-line.yielded (c.in-Some.line ∷ []) c.next.new.self.rest.items
+          ∙ prefix;
       blocks = c.push_reserved.ensures.items
           ∙ ((λ i. c.loop-line.invariant.blocks i ++ c.fill_place.ensures i ∷ [])
           ∙ sym (map_more block c.loop-line.place));

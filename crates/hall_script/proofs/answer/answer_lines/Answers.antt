@@ -43,7 +43,7 @@ returns-in-Err-send_long-clause-ends g c =
     c.loop-line.text.items c.answer_line.new.text.items
     (script_of wall.dataset_names c.args.script.now) c.loop-line.number c.in-Some.line.now
     c.loop-line.lines c.next_long.new.self tt c.in-Some.ensures c.loop-line.invariant.so_far
-    (rw c.loop-line.invariant.wall at c.in-Ok.ensures.answered) c.in-Err-send_long.ensures.front
+    (rw c.loop-line.invariant.wall at c.in-Ok.ensures.answered) c.in-Err-send_long.ensures.prefix
 
 pub loop-line-preserved : goal.loop-line-preserved
 loop-line-preserved g c =

@@ -47,5 +47,5 @@ returns g c =
       not_read = λ e. let k : Write ≡ Read = fault_is Write Read e in cc;
       replays = broken_off g.M.Answerer.stands wall c.answer_lines.new.machine before now
           (g.W.Sink.contents c.send-in_default.new.sink) c.answer_lines.new.text.items whole
-          (failed c.in-Err.fault) other c.in-Err.ensures.ends c.in-Err-send-2.ensures.front;
+          (failed c.in-Err.fault) other c.in-Err.ensures.ends c.in-Err-send-2.ensures.prefix;
     }

@@ -3,8 +3,8 @@ use Rattle.wall_labels.specs.Known.{AppendsPrefix}
 use Rattle.audit_book.specs.Text.{entry_lines}
 use Rattle.live_book.proofs.lines.write_news.Goals as goal
 
-pub returns-in_err-send_text-clause-front : goal.returns-in_err-send_text-clause-front
-returns-in_err-send_text-clause-front g c =
+pub returns-in_err-send_text-clause-prefix : goal.returns-in_err-send_text-clause-prefix
+returns-in_err-send_text-clause-prefix g c =
     let wall = c.args.hall.now.hall.policy in
     let news = c.news.result.now.list in
     let is : c.put_entries.new.text.items ≡ entry_lines wall c.args.hall.now.news =

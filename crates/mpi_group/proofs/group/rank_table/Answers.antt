@@ -4,7 +4,7 @@ use Rattle.std.proofs.lemmas.List.{length-take-le}
 use Rattle.mpi_group.specs.Ranks.{IsTable}
 use Rattle.mpi_group.proofs.RankTables.{empty_group, empty_index, repeated, group_more, index_more}
 use Rattle.mpi_group.proofs.RankTables.{rank_below, reach_none, reach_more, whole_group}
-use Rattle.mpi_group.proofs.RankTables.{whole_front, whole_table, some_entry}
+use Rattle.mpi_group.proofs.RankTables.{whole_prefix, whole_table, some_entry}
 use Rattle.std.specs.Ordering.{ord_max, nat_cmp}
 use Rattle.mpi_group.proofs.group.rank_table.Goals as goal
 
@@ -48,13 +48,13 @@ loop-rank-preserved c =
 
 pub slice_bounds-ranks-end : goal.slice_bounds-ranks-end
 slice_bounds-ranks-end c =
-    whole_front c.args.members.now c.loop-rank.ranks c.loop-rank.rank c.loop-rank.reach
+    whole_prefix c.args.members.now c.loop-rank.ranks c.loop-rank.rank c.loop-rank.reach
     c.loop-rank-test.false c.loop-rank.invariant.group c.loop-rank.invariant.long
     c.loop-rank.invariant.index c.loop-rank.invariant.reach
 
 pub slice_bounds-copied-end : goal.slice_bounds-copied-end
 slice_bounds-copied-end c =
-    let fits = whole_front c.args.members.now c.loop-rank.ranks c.loop-rank.rank c.loop-rank.reach
+    let fits = whole_prefix c.args.members.now c.loop-rank.ranks c.loop-rank.rank c.loop-rank.reach
     c.loop-rank-test.false c.loop-rank.invariant.group c.loop-rank.invariant.long
     c.loop-rank.invariant.index c.loop-rank.invariant.reach in
     sym (length-take-le c.loop-rank.reach c.loop-rank.ranks fits)

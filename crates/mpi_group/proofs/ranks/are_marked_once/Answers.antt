@@ -3,7 +3,8 @@ use Rattle.std.proofs.Common.{length-set, arith}
 use Rattle.std.proofs.lemmas.List.{get_or_default}
 use Rattle.wall_labels.specs.declared.ids.TheConstants.{PROCESS_LIMIT}
 use Rattle.mpi_group.specs.Groups.{is_member}
-use Rattle.mpi_group.proofs.Marks.{no_marks, mark_more, front_more, distinct_no_more, distinct_more}
+use Rattle.mpi_group.proofs.Marks.{no_marks, mark_more, prefix_more, distinct_no_more}
+use Rattle.mpi_group.proofs.Marks.{distinct_more}
 use Rattle.mpi_group.proofs.ranks.are_marked_once.Goals as goal
 
 pub loop-rank-init : goal.loop-rank-init
@@ -32,5 +33,5 @@ loop-rank-preserved c =
           (sym (c.loop-rank.invariant.marks rank) ∙ c.in-false.is);
       marks = λ q. mark_more (take i ranks) c.loop-rank.marks rank q
           (omega (arith, c.loop-rank.invariant.long)) (c.loop-rank.invariant.marks q)
-          ∙ ap (λ front. is_member front q) (sym (front_more ranks i rank low read));
+          ∙ ap (λ prefix. is_member prefix q) (sym (prefix_more ranks i rank low read));
     }

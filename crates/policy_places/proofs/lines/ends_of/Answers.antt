@@ -1,4 +1,4 @@
-use Rattle.policy_places.proofs.FrontLemmas.{none_to, line_to, other_to, end_to}
+use Rattle.policy_places.proofs.PrefixLemmas.{none_to, line_to, other_to, end_to}
 use Rattle.policy_places.proofs.lines.ends_of.Goals as goal
 use Rattle.policy_places.proofs.lines.ends_of.Goals.{then-byte-eq10+in_ok-push, else-byte-eq10}
 

@@ -1,4 +1,4 @@
-use Rattle.policy_places.proofs.FrontLemmas.{AreEndsTo}
+use Rattle.policy_places.proofs.PrefixLemmas.{AreEndsTo}
 use Rattle.policy_places.proofs.lines.ends_of.Given as goal
 
 abbrev pub invariant-loop-place : goal.invariant-loop-place

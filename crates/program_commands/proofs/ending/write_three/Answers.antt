@@ -18,4 +18,4 @@ pub returns-in-Err-clause-broken : goal.returns-in-Err-clause-broken
 returns-in-Err-clause-broken g c =
     first_broke g.W.Sink.failures g.W.Sink.contents c.args.sink.now c.write_all.new.sink
     c.args.first.now (c.args.second.now ++ c.args.third.now)
-    (c.in-Err.ensures.failed, c.in-Err.ensures.front)
+    (c.in-Err.ensures.failed, c.in-Err.ensures.prefix)

@@ -9,8 +9,9 @@ pub loop-grid-preserved : goal.loop-grid-preserved
 loop-grid-preserved c =
     let i = c.loop-grid.invariant in
     let rest = c.next.new.self.rest.items in
-    let front = ap (λ gs. c.loop-grid.yielded ++ gs) (sym c.in-Some.ensures.steps.0) ∙ i.rest in
-    let total = sym (length-append c.loop-grid.yielded (c.in-Some.grid ∷ rest)) ∙ ap length front in
+    let prefix = ap (λ gs. c.loop-grid.yielded ++ gs) (sym c.in-Some.ensures.steps.0) ∙ i.rest in
+    let total = sym (length-append c.loop-grid.yielded (c.in-Some.grid ∷ rest))
+    ∙ ap length prefix in
     let push = c.push_reserved.ensures in
     let long = ap length push.items ∙ length-append c.loop-grid.shapes.items _ in
     let size = c.size-size.ensures.value ∙ ap length c.group.ensures in
@@ -18,12 +19,12 @@ loop-grid-preserved c =
     let at = i.at in
     let all = c.requires.all in
     record {
-      rest = append_assoc c.loop-grid.yielded (c.in-Some.grid ∷ []) rest ∙ front;
+      rest = append_assoc c.loop-grid.yielded (c.in-Some.grid ∷ []) rest ∙ prefix;
       count = omega (arith, length-append c.loop-grid.yielded (c.in-Some.grid ∷ []));
       at = omega arith;
       all = λ g copies.
           let copy = is_copy c.loop-grid.yielded c.in-Some.grid rest (length c.args.grids.items) g
-          (front ∙ copies) in
+          (prefix ∙ copies) in
           let items = push.items ∙ ap (λ (t : Topology). c.loop-grid.shapes.items
           ++ record { size = c.size-size.result; grid = Some t } ∷ []) copy in
           ap (λ xs. xs ++ laid (Some g) (drop (c.loop-grid.comm + 1) c.args.table.now)) items

@@ -1,7 +1,7 @@
 use Rattle.std.proofs.Common.{◌≡◌, ◌<◌, ◌≤◌, length, take, get_or, sym, arith}
 use Rattle.std.proofs.lemmas.List.{length-take-le}
-use Rattle.script_places.proofs.AnswerLemmas.{printable_front, cut_at, some_words, have_all}
-use Rattle.script_places.proofs.AnswerLemmas.{have_front, no_front, stands_at}
+use Rattle.script_places.proofs.AnswerLemmas.{printable_prefix, cut_at, some_words, have_all}
+use Rattle.script_places.proofs.AnswerLemmas.{have_prefix, no_prefix, stands_at}
 use Rattle.script_places.proofs.ProbeLemmas.{none_yet}
 use Rattle.script_places.proofs.column.words_to_fault.Goals as goal
 
@@ -22,7 +22,7 @@ slice_bounds-have-end c =
     (cut_at c.args.line.now c.args.ends.now _ c.requires.ends (omega arith)).0)
 
 pub have-requires-clause-printable : goal.have-requires-clause-printable
-have-requires-clause-printable c = printable_front _ c.args.line.now c.requires.printable
+have-requires-clause-printable c = printable_prefix _ c.args.line.now c.requires.printable
 
 pub loop-high-preserved-then-branch : goal.loop-high-preserved-then-branch
 loop-high-preserved-then-branch c =
@@ -31,8 +31,8 @@ loop-high-preserved-then-branch c =
     record {
       apart = omega arith;
       within = omega arith;
-      have = have_front c.args.policy.now.dataset_names c.args.line.now c.args.ends.now c.args.fault
-          c.requires.ends _ (omega arith) (omega arith) (c.in_ok-have.ensures.yes c.if-branch.true);
+      have = have_prefix c.args.policy.now.dataset_names c.args.line.now c.args.ends.now
+          c.args.fault c.requires.ends _ (omega arith) (omega arith) (c.in_ok-have.ensures.yes c.if-branch.true);
       not_yet = c.loop-high.invariant.not_yet;
     }
 
@@ -44,7 +44,7 @@ loop-high-preserved c =
       apart = omega arith;
       within = omega arith;
       have = c.loop-high.invariant.have;
-      not_yet = no_front c.args.policy.now.dataset_names c.args.line.now c.args.ends.now
+      not_yet = no_prefix c.args.policy.now.dataset_names c.args.line.now c.args.ends.now
           c.args.fault c.requires.ends _ (omega arith) (omega arith)
           (c.in_ok-have.ensures.no c.if-branch.false);
     }

@@ -1,6 +1,6 @@
 use Rattle.std.proofs.Common.{◌≡◌, length, arith, sym, ap, ◌∙◌}
 use Rattle.std.proofs.lemmas.Bool.{eqb-true}
-use Rattle.book_chain.proofs.FrontLemmas.{nothing_held}
+use Rattle.book_chain.proofs.PrefixLemmas.{nothing_held}
 use Rattle.book_chain.proofs.chain.Chain.begin.Goals as goal
 use Rattle.book_chain.proofs.chain.Chain.begin.Goals.{then-is_empty, else-is_empty}
 

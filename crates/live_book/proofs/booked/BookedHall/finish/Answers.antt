@@ -2,7 +2,7 @@ use Rattle.std.proofs.Common.{Option, subst}
 use Rattle.audit_book.specs.Text.{end_words, line_of}
 use Rattle.live_book.specs.declared.unbooked.Unbooked.{Unbooked}
 use Rattle.live_book.specs.Writing.{Writes, sink_value}
-use Rattle.live_book.proofs.WritingLemmas.{count_is, last_front, last_written}
+use Rattle.live_book.proofs.WritingLemmas.{count_is, last_prefix, last_written}
 use Rattle.live_book.proofs.booked.BookedHall.finish.Goals as goal
 use Rattle.live_book.proofs.booked.BookedHall.finish.Goals.{in-None, in-Some}
 
@@ -26,12 +26,12 @@ returns-clause-written g c = rw (← c.self.view_is) (λ wall run stands.
       | in-Some w ↦ rw w.written-is tt
     ])
 
-pub returns-clause-front : goal.returns-clause-front
-returns-clause-front g c = rw (← c.self.view_is) (λ wall run stands.
+pub returns-clause-prefix : goal.returns-clause-prefix
+returns-clause-prefix g c = rw (← c.self.view_is) (λ wall run stands.
     let sv = sink_value g.B.Sink.contents g.B.BookSink.lasting g.B.Sink.failures in
     elim c.match-fault.branch [
       | in-None w ↦ rw w.written-is tt
-      | in-Some w ↦ rw w.written-is (last_front wall g.K.Begun.begun
+      | in-Some w ↦ rw w.written-is (last_prefix wall g.K.Begun.begun
           (sv c.self.inside.writer.sink) (sv c.write_last.new.self.sink) run
           c.self.inside.writer.entries
           c.self.inside.writer.fault w.in-Some.fault

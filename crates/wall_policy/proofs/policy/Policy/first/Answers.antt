@@ -1,6 +1,6 @@
 use Rattle.std.proofs.Common.{subst, sym, ap, ◌∙◌}
 use Rattle.wall_policy.specs.Policy.{ChineseWall, IsPolicy, first_processes}
-use Rattle.wall_policy.proofs.FrontLemmas.{first_processes-IsPolicy}
+use Rattle.wall_policy.proofs.PrefixLemmas.{first_processes-IsPolicy}
 use Rattle.wall_policy.proofs.policy.Policy.first.Goals as goal
 
 pub invariant_of-self : goal.invariant_of-self

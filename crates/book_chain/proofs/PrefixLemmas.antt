@@ -1,4 +1,4 @@
--- The front of a policy: whom a book names in it, and that the whole is a front of itself.
+-- The prefix of a policy: whom a book names in it, and that the whole is a prefix of itself.
 use Rattle.std.proofs.Common.{◌≡◌, ℕ, ◌+◌, ◌<◌, ◌≤◌, true, false, ◌||◌, ◌&&◌, List, []}
 use Rattle.std.proofs.Common.{Bool, ◌⊎◌, inl, inr, ◌∷◌, length, take, nat_eq, nat_lt, refl, ap}
 use Rattle.std.proofs.Common.{◌∙◌, subst, arith}
@@ -18,7 +18,7 @@ use Rattle.audit_book.specs.declared.check_fault.BookFault.{BookFault}
 use Rattle.audit_book.specs.declared.check_fault.BookFault.TheVariants.{BadEntry, NoMemory}
 use Rattle.audit_book.specs.Checks.{IsFaultOf}
 use Rattle.book_chain.specs.Chain.{Fits, HasNoNumber}
-use Rattle.book_chain.specs.Fronts.{IsBelow}
+use Rattle.book_chain.specs.Prefixes.{IsBelow}
 
 ---- Whom a book names.
 
@@ -41,7 +41,7 @@ module _ (wall : ChineseWall) (n : ℕ) where
   known_below (Settled c k (Made first count)) h = tt
   known_below (Settled c k NoRoom) h = tt
 
-  -- a book that names another process fits no front that is without it
+  -- a book that names another process fits no prefix that is without it
   pub others_named : (entries : List Entry) → ¬ (All (IsBelow n) entries) →
       ¬ (Fits wall entries n)
   others_named entries named fits = named
@@ -51,7 +51,7 @@ module _ (wall : ChineseWall) (n : ℕ) where
       All (IsBelow n) entries → All (IsKnownEntry (first_processes n wall)) entries
   all_known entries known below = λ k d lt. known_below _ (known k d lt, below k d lt)
 
----- The whole is a front of itself.
+---- The whole is a prefix of itself.
 
 first_has : (x : ℕ × ℕ) (pairs : List (ℕ × ℕ)) → has_pair (x ∷ pairs) x.0 x.1 ≡ true
 first_has x pairs = rw (eq-eqb x.0 x.0 refl, eq-eqb x.1 x.1 refl) refl
@@ -69,9 +69,9 @@ all_kept n (x ∷ pairs) below =
     let rest = all_kept n pairs (λ p d has. below p d (later_has x pairs p d has)) in
     rw low (ap (λ ps. x ∷ ps) rest)
 
-pub whole_front : (wall : ChineseWall) → IsPolicy wall →
+pub whole_prefix : (wall : ChineseWall) → IsPolicy wall →
     first_processes (length wall.process_names) wall ≡ wall
-whole_front wall policy = λ i. record {
+whole_prefix wall policy = λ i. record {
   version = wall.version;
   class_names = wall.class_names;
   dataset_names = wall.dataset_names;
@@ -101,7 +101,7 @@ module _ (wall : ChineseWall) (entries : List Entry) (least n : ℕ)
       IsFaultOf (first_processes n wall) entries fault → HasNoNumber wall least entries fault
   no_number (BadEntry k) policy is bad = (
     subst (λ (w : ChineseWall). IsFirstBad w entries k)
-        (ap (λ m. first_processes m wall) is ∙ whole_front wall policy) bad,
+        (ap (λ m. first_processes m wall) is ∙ whole_prefix wall policy) bad,
     λ m from below. none m from (omega (arith, is, below)),
   )
   no_number NoMemory policy is bad = tt

@@ -6,7 +6,7 @@ ghost use Rattle.run_model.specs.Known.{IsKnownEntry};
 ghost use Rattle.run_model.specs.Books.{IsSound};
 ghost use Rattle.audit_book.specs.Checks.{IsFaultOf};
 ghost use Rattle.book_chain.specs.Chain.{IsNumberOf, HasNoNumber};
-ghost use Rattle.book_chain.specs.Fronts.{IsBelow, HoldsAfter};
+ghost use Rattle.book_chain.specs.Prefixes.{IsBelow, HoldsAfter};
 
 use audit_book::{BookFault, after_book};
 use run_model::{Entry, Outcome};
@@ -17,7 +17,7 @@ use wall_policy::Policy;
 
 /// The number of processes under which a book is read, and what each of them held at its end.
 #[derive(Drop)]
-pub(crate) struct Front {
+pub(crate) struct Prefix {
     pub(crate) number: u32,
     pub(crate) pairs: Vec<(ProcessId, DatasetId)>,
 }
@@ -66,10 +66,10 @@ fn held_under(
     let Some(last) = ProcessId::new(number - 1) else {
         unreachable!();
     };
-    let Ok(front) = policy.up_to(alloc, last) else {
+    let Ok(prefix) = policy.up_to(alloc, last) else {
         return Err(BookFault::NoMemory);
     };
-    let after = after_book(alloc, front, book)?;
+    let after = after_book(alloc, prefix, book)?;
     let _ = after.processes();
     match Vec::from_slice(alloc, after.held()) {
         Ok(pairs) => Ok(pairs),
@@ -79,32 +79,33 @@ fn held_under(
 
 /// The least number of processes, from this one on, under which the book is sound, and what each of
 /// them held at its end. The fault under all processes, where there is none.
-pub(crate) fn front_of(
+pub(crate) fn prefix_of(
     alloc: Global,
     policy: &Policy,
     least: u32,
     book: &Book,
-) -> Result<Front, BookFault>
+) -> Result<Prefix, BookFault>
     requires some { 1 ≤ least }
     requires few { least ≤ length policy.now.process_names }
     requires known { All (IsKnownEntry policy.now) book.now.list }
-    ensures number { IfOk result (λ front. IsNumberOf policy.now least book.now.list front.number) }
-    ensures held { IfOk result (λ front. HoldsAfter (first_processes front.number policy.now)
-        book.now.list front.pairs.items) }
+    ensures number { IfOk result (λ prefix.
+        IsNumberOf policy.now least book.now.list prefix.number) }
+    ensures held { IfOk result (λ prefix. HoldsAfter (first_processes prefix.number policy.now)
+        book.now.list prefix.pairs.items) }
     ensures none { IfErr result (HasNoNumber policy.now least book.now.list) }
 {
     let all = policy.processes();
     for number in least..all {
         if are_below(book, number) {
             match held_under(alloc, policy, number, book) {
-                Ok(pairs) => return Ok(Front { number, pairs }),
+                Ok(pairs) => return Ok(Prefix { number, pairs }),
                 Err(BookFault::BadEntry(_)) => {}
                 Err(BookFault::NoMemory) => return Err(BookFault::NoMemory),
             }
         }
     }
     match held_under(alloc, policy, all, book) {
-        Ok(pairs) => Ok(Front { number: all, pairs }),
+        Ok(pairs) => Ok(Prefix { number: all, pairs }),
         Err(fault) => Err(fault),
     }
 }

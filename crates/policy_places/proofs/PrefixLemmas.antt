@@ -6,21 +6,21 @@ use Rattle.std.proofs.Common.{append_assoc}
 use Rattle.std.proofs.lemmas.List.{take_all, take_more, drop_more, length-append, append-nil}
 use Rattle.std.proofs.lemmas.List.{drop_all}
 use Rattle.std.proofs.lemmas.Option.{slice_get_within}
-use Rattle.policy_places.specs.Fronts.{front}
+use Rattle.policy_places.specs.Prefixes.{prefix}
 use Rattle.policy_places.specs.Ends.{AreEnds}
 
 -- the lines that end within the first n bytes, and the line that goes on there
 pub record AreEndsTo (text : List ℕ) (n : ℕ) (ends : List ℕ) : Type 0 where
   pub within : (k e : ℕ) → slice_get ends k ≡ Some e → e ≤ length text
-  pub fronts : (k e : ℕ) → slice_get ends k ≡ Some e → take e text ≡ front (k + 1) text
+  pub prefixes : (k e : ℕ) → slice_get ends k ≡ Some e → take e text ≡ prefix (k + 1) text
   pub goes_on : (m : ℕ) →
-      front (length ends + suc m) text ≡ take n text ++ front (suc m) (drop n text)
+      prefix (length ends + suc m) text ≡ take n text ++ prefix (suc m) (drop n text)
 
 pub none_to : (text : List ℕ) → AreEndsTo text 0 []
 none_to text = record {
   within = λ k e at. absurd (no_end k e at);
-  fronts = λ k e at. absurd (no_end k e at);
-  goes_on = λ m. let same : 0 + suc m ≡ suc m = omega arith in ap (λ j. front j text) same;
+  prefixes = λ k e at. absurd (no_end k e at);
+  goes_on = λ m. let same : 0 + suc m ≡ suc m = omega arith in ap (λ j. prefix j text) same;
 }
   where
     no_end : (k e : ℕ) → slice_get [] k ≡ Some e → ⊥
@@ -39,10 +39,10 @@ at_last (x ∷ xs) last (suc k) e at = elim (at_last xs last k e at) [
 
 -- a byte more of the line
 step : (text : List ℕ) (n m : ℕ) → n < length text →
-    take n text ++ front (suc m) (drop n text)
-    ≡ take n text ++ get_or text n 0 ∷ cond (get_or text n 0 == 10) (front m (drop (n + 1) text))
-    (front (suc m) (drop (n + 1) text))
-step text n m low = ap (λ (t : List ℕ). take n text ++ front (suc m) t) (drop_more text n 0 low)
+    take n text ++ prefix (suc m) (drop n text)
+    ≡ take n text ++ get_or text n 0 ∷ cond (get_or text n 0 == 10) (prefix m (drop (n + 1) text))
+    (prefix (suc m) (drop (n + 1) text))
+step text n m low = ap (λ (t : List ℕ). take n text ++ prefix (suc m) t) (drop_more text n 0 low)
 
 more : (text rest : List ℕ) (n : ℕ) → n < length text →
     take n text ++ get_or text n 0 ∷ rest ≡ take (n + 1) text ++ rest
@@ -54,11 +54,11 @@ pub other_to : (text : List ℕ) (n : ℕ) (ends : List ℕ) → AreEndsTo text 
     get_or text n 0 ≢ 10 → AreEndsTo text (n + 1) ends
 other_to text n ends so_far low other = record {
   within = so_far.within;
-  fronts = so_far.fronts;
+  prefixes = so_far.prefixes;
   goes_on = λ m. so_far.goes_on m ∙ step text n m low
-      ∙ ap (λ b. take n text ++ get_or text n 0 ∷ cond b (front m (drop (n + 1) text))
-      (front (suc m) (drop (n + 1) text))) (ne_eqb (get_or text n 0) 10 other)
-      ∙ more text (front (suc m) (drop (n + 1) text)) n low;
+      ∙ ap (λ b. take n text ++ get_or text n 0 ∷ cond b (prefix m (drop (n + 1) text))
+      (prefix (suc m) (drop (n + 1) text))) (ne_eqb (get_or text n 0) 10 other)
+      ∙ more text (prefix (suc m) (drop (n + 1) text)) n low;
 }
 
 pub line_to : (text : List ℕ) (n : ℕ) (ends : List ℕ) → AreEndsTo text n ends → n < length text →
@@ -70,30 +70,30 @@ line_to text n ends so_far low is =
         | inl old ↦ so_far.within k e old
         | inr new ↦ let end = new.1 in omega (arith, end, low)
       ];
-      fronts = λ k e there. elim (at_last ends (n + 1) k e there) [
-        | inl old ↦ so_far.fronts k e old
+      prefixes = λ k e there. elim (at_last ends (n + 1) k e there) [
+        | inl old ↦ so_far.prefixes k e old
         | inr new ↦
             let one : length ends + suc 0 ≡ k + 1 = omega (arith, new.0) in
-            subst (λ q. take q text ≡ front (k + 1) text) new.1
-            (subst (λ j. take (n + 1) text ≡ front j text) one
+            subst (λ q. take q text ≡ prefix (k + 1) text) new.1
+            (subst (λ j. take (n + 1) text ≡ prefix j text) one
             (sym (so_far.goes_on 0 ∙ cut 0 ∙ append-nil (take (n + 1) text))))
       ];
       goes_on = λ m.
           let two : length (ends ++ (n + 1) ∷ []) + suc m ≡ length ends + suc (suc m) =
           omega (arith, long) in
-          ap (λ j. front j text) two ∙ so_far.goes_on (suc m) ∙ cut (suc m);
+          ap (λ j. prefix j text) two ∙ so_far.goes_on (suc m) ∙ cut (suc m);
     }
   where
-    cut : (m : ℕ) → take n text ++ front (suc m) (drop n text)
-        ≡ take (n + 1) text ++ front m (drop (n + 1) text)
+    cut : (m : ℕ) → take n text ++ prefix (suc m) (drop n text)
+        ≡ take (n + 1) text ++ prefix m (drop (n + 1) text)
     cut m = step text n m low
-        ∙ ap (λ b. take n text ++ get_or text n 0 ∷ cond b (front m (drop (n + 1) text))
-        (front (suc m) (drop (n + 1) text))) (eq-eqb (get_or text n 0) 10 is)
-        ∙ more text (front m (drop (n + 1) text)) n low
+        ∙ ap (λ b. take n text ++ get_or text n 0 ∷ cond b (prefix m (drop (n + 1) text))
+        (prefix (suc m) (drop (n + 1) text))) (eq-eqb (get_or text n 0) 10 is)
+        ∙ more text (prefix m (drop (n + 1) text)) n low
 
-front_none : (n : ℕ) → front n [] ≡ []
-front_none zero = refl
-front_none (suc n) = refl
+prefix_none : (n : ℕ) → prefix n [] ≡ []
+prefix_none zero = refl
+prefix_none (suc n) = refl
 
 pub end_to : (text : List ℕ) (n : ℕ) (ends : List ℕ) → AreEndsTo text n ends → length text ≤ n →
     AreEnds text (ends ++ length text ∷ [])
@@ -105,20 +105,20 @@ end_to text n ends so_far all =
         | inl old ↦ so_far.within k e old
         | inr new ↦ let end = new.1 in omega (arith, end)
       ];
-      fronts = λ k e there. elim (at_last ends (length text) k e there) [
-        | inl old ↦ so_far.fronts k e old
+      prefixes = λ k e there. elim (at_last ends (length text) k e there) [
+        | inl old ↦ so_far.prefixes k e old
         | inr new ↦
             let one : length ends + suc 0 ≡ k + 1 = omega (arith, new.0) in
-            subst (λ q. take q text ≡ front (k + 1) text) new.1
+            subst (λ q. take q text ≡ prefix (k + 1) text) new.1
             (take_all (length text) text (omega arith)
-            ∙ sym (subst (λ j. front j text ≡ text) one (whole 0)))
+            ∙ sym (subst (λ j. prefix j text ≡ text) one (whole 0)))
       ];
       whole = λ m most.
           let behind : length ends + suc (m - suc (length ends)) ≡ m = omega (arith, long, most) in
-          subst (λ j. front j text ≡ text) behind (whole (m - suc (length ends)));
+          subst (λ j. prefix j text ≡ text) behind (whole (m - suc (length ends)));
     }
   where
-    whole : (m : ℕ) → front (length ends + suc m) text ≡ text
+    whole : (m : ℕ) → prefix (length ends + suc m) text ≡ text
     whole m = so_far.goes_on m
-        ∙ ap (λ (t : List ℕ). take n text ++ front (suc m) t) (drop_all n text all)
+        ∙ ap (λ (t : List ℕ). take n text ++ prefix (suc m) t) (drop_all n text all)
         ∙ append-nil (take n text) ∙ take_all n text all

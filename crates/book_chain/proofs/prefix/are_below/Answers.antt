@@ -1,8 +1,8 @@
 use Rattle.std.proofs.Common.{sym, subst, arith}
 use Rattle.std.proofs.lemmas.Option.{get_or_from_slice_get}
 use Rattle.std.proofs.lemmas.List.Elements.{All-more}
-use Rattle.book_chain.specs.Fronts.{IsBelow}
-use Rattle.book_chain.proofs.front.are_below.Goals as goal
+use Rattle.book_chain.specs.Prefixes.{IsBelow}
+use Rattle.book_chain.proofs.prefix.are_below.Goals as goal
 
 pub loop-at-preserved : goal.loop-at-preserved
 loop-at-preserved c =

@@ -1,6 +1,6 @@
 use Rattle.std.proofs.Common.{◌≡◌, ◌+◌, ◌≤◌, [], ◌∷◌, ◌++◌, take, sym, ap, ◌∙◌, arith}
 use Rattle.audit_book.proofs.AuditBookLemmas.{take_more}
-use Rattle.book_places.proofs.owed.front.Goals as goal
+use Rattle.book_places.proofs.owed.prefix.Goals as goal
 
 pub loop-at-preserved : goal.loop-at-preserved
 loop-at-preserved c =

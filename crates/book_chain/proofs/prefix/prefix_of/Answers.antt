@@ -1,9 +1,9 @@
 use Rattle.std.proofs.Common.{◌≡◌, true, false, arith, sym, subst, ◌∙◌}
 use Rattle.wall_policy.specs.Policy.{first_processes}
 use Rattle.audit_book.specs.Checks.{IsFaultOf}
-use Rattle.book_chain.proofs.FrontLemmas.{one_on, no_number, bad_fits_not, others_named}
-use Rattle.book_chain.proofs.front.front_of.Goals as goal
-use Rattle.book_chain.proofs.front.front_of.Goals.{then-are_below+in-Err-BadEntry, else-are_below}
+use Rattle.book_chain.proofs.PrefixLemmas.{one_on, no_number, bad_fits_not, others_named}
+use Rattle.book_chain.proofs.prefix.prefix_of.Goals as goal
+use Rattle.book_chain.proofs.prefix.prefix_of.Goals.{then-are_below+in-Err-BadEntry, else-are_below}
 
 pub loop-number-preserved : goal.loop-number-preserved
 loop-number-preserved c =

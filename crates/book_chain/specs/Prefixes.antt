@@ -1,4 +1,4 @@
--- The front of a policy under which a book is read: words of private contracts.
+-- The prefix of a policy under which a book is read: words of private contracts.
 use Rattle.std.specs.Prelude.{ℕ, ◌<◌, List}
 use Rattle.wall_policy.specs.Policy.{ChineseWall, IsPolicy, with_held}
 use Rattle.run_model.specs.declared.entry.Entry.{Entry}

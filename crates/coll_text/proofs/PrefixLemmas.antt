@@ -49,11 +49,11 @@ first_taken : (w : Word) (i : ℕ) → 0 < i → get_or (take i w) 0 0 ≡ get_o
 first_taken w i lt = get_or-take i w 0 0 lt
 
 -- digits at the front are a number
-pub front_is : (w : Word) (i v most : ℕ) → i ≤ length w → list_all is_digit (take i w) ≡ true →
+pub prefix_is : (w : Word) (i v most : ℕ) → i ≤ length w → list_all is_digit (take i w) ≡ true →
     v ≡ value_after 0 (take i w) → v ≤ most → 0 < i → (get_or w 0 0 ≡ 48 → i ≤ 1) →
     number_within most (take i w) ≡ Some v
 unfolding number_within
-front_is w i v most le d e small some lead =
+prefix_is w i v most le d e small some lead =
     let size : length (take i w) ≡ i = length-take-le i w le in
     let f : is_number (take i w) ≡ true = form_of (take i w) d (omega (arith, size))
     (λ h. let k : i ≤ 1 = lead (sym (first_taken w i some) ∙ h) in omega (arith, k, size)) in
@@ -198,17 +198,17 @@ of_all limit n w e = ap (number_within limit) (take_all (length w) w (omega arit
 
 pub read_below : (limit most n : ℕ) (w : Word) (ws vs : List Word) → vs ≡ w ∷ ws →
     number_within limit w ≡ Some n → n ≤ most → number_at most vs ≡ Ok (n, ws)
-read_below limit most n w ws vs front e le =
+read_below limit most n w ws vs prefix e le =
     let v : Some n ≡ number_within most w = whole_below n (length w) limit most w (omega arith)
     (of_all limit n w e) le in
-    rw (front, some_digits limit n w e, ← v) refl
+    rw (prefix, some_digits limit n w e, ← v) refl
 
 pub read_above : (limit most n : ℕ) (w : Word) (ws vs : List Word) → vs ≡ w ∷ ws →
     number_within limit w ≡ Some n → most < n → number_at most vs ≡ Err BadField
-read_above limit most n w ws vs front e lt =
+read_above limit most n w ws vs prefix e lt =
     let v : None ≡ number_within most w = whole_above n (length w) limit most w (omega arith)
     (of_all limit n w e) lt in
-    rw (front, some_digits limit n w e, ← v) refl
+    rw (prefix, some_digits limit n w e, ← v) refl
 
 -- a part of a list, likewise
 pub listed_below : (limit n : ℕ) (w : Word) → number_within limit w ≡ Some n → n ≤ 4294967295 →

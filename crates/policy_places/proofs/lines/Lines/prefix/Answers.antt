@@ -1,6 +1,6 @@
 use Rattle.std.proofs.Common.{ℕ, ◌≤◌, List, length, arith, sym, subst}
-use Rattle.policy_places.proofs.PlaceLemmas.{front_is}
-use Rattle.policy_places.proofs.lines.Lines.front.Goals as goal
+use Rattle.policy_places.proofs.PlaceLemmas.{prefix_is}
+use Rattle.policy_places.proofs.lines.Lines.prefix.Goals as goal
 
 pub returns : goal.returns
 returns c =
@@ -8,5 +8,5 @@ returns c =
     let within = subst (λ (es : List ℕ). c.args.line ≤ length es) c.as_slice-ends.ensures.value
     c.if-line-ends.false in
     rw (sym c.self.view_is, c.as_slice-ends.ensures.value)
-    (front_is c.self.inside.text.now c.self.inside.ends.items c.self.invariant c.args.line
+    (prefix_is c.self.inside.text.now c.self.inside.ends.items c.self.invariant c.args.line
     (omega (arith, other)) within)

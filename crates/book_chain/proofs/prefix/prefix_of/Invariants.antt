@@ -1,6 +1,6 @@
 use Rattle.std.proofs.Common.{ℕ, ◌≤◌, ◌<◌}
 use Rattle.book_chain.specs.Chain.{Fits}
-use Rattle.book_chain.proofs.front.front_of.Given as goal
+use Rattle.book_chain.proofs.prefix.prefix_of.Given as goal
 
 abbrev pub invariant-loop-number : goal.invariant-loop-number
 invariant-loop-number l = record {

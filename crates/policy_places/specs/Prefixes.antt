@@ -2,7 +2,7 @@
 use Rattle.std.specs.Prelude.{ℕ, zero, suc, ◌==◌, List, [], ◌∷◌, if◌then◌else◌}
 
 -- the first n lines, each with the line feed that ends it
-abbrev pub front : ℕ → List ℕ → List ℕ
-front zero text = []
-front (suc n) [] = []
-front (suc n) (b ∷ bs) = b ∷ (if b == 10 then front n bs else front (suc n) bs)
+abbrev pub prefix : ℕ → List ℕ → List ℕ
+prefix zero text = []
+prefix (suc n) [] = []
+prefix (suc n) (b ∷ bs) = b ∷ (if b == 10 then prefix n bs else prefix (suc n) bs)
