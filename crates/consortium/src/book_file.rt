@@ -3,7 +3,7 @@
 //!
 //! That the file is new, that it is locked, and that what was synced outlives the machine, no
 //! contract can say. `tests/live` looks at the first two, with the built program.
-ghost use Rattle.consortium.specs.Kinds.{Opens};
+ghost use Rattle.program_line.specs.Kinds.{Opens};
 
 use live_book::BookSink;
 use program_commands::{Ending, Unready, end, refuse};

@@ -13,38 +13,22 @@
 #![tactic(auto)]
 
 mod book_file;
-mod commands;
 mod desk;
-mod devices;
 mod events;
-mod looking;
 mod pipes;
 mod server;
-mod serving;
 
-pub use commands::{LivePaths, Performed, perform};
-pub use devices::CountedFiles;
 pub use program_commands::{
     audit_after, audit_on, check_on, read_wall_after, replay_after, replay_on, report_on,
     run_after, run_on, seal_on, serve_on,
 };
+pub use program_line::{CountedFiles, LivePaths, Performed, perform};
+use program_line::{Blanks, Outcome, Served, serve};
 pub use program_words::read_words;
 use server::{ServerBlanks, System, serve_live};
-use serving::{Blanks, Outcome, Served, serve};
 use std::io::{Stderr, Stdout};
 use std::marker::Brand;
 use std::sync::ledger::Blank;
-
-#[cfg(test)]
-mod disk;
-#[cfg(test)]
-mod disk_tests;
-#[cfg(test)]
-mod files_tests;
-#[cfg(test)]
-mod looking_tests;
-#[cfg(test)]
-mod words_tests;
 
 fn main(rt: HostRuntime) -> Served {
     let blanks = Blanks {

@@ -1,18 +1,16 @@
 //! The server: the processes of a policy, served at their named pipes.
 //!
 //! What the sessions come to says the contract of `serve_on`; the pipes, and so this, have none.
-ghost use Rattle.consortium.specs.Kinds.{Opens};
+ghost use Rattle.program_line.specs.Kinds.{Opens};
 
 use crate::book_file::{BookFile, CountedBook, NewBook, new_file};
-use crate::commands::LivePaths;
 use crate::desk::{desks_at, peers_at};
-use crate::devices::listed;
 use crate::events::{Event, Events};
 use crate::pipes::{Pipes, first_fault, pipes_in};
-use crate::serving::texts;
 use live_session::{Desk, Peer};
 use program_commands::{Ending, ServeEnd, end, read_wall_after, refuse, serve_on};
 use program_files::{Count, FileSource, StreamSink};
+use program_line::{LivePaths, listed, texts};
 use std::alloc::Global;
 use std::io::{Stderr, Stdout};
 use std::marker::Brand;

@@ -1,6 +1,0 @@
-use Rattle.std.proofs.Common.{◌≡◌, map, string_bytes, take}
-use Rattle.consortium.proofs.commands.kept_texts.Given as goal
-
-abbrev pub invariant-loop-text : goal.invariant-loop-text
-invariant-loop-text l =
-    map (λ s. string_bytes s) l.kept.items ≡ map (λ t. t.now) (take l.text-index l.texts)

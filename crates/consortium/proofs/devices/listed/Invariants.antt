@@ -1,8 +1,0 @@
-use Rattle.std.proofs.Common.{map, take}
-use Rattle.consortium.specs.Kinds.{listed_kind}
-use Rattle.consortium.specs.Performing.{AreListed}
-use Rattle.consortium.proofs.devices.listed.Given as goal
-
-abbrev pub invariant-loop-path : goal.invariant-loop-path
-invariant-loop-path g l =
-    AreListed listed_kind (map (λ p. p.now) (take l.path-index l.paths)) l.books.items

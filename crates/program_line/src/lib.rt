@@ -1,0 +1,24 @@
+//! One command line, over the files and streams of a system: what its words ask for is done, each
+//! file that they name is opened at its first use and once, and the status is that of how it ended.
+//! Where they ask to serve live processes, the files that they name are handed on.
+#![tactic(auto)]
+
+mod commands;
+mod devices;
+mod looking;
+mod serving;
+
+pub use commands::{LivePaths, Performed, perform};
+pub use devices::{CountedFiles, listed};
+pub use serving::{Blanks, Complaints, Outcome, Output, Served, serve, texts};
+
+#[cfg(test)]
+mod disk;
+#[cfg(test)]
+mod disk_tests;
+#[cfg(test)]
+mod files_tests;
+#[cfg(test)]
+mod looking_tests;
+#[cfg(test)]
+mod words_tests;
