@@ -15,7 +15,10 @@ use Rattle.run_model.specs.Books.{outcome_entry, entries_for, book, posts_in, Is
 use Rattle.run_model.specs.Books.{IsSound, Begins, IsFirstBad}
 use Rattle.run_state.specs.Views.{PostStateValue}
 use Rattle.audit_book.specs.declared.due.Due.{Due}
-use Rattle.audit_book.specs.Checks.{entry_of, post_of, Stands, IsRight}
+use Rattle.audit_book.specs.Checks.{entry_of, post_of, Stands, IsRight, IsPostThatCounts}
+use Rattle.audit_book.specs.Checks.{StopsAtPost, StopsAtEntry}
+use Rattle.audit_book.specs.declared.check.Stopped.{Stopped}
+use Rattle.audit_book.specs.declared.check.Stopped.TheVariants as stops
 use Rattle.run_model.proofs.RunModelLemmas.{begins_given, book_is_sound, posts_in-append}
 
 same_rest : (es : List Entry) (x y : Entry) (xs ys : List Entry) → es ++ x ∷ xs ≡ es ++ y ∷ ys →
@@ -213,3 +216,13 @@ length_prefix [] zero = omega arith
 length_prefix [] (suc n) = omega arith
 length_prefix (x ∷ es) zero = omega arith
 length_prefix (x ∷ es) (suc n) = let rest = length_prefix es n in omega arith
+
+-- the check stops at the entry of a post for what stops it at the post
+pub stops_at_entry : (wall : ChineseWall) (old : PostStateValue (Unit {0})) (entry : Entry)
+    (p c : ℕ) (s : Stated) → entry ≡ Posted p c s → (stopped : Stopped) →
+    StopsAtPost wall old (post_of p c s) stopped → StopsAtEntry wall old entry stopped
+stops_at_entry wall old entry p c s is stops.Wrong why = λ es right begins.
+    posted_wrong wall es p c s (why (posts_in es) right.stood)
+    (subst (λ e. Begins wall (es ++ e ∷ [])) is begins)
+stops_at_entry wall old entry p c s is stops.NoMemory why =
+    subst (IsPostThatCounts wall old) (sym is) why

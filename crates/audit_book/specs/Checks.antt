@@ -1,23 +1,26 @@
 -- How far the check of a book has come, and what its fault says. The check goes on from a state
 -- whose posts have no parts.
-use Rattle.std.specs.Prelude.{◌≡◌, ℕ, ◌<◌, ◌^◌, List, ◌∷◌, ◌++◌, length, map, Option, Some, None}
+use Rattle.std.specs.Prelude.{◌≡◌, ℕ, ◌<◌, ◌^◌, List, [], ◌∷◌, ◌++◌, length, map, Option, Some}
+use Rattle.std.specs.Prelude.{None}
 use Rattle.std.specs.Option.{option_map, option_to_list}
 use Rattle.wall_policy.specs.Policy.{ChineseWall}
 use Rattle.coll_routes.specs.declared.statement.Stated.{Stated}
-use Rattle.coll_routes.specs.Faults.{stated_type}
 use Rattle.run_model.specs.declared.entry.Entry.{Entry}
 use Rattle.run_model.specs.declared.entry.Entry.TheVariants.{Posted, Settled}
 use Rattle.run_model.specs.Posts.{Post, outcome}
 use Rattle.run_model.specs.Contributions.{Contribution}
 use Rattle.run_model.specs.Books.{book, posts_in, outcome_entry, IsCounted, AreCounted, IsFirstBad}
+use Rattle.run_model.specs.Books.{Begins}
 use Rattle.run_state.specs.declared.entered.Entered.{Entered}
 use Rattle.run_state.specs.declared.entered.Entered.TheVariants.{Waiting as waits}
 use Rattle.run_state.specs.declared.entered.Entered.TheVariants.{Settled as settles}
 use Rattle.run_state.specs.declared.seat.Seat.{Seat}
-use Rattle.run_state.specs.Views.{PostStateValue, view_of, LookedAt}
+use Rattle.run_state.specs.Views.{PostStateValue, view_of, IsSeatFor}
 use Rattle.run_state.specs.Stands.{StandsForPosts}
 use Rattle.audit_book.specs.declared.due.Due.{Due}
 use Rattle.audit_book.specs.declared.check.Posting.{Posting}
+use Rattle.audit_book.specs.declared.check.Stopped.{Stopped}
+use Rattle.audit_book.specs.declared.check.Stopped.TheVariants as stops
 use Rattle.audit_book.specs.declared.check_fault.BookFault.{BookFault}
 use Rattle.audit_book.specs.declared.check_fault.BookFault.TheVariants.{BadEntry, NoMemory}
 
@@ -46,6 +49,10 @@ abbrev pub due_after : (c : ℕ) → Entered (Unit {0}) → Option Due
 due_after c (waits k) = None
 due_after c (settles full k o) = Some (record { comm = c; k = k; outcome = o })
 
+-- the post counts after each list of posts that the state stands for
+abbrev pub Counts : ChineseWall → PostStateValue (Unit {0}) → Post → Type 0
+Counts wall post_state x = (past : List Post) → Stands wall post_state past → IsCounted wall x past
+
 -- it stands for some posts, fewer than 2^62; the post of this seat has been looked at, and counts
 -- after each list of posts that the state stands for
 pub record MayEnter (wall : ChineseWall) (post_state : PostStateValue (Unit {0})) (seat : Seat)
@@ -53,9 +60,8 @@ pub record MayEnter (wall : ChineseWall) (post_state : PostStateValue (Unit {0})
   pub past : List Post
   pub stood : Stands wall post_state past
   pub few : length past < 2 ^ 62
-  pub looked : LookedAt (view_of post_state) seat s.sig s.own (stated_type s.sig) s.given
-  pub counts : (posts : List Post) → Stands wall post_state posts →
-      IsCounted wall (post_of seat.process seat.meeting.comm s) posts
+  pub looked : IsSeatFor (view_of post_state) s seat
+  pub counts : Counts wall post_state (post_of seat.process seat.meeting.comm s)
 
 -- it now stands for the posts with this one, and the outcome of the instance that the post fills is
 -- due, if it fills one
@@ -80,11 +86,24 @@ pub record IsRight (wall : ChineseWall) (post_state : PostStateValue (Unit {0}))
   pub given : entries ++ option_to_list (option_map entry_of due) ≡ book wall (posts_in entries)
   pub stood : Stands wall post_state (posts_in entries)
 
--- the entry tells a post that counts after each list of posts that the state stands for
+-- the entry tells a post that counts
 abbrev pub IsPostThatCounts : ChineseWall → PostStateValue (Unit {0}) → Entry → Type 0
-IsPostThatCounts wall post_state (Posted p c s) = (past : List Post) → Stands wall post_state past
-    → IsCounted wall (post_of p c s) past
+IsPostThatCounts wall post_state (Posted p c s) = Counts wall post_state (post_of p c s)
 IsPostThatCounts wall post_state (Settled c k o) = ⊥
+
+-- why the check stopped at a post: it counts after no list of posts that the state stands for; or
+-- memory ran out, at one that counts
+abbrev pub StopsAtPost : ChineseWall → PostStateValue (Unit {0}) → Post → Stopped → Type 0
+StopsAtPost wall post_state x stops.Wrong = (past : List Post) → Stands wall post_state past →
+    ¬ (IsCounted wall x past)
+StopsAtPost wall post_state x stops.NoMemory = Counts wall post_state x
+
+-- why it stopped at an entry: no sound book goes on with it; or memory ran out, at a post that
+-- counts
+abbrev pub StopsAtEntry : ChineseWall → PostStateValue (Unit {0}) → Entry → Stopped → Type 0
+StopsAtEntry wall post_state entry stops.Wrong = (entries : List Entry) →
+    IsRight wall post_state entries None → ¬ (Begins wall (entries ++ entry ∷ []))
+StopsAtEntry wall post_state entry stops.NoMemory = IsPostThatCounts wall post_state entry
 
 -- so many entries are right, and none is due
 abbrev pub IsRightFor : ChineseWall → PostStateValue (Unit {0}) → Type 0

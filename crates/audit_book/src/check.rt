@@ -3,20 +3,17 @@ ghost use Rattle.std.specs.Prelude.{◌≡◌, ◌<◌, ◌^◌, ◌∷◌, ◌+
 ghost use Rattle.std.specs.Prelude.{OnOk, None, true};
 ghost use Rattle.std.specs.Result.{result_err};
 ghost use Rattle.wall_policy.specs.Policy.{ChineseWall};
-ghost use Rattle.coll_routes.specs.Faults.{stated_type};
 ghost use Rattle.wall_verdict.specs.Star.{star};
 ghost use Rattle.run_model.specs.declared.entry.Entry.{Entry};
 ghost use Rattle.run_model.specs.Posts.{Post, histories};
 ghost use Rattle.run_model.specs.Refusals.{post_fault};
 ghost use Rattle.run_model.specs.PostLaws.{KeepsTheWall};
-ghost use Rattle.run_model.specs.Books.{IsSound, Begins, IsCounted, is_labelled, posts_in};
+ghost use Rattle.run_model.specs.Books.{IsSound, is_labelled, posts_in};
 ghost use Rattle.run_model.specs.EntryForms.{HasForm};
-ghost use Rattle.run_state.specs.Views.{LookedAt, view_of};
-ghost use Rattle.audit_book.specs.declared.check.Stopped.TheVariants.{Wrong};
-ghost use Rattle.audit_book.specs.declared.check.Stopped.TheVariants.{NoMemory as WantsMemory};
+ghost use Rattle.run_state.specs.Views.{IsSeatFor, view_of};
 ghost use Rattle.audit_book.specs.Checks.{post_of, post_in, due_after, Stands, MayEnter};
 ghost use Rattle.audit_book.specs.Checks.{HasEntered, HasCounted, IsRight, IsRightFor, IsFaultOf};
-ghost use Rattle.audit_book.specs.Checks.{IsPostThatCounts};
+ghost use Rattle.audit_book.specs.Checks.{StopsAtPost, StopsAtEntry};
 ghost use Rattle.audit_book.specs.Dues.{IsFaultWithin};
 
 use crate::check_fault::BookFault;
@@ -133,11 +130,7 @@ fn follow(
     ensures right { IfOk result (λ next. (entries : List Entry) →
         IsRight policy.now post_state.old entries None →
         IsRight policy.now post_state.new (entries ++ entry.now ∷ []) next) }
-    ensures wrong { IfErr result (λ stopped. stopped ≡ Wrong → (entries : List Entry) →
-        IsRight policy.now post_state.old entries None →
-        ¬ (Begins policy.now (entries ++ entry.now ∷ []))) }
-    ensures memory { IfErr result (λ stopped. stopped ≡ WantsMemory →
-        IsPostThatCounts policy.now post_state.old entry.now) }
+    ensures stopped { IfErr result (StopsAtEntry policy.now post_state.old entry.now) }
 {
     match entry {
         Entry::Posted {
@@ -168,11 +161,7 @@ fn count(
     requires label { is_labelled posting.now.stated.now ≡ true }
     ensures counted { IfOk result
         (HasCounted policy.now post_state.old post_state.new (post_in posting.now)) }
-    ensures wrong { IfErr result (λ stopped. stopped ≡ Wrong → (past : List Post) →
-        Stands policy.now post_state.old past →
-        ¬ (IsCounted policy.now (post_in posting.now) past)) }
-    ensures memory { IfErr result (λ stopped. stopped ≡ WantsMemory → (past : List Post) →
-        Stands policy.now post_state.old past → IsCounted policy.now (post_in posting.now) past) }
+    ensures stopped { IfErr result (StopsAtPost policy.now post_state.old (post_in posting.now)) }
 {
     match look(policy, post_state, posting) {
         Err(_) => Err(Stopped::Wrong),
@@ -199,9 +188,7 @@ fn look(policy: &Policy, post_state: &PostState<()>, posting: &Posting) -> Resul
         result_err result ≡ post_fault policy.now past (post_in posting.now) }
     ensures process { IfOk result (λ seat. seat.process ≡ posting.now.process) }
     ensures comm { IfOk result (λ seat. seat.meeting.comm ≡ posting.now.comm) }
-    ensures looked { IfOk result (λ seat. LookedAt (view_of post_state.now) seat
-        posting.now.stated.now.sig posting.now.stated.now.own
-        (stated_type posting.now.stated.now.sig) posting.now.stated.now.given) }
+    ensures looked { IfOk result (IsSeatFor (view_of post_state.now) posting.now.stated.now) }
 {
     let terms = Terms::of(posting.stated);
     post_state.look(policy, posting.process.number(), posting.comm, terms)

@@ -53,7 +53,7 @@ impl<X: Drop> Queues<X> {
     ghost use Rattle.coll_pending.specs.Queues.{queue_at, known_in, count_in, slot_of};
     ghost use Rattle.coll_pending.specs.Queues.{IsVacant};
     ghost use Rattle.coll_pending.specs.Spares.{IsQueueOf, members_of};
-    ghost use Rattle.coll_pending.specs.Waiting.{seen, next, meeting_of, HasPlace, Opens};
+    ghost use Rattle.coll_pending.specs.Waiting.{seen, place, next, meeting_of, HasPlace, Opens};
     ghost use Rattle.coll_pending.specs.Waiting.{IsAwaited, HasArrivedAt};
 
     /// No communicator, and no instance.
@@ -149,9 +149,8 @@ impl<X: Drop> Queues<X> {
         requires some { 0 < length slot.roll.members }
         requires queue { IsQueueOf (members_of slot) (queue_at self.old.queues comm) fresh }
         ensures { (rank : ℕ) → rank < length slot.roll.members →
-            slot_of self.old comm (count_in (queue_at self.old.queues comm) rank) ≡ None →
-            Opens (seen self.old) (seen self.new) comm
-            (count_in (queue_at self.old.queues comm) rank)
+            slot_of self.old comm (place (seen self.old) comm rank) ≡ None →
+            Opens (seen self.old) (seen self.new) comm (place (seen self.old) comm rank)
             (members_of slot) slot.roll.sig }
     {
         let key = self.slots.insert_reserved(slot);

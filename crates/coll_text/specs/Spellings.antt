@@ -55,12 +55,15 @@ statement_text sig own = join_with_byte 32 (statement_words sig own)
 abbrev pub IsSigned32 : ℤ → Type 0
 IsSigned32 z = IsBetween 2147483647 2147483648 z
 
+abbrev pub AreUnsigned32 : List ℕ → Type 0
+AreUnsigned32 ns = AllByRecursion (λ n. n ≤ 4294967295) ns
+
 -- what has a spelling: numbers of 32 bits
 pub record Fits (f : Fields) : Type 0 where
   pub root : f.root ≤ 4294967295
   pub count : f.count ≤ 4294967295
-  pub counts : AllByRecursion (λ n. n ≤ 4294967295) f.counts
-  pub list : AllByRecursion (λ n. n ≤ 4294967295) f.list
+  pub counts : AreUnsigned32 f.counts
+  pub list : AreUnsigned32 f.list
   pub colour : IfSome f.colour IsSigned32
   pub key : IsSigned32 f.key
 

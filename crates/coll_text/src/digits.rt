@@ -17,7 +17,7 @@ const BYTES: usize = 704;
 // A list of at most so many numbers is written at once.
 const FEW: usize = 8;
 
-// The same for each of them, and a byte behind the last.
+// A space, a sign and 20 digits for each of these, and a byte behind the last.
 const FEW_BYTES: usize = 177;
 
 // Writes the number so that it ends at `end`, and returns where it starts.
@@ -37,7 +37,8 @@ fn put_number(bytes: &mut [u8], end: usize, n: i128) -> usize
     start - 1
 }
 
-// The same with a space before it.
+// Writes the number with a space before it, so that it ends at `end`, and returns where the space
+// stands.
 fn put_behind_space(bytes: &mut [u8], end: usize, n: i128) -> usize
     requires small { unsigned_abs n < 2 ^ 64 }
     requires room { 22 ≤ end }

@@ -51,7 +51,7 @@ fn eight_of(text: &[u8]) -> u8x8
     u8x8::from_slice(text) - u8x8::splat(b'0')
 }
 
-// The same of twice as many.
+// The first sixteen bytes less that of the digit 0.
 #[inline(always)]
 fn sixteen_of(text: &[u8]) -> u8x16
     requires { 16 ≤ length text.now }

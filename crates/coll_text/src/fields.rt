@@ -199,7 +199,7 @@ fn next_reduction(kind: Kind, words: &mut Parts) -> Result<Signature, LineFault>
     }
 }
 
-// The same of each such kind.
+// The signature of a plain kind, by the fields that the words in front give.
 #[tactic(auto, unfolding(crate::specs::Fields::stated_at, crate::specs::Fields::fields_at, crate::specs::Fields::with_field, crate::specs::Table::forms_of, crate::specs::Table::own_of, coll_routes::specs::Signatures::signature_by, coll_routes::specs::Signatures::kind, crate::specs::Fields::elem_type_at, crate::specs::Fields::block_at, crate::specs::Fields::rooted_at, crate::specs::Fields::gathered_at))]
 fn next_signature(kind: Kind, words: &mut Parts) -> Result<Signature, LineFault>
     requires { is_plain kind ≡ true }

@@ -42,7 +42,7 @@ pub(crate) fn front_number(text: &[u8]) -> Option<(u64, usize)>
     as_number(text, value, len)
 }
 
-// The same digit by digit, for numbers that are mostly short.
+// The number that `front_number` tells, read digit by digit, for numbers that are mostly short.
 #[inline(always)]
 pub(crate) fn front_short(text: &[u8]) -> Option<(u64, usize)>
     ensures within { IfSome result (λ r. r.1 ≤ length text.now) }

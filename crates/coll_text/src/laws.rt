@@ -1,7 +1,7 @@
 //! What holds of the spelling of statements, as functions that do nothing.
-ghost use Rattle.std.specs.Prelude.{◌≡◌, ℕ, ◌≤◌, pos, negsuc, Bool, true, false, List, [], ◌∷◌};
+ghost use Rattle.std.specs.Prelude.{◌≡◌, ℕ, pos, negsuc, Bool, true, false, List, [], ◌∷◌};
 ghost use Rattle.std.specs.Prelude.{◌++◌, replicate, Some, None, Ok};
-ghost use Rattle.std.specs.List.{list_all, AllByRecursion};
+ghost use Rattle.std.specs.List.{list_all};
 ghost use Rattle.wall_labels.specs.declared.op.Op.TheVariants.{Sum, Maxloc};
 ghost use Rattle.mpi_elems.specs.declared.elem_type.ElemType.TheVariants.{Int8, Uint64, TwoInt};
 ghost use Rattle.coll_routes.specs.declared.signature.Signature.{Signature};
@@ -16,7 +16,7 @@ ghost use Rattle.coll_routes.specs.Signatures.{kind};
 ghost use Rattle.coll_text.specs.Numbers.{Word};
 ghost use Rattle.coll_routes.specs.Owns.{is_own_of};
 ghost use Rattle.coll_text.specs.Fields.{statement_at};
-ghost use Rattle.coll_text.specs.Spellings.{IsSpellable, statement_words, is_solid};
+ghost use Rattle.coll_text.specs.Spellings.{IsSpellable, AreUnsigned32, statement_words, is_solid};
 
 /// A statement that is read is spelled so, word for word; and of the poster alone it has what its
 /// kind asks.
@@ -56,13 +56,11 @@ pub fn extreme_statements_are_spellable()
 
 /// Lists of any length are spellable, if their numbers are of 32 bits.
 pub fn lists_of_any_length_are_spellable()
-    ensures counts { (ns : List ℕ) → AllByRecursion (λ n. n ≤ 4294967295) ns →
-        IsSpellable (Scatterv 0 Int8) (Counts ns) }
-    ensures blocks { (ns : List ℕ) → AllByRecursion (λ n. n ≤ 4294967295) ns →
+    ensures counts { (ns : List ℕ) → AreUnsigned32 ns → IsSpellable (Scatterv 0 Int8) (Counts ns) }
+    ensures blocks { (ns : List ℕ) → AreUnsigned32 ns →
         IsSpellable (ReduceScatter Sum Int8 ns) Plain }
-    ensures group { (ns : List ℕ) → AllByRecursion (λ n. n ≤ 4294967295) ns →
-        IsSpellable (Create ns) Plain }
-    ensures grid { (ns : List ℕ) (bs : List Bool) → AllByRecursion (λ n. n ≤ 4294967295) ns →
+    ensures group { (ns : List ℕ) → AreUnsigned32 ns → IsSpellable (Create ns) Plain }
+    ensures grid { (ns : List ℕ) (bs : List Bool) → AreUnsigned32 ns →
         IsSpellable (CartCreate ns bs) Plain }
     ensures parts { (bs : List Bool) → IsSpellable (CartSub bs) Plain }
 {}

@@ -33,7 +33,7 @@ fn has_number_form(word: &[u8]) -> bool
     }
 }
 
-// The same of a word of any length, digit by digit.
+// The number that a word of any length spells, at most `most`, read digit by digit.
 #[tactic(auto, unfolding(crate::specs::Numbers::number_within))]
 fn long_number(word: &[u8], most: u64) -> Option<u64>
     ensures value { result ≡ number_within most word.now }

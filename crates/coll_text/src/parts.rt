@@ -63,7 +63,7 @@ fn place_of(text: &[u8], separator: u8) -> Option<usize>
     None
 }
 
-// The same place, found many bytes at a time.
+// The place of the first separator, found many bytes at a time.
 #[tactic(auto, using(crate::proofs::CutLemmas::place_is))]
 fn far_place_of(text: &[u8], separator: u8) -> Option<usize>
     ensures { result ≡ position (λ b. b == separator) text.now }

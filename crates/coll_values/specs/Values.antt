@@ -45,6 +45,10 @@ abbrev pub block_by : Option Op → Roll → Sendings → (j t : ℕ) → Option
 block_by (Some op) roll sent j t = Some (reduced op roll sent)
 block_by None roll sent j t = if is_missing roll j t then None else Some (copied roll sent t)
 
+-- the elements of that block, of what the members of the instance sent
+abbrev pub block_at : Full Contents → (j t : ℕ) → Option (List Element)
+block_at F j t = block_by (reduction F.roll.sig) F.roll (λ i t. sent F i j t) j t
+
 -- the blocks of rank j, as elements
 unfoldable pub blocks : Full Contents → (j : ℕ) → List (Option (List Element))
 blocks F j =

@@ -7,7 +7,7 @@ ghost use Rattle.coll_routes.specs.Rolls.{given, places as places_of};
 ghost use Rattle.coll_routes.specs.Signatures.{reduction, elem_type};
 ghost use Rattle.coll_routes.specs.Faults.{stated_type};
 ghost use Rattle.coll_values.specs.Instances.{IsWhole};
-ghost use Rattle.coll_values.specs.Values.{sent, reduced, breadth, block_by, block_of};
+ghost use Rattle.coll_values.specs.Values.{sent, reduced, breadth, block_at, block_of};
 ghost use Rattle.coll_values.specs.Values.{value};
 ghost use Rattle.coll_values.specs.Rooms.{space_for, sizes, size_of};
 ghost use Rattle.coll_values.specs.Lines.{AreLines};
@@ -61,11 +61,8 @@ fn fill_place(full: &Full<Buffer>, to: u32, place: u32, line: Buffer) -> Block
     requires place { place < places_of full.now.roll to }
     requires one_type { elem_type full.now.roll.sig ≡ Some line.elem_type }
     requires empty { line.numbers ≡ [] }
-    requires room { size_of (block_by (reduction full.now.roll.sig) full.now.roll
-        (λ i t. sent full.now i to t) to place) ≤ line.room }
-    ensures { result
-        ≡ block_of (block_by (reduction full.now.roll.sig) full.now.roll
-        (λ i t. sent full.now i to t) to place) }
+    requires room { size_of (block_at full.now to place) ≤ line.room }
+    ensures { result ≡ block_of (block_at full.now to place) }
 {
     let mut line = line;
     match full.roll.sig.op() {

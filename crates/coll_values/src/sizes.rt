@@ -3,7 +3,7 @@ ghost use Rattle.std.specs.Prelude.{◌≡◌, ◌<◌, IsSome};
 ghost use Rattle.coll_routes.specs.Rolls.{places as places_of};
 ghost use Rattle.coll_routes.specs.Signatures.{reduction};
 ghost use Rattle.coll_values.specs.Instances.{IsWhole};
-ghost use Rattle.coll_values.specs.Values.{sent, block_by, breadth};
+ghost use Rattle.coll_values.specs.Values.{sent, block_at, breadth};
 ghost use Rattle.coll_values.specs.Rooms.{size_of};
 
 use super::full::Full;
@@ -31,9 +31,7 @@ pub(crate) fn size_at(full: &Full<Buffer>, to: u32, place: u32) -> usize
     requires whole { IsWhole full.now }
     requires rank { to < full.now.roll.shape.size }
     requires place { place < places_of full.now.roll to }
-    ensures { result
-        ≡ size_of (block_by (reduction full.now.roll.sig) full.now.roll
-        (λ i t. sent full.now i to t) to place) }
+    ensures { result ≡ size_of (block_at full.now to place) }
 {
     match full.roll.sig.op() {
         Some(_) => widest(full, to),

@@ -11,6 +11,9 @@ pub record Topology : Type 0 where
   pub dims : List ℕ
   pub periods : List Bool
 
+abbrev pub grid_of : List ℕ → List Bool → Topology
+grid_of dims periods = record { dims = dims; periods = periods }
+
 -- the product of the sizes
 abbrev pub volume : List ℕ → ℕ
 volume [] = 1

@@ -1,7 +1,7 @@
 //! Coordinates and ranks, by strides.
 ghost use Rattle.std.specs.Prelude.{◌≡◌, ◌<◌, ◌≤ℤ◌, pos, negsuc, IfSome, IfOk, OnErr, Some};
 ghost use Rattle.std.specs.Prelude.{None, length, slice_get, slice_index};
-ghost use Rattle.mpi_cart.specs.Grids.{IsGrid, volume, coordinate, rank_named, shifted};
+ghost use Rattle.mpi_cart.specs.Grids.{IsGrid, grid_of, volume, coordinate, rank_named, shifted};
 ghost use Rattle.mpi_cart.specs.Laid.{strides_of, cell_at};
 
 use super::fault::BadCoord;
@@ -25,11 +25,11 @@ pub(crate) fn coordinate_of(size: u32, is_periodic: bool, number: i64) -> Option
 
 // The rank that numbers name.
 pub(crate) fn rank_from(dims: &[u32], periods: &[bool], numbers: &[i64]) -> Result<u32, BadCoord>
-    requires { IsGrid (record { dims = dims.now; periods = periods.now }) }
+    requires { IsGrid (grid_of dims.now periods.now) }
     ensures value { IfOk result
-        (λ r. rank_named (record { dims = dims.now; periods = periods.now }) numbers.now ≡ Some r) }
+        (λ r. rank_named (grid_of dims.now periods.now) numbers.now ≡ Some r) }
     ensures fault { OnErr result
-        (rank_named (record { dims = dims.now; periods = periods.now }) numbers.now ≡ None) }
+        (rank_named (grid_of dims.now periods.now) numbers.now ≡ None) }
     ensures below { IfOk result (λ r. r < volume dims.now) }
 {
     if numbers.len() != dims.len() {
@@ -66,13 +66,12 @@ pub(crate) fn moved_rank(
     displacement: i64,
 ) -> Option<u32>
     requires strides { strides.now ≡ strides_of dims.now }
-    requires grid { IsGrid (record { dims = dims.now; periods = periods.now }) }
+    requires grid { IsGrid (grid_of dims.now periods.now) }
     requires rank { rank < volume dims.now }
     requires dim { dim < length dims.now }
     requires least { negsuc 2147483648 ≤ℤ displacement }
     requires most { displacement ≤ℤ pos 2147483648 }
-    ensures value { result
-        ≡ shifted (record { dims = dims.now; periods = periods.now }) rank dim displacement }
+    ensures value { result ≡ shifted (grid_of dims.now periods.now) rank dim displacement }
     ensures below { IfSome result (λ q. q < volume dims.now) }
 {
     let c = coordinate_in(dims, strides, rank, dim);

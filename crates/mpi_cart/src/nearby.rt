@@ -1,6 +1,6 @@
 //! Neighbours by slots, and a table of them.
 ghost use Rattle.std.specs.Prelude.{◌≡◌, ◌<◌, ◌*◌, length, IfOk, IsErr, slice_get};
-ghost use Rattle.mpi_cart.specs.Grids.{IsGrid, volume, neighbour};
+ghost use Rattle.mpi_cart.specs.Grids.{IsGrid, grid_of, volume, neighbour};
 ghost use Rattle.mpi_cart.specs.Laid.{strides_of, IsTable};
 
 use super::cell::moved_rank;
@@ -20,9 +20,9 @@ pub(crate) fn neighbour_by(
     slot: u32,
 ) -> Option<u32>
     requires strides { strides.now ≡ strides_of dims.now }
-    requires grid { IsGrid (record { dims = dims.now; periods = periods.now }) }
+    requires grid { IsGrid (grid_of dims.now periods.now) }
     requires rank { rank < volume dims.now }
-    ensures { result ≡ neighbour (record { dims = dims.now; periods = periods.now }) rank slot }
+    ensures { result ≡ neighbour (grid_of dims.now periods.now) rank slot }
 {
     let dim = slot as usize / 2;
     if dim >= dims.len() {
@@ -43,10 +43,10 @@ pub(crate) fn table_of(
     size: u32,
 ) -> Result<Vec<Option<u32>>, AllocError>
     requires strides { strides.now ≡ strides_of dims.now }
-    requires grid { IsGrid (record { dims = dims.now; periods = periods.now }) }
+    requires grid { IsGrid (grid_of dims.now periods.now) }
     requires size { size ≡ volume dims.now }
     ensures made { IfOk result (λ table.
-        IsTable (record { dims = dims.now; periods = periods.now }) table.items) }
+        IsTable (grid_of dims.now periods.now) table.items) }
     ensures memory { IsErr result → 0 < length dims.now }
 {
     let slots = 2 * dims.len();

@@ -1,5 +1,5 @@
 -- Cells as elements, and what the loop over cells gives, place by place.
-use Rattle.std.specs.Prelude.{◌≡◌, List, [], ◌∷◌, ℤ, map, if◌then◌else◌}
+use Rattle.std.specs.Prelude.{◌≡◌, ℕ, ◌<◌, ◌≤◌, List, [], ◌∷◌, ℤ, map, if◌then◌else◌}
 use Rattle.wall_labels.specs.declared.op.Op.{Op}
 use Rattle.mpi_elems.specs.Operations.{keeps_first}
 use Rattle.mpi_elems.specs.Elements.{Element, single, pair}
@@ -23,6 +23,14 @@ Merges R [] ys zs = zs ≡ ys
 Merges R (x ∷ xs) [] zs = zs ≡ x ∷ xs
 Merges R (x ∷ xs) (y ∷ ys) (z ∷ zs) = R x y z × Merges R xs ys zs
 Merges R (x ∷ xs) (y ∷ ys) [] = ⊥
+
+-- where fewer are held than are merged in, there is room for these
+abbrev pub HasRoomFor : (len held room : ℕ) → Type 0
+HasRoomFor len held room = held < len → len ≤ room
+
+-- the room after so many were merged in is no less, and the same where as many were held
+abbrev pub KeepsRoom : (len held old new : ℕ) → Type 0
+KeepsRoom len held old new = (old ≤ new) × (len ≤ held → new ≡ old)
 
 abbrev pub better_pair : Op → ℤ × ℤ → ℤ × ℤ → ℤ × ℤ
 better_pair op p q = if keeps_first op p.0 p.1 q.0 q.1 then p else q

@@ -54,12 +54,15 @@ shown c = contents (kind_of c) (numbers_of (elements_in c)) (room_of c)
 abbrev pub AreFit : Cells → Type 0
 AreFit c = list_all (is_element_of (kind_of c)) (elements_in c) ≡ true
 
--- what cells show of a buffer in the making, whose last pair may lack its index
+-- the numbers of a buffer in the making, whose last pair may lack its index
+abbrev pub drafted : Cells → Option ℤ → List ℤ
+drafted c half = numbers_of (elements_in c) ++ option_to_list half
+
+-- what its cells show of it
 abbrev pub draft : Cells → Option ℤ → Contents
-draft c half = contents (kind_of c) (numbers_of (elements_in c) ++ option_to_list half) (room_of c)
+draft c half = contents (kind_of c) (drafted c half) (room_of c)
 
 -- each number is one of the type's, and only a pair can lack its index
 pub record IsDraft (c : Cells) (half : Option ℤ) : Type 0 where
-  pub of_type :
-      list_all (is_number_of (kind_of c)) (numbers_of (elements_in c) ++ option_to_list half) ≡ true
+  pub of_type : list_all (is_number_of (kind_of c)) (drafted c half) ≡ true
   pub no_half : is_pair (kind_of c) ≡ false → half ≡ None

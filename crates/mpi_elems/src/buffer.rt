@@ -174,9 +174,8 @@ impl Buffer {
         requires room { len ≤ self.old.room }
         requires allowed { is_allowed op self.old.elem_type ≡ true }
         ensures kind { self.new.elem_type ≡ self.old.elem_type }
-        ensures elements { elements self.new
-            ≡ merged (combine op self.old.elem_type) (elements self.old)
-            (slice_range (elements other.now) start (start + len)) }
+        ensures elements { elements self.new ≡ merged (combine op self.old.elem_type)
+            (elements self.old) (slice_range (elements other.now) start (start + len)) }
         ensures room { self.old.room ≤ self.new.room }
         ensures kept { len ≤ length (elements self.old) → self.new.room ≡ self.old.room }
         ensures fit { IsFit self.new }

@@ -8,7 +8,7 @@ ghost use Rattle.mpi_elems.specs.Elements.{numbers_of};
 ghost use Rattle.mpi_elems.specs.Loops.{singles, pairs};
 ghost use Rattle.mpi_elems.specs.Contents.{contents};
 ghost use Rattle.mpi_elems.specs.Faults.{fault_of};
-ghost use Rattle.mpi_elems.specs.Shown.{kind_of, elements_in, room_of};
+ghost use Rattle.mpi_elems.specs.Shown.{kind_of, elements_in, room_of, drafted};
 ghost use Rattle.mpi_elems.specs.declared.elem_type.ElemType.TheVariants.{TwoInt};
 
 use crate::cells::{Cells, room_for};
@@ -201,9 +201,8 @@ fn push(cells: &mut Cells, half: &mut Option<i32>, number: i128) -> bool
     requires no_half { is_pair (kind_of cells.old) ≡ false → half.old ≡ None }
     ensures accepted { result ≡ is_number_of (kind_of cells.old) number }
     ensures kind { kind_of cells.new ≡ kind_of cells.old }
-    ensures numbers { numbers_of (elements_in cells.new) ++ option_to_list half.new
-        ≡ (numbers_of (elements_in cells.old) ++ option_to_list half.old)
-        ++ (if result then number ∷ [] else []) }
+    ensures numbers { drafted cells.new half.new
+        ≡ drafted cells.old half.old ++ (if result then number ∷ [] else []) }
     ensures no_half { is_pair (kind_of cells.old) ≡ false → half.new ≡ None }
     ensures room { room_of cells.new ≡ room_of cells.old }
 {
@@ -228,9 +227,8 @@ fn push_small(cells: &mut Cells, half: &mut Option<i32>, number: i64) -> bool
     requires no_half { is_pair (kind_of cells.old) ≡ false → half.old ≡ None }
     ensures accepted { result ≡ is_number_of (kind_of cells.old) number }
     ensures kind { kind_of cells.new ≡ kind_of cells.old }
-    ensures numbers { numbers_of (elements_in cells.new) ++ option_to_list half.new
-        ≡ (numbers_of (elements_in cells.old) ++ option_to_list half.old)
-        ++ (if result then number ∷ [] else []) }
+    ensures numbers { drafted cells.new half.new
+        ≡ drafted cells.old half.old ++ (if result then number ∷ [] else []) }
     ensures no_half { is_pair (kind_of cells.old) ≡ false → half.new ≡ None }
     ensures room { room_of cells.new ≡ room_of cells.old }
 {

@@ -7,6 +7,7 @@ ghost use Rattle.mpi_elems.specs.Numbers.{is_number_of};
 ghost use Rattle.mpi_elems.specs.Operations.{is_allowed};
 ghost use Rattle.mpi_elems.specs.Elements.{elements_of, numbers_of, combine};
 ghost use Rattle.mpi_elems.specs.Lists.{merged};
+ghost use Rattle.mpi_elems.specs.Loops.{HasRoomFor, KeepsRoom};
 ghost use Rattle.mpi_elems.specs.Shown.{kind_of, elements_in, room_of};
 
 use crate::ElemType;
@@ -254,14 +255,12 @@ pub fn append_cells(to: &mut Cells, from: &Cells, start: usize, len: usize)
 pub fn merge_cells(op: Op, to: &mut Cells, from: &Cells, start: usize, len: usize)
     requires one_type { kind_of to.old ≡ kind_of from.now }
     requires within { start + len ≤ length (elements_in from.now) }
-    requires room { length (elements_in to.old) < len → len ≤ room_of to.old }
+    requires room { HasRoomFor len (length (elements_in to.old)) (room_of to.old) }
     requires allowed { is_allowed op (kind_of to.old) ≡ true }
     ensures kind { kind_of to.new ≡ kind_of to.old }
-    ensures elements { elements_in to.new
-        ≡ merged (combine op (kind_of to.old)) (elements_in to.old)
-        (slice_range (elements_in from.now) start (start + len)) }
-    ensures room { room_of to.old ≤ room_of to.new }
-    ensures kept { len ≤ length (elements_in to.old) → room_of to.new ≡ room_of to.old }
+    ensures elements { elements_in to.new ≡ merged (combine op (kind_of to.old))
+        (elements_in to.old) (slice_range (elements_in from.now) start (start + len)) }
+    ensures room { KeepsRoom len (length (elements_in to.old)) (room_of to.old) (room_of to.new) }
 {
     match to {
         Cells::I8(items) => match from {

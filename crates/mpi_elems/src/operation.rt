@@ -5,6 +5,7 @@ ghost use Rattle.mpi_elems.specs.Operations.{on_numbers, is_of_pairs};
 ghost use Rattle.mpi_elems.specs.Elements.{combine};
 ghost use Rattle.mpi_elems.specs.Lists.{merged};
 ghost use Rattle.mpi_elems.specs.Loops.{Combines, Merges, better_pair, singles, pairs};
+ghost use Rattle.mpi_elems.specs.Loops.{HasRoomFor, KeepsRoom};
 ghost use Rattle.mpi_elems.specs.declared.elem_type.ElemType.TheVariants.{TwoInt};
 ghost use Rattle.wall_labels.specs.declared.op.Op.TheVariants.{Max, Min, Sum, Prod, Land, Lor};
 ghost use Rattle.wall_labels.specs.declared.op.Op.TheVariants.{Lxor, Band, Bor, Bxor, Maxloc};
@@ -172,12 +173,10 @@ fn combine_each<T: Copy, O: Operation<T>>(firsts: &mut [T], seconds: &[T])
 /// Combines the cells at the places that both have, and appends what `seconds` has beyond them.
 /// Takes no memory.
 fn merge_each<T: Copy, O: Operation<T>>(firsts: &mut Vec<T>, seconds: &[T])
-    requires { vec_len firsts.old < length seconds.now →
-        length seconds.now ≤ vec_capacity firsts.old }
+    requires { HasRoomFor (length seconds.now) (vec_len firsts.old) (vec_capacity firsts.old) }
     ensures cells { Merges O.gives firsts.old.items seconds.now firsts.new.items }
-    ensures room { vec_capacity firsts.old ≤ vec_capacity firsts.new }
-    ensures kept { length seconds.now ≤ vec_len firsts.old →
-        vec_capacity firsts.new ≡ vec_capacity firsts.old }
+    ensures room { KeepsRoom (length seconds.now) (vec_len firsts.old) (vec_capacity firsts.old)
+        (vec_capacity firsts.new) }
 {
     let common = firsts.len().min(seconds.len());
     combine_each::<T, O>(firsts, &seconds[..common]);
@@ -189,14 +188,11 @@ fn merge_each<T: Copy, O: Operation<T>>(firsts: &mut Vec<T>, seconds: &[T])
 /// Merges numbers by an operation on numbers.
 fn merge_number_slice<T: Native>(op: Op, firsts: &mut Vec<T>, seconds: &[T])
     requires of_numbers { is_of_pairs op ≡ false }
-    requires room { vec_len firsts.old < length seconds.now →
-        length seconds.now ≤ vec_capacity firsts.old }
-    ensures elements { singles T.number firsts.new.items
-        ≡ merged (combine op T.kind) (singles T.number firsts.old.items)
-        (singles T.number seconds.now) }
-    ensures room { vec_capacity firsts.old ≤ vec_capacity firsts.new }
-    ensures kept { length seconds.now ≤ vec_len firsts.old →
-        vec_capacity firsts.new ≡ vec_capacity firsts.old }
+    requires room { HasRoomFor (length seconds.now) (vec_len firsts.old) (vec_capacity firsts.old) }
+    ensures elements { singles T.number firsts.new.items ≡ merged (combine op T.kind)
+        (singles T.number firsts.old.items) (singles T.number seconds.now) }
+    ensures room { KeepsRoom (length seconds.now) (vec_len firsts.old) (vec_capacity firsts.old)
+        (vec_capacity firsts.new) }
 {
     match op {
         Op::Max => merge_each::<T, ByMax>(firsts, seconds),
@@ -217,13 +213,11 @@ fn merge_number_slice<T: Native>(op: Op, firsts: &mut Vec<T>, seconds: &[T])
 /// Merges pairs by an operation on pairs.
 fn merge_pair_slice(op: Op, firsts: &mut Vec<(i32, i32)>, seconds: &[(i32, i32)])
     requires of_pairs { is_of_pairs op ≡ true }
-    requires room { vec_len firsts.old < length seconds.now →
-        length seconds.now ≤ vec_capacity firsts.old }
+    requires room { HasRoomFor (length seconds.now) (vec_len firsts.old) (vec_capacity firsts.old) }
     ensures elements { pairs firsts.new.items
         ≡ merged (combine op TwoInt) (pairs firsts.old.items) (pairs seconds.now) }
-    ensures room { vec_capacity firsts.old ≤ vec_capacity firsts.new }
-    ensures kept { length seconds.now ≤ vec_len firsts.old →
-        vec_capacity firsts.new ≡ vec_capacity firsts.old }
+    ensures room { KeepsRoom (length seconds.now) (vec_len firsts.old) (vec_capacity firsts.old)
+        (vec_capacity firsts.new) }
 {
     match op {
         Op::Maxloc => merge_each::<(i32, i32), ByMaxloc>(firsts, seconds),
@@ -242,14 +236,13 @@ pub fn merge_numbers<T: Native>(
 )
     requires of_numbers { is_of_pairs op ≡ false }
     requires within { start + len ≤ length (singles T.number from.now.items) }
-    requires room { length (singles T.number firsts.old.items) < len →
-        len ≤ vec_capacity firsts.old }
+    requires room { HasRoomFor len (length (singles T.number firsts.old.items))
+        (vec_capacity firsts.old) }
     ensures elements { singles T.number firsts.new.items
         ≡ merged (combine op T.kind) (singles T.number firsts.old.items)
         (slice_range (singles T.number from.now.items) start (start + len)) }
-    ensures room { vec_capacity firsts.old ≤ vec_capacity firsts.new }
-    ensures kept { len ≤ length (singles T.number firsts.old.items) →
-        vec_capacity firsts.new ≡ vec_capacity firsts.old }
+    ensures room { KeepsRoom len (length (singles T.number firsts.old.items))
+        (vec_capacity firsts.old) (vec_capacity firsts.new) }
 {
     merge_number_slice(op, firsts, &from[start..start + len]);
 }
@@ -264,13 +257,11 @@ pub fn merge_pairs(
 )
     requires of_pairs { is_of_pairs op ≡ true }
     requires within { start + len ≤ length (pairs from.now.items) }
-    requires room { length (pairs firsts.old.items) < len → len ≤ vec_capacity firsts.old }
-    ensures elements { pairs firsts.new.items
-        ≡ merged (combine op TwoInt) (pairs firsts.old.items)
-        (slice_range (pairs from.now.items) start (start + len)) }
-    ensures room { vec_capacity firsts.old ≤ vec_capacity firsts.new }
-    ensures kept { len ≤ length (pairs firsts.old.items) →
-        vec_capacity firsts.new ≡ vec_capacity firsts.old }
+    requires room { HasRoomFor len (length (pairs firsts.old.items)) (vec_capacity firsts.old) }
+    ensures elements { pairs firsts.new.items ≡ merged (combine op TwoInt)
+        (pairs firsts.old.items) (slice_range (pairs from.now.items) start (start + len)) }
+    ensures room { KeepsRoom len (length (pairs firsts.old.items)) (vec_capacity firsts.old)
+        (vec_capacity firsts.new) }
 {
     merge_pair_slice(op, firsts, &from[start..start + len]);
 }

@@ -1,9 +1,10 @@
 -- The devices of a command, before and after its use.
 use Rattle.std.specs.Prelude.{ℕ, List, Option}
-use Rattle.std.specs.Borrow.{MutBor}
+use Rattle.std.specs.Borrow.{Bor, MutBor}
 use Rattle.hall_script.specs.Devices.{Used, used}
 use Rattle.program_commands.specs.declared.devices.Devices.{Devices}
 use Rattle.program_commands.specs.declared.devices.Streams.{Streams}
+use Rattle.program_commands.specs.declared.report.Named.{Named}
 
 -- what a command's devices are at its return
 abbrev pub DevicesLeft : (P S O E : Type 0) → Type 0
@@ -44,3 +45,8 @@ out_stream failures bytes streams left = used failures bytes streams.out.now lef
 abbrev pub err_stream : {O E : Type 0} → (E → ℕ) → (E → Option (List ℕ)) → Streams O E
     → StreamsLeft O E → Used E
 err_stream failures bytes streams left = used failures bytes streams.err.now left.1.0.now
+
+-- the reader of a named file
+abbrev pub named_used : {D : Type 0} → (D → ℕ) → (D → Option (List ℕ)) → Named D
+    → MutBor D × (Bor (List ℕ) × Unit {0}) → Used D
+named_used failures bytes named left = used failures bytes named.device.now left.0.now

@@ -177,14 +177,12 @@ pub fn audit_after<P: Source, D: Source + Drop, B: Source, O: Sink, E: Sink>(
     devices: Devices<P, B, O, E>,
     earlier: Vec<Earlier<D>>,
 ) -> u8
-    ensures { EndsSo
-        (AuditAfterEnds
+    ensures { EndsSo (AuditAfterEnds
         (policy_used P.failures P.remaining devices.entry devices.exit)
         (earlier_books D.failures D.remaining earlier.entry.items)
         (subject_used B.failures B.remaining devices.entry devices.exit)
         (out_used O.failures O.contents devices.entry devices.exit))
-        (err_used E.failures E.contents devices.entry devices.exit)
-        result }
+        (err_used E.failures E.contents devices.entry devices.exit) result }
 {
     let Devices {
         policy,

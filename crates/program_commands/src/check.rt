@@ -276,8 +276,7 @@ fn check_devices<
 >(alloc: Global, policy: &mut P, files: CheckFiles<'a, S, B>, out: &mut O) -> Ending<'a>
     ensures { CheckEnds
         files.entry.policy_path.now files.entry.script_path.now files.entry.book_path.now
-        (used P.failures P.remaining policy.old policy.new)
-        (P.cause policy.new)
+        (used P.failures P.remaining policy.old policy.new) (P.cause policy.new)
         (if_any S.failures S.remaining S.cause files.entry.script)
         (if_any B.failures B.remaining B.cause files.entry.book)
         (used O.failures O.contents out.old out.new)
@@ -313,16 +312,13 @@ pub fn check_on<
     O: Sink,
     E: Sink,
 >(alloc: Global, policy: &mut P, files: CheckFiles<S, B>, streams: Streams<O, E>) -> u8
-    ensures { EndsSo
-        (CheckEnds
+    ensures { EndsSo (CheckEnds
         files.entry.policy_path.now files.entry.script_path.now files.entry.book_path.now
-        (used P.failures P.remaining policy.old policy.new)
-        (P.cause policy.new)
+        (used P.failures P.remaining policy.old policy.new) (P.cause policy.new)
         (if_any S.failures S.remaining S.cause files.entry.script)
         (if_any B.failures B.remaining B.cause files.entry.book)
         (out_stream O.failures O.contents streams.entry streams.exit))
-        (err_stream E.failures E.contents streams.entry streams.exit)
-        result }
+        (err_stream E.failures E.contents streams.entry streams.exit) result }
 {
     let Streams { out, err } = streams;
     let ending = check_devices(alloc, policy, files, out);

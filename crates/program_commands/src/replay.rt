@@ -157,15 +157,13 @@ pub fn replay_after<'d, P: Source, D: Source + Drop, S: Source, O: Sink, E: Sink
     earlier: Vec<Earlier<D>>,
     book: Option<&'d mut B>,
 ) -> u8
-    ensures { EndsSo
-        (ReplayAfterEnds
+    ensures { EndsSo (ReplayAfterEnds
         (policy_used P.failures P.remaining devices.entry devices.exit)
         (earlier_books D.failures D.remaining earlier.entry.items)
         (subject_used S.failures S.remaining devices.entry devices.exit)
         (out_used O.failures O.contents devices.entry devices.exit)
         (perhaps B.failures B.contents book.entry book.exit))
-        (err_used E.failures E.contents devices.entry devices.exit)
-        result }
+        (err_used E.failures E.contents devices.entry devices.exit) result }
 {
     let Devices {
         policy,

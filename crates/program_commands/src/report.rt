@@ -9,6 +9,7 @@ ghost use Rattle.program_commands.specs.Reporting.{ReportsEntries, ReportEnds, W
 ghost use Rattle.program_commands.specs.Reporting.{IsNoWallTold, IsNoBookTold, IsNoReading};
 ghost use Rattle.program_commands.specs.Reporting.{TellsFault, ReportsIfRead};
 ghost use Rattle.program_commands.specs.Using.{policy_used, subject_used, out_used, err_used};
+ghost use Rattle.program_commands.specs.Using.{named_used};
 
 use crate::audit::{BOOK_LIMIT, Finding, read_entries, tell};
 use crate::devices::Devices;
@@ -120,15 +121,13 @@ fn wall_told<'a, 'd, P: Source + Explains, D: Source + Explains + Drop>(
     policy: Named<'a, 'd, P>,
     earlier: Vec<Earlier<'a, D>>,
 ) -> Result<Policy, Ending<'a>>
-    ensures policy { let device =
-        used P.failures P.remaining policy.entry.device.now policy.exit.0.now in
-        let books = earlier_books D.failures D.remaining earlier.entry.items in
-        IfOk result (IsWallAfter device books) }
-    ensures ending { let device =
-        used P.failures P.remaining policy.entry.device.now policy.exit.0.now in
-        let books = earlier_books D.failures D.remaining earlier.entry.items in
-        IfErr result
-        (IsNoWallTold policy.entry.path.now (P.cause policy.exit.0.now) device D.cause books) }
+    ensures policy { IfOk result
+        (IsWallAfter (named_used P.failures P.remaining policy.entry policy.exit)
+        (earlier_books D.failures D.remaining earlier.entry.items)) }
+    ensures ending { IfErr result
+        (IsNoWallTold policy.entry.path.now (P.cause policy.exit.0.now)
+        (named_used P.failures P.remaining policy.entry policy.exit)
+        D.cause (earlier_books D.failures D.remaining earlier.entry.items)) }
 {
     let first = match read_wall(alloc, policy.device) {
         Ok(first) => first,
@@ -155,12 +154,11 @@ fn book_told<'a, 'd, B: Source + Explains>(
     wall: &Policy,
     book: Named<'a, 'd, B>,
 ) -> Result<Book, Ending<'a>>
-    ensures book { let device =
-        used B.failures B.remaining book.entry.device.now book.exit.0.now in
-        IfOk result (λ entries. IsBookOf wall.now device entries.list) }
-    ensures ending { let device =
-        used B.failures B.remaining book.entry.device.now book.exit.0.now in
-        IfErr result (IsNoBookTold wall.now book.entry.path.now (B.cause book.exit.0.now) device) }
+    ensures book { IfOk result (λ entries. IsBookOf wall.now
+        (named_used B.failures B.remaining book.entry book.exit) entries.list) }
+    ensures ending { IfErr result
+        (IsNoBookTold wall.now book.entry.path.now (B.cause book.exit.0.now)
+        (named_used B.failures B.remaining book.entry book.exit)) }
 {
     match read_entries(alloc, wall, book.device) {
         Ok(entries) => Ok(entries),
@@ -175,19 +173,17 @@ fn read_all<'a, 'd, P: Source + Explains, D: Source + Explains + Drop, B: Source
     earlier: Vec<Earlier<'a, D>>,
     book: Named<'a, 'd, B>,
 ) -> Result<Reading, Ending<'a>>
-    ensures wall { let device =
-        used P.failures P.remaining policy.entry.device.now policy.exit.0.now in
-        let books = earlier_books D.failures D.remaining earlier.entry.items in
-        IfOk result (λ reading. IsWallAfter device books reading.wall) }
-    ensures book { let device =
-        used B.failures B.remaining book.entry.device.now book.exit.0.now in
-        IfOk result (λ reading. IsBookOf reading.wall device reading.entries.list) }
+    ensures wall { IfOk result (λ reading. IsWallAfter
+        (named_used P.failures P.remaining policy.entry policy.exit)
+        (earlier_books D.failures D.remaining earlier.entry.items) reading.wall) }
+    ensures book { IfOk result (λ reading. IsBookOf reading.wall
+        (named_used B.failures B.remaining book.entry book.exit) reading.entries.list) }
     ensures ending { IfErr result (IsNoReading
         policy.entry.path.now (P.cause policy.exit.0.now)
-        (used P.failures P.remaining policy.entry.device.now policy.exit.0.now)
+        (named_used P.failures P.remaining policy.entry policy.exit)
         D.cause (earlier_books D.failures D.remaining earlier.entry.items)
         book.entry.path.now (B.cause book.exit.0.now)
-        (used B.failures B.remaining book.entry.device.now book.exit.0.now)) }
+        (named_used B.failures B.remaining book.entry book.exit)) }
 {
     let wall = match wall_told(alloc, policy, earlier) {
         Ok(wall) => wall,
@@ -278,15 +274,13 @@ pub fn report_on<
 ) -> u8
     ensures { let policy = policy_used P.failures P.remaining devices.entry devices.exit in
         let book = subject_used B.failures B.remaining devices.entry devices.exit in
-        EndsSo
-        (ReportEnds
+        EndsSo (ReportEnds
         files.entry.policy_path.now (P.cause policy.new) policy
         D.cause (earlier_books D.failures D.remaining files.entry.earlier.items)
         files.entry.book_path.now (B.cause book.new) book
         (out_used O.failures O.contents devices.entry devices.exit)
         (perhaps W.failures W.contents page.entry page.exit))
-        (err_used E.failures E.contents devices.entry devices.exit)
-        result }
+        (err_used E.failures E.contents devices.entry devices.exit) result }
 {
     let ReportFiles {
         policy_path,

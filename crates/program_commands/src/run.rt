@@ -319,15 +319,13 @@ pub fn run_after<'d, R, P: Source, D: Source + Drop, S: Source, O: Sink, E: Sink
 ) -> u8
 where
     R: Threads + Wait + Sync,
-    ensures { EndsSo
-        (RunAfterEnds
+    ensures { EndsSo (RunAfterEnds
         (policy_used P.failures P.remaining devices.entry devices.exit)
         (earlier_books D.failures D.remaining earlier.entry.items)
         (subject_used S.failures S.remaining devices.entry devices.exit)
         (out_used O.failures O.contents devices.entry devices.exit)
         (perhaps B.failures B.contents book.entry book.exit))
-        (err_used E.failures E.contents devices.entry devices.exit)
-        result }
+        (err_used E.failures E.contents devices.entry devices.exit) result }
 {
     let Devices {
         policy,

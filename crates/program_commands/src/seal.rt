@@ -128,15 +128,13 @@ pub fn seal_on<P: Source, D: Source + Drop, B: Source, W: Sink, O: Sink, E: Sink
     earlier: Vec<Earlier<D>>,
     sealed: &mut W,
 ) -> u8
-    ensures { EndsSo
-        (SealEnds
+    ensures { EndsSo (SealEnds
         (policy_used P.failures P.remaining devices.entry devices.exit)
         (earlier_books D.failures D.remaining earlier.entry.items)
         (subject_used B.failures B.remaining devices.entry devices.exit)
         (used W.failures W.contents sealed.old sealed.new)
         (out_used O.failures O.contents devices.entry devices.exit))
-        (err_used E.failures E.contents devices.entry devices.exit)
-        result }
+        (err_used E.failures E.contents devices.entry devices.exit) result }
 {
     let Devices {
         policy,

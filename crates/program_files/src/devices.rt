@@ -3,7 +3,7 @@ ghost use Rattle.std.specs.Prelude.{◌≡◌, ℕ, ◌+◌, ◌<◌, ◌≤◌,
 ghost use Rattle.std.specs.Prelude.{OnOk, OnErr, Ok, None, true, false};
 ghost use Rattle.std.specs.Fs.{new_options, with_write, with_create_new};
 ghost use Rattle.std.specs.Io.KnownBytes.{ReadConsumes, WriteAppends};
-ghost use Rattle.program_files.specs.Files.{bytes_of};
+ghost use Rattle.program_files.specs.Files.{bytes_of, IsOpened, IsMadeForBytes, TellsCause};
 
 use crate::cause::{Cause, Explains, cause_of};
 use std::fs::{File, OpenOptions};
@@ -71,8 +71,7 @@ fn read_opened<R: Files>(
     buffer: &mut [u8],
 ) -> io::Result<usize>
     ensures within { IfOk result (λ n. n ≤ length buffer.new) }
-    ensures opened { OnOk result (IsSome file.new) }
-    ensures stays { IsSome file.old → IsSome file.new }
+    ensures opened { IsOpened file.old file.new result }
     ensures bytes { let left = bytes_of R.File.remaining in
         ReadConsumes (left file.old) (left file.new) result buffer.new }
 {
@@ -100,11 +99,9 @@ impl<'a, R: Files, L: Ledger> Source for FileSource<'a, R, L> {
         ensures failed { OnErr result (self.new.failures ≡ self.old.failures + 1) }
         ensures bytes { let left = bytes_of R.File.remaining in
             ReadConsumes (left self.old.file) (left self.new.file) result buffer.new }
-        ensures opened { OnOk result (IsSome self.new.file) }
-        ensures stays { IsSome self.old.file → IsSome self.new.file }
+        ensures opened { IsOpened self.old.file self.new.file result }
         ensures path { self.new.path ≡ self.old.path }
-        ensures silent { OnOk result (self.new.cause ≡ self.old.cause) }
-        ensures told { OnErr result (IsSome self.new.cause) }
+        ensures cause { TellsCause self.old.cause self.new.cause result }
     {
         match read_opened(self.rt, self.path, &mut self.file, buffer) {
             Ok(n) => Ok(n),
@@ -157,8 +154,7 @@ impl<'a, R: Files> Source for ListedFile<'a, R> {
         ensures nothing { self.old.has_failed ≡ true →
             (result ≡ Ok 0) × (self.new.file ≡ self.old.file) }
         ensures path { self.new.path ≡ self.old.path }
-        ensures silent { OnOk result (self.new.cause ≡ self.old.cause) }
-        ensures told { OnErr result (IsSome self.new.cause) }
+        ensures cause { TellsCause self.old.cause self.new.cause result }
     {
         if self.has_failed {
             return Ok(0);
@@ -250,8 +246,7 @@ fn write_made<R: Files>(
     bytes: &[u8],
 ) -> io::Result<usize>
     ensures within { IfOk result (λ n. n ≤ length bytes.now) }
-    ensures made { OnOk result (IsSome file.new) }
-    ensures stays { IsSome file.old → IsSome file.new }
+    ensures made { IsOpened file.old file.new result }
     ensures bytes { let held = bytes_of R.File.contents in
         WriteAppends (held file.old) (held file.new) result bytes.now }
 {
@@ -280,10 +275,7 @@ impl<'a, R: Files, L: Ledger> Sink for FileSink<'a, R, L> {
         ensures failed { OnErr result (self.new.failures ≡ self.old.failures + 1) }
         ensures bytes { let held = bytes_of R.File.contents in
             WriteAppends (held self.old.file) (held self.new.file) result bytes.now }
-        ensures made { OnOk result (0 < length bytes.now → IsSome self.new.file) }
-        ensures stays { IsSome self.old.file → IsSome self.new.file }
-        ensures nothing { length bytes.now ≡ 0 →
-            (result ≡ Ok 0) × (self.new.file ≡ self.old.file) }
+        ensures made { IsMadeForBytes self.old.file self.new.file bytes.now result }
         ensures path { self.new.path ≡ self.old.path }
     {
         if bytes.is_empty() {
@@ -323,10 +315,7 @@ impl<'a, R: Files, L: Ledger> Sink for NewFileSink<'a, R, L> {
         ensures failed { OnErr result (self.new.failures ≡ self.old.failures + 1) }
         ensures bytes { let held = bytes_of R.File.contents in
             WriteAppends (held self.old.file) (held self.new.file) result bytes.now }
-        ensures made { OnOk result (0 < length bytes.now → IsSome self.new.file) }
-        ensures stays { IsSome self.old.file → IsSome self.new.file }
-        ensures nothing { length bytes.now ≡ 0 →
-            (result ≡ Ok 0) × (self.new.file ≡ self.old.file) }
+        ensures made { IsMadeForBytes self.old.file self.new.file bytes.now result }
         ensures path { self.new.path ≡ self.old.path }
     {
         if bytes.is_empty() {

@@ -1,6 +1,7 @@
 -- What a full constructor makes, by its communicator and what its members ask.
-use Rattle.std.specs.Prelude.{◌≡◌, ◌++◌, List, Bool, true, false, not, length, Option}
+use Rattle.std.specs.Prelude.{◌≡◌, ◌++◌, ℕ, List, Bool, true, false, not, length, slice_get, Option}
 use Rattle.std.specs.Prelude.{None, Some, is_none}
+use Rattle.std.specs.Option.{ForSome}
 use Rattle.mpi_comm.specs.declared.values.Ask.{Ask}
 use Rattle.mpi_comm.specs.Comms.{is_subgroup}
 use Rattle.mpi_comm.specs.declared.fault.CommFault.{CommFault}
@@ -33,6 +34,17 @@ is_faultless _ comm asks = true
 pub record Makes (new : List Comm) (old after : List Comm) (outcome : Outcome) : Type 0 where
   pub grown : after ≡ old ++ if_fit (length old) new
   pub told : outcome ≡ constructor_outcome (length old) new
+
+-- the constructor has been carried out on the communicator of this number: of its members are made
+-- the communicators that the function gives
+abbrev pub MakesOn : (old after : List Comm) → (comm : ℕ) → (Comm → List Comm) → Outcome → Type 0
+MakesOn old after comm made outcome =
+    ForSome (slice_get old comm) (λ found. Makes (made found) old after outcome)
+
+-- the communicator of this number has as many members as there are that ask
+abbrev pub IsAskedByAll : List Comm → (comm : ℕ) → List Ask → Type 0
+IsAskedByAll table comm asks =
+    ForSome (slice_get table comm) (λ found. length asks ≡ length found.members)
 
 -- the faults that such a constructor can still meet
 abbrev pub is_left : CommFault → Bool

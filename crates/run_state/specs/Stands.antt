@@ -12,8 +12,9 @@ use Rattle.run_model.specs.Posts.{Post, posts_on, kth_posts, roll_by, place, fil
 use Rattle.run_model.specs.Posts.{histories, outcome}
 use Rattle.run_state.specs.declared.entered.Entered.{Entered}
 use Rattle.run_state.specs.declared.entered.Entered.TheVariants.{Waiting, Settled}
-use Rattle.run_model.specs.Contributions.{Contribution, posts_of, kth_parts, full_in}
-use Rattle.run_state.specs.Views.{PostStateView}
+use Rattle.run_model.specs.Contributions.{Contribution, contribution, posts_of, kth_parts, full_in}
+use Rattle.run_state.specs.declared.seat.Seat.{Seat}
+use Rattle.run_state.specs.Views.{PostStateValue, PostStateView, view_of}
 
 -- how often the member of this rank has posted
 abbrev pub arrivals_as : Option ℕ → (c : ℕ) → List Post → ℕ
@@ -64,3 +65,12 @@ Tells wall g past (Settled full k o) =
     × (full_in (comms wall (posts_of past)) g.post.comm k (g ∷ past) ≡ Some full)
     × (outcome wall g.post (posts_of past) ≡ Some o)
     × IsFit full.roll
+
+-- This statement was entered at the seat with its part: a state that stood for some posts stands
+-- for those with this one, and this is told of it.
+abbrev pub Enters : {X : Type 0} → ChineseWall → (old new : PostStateValue X) → Seat → Stated → X →
+    Entered X → Type 0
+Enters {X} wall old new seat s part told = (past : List (Contribution X)) →
+    StandsForPosts wall (view_of old) past →
+    StandsForPosts wall (view_of new) (contribution seat.process seat.meeting.comm s part ∷ past)
+    × Tells wall (contribution seat.process seat.meeting.comm s part) past told

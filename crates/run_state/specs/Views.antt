@@ -1,27 +1,30 @@
 -- What contracts see of a state: look-ups, and what follows from them for the next post.
-use Rattle.std.specs.Prelude.{◌≡◌, ◌≢◌, ◌≤◌, ℕ, List, Bool, true, false, length, slice_get}
-use Rattle.std.specs.Prelude.{Option, Some, None, nat_lt, if◌then◌else◌}
+use Rattle.std.specs.Prelude.{◌≡◌, ◌≢◌, ◌≤◌, ℕ, List, Bool, true, false, not, length}
+use Rattle.std.specs.Prelude.{slice_get, Option, Some, None, nat_lt, if◌then◌else◌}
 use Rattle.std.specs.Option.{option_map}
 use Rattle.wall_policy.specs.Policy.{ChineseWall}
-use Rattle.wall_rules.specs.Histories.{Accesses}
+use Rattle.wall_rules.specs.Histories.{Accesses, has}
 use Rattle.mpi_elems.specs.declared.elem_type.ElemType.{ElemType}
 use Rattle.mpi_group.specs.Groups.{rank_in}
 use Rattle.coll_routes.specs.declared.signature.Signature.{Signature}
 use Rattle.coll_routes.specs.declared.statement.Own.{Own}
 use Rattle.coll_routes.specs.declared.fault.ShapeFault.{ShapeFault}
-use Rattle.coll_routes.specs.Faults.{shape_fault}
+use Rattle.coll_routes.specs.declared.statement.Stated.{Stated}
+use Rattle.coll_routes.specs.Faults.{shape_fault, stated_type}
 use Rattle.coll_routes.specs.Fit.{IsSound}
 use Rattle.coll_pending.specs.declared.arrival.Next.{Next}
 use Rattle.coll_pending.specs.declared.arrival.Next.TheVariants as nexts
 use Rattle.coll_pending.specs.Instances.{Instance, Communicator}
 use Rattle.coll_pending.specs.Waiting.{PendingView, State, view_of_pending, next, IsKnownAs}
 use Rattle.coll_pending.specs.Waiting.{IsMeetingOf}
+use Rattle.wall_verdict.specs.Star.{star}
 use Rattle.run_model.specs.Comms.{Comm, processes, shape_of}
 use Rattle.run_model.specs.Refusals.{refused_for, or_else}
 use Rattle.run_model.specs.declared.refusal.Refusal.{Refusal}
 use Rattle.run_model.specs.declared.refusal.Refusal.TheVariants.{NoSuchProcess, NoSuchComm}
 use Rattle.run_model.specs.declared.refusal.Refusal.TheVariants.{NotMember, Mismatch}
 use Rattle.run_state.specs.declared.seat.Seat.{Seat}
+use Rattle.run_state.specs.declared.seat.Terms.{Terms}
 
 -- the value of a state in clauses
 pub record PostStateValue (X : Type 0) : Type 0 where
@@ -98,6 +101,22 @@ abbrev pub LookedAt : {X : Type 0} → PostStateView X → Seat → Signature �
     (given : ℕ) → Type 0
 LookedAt seen seat sig own ty given =
     LookedAmong seen.comms seen.waiting seat sig own ty given
+
+-- it finds this seat for a post of these terms
+abbrev pub IsSeatAmong : {X : Type 0} → List Comm → PendingView X → Terms → Seat → Type 0
+IsSeatAmong table waiting terms seat =
+    LookedAmong table waiting seat terms.sig.now terms.own.now terms.elem_type terms.given
+
+abbrev pub IsSeatOf : {X : Type 0} → PostStateView X → Terms → Seat → Type 0
+IsSeatOf seen terms seat = IsSeatAmong seen.comms seen.waiting terms seat
+
+-- it finds this seat for this statement
+abbrev pub IsSeatFor : {X : Type 0} → PostStateView X → Stated → Seat → Type 0
+IsSeatFor seen s seat = LookedAt seen seat s.sig s.own (stated_type s.sig) s.given
+
+-- the statement says whether the star rule bars it at this seat
+abbrev pub TellsIfBarred : Accesses → Stated → Seat → Type 0
+TellsIfBarred accesses s seat = s.barred ≡ not (star (has accesses) seat.process s.label)
 
 -- ## what is so of every state
 

@@ -2,12 +2,13 @@
 //!
 //! Each call makes room first; the table then takes all new groups or none, and after it nothing
 //! can fail.
-ghost use Rattle.std.specs.Prelude.{◌≡◌, ◌<◌, ◌≤◌, ◌+◌, ◌-◌, ◌++◌, ◌∷◌, [], ◌==◌, length, map};
+ghost use Rattle.std.specs.Prelude.{◌≡◌, ◌<◌, ◌≤◌, ◌+◌, ◌-◌, ◌++◌, ◌∷◌, [], ◌==◌, length};
 ghost use Rattle.std.specs.Prelude.{drop, replicate, slice_get, vec_capacity, IfOk, OnOk};
 ghost use Rattle.std.specs.Prelude.{OnErr, Some, None, true, false};
 ghost use Rattle.mpi_comm.specs.declared.table.TheConstants.{COMMUNICATOR_LIMIT};
 ghost use Rattle.mpi_comm.specs.declared.values.Made.{Made};
 ghost use Rattle.std.specs.List.{list_all};
+ghost use Rattle.std.specs.Option.{ForSome};
 ghost use Rattle.mpi_comm.specs.Comms.{dup_groups, create_groups, subset_groups, is_subgroup};
 ghost use Rattle.mpi_comm.specs.declared.fault.CommFault;
 ghost use Rattle.mpi_comm.specs.Splits.{split_groups, has_bad_colour};
@@ -16,7 +17,8 @@ ghost use Rattle.mpi_cart.specs.Faults.{first_fault};
 ghost use Rattle.run_model.specs.Comms.{Comm, with_grid, subgrids, grid_parts, new_comms_by};
 ghost use Rattle.run_model.specs.declared.outcome.Outcome;
 ghost use Rattle.run_state.specs.Laid.{AreLaid, laid};
-ghost use Rattle.run_state.specs.Making.{is_faultless, is_kept, is_left, Makes};
+ghost use Rattle.run_state.specs.Making.{is_faultless, is_kept, is_left, MakesOn, IsAskedByAll};
+ghost use Rattle.run_state.specs.Parts.{ranks_in};
 
 use crate::communicators::Communicators;
 use crate::parts::{grid_parts, numbers_below, part_of};
@@ -31,14 +33,12 @@ impl Communicators {
     /// Carries out a constructor that is full, and tells its outcome. Members ask by rank.
     #[tactic(auto, unfolding(run_model::specs::Comms::new_comms_by, crate::specs::Making::is_faultless))]
     pub fn make(&mut self, comm: u32, sig: &Signature, asks: &[Ask]) -> Result<Outcome, NoMemory>
-        requires asks { (found : Comm) → slice_get self.old comm ≡ Some found →
-            length asks.now ≡ length found.members }
+        requires asks { IsAskedByAll self.old comm asks.now }
         requires there { comm < length self.old }
-        requires faultless { (found : Comm) → slice_get self.old comm ≡ Some found →
-            is_faultless sig.now found asks.now ≡ true }
-        ensures made { IfOk result (λ outcome. (found : Comm) →
-            slice_get self.old comm ≡ Some found →
-            Makes (new_comms_by sig.now found asks.now) self.old self.new outcome) }
+        requires faultless { ForSome (slice_get self.old comm)
+            (λ found. is_faultless sig.now found asks.now ≡ true) }
+        ensures made { IfOk result (MakesOn self.old self.new comm
+            (λ found. new_comms_by sig.now found asks.now)) }
         ensures kept { OnErr result (self.new ≡ self.old) }
     {
         match sig {
@@ -59,9 +59,8 @@ impl Communicators {
     // A duplicate has the grid too.
     fn duplicate(&mut self, comm: u32) -> Result<Outcome, NoMemory>
         requires { comm < length self.old }
-        ensures made { IfOk result (λ outcome. (found : Comm) →
-            slice_get self.old comm ≡ Some found →
-            Makes (with_grid found.grid (dup_groups found.members)) self.old self.new outcome) }
+        ensures made { IfOk result (MakesOn self.old self.new comm
+            (λ found. with_grid found.grid (dup_groups found.members))) }
         ensures kept { OnErr result (self.new ≡ self.old) }
     {
         let shape = self.shape(comm).copy(self.alloc)?;
@@ -80,13 +79,10 @@ impl Communicators {
 
     fn split(&mut self, comm: u32, asks: &[Ask]) -> Result<Outcome, NoMemory>
         requires there { comm < length self.old }
-        requires asks { (found : Comm) → slice_get self.old comm ≡ Some found →
-            length asks.now ≡ length found.members }
+        requires asks { IsAskedByAll self.old comm asks.now }
         requires colours { has_bad_colour asks.now ≡ false }
-        ensures made { IfOk result (λ outcome. (found : Comm) →
-            slice_get self.old comm ≡ Some found →
-            Makes (with_grid None (split_groups asks.now found.members)) self.old self.new
-            outcome) }
+        ensures made { IfOk result (MakesOn self.old self.new comm
+            (λ found. with_grid None (split_groups asks.now found.members))) }
         ensures kept { OnErr result (self.new ≡ self.old) }
     {
         make_room(&self.table, &mut self.shapes)?;
@@ -101,12 +97,10 @@ impl Communicators {
 
     fn create(&mut self, comm: u32, ranks: &[u32]) -> Result<Outcome, NoMemory>
         requires there { comm < length self.old }
-        requires ranks { (found : Comm) → slice_get self.old comm ≡ Some found →
-            is_subgroup (length found.members) ranks.now ≡ true }
-        ensures made { IfOk result (λ outcome. (found : Comm) →
-            slice_get self.old comm ≡ Some found →
-            Makes (with_grid None (create_groups ranks.now found.members)) self.old self.new
-            outcome) }
+        requires ranks { ForSome (slice_get self.old comm)
+            (λ found. is_subgroup (length found.members) ranks.now ≡ true) }
+        ensures made { IfOk result (MakesOn self.old self.new comm
+            (λ found. with_grid None (create_groups ranks.now found.members))) }
         ensures kept { OnErr result (self.new ≡ self.old) }
     {
         make_room(&self.table, &mut self.shapes)?;
@@ -122,13 +116,11 @@ impl Communicators {
     // A grid lies over the lowest ranks.
     fn lay_grid(&mut self, comm: u32, dims: &[u32], periods: &[bool]) -> Result<Outcome, NoMemory>
         requires there { comm < length self.old }
-        requires dims { (found : Comm) → slice_get self.old comm ≡ Some found →
-            first_fault dims.now periods.now (length found.members) ≡ None }
-        ensures made { IfOk result (λ outcome. (found : Comm) →
-            slice_get self.old comm ≡ Some found →
-            Makes (with_grid (Some (record { dims = dims.now; periods = periods.now }))
-            (subset_groups (below (volume dims.now) ∷ []) found.members)) self.old self.new
-            outcome) }
+        requires dims { ForSome (slice_get self.old comm)
+            (λ found. first_fault dims.now periods.now (length found.members) ≡ None) }
+        ensures made { IfOk result (MakesOn self.old self.new comm
+            (λ found. with_grid (Some (record { dims = dims.now; periods = periods.now }))
+            (subset_groups (below (volume dims.now) ∷ []) found.members))) }
         ensures kept { OnErr result (self.new ≡ self.old) }
     {
         let size = self.group(comm).size();
@@ -140,11 +132,10 @@ impl Communicators {
     // A grid for each value of the coordinates that are not kept.
     fn cut_grid(&mut self, comm: u32, keep: &[bool]) -> Result<Outcome, NoMemory>
         requires there { comm < length self.old }
-        requires keep { (found : Comm) → slice_get self.old comm ≡ Some found →
-            is_kept keep.now found.grid ≡ true }
-        ensures made { IfOk result (λ outcome. (found : Comm) →
-            slice_get self.old comm ≡ Some found →
-            Makes (subgrids found.grid keep.now found.members) self.old self.new outcome) }
+        requires keep { ForSome (slice_get self.old comm)
+            (λ found. is_kept keep.now found.grid ≡ true) }
+        ensures made { IfOk result (MakesOn self.old self.new comm
+            (λ found. subgrids found.grid keep.now found.members)) }
         ensures kept { OnErr result (self.new ≡ self.old) }
     {
         let Some(grid) = &self.shape(comm).grid else {
@@ -160,14 +151,11 @@ impl Communicators {
         requires there { comm < length self.old }
         requires sizes { list_all (λ list. length list.items == volume grid.now.dims) lists.now
             ≡ true }
-        requires ranks { (found : Comm) → slice_get self.old comm ≡ Some found →
-            list_all (is_subgroup (length found.members)) (map (λ list. list.items) lists.now)
-            ≡ true }
-        ensures made { IfOk result (λ outcome. (found : Comm) →
-            slice_get self.old comm ≡ Some found →
-            Makes (with_grid (Some grid.now)
-            (subset_groups (map (λ list. list.items) lists.now) found.members)) self.old self.new
-            outcome) }
+        requires ranks { ForSome (slice_get self.old comm)
+            (λ found. list_all (is_subgroup (length found.members)) (ranks_in lists.now) ≡ true) }
+        ensures made { IfOk result (MakesOn self.old self.new comm
+            (λ found. with_grid (Some grid.now)
+            (subset_groups (ranks_in lists.now) found.members))) }
         ensures kept { OnErr result (self.new ≡ self.old) }
     {
         let grids = copies(self.alloc, grid, lists.len())?;
@@ -279,8 +267,7 @@ fn laid_grid(alloc: Global, dims: &[u32], periods: &[bool], size: u32) -> Result
 
 // One list, of the numbers below this one.
 fn lowest(alloc: Global, number: u32) -> Result<Vec<Vec<u32>>, NoMemory>
-    ensures lists { IfOk result
-        (λ lists. map (λ list. list.items) lists.items ≡ below number ∷ []) }
+    ensures lists { IfOk result (λ lists. ranks_in lists.items ≡ below number ∷ []) }
 {
     let ranks = numbers_below(alloc, number)?;
     let mut lists = Vec::with_capacity(alloc, 1)?;

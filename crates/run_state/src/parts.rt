@@ -4,7 +4,7 @@ ghost use Rattle.std.specs.Prelude.{IfOk};
 ghost use Rattle.std.specs.List.{items_where_true};
 ghost use Rattle.mpi_cart.specs.Grids.{below, volume, coords, kept, same_list};
 ghost use Rattle.run_model.specs.Comms.{grid_parts};
-ghost use Rattle.run_state.specs.Parts.{apart_of};
+ghost use Rattle.run_state.specs.Parts.{apart_of, ranks_in};
 
 use mpi_cart::{Grid, GridFault};
 use std::alloc::Global;
@@ -26,8 +26,7 @@ pub fn numbers_below(alloc: Global, number: u32) -> Result<Vec<u32>, NoMemory>
 /// them.
 pub fn grid_parts(alloc: Global, grid: &Grid, keep: &[bool]) -> Result<Vec<Vec<u32>>, NoMemory>
     requires { length keep.now ≡ length grid.now.dims }
-    ensures { IfOk result
-        (λ lists. map (λ list. list.items) lists.items ≡ grid_parts grid.now keep.now) }
+    ensures { IfOk result (λ lists. ranks_in lists.items ≡ grid_parts grid.now keep.now) }
 {
     let gone = others(alloc, keep)?;
     let apart = part_of(alloc, grid, &gone)?;
@@ -78,7 +77,7 @@ fn coordinates(alloc: Global, grid: &Grid, rank: u32) -> Result<Vec<u32>, NoMemo
 // For each rank its coordinates in the dimensions of which the list says true.
 fn all_apart(alloc: Global, grid: &Grid, gone: &[bool]) -> Result<Vec<Vec<u32>>, NoMemory>
     requires { length gone.now ≡ length grid.now.dims }
-    ensures { IfOk result (λ lists. map (λ list. list.items) lists.items
+    ensures { IfOk result (λ lists. ranks_in lists.items
         ≡ map (apart_of grid.now gone.now) (below (volume grid.now.dims))) }
 {
     let mut lists = Vec::with_capacity(alloc, grid.size() as usize)?;

@@ -1,10 +1,9 @@
 //! The counted posts so far, in the parts that go on from them.
-ghost use Rattle.std.specs.Prelude.{◌≡◌, ◌<◌, ◌≤◌, ◌^◌, ◌∷◌, [], List, not, length, slice_get};
+ghost use Rattle.std.specs.Prelude.{◌≡◌, ◌<◌, ◌≤◌, ◌^◌, [], List, length, slice_get};
 ghost use Rattle.std.specs.Prelude.{IfOk, IfErr, OnErr, Some};
 ghost use Rattle.std.specs.Result.{result_err};
 ghost use Rattle.wall_policy.specs.Policy.{ChineseWall};
 ghost use Rattle.wall_rules.specs.Histories.{has};
-ghost use Rattle.coll_routes.specs.Faults.{stated_type};
 ghost use Rattle.wall_verdict.specs.Star.{star};
 ghost use Rattle.run_model.specs.Comms.{Comm, shape_of};
 ghost use Rattle.run_model.specs.Posts.{histories, posts_on};
@@ -69,9 +68,10 @@ impl<X> Model for PostState<X> {
 }
 
 impl<X: Drop> PostState<X> {
-    ghost use Rattle.run_model.specs.Contributions.{Contribution, contribution, posts_of};
-    ghost use Rattle.run_state.specs.Views.{IsPostState, view_of, fault_of, LookedAt};
-    ghost use Rattle.run_state.specs.Stands.{StandsForPosts, Tells};
+    ghost use Rattle.run_model.specs.Contributions.{Contribution, posts_of};
+    ghost use Rattle.run_state.specs.Views.{IsPostState, view_of, fault_of, IsSeatOf, IsSeatFor};
+    ghost use Rattle.run_state.specs.Views.{TellsIfBarred};
+    ghost use Rattle.run_state.specs.Stands.{StandsForPosts, Enters};
 
     /// A state that stands for no post: the world alone, and each process with access to its home.
     /// `NoMemory` is answered only where a growth was refused.
@@ -143,8 +143,7 @@ impl<X: Drop> PostState<X> {
             terms.entry.sig.now terms.entry.own.now terms.entry.elem_type terms.entry.given }
         ensures process { IfOk result (λ seat. seat.process ≡ process) }
         ensures comm { IfOk result (λ seat. seat.meeting.comm ≡ comm) }
-        ensures looked { IfOk result (λ seat. LookedAt (view_of self.now) seat
-            terms.entry.sig.now terms.entry.own.now terms.entry.elem_type terms.entry.given) }
+        ensures looked { IfOk result (IsSeatOf (view_of self.now) terms.entry) }
         ensures place { IfOk result (λ seat. (past : List (Contribution X)) →
             StandsForPosts policy.now (view_of self.now) past →
             seat.meeting.k
@@ -172,18 +171,12 @@ impl<X: Drop> PostState<X> {
     /// Enters a post as a look found it, of an instance that waits for others too: it waits on.
     /// Takes no memory. At such a post `enter` does this too.
     pub fn join(&mut self, seat: Seat, stated: Stated, part: X)
-        requires looked { LookedAt (view_of self.old) seat stated.sig stated.own
-            (stated_type stated.sig) stated.given }
-        requires word { stated.barred
-            ≡ not (star (has self.old.accesses) seat.process stated.label) }
+        requires looked { IsSeatFor (view_of self.old) stated seat }
+        requires word { TellsIfBarred self.old.accesses stated seat }
         requires few { seat.meeting.k < 2 ^ 62 }
         requires joins { seat.meeting.does ≡ Joins }
-        ensures entered { (wall : ChineseWall) (past : List (Contribution X)) →
-            StandsForPosts wall (view_of self.old) past →
-            StandsForPosts wall (view_of self.new)
-            (contribution seat.process seat.meeting.comm stated part ∷ past)
-            × Tells wall (contribution seat.process seat.meeting.comm stated part) past
-            (Waiting seat.meeting.k) }
+        ensures entered { (wall : ChineseWall) →
+            Enters wall self.old self.new seat stated part (Waiting seat.meeting.k) }
         ensures classes { self.new.accesses.classes ≡ self.old.accesses.classes }
     {
         // Called for what is known of each group.
@@ -210,17 +203,10 @@ impl<X: Drop> PostState<X> {
         part: X,
     ) -> Result<Entered<X>, Unentered<X>>
         requires policy { self.old.accesses.classes ≡ policy.now.classes }
-        requires looked { LookedAt (view_of self.old) seat stated.sig stated.own
-            (stated_type stated.sig) stated.given }
-        requires word { stated.barred
-            ≡ not (star (has self.old.accesses) seat.process stated.label) }
+        requires looked { IsSeatFor (view_of self.old) stated seat }
+        requires word { TellsIfBarred self.old.accesses stated seat }
         requires few { seat.meeting.k < 2 ^ 62 }
-        ensures entered { IfOk result (λ entered. (past : List (Contribution X)) →
-            StandsForPosts policy.now (view_of self.old) past →
-            StandsForPosts policy.now (view_of self.new)
-            (contribution seat.process seat.meeting.comm stated part ∷ past)
-            × Tells policy.now (contribution seat.process seat.meeting.comm stated part) past
-            entered) }
+        ensures entered { IfOk result (Enters policy.now self.old self.new seat stated part) }
         ensures classes { self.new.accesses.classes ≡ self.old.accesses.classes }
         ensures unchanged { OnErr result (view_of self.new ≡ view_of self.old) }
         ensures back { IfErr result (λ refused. (refused.stated ≡ stated) × (refused.part ≡ part)) }

@@ -13,7 +13,7 @@ ghost use Rattle.coll_pending.specs.Waiting.{view_of_pending, HasRoom};
 ghost use Rattle.run_model.specs.Comms.{Comm, processes, ask_by, ask_in, asks};
 ghost use Rattle.run_model.specs.Posts.{outcome_of, with_delivery, by_verdict};
 ghost use Rattle.run_model.specs.Refusals.{refused_for};
-ghost use Rattle.run_state.specs.Views.{communicator_of, fault_among, LookedAmong};
+ghost use Rattle.run_state.specs.Views.{communicator_of, fault_among, IsSeatAmong};
 ghost use Rattle.run_state.specs.Views.{fault_after};
 ghost use Rattle.run_state.specs.Upcoming.{IsUpcoming, IsMade, is_last, asks_with};
 ghost use Rattle.run_state.specs.Upcoming.{stated_in, constructed};
@@ -82,9 +82,8 @@ pub fn look<X: Drop>(
         terms.entry.given }
     ensures process { IfOk result (λ seat. seat.process ≡ poster.process) }
     ensures comm { IfOk result (λ seat. seat.meeting.comm ≡ poster.comm) }
-    ensures looked { IfOk result (λ seat.
-        LookedAmong comms.now (view_of_pending pending.now) seat terms.entry.sig.now
-        terms.entry.own.now terms.entry.elem_type terms.entry.given) }
+    ensures looked { IfOk result
+        (IsSeatAmong comms.now (view_of_pending pending.now) terms.entry) }
 {
     let Poster {
         processes,

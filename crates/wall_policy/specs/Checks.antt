@@ -1,5 +1,5 @@
 -- What is asked of the names and numbers of a policy file. (Own rules.)
-use Rattle.std.specs.Prelude.{ℤ, pos, negsuc, Bool, true, false, ◌&&◌, ◌||◌, nat_le, List, length}
+use Rattle.std.specs.Prelude.{◌≡◌, ℤ, pos, negsuc, Bool, true, false, ◌&&◌, ◌||◌, nat_le, List, length}
 use Rattle.std.specs.Prelude.{map, Option, Some, None, is_some}
 use Rattle.std.specs.List.{list_all, flat_map}
 use Rattle.wall_labels.specs.Limits.{process_limit, dataset_limit, class_limit}
@@ -7,6 +7,7 @@ use Rattle.wall_labels.specs.Ops.{op_of}
 use Rattle.wall_policy.specs.Names.{Name, is_name, is_dataset_name, is_in, comes_twice}
 use Rattle.wall_policy.specs.Plain.{ClassText, RuleText, PolicyText}
 use Rattle.wall_policy.specs.Policy.{is_least, is_distinct}
+use Rattle.wall_policy.specs.declared.names.Tables.{Tables}
 
 abbrev pub is_named_class : ClassText → Bool
 is_named_class c = is_name c.name && list_all is_dataset_name c.datasets
@@ -17,6 +18,12 @@ has_good_names t = list_all is_named_class t.classes && list_all (λ p. is_name 
 -- the names of the datasets, through all classes
 abbrev pub dataset_names : List ClassText → List Name
 dataset_names cs = flat_map (λ c. c.datasets) cs
+
+-- the names that the text has, each kind in its order
+pub record AreNamesOf (tables : Tables) (t : PolicyText) : Type 0 where
+  pub classes : tables.class_names ≡ map (λ c. c.name) t.classes
+  pub datasets : tables.dataset_names ≡ dataset_names t.classes
+  pub processes : tables.process_names ≡ map (λ p. p.name) t.processes
 
 -- two classes, two datasets, two processes or two operations are written alike
 unfoldable pub has_repeats : PolicyText → Bool

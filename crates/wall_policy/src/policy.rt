@@ -86,11 +86,11 @@ impl Model for Policy {
 }
 
 impl Policy {
-    ghost use Rattle.std.specs.Prelude.{map, IfOk};
+    ghost use Rattle.std.specs.Prelude.{IfOk};
     ghost use Rattle.wall_policy.specs.Policy.{IsPolicy, is_version, class_of, home_of, least_of};
     ghost use Rattle.wall_policy.specs.Policy.{distinct_of, rival};
-    ghost use Rattle.wall_policy.specs.Checks.{dataset_names as dataset_names_of, has_good_names};
-    ghost use Rattle.wall_policy.specs.Checks.{has_repeats, has_good_leasts, is_small};
+    ghost use Rattle.wall_policy.specs.Checks.{AreNamesOf, has_good_names, has_repeats};
+    ghost use Rattle.wall_policy.specs.Checks.{has_good_leasts, is_small};
     ghost use Rattle.wall_policy.specs.Meaning.{wall_of};
 
     // The policy of a good record, with the tables of its names.
@@ -100,9 +100,7 @@ impl Policy {
         tables: Tables,
         text: &PolicyText,
     ) -> Result<Policy, AllocError>
-        requires classes { tables.class_names ≡ map (λ c. c.name) text.now.classes }
-        requires datasets { tables.dataset_names ≡ dataset_names_of text.now.classes }
-        requires processes { tables.process_names ≡ map (λ p. p.name) text.now.processes }
+        requires names { AreNamesOf tables text.now }
         requires some_process { 1 ≤ length text.now.processes }
         requires good_names { has_good_names text.now ≡ true }
         requires distinct { has_repeats text.now ≡ false }

@@ -5,7 +5,7 @@ ghost use Rattle.std.specs.Str.{IsUtf8};
 ghost use Rattle.toml.specs.View.{table_view};
 ghost use Rattle.wall_policy.specs.Checks.{dataset_names as dataset_names_of, has_good_names};
 ghost use Rattle.wall_policy.specs.Checks.{has_repeats, has_known_homes, has_known_ops};
-ghost use Rattle.wall_policy.specs.Checks.{has_good_leasts, is_small};
+ghost use Rattle.wall_policy.specs.Checks.{has_good_leasts, is_small, AreNamesOf};
 ghost use Rattle.wall_policy.specs.InTurn.{IsNoMemoryOr, judged, in_turn, of_tree, of_record};
 ghost use Rattle.wall_policy.specs.Answer.{Gives, Refuses, answer_to, key_fault, tree_of};
 ghost use Rattle.wall_policy.specs.Meaning.{wall_of};
@@ -49,12 +49,7 @@ fn has_repeated_rule(alloc: Global, rules: &[RuleText]) -> Result<bool, AllocErr
 fn tables_of(alloc: Global, text: &PolicyText) -> Result<Option<Tables>, AllocError>
     ensures repeats { IfOk result (λ found.
         MatchOption found (has_repeats text.now ≡ true) (λ _. has_repeats text.now ≡ false)) }
-    ensures classes { IfOk result
-        (λ found. IfSome found (λ t. t.class_names ≡ map (λ c. c.name) text.now.classes)) }
-    ensures datasets { IfOk result
-        (λ found. IfSome found (λ t. t.dataset_names ≡ dataset_names_of text.now.classes)) }
-    ensures processes { IfOk result
-        (λ found. IfSome found (λ t. t.process_names ≡ map (λ p. p.name) text.now.processes)) }
+    ensures names { IfOk result (λ found. IfSome found (λ t. AreNamesOf t text.now)) }
 {
     if has_repeated_rule(alloc, text.rules())? {
         return Ok(None);

@@ -19,6 +19,7 @@ use Rattle.coll_routes.specs.declared.signature.Signature.TheVariants.{NeighborA
 use Rattle.coll_routes.specs.declared.signature.Signature.TheVariants.{NeighborAlltoall}
 use Rattle.coll_routes.specs.declared.signature.Signature.TheVariants.{NeighborAlltoallv}
 use Rattle.coll_routes.specs.declared.roll.Roll.{Roll}
+use Rattle.wall_verdict.specs.declared.case.Case.{Case}
 use Rattle.wall_verdict.specs.declared.inflow.Inflow.{Inflow}
 use Rattle.wall_verdict.specs.declared.collected.Collected.{Collected}
 use Rattle.coll_routes.specs.Rolls.{neighbour_in, label_of}
@@ -90,14 +91,18 @@ is_alike _ = false
 abbrev pub is_brought : (ℕ → Option ℕ) → (n d : ℕ) → Bool
 is_brought f n d = list_any (λ i. is_that (f i) d) (below n)
 
+-- among its rivals are all those of its datasets
+abbrev pub HasRivals : (classes : List ℕ) → Inflow → Type 0
+HasRivals classes v = (d e : ℕ) → contains v.datasets d ≡ true → are_rivals classes d e ≡ true →
+    contains v.rivals e ≡ true
+
 -- The ranks below n have brought this, where rank i brings f i: their number, how many different
 -- datasets, which ones, and among others all rivals of these.
 pub record IsInflow (classes : List ℕ) (f : ℕ → Option ℕ) (n : ℕ) (v : Inflow) : Type 0 where
   pub number : v.number ≡ count_by (λ i. is_some (f i)) (below n)
   pub different : v.different ≡ count_by (λ i. is_another (λ d. is_brought f i d) (f i)) (below n)
   pub datasets : (d : ℕ) → contains v.datasets d ≡ is_brought f n d
-  pub rivals : (d e : ℕ) → contains v.datasets d ≡ true → are_rivals classes d e ≡ true
-      → contains v.rivals e ≡ true
+  pub rivals : HasRivals classes v
 
 -- so far for receiver j: of the ranks below n
 abbrev pub IsTaken : List ℕ → Roll → (j n : ℕ) → Inflow → Type 0
@@ -126,8 +131,7 @@ pub record IsWhole (classes : List ℕ) (roll : Roll) (j : ℕ) (v : Inflow) : T
   pub number : is_neighbourly roll.sig ≡ false → v.number ≡ contributors roll j
   pub different : is_neighbourly roll.sig ≡ false → v.different ≡ different_datasets roll j
   pub datasets : (d : ℕ) → contains v.datasets d ≡ contributed roll j d
-  pub rivals : (d e : ℕ) → contains v.datasets d ≡ true → are_rivals classes d e ≡ true
-      → contains v.rivals e ≡ true
+  pub rivals : HasRivals classes v
 
 -- where ranks reach receivers alike, it serves each receiver whose end its ranks don't pass
 abbrev pub Serves : List ℕ → Roll → Inflow → Type 0
@@ -139,3 +143,6 @@ Serves classes roll v =
 pub record IsCollected (classes : List ℕ) (roll : Roll) (c : Collected) : Type 0 where
   pub serves : Serves classes roll c.inflow
   pub labels : IfSome c.labels (IsLabelled classes roll roll.shape.size)
+
+abbrev pub IsCollectedFor : Case → Collected → Type 0
+IsCollectedFor case c = IsCollected case.histories.now.classes case.roll.now c

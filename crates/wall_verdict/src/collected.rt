@@ -1,7 +1,7 @@
 //! What is collected of an instance on the way to its verdict. A grant goes on with it.
 ghost use Rattle.std.specs.Prelude.{ℕ, List};
 ghost use Rattle.coll_routes.specs.declared.roll.Roll as rolls;
-ghost use Rattle.wall_verdict.specs.Inflows.{IsCollected};
+ghost use Rattle.wall_verdict.specs.Inflows.{IsCollected, IsCollectedFor};
 
 use super::case::Case;
 use super::inflow::Inflow;
@@ -25,8 +25,8 @@ impl Collected {
 
     /// Takes the labels of all ranks.
     pub fn take_labels(&mut self, case: &Case<'_>)
-        requires { IsCollected case.now.histories.now.classes case.now.roll.now self.old }
-        ensures { IsCollected case.now.histories.now.classes case.now.roll.now self.new }
+        requires { IsCollectedFor case.now self.old }
+        ensures { IsCollectedFor case.now self.new }
     {
         self.labels = Some(Inflow::of_labels(case));
     }

@@ -6,10 +6,9 @@ ghost use Rattle.coll_routes.specs.Rolls.{places as places_of};
 ghost use Rattle.wall_rules.specs.Histories.{AddsRivals};
 ghost use Rattle.wall_verdict.specs.Charges.{charged};
 ghost use Rattle.wall_verdict.specs.Inflows.{start_of, end_of, is_alike, from_root, past_root};
-ghost use Rattle.wall_verdict.specs.Inflows.{past_other_root};
+ghost use Rattle.wall_verdict.specs.Inflows.{past_other_root, HasRivals};
 ghost use Rattle.wall_verdict.specs.Inflows.{all_at, from_slot, IsTaken, IsTakenFromSlots};
 ghost use Rattle.wall_verdict.specs.Inflows.{IsInflowOf, IsLabelled, IsWhole, Serves};
-ghost use Rattle.wall_policy.specs.Rivals.{are_rivals};
 
 use super::case::Case;
 use super::charge::{add_another, contribution, dataset_in, is_enough, label_of};
@@ -171,8 +170,7 @@ impl Inflow {
     fn add(&mut self, histories: &Histories, dataset: DatasetId)
         requires number { self.old.number < 2 ^ 32 - 1 }
         requires different { self.old.different < 2 ^ 32 - 1 }
-        requires rivals { (d e : ℕ) → sets.contains self.old.datasets d ≡ true →
-            are_rivals histories.now.classes d e ≡ true → sets.contains self.old.rivals e ≡ true }
+        requires rivals { HasRivals histories.now.classes self.old }
         ensures number { self.new.number ≡ self.old.number + 1 }
         ensures different { self.new.different
             ≡ self.old.different + (if sets.contains self.old.datasets dataset then 0 else 1) }

@@ -8,7 +8,7 @@ ghost use Rattle.coll_routes.specs.Rolls.{ranks, label_of, is_barred};
 ghost use Rattle.wall_verdict.specs.Verdicts.{meets, offends, first_barred, first_offence};
 ghost use Rattle.wall_verdict.specs.Verdicts.{stated_label};
 ghost use Rattle.wall_verdict.specs.Verdicts.{verdict};
-ghost use Rattle.wall_verdict.specs.Inflows.{IsWhole, IsCollected};
+ghost use Rattle.wall_verdict.specs.Inflows.{IsWhole, IsCollectedFor};
 ghost use Rattle.wall_verdict.specs.Meanings.{IsVerdict, MembersStayApart};
 ghost use Rattle.wall_verdict.specs.declared.verdict.Verdict.TheVariants.{Granted};
 
@@ -162,8 +162,7 @@ impl Case<'_> {
     /// labels, where these are at hand; else since no rank reaches it.
     fn is_spared(&self, to: u32, collected: &Collected) -> bool
         requires to { to < self.now.roll.now.shape.size }
-        requires collected { IsCollected self.now.histories.now.classes self.now.roll.now
-            collected.now }
+        requires collected { IsCollectedFor self.now collected.now }
         ensures { IsTrue result → find
             (meets self.now.histories.now.classes (has self.now.histories.now) self.now.roll.now to)
             (ranks self.now.roll.now) ≡ None }
@@ -177,14 +176,12 @@ impl Case<'_> {
     /// The lowest rank for which a dataset is charged to this one that meets a rival.
     fn offender(&self, to: u32, collected: &mut Collected) -> Option<u32>
         requires to { to < self.now.roll.now.shape.size }
-        requires collected { IsCollected self.now.histories.now.classes self.now.roll.now
-            collected.old }
+        requires collected { IsCollectedFor self.now collected.old }
         ensures least { result ≡ find
             (offends self.now.policy.now (has self.now.histories.now) self.now.roll.now to)
             (ranks self.now.roll.now) }
         ensures within { IfSome result (λ i. i < self.now.roll.now.shape.size) }
-        ensures collected { IsCollected self.now.histories.now.classes self.now.roll.now
-            collected.new }
+        ensures collected { IsCollectedFor self.now collected.new }
     {
         if self.is_spared(to, collected) {
             return None;
@@ -196,13 +193,11 @@ impl Case<'_> {
     /// The least pair of a receiver and a rank that offends. Behind the early receivers the labels
     /// of all ranks are at hand.
     fn least_offence(&self, collected: &mut Collected) -> Option<(u32, u32)>
-        requires collected { IsCollected self.now.histories.now.classes self.now.roll.now
-            collected.old }
+        requires collected { IsCollectedFor self.now collected.old }
         ensures least { result
             ≡ first_offence self.now.policy.now (has self.now.histories.now) self.now.roll.now }
         ensures within { IfSome result (λ pair. pair.0 < self.now.roll.now.shape.size) }
-        ensures collected { IsCollected self.now.histories.now.classes self.now.roll.now
-            collected.new }
+        ensures collected { IsCollectedFor self.now collected.new }
     {
         let early = early_receivers(self.roll);
         for to in 0..self.roll.shape.size {
@@ -220,14 +215,12 @@ impl Case<'_> {
     /// The verdict. What was collected on the way is at hand afterwards.
     #[tactic(auto, unfolding(crate::specs::Verdicts::verdict))]
     pub fn judge(&self, collected: &mut Collected) -> Verdict
-        requires { IsCollected self.now.histories.now.classes self.now.roll.now
-            collected.old }
+        requires { IsCollectedFor self.now collected.old }
         ensures verdict { result
             ≡ verdict self.now.policy.now (has self.now.histories.now) self.now.roll.now }
         ensures apart { result ≡ Granted →
             MembersStayApart self.now.policy.now (has self.now.histories.now) self.now.roll.now }
-        ensures collected { IsCollected self.now.histories.now.classes self.now.roll.now
-            collected.new }
+        ensures collected { IsCollectedFor self.now collected.new }
     {
         keep_apart(self.histories);
         if let Some(rank) = first_barred(self.roll) {

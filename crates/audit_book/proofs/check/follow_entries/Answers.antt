@@ -1,7 +1,7 @@
 use Rattle.std.proofs.Common.{◌≤◌, ◌++◌, ◌∷◌, [], length, take, None, sym, subst, ◌∙◌, arith}
 use Rattle.std.proofs.lemmas.Bool.{false≢true}
 use Rattle.std.proofs.lemmas.Option.{slice_get_within}
-use Rattle.audit_book.specs.Checks.{IsRight}
+use Rattle.audit_book.specs.Checks.{IsRight, StopsAtEntry}
 use Rattle.audit_book.proofs.StepLemmas.{right_begins, take_more, take_whole, bad_at, length_prefix}
 use Rattle.audit_book.proofs.StepLemmas.{settled_right, other_wrong}
 use Rattle.audit_book.proofs.check.follow_entries.Goals as goal
@@ -56,7 +56,9 @@ returns-in-Err-Wrong-clause-fault c =
       bad_at c.args.policy.now c.args.book.now.list c.loop-at.at c.get-entry.result.now
           c.get-entry.ensures.entry
           (right_begins c.args.policy.now c.loop-at.post_state before None right)
-          (λ begins. c.in-Err-Wrong.ensures.wrong c.in-Err-Wrong.field-0-is before right begins),
+          (λ begins. subst
+          (StopsAtEntry c.args.policy.now c.loop-at.post_state c.get-entry.result.now)
+          c.in-Err-Wrong.field-0-is c.in-Err-Wrong.ensures.stopped before right begins),
       omega (arith, low),
     )
 

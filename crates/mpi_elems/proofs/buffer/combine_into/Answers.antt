@@ -45,5 +45,5 @@ returns-clause-room c =
     let room = ap (λ (b : Contents). b.room) c.first.view_is in
     let same = c.requires.one_count in
     let all = c.count.ensures in
-    let kept = c.merge_cells.ensures.kept (omega arith) in
+    let kept = c.merge_cells.ensures.room.1 (omega arith) in
     omega arith

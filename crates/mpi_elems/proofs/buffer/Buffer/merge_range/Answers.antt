@@ -34,5 +34,5 @@ pub returns-clause-kept : goal.returns-clause-kept
 returns-clause-kept c = λ short.
     let first = ap length (elements_shown _ _ c.self.view_is) in
     let room = ap (λ (b : Contents). b.room) c.self.view_is in
-    let kept = c.merge_cells.ensures.kept (omega arith) in
+    let kept = c.merge_cells.ensures.room.1 (omega arith) in
     omega arith

@@ -9,9 +9,9 @@ unfolding wall_of
 invariant_of-result c =
     subst IsPolicy (λ i. record {
       version = sym c.version.ensures i;
-      class_names = sym c.requires.classes i;
-      dataset_names = (sym c.requires.datasets ∙ sym c.with_hints.ensures) i;
-      process_names = (sym c.requires.processes ∙ sym c.with_hints-2.ensures) i;
+      class_names = sym c.requires.names.classes i;
+      dataset_names = (sym c.requires.names.datasets ∙ sym c.with_hints.ensures) i;
+      process_names = (sym c.requires.names.processes ∙ sym c.with_hints-2.ensures) i;
       classes = sym c.in_ok-lists.ensures.classes i;
       homes = sym c.in_ok-lists.ensures.homes i;
       leasts = sym c.in_ok-lists.ensures.leasts i;
