@@ -16,6 +16,7 @@ pub mod FormLemmas
 pub mod PostLemmas
 pub mod NamedLemmas
 pub mod ApplyLemmas
+pub mod MachineLemmas
 pub mod DueLemmas
 pub mod BriefLemmas
 pub mod RunLemmas

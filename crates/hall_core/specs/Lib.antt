@@ -6,6 +6,7 @@ pub mod Invariant
 pub mod Ledgers
 pub mod Lending
 pub mod Looks
+pub mod Machines
 pub mod Moves
 pub mod Settling
 pub mod Sharing

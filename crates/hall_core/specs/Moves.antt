@@ -15,11 +15,14 @@ use Rattle.run_model.specs.declared.refusal.Refusal.TheVariants.{NoMemory, NoSuc
 use Rattle.run_model.specs.Comms.{Comm, processes, new_comms}
 use Rattle.run_state.specs.declared.entered.Entered.{Entered}
 use Rattle.run_state.specs.declared.entered.Entered.TheVariants.{Waiting, Settled}
+use Rattle.run_state.specs.declared.seat.Seat.{Seat}
+use Rattle.run_state.specs.Views.{LookedAt, view_of as seen}
 use Rattle.run_model.specs.declared.call.Act.{Act}
+use Rattle.run_model.specs.declared.call.Posting.{Posting}
 use Rattle.run_model.specs.declared.call.Act.TheVariants.{Take}
 use Rattle.run_model.specs.declared.reply.Reply.{Reply}
 use Rattle.run_model.specs.declared.reply.Reply.TheVariants.{Refused}
-use Rattle.run_model.specs.Runs.{after_entry, with_contribution, Effects, MakesNothing}
+use Rattle.run_model.specs.Runs.{after_entry, given_in, with_contribution, Effects, MakesNothing}
 use Rattle.run_model.specs.Replies.{info_on, reply_by, reply_by_outcome, IsAnswer, posts_made}
 use Rattle.hall_core.specs.declared.claims.Claim.{Claim}
 use Rattle.hall_core.specs.declared.claims.Claim.TheVariants.{Done, Ready}
@@ -72,6 +75,26 @@ pub record IsRecorded (old new : HallView) (p c : ℕ) (stated : Stated) (entere
   pub settled : IsSettledBy c entered old.settled new.settled
   pub book : new.book ≡ old.book ++ entries_of p c stated entered
 
+-- p is a process of the policy, and was given few requests
+pub record MayAsk (records : Records) (p : ℕ) : Type 0 where
+  pub process : p < processes records.policy
+  pub few : length (requests_of records.requests.items p) < 2 ^ 62
+
+-- A look found the seat for this post of p, who may be given a request.
+pub record IsSeatFor (records : Records) (p : ℕ) (posting : Posting) (seat : Seat) : Type 0 where
+  pub process : seat.process ≡ p
+  pub comm : seat.meeting.comm ≡ posting.comm
+  pub looked : LookedAt (seen records.post_state) seat posting.sig posting.own
+      posting.elements.elem_type (given_in posting)
+  pub may : MayAsk records seat.process
+
+-- what the recording of a post does not change: the policy, the entries of the book that are gone,
+-- and the state of the posts
+pub record KeepsPosts (old new : Records) : Type 0 where
+  pub policy : new.policy ≡ old.policy
+  pub gone : new.book.gone ≡ old.book.gone
+  pub post_state : new.post_state ≡ old.post_state
+
 -- there is room for a post of a process to instance k of communicator c, also in what counts its
 -- requests and those for the instance
 pub record HasRoom (records : Records) (p c k : ℕ) : Type 0 where
@@ -80,6 +103,13 @@ pub record HasRoom (records : Records) (p c k : ℕ) : Type 0 where
   pub place : HasPlace records.settled c k
   pub few : length (requests_of records.requests.items p) < 2 ^ 62
   pub few_open : open_at records.settled c k < 2 ^ 62
+
+-- what comes of instance k of communicator c can be recorded: a request waits for it, in its place,
+-- and the book has room
+pub record MaySettle (records : Records) (c k : ℕ) : Type 0 where
+  pub place : HasPlace records.settled c k
+  pub waits : 0 < open_at records.settled c k
+  pub entry : 0 < records.book.room
 
 -- a post with its part has been counted, whatever the hall stood for
 abbrev pub Counts : (old new : HallView) → Contribution Contents → Type 0

@@ -1,5 +1,5 @@
 //! A hall that lets go of the entries of its book.
-ghost use Rattle.std.specs.Prelude.{◌≡◌, ◌++◌, List, [], ◌∷◌, All, IfOk};
+ghost use Rattle.std.specs.Prelude.{◌≡◌, ◌++◌, List, [], All, IfOk};
 
 use crate::claims::Claim;
 use crate::records::Records;
@@ -41,12 +41,12 @@ impl Model for BriefHall {
 
 impl BriefHall {
     ghost use Rattle.run_model.specs.Books.{book};
-    ghost use Rattle.run_model.specs.PostLaws.{NobodyHoldsBoth};
-    ghost use Rattle.run_model.specs.Runs.{Entry, posts, effects, entry, MakesNothing};
-    ghost use Rattle.run_model.specs.Replies.{Legal};
-    ghost use Rattle.run_model.specs.Known.{HasKnownLabel, IsKnownReply, IsKnownEntry};
+    ghost use Rattle.run_model.specs.Runs.{Entry, posts, effects, entry};
+    ghost use Rattle.run_model.specs.Known.{HasKnownLabel, IsKnownEntry};
     ghost use Rattle.hall_core.specs.Halls.{StandsFor, view_of};
-    ghost use Rattle.hall_core.specs.Claims.{claim_reply, claim_entry, Claims, CanFinish};
+    ghost use Rattle.hall_core.specs.Claims.{to_take, claim_reply, claim_entry, Claims, CanFinish};
+    ghost use Rattle.hall_core.specs.Machines.{Stands, ForEachRun, Carries, KeepsApart};
+    ghost use Rattle.hall_core.specs.Machines.{RepliesWith};
     ghost use Rattle.hall_core.specs.Briefs.{Adds};
 
     /// A hall that stands for the empty run. `NoMemory` is answered only where a growth was
@@ -66,20 +66,12 @@ impl BriefHall {
     /// Applies one call, and answers it, as `Hall::apply` does. What it adds to the book is news.
     pub fn apply(&mut self, call: Call) -> Reply
         requires { HasKnownLabel self.old.hall.policy call.act }
-        ensures policy { self.new.hall.policy ≡ self.old.hall.policy }
-        ensures runs { (run : List Entry) → Legal self.old.hall.policy run →
-            StandsFor self.old.hall run →
-            Legal self.new.hall.policy (entry call result ∷ run)
-            × StandsFor self.new.hall (entry call result ∷ run) }
-        ensures apart { (run : List Entry) → Legal self.old.hall.policy run →
-            StandsFor self.old.hall run →
-            NobodyHoldsBoth self.new.hall.policy (posts (entry call result ∷ run)) }
-        ensures unchanged { MakesNothing result → view_of self.new.hall ≡ view_of self.old.hall }
-        ensures named { IsKnownReply self.new.hall.policy result }
+        ensures replies { RepliesWith self.old.hall self.new.hall result }
+        ensures carries { Carries Stands self.old.hall self.new.hall call result }
+        ensures apart { KeepsApart Stands self.old.hall (entry call result) }
         ensures gone { self.new.gone ≡ self.old.gone }
-        ensures news { (run : List Entry) → Legal self.old.hall.policy run →
-            StandsFor self.old.hall run →
-            Adds self.old.hall.policy run (entry call result) self.old.news self.new.news }
+        ensures news { ForEachRun Stands self.old.hall (λ wall run.
+            Adds wall run (entry call result) self.old.news self.new.news) }
     {
         let Call { process, act } = call;
         self.records.step(process, act)
@@ -88,24 +80,14 @@ impl BriefHall {
     /// The part of a take for which the hall is needed, as `Hall::claim`. It adds nothing to the
     /// book.
     pub fn claim(&mut self, process: u32, request: u64) -> Claim
-        ensures policy { self.new.hall.policy ≡ self.old.hall.policy }
-        ensures runs { (run : List Entry) → Legal self.old.hall.policy run →
-            StandsFor self.old.hall run →
-            Legal self.new.hall.policy (claim_entry process request result ∷ run)
-            × StandsFor self.new.hall (claim_entry process request result ∷ run) }
-        ensures apart { (run : List Entry) → Legal self.old.hall.policy run →
-            StandsFor self.old.hall run →
-            NobodyHoldsBoth self.new.hall.policy
-            (posts (claim_entry process request result ∷ run)) }
-        ensures claims { (run : List Entry) → Legal self.old.hall.policy run →
-            StandsFor self.old.hall run →
-            Claims self.old.hall.policy (effects run) process request result }
+        ensures replies { RepliesWith self.old.hall self.new.hall (claim_reply result) }
+        ensures carries { Carries Stands self.old.hall self.new.hall (to_take process request)
+            (claim_reply result) }
+        ensures apart { KeepsApart Stands self.old.hall (claim_entry process request result) }
+        ensures claims { ForEachRun Stands self.old.hall (λ wall run.
+            Claims wall (effects run) process request result) }
         ensures can { CanFinish result }
-        ensures unchanged { MakesNothing (claim_reply result) →
-            view_of self.new.hall ≡ view_of self.old.hall }
-        ensures named { IsKnownReply self.new.hall.policy (claim_reply result) }
-        ensures gone { self.new.gone ≡ self.old.gone }
-        ensures news { self.new.news ≡ self.old.news }
+        ensures same { self.new ≡ record self.old { hall = self.new.hall } }
     {
         self.records.claim(process, request)
     }

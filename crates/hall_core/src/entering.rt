@@ -1,7 +1,6 @@
 //! Posts: refused, or entered and recorded.
-ghost use Rattle.std.specs.Prelude.{◌≡◌, ◌<◌, ◌≤◌, ◌+◌, ◌^◌, ◌++◌, ◌==◌, ◌&&◌, if◌then◌else◌, ◌∷◌};
-ghost use Rattle.std.specs.Prelude.{[], ℕ, length, not, IfOk, OnOk, OnErr, IsTrue, IsFalse, Some};
-ghost use Rattle.std.specs.Prelude.{None};
+ghost use Rattle.std.specs.Prelude.{◌≡◌, ◌<◌, ◌^◌, ◌==◌, ◌&&◌, if◌then◌else◌, ℕ, not, IfOk, OnOk};
+ghost use Rattle.std.specs.Prelude.{OnErr, IsTrue, IsFalse, Some, None};
 ghost use Rattle.std.specs.Result.{result_err};
 ghost use Rattle.wall_rules.specs.Histories.{has};
 ghost use Rattle.coll_routes.specs.Faults.{stated_type};
@@ -10,7 +9,7 @@ ghost use Rattle.run_model.specs.Comms.{processes};
 ghost use Rattle.run_model.specs.Contributions.{contribution};
 ghost use Rattle.run_model.specs.EntryForms.{HasForm};
 ghost use Rattle.run_model.specs.Replies.{refusal};
-ghost use Rattle.run_model.specs.Runs.{given_in, Effects, MakesNothing};
+ghost use Rattle.run_model.specs.Runs.{Effects, MakesNothing};
 ghost use Rattle.run_model.specs.declared.call.Act.TheVariants.{Post as ToPost};
 ghost use Rattle.run_model.specs.declared.entry.Entry.TheVariants.{Posted as EntryPosted};
 ghost use Rattle.run_model.specs.declared.entry.Entry.TheVariants.{Settled as EntrySettled};
@@ -18,8 +17,10 @@ ghost use Rattle.run_state.specs.Views.{LookedAt, view_of as seen};
 ghost use Rattle.hall_core.specs.Asking.{requests_of, with_request};
 ghost use Rattle.hall_core.specs.Halls.{StandsForEffects};
 ghost use Rattle.hall_core.specs.Invariant.{IsHallView, Keeps, view_in};
-ghost use Rattle.hall_core.specs.Moves.{number_in, IsRecorded, HasRoom, Counts, Steps};
-ghost use Rattle.hall_core.specs.Settling.{HasPlace, open_at, settlement_at};
+ghost use Rattle.hall_core.specs.Ledgers.{AddsEntry};
+ghost use Rattle.hall_core.specs.Moves.{number_in, Counts, HasRoom, IsRecorded, IsSeatFor};
+ghost use Rattle.hall_core.specs.Moves.{KeepsPosts, MayAsk, MaySettle, Steps};
+ghost use Rattle.hall_core.specs.Settling.{open_at, settlement_at};
 
 use crate::instance::Instance;
 use crate::records::Records;
@@ -54,14 +55,7 @@ impl Records {
     fn seat_of(&self, process: u32, posting: &Posting) -> Result<Seat, Refusal>
         ensures first { (m : Effects) → StandsForEffects (view_in self.now) m →
             result_err result ≡ refusal self.now.policy m process posting.now }
-        ensures process { IfOk result (λ seat. seat.process ≡ process) }
-        ensures comm { IfOk result (λ seat. seat.meeting.comm ≡ posting.now.comm) }
-        ensures looked { IfOk result (λ seat. LookedAt (seen self.now.post_state) seat
-            posting.now.sig posting.now.own posting.now.elements.elem_type
-            (given_in posting.now)) }
-        ensures known { IfOk result (λ seat. seat.process < processes self.now.policy) }
-        ensures few { IfOk result (λ seat.
-            length (requests_of self.now.requests.items seat.process) < 2 ^ 62) }
+        ensures seat { IfOk result (IsSeatFor self.now process posting.now) }
     {
         let looked = self.post_state.look(
             &self.policy,
@@ -88,12 +82,7 @@ impl Records {
         requires hall { IsHallView (view_in self.old) }
         requires none { (m : Effects) → StandsForEffects (view_in self.old) m →
             refusal self.old.policy m seat.process posting ≡ None }
-        requires own { process ≡ seat.process }
-        requires comm { seat.meeting.comm ≡ posting.comm }
-        requires looked { LookedAt (seen self.old.post_state) seat posting.sig posting.own
-            posting.elements.elem_type (given_in posting) }
-        requires process { seat.process < processes self.old.policy }
-        requires few { length (requests_of self.old.requests.items seat.process) < 2 ^ 62 }
+        requires seat { IsSeatFor self.old process posting seat }
         ensures keeps { Keeps self.old self.new }
         ensures steps { Steps (view_in self.old) (view_in self.new) seat.process (ToPost posting)
             result }
@@ -126,12 +115,11 @@ impl Records {
     // changed, where memory runs out.
     fn enter(&mut self, seat: Seat, stated: Stated, part: Buffer) -> bool
         requires hall { IsHallView (view_in self.old) }
-        requires process { seat.process < processes self.old.policy }
+        requires may { MayAsk self.old seat.process }
         requires looked { LookedAt (seen self.old.post_state) seat stated.sig stated.own
             (stated_type stated.sig) stated.given }
         requires word { stated.barred
             ≡ not (star (has self.old.post_state.accesses) seat.process stated.label) }
-        requires few { length (requests_of self.old.requests.items seat.process) < 2 ^ 62 }
         requires form { HasForm (EntryPosted seat.process seat.meeting.comm stated) }
         ensures keeps { Keeps self.old self.new }
         ensures entered { IsTrue result → Counts (view_in self.old) (view_in self.new)
@@ -176,12 +164,10 @@ impl Records {
     // only where there was not all of it.
     #[tactic(auto, using(crate::proofs::CountLemmas::counted_ready, crate::proofs::CountLemmas::settled_same))]
     fn make_room(&mut self, process: u32, comm: u32, k: u64) -> Result<(), NoMemory>
-        requires process { process < processes self.old.policy }
-        requires few { length (requests_of self.old.requests.items process) < 2 ^ 62 }
+        requires may { MayAsk self.old process }
         requires low { k < 2 ^ 62 }
         requires few_open { open_at self.old.settled comm k < 2 ^ 62 }
-        ensures keeps { Keeps self.old self.new }
-        ensures post_state { self.new.post_state ≡ self.old.post_state }
+        ensures keeps { KeepsPosts self.old self.new }
         ensures same { view_in self.new ≡ view_in self.old }
         ensures room { OnOk result (HasRoom self.new process comm k) }
         ensures memory { HasRoom self.old process comm k → OnErr result ⊥ }
@@ -196,8 +182,7 @@ impl Records {
         requires process { member < processes self.old.policy }
         requires form { HasForm (EntryPosted member comm stated) }
         requires room { HasRoom self.old member comm (number_in entered) }
-        ensures keeps { Keeps self.old self.new }
-        ensures post_state { self.new.post_state ≡ self.old.post_state }
+        ensures keeps { KeepsPosts self.old self.new }
         ensures recorded { IsRecorded (view_in self.old) (view_in self.new) member comm stated
             entered }
     {
@@ -216,17 +201,14 @@ impl Records {
         requires process { member < processes self.old.policy }
         requires form { HasForm (EntryPosted member request.comm stated) }
         requires room { HasRoom self.old member request.comm request.k }
-        ensures keeps { Keeps self.old self.new }
-        ensures post_state { self.new.post_state ≡ self.old.post_state }
+        ensures keeps { KeepsPosts self.old self.new }
         ensures settled { (c j : ℕ) →
             settlement_at self.new.settled c j ≡ settlement_at self.old.settled c j }
-        ensures place { HasPlace self.new.settled request.comm request.k }
-        ensures waits { 0 < open_at self.new.settled request.comm request.k }
+        ensures may { MaySettle self.new request.comm request.k }
         ensures requests { requests_of self.new.requests.items
             ≡ with_request (requests_of self.old.requests.items) member request }
-        ensures book { self.new.book.list
-            ≡ self.old.book.list ++ EntryPosted member request.comm stated ∷ [] }
-        ensures room { self.new.book.room + 1 ≡ self.old.book.room }
+        ensures book { AddsEntry self.old.book self.new.book
+            (EntryPosted member request.comm stated) }
     {
         requests::push(&mut self.requests, member.number(), request);
         self.settled.join(request.comm, request.k);
@@ -239,18 +221,14 @@ impl Records {
 
     // Records the outcome of an instance.
     fn settle(&mut self, comm: u32, k: u64, settlement: Settlement)
-        requires place { HasPlace self.old.settled comm k }
-        requires waits { 0 < open_at self.old.settled comm k }
-        requires entry { 0 < self.old.book.room }
-        ensures keeps { Keeps self.old self.new }
-        ensures post_state { self.new.post_state ≡ self.old.post_state }
+        requires { MaySettle self.old comm k }
+        ensures keeps { KeepsPosts self.old self.new }
         ensures requests { self.new.requests ≡ self.old.requests }
         ensures settled { (d j : ℕ) → settlement_at self.new.settled d j
             ≡ (if d == comm && j == k then Some settlement
             else settlement_at self.old.settled d j) }
-        ensures book { self.new.book.list
-            ≡ self.old.book.list ++ EntrySettled comm k settlement.outcome ∷ [] }
-        ensures room { self.new.book.room + 1 ≡ self.old.book.room }
+        ensures book { AddsEntry self.old.book self.new.book
+            (EntrySettled comm k settlement.outcome) }
     {
         self.book.push(Entry::Settled {
             comm,

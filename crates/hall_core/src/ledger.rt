@@ -1,5 +1,5 @@
 //! The book of a run, of which the newest entries are kept.
-ghost use Rattle.std.specs.Prelude.{◌≡◌, ◌<◌, ◌≤◌, ◌+◌, [], ◌∷◌, ◌++◌, OnOk};
+ghost use Rattle.std.specs.Prelude.{◌≡◌, ◌<◌, ◌≤◌, [], ◌++◌, OnOk};
 ghost use Rattle.std.specs.Prelude.{OnErr};
 ghost use Rattle.run_model.specs.EntryForms.{HasForm};
 
@@ -40,6 +40,8 @@ impl Model for Ledger {
 }
 
 impl Ledger {
+    ghost use Rattle.hall_core.specs.Ledgers.{AddsEntry};
+
     /// No entries. Takes no memory.
     pub fn new(alloc: Global) -> Ledger
         ensures list { result.list ≡ [] }
@@ -65,9 +67,7 @@ impl Ledger {
     pub fn push(&mut self, entry: Entry)
         requires room { 0 < self.old.room }
         requires form { HasForm entry }
-        ensures added { self.new.list ≡ self.old.list ++ entry ∷ [] }
-        ensures gone { self.new.gone ≡ self.old.gone }
-        ensures room { self.new.room + 1 ≡ self.old.room }
+        ensures { AddsEntry self.old self.new entry }
     {
         self.kept.push(entry);
     }

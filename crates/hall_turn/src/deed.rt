@@ -7,7 +7,7 @@ ghost use Rattle.run_model.specs.Runs.{Entry, entry};
 ghost use Rattle.run_model.specs.Replies.{Legal};
 ghost use Rattle.hall_core.specs.Claims.{to_take, claim_reply};
 ghost use Rattle.run_model.specs.Known.{HasKnownLabel};
-ghost use Rattle.hall_turn.specs.Machines.{Carries, ClaimsAfter, TellsWhether};
+ghost use Rattle.hall_turn.specs.Machines.{Carries, ClaimsAfter, ForEachRun, TellsWhether};
 
 use crate::machine::{Applied, Machine};
 use hall_core::{Call, Claim, Reply};
@@ -33,8 +33,7 @@ pub(crate) trait Deed {
         requires { (wall : ChineseWall) × (run : List Entry)
             × Legal wall run × M.stands wall machine.old run × may wall self }
         ensures carries { Carries M.stands machine.old machine.new (call self) (reply result) }
-        ensures tells { (wall : ChineseWall) (run : List Entry) → Legal wall run
-            → M.stands wall machine.old run → tells wall run self result }
+        ensures tells { ForEachRun M.stands machine.old (λ wall run. tells wall run self result) }
         ensures settled { TellsWhether M.stands machine.old settled.new
             (entry (call self) (reply result)) };
 }

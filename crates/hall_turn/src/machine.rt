@@ -5,7 +5,7 @@ ghost use Rattle.run_model.specs.Runs.{Entry, entry};
 ghost use Rattle.run_model.specs.Replies.{Legal};
 ghost use Rattle.hall_core.specs.Claims.{to_take, claim_reply};
 ghost use Rattle.run_model.specs.Known.{HasKnownLabel};
-ghost use Rattle.hall_turn.specs.Machines.{Carries, ClaimsAfter, Stands, TellsWhether};
+ghost use Rattle.hall_turn.specs.Machines.{Carries, ClaimsAfter, ForEachRun, Stands, TellsWhether};
 ghost use Rattle.hall_turn.specs.Machines.{entries_of, is_always_booked};
 
 use hall_core::{Call, Claim, Hall, Reply};
@@ -42,8 +42,8 @@ pub trait Machine {
             × Legal wall run × stands wall self.old run }
         ensures carries { Carries stands self.old self.new (to_take process request)
             (claim_reply result) }
-        ensures claims { (wall : ChineseWall) (run : List Entry) → Legal wall run
-            → stands wall self.old run → ClaimsAfter wall run process request result };
+        ensures claims { ForEachRun stands self.old (λ wall run.
+            ClaimsAfter wall run process request result) };
 
     /// Whether all that it had to write down was written.
     fn is_booked(&self) -> bool

@@ -1,15 +1,13 @@
 //! The steps of a turn.
-ghost use Rattle.std.specs.Prelude.{◌≡◌, ◌+◌, ◌^◌, ◌<◌, ◌↔◌, List, [], true, false};
+ghost use Rattle.std.specs.Prelude.{◌≡◌, ◌+◌, ◌^◌, ◌<◌, ◌↔◌, [], true, false};
 ghost use Rattle.std.specs.Prelude.{IsTrue, Some, None, length};
 ghost use mathlib.Core.Option.{none};
 ghost use Rattle.atomic_table.specs.Table.{step};
-ghost use Rattle.wall_policy.specs.Policy.{ChineseWall};
-ghost use Rattle.run_model.specs.Runs.{Entry, entry};
-ghost use Rattle.run_model.specs.Replies.{Legal};
+ghost use Rattle.run_model.specs.Runs.{entry};
 ghost use Rattle.run_model.specs.Known.{IsKnownReply};
 ghost use Rattle.hall_turn.specs.Views.{maker_left, next_pass, noted, informed, declared, served};
 ghost use Rattle.hall_turn.specs.Views.{drawn};
-ghost use Rattle.hall_turn.specs.Machines.{Carries, Settles, TellsWhether};
+ghost use Rattle.hall_turn.specs.Machines.{Carries, ForEachRun, Settles, TellsWhether};
 ghost use Rattle.hall_turn.specs.Steps.{Looks, IsAt, IsIdle, IsNote, IsReady, HoldsMachine};
 ghost use Rattle.hall_turn.specs.Steps.{MayCarryOut, Turned, TellsAfter, CanMake};
 
@@ -56,8 +54,8 @@ fn carry_out_in<M: Machine, D: Deed>(
         × MayCarryOut M.stands machine (λ wall. D.may wall deed) }
     ensures carries { (old : M) × (new : M) × (slot.old ≡ Some old) × (slot.new ≡ Some new)
         × Carries M.stands old new (D.call deed) (D.reply result) }
-    ensures tells { (old : M) (wall : ChineseWall) (run : List Entry) → slot.old ≡ Some old
-        → Legal wall run → M.stands wall old run → D.tells wall run deed result }
+    ensures tells { (old : M) → slot.old ≡ Some old
+        → ForEachRun M.stands old (λ wall run. D.tells wall run deed result) }
     ensures settled { (old : M) → slot.old ≡ Some old
         → TellsWhether M.stands old settled.new (entry (D.call deed) (D.reply result)) }
     ensures booked { (new : M) → slot.new ≡ Some new → booked.new ≡ M.is_booked new }
@@ -158,11 +156,7 @@ impl<M: Machine> Turns<M> {
         requires out { seat.old.me.0.out ≡ true }
         requires saying { J.entry ≡ entry (D.call deed.now.value) (D.reply told.now) }
         ensures at { IsAt seat.old seat.new }
-        ensures declares { seat.new.me
-            ≡ (
-              declared seat.old.me.0 (entry (D.call deed.now.value) (D.reply told.now)),
-              seat.old.me.1,
-            ) }
+        ensures declares { seat.new.me ≡ (declared seat.old.me.0 J.entry, seat.old.me.1) }
     {
         let _ = deed;
         let _ = told;

@@ -2,7 +2,7 @@
 use Rattle.std.proofs.Common.{◌≡◌, ◌+◌, ℕ, List, [], ◌∷◌, ◌++◌, length, refl, sym, ap, ◌∙◌, subst}
 use Rattle.std.proofs.Common.{Option, Some, None, append_assoc, length-append, arith, take, get_or}
 use Rattle.std.proofs.Common.{slice_get, eqb-true, eq-eqb}
-use Rattle.std.specs.Prelude.{◌↔◌, IfSome, IsTrue, nat_eq, unwrap_or}
+use Rattle.std.specs.Prelude.{◌↔◌, Err, IfErr, IfSome, IsTrue, Ok, OnOk, Result, nat_eq, unwrap_or}
 use Rattle.std.proofs.lemmas.List.{append-nil, take_more, flat_map_more}
 use Rattle.std.proofs.lemmas.Option.{slice_get_within, unwrap_or-slice_get}
 use Rattle.std.proofs.lemmas.Grind.{flat_map-append}
@@ -11,16 +11,19 @@ use Rattle.wall_labels.specs.Known.{AppendsPrefix}
 use Rattle.wall_labels.proofs.WallLabelsLemmas.{Appends-then}
 use Rattle.wall_policy.specs.Policy.{ChineseWall}
 use Rattle.run_model.specs.declared.entry.Entry.{Entry as BookEntry}
+use Rattle.run_model.specs.declared.reply.Reply.{Reply}
+use Rattle.run_model.specs.Known.{IsKnownReply}
 use Rattle.run_model.specs.Runs.{Entry}
 use Rattle.audit_book.specs.Text.{book_text, end_words, entry_lines, entry_words, header_words}
 use Rattle.audit_book.specs.Text.{line_of}
 use Rattle.hall_core.specs.Briefs.{Adds}
-use Rattle.hall_core.specs.Halls.{HallValue, StandsFor}
+use Rattle.hall_core.specs.Halls.{HallValue, HallView, StandsFor, view_of}
+use Rattle.hall_core.specs.Machines.{RepliesWith, Stands}
 use Rattle.hall_turn.specs.Machines.{Settles, entries_of}
 use Rattle.live_book.specs.declared.unbooked.Unbooked.{Unbooked}
 use Rattle.live_book.specs.Books.{IsBooked, IsCut, IsUnbooked, IsWritten, SinkValue}
 use Rattle.live_book.specs.Books.{StandsWithBook, book_of, text_so_far}
-use Rattle.live_book.specs.Writing.{Writes, WritesAll, WritesPrefix}
+use Rattle.live_book.specs.Writing.{TellsWritten, Writes, WritesAll, WritesPrefix}
 
 -- ## bytes
 
@@ -60,6 +63,21 @@ prefix_then a b c xs ys p q = (
   append_assoc xs q.0 q.1 ∙ ap (λ (t : List ℕ). xs ++ t) q.2,
   Appends-then a b c xs q.0 p q.3,
 )
+
+-- all of them were written, and then a call wrote nothing more
+pub told_then : (told : Result (Unit {0}) Unbooked) (old mid new : SinkValue) (bytes : List ℕ) →
+    WritesAll old mid bytes → OnOk told (new.failures ≡ mid.failures) →
+    IfErr told (λ fault. IsUnbooked fault mid.failures new.failures) →
+    Keeps mid.contents new.contents → TellsWritten told old new bytes
+told_then (Ok x) old mid new bytes all went fault keeps = record {
+  written = appends_kept old.contents mid.contents new.contents bytes all.written keeps;
+  went = went ∙ all.went;
+}
+told_then (Err f) old mid new bytes all went fault keeps = record {
+  prefix = whole_prefix old.contents new.contents bytes
+      (appends_kept old.contents mid.contents new.contents bytes all.written keeps);
+  is_fault = subst (λ (n : ℕ). IsUnbooked f n new.failures) all.went fault;
+}
 
 -- ## texts
 
@@ -157,43 +175,53 @@ written_still wall begun sink (Some fault) run e same is =
 -- ## calls
 
 -- what a hall stands for after a call, whose news were written or not
-pub stands_more : (old new : HallValue) (begun was is : SinkValue)
+pub stands_more : (wall : ChineseWall) (old new : HallValue) (begun was is : SinkValue)
     (before after : Option Unbooked) (run : List Entry) (e : Entry) (w : ChineseWall)
-    (olds news : List BookEntry) → olds ≡ [] → new.policy ≡ old.policy → w ≡ old.policy →
-    StandsFor new (e ∷ run) → Adds old.policy run e olds news →
-    Writes before after was is (entry_lines w news) →
-    StandsWithBook old.policy
-    (record { hall = old; begun = begun; sink = was; fault = before }) run →
-    StandsWithBook new.policy
-    (record { hall = new; begun = begun; sink = is; fault = after }) (e ∷ run)
-stands_more old new begun was is before after run e w olds news none same lines hall adds writes
+    (olds news : List BookEntry) → olds ≡ [] → w ≡ wall → Stands wall new (e ∷ run) →
+    Adds wall run e olds news → Writes before after was is (entry_lines w news) →
+    StandsWithBook wall (record { hall = old; begun = begun; sink = was; fault = before }) run →
+    StandsWithBook wall (record { hall = new; begun = begun; sink = is; fault = after }) (e ∷ run)
+stands_more wall old new begun was is before after run e w olds news none lines hall adds writes
     stands =
     let news_are : news ≡ adds.added =
     adds.news ∙ ap (λ (l : List BookEntry). l ++ adds.added) none in
     record {
-      policy = refl;
-      hall = hall;
-      book = subst (λ (v : ChineseWall). IsWritten v begun is after (e ∷ run)) (sym same)
-          (written_more old.policy begun run e adds.added adds.book was is before after
-          stands.book
+      policy = hall.0;
+      hall = hall.1;
+      book = written_more wall begun run e adds.added adds.book was is before after stands.book
           (subst (λ (bytes : List ℕ). Writes before after was is bytes)
-          (λ i. entry_lines (lines i) (news_are i)) writes));
+          (λ i. entry_lines (lines i) (news_are i)) writes);
     }
 
 -- and after a take
-pub stands_on : (old new : HallValue) (begun sink : SinkValue) (fault : Option Unbooked)
-    (run : List Entry) (e : Entry) → new.policy ≡ old.policy → StandsFor new (e ∷ run) →
-    book_of old.policy (e ∷ run) ≡ book_of old.policy run →
-    StandsWithBook old.policy
-    (record { hall = old; begun = begun; sink = sink; fault = fault }) run →
-    StandsWithBook new.policy
-    (record { hall = new; begun = begun; sink = sink; fault = fault }) (e ∷ run)
-stands_on old new begun sink fault run e same hall keeps stands = record {
-  policy = refl;
-  hall = hall;
-  book = subst (λ (v : ChineseWall). IsWritten v begun sink fault (e ∷ run)) (sym same)
-      (written_still old.policy begun sink fault run e keeps stands.book);
+pub stands_on : (wall : ChineseWall) (old new : HallValue) (begun sink : SinkValue)
+    (fault : Option Unbooked) (run : List Entry) (e : Entry) → Stands wall new (e ∷ run) →
+    book_of wall (e ∷ run) ≡ book_of wall run →
+    StandsWithBook wall (record { hall = old; begun = begun; sink = sink; fault = fault }) run →
+    StandsWithBook wall (record { hall = new; begun = begun; sink = sink; fault = fault }) (e ∷ run)
+stands_on wall old new begun sink fault run e hall keeps stands = record {
+  policy = hall.0;
+  hall = hall.1;
+  book = written_still wall begun sink fault run e keeps stands.book;
 }
+
+-- what a hall has replied stays so where it lets go of its news
+pub replies_still : (old mid new : HallValue) (got : Reply) → RepliesWith old mid got →
+    view_of new ≡ view_of mid → RepliesWith old new got
+replies_still old mid new got replies same =
+    let policy : new.policy ≡ mid.policy = ap (λ (v : HallView). v.policy) same in
+    record {
+      policy = policy ∙ replies.policy;
+      unchanged = λ makes. same ∙ replies.unchanged makes;
+      named = subst (λ (w : ChineseWall). IsKnownReply w got) (sym policy) replies.named;
+    }
+
+-- and it stands for what it stood for
+pub stands_still : (wall : ChineseWall) (mid new : HallValue) (run : List Entry) →
+    view_of new ≡ view_of mid → (StandsFor mid run → StandsFor new run) → Stands wall mid run →
+    Stands wall new run
+stands_still wall mid new run same by stands =
+    (ap (λ (v : HallView). v.policy) same ∙ stands.0, by stands.1)
 
 -- a fault stays
 pub sticks_by : (before after : Option Unbooked) (old new : SinkValue) (bytes : List ℕ) →
@@ -297,12 +325,14 @@ module _ (wall : ChineseWall) (begun old new : SinkValue) (run : List Entry) (n 
   abbrev end_line : List ℕ
   end_line = line_of (end_words n)
 
-  pub last_written : (before : Option Unbooked) →
-      (before ≡ None → n ≡ length (book_of wall run)) →
+  pub last_all : (before : Option Unbooked) → (before ≡ None → n ≡ length (book_of wall run)) →
       IsWritten wall begun old before run → Writes before None old new end_line →
-      Appends begun.contents new.contents (book_text wall (book_of wall run))
-  last_written None count is by = all_written wall begun old new run n (count refl) is by
-  last_written (Some fault) count is by = absurd (no_fault fault by.0)
+      WritesAll begun new (book_text wall (book_of wall run))
+  last_all None count is by = record {
+    written = all_written wall begun old new run n (count refl) is by;
+    went = by.went ∙ is.went;
+  }
+  last_all (Some fault) count is by = absurd (no_fault fault by.0)
     where
       no_fault : (fault : Unbooked) → None ≡ Some fault → ⊥
       no_fault fault h = cc
@@ -310,12 +340,21 @@ module _ (wall : ChineseWall) (begun old new : SinkValue) (run : List Entry) (n 
   pub last_prefix : (before : Option Unbooked) (fault : Unbooked) →
       (before ≡ None → n ≡ length (book_of wall run)) →
       IsWritten wall begun old before run → Writes before (Some fault) old new end_line →
-      AppendsPrefix begun.contents new.contents (book_text wall (book_of wall run))
-  last_prefix None fault count is by =
-      prefix_written wall begun old new run n (count refl) fault is by
+      WritesPrefix fault begun new (book_text wall (book_of wall run))
+  last_prefix None fault count is by = record {
+    prefix = prefix_written wall begun old new run n (count refl) fault is by;
+    is_fault = subst (λ (k : ℕ). IsUnbooked fault k new.failures) is.went by.is_fault;
+  }
   last_prefix (Some was) fault count is by =
-      subst (λ (s : SinkValue). AppendsPrefix begun.contents s.contents
-      (book_text wall (book_of wall run))) (sym by.1) (cut_prefix wall begun old run was is)
+      let same : was ≡ fault = cc (by.0) in
+      record {
+        prefix = subst (λ (s : SinkValue). AppendsPrefix begun.contents s.contents
+            (book_text wall (book_of wall run))) (sym by.1)
+            (cut_prefix wall begun old run was is);
+        is_fault = subst (λ (f : Unbooked). IsUnbooked f begun.failures new.failures) same
+            (subst (λ (s : SinkValue). IsUnbooked was begun.failures s.failures) (sym by.1)
+            is.is_fault);
+      }
 
 -- the entries that are gone are all of the run's book
 pub count_is : (wall w : ChineseWall) (run : List Entry) (gone news : List BookEntry) (n : ℕ) →

@@ -1,5 +1,5 @@
 -- What is written at one call.
-use Rattle.std.specs.Prelude.{◌≡◌, ℕ, List, Option, Some, None}
+use Rattle.std.specs.Prelude.{◌≡◌, ℕ, List, Option, Some, None, Result, Ok, Err}
 use Rattle.std.specs.Io.KnownBytes.{Appends}
 use Rattle.wall_labels.specs.Known.{AppendsPrefix}
 use Rattle.live_book.specs.declared.unbooked.Unbooked.{Unbooked}
@@ -23,6 +23,12 @@ pub record WritesAll (old new : SinkValue) (bytes : List ℕ) : Type 0 where
 pub record WritesPrefix (fault : Unbooked) (old new : SinkValue) (bytes : List ℕ) : Type 0 where
   pub prefix : AppendsPrefix old.contents new.contents bytes
   pub is_fault : IsUnbooked fault old.failures new.failures
+
+-- what a call says of it: all of them were, or a prefix, and why no more
+abbrev pub TellsWritten : {X : Type 0} → Result X Unbooked → (old new : SinkValue) → List ℕ →
+    Type 0
+TellsWritten (Ok x) old new bytes = WritesAll old new bytes
+TellsWritten (Err fault) old new bytes = WritesPrefix fault old new bytes
 
 -- Nothing is written where there was a fault, and the fault stays. Else all bytes are, or there is
 -- one now.

@@ -1,11 +1,8 @@
 //! A hall whose book is written while it runs.
-ghost use Rattle.std.specs.Prelude.{◌≡◌, ◌↔◌, ◌+◌, List, [], ◌∷◌, None, IfErr, IfOk, IfSome};
-ghost use Rattle.std.specs.Prelude.{IsTrue, OnErr, OnOk, length};
-ghost use Rattle.std.specs.Io.KnownBytes.{Appends, Keeps};
-ghost use Rattle.wall_labels.specs.Known.{AppendsPrefix};
-ghost use Rattle.audit_book.specs.Text.{book_text, end_words, entry_lines, header_words, line_of};
-ghost use Rattle.live_book.specs.Books.{IsUnbooked};
-ghost use Rattle.live_book.specs.Writing.{Writes, sink_value};
+ghost use Rattle.std.specs.Prelude.{◌≡◌, List, [], None, IfErr, IfOk, IfSome, IsTrue};
+ghost use Rattle.std.specs.Io.KnownBytes.{Keeps};
+ghost use Rattle.audit_book.specs.Text.{book_text, header_words, line_of};
+ghost use Rattle.live_book.specs.Writing.{TellsWritten, WritesPrefix, sink_value};
 
 use crate::begun::Begun;
 use crate::finished::{Finished, Unopened};
@@ -75,13 +72,11 @@ impl<B: BookSink, K: Begun> Model for BookedHall<B, K> {
 
 impl<B: BookSink, K: Begun> BookedHall<B, K> {
     ghost use Rattle.wall_policy.specs.Policy.{ChineseWall};
-    ghost use Rattle.run_model.specs.PostLaws.{NobodyHoldsBoth};
-    ghost use Rattle.run_model.specs.Runs.{Entry, MakesNothing, effects, entry, posts};
-    ghost use Rattle.run_model.specs.Replies.{Legal};
-    ghost use Rattle.run_model.specs.Known.{HasKnownLabel, IsKnownReply};
-    ghost use Rattle.hall_core.specs.Claims.{CanFinish, Claims, claim_entry, claim_reply};
-    ghost use Rattle.hall_core.specs.Halls.{view_of};
-    ghost use Rattle.hall_turn.specs.Machines.{Settles};
+    ghost use Rattle.run_model.specs.Runs.{Entry, effects, entry};
+    ghost use Rattle.run_model.specs.Known.{HasKnownLabel};
+    ghost use Rattle.hall_core.specs.Claims.{CanFinish, Claims, claim_entry, claim_reply, to_take};
+    ghost use Rattle.hall_core.specs.Machines.{Carries, ForEachRun, KeepsApart, RepliesWith};
+    ghost use Rattle.hall_turn.specs.Machines.{TellsWhether};
     ghost use Rattle.live_book.specs.Books.{StandsWithBook, book_of, is_all_booked};
 
     /// A hall that stands for the empty run, with the first line of its book written. Else the sink
@@ -91,10 +86,8 @@ impl<B: BookSink, K: Begun> BookedHall<B, K> {
         ensures stands { IfOk result (λ m. StandsWithBook policy m []) }
         ensures begun { IfOk result (λ m. m.begun ≡ K.begun) }
         ensures booked { IfOk result (λ m. IsTrue (is_all_booked m)) }
-        ensures fault { IfErr result (λ unopened.
-            IsUnbooked unopened.fault (B.failures sink) (B.failures unopened.sink)) }
-        ensures prefix { IfErr result (λ unopened.
-            AppendsPrefix (B.contents sink) (B.contents unopened.sink)
+        ensures cut { IfErr result (λ unopened. WritesPrefix unopened.fault K.begun
+            (sink_value B.contents B.lasting B.failures unopened.sink)
             (line_of (header_words policy.version))) }
     {
         let mut sink = sink;
@@ -132,20 +125,11 @@ impl<B: BookSink, K: Begun> BookedHall<B, K> {
     /// is written any more.
     pub fn apply(&mut self, call: Call) -> Applied
         requires { HasKnownLabel self.old.hall.policy call.act }
-        ensures policy { self.new.hall.policy ≡ self.old.hall.policy }
-        ensures runs { (run : List Entry) → Legal self.old.hall.policy run →
-            StandsWithBook self.old.hall.policy self.old run →
-            Legal self.new.hall.policy (entry call result.reply ∷ run)
-            × StandsWithBook self.new.hall.policy self.new (entry call result.reply ∷ run) }
-        ensures settled { (run : List Entry) → Legal self.old.hall.policy run →
-            StandsWithBook self.old.hall.policy self.old run →
-            (IsTrue result.settled ↔ Settles self.old.hall.policy run (entry call result.reply)) }
-        ensures apart { (run : List Entry) → Legal self.old.hall.policy run →
-            StandsWithBook self.old.hall.policy self.old run →
-            NobodyHoldsBoth self.new.hall.policy (posts (entry call result.reply ∷ run)) }
-        ensures unchanged { MakesNothing result.reply →
-            view_of self.new.hall ≡ view_of self.old.hall }
-        ensures named { IsKnownReply self.new.hall.policy result.reply }
+        ensures replies { RepliesWith self.old.hall self.new.hall result.reply }
+        ensures carries { Carries StandsWithBook self.old self.new call result.reply }
+        ensures settled { TellsWhether StandsWithBook self.old result.settled
+            (entry call result.reply) }
+        ensures apart { KeepsApart StandsWithBook self.old (entry call result.reply) }
         ensures begun { self.new.begun ≡ self.old.begun }
         ensures lasts { IsTrue result.settled → self.new.fault ≡ None →
             Keeps self.new.sink.lasting self.new.sink.contents }
@@ -162,26 +146,14 @@ impl<B: BookSink, K: Begun> BookedHall<B, K> {
     /// The part of a take for which the hall is needed, as `Hall::claim`. It adds nothing to the
     /// book, and nothing is written.
     pub fn claim(&mut self, process: u32, request: u64) -> Claim
-        ensures policy { self.new.hall.policy ≡ self.old.hall.policy }
-        ensures runs { (run : List Entry) → Legal self.old.hall.policy run →
-            StandsWithBook self.old.hall.policy self.old run →
-            Legal self.new.hall.policy (claim_entry process request result ∷ run)
-            × StandsWithBook self.new.hall.policy self.new
-            (claim_entry process request result ∷ run) }
-        ensures apart { (run : List Entry) → Legal self.old.hall.policy run →
-            StandsWithBook self.old.hall.policy self.old run →
-            NobodyHoldsBoth self.new.hall.policy
-            (posts (claim_entry process request result ∷ run)) }
-        ensures claims { (run : List Entry) → Legal self.old.hall.policy run →
-            StandsWithBook self.old.hall.policy self.old run →
-            Claims self.old.hall.policy (effects run) process request result }
+        ensures replies { RepliesWith self.old.hall self.new.hall (claim_reply result) }
+        ensures carries { Carries StandsWithBook self.old self.new (to_take process request)
+            (claim_reply result) }
+        ensures apart { KeepsApart StandsWithBook self.old (claim_entry process request result) }
+        ensures claims { ForEachRun StandsWithBook self.old (λ wall run.
+            Claims wall (effects run) process request result) }
         ensures can { CanFinish result }
-        ensures unchanged { MakesNothing (claim_reply result) →
-            view_of self.new.hall ≡ view_of self.old.hall }
-        ensures named { IsKnownReply self.new.hall.policy (claim_reply result) }
-        ensures begun { self.new.begun ≡ self.old.begun }
-        ensures sink { self.new.sink ≡ self.old.sink }
-        ensures fault { self.new.fault ≡ self.old.fault }
+        ensures same { self.new ≡ record self.old { hall = self.new.hall } }
     {
         self.hall.claim(process, request)
     }
@@ -203,17 +175,10 @@ impl<B: BookSink, K: Begun> BookedHall<B, K> {
     /// Writes the last line of the book, and gives the sink back. The whole text of the run's book
     /// was written then, or a prefix of it.
     pub fn finish(self) -> Finished<B>
-        ensures written { (wall : ChineseWall) (run : List Entry) → StandsWithBook wall self run →
-            OnOk result.written (Appends self.begun.contents (B.contents result.sink)
-            (book_text wall (book_of wall run))) }
-        ensures prefix { (wall : ChineseWall) (run : List Entry) → StandsWithBook wall self run →
-            OnErr result.written (AppendsPrefix self.begun.contents (B.contents result.sink)
-            (book_text wall (book_of wall run))) }
-        ensures fault { (wall : ChineseWall) (run : List Entry) → StandsWithBook wall self run →
-            IfErr result.written
-            (λ fault. IsUnbooked fault self.begun.failures (B.failures result.sink)) }
-        ensures went { (wall : ChineseWall) (run : List Entry) → StandsWithBook wall self run →
-            OnOk result.written (B.failures result.sink ≡ self.begun.failures) }
+        ensures { (wall : ChineseWall) (run : List Entry) → StandsWithBook wall self run →
+            TellsWritten result.written self.begun
+            (sink_value B.contents B.lasting B.failures result.sink)
+            (book_text wall (book_of wall run)) }
     {
         let BookedHall {
             hall,

@@ -1,5 +1,5 @@
 //! A hall that keeps no book.
-ghost use Rattle.std.specs.Prelude.{◌≡◌, ◌↔◌, List, [], ◌∷◌, IfOk, IsTrue};
+ghost use Rattle.std.specs.Prelude.{◌≡◌, [], IfOk};
 
 use hall_core::{BriefHall, Call, Claim, NoMemory};
 use hall_turn::Applied;
@@ -37,12 +37,12 @@ impl Model for BooklessHall {
 }
 
 impl BooklessHall {
-    ghost use Rattle.run_model.specs.Runs.{Entry, MakesNothing, effects, entry};
-    ghost use Rattle.run_model.specs.Replies.{Legal};
-    ghost use Rattle.run_model.specs.Known.{HasKnownLabel, IsKnownReply};
-    ghost use Rattle.hall_core.specs.Claims.{CanFinish, Claims, claim_entry, claim_reply};
-    ghost use Rattle.hall_core.specs.Halls.{StandsFor, view_of};
-    ghost use Rattle.hall_turn.specs.Machines.{Settles};
+    ghost use Rattle.run_model.specs.Runs.{effects, entry};
+    ghost use Rattle.run_model.specs.Known.{HasKnownLabel};
+    ghost use Rattle.hall_core.specs.Claims.{CanFinish, Claims, claim_entry, claim_reply, to_take};
+    ghost use Rattle.hall_core.specs.Halls.{StandsFor};
+    ghost use Rattle.hall_core.specs.Machines.{Carries, ForEachRun, KeepsApart, RepliesWith, Stands};
+    ghost use Rattle.hall_turn.specs.Machines.{TellsWhether};
 
     /// A hall that stands for the empty run. `NoMemory` is answered only where a growth was
     /// refused.
@@ -59,14 +59,10 @@ impl BooklessHall {
     /// Applies one call, as `Hall::apply` does, and says whether it settled an instance.
     pub fn apply(&mut self, call: Call) -> Applied
         requires { HasKnownLabel self.old.policy call.act }
-        ensures policy { self.new.policy ≡ self.old.policy }
-        ensures runs { (run : List Entry) → Legal self.old.policy run → StandsFor self.old run →
-            Legal self.new.policy (entry call result.reply ∷ run)
-            × StandsFor self.new (entry call result.reply ∷ run) }
-        ensures settled { (run : List Entry) → Legal self.old.policy run → StandsFor self.old run →
-            (IsTrue result.settled ↔ Settles self.old.policy run (entry call result.reply)) }
-        ensures unchanged { MakesNothing result.reply → view_of self.new ≡ view_of self.old }
-        ensures named { IsKnownReply self.new.policy result.reply }
+        ensures replies { RepliesWith self.old self.new result.reply }
+        ensures carries { Carries Stands self.old self.new call result.reply }
+        ensures settled { TellsWhether Stands self.old result.settled (entry call result.reply) }
+        ensures apart { KeepsApart Stands self.old (entry call result.reply) }
     {
         let reply = self.hall.apply(call);
         let settled = self.hall.news().len() == 2;
@@ -76,16 +72,13 @@ impl BooklessHall {
 
     /// The part of a take for which the hall is needed, as `Hall::claim`.
     pub fn claim(&mut self, process: u32, request: u64) -> Claim
-        ensures policy { self.new.policy ≡ self.old.policy }
-        ensures runs { (run : List Entry) → Legal self.old.policy run → StandsFor self.old run →
-            Legal self.new.policy (claim_entry process request result ∷ run)
-            × StandsFor self.new (claim_entry process request result ∷ run) }
-        ensures claims { (run : List Entry) → Legal self.old.policy run → StandsFor self.old run →
-            Claims self.old.policy (effects run) process request result }
+        ensures replies { RepliesWith self.old self.new (claim_reply result) }
+        ensures carries { Carries Stands self.old self.new (to_take process request)
+            (claim_reply result) }
+        ensures apart { KeepsApart Stands self.old (claim_entry process request result) }
+        ensures claims { ForEachRun Stands self.old (λ wall run.
+            Claims wall (effects run) process request result) }
         ensures can { CanFinish result }
-        ensures unchanged { MakesNothing (claim_reply result) →
-            view_of self.new ≡ view_of self.old }
-        ensures named { IsKnownReply self.new.policy (claim_reply result) }
     {
         self.hall.claim(process, request)
     }

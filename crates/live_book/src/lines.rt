@@ -1,10 +1,10 @@
 //! Writes the lines of a book.
-ghost use Rattle.std.specs.Prelude.{◌≡◌, ◌++◌, [], All, IfErr, IsTrue, OnErr, OnOk};
-ghost use Rattle.std.specs.Io.KnownBytes.{Appends, Keeps};
-ghost use Rattle.wall_labels.specs.Known.{AppendsPrefix};
+ghost use Rattle.std.specs.Prelude.{◌≡◌, ◌++◌, [], All, IfErr, IsTrue, OnOk};
+ghost use Rattle.std.specs.Io.KnownBytes.{Keeps};
 ghost use Rattle.run_model.specs.Known.{IsKnownEntry};
 ghost use Rattle.audit_book.specs.Text.{end_words, entry_lines, header_words, line_of};
 ghost use Rattle.live_book.specs.Books.{IsUnbooked};
+ghost use Rattle.live_book.specs.Writing.{TellsWritten, sink_value};
 ghost use Rattle.live_book.specs.declared.unbooked.Unbooked.TheVariants.{NoMemory as LacksMemory};
 
 use crate::sink::BookSink;
@@ -17,14 +17,9 @@ use wall_policy::Policy;
 
 // Writes the text out, and leaves none.
 fn send_text<B: BookSink>(text: &mut Vec<u8>, sink: &mut B) -> Result<(), Unbooked>
-    ensures written { OnOk result
-        (Appends (B.contents sink.old) (B.contents sink.new) text.old.items) }
-    ensures went { OnOk result (B.failures sink.new ≡ B.failures sink.old) }
+    ensures written { TellsWritten result (sink_value B.contents B.lasting B.failures sink.old)
+        (sink_value B.contents B.lasting B.failures sink.new) text.old.items }
     ensures none { OnOk result (text.new.items ≡ []) }
-    ensures fault { IfErr result
-        (λ fault. IsUnbooked fault (B.failures sink.old) (B.failures sink.new)) }
-    ensures prefix { OnErr result
-        (AppendsPrefix (B.contents sink.old) (B.contents sink.new) text.old.items) }
 {
     match send(text, sink) {
         Ok(()) => Ok(()),
@@ -70,14 +65,10 @@ pub fn write_header<B: BookSink>(
     sink: &mut B,
 ) -> Result<(), Unbooked>
     requires { text.old.items ≡ [] }
-    ensures written { OnOk result (Appends (B.contents sink.old) (B.contents sink.new)
-        (line_of (header_words policy.now.version))) }
-    ensures went { OnOk result (B.failures sink.new ≡ B.failures sink.old) }
+    ensures written { TellsWritten result (sink_value B.contents B.lasting B.failures sink.old)
+        (sink_value B.contents B.lasting B.failures sink.new)
+        (line_of (header_words policy.now.version)) }
     ensures none { OnOk result (text.new.items ≡ []) }
-    ensures fault { IfErr result
-        (λ fault. IsUnbooked fault (B.failures sink.old) (B.failures sink.new)) }
-    ensures prefix { OnErr result (AppendsPrefix (B.contents sink.old) (B.contents sink.new)
-        (line_of (header_words policy.now.version))) }
 {
     put_header(policy, text)?;
     send_text(text, sink)
@@ -92,16 +83,12 @@ pub fn write_news<B: BookSink>(
     sink: &mut B,
 ) -> Result<(), Unbooked>
     requires { text.old.items ≡ [] }
-    ensures written { OnOk result (Appends (B.contents sink.old) (B.contents sink.new)
-        (entry_lines hall.now.hall.policy hall.now.news)) }
-    ensures went { OnOk result (B.failures sink.new ≡ B.failures sink.old) }
+    ensures written { TellsWritten result (sink_value B.contents B.lasting B.failures sink.old)
+        (sink_value B.contents B.lasting B.failures sink.new)
+        (entry_lines hall.now.hall.policy hall.now.news) }
     ensures none { OnOk result (text.new.items ≡ []) }
     ensures lasts { IsTrue settled →
         OnOk result (Keeps (B.lasting sink.new) (B.contents sink.new)) }
-    ensures fault { IfErr result
-        (λ fault. IsUnbooked fault (B.failures sink.old) (B.failures sink.new)) }
-    ensures prefix { OnErr result (AppendsPrefix (B.contents sink.old) (B.contents sink.new)
-        (entry_lines hall.now.hall.policy hall.now.news)) }
 {
     put_entries(hall.policy(), hall.news(), text)?;
     send_text(text, sink)?;
@@ -115,13 +102,8 @@ pub fn write_end<B: BookSink>(
     sink: &mut B,
 ) -> Result<(), Unbooked>
     requires { text.old.items ≡ [] }
-    ensures written { OnOk result (Appends (B.contents sink.old) (B.contents sink.new)
-        (line_of (end_words entries))) }
-    ensures went { OnOk result (B.failures sink.new ≡ B.failures sink.old) }
-    ensures fault { IfErr result
-        (λ fault. IsUnbooked fault (B.failures sink.old) (B.failures sink.new)) }
-    ensures prefix { OnErr result (AppendsPrefix (B.contents sink.old) (B.contents sink.new)
-        (line_of (end_words entries))) }
+    ensures { TellsWritten result (sink_value B.contents B.lasting B.failures sink.old)
+        (sink_value B.contents B.lasting B.failures sink.new) (line_of (end_words entries)) }
 {
     put_end(entries as usize, text)?;
     send_text(text, sink)

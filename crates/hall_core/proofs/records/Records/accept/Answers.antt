@@ -23,7 +23,7 @@ pub overflow_cast-given : goal.overflow_cast-given
 overflow_cast-given c =
     let few = few_elements (seen c.args.self.now.post_state) c.args.seat
     c.args.posting.sig c.args.posting.own c.args.posting.elements.elem_type
-    (given_in c.args.posting) c.requires.looked in
+    (given_in c.args.posting) c.requires.seat.looked in
     let low : c.given-given.result ≤ 65536 = subst (λ n. n ≤ 65536) (sym c.given-given.ensures) few
     in
     grind (arith, common_steps, low)
@@ -34,8 +34,8 @@ enter-entered-requires-clause-looked c =
     c.args.posting.own (stated_type c.args.posting.sig) n) (sym c.given-given.ensures)
     (looked_stated (view_in c.args.self.now) c.requires.hall.effects c.requires.hall.stands
     c.args.seat c.args.posting
-    (c.requires.none c.requires.hall.effects c.requires.hall.stands) c.requires.comm
-    c.requires.looked)
+    (c.requires.none c.requires.hall.effects c.requires.hall.stands) c.requires.seat.comm
+    c.requires.seat.looked)
 
 pub enter-entered-requires-clause-form : goal.enter-entered-requires-clause-form
 enter-entered-requires-clause-form c =
@@ -58,7 +58,7 @@ enter-entered-requires-clause-form c =
     })))
     ∙ has_form_of (view_in c.args.self.now) hall.effects hall.stands c.args.seat c.args.posting
     (not c.passes-passed.result) (c.requires.none hall.effects hall.stands) word
-    c.requires.looked
+    c.requires.seat.looked
 
 pub returns-clause-steps : goal.returns-clause-steps
 returns-clause-steps c = λ m is stands.
@@ -71,7 +71,7 @@ returns-clause-steps c = λ m is stands.
     (c.label-label.ensures i)) in
     let number : c.given_to-request.result ≡ length (requests c.args.seat.process (posts_made m)) =
     c.given_to-request.ensures
-    ∙ ((λ i. length (requests_of (c.deref.ensures.value i) (c.requires.own i)))
+    ∙ ((λ i. length (requests_of (c.deref.ensures.value i) (sym c.requires.seat.process i)))
     ∙ stands.given c.args.seat.process) in
     let owed = due c.args.self.now.policy m c.args.seat.process c.args.posting
     c.passes-passed.result
@@ -94,7 +94,7 @@ returns-clause-steps c = λ m is stands.
     })
     c.kept-part.result in
     let same : g ≡ given_of c.args.seat.process c.args.posting (not c.passes-passed.result) =
-    (λ i. contribution c.args.seat.process (c.requires.comm i)
+    (λ i. contribution c.args.seat.process (c.requires.seat.comm i)
     (record {
       sig = c.args.posting.sig;
       own = c.args.posting.own;

@@ -33,7 +33,7 @@ make_room-requires-clause-low c =
     let few = posts_within c.args.seat.meeting.comm c.args.seat.process (posts_made hall.effects) in
     let asked = hall.stands.given c.args.seat.process in
     let limit : length (requests_of c.args.self.now.requests.items c.args.seat.process) <
-    4611686018427387904 = c.requires.few in
+    4611686018427387904 = c.requires.may.few in
     omega (arith, number, few, asked, limit)
 
 pub make_room-requires-clause-few_open : goal.make_room-requires-clause-few_open
@@ -59,14 +59,14 @@ enter-requires-clause-few c =
     let few = posts_within c.args.seat.meeting.comm c.args.seat.process (posts_made hall.effects) in
     let asked = hall.stands.given c.args.seat.process in
     let limit : length (requests_of c.args.self.now.requests.items c.args.seat.process) <
-    4611686018427387904 = c.requires.few in
+    4611686018427387904 = c.requires.may.few in
     omega (arith, number, few, asked, limit)
 
 pub enter-requires-clause-looked : goal.enter-requires-clause-looked
 enter-requires-clause-looked c =
     subst (λ (k : PostStateValue Contents). LookedAt (seen k) c.args.seat c.args.stated.sig
     c.args.stated.own (stated_type c.args.stated.sig) c.args.stated.given)
-    (sym c.make_room.ensures.post_state) c.requires.looked
+    (sym c.make_room.ensures.keeps.post_state) c.requires.looked
 
 pub record-requires-clause-room : goal.record-requires-clause-room
 record-requires-clause-room c =
@@ -79,7 +79,7 @@ record-requires-clause-room c =
     (sym c.make_room.ensures.keeps.policy)
     (subst (λ (k : PostStateValue Contents).
     StandsForPosts c.args.self.now.policy (seen k) hall.effects.contributions)
-    (sym c.make_room.ensures.post_state) hall.stands.post_state) in
+    (sym c.make_room.ensures.keeps.post_state) hall.stands.post_state) in
     let number : c.args.seat.meeting.k ≡ length
     (posts_on c.args.seat.meeting.comm c.args.seat.process (posts_made hall.effects)) =
     place_is_count c.args.self.now.policy (seen c.args.self.now.post_state)
@@ -118,7 +118,7 @@ returns-in-Ok-enter-clause-entered c = λ done m stands counts.
     (sym c.make_room.ensures.keeps.policy)
     (subst (λ (k : PostStateValue Contents).
     StandsForPosts c.args.self.now.policy (seen k) m.contributions)
-    (sym c.make_room.ensures.post_state) stands.post_state) in
+    (sym c.make_room.ensures.keeps.post_state) stands.post_state) in
     let moved = c.in-Ok-enter.ensures.entered m.contributions stood in
     let g : Contribution Contents = contribution c.args.seat.process c.args.seat.meeting.comm
     c.args.stated c.args.part
@@ -130,7 +130,7 @@ returns-in-Ok-enter-clause-entered c = λ done m stands counts.
     c.make_room.ensures.keeps.policy
     (subst (λ (k : PostStateValue Contents).
     StandsForPosts c.make_room.new.self.policy (seen k) (g ∷ m.contributions))
-    (sym c.record.ensures.post_state) moved.0) in
+    (sym c.record.ensures.keeps.post_state) moved.0) in
     let tells : Tells c.args.self.now.policy g m.contributions c.in-Ok-enter.entered = subst
     (λ (w : ChineseWall). Tells w g m.contributions c.in-Ok-enter.entered)
     c.make_room.ensures.keeps.policy moved.1 in
@@ -159,14 +159,14 @@ join-requires-clause-few c =
     let few = posts_within c.args.seat.meeting.comm c.args.seat.process (posts_made hall.effects) in
     let asked = hall.stands.given c.args.seat.process in
     let limit : length (requests_of c.args.self.now.requests.items c.args.seat.process) <
-    4611686018427387904 = c.requires.few in
+    4611686018427387904 = c.requires.may.few in
     omega (arith, number, few, asked, limit)
 
 pub join-requires-clause-looked : goal.join-requires-clause-looked
 join-requires-clause-looked c =
     subst (λ (k : PostStateValue Contents). LookedAt (seen k) c.args.seat c.args.stated.sig
     c.args.stated.own (stated_type c.args.stated.sig) c.args.stated.given)
-    (sym c.make_room.ensures.post_state) c.requires.looked
+    (sym c.make_room.ensures.keeps.post_state) c.requires.looked
 
 pub note-requires-clause-room : goal.note-requires-clause-room
 note-requires-clause-room c =
@@ -193,7 +193,7 @@ returns-in-Joins-clause-entered c = λ done m stands counts.
     (sym c.make_room.ensures.keeps.policy)
     (subst (λ (k : PostStateValue Contents).
     StandsForPosts c.args.self.now.policy (seen k) m.contributions)
-    (sym c.make_room.ensures.post_state) stands.post_state) in
+    (sym c.make_room.ensures.keeps.post_state) stands.post_state) in
     let moved = c.join.ensures.entered c.make_room.new.self.policy m.contributions stood in
     let g : Contribution Contents = contribution c.args.seat.process c.args.seat.meeting.comm
     c.args.stated c.args.part
@@ -206,7 +206,7 @@ returns-in-Joins-clause-entered c = λ done m stands counts.
     c.make_room.ensures.keeps.policy
     (subst (λ (k : PostStateValue Contents).
     StandsForPosts c.make_room.new.self.policy (seen k) (g ∷ m.contributions))
-    (sym c.note.ensures.post_state) moved.0) in
+    (sym c.note.ensures.keeps.post_state) moved.0) in
     let tells : Tells c.args.self.now.policy g m.contributions entered = subst
     (λ (w : ChineseWall). Tells w g m.contributions entered) c.make_room.ensures.keeps.policy
     moved.1 in
@@ -220,7 +220,7 @@ returns-in-Joins-clause-entered c = λ done m stands counts.
       policy = c.note.ensures.keeps.policy;
       asked = c.note.ensures.requests;
       settled = c.note.ensures.settled;
-      book = c.note.ensures.book;
+      book = c.note.ensures.book.list;
     } in
     stands_recorded (view_in c.args.self.now) (view_in c.note.new.self) m g entered
     stands counts none post_state tells

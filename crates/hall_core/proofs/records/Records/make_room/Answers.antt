@@ -12,7 +12,7 @@ returns-clause-room c =
     (requests_of c.args.self.now.requests.items c.args.process) =
     ap (λ (f : ℕ → List (Option Request)). length (f c.args.process)) c.reserve.ensures.requests in
     let few : length (requests_of c.args.self.now.requests.items c.args.process) <
-    4611686018427387904 = c.requires.few in
+    4611686018427387904 = c.requires.may.few in
     let counts : open_at c.ready.new.self c.args.comm c.args.k ≡ open_at c.args.self.now.settled
     c.args.comm c.args.k =
     ap (λ (p : Place). p.waiting) (c.ready.ensures.same c.args.comm c.args.k) in

@@ -9,10 +9,10 @@ use Rattle.hall_core.proofs.records.Records.post.Goals as goal
 pub accept-requires-clause-none : goal.accept-requires-clause-none
 accept-requires-clause-none c = λ m stands.
     subst (λ p. refusal c.args.self.now.policy m p c.args.posting ≡ None)
-    (sym c.in-Ok.ensures.process)
+    (sym c.in-Ok.ensures.seat.process)
     (sym (c.seat_of.ensures.first m stands) ∙ ap result_err c.in-Ok.is)
 
 pub returns-in-Ok-clause-steps : goal.returns-in-Ok-clause-steps
 returns-in-Ok-clause-steps c =
     subst (λ p. Steps (view_in c.args.self.now) (view_in c.accept.new.self) p
-    (ToPost c.args.posting) c.accept.result) c.in-Ok.ensures.process c.accept.ensures.steps
+    (ToPost c.args.posting) c.accept.result) c.in-Ok.ensures.seat.process c.accept.ensures.steps

@@ -21,7 +21,7 @@ returns-in-Waiting-clause-recorded c =
       policy = c.note.ensures.keeps.policy;
       asked = c.note.ensures.requests;
       settled = c.note.ensures.settled;
-      book = c.note.ensures.book;
+      book = c.note.ensures.book.list;
     })
 
 pub returns-in-Settled-clause-recorded : goal.returns-in-Settled-clause-recorded
@@ -37,9 +37,9 @@ returns-in-Settled-clause-recorded c =
           ∙ (λ i. cond (d == c.args.comm && j == c.in-Settled.k)
           (Some (settlement (c.new-full.ensures i) c.in-Settled.outcome))
           (c.note-in-Settled.ensures.settled d j i));
-      book = c.settle.ensures.book
+      book = c.settle.ensures.book.list
           ∙ (ap (λ (b : List BookEntry). b ++ EntrySettled c.args.comm c.in-Settled.k
-          c.in-Settled.outcome ∷ []) c.note-in-Settled.ensures.book
+          c.in-Settled.outcome ∷ []) c.note-in-Settled.ensures.book.list
           ∙ append_assoc c.args.self.now.book.list
           (EntryPosted c.args.member c.args.comm c.args.stated ∷ [])
           (EntrySettled c.args.comm c.in-Settled.k c.in-Settled.outcome ∷ []));

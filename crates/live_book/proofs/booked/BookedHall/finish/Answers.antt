@@ -2,15 +2,15 @@ use Rattle.std.proofs.Common.{Option, subst}
 use Rattle.audit_book.specs.Text.{end_words, line_of}
 use Rattle.live_book.specs.declared.unbooked.Unbooked.{Unbooked}
 use Rattle.live_book.specs.Writing.{Writes, sink_value}
-use Rattle.live_book.proofs.WritingLemmas.{count_is, last_prefix, last_written}
+use Rattle.live_book.proofs.WritingLemmas.{count_is, last_all, last_prefix}
 use Rattle.live_book.proofs.booked.BookedHall.finish.Goals as goal
 use Rattle.live_book.proofs.booked.BookedHall.finish.Goals.{in-None, in-Some}
 
-pub returns-clause-written : goal.returns-clause-written
-returns-clause-written g c = rw (← c.self.view_is) (λ wall run stands.
+pub returns : goal.returns
+returns g c = rw (← c.self.view_is) (λ wall run stands.
     let sv = sink_value g.B.Sink.contents g.B.BookSink.lasting g.B.Sink.failures in
     elim c.match-fault.branch [
-      | in-None w ↦ rw w.written-is (last_written wall g.K.Begun.begun
+      | in-None w ↦ rw w.written-is (last_all wall g.K.Begun.begun
           (sv c.self.inside.writer.sink) (sv c.write_last.new.self.sink) run
           c.self.inside.writer.entries
           c.self.inside.writer.fault
@@ -23,14 +23,6 @@ returns-clause-written g c = rw (← c.self.view_is) (λ wall run stands.
           (sv c.self.inside.writer.sink)
           (sv c.write_last.new.self.sink) (line_of (end_words c.self.inside.writer.entries)))
           w.in-None.is c.write_last.ensures))
-      | in-Some w ↦ rw w.written-is tt
-    ])
-
-pub returns-clause-prefix : goal.returns-clause-prefix
-returns-clause-prefix g c = rw (← c.self.view_is) (λ wall run stands.
-    let sv = sink_value g.B.Sink.contents g.B.BookSink.lasting g.B.Sink.failures in
-    elim c.match-fault.branch [
-      | in-None w ↦ rw w.written-is tt
       | in-Some w ↦ rw w.written-is (last_prefix wall g.K.Begun.begun
           (sv c.self.inside.writer.sink) (sv c.write_last.new.self.sink) run
           c.self.inside.writer.entries

@@ -1,0 +1,9 @@
+use Rattle.std.proofs.Common.{refl}
+use Rattle.live_book.proofs.WritingLemmas.{no_prefix}
+use Rattle.live_book.proofs.booked.BookedHall.open.Goals as goal
+
+pub returns-in_default-clause-cut : goal.returns-in_default-clause-cut
+returns-in_default-clause-cut g c = rw c.requires (record {
+  prefix = no_prefix (g.B.Sink.contents c.args.sink) _;
+  is_fault = refl;
+})
