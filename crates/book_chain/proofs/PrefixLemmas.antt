@@ -45,7 +45,8 @@ module _ (wall : ChineseWall) (n : ℕ) where
   pub others_named : (entries : List Entry) → ¬ (All (IsBelow n) entries) →
       ¬ (Fits wall entries n)
   others_named entries named fits = named
-      (All-weaker (IsKnownEntry (first_processes n wall)) (IsBelow n) below_known entries fits.known)
+      (All-weaker (IsKnownEntry (first_processes n wall)) (IsBelow n) below_known entries
+      fits.known)
 
   pub all_known : (entries : List Entry) → All (IsKnownEntry wall) entries →
       All (IsBelow n) entries → All (IsKnownEntry (first_processes n wall)) entries

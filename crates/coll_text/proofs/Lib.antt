@@ -1,5 +1,5 @@
 pub mod CutLemmas
-pub mod PrefixLemmas
+pub mod FrontLemmas
 pub mod StepLemmas
 pub mod DigitLemmas
 pub mod EachLemmas

@@ -20,7 +20,7 @@ use Rattle.std.proofs.Math.Nat.{mul_assoc, pow-succ', pow-le-pow_right, mod-eq_o
 use Rattle.std.proofs.Math.Nat.{mul-lt-mul_of_pos_right, add-mul-mod_self_right}
 use Rattle.coll_text.specs.Numbers.{Word, is_digit, value_after}
 use Rattle.coll_text.specs.Eights.{less_zero, IsFrontValue}
-use Rattle.coll_text.proofs.PrefixLemmas.{value_after-append, digit_range}
+use Rattle.coll_text.proofs.FrontLemmas.{value_after-append, digit_range}
 
 -- a value before digits counts for each of them tenfold
 value_behind : (n m : ℕ) (w : Word) → value_after (n + m) w ≡ value_after n w + m * 10 ^ length w

@@ -41,7 +41,8 @@ impl BooklessHall {
     ghost use Rattle.run_model.specs.Known.{HasKnownLabel};
     ghost use Rattle.hall_core.specs.Claims.{CanFinish, Claims, claim_entry, claim_reply, to_take};
     ghost use Rattle.hall_core.specs.Halls.{StandsFor};
-    ghost use Rattle.hall_core.specs.Machines.{Carries, ForEachRun, KeepsApart, RepliesWith, Stands};
+    ghost use Rattle.hall_core.specs.Machines.{Carries, ForEachRun, KeepsApart, RepliesWith};
+    ghost use Rattle.hall_core.specs.Machines.{Stands};
     ghost use Rattle.hall_turn.specs.Machines.{TellsWhether};
 
     /// A hall that stands for the empty run. `NoMemory` is answered only where a growth was

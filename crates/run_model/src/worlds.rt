@@ -81,8 +81,7 @@ pub fn two_sums()
 /// A barred post's numbers reach nobody: two worlds that differ in them alone have equal replies.
 pub fn two_barred_posts()
     ensures alike { Alike 2 (barred_allgather (pos 4)) (barred_allgather (pos 8)) }
-    ensures replies {
-        replies_in (barred_allgather (pos 4)) ≡ replies_in (barred_allgather (pos 8)) }
+    ensures told { replies_in (barred_allgather (pos 4)) ≡ replies_in (barred_allgather (pos 8)) }
     ensures same { LookAlike 2 0 (barred_allgather (pos 4)) (barred_allgather (pos 8)) }
 {
     coll_values::laws::values_are_of_routed_ranks();

@@ -1,6 +1,6 @@
 -- What is asked of the names and numbers of a policy file. (Own rules.)
-use Rattle.std.specs.Prelude.{◌≡◌, ℤ, pos, negsuc, Bool, true, false, ◌&&◌, ◌||◌, nat_le, List, length}
-use Rattle.std.specs.Prelude.{map, Option, Some, None, is_some}
+use Rattle.std.specs.Prelude.{◌≡◌, ℤ, pos, negsuc, Bool, true, false, ◌&&◌, ◌||◌, nat_le, List}
+use Rattle.std.specs.Prelude.{length, map, Option, Some, None, is_some}
 use Rattle.std.specs.List.{list_all, flat_map}
 use Rattle.wall_labels.specs.Limits.{process_limit, dataset_limit, class_limit}
 use Rattle.wall_labels.specs.Ops.{op_of}

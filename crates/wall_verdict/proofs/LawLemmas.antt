@@ -60,7 +60,8 @@ module _ (wall : ChineseWall) (has : History) (roll : Roll) (fit : IsFit roll) w
       lowest = λ k h. none_at (is_barred roll) i k h first.none;
     };
     is_member = member_at roll i fit first.within;
-    is_label = stated_is (label_of roll i) (labelled roll i fit (stated_by roll i) refl first.passes);
+    is_label = stated_is (label_of roll i)
+        (labelled roll i fit (stated_by roll i) refl first.passes);
   }
 
   names_offence : (j i : ℕ) →

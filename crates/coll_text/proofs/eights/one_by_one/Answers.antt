@@ -1,6 +1,6 @@
 use Rattle.std.proofs.Common.{◌≡◌, ◌≤◌, ◌<◌, length, true, get_or, arith, sym, ◌∙◌, refl}
 use Rattle.coll_text.specs.Numbers.{is_digit}
-use Rattle.coll_text.proofs.PrefixLemmas.{value_more, digits_more, digit_range, fits, fits_more}
+use Rattle.coll_text.proofs.FrontLemmas.{value_more, digits_more, digit_range, fits, fits_more}
 use Rattle.coll_text.proofs.eights.one_by_one.Goals as goal
 
 pub overflow_mul-value : goal.overflow_mul-value

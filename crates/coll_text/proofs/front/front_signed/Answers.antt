@@ -2,8 +2,8 @@ use Rattle.std.proofs.Common.{◌≡◌, ◌≤◌, ◌<◌, length, take, drop,
 use Rattle.std.proofs.Common.{get_or, rules, arith, refl}
 use Rattle.std.specs.List.{list_all}
 use Rattle.coll_text.specs.Numbers.{is_digit, number_within}
-use Rattle.coll_text.proofs.PrefixLemmas.{first_kept, prefix_is, nonzero_is, signed_is}
-use Rattle.coll_text.proofs.PrefixLemmas.{signed_solid, zero_read}
+use Rattle.coll_text.proofs.FrontLemmas.{first_kept, front_is, nonzero_is, signed_is}
+use Rattle.coll_text.proofs.FrontLemmas.{signed_solid, zero_read}
 use Rattle.std.proofs.lemmas.Bool.{ne_eqb}
 use Rattle.coll_text.proofs.front.front_signed.Goals as goal
 
@@ -25,7 +25,7 @@ returns-clause-value c =
     let s = eqb (get_or c.args.text.now 0 0) 45 in
     let e = c.front_digits-n.ensures in
     let any : 0 < len = omega (arith, c.if-len-eq0.false) in
-    let number : number_within 18446744073709551615 (take len digits) ≡ Some n = prefix_is digits
+    let number : number_within 18446744073709551615 (take len digits) ≡ Some n = front_is digits
     len n 18446744073709551615 e.within e.digits e.value (search rules) any
     (λ h. absurd (c.if-digits-eq48.false h)) in
     let v : number_within 18446744073709551615

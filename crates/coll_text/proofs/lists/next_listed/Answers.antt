@@ -1,5 +1,5 @@
 use Rattle.std.proofs.Common.{arith}
-use Rattle.coll_text.proofs.PrefixLemmas.{listed_above, listed_below}
+use Rattle.coll_text.proofs.FrontLemmas.{listed_above, listed_below}
 use Rattle.coll_text.proofs.lists.next_listed.Goals as goal
 
 pub returns-then-n-from-clause-number : goal.returns-then-n-from-clause-number

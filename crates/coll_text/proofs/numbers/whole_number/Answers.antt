@@ -1,5 +1,5 @@
 use Rattle.std.proofs.Common.{◌≤◌, length, arith}
-use Rattle.coll_text.proofs.PrefixLemmas.{whole_below, whole_above}
+use Rattle.coll_text.proofs.FrontLemmas.{whole_below, whole_above}
 use Rattle.coll_text.proofs.numbers.whole_number.Goals as goal
 
 pub returns-then-n-most-clause-value : goal.returns-then-n-most-clause-value

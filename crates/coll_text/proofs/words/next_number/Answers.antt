@@ -1,5 +1,5 @@
 use Rattle.std.proofs.Common.{arith}
-use Rattle.coll_text.proofs.PrefixLemmas.{read_below, read_above}
+use Rattle.coll_text.proofs.FrontLemmas.{read_below, read_above}
 use Rattle.coll_text.proofs.words.next_number.Goals as goal
 
 pub returns-then-n-most-clause-number : goal.returns-then-n-most-clause-number

@@ -32,7 +32,8 @@ loop-high-preserved-then-branch c =
       apart = omega arith;
       within = omega arith;
       have = have_prefix c.args.policy.now.dataset_names c.args.line.now c.args.ends.now
-          c.args.fault c.requires.ends _ (omega arith) (omega arith) (c.in_ok-have.ensures.yes c.if-branch.true);
+          c.args.fault c.requires.ends _ (omega arith) (omega arith)
+          (c.in_ok-have.ensures.yes c.if-branch.true);
       not_yet = c.loop-high.invariant.not_yet;
     }
 

@@ -1,5 +1,5 @@
 use Rattle.std.proofs.Common.{take}
-use Rattle.coll_text.proofs.PrefixLemmas.{digits_solid}
+use Rattle.coll_text.proofs.FrontLemmas.{digits_solid}
 use Rattle.coll_text.proofs.parts.Parts.next_small.Goals as goal
 
 pub take_front-requires-clause-solid : goal.take_front-requires-clause-solid

@@ -49,11 +49,11 @@ first_taken : (w : Word) (i : ℕ) → 0 < i → get_or (take i w) 0 0 ≡ get_o
 first_taken w i lt = get_or-take i w 0 0 lt
 
 -- digits at the front are a number
-pub prefix_is : (w : Word) (i v most : ℕ) → i ≤ length w → list_all is_digit (take i w) ≡ true →
+pub front_is : (w : Word) (i v most : ℕ) → i ≤ length w → list_all is_digit (take i w) ≡ true →
     v ≡ value_after 0 (take i w) → v ≤ most → 0 < i → (get_or w 0 0 ≡ 48 → i ≤ 1) →
     number_within most (take i w) ≡ Some v
 unfolding number_within
-prefix_is w i v most le d e small some lead =
+front_is w i v most le d e small some lead =
     let size : length (take i w) ≡ i = length-take-le i w le in
     let f : is_number (take i w) ≡ true = form_of (take i w) d (omega (arith, size))
     (λ h. let k : i ≤ 1 = lead (sym (first_taken w i some) ∙ h) in omega (arith, k, size)) in
