@@ -1,5 +1,6 @@
 -- Lists with equal things in front.
-use Rattle.std.proofs.Common.{◌≡◌, ℕ, zero, suc, ◌+◌, ◌-◌, ◌<◌, ◌≤◌, List, [], ◌∷◌}
+use Rattle.std.proofs.Common.{◌≡◌, ℕ, zero, suc, ◌+◌, ◌-◌, ◌*◌, ◌<◌, ◌≤◌, ◌⊎◌, inl, inr, max}
+use Rattle.std.proofs.Common.{List, [], ◌∷◌}
 use Rattle.std.proofs.Common.{◌++◌, length, set, refl, sym, ap, ◌∙◌, arith, get_or, drop, replicate}
 use Rattle.std.proofs.Common.{length-append, append_assoc}
 use Rattle.std.proofs.lemmas.List.{length-replicate, get_or-append_right, get_or_append_left}
@@ -51,8 +52,28 @@ push_default [] d (suc j) = refl
 push_default (x ∷ xs) d zero = refl
 push_default (x ∷ xs) d (suc j) = push_default xs d j
 
-pub end_pushed : {X : Type 0} (n : ℕ) (e : X) (xs : List X) (j : ℕ) →
-    get_or (replicate n e ++ (xs ++ e ∷ [])) j e ≡ get_or (replicate n e ++ xs) j e
-end_pushed n e xs j =
-    ap (λ list. get_or list j e) (sym (append_assoc (replicate n e) xs (e ∷ [])))
-    ∙ push_default (replicate n e ++ xs) e j
+-- ## room
+
+-- Where there was no room there is memory for twice as many, else for as many as before.
+pub reserved : (first len room new : ℕ) → (room ≡ 0 → new ≡ max (len - first) 4) →
+    (0 < room → new ≡ room) → ((len + new) - first ≡ (len + room) - first)
+    ⊎ (2 * ((len + room) - first) ≤ (len + new) - first)
+reserved first len zero new grown there = let is = grown refl in inr (omega (arith, is))
+reserved first len (suc room) new grown there =
+    let is = there (omega arith) in inl (ap (λ (r : ℕ). (len + r) - first) is)
+
+-- and so of what was there before
+pub grown_on : (old mid new : ℕ) → (mid ≡ old) ⊎ (2 * old ≤ mid) →
+    (new ≡ mid) ⊎ (2 * mid ≤ new) → (new ≡ old) ⊎ (2 * old ≤ new)
+grown_on old mid new (inl same) (inl is) = inl (is ∙ same)
+grown_on old mid new (inl same) (inr is) = inr (omega (arith, same, is))
+grown_on old mid new (inr more) (inl is) = inr (omega (arith, more, is))
+grown_on old mid new (inr more) (inr is) = inr (omega (arith, more, is))
+
+-- Room that is made where there was none is for no more than are kept, and four.
+pub few_on : (first len room new old : ℕ) → (room ≡ 0 → new ≡ max (len - first) 4) →
+    (0 < room → new ≡ room) → (len + room) - first ≤ max old (2 * (len - first) + 4) →
+    (len + new) - first ≤ max old (2 * ((len + 1) - first) + 4)
+few_on first len zero new old grown there few = let is = grown refl in omega (arith, is, few)
+few_on first len (suc room) new old grown there few =
+    let is = there (omega arith) in omega (arith, is, few)

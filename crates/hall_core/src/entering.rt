@@ -20,7 +20,8 @@ ghost use Rattle.hall_core.specs.Invariant.{IsHallView, Keeps, view_in};
 ghost use Rattle.hall_core.specs.Ledgers.{AddsEntry};
 ghost use Rattle.hall_core.specs.Moves.{number_in, Counts, HasRoom, IsRecorded, IsSeatFor};
 ghost use Rattle.hall_core.specs.Moves.{KeepsPosts, MayAsk, MaySettle, Steps};
-ghost use Rattle.hall_core.specs.Settling.{open_at, settlement_at};
+ghost use Rattle.hall_core.specs.Settling.{open_at, places_of, settlement_at};
+ghost use Rattle.hall_core.specs.Windows.{HasReached};
 
 use crate::instance::Instance;
 use crate::records::Records;
@@ -170,6 +171,8 @@ impl Records {
         ensures keeps { KeepsPosts self.old self.new }
         ensures same { view_in self.new ≡ view_in self.old }
         ensures room { OnOk result (HasRoom self.new process comm k) }
+        ensures reached { OnOk result
+            (HasReached (places_of self.old.settled comm) (places_of self.new.settled comm) k) }
         ensures memory { HasRoom self.old process comm k → OnErr result ⊥ }
     {
         requests::reserve(&mut self.requests, process)?;

@@ -175,32 +175,3 @@ impl Hall {
         self.records.book.kept()
     }
 }
-
-#[cfg(test)]
-impl Hall {
-    /// How many places are kept for instances of a communicator.
-    pub(crate) fn kept_places(&self, comm: u32) -> usize {
-        self.records.settled.kept(comm)
-    }
-
-    /// For how many instances of a communicator there is memory.
-    pub(crate) fn place_room(&self, comm: u32) -> usize {
-        self.records.settled.room(comm)
-    }
-
-    /// How many requests are kept for a process.
-    pub(crate) fn kept_requests(&self, process: u32) -> usize {
-        match self.records.requests.get(process as usize) {
-            Some(asked) => asked.kept(),
-            None => 0,
-        }
-    }
-
-    /// For how many requests of a process there is memory.
-    pub(crate) fn request_room(&self, process: u32) -> usize {
-        match self.records.requests.get(process as usize) {
-            Some(asked) => asked.room(),
-            None => 0,
-        }
-    }
-}

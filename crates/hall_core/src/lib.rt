@@ -17,8 +17,6 @@ mod entering;
 mod gone;
 mod hall;
 mod instance;
-#[cfg(test)]
-mod kept_tests;
 mod ledger;
 mod looks;
 mod posts;
@@ -28,12 +26,8 @@ mod room;
 mod runs;
 mod settled;
 mod takes;
-#[cfg(test)]
-mod tests;
 mod window;
 mod worlds;
-#[cfg(test)]
-mod worlds_tests;
 
 pub use brief::BriefHall;
 pub use claims::{Claim, finish};

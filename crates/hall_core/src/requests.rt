@@ -122,19 +122,6 @@ impl Requests {
     }
 }
 
-#[cfg(test)]
-impl Requests {
-    /// How many are kept.
-    pub fn kept(&self) -> usize {
-        self.window.kept()
-    }
-
-    /// For how many there is memory.
-    pub fn room(&self) -> usize {
-        self.window.room()
-    }
-}
-
 /// The most requests that a process may have not taken. (Own rule.)
 const MOST_WAITING: usize = 256;
 /// The most requests that a process is ever given. (Own rule.)

@@ -5,7 +5,7 @@ ghost use Rattle.std.specs.Option.{option_copied};
 ghost use Rattle.run_model.specs.declared.outcome.Outcome.TheVariants.{Granted};
 ghost use Rattle.hall_core.specs.Settling.{nothing, place_at, open_at, HasPlace, one_more};
 ghost use Rattle.hall_core.specs.Settling.{one_fewer, settled_as, places_of, AreSame, IsPlaced};
-ghost use Rattle.hall_core.specs.Windows.{IsTrimmed};
+ghost use Rattle.hall_core.specs.Windows.{IsTrimmed, HasReached, KeepAlike};
 
 use crate::instance::Instance;
 use crate::window::{Forgettable, Window};
@@ -166,6 +166,8 @@ impl Settlements {
         ensures same { AreSame self.old self.new }
         ensures rows { OnOk result (length self.new ≡ max (length self.old) (comm + 1)) }
         ensures room { OnOk result (HasPlace self.new comm k) }
+        ensures reached { OnOk result
+            (HasReached (places_of self.old comm) (places_of self.new comm) k) }
         ensures memory { HasPlace self.old comm k → OnErr result ⊥ }
     {
         add_rows(self.alloc, &mut self.rows, comm as usize)?;
@@ -227,31 +229,14 @@ impl Settlements {
     }
 }
 
-#[cfg(test)]
-impl Settlements {
-    /// How many places are kept for instances of a communicator.
-    pub fn kept(&self, comm: u32) -> usize {
-        match self.rows.get(comm as usize) {
-            Some(row) => row.kept(),
-            None => 0,
-        }
-    }
-
-    /// For how many instances of a communicator there is memory.
-    pub fn room(&self, comm: u32) -> usize {
-        match self.rows.get(comm as usize) {
-            Some(row) => row.room(),
-            None => 0,
-        }
-    }
-}
-
 // Adds rows up to that of the communicator.
-#[tactic(auto, using(crate::proofs::SettlingLemmas::row_pushed))]
+#[tactic(auto, using(crate::proofs::SettlingLemmas::row_pushed, crate::proofs::SettlingLemmas::row_kept))]
 fn add_rows(alloc: Global, rows: &mut Vec<Window<Place>>, comm: usize) -> Result<(), NoMemory>
     ensures same { AreSame rows.old.items rows.new.items }
     ensures number { OnOk result
         (length rows.new.items ≡ max (length rows.old.items) (comm + 1)) }
+    ensures kept { (c : ℕ) →
+        KeepAlike (places_of rows.old.items c) (places_of rows.new.items c) }
     ensures there { comm < length rows.old.items → rows.new.items ≡ rows.old.items }
     ensures memory { comm < length rows.old.items → OnErr result ⊥ }
 {

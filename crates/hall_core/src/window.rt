@@ -1,10 +1,11 @@
 //! Windows: lists by number that forget those in front of which nothing is left.
 ghost use Rattle.std.specs.Prelude.{◌≡◌, ◌≢◌, ◌↔◌, ◌<◌, ◌≤◌, ◌+◌, ◌++◌, ◌∷◌, ◌^◌, [], ℕ, length};
-ghost use Rattle.std.specs.Prelude.{min, replicate, drop, slice_index_or, IsTrue, IsFalse, IsSome};
-ghost use Rattle.std.specs.Prelude.{OnOk, OnErr, IfSome, IfNone, unwrap_or};
+ghost use Rattle.std.specs.Prelude.{min, max, replicate, drop, slice_index_or, IsTrue, IsFalse};
+ghost use Rattle.std.specs.Prelude.{IsSome, OnOk, OnErr, IfSome, IfNone, unwrap_or};
 ghost use Rattle.std.specs.Option.{option_copied};
 ghost use Rattle.std.specs.VecDeque.{deque_len};
-ghost use Rattle.hall_core.specs.Windows.{IsInWindow, IsTrimmed};
+ghost use Rattle.hall_core.specs.Windows.{IsInWindow, IsTrimmed, HasReached, kept_in, slots_of};
+ghost use Rattle.hall_core.specs.Windows.{HasDoubled, HasFewSlots};
 
 use crate::room::give_back;
 use std::alloc::{AllocError, Global};
@@ -25,6 +26,9 @@ pub trait Forgettable: Drop {
         ensures yes { IsTrue result → self.now ≡ nothing }
         ensures no { IsFalse result → self.now ≢ nothing };
 }
+
+/// The least room that is made.
+const LEAST_ROOM: usize = 4;
 
 /// A list by number. Those that were forgotten in front are counted, and take no memory.
 pub struct Window<T: Forgettable> {
@@ -109,14 +113,21 @@ impl<T: Forgettable> Window<T> {
         self.kept.get_mut(number - self.first)
     }
 
-    /// Makes room for one more. Out of memory only where there was none.
+    /// Makes room for one more; where there was none, for as many more as are kept and for four at
+    /// least, so that it grows seldom. Out of memory only where there was none.
     pub fn reserve(&mut self) -> Result<(), AllocError>
         ensures first { self.new.first ≡ self.old.first }
         ensures list { self.new.list ≡ self.old.list }
         ensures room { OnOk result (0 < self.new.room) }
+        ensures grown { self.old.room ≡ 0 → OnOk result (self.new.room ≡ max (kept_in self.old) 4) }
+        ensures there { 0 < self.old.room → self.new ≡ self.old }
         ensures memory { OnErr result (self.old.room ≡ 0) }
     {
-        self.kept.reserve(1)
+        let (used, room) = (self.kept.len(), self.kept.capacity());
+        if used < room {
+            return Ok(());
+        }
+        self.kept.reserve_exact(used.max(LEAST_ROOM))
     }
 
     /// Adds one at the end.
@@ -125,51 +136,74 @@ impl<T: Forgettable> Window<T> {
         requires few { length self.old.list < 2 ^ 62 }
         ensures first { self.new.first ≡ self.old.first }
         ensures list { self.new.list ≡ self.old.list ++ thing ∷ [] }
+        ensures room { self.new.room + 1 ≡ self.old.room }
     {
         self.kept.push_back_reserved(thing);
     }
 
     /// Keeps that number. Of those that were forgotten it takes back only those from that number
-    /// on. Takes no memory where that number is kept.
+    /// on, and adds none behind that number. Takes no memory where that number is kept.
     pub fn reach(&mut self, number: usize) -> Result<(), NoMemory>
         requires { number < 2 ^ 62 }
         ensures same { (j : ℕ) → slice_index_or self.new.list j T.nothing
             ≡ slice_index_or self.old.list j T.nothing }
-        ensures first { OnOk result (self.new.first ≡ min self.old.first number) }
+        ensures reached { OnOk result (HasReached self.old self.new number) }
+        ensures few { OnOk result (HasFewSlots self.old self.new) }
+        ensures doubles { self.old.first + slots_of self.old ≤ number →
+            OnOk result (HasDoubled self.old self.new) }
         ensures kept { OnOk result (IsInWindow self.new number) }
         ensures memory { IsInWindow self.old number → OnErr result ⊥ }
     {
-        self.reach_back(number)?;
+        if number < self.first {
+            self.reach_back(number)?;
+        }
         self.reach_on(number)
     }
 
     // Takes those from that number on back that were forgotten.
-    #[tactic(auto, using(crate::proofs::FrontLemmas::front_less))]
     fn reach_back(&mut self, number: usize) -> Result<(), NoMemory>
         ensures same { self.new.list ≡ self.old.list }
         ensures first { OnOk result (self.new.first ≡ min self.old.first number) }
+        ensures few { OnOk result (HasFewSlots self.old self.new) }
         ensures memory { self.old.first ≤ number → OnErr result ⊥ }
     {
         while number < self.first {
-            self.kept.push_front(T::nothing())?;
-            self.first -= 1;
+            self.reserve()?;
+            self.take_back();
         }
         Ok(())
     }
 
+    // Takes the last that was forgotten back.
+    #[tactic(auto, using(crate::proofs::FrontLemmas::front_less))]
+    fn take_back(&mut self)
+        requires forgotten { 0 < self.old.first }
+        requires room { 0 < self.old.room }
+        ensures first { self.new.first + 1 ≡ self.old.first }
+        ensures list { self.new.list ≡ self.old.list }
+        ensures room { self.new.room + 1 ≡ self.old.room }
+    {
+        self.kept.push_front_reserved(T::nothing());
+        self.first -= 1;
+    }
+
     // Adds such of which nothing is left, up to that number.
-    #[tactic(auto, using(crate::proofs::FrontLemmas::end_pushed, crate::proofs::FrontLemmas::front_length))]
+    #[tactic(auto, using(crate::proofs::FrontLemmas::push_default))]
     fn reach_on(&mut self, number: usize) -> Result<(), NoMemory>
-        requires low { self.old.first ≤ number }
-        requires few { number < 2 ^ 62 }
+        requires { number < 2 ^ 62 }
         ensures same { (j : ℕ) → slice_index_or self.new.list j T.nothing
             ≡ slice_index_or self.old.list j T.nothing }
         ensures first { self.new.first ≡ self.old.first }
-        ensures within { OnOk result (number < length self.new.list) }
+        ensures end { OnOk result
+            (length self.new.list ≡ max (length self.old.list) (number + 1)) }
+        ensures few { OnOk result (HasFewSlots self.old self.new) }
+        ensures doubles { self.old.first + slots_of self.old ≤ number →
+            OnOk result (HasDoubled self.old self.new) }
         ensures memory { number < length self.old.list → OnErr result ⊥ }
     {
-        while self.kept.len() <= number - self.first {
-            self.kept.push_back(T::nothing())?;
+        while self.len() <= number {
+            self.reserve()?;
+            self.push(T::nothing());
         }
         Ok(())
     }
@@ -185,19 +219,6 @@ impl<T: Forgettable> Window<T> {
             self.first += 1;
         }
         give_back(&mut self.kept);
-    }
-}
-
-#[cfg(test)]
-impl<T: Forgettable> Window<T> {
-    /// How many are kept.
-    pub fn kept(&self) -> usize {
-        self.kept.len()
-    }
-
-    /// For how many there is memory.
-    pub fn room(&self) -> usize {
-        self.kept.capacity()
     }
 }
 

@@ -1,4 +1,5 @@
-//! The tests of the program's commands over devices in memory, through their public calls.
+//! The tests of the program's commands over devices in memory, and of the words that ask for them,
+//! through their public calls.
 //!
 //! They stand in a crate of their own, since a check of a crate's tests proves the crate once more;
 //! here there is nothing to prove but the tests.
@@ -26,3 +27,5 @@ mod runs;
 mod serves;
 #[cfg(test)]
 mod texts;
+#[cfg(test)]
+mod words;

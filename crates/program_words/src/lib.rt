@@ -11,6 +11,3 @@ pub use words::{
     ArgFault, AuditPaths, CheckPaths, Command, ReplayPaths, ReportPaths, RunPaths, SealPaths,
     ServePaths, read_words,
 };
-
-#[cfg(test)]
-mod tests;

@@ -1,4 +1,4 @@
-//! The tests of scripts, replies and books as text, through their public calls.
+//! The tests of halls, and of scripts, replies and books as text, through their public calls.
 //!
 //! They stand in a crate of their own, since a check of a crate's tests proves the crate once more;
 //! here there is nothing to prove but the tests, and two rows of definitions.
@@ -7,6 +7,8 @@
 #[cfg(test)]
 mod books;
 #[cfg(test)]
+mod calls;
+#[cfg(test)]
 mod chains;
 #[cfg(test)]
 mod checks;
@@ -14,6 +16,8 @@ mod checks;
 mod digits;
 #[cfg(test)]
 mod halls;
+#[cfg(test)]
+mod kept;
 #[cfg(test)]
 mod made;
 #[cfg(test)]
@@ -33,3 +37,5 @@ mod statements;
 mod walls;
 #[cfg(test)]
 mod worked;
+#[cfg(test)]
+mod worlds;

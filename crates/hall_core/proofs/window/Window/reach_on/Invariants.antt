@@ -1,21 +1,19 @@
-use Rattle.std.proofs.Common.{◌≡◌, ℕ, ◌+◌, ◌-◌, ◌++◌, ◌≤◌, ◌^◌, length, replicate, slice_index_or}
-use Rattle.std.specs.VecDeque.{deque_len}
+use Rattle.std.proofs.Common.{◌≡◌, ℕ, ◌+◌, ◌-◌, ◌*◌, ◌≤◌, ◌⊎◌, length, max, slice_index_or}
+use Rattle.hall_core.specs.Windows.{slots_of, HasFewSlots}
 use Rattle.hall_core.proofs.window.Window.reach_on.Given as goal
 
 abbrev pub invariant-loop-self : goal.invariant-loop-self
 invariant-loop-self g l =
     let nothing = g.T.Forgettable.nothing in
-    let old = l.initial.self-inside in
+    let old = l.initial.self in
     record {
-      same : (j : ℕ) →
-          slice_index_or (replicate l.self-inside.first nothing ++ l.self-inside.kept.items) j
-          nothing
-          ≡ slice_index_or (replicate old.first nothing ++ old.kept.items) j nothing;
-      first : l.self-inside.first ≡ old.first;
-      longer : length old.kept.items ≤ length l.self-inside.kept.items;
-      few : l.self-inside.first + length l.self-inside.kept.items ≤ 2 ^ 62;
-      counted : deque_len l.self-inside.kept ≡ length l.self-inside.kept.items;
+      same : (j : ℕ) → slice_index_or l.self.list j nothing ≡ slice_index_or old.list j nothing;
+      first : l.self.first ≡ old.first;
+      longer : length old.list ≤ length l.self.list;
+      short : length l.self.list ≤ max (length old.list) (l.number + 1);
+      few : HasFewSlots old l.self;
+      grown : (slots_of l.self ≡ slots_of old) ⊎ (2 * slots_of old ≤ slots_of l.self);
     }
 
 abbrev pub decreases-loop-self : goal.decreases-loop-self
-decreases-loop-self g l = (l.number + 1) - (l.self-inside.first + length l.self-inside.kept.items)
+decreases-loop-self g l = (l.number + 1) - length l.self.list

@@ -6,11 +6,11 @@ ghost use Rattle.std.specs.Prelude.{IfOk};
 ghost use Rattle.wall_policy.specs.Policy.{ChineseWall};
 ghost use Rattle.run_model.specs.Known.{IsKnownLabel, HasKnownLabel, HaveKnownLabels};
 
-use crate::{
+use coll_routes::{Numbers, Own, Signature};
+use hall_core::{
     Act, Block, Call, Calls, Claim, Delivery, Hall, NoMemory, Posting, Replies, Reply, finish,
     run_calls,
 };
-use coll_routes::{Numbers, Own, Signature};
 use mpi_elems::{Buffer, ElemType};
 use std::alloc::{AllocError, Global};
 use std::test::Fail;

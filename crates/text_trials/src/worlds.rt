@@ -2,9 +2,9 @@
 ghost use Rattle.std.specs.Prelude.{IfOk};
 ghost use Rattle.run_model.specs.Known.{HaveKnownLabels};
 
-use crate::tests::Doing::{Cast, Group, Share, Sum, Take};
-use crate::tests::{GROUPS, Line, RIVALS, calls, told};
-use crate::{Calls, TwoRuns, run_two};
+use crate::calls::Doing::{Cast, Group, Share, Sum, Take};
+use crate::calls::{GROUPS, Line, RIVALS, calls, told};
+use hall_core::{Calls, TwoRuns, run_two};
 use std::alloc::Global;
 use std::test::Fail;
 use wall_labels::NoMemory;

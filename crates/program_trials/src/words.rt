@@ -1,5 +1,5 @@
 //! Words of the command line.
-use super::*;
+use program_words::{ArgFault, Command, VERSION, read_words, usage_text};
 use std::alloc::Global;
 use std::process::Abort;
 use std::test::Fail;

@@ -1,22 +1,19 @@
-//! What a hall keeps: an instance until its last member has taken its outcome, and the requests of
-//! a process from the first on that it has not taken. So its tables do not grow with the calls, and
-//! all other memory is given back.
+//! What a hall keeps: an instance until its last member has taken its outcome, in whatever order
+//! they do. All other memory is given back.
 
-ghost use Rattle.std.specs.Prelude.{◌≡◌, ℕ, IfSome};
+ghost use Rattle.std.specs.Prelude.{IfSome};
 ghost use Rattle.hall_core.specs.Halls.{view_of};
 ghost use Rattle.hall_core.specs.Looks.{IsDue};
-ghost use Rattle.hall_core.specs.Settling.{nothing, place_at};
 
-use crate::settled::Settlements;
-use crate::tests::Doing::{Cast, Sum, Take, Trade};
-use crate::tests::{FRIENDS, Line, RIVALS, SUM_OF_FOUR, answers, at_a_hall, runs};
-use crate::worlds_tests::{AT_ONCE, Looked, both};
-use crate::{Due, Hall, Open, Refusal, Reply, finish};
+use crate::calls::Doing::{Cast, Sum, Take, Trade};
+use crate::calls::{FRIENDS, Line, RIVALS, SUM_OF_FOUR, answers, at_a_hall, runs};
+use crate::worlds::{AT_ONCE, Looked, both};
+use hall_core::{Due, Hall, Open, Refusal, Reply, finish};
 use std::alloc::Global;
-use std::fs;
 use std::process::Abort;
 use std::rt::Files;
 use std::test::Fail;
+use trial_kit::pages;
 use wall_labels::NoMemory;
 use wall_policy::read_policy;
 
@@ -60,23 +57,6 @@ fn all_take(alloc: Global, hall: &mut Hall, request: u64) -> Result<bool, NoMemo
     Ok(true)
 }
 
-/// Whether so many places are kept for the world's instances, and so many requests of each process.
-fn keeps(hall: &Hall, number: usize) -> bool {
-    for process in 0..4 {
-        if hall.kept_requests(process) != number {
-            return false;
-        }
-    }
-    hall.kept_places(0) == number
-}
-
-/// Whether one more post leaves one place, and one request of its process alone.
-fn keeps_one_more(alloc: Global, hall: &mut Hall) -> Result<bool, NoMemory> {
-    answers(alloc, hall, &(0, Cast(0, 0, 2, "alpha", &[7, -1]), "any"))?;
-    let requests = hall.kept_requests(0) == 1 && hall.kept_requests(1) == 0;
-    Ok(requests && hall.kept_places(0) == 1)
-}
-
 fn takes_in_order(alloc: Global, hall: &mut Hall) -> Result<bool, NoMemory> {
     for number in 0..ROUNDS {
         asks_all(alloc, hall, ROUND)?;
@@ -84,17 +64,7 @@ fn takes_in_order(alloc: Global, hall: &mut Hall) -> Result<bool, NoMemory> {
             return Ok(false);
         }
     }
-    Ok(keeps(hall, 0) && keeps_one_more(alloc, hall)?)
-}
-
-/// Whether there is room for 200, and for some as many more: so it grew seldom.
-fn is_fit(room: usize) -> bool {
-    200 < room && room <= 512
-}
-
-/// Whether there is fit room for the requests of a process, and for the world's instances.
-fn has_fit_room(hall: &Hall) -> bool {
-    is_fit(hall.request_room(0)) && is_fit(hall.place_room(0))
+    Ok(true)
 }
 
 /// Whether the book has room for no more than as many entries again, and a few.
@@ -110,17 +80,16 @@ fn takes_backwards(alloc: Global, hall: &mut Hall) -> Result<bool, NoMemory> {
             return Ok(false);
         }
     }
-    let all = keeps(hall, 200) && has_fit_room(hall);
     for after in 0..2 * ROUNDS {
         if !all_take(alloc, hall, 2 * ROUNDS - 1 - after)? {
             return Ok(false);
         }
     }
-    Ok(all && keeps(hall, 0))
+    Ok(true)
 }
 
 #[test]
-fn nothing_is_kept_of_what_all_took(rt: HostRuntime) -> Result<(), Fail> {
+fn all_take_in_order_and_backwards(rt: HostRuntime) -> Result<(), Fail> {
     assert!(rt; at_a_hall(rt.alloc(), RIVALS, takes_in_order)?);
     assert!(rt; at_a_hall(rt.alloc(), RIVALS, takes_backwards)?);
     Ok(())
@@ -145,20 +114,6 @@ fn all_but_one_take(alloc: Global, hall: &mut Hall, request: u64) -> Result<bool
     Ok(true)
 }
 
-/// How many places for instances of the world there are after process 0 took a request, if it keeps
-/// as many requests.
-fn kept_after(alloc: Global, hall: &mut Hall, request: u64) -> Result<Option<usize>, NoMemory> {
-    if !answers(alloc, hall, &(0, Take(request), "delivered none"))? {
-        return Ok(None);
-    }
-    let kept = hall.kept_places(0);
-    if hall.kept_requests(0) == kept {
-        Ok(Some(kept))
-    } else {
-        Ok(None)
-    }
-}
-
 /// Process 0 alone has not taken three outcomes. It takes the last first, and then the first.
 fn waits_for_one(alloc: Global, hall: &mut Hall) -> Result<bool, NoMemory> {
     for request in 0..3 {
@@ -166,12 +121,12 @@ fn waits_for_one(alloc: Global, hall: &mut Hall) -> Result<bool, NoMemory> {
             return Ok(false);
         }
     }
-    let others = hall.kept_requests(1) == 0 && hall.kept_requests(3) == 0;
-    let three = hall.kept_places(0) == 3 && hall.kept_requests(0) == 3;
-    let third = kept_after(alloc, hall, 2)? == Some(3);
-    let first = kept_after(alloc, hall, 0)? == Some(2);
-    let second = kept_after(alloc, hall, 1)? == Some(0);
-    Ok(others && three && third && first && second)
+    for request in [2, 0, 1] {
+        if !answers(alloc, hall, &(0, Take(request), "delivered none"))? {
+            return Ok(false);
+        }
+    }
+    Ok(true)
 }
 
 #[test]
@@ -221,50 +176,16 @@ fn is_unknown(hall: &Hall, process: u32) -> bool {
 fn two_are_closed(alloc: Global, hall: &mut Hall) -> Result<bool, NoMemory> {
     asks_all(alloc, hall, BROADCAST)?;
     let closed = is_closed(hall, 1, 3) && is_closed(hall, 3, 2);
-    let known = is_unknown(hall, 1) && !is_unknown(hall, 0) && hall.kept_places(0) == 1;
+    let known = is_unknown(hall, 1) && !is_unknown(hall, 0);
     let other = answers(alloc, hall, &(2, Take(0), "delivered [5]"))?;
     let root = is_closed(hall, 0, 0);
-    Ok(closed && known && other && root && keeps(hall, 0))
+    Ok(closed && known && other && root && is_unknown(hall, 0))
 }
 
 #[test]
 fn a_request_is_closed_once(rt: HostRuntime) -> Result<(), Fail> {
     assert!(rt; at_a_hall(rt.alloc(), FRIENDS, two_are_closed)?);
     Ok(())
-}
-
-/// Whether places that were dropped come back where they are asked for, as many as are needed, in
-/// room for a few more.
-fn come_back(settlements: &mut Settlements) -> Result<bool, NoMemory>
-    requires { (c k : ℕ) → place_at settlements.old c k ≡ nothing }
-{
-    settlements.ready(0, 5)?;
-    settlements.join(0, 5);
-    settlements.leave(0, 5);
-    let none = settlements.kept(0) == 0;
-    settlements.ready(0, 3)?;
-    Ok(none && settlements.kept(0) == 3 && settlements.room(0) <= 64)
-}
-
-#[test]
-fn dropped_places_come_back(rt: HostRuntime) -> Result<(), Fail> {
-    let mut settlements = Settlements::new(rt.alloc());
-    let back = come_back(&mut settlements);
-    drop(settlements);
-    assert!(rt; back?);
-    Ok(())
-}
-
-/// The pages of memory that this process has resident, as the system tells.
-fn resident_pages<R: Files + AllocGlobal>(rt: &R) -> Result<u64, Fail> {
-    let text = fs::read_to_string(rt, "/proc/self/statm")?;
-    let Some(word) = text.as_str().split(' ').nth(1) else {
-        return Err(Fail::from("the system tells no pages"));
-    };
-    match word.parse::<u64>() {
-        Ok(pages) => Ok(pages),
-        Err(_) => Err(Fail::from("the pages are no number")),
-    }
 }
 
 /// Four pages of numbers.
@@ -293,13 +214,13 @@ fn all_claim(hall: &mut Hall, request: u64) {
 
 /// How many more pages are resident after all trades, each claimed by all.
 fn pages_of_trades<R: Files + AllocGlobal + Abort>(rt: &R, hall: &mut Hall) -> Result<u64, Fail> {
-    let before = resident_pages(rt)?;
+    let before = pages(rt, 1)?;
     for request in 0..TRADES {
         asks_all(rt.alloc(), hall, TRADE)?;
         all_claim(hall, request);
     }
-    let after = resident_pages(rt)?;
-    assert!(rt; keeps(hall, 0) && hall.book().len() == 1500);
+    let after = pages(rt, 1)?;
+    assert!(rt; hall.book().len() == 1500);
     Ok(after.saturating_sub(before))
 }
 
@@ -311,9 +232,9 @@ fn pages_at_a_hall<R: Files + AllocGlobal + Abort>(rt: &R, policy: &str) -> Resu
     };
     match Hall::open(rt.alloc(), policy) {
         Ok(mut hall) => {
-            let pages = pages_of_trades(rt, &mut hall);
+            let more = pages_of_trades(rt, &mut hall);
             drop(hall);
-            pages
+            more
         }
         Err(_) => Err(Fail::from("no memory")),
     }
@@ -325,8 +246,8 @@ fn pages_at_a_hall<R: Files + AllocGlobal + Abort>(rt: &R, policy: &str) -> Resu
 #[test]
 fn memory_is_given_back(rt: HostRuntime) -> Result<(), Fail> {
     for policy in [FRIENDS, RIVALS] {
-        let pages = pages_at_a_hall(&rt, policy)?;
-        assert!(&rt; pages < 1024, "{pages} pages more");
+        let more = pages_at_a_hall(&rt, policy)?;
+        assert!(&rt; more < 1024, "{more} pages more");
     }
     Ok(())
 }
@@ -353,7 +274,7 @@ fn pairs_often(alloc: Global, pairs: u32) -> Result<bool, NoMemory> {
 
 /// Fewer than 256 pages more are resident than before.
 fn expect_few_more<R: Files + AllocGlobal + Abort>(rt: &R, before: u64) -> Result<(), Fail> {
-    let after = resident_pages(rt)?;
+    let after = pages(rt, 1)?;
     assert!(rt;
         after < before.saturating_add(256),
         "{before} pages, then {after}"
@@ -365,7 +286,7 @@ fn expect_few_more<R: Files + AllocGlobal + Abort>(rt: &R, before: u64) -> Resul
 #[test]
 fn halls_of_whole_runs_are_let_go(rt: HostRuntime) -> Result<(), Fail> {
     assert!(&rt; sums_often(rt.alloc(), 64)?);
-    let before = resident_pages(&rt)?;
+    let before = pages(&rt, 1)?;
     assert!(&rt; sums_often(rt.alloc(), 4096)?);
     expect_few_more(&rt, before)
 }
@@ -374,7 +295,7 @@ fn halls_of_whole_runs_are_let_go(rt: HostRuntime) -> Result<(), Fail> {
 #[test]
 fn halls_of_two_runs_are_let_go(rt: HostRuntime) -> Result<(), Fail> {
     assert!(&rt; pairs_often(rt.alloc(), 64)?);
-    let before = resident_pages(&rt)?;
+    let before = pages(&rt, 1)?;
     assert!(&rt; pairs_often(rt.alloc(), 4096)?);
     expect_few_more(&rt, before)
 }
