@@ -22,8 +22,8 @@ abbrev pub ForEachRun : {M : Type 0} → (ChineseWall → M → List Entry → T
 ForEachRun stands machine IsSo = (wall : ChineseWall) (run : List Entry) → Legal wall run →
     stands wall machine run → IsSo wall run
 
--- a call with its reply carries a machine from each legal run that it stands for to that run with
--- this entry
+-- A call with its reply carries a machine from each legal run that it stands for to that run with
+-- this entry, which is legal too; and the reply names only what the policy has.
 abbrev pub Carries : {M : Type 0} → (ChineseWall → M → List Entry → Type 0) → M → M → Call → Reply →
     Type 0
 Carries stands old new call reply = ForEachRun stands old (λ wall run.

@@ -7,6 +7,6 @@ returns-in-None c =
     parts_none (λ b. eqb b c.args.separator) c.args.text.now (sym c.requires ∙ c.in-None.is)
 
 pub returns-in-Some : goal.returns-in-Some
-returns-in-Some c = rw (c.split_at.ensures.prefix, c.split_at-in-Some.ensures.back)
+returns-in-Some c = rw (c.split_at.ensures.front, c.split_at-in-Some.ensures.back)
     (parts_some (λ b. eqb b c.args.separator) c.args.text.now c.in-Some.at
     (sym c.requires ∙ c.in-Some.is)).1

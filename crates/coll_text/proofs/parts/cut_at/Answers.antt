@@ -10,6 +10,6 @@ pub returns-clause-whole : goal.returns-clause-whole
 returns-clause-whole c =
     let lt : c.args.len < length c.args.text.now = omega
     (arith, c.requires.within, c.if-len-text.false) in
-    rw (c.split_at.ensures.prefix, c.split_at-2.ensures.back)
+    rw (c.split_at.ensures.front, c.split_at-2.ensures.back)
     (prefix_part c.args.separator c.args.len c.args.text.now c.requires.below c.requires.solid lt
     c.if-text-len.false)
