@@ -36,7 +36,7 @@ pub(crate) fn read_begun(
     }
 }
 
-// The same where the finished lines have no end: it is put behind them.
+// What is read of a text whose finished lines lack their end, which is put behind them.
 fn read_cut(alloc: Global, policy: &Policy, text: &[u8]) -> Result<Book, NoMemory>
     requires { book_in policy.now (finished text.now) ≡ Err Cut }
     ensures told { IfOk result (λ book. finished_entries policy.now text.now ≡ book.list) }

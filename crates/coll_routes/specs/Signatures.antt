@@ -213,7 +213,7 @@ fields_of s = record {
   count = count s;
 }
 
--- the same by the fields: one that is missing is 0, max or int8
+-- the signature with these fields and lists, where a field that is missing is 0, max or int8
 abbrev pub signature_from : Fields → List ℕ → List Bool → Signature
 signature_from f ns fs =
     signature_by f.kind (unwrap_or f.root 0) (unwrap_or f.op Max) (unwrap_or f.elem_type Int8)

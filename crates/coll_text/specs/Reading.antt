@@ -22,12 +22,13 @@ abbrev pub Gives : {Y : Type 0} → Result Y LineFault → Result Y LineFault �
 Gives (Ok y) said = said ≡ Ok y
 Gives (Err fault) said = Fails fault said
 
--- the same of what it left
+-- what a reader left is what is said, unless memory ran out
 abbrev pub Leaves : {X Y : Type 0} → Result X LineFault → Y → Result Y LineFault → Type 0
 Leaves (Ok x) y said = said ≡ Ok y
 Leaves (Err fault) y said = Fails fault said
 
--- the same of what is seen of it, and of the words that are left
+-- what is seen of what a reader returned, and the words that it left, are what is said, unless
+-- memory ran out
 abbrev pub Takes : {X Y : Type 0} → (X → Y) → Result X LineFault → List Word →
     Result (Y × List Word) LineFault → Type 0
 Takes view (Ok x) rest said = said ≡ Ok (view x, rest)

@@ -40,7 +40,7 @@ fn expect_fault(
     assert_eq!(rt; found, Some(expected), "{ty:?}");
 }
 
-// The same of a builder that is told them.
+// Expects the fault of a builder that is told these numbers.
 fn expect_built_fault(
     rt: &(impl AllocGlobal + Abort),
     ty: ElemType,

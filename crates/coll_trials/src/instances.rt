@@ -173,7 +173,7 @@ fn expect_deliveries(
     drop(full);
 }
 
-// The same of two ranks without a grid, which state no counts.
+// Expects the deliveries of two ranks without a grid, which state no counts.
 fn expect_of_two(
     rt: &(impl AllocGlobal + Abort),
     sig: Signature,
@@ -183,7 +183,7 @@ fn expect_of_two(
     expect_deliveries(rt, rt.alloc(), plain(2), sig, &given, &[], &expected);
 }
 
-// The same of four.
+// Expects the deliveries of four ranks without a grid, which state no counts.
 fn expect_of_four(
     rt: &(impl AllocGlobal + Abort),
     sig: Signature,

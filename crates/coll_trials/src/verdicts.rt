@@ -130,7 +130,7 @@ fn roll_in(
     }
 }
 
-// The same without a grid.
+// A roll of these members, without a grid.
 fn roll(rt: &impl Abort, alloc: Global, members: &[u32], sig: Signature, gifts: &[Gift]) -> Roll {
     roll_in(rt, alloc, members, None, sig, gifts)
 }

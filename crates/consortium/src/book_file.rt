@@ -23,7 +23,7 @@ pub(crate) struct NewBook<'a> {
     pub(crate) is_synced: bool,
 }
 
-/// The same with a new ledger for its failures.
+/// A file that was made for a book, with a new ledger for its failures.
 pub(crate) struct CountedBook<'a> {
     pub(crate) book: NewBook<'a>,
     pub(crate) blank: Blank,

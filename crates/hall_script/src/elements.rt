@@ -54,7 +54,7 @@ fn push_plain(builder: &mut BufferBuilder, word: &[u8], number: i64) -> Result<(
     }
 }
 
-// The same of any number of 64 bits behind its sign.
+// Takes the number that an element's word spells, of 64 bits without its sign.
 #[inline(never)]
 #[tactic(auto, using(crate::proofs::FillLemmas::some_word))]
 fn push_wide(builder: &mut BufferBuilder, word: &[u8], number: i128) -> Result<(), LineFault>
@@ -71,7 +71,7 @@ fn push_wide(builder: &mut BufferBuilder, word: &[u8], number: i128) -> Result<(
     }
 }
 
-// The same of any word, also of one that spells no such number.
+// Takes an element's word, also one that spells no such number.
 fn push_word(builder: &mut BufferBuilder, word: &[u8]) -> Result<(), LineFault>
     requires room { length builder.old.numbers
         < numbers_per_element builder.old.elem_type * builder.old.room }

@@ -234,8 +234,8 @@ fn tell(
     }
 }
 
-// The same where no line is kept. Its own is, for so many others at most, where requests are still
-// open.
+// Appends the line of what a rank gets where none is kept. It is kept then, for so many others at
+// most, where requests are still open.
 fn tell_first(
     lines: &mut KeptLines,
     policy: &Policy,

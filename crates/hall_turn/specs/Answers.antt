@@ -41,7 +41,7 @@ pub record Enters (before : Known) (new : Entry) (after : Known) : Type 0 where
   pub begins : Continues front before.seen
   pub own : calls_of before.process after.seen ≡ new ∷ calls_of before.process before.seen
 
--- the same, and this is so of the run before that entry
+-- the run seen after ends with this entry, and this is so of the run before it
 pub record EntersAnd (before : Known) (new : Entry) (IsSoOf : List Entry → Type 0) (after : Known)
     : Type 0 where
   pub enters : Enters before new after

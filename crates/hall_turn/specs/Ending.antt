@@ -26,6 +26,6 @@ pub record ClosedTo {M : Type 0} (stands : ChineseWall → M → List Entry → 
   pub whole : (p : ℕ) → p < processes wall → Any (λ pass. pass.process ≡ p) passes
   pub others : (p : ℕ) → processes wall ≤ p → calls_of p run ≡ []
 
--- the same of a hall: it has this policy, and stands for the run
+-- what is so at the end of a door to a hall, which has this policy and stands for the run
 abbrev pub Closed : ChineseWall → HallValue → (passes : List Known) → Type 0
 Closed = ClosedTo Stands

@@ -84,6 +84,6 @@ pub record StandsWithBook (wall : ChineseWall) (m : BookedHallValue) (run : List
     pub hall : StandsFor m.hall run
     pub book : IsWritten wall m.begun m.sink m.fault run
 
--- the same of a hall whose sink was so at the opening
+-- it stands for the run with its book, and its sink was so at the opening
 abbrev pub StandsBehind : (begun : SinkValue) → ChineseWall → BookedHallValue → List Entry → Type 0
 StandsBehind begun wall m run = StandsWithBook wall m run × (m.begun ≡ begun)

@@ -7,7 +7,8 @@ zip_with f [] ys = []
 zip_with f (x ∷ xs) [] = []
 zip_with f (x ∷ xs) (y ∷ ys) = f x y ∷ zip_with f xs ys
 
--- the same, and the rest of the longer list stays: so a list merged into none is itself
+-- f of the elements at each place that both lists have, and behind them the rest of the longer one:
+-- so a list merged into none is itself
 unfoldable pub merged : {E : Type 0} → (E → E → E) → List E → List E → List E
 merged f [] ys = ys
 merged f (x ∷ xs) [] = x ∷ xs

@@ -17,7 +17,7 @@ Combines R [] [] [] = Unit {0}
 Combines R (x ∷ xs) (y ∷ ys) (z ∷ zs) = R x y z × Combines R xs ys zs
 Combines R _ _ _ = ⊥
 
--- the same at the places that both have; the rest of the longer one stays
+-- R holds of the cells at each place that both have; the rest of the longer one stays
 unfoldable pub Merges : {A : Type 0} → (A → A → A → Type 0) → List A → List A → List A → Type 0
 Merges R [] ys zs = zs ≡ ys
 Merges R (x ∷ xs) [] zs = zs ≡ x ∷ xs

@@ -74,7 +74,7 @@ first_missing version Rule ms =
     if has (codes "op") ms then (if has (codes "least") ms then Some (codes "distinct")
     else Some (codes "least")) else Some (codes "op")
 
--- the same of a value that may be a table
+-- the first key that a value lacks, if it is a table
 abbrev pub missing_in : (version : ℕ) → Part → Data → Option Name
 missing_in version part d = option_and_then (first_missing version part) (as_table d)
 
@@ -143,7 +143,7 @@ names whole k BadLeast ms =
     named_in (Some Rule) (first_read (bad_least_in k.version) (tables_at Rule ms))
 names whole k TooMany ms = named_in None (Some (too_many_in ms))
 
--- the same of the lines up to the one where something was found
+-- the word at fault in the document of the lines up to the one where something was found
 abbrev pub named_at : (text : List ℕ) → Found → Option Named
 named_at text found =
     option_and_then (λ whole.

@@ -38,7 +38,7 @@ IsFoundBy text whole (Some sign) (Some found) = (found.sign ≡ sign)
 IsFoundBy text whole None (Some found) = ⊥
 IsFoundBy text whole (Some sign) None = ⊥
 
--- the same of a text that is no TOML
+-- what is found of a text with this fault, which may be no TOML
 abbrev pub IsFoundIn : (text : List ℕ) → PolicyFault → Option Members → Option Found → Type 0
 IsFoundIn text fault None None = ⊥
 IsFoundIn text fault None (Some found) = (found.sign ≡ NotToml) × EndsToml text found.line

@@ -78,7 +78,7 @@ fn has_part_keys(version: u32, part: Part, members: &Table) -> bool
     all_of_part(version, part, members)
 }
 
-// The same of a value that may be a table.
+// Whether the value is no table, or one with no other keys than its part may have.
 fn has_keys(version: u32, part: Part, value: &Value) -> bool
     ensures { result ≡ has_keys version part (view value.now) }
 {
