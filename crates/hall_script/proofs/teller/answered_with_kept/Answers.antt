@@ -3,7 +3,7 @@ use Rattle.hall_script.specs.declared.teller.Teller.{Teller}
 use Rattle.hall_script.specs.Scripts.{script_of}
 use Rattle.hall_script.specs.Telling.{TellsRun}
 use Rattle.hall_script.proofs.RunLemmas.{part_has_stopped}
-use Rattle.hall_script.proofs.teller.answered_from.Goals as goal
+use Rattle.hall_script.proofs.teller.answered_with_kept.Goals as goal
 
 pub returns-in-Err-clause-stopped : goal.returns-in-Err-clause-stopped
 returns-in-Err-clause-stopped g c =

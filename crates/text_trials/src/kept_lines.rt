@@ -3,11 +3,9 @@
 ghost use Rattle.std.specs.Prelude.{[]};
 ghost use Rattle.hall_core.specs.Halls.{StandsFor};
 
-use crate::answer::answered;
-use crate::script::SCRIPT_LIMIT;
-use crate::teller::Teller;
 use coll_text::{put, put_decimal};
 use hall_core::Hall;
+use hall_script::{SCRIPT_LIMIT, answered_with_kept};
 use std::alloc::{AllocError, Global};
 use std::process::Abort;
 use std::test::Fail;
@@ -28,10 +26,13 @@ enum Kind {
 }
 
 /// Each process posts to an instance, then each takes its outcome, in this order, before the next
-/// is filled. But the last takes those that meet in the first place when all are filled.
+/// is filled. But of those that meet in the first place the last of the order take theirs when all
+/// are filled, one process after the other.
 struct Case {
     kind: Kind,
     order: &'static [u32],
+    /// How many of the order take so late.
+    late: usize,
     /// How many lines are kept when all are filled. None are at the end.
     kept: usize,
 }
@@ -42,31 +43,45 @@ const CASES: &[Case] = &[
     Case {
         kind: Kind::Sum,
         order: &[0, 1],
+        late: 1,
         kept: 1,
     },
     Case {
         kind: Kind::Sum,
         order: &[0, 1, 2],
+        late: 1,
         kept: 1,
     },
     Case {
         kind: Kind::Broadcast,
         order: &[0, 1],
+        late: 1,
         kept: 0,
     },
     Case {
         kind: Kind::Broadcast,
         order: &[1, 0],
+        late: 1,
         kept: 0,
     },
     Case {
         kind: Kind::Broadcast,
         order: &[1, 2, 0],
+        late: 1,
         kept: 0,
     },
     Case {
         kind: Kind::Broadcast,
         order: &[1, 0, 2],
+        late: 1,
+        kept: 1,
+    },
+    // Two get the line, and the second of them so late that it was driven out: it is kept anew, as
+    // for one more, and that is the root, which is told nothing.
+    Case {
+        kind: Kind::Broadcast,
+        order: &[1, 2, 0],
+        late: 2,
         kept: 1,
     },
 ];
@@ -125,22 +140,25 @@ fn put_take(play: &mut Play, case: &Case, process: u32, k: u64) -> Result<(), Al
     }
 }
 
-/// One instance: all post, and all take but maybe the last.
-fn put_round(
-    play: &mut Play,
-    case: &Case,
-    others: &[u32],
-    last: u32,
-    k: u64,
-) -> Result<(), AllocError> {
+/// One instance: all post, and all take but maybe the late ones.
+fn put_round(play: &mut Play, case: &Case, late: &[u32], k: u64) -> Result<(), AllocError> {
     for process in case.order {
         put_post(play, case.kind, *process, k)?;
     }
-    for process in others {
-        put_take(play, case, *process, k)?;
+    for process in case.order {
+        if k % PLACES != 0 || !late.contains(process) {
+            put_take(play, case, *process, k)?;
+        }
     }
-    if k % PLACES != 0 {
-        put_take(play, case, last, k)?;
+    Ok(())
+}
+
+/// The takes of one of the late.
+fn put_late(play: &mut Play, case: &Case, process: u32) -> Result<(), AllocError> {
+    for k in 0..INSTANCES {
+        if k % PLACES == 0 {
+            put_take(play, case, process, k)?;
+        }
     }
     Ok(())
 }
@@ -151,17 +169,13 @@ fn played(alloc: Global, case: &Case, to_end: bool) -> Result<Play, AllocError> 
         script: Vec::new(alloc),
         replies: Vec::new(alloc),
     };
-    let Some((last, others)) = case.order.split_last() else {
-        return Ok(play);
-    };
+    let late = &case.order[case.order.len().saturating_sub(case.late)..];
     for k in 0..INSTANCES {
-        put_round(&mut play, case, others, *last, k)?;
+        put_round(&mut play, case, late, k)?;
     }
     if to_end {
-        for k in 0..INSTANCES {
-            if k % PLACES == 0 {
-                put_take(&mut play, case, *last, k)?;
-            }
+        for process in late {
+            put_late(&mut play, case, *process)?;
         }
     }
     Ok(play)
@@ -193,15 +207,9 @@ fn kept_by<R: AllocGlobal + Abort>(rt: &R, hall: Hall, play: &Play) -> Result<us
         is_same: true,
         fuse: Fuse::Whole,
     };
-    match answered(
-        rt.alloc(),
-        Teller::new(rt.alloc(), hall),
-        &play.script,
-        &mut sink,
-    ) {
-        Ok(teller) => {
-            let number = teller.kept();
-            drop(teller);
+    match answered_with_kept(rt.alloc(), hall, &play.script, &mut sink) {
+        Ok((hall, number)) => {
+            drop(hall);
             if sink.is_same && sink.rest.is_empty() {
                 Ok(number)
             } else {
