@@ -1,5 +1,6 @@
 -- What crates above may cite of the lemmas of this crate. Everything else in proofs/ is its own.
 pub use Rattle.audit_book.proofs.AgainLemmas.{line_lacks, header_whole}
+pub use Rattle.audit_book.proofs.AuditLemmas.{none_missing, one_missing, stops_behind, within_more}
 pub use Rattle.audit_book.proofs.BookLemmas.{all_lines, book_found, done, end_step, ended_found}
 pub use Rattle.audit_book.proofs.BookLemmas.{ended_lines, header_step, line_text, lines_are}
 pub use Rattle.audit_book.proofs.BookLemmas.{lines_more, more_found, same_done, text_in_lines}

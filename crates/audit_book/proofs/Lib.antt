@@ -1,6 +1,7 @@
 pub mod StepLemmas
 pub mod DueLemmas
 pub mod CheckLemmas
+pub mod AuditLemmas
 pub mod TextLemmas
 pub mod ReadLemmas
 pub mod FoundLemmas

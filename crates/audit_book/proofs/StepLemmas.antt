@@ -15,10 +15,7 @@ use Rattle.run_model.specs.Books.{outcome_entry, entries_for, book, posts_in, Is
 use Rattle.run_model.specs.Books.{IsSound, Begins, IsFirstBad}
 use Rattle.run_state.specs.Views.{PostStateValue}
 use Rattle.audit_book.specs.declared.due.Due.{Due}
-use Rattle.audit_book.specs.Checks.{entry_of, post_of, Stands, IsRight, IsPostThatCounts}
-use Rattle.audit_book.specs.Checks.{StopsAtPost, StopsAtEntry}
-use Rattle.audit_book.specs.declared.check.Stopped.{Stopped}
-use Rattle.audit_book.specs.declared.check.Stopped.TheVariants as stops
+use Rattle.audit_book.specs.Checks.{entry_of, post_of, Stands, IsRight}
 use Rattle.run_model.proofs.RunModelLemmas.{begins_given, book_is_sound, posts_in-append}
 
 same_rest : (es : List Entry) (x y : Entry) (xs ys : List Entry) → es ++ x ∷ xs ≡ es ++ y ∷ ys →
@@ -26,7 +23,7 @@ same_rest : (es : List Entry) (x y : Entry) (xs ys : List Entry) → es ++ x ∷
 same_rest [] x y xs ys e = cc
 same_rest (z ∷ es) x y xs ys e = same_rest es x y xs ys (cc)
 
-no_more : (es : List Entry) (x : Entry) (xs : List Entry) → es ++ x ∷ xs ≡ es → ⊥
+pub no_more : (es : List Entry) (x : Entry) (xs : List Entry) → es ++ x ∷ xs ≡ es → ⊥
 no_more es x xs e = let long = sym (length-append es (x ∷ xs)) ∙ ap length e in omega arith
 
 posts_settled : (es : List Entry) (c k : ℕ) (o : _) →
@@ -216,13 +213,3 @@ length_prefix [] zero = omega arith
 length_prefix [] (suc n) = omega arith
 length_prefix (x ∷ es) zero = omega arith
 length_prefix (x ∷ es) (suc n) = let rest = length_prefix es n in omega arith
-
--- the check stops at the entry of a post for what stops it at the post
-pub stops_at_entry : (wall : ChineseWall) (old : PostStateValue (Unit {0})) (entry : Entry)
-    (p c : ℕ) (s : Stated) → entry ≡ Posted p c s → (stopped : Stopped) →
-    StopsAtPost wall old (post_of p c s) stopped → StopsAtEntry wall old entry stopped
-stops_at_entry wall old entry p c s is stops.Wrong why = λ es right begins.
-    posted_wrong wall es p c s (why (posts_in es) right.stood)
-    (subst (λ e. Begins wall (es ++ e ∷ [])) is begins)
-stops_at_entry wall old entry p c s is stops.NoMemory why =
-    subst (IsPostThatCounts wall old) (sym is) why

@@ -16,11 +16,11 @@ use Rattle.run_state.specs.declared.entered.Entered.TheVariants.{Waiting as wait
 use Rattle.run_state.specs.declared.entered.Entered.TheVariants.{Settled as settles}
 use Rattle.run_state.specs.declared.seat.Seat.{Seat}
 use Rattle.run_state.specs.Views.{PostStateValue, view_of, IsSeatFor}
-use Rattle.run_state.specs.Stands.{StandsForPosts}
+use Rattle.run_state.specs.Stands.{StandsForPosts, Tells}
 use Rattle.audit_book.specs.declared.due.Due.{Due}
-use Rattle.audit_book.specs.declared.check.Posting.{Posting}
-use Rattle.audit_book.specs.declared.check.Stopped.{Stopped}
-use Rattle.audit_book.specs.declared.check.Stopped.TheVariants as stops
+use Rattle.audit_book.specs.declared.count.Posting.{Posting}
+use Rattle.audit_book.specs.declared.count.Stopped.{Stopped}
+use Rattle.audit_book.specs.declared.count.Stopped.TheVariants as stops
 use Rattle.audit_book.specs.declared.check_fault.BookFault.{BookFault}
 use Rattle.audit_book.specs.declared.check_fault.BookFault.TheVariants.{BadEntry, NoMemory}
 
@@ -30,6 +30,10 @@ post_of p c stated = record { process = p; comm = c; stated = stated }
 -- the post that stands in a book
 abbrev pub post_in : Posting → Post
 post_in posting = post_of posting.process posting.comm posting.stated.now
+
+-- and its entry
+abbrev pub entry_in : Posting → Entry
+entry_in posting = Posted posting.process posting.comm posting.stated.now
 
 -- the same posts, each without a part
 abbrev pub bare : List Post → List (Contribution (Unit {0}))
@@ -63,20 +67,22 @@ pub record MayEnter (wall : ChineseWall) (post_state : PostStateValue (Unit {0})
   pub looked : IsSeatFor (view_of post_state) s seat
   pub counts : Counts wall post_state (post_of seat.process seat.meeting.comm s)
 
--- it now stands for the posts with this one, and the outcome of the instance that the post fills is
--- due, if it fills one
-abbrev pub HasEntered : ChineseWall → (old new : PostStateValue (Unit {0})) → Post → Option Due →
-    Type 0
-HasEntered wall old new x due = (past : List Post) → Stands wall old past →
-    Stands wall new (x ∷ past)
-    × (option_map entry_of due ≡ outcome_entry x past (outcome wall x past))
+-- What is told of a post, behind these posts: which instance it is of, and where it fills that, what
+-- was posted there and the outcome.
+abbrev pub IsToldOf : ChineseWall → Post → List Post → Entered (Unit {0}) → Type 0
+IsToldOf wall x past told = Tells wall (record { post = x; part = tt }) (bare past) told
+
+-- it now stands for the posts with this one, of which this is told
+abbrev pub HasEntered : ChineseWall → (old new : PostStateValue (Unit {0})) → Post →
+    Entered (Unit {0}) → Type 0
+HasEntered wall old new x told = (past : List Post) → Stands wall old past →
+    Stands wall new (x ∷ past) × IsToldOf wall x past told
 
 -- and the post counts
-abbrev pub HasCounted : ChineseWall → (old new : PostStateValue (Unit {0})) → Post → Option Due →
-    Type 0
-HasCounted wall old new x due = (past : List Post) → Stands wall old past →
-    IsCounted wall x past × Stands wall new (x ∷ past)
-    × (option_map entry_of due ≡ outcome_entry x past (outcome wall x past))
+abbrev pub HasCounted : ChineseWall → (old new : PostStateValue (Unit {0})) → Post →
+    Entered (Unit {0}) → Type 0
+HasCounted wall old new x told = (past : List Post) → Stands wall old past →
+    IsCounted wall x past × Stands wall new (x ∷ past) × IsToldOf wall x past told
 
 -- the entries so far are right, and the next has to be the one that is due, if there is one; the
 -- state stands for their posts
@@ -86,29 +92,12 @@ pub record IsRight (wall : ChineseWall) (post_state : PostStateValue (Unit {0}))
   pub given : entries ++ option_to_list (option_map entry_of due) ≡ book wall (posts_in entries)
   pub stood : Stands wall post_state (posts_in entries)
 
--- the entry tells a post that counts
-abbrev pub IsPostThatCounts : ChineseWall → PostStateValue (Unit {0}) → Entry → Type 0
-IsPostThatCounts wall post_state (Posted p c s) = Counts wall post_state (post_of p c s)
-IsPostThatCounts wall post_state (Settled c k o) = ⊥
-
 -- why the check stopped at a post: it counts after no list of posts that the state stands for; or
 -- memory ran out, at one that counts
 abbrev pub StopsAtPost : ChineseWall → PostStateValue (Unit {0}) → Post → Stopped → Type 0
 StopsAtPost wall post_state x stops.Wrong = (past : List Post) → Stands wall post_state past →
     ¬ (IsCounted wall x past)
 StopsAtPost wall post_state x stops.NoMemory = Counts wall post_state x
-
--- why it stopped at an entry: no sound book goes on with it; or memory ran out, at a post that
--- counts
-abbrev pub StopsAtEntry : ChineseWall → PostStateValue (Unit {0}) → Entry → Stopped → Type 0
-StopsAtEntry wall post_state entry stops.Wrong = (entries : List Entry) →
-    IsRight wall post_state entries None → ¬ (Begins wall (entries ++ entry ∷ []))
-StopsAtEntry wall post_state entry stops.NoMemory = IsPostThatCounts wall post_state entry
-
--- so many entries are right, and none is due
-abbrev pub IsRightFor : ChineseWall → PostStateValue (Unit {0}) → Type 0
-IsRightFor wall post_state =
-    (entries : List Entry) × (length entries < 2 ^ 62) × IsRight wall post_state entries None
 
 -- what a fault says of a book; out of memory says nothing
 abbrev pub IsFaultOf : ChineseWall → List Entry → BookFault → Type 0

@@ -14,5 +14,7 @@ pub mod Writing
 pub mod Checks
 -- what is due behind the entries of a book
 pub mod Dues
+-- how far an audit has come, and how it goes on by one entry
+pub mod Audits
 -- how lines are read one after the other, where memory may run out (of private contracts)
 pub mod LineSteps

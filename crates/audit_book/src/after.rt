@@ -8,7 +8,7 @@ ghost use Rattle.run_model.specs.Books.{IsSound, posts_in};
 ghost use Rattle.run_model.specs.Chains.{Link, IsChain, IsPolicyAfter, NobodyEverHeldBoth};
 ghost use Rattle.audit_book.specs.Checks.{Stands, IsFaultOf};
 
-use crate::check::follow_all;
+use crate::check::audit_whole;
 use crate::check_fault::BookFault;
 use run_state::{Book, PostState};
 use std::alloc::Global;
@@ -54,14 +54,9 @@ fn pairs_after(
         ArePairsOf (histories policy.now (posts_in book.now.list)) pairs.items) }
     ensures fault { IfErr result (IsFaultOf policy.now book.now.list) }
 {
-    match PostState::open(alloc, policy) {
-        Ok(mut post_state) => {
-            follow_all(alloc, policy, &mut post_state, book)?;
-            match held_at(alloc, &post_state) {
-                Ok(pairs) => Ok(pairs),
-                Err(_) => Err(BookFault::NoMemory),
-            }
-        }
+    let audit = audit_whole(alloc, policy, book)?;
+    match held_at(alloc, audit.post_state()) {
+        Ok(pairs) => Ok(pairs),
         Err(_) => Err(BookFault::NoMemory),
     }
 }

@@ -4,11 +4,11 @@ ghost use Rattle.std.specs.Option.{option_map};
 ghost use Rattle.audit_book.specs.Checks.{entry_of};
 ghost use Rattle.audit_book.specs.Dues.{IsDueBehind, IsFaultWithin};
 
-use crate::check::follow_entries;
 use crate::check_fault::BookFault;
 use crate::due::Due;
+use crate::watch::{Unwatched, watch_entries};
 use run_model::Entry;
-use run_state::{Book, PostState};
+use run_state::Book;
 use std::alloc::Global;
 use wall_policy::Policy;
 
@@ -22,13 +22,8 @@ pub fn due_behind(alloc: Global, policy: &Policy, book: &Book) -> Result<Option<
     ensures due { IfOk result (IsDueBehind policy.now book.now.list) }
     ensures fault { IfErr result (IsFaultWithin policy.now book.now.list) }
 {
-    match PostState::open(alloc, policy) {
-        Ok(mut post_state) => {
-            let due = follow_entries(alloc, policy, &mut post_state, book)?;
-            Ok(entry_due(due))
-        }
-        Err(_) => Err(BookFault::NoMemory),
-    }
+    let audit = watch_entries(alloc, policy, book, &mut Unwatched)?;
+    Ok(entry_due(audit.due()))
 }
 
 fn entry_due(due: Option<Due>) -> Option<Entry>

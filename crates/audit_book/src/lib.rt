@@ -15,8 +15,10 @@
 #![tactic(auto)]
 
 mod after;
+mod audit;
 mod check;
 mod check_fault;
+mod count;
 mod due;
 mod dues;
 mod fault;
@@ -24,16 +26,20 @@ pub mod laws;
 mod line;
 mod ranges;
 mod read;
+mod watch;
 mod words;
 mod write;
 
 pub use after::after_book;
+pub use audit::{Audit, ENTRY_LIMIT, Step, StepFault};
 pub use check::check_book;
 pub use check_fault::BookFault;
+pub use due::Due;
 pub use dues::due_behind;
 pub use fault::{ReadFault, WriteFault};
-pub use line::Line;
+pub use line::{Line, read_line};
 pub use ranges::entry_is_spelled;
 pub use read::read_book;
 pub use run_state::{Book, Entry, NoMemory, Outcome, Rule};
-pub use write::{put_end, put_entry, put_header, write_book};
+pub use watch::{Unwatched, Watch, watch_entries};
+pub use write::{header_text, put_end, put_entry, put_header, write_book};

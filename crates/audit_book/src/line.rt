@@ -167,12 +167,11 @@ fn next_line(memory: &mut Memory, policy: &Policy, words: &mut Parts) -> Result<
     next_behind(memory, policy, verb, words)
 }
 
-/// Reads a line behind the header, without its end.
-pub(crate) fn read_line(
-    memory: &mut Memory,
-    policy: &Policy,
-    line: &[u8],
-) -> Result<Line, LineFault>
+/// Reads a line behind the header, without its LF.
+///
+/// Where memory runs out the line is read on: whether it is an entry, or the end with its number, or
+/// has a fault is told all the same, and the entry may lack what there was no room for.
+pub fn read_line(memory: &mut Memory, policy: &Policy, line: &[u8]) -> Result<Line, LineFault>
     ensures kept { memory.new ≡ false → Gives result (line_at policy.now line.now) }
     ensures told { Shows number_of_end result (end_number (line_at policy.now line.now)) }
     ensures form { IfOk result IsFormed }

@@ -36,13 +36,17 @@ impl Kept {
         }
     }
 
-    // Adds an entry; where there is no room for it, memory ran out.
+    // Adds an entry; where there is no room for it, memory ran out. Where it ran out before, nothing
+    // is asked for.
     fn add(&mut self, entry: Entry)
         requires { HasForm entry }
         ensures kept { self.new.memory ≡ false →
             self.new.book.list ≡ self.old.book.list ++ entry ∷ [] }
         ensures stays { self.new.memory ≡ false → self.old.memory ≡ false }
     {
+        if self.memory.ran_out() {
+            return;
+        }
         match self.book.reserve(1) {
             Ok(()) => self.book.push(entry),
             Err(_) => self.memory.run_out(),

@@ -130,7 +130,7 @@ pub fn put_entry(policy: &Policy, entry: &Entry, text: &mut Vec<u8>) -> Result<(
 }
 
 /// The first line of a book under the policy, without its end.
-pub(crate) fn header_text(policy: &Policy) -> &'static str
+pub fn header_text(policy: &Policy) -> &'static str
     ensures { result.now ≡ header_line policy.now.version }
 {
     match policy.version() {

@@ -71,12 +71,16 @@ fn make_room(numbers: &mut Vec<u32>, word: &[u8]) -> Result<(), AllocError>
     numbers.reserve_exact(room_for(word))
 }
 
-// Adds the number; where there is no room for it, memory ran out.
+// Adds the number; where there is no room for it, memory ran out. Where it ran out before, nothing
+// is asked for.
 #[inline(always)]
 fn keep_number(memory: &mut Memory, numbers: &mut Vec<u32>, word: &[u8], number: u32)
     ensures kept { memory.new ≡ false → numbers.new.items ≡ numbers.old.items ++ number ∷ [] }
     ensures stays { memory.new ≡ false → memory.old ≡ false }
 {
+    if memory.ran_out() {
+        return;
+    }
     match make_room(numbers, word) {
         Ok(()) => match numbers.push(number) {
             Ok(()) => {}
@@ -120,11 +124,15 @@ fn numbers_in(memory: &mut Memory, word: &[u8]) -> Result<Numbers, LineFault>
     each_number(memory, word)
 }
 
-// Adds the flag; where there is no room for it, memory ran out.
+// Adds the flag; where there is no room for it, memory ran out. Where it ran out before, nothing is
+// asked for.
 fn keep_flag(memory: &mut Memory, flags: &mut Vec<bool>, flag: bool)
     ensures kept { memory.new ≡ false → flags.new.items ≡ flags.old.items ++ flag ∷ [] }
     ensures stays { memory.new ≡ false → memory.old ≡ false }
 {
+    if memory.ran_out() {
+        return;
+    }
     match flags.push(flag) {
         Ok(()) => {}
         Err(_) => memory.run_out(),

@@ -128,6 +128,11 @@ impl KeptLines {
         let_go_in(&mut self.places, comm, k);
     }
 
+    /// How many are kept.
+    pub fn number(&self) -> usize {
+        self.places.iter().filter(|place| place.is_some()).count()
+    }
+
     /// Keeps the line of instance k of a communicator for so many at most; where memory runs out it
     /// doesn't.
     pub fn keep(&mut self, comm: u32, k: u64, left: u64, line: &[u8])
@@ -137,14 +142,6 @@ impl KeptLines {
     {
         make_places(self.alloc, &mut self.places);
         put_in(self.alloc, &mut self.places, comm, k, left, line);
-    }
-}
-
-#[cfg(test)]
-impl KeptLines {
-    /// How many are kept.
-    pub fn number(&self) -> usize {
-        self.places.iter().filter(|place| place.is_some()).count()
     }
 }
 

@@ -9,8 +9,6 @@ mod device;
 mod elements;
 mod fault;
 mod kept;
-#[cfg(test)]
-mod kept_tests;
 mod laws;
 mod line;
 mod reply;
@@ -29,3 +27,4 @@ pub use reply::write_reply;
 pub use run_model::{Acts, Scripts};
 pub use script::{SCRIPT_LIMIT, replay};
 pub use split::split_script;
+pub use teller::answered_with_kept;

@@ -66,11 +66,39 @@ impl Teller {
     }
 }
 
-#[cfg(test)]
 impl Teller {
-    /// How many lines are kept.
-    pub fn kept(&self) -> usize {
+    // How many lines are kept.
+    fn kept(&self) -> usize {
         self.lines.number()
+    }
+}
+
+/// Answers the lines of a script from a hall and writes their replies, as `replay` does, and gives
+/// with the hall how many lines are still kept for members who are to be told the same as others.
+///
+/// That number is for tests: no clause says which lines a replay keeps.
+pub fn answered_with_kept<W: Sink>(
+    alloc: Global,
+    hall: Hall,
+    script: &[u8],
+    sink: &mut W,
+) -> Result<(Hall, usize), ScriptFault>
+    requires bounded { length script.now ≤ 16777216 }
+    requires begins { StandsFor hall [] }
+    ensures finished { let wall = hall.policy in
+        IfOk result (λ it. HasFinished StandsFor (λ (h : HallValue). h.policy) wall
+        (W.contents sink.old) (W.contents sink.new) (W.failures sink.old) (W.failures sink.new)
+        (script_of wall.dataset_names script.now) it.0) }
+    ensures stopped { let wall = hall.policy in
+        IfErr result (HasStopped StandsFor wall (W.contents sink.old) (W.contents sink.new)
+        (W.failures sink.old) (W.failures sink.new) (script_of wall.dataset_names script.now)) }
+{
+    match answered(alloc, Teller::new(alloc, hall), script, sink) {
+        Ok(teller) => {
+            let kept = teller.kept();
+            Ok((teller.into_hall(), kept))
+        }
+        Err(fault) => Err(fault),
     }
 }
 
@@ -91,8 +119,8 @@ pub(crate) fn answered_from<W: Sink>(
         IfErr result (HasStopped StandsFor wall (W.contents sink.old) (W.contents sink.new)
         (W.failures sink.old) (W.failures sink.new) (script_of wall.dataset_names script.now)) }
 {
-    match answered(alloc, Teller::new(alloc, hall), script, sink) {
-        Ok(teller) => Ok(teller.into_hall()),
+    match answered_with_kept(alloc, hall, script, sink) {
+        Ok((hall, _)) => Ok(hall),
         Err(fault) => Err(fault),
     }
 }

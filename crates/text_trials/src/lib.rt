@@ -19,7 +19,11 @@ mod halls;
 #[cfg(test)]
 mod kept;
 #[cfg(test)]
+mod kept_lines;
+#[cfg(test)]
 mod made;
+#[cfg(test)]
+mod pieces;
 #[cfg(test)]
 mod refused;
 #[cfg(test)]

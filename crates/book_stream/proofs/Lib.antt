@@ -1,0 +1,5 @@
+pub mod LineLemmas
+pub mod CutLemmas
+pub mod ReadingLemmas
+pub mod StayLemmas
+pub mod SourceLemmas

@@ -1,0 +1,6 @@
+-- a text that is cut into lines while it comes
+pub mod Cuts
+-- what is known of a book behind its finished lines
+pub mod Readings
+-- what an audit says of a source
+pub mod Audits
