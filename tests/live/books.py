@@ -161,15 +161,17 @@ def on_a_disk_of(given, size):
         out, err = server.communicate(timeout=60)
         want((server.returncode, err), (3, b"write fault\n"), "a start without a first line")
         want(out in (b"", b"serving 2 processes\n"), True, "events of a server that does not start")
+        want(house.book.exists(), False, "a book by which nothing was served")
         return False
     raws = [Raw(house, name) for name in house.names]
-    told, entries = 0, 0
+    told, entries, calls = 0, 0, 0
     open_ones = list(raws)
     for turn in range(ROUNDS):
         for number, raw in enumerate(raws):
             if raw not in open_ones:
                 continue
             reply = raw.ask("post 0 barrier")
+            calls += 1
             entries += 1 + number
             if reply == "unbooked":
                 want(raw.read(), b"", "the end of a session that was told unbooked")
@@ -186,11 +188,13 @@ def on_a_disk_of(given, size):
         for raw in open_ones:
             # Nobody is told anything any more, not even what was settled before.
             want(raw.ask("info 0"), "unbooked", "an info where the book is cut")
+            calls += 1
             want(raw.read(), b"", "the end of the other session")
     out, err = server.communicate(timeout=60)
     whole = len(open_ones) == 2 and server.returncode == 0
+    want(out.splitlines()[-1], f"served {calls} calls".encode("ascii"), "the last event")
     if whole:
-        want((out.splitlines()[-1], err), (b"served 12 calls", b""), "how the server ends")
+        want((calls, err), (12, b""), "how the server ends")
         house.audit()
     else:
         want((server.returncode, err), (3, b"write fault\n"), f"how a disk of {size} ends")
@@ -232,6 +236,60 @@ def books_are_locked(given):
     want(locked.returncode, 0, "whether the book is free afterwards")
 
 
+def of_three(given, *books):
+    """A server on a wall over days: two banks and a consultant, after these books, the oldest
+    first."""
+    processes = [("a0", "alpha"), ("b0", "beta"), ("n0", None)]
+    house = House(given.program, processes, [["alpha", "beta"]])
+    house.words[2:2] = [word for book in books for word in ("--after", str(book))]
+    return house
+
+
+def sends_to_the_consultant(house, sender, label):
+    """The posts by which n0 is given a number of a bank, and what it is told."""
+    raws = [Raw(house, name) for name in house.names]
+    for raw in raws:
+        want(raw.ask(f"post 0 create {sender},2"), "posted 0", "the post of a constructor")
+    want(raws[2].ask("take 0"), "comm 1 rank 1 size 2", "n0's communicator")
+    want(raws[sender].ask(f"post 1 bcast 0 int32 1 as {label} 7"), "posted 1", "the sender's post")
+    want(raws[2].ask("post 1 bcast 0 int32 1"), "posted 1", "n0's post")
+    told = raws[2].ask("take 1")
+    for raw in raws:
+        raw.close()
+    return told
+
+
+def killed_after_earlier_books(given):
+    """A killed server that went on after a book: the seal names that book too, and so does who goes
+    on."""
+    first = of_three(given).start()
+    want(sends_to_the_consultant(first, 0, "alpha"), "delivered [7]", "the first day")
+    first.end()
+    second = of_three(given, first.book).start()
+    want(sends_to_the_consultant(second, 1, "beta"), "denied simple n0 beta", "the second day")
+    second.server.kill()
+    second.server.wait()
+    # As if it had been killed in the middle of the last line: the verdict.
+    lines = [line for line in second.book_lines() if not line.startswith("end")]
+    want(lines[-1], "verdict 1 0 denied simple n0 beta", "the last line")
+    second.book.write_text("\n".join(lines)[:-3], encoding="utf-8")
+    sealed_to, forgot = second.folder / "whole.txt", second.folder / "forgot.txt"
+    for out, books in ((sealed_to, ["--after", str(first.book)]), (forgot, [])):
+        words = [given.program, "seal", str(second.policy), str(second.book), str(out), *books]
+        done = subprocess.run(words, capture_output=True, text=True, timeout=60, check=False)
+        want((done.returncode, done.stderr), (0, ""), "how the seal ends")
+    want(sealed_to.read_text(encoding="utf-8").splitlines()[-2], lines[-1], "the verdict it adds")
+    want(forgot.read_text(encoding="utf-8").splitlines()[-2], "verdict 1 0 granted",
+         "the verdict of a seal that forgot the earlier book")
+    third = of_three(given, first.book, sealed_to).start()
+    want(sends_to_the_consultant(third, 1, "beta"), "denied simple n0 beta", "the third day")
+    third.end()
+    words = [given.program, "audit", str(third.policy), str(third.book)]
+    words += ["--after", str(first.book), "--after", str(sealed_to)]
+    done = subprocess.run(words, capture_output=True, text=True, timeout=60, check=False)
+    want((done.returncode, done.stdout), (0, "sound 7\n"), "the audit of the third day")
+
+
 def syncs_that_fail(given):
     """A book that cannot be synced: nobody is told of what was to be, unless no sync is asked for."""
     if not shutil.which("cc"):
@@ -242,7 +300,8 @@ def syncs_that_fail(given):
         shim = house.folder / "refuse_sync.so"
         words = ["cc", "-O1", "-shared", "-fPIC", "-o", shim, HERE / "refuse_sync.c"]
         subprocess.run(words, check=True, timeout=60)
-        environment = ["env", f"LD_PRELOAD={shim}", "REFUSED_SYNC=2"]
+        # The first is that of the folder.
+        environment = ["env", f"LD_PRELOAD={shim}", "REFUSED_SYNC=3"]
         house.words = [*environment, *house.words, *options]
         house.start()
         raw = Raw(house, "p0")
@@ -259,4 +318,5 @@ def syncs_that_fail(given):
         want(len(sealed(house)) - 2 in (4, 6), True, "what the book has at least")
 
 
-TESTS = [book_is_ahead, books_are_locked, full_disks, killed_servers, syncs_that_fail]
+TESTS = [book_is_ahead, books_are_locked, full_disks, killed_servers, killed_after_earlier_books,
+         syncs_that_fail]

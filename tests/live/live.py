@@ -7,6 +7,7 @@ import ctypes
 import os
 import pathlib
 import pickle
+import resource
 import shutil
 import signal
 import subprocess
@@ -21,6 +22,7 @@ sys.path.insert(0, str(TOP / "clients" / "python"))
 # Reached through the path above.
 import consortium  # noqa: E402
 
+NOBODY = 65534
 LIBC = ctypes.CDLL(None, use_errno=True)
 SET_DEATH_SIGNAL = 1
 FOLDERS, SERVERS, CLIENTS, RAWS = [], [], [], []
@@ -178,6 +180,36 @@ class House:
             if line.startswith(word + ":"):
                 return int(line.split()[1])
         raise Wrong(f"no {word}")
+
+
+def started(house, before=die_with_parent, **streams):
+    """The server, with what is to be done before it begins, and these streams."""
+    server = subprocess.Popen(house.words, preexec_fn=before, **{
+        "stdin": subprocess.DEVNULL, "stdout": subprocess.PIPE, "stderr": subprocess.PIPE,
+        **streams})
+    SERVERS.append(server)
+    house.server = server
+    return server
+
+
+def as_nobody(*limits):
+    """What a server does before it begins, so that files and limits bind it."""
+    def before():
+        die_with_parent()
+        if os.geteuid() == 0:
+            os.setgroups([])
+            os.setgid(NOBODY)
+            os.setuid(NOBODY)
+        for limit, most in limits:
+            resource.setrlimit(limit, (most, most))
+    return before
+
+
+def of_nobody(house):
+    """All of a house belongs to nobody, where this is run as root."""
+    if os.geteuid() == 0:
+        for path in (house.folder, house.policy, house.pipes, *house.pipes.iterdir()):
+            os.chown(path, NOBODY, NOBODY)
 
 
 class Client:

@@ -39,9 +39,18 @@ def pipes_are_looked_at(given):
     refused_start(house, 3, "no pipe: p1")
     replies.unlink()
     os.mkfifo(replies, 0o600)
-    for mode in (0o604, 0o602, 0o666):
-        os.chmod(calls, mode)
-        refused_start(house, 3, "open to others: p1")
+    for pipe in (calls, replies):
+        for mode in (0o604, 0o602, 0o666):
+            os.chmod(pipe, mode)
+            refused_start(house, 3, "open to others: p1")
+        os.chmod(pipe, 0o600)
+        # A name that leads to a pipe is none.
+        elsewhere = house.folder / "elsewhere"
+        pipe.rename(elsewhere)
+        pipe.symlink_to(elsewhere)
+        refused_start(house, 3, "no pipe: p1")
+        pipe.unlink()
+        elsewhere.rename(pipe)
     os.chmod(calls, 0o620)
     os.chmod(replies, 0o641)
     house.start()

@@ -6,44 +6,70 @@
 //! its replies. `tests/live` tries it, with the built program and real processes.
 ghost use Rattle.std.specs.Prelude.{◌≡◌, ◌+◌, ◌<◌, ◌≤◌, length, IfSome};
 
-use crate::events::{Event, Events};
-use crate::pipes::Pipes;
+use crate::events::{Event, Events, Why};
+use crate::pipes::{Pipes, Shut};
 use live_session::{Desk, Peer, SessionEnd};
+use program_files::{read_again, write_again};
 use std::alloc::{AllocError, Global};
 use std::fs::{File, OpenOptions};
-use std::io;
-use std::io::{Read, Stdout, Write};
 use std::sync::{Mutex, Wait};
 use wall_labels::{Failed, Sink};
 
-// The two pipes, as far as they are open.
+// The two pipes, as far as they are open, and why they were not opened.
 #[derive(Drop)]
 struct Opened {
     calls: Option<File>,
     replies: Option<File>,
+    shut: Option<Shut>,
+}
+
+impl Opened {
+    // Neither is open.
+    fn none(shut: Option<Shut>) -> Opened {
+        Opened {
+            calls: None,
+            replies: None,
+            shut,
+        }
+    }
 }
 
 /// Where a process is served. Its two devices share it, and no other thread than theirs opens,
 /// reads, writes or closes there, so its lock is always free.
 #[derive(Drop)]
-pub(crate) struct PipeDesk<'a, 'e, R: Wait> {
+pub(crate) struct PipeDesk<'a, 'n, R: Wait> {
     rt: &'a R,
     files: &'a HostRuntime,
-    pipes: &'a Pipes<'a>,
+    pipes: &'a Pipes<'n>,
     opened: Mutex<Opened>,
-    events: &'e Events<Stdout>,
+    events: &'a Events<'n>,
 }
 
-impl<'a, 'e, R: Wait> PipeDesk<'a, 'e, R> {
+impl<'a, 'n, R: Wait> PipeDesk<'a, 'n, R> {
     // Opens the replies, and then the calls: each waits for the other side. Neither is ever made.
-    fn open_both(&self) -> io::Result<Opened> {
+    // What was opened is looked at once more.
+    fn open_both(&self) -> Result<Opened, Shut> {
+        let (calls, replies) = (&self.pipes.calls, &self.pipes.replies);
         let mut write = OpenOptions::new();
         write.write(true);
-        let replies = write.open(self.files, self.pipes.replies.as_str())?;
-        let calls = File::open(self.files, self.pipes.calls.as_str())?;
+        let to_member = match write.open(self.files, replies.path.as_str()) {
+            Ok(file) => file,
+            Err(error) => return Err(Shut::by(&error)),
+        };
+        let from_member = match File::open(self.files, calls.path.as_str()) {
+            Ok(file) => file,
+            Err(error) => return Err(Shut::by(&error)),
+        };
+        if let Some(shut) = replies.look_again(self.files, &to_member) {
+            return Err(shut);
+        }
+        if let Some(shut) = calls.look_again(self.files, &from_member) {
+            return Err(shut);
+        }
         Ok(Opened {
-            calls: Some(calls),
-            replies: Some(replies),
+            calls: Some(from_member),
+            replies: Some(to_member),
+            shut: None,
         })
     }
 
@@ -52,8 +78,24 @@ impl<'a, 'e, R: Wait> PipeDesk<'a, 'e, R> {
         *self.opened.lock(self.rt) = opened;
     }
 
-    fn tell(&self, event: Event) {
+    fn tell(&self, event: Event<'n>) {
         self.events.tell(self.rt, event);
+    }
+
+    // Why the process has left, where its session ended so.
+    fn why(&self, end: SessionEnd) -> Option<Why> {
+        if let Some(shut) = self.opened.lock(self.rt).shut {
+            return Some(Why::Shut(shut));
+        }
+        match end {
+            SessionEnd::NoMemory => Some(Why::NoMemory),
+            SessionEnd::Exhausted => Some(Why::Exhausted),
+            SessionEnd::EndOfStream
+            | SessionEnd::Left
+            | SessionEnd::ReadFailed
+            | SessionEnd::WriteFailed
+            | SessionEnd::Unbooked => None,
+        }
     }
 
     fn read(&self, buffer: &mut [u8]) -> Option<usize>
@@ -61,7 +103,7 @@ impl<'a, 'e, R: Wait> PipeDesk<'a, 'e, R> {
     {
         let mut opened = self.opened.lock(self.rt);
         match &mut opened.calls {
-            Some(calls) => calls.read(buffer).ok(),
+            Some(calls) => read_again(calls, buffer).ok(),
             None => None,
         }
     }
@@ -72,7 +114,7 @@ impl<'a, 'e, R: Wait> PipeDesk<'a, 'e, R> {
     {
         let mut opened = self.opened.lock(self.rt);
         match &mut opened.replies {
-            Some(replies) => match replies.write(bytes) {
+            Some(replies) => match write_again(replies, bytes) {
                 Ok(n) if n > 0 => Some(n),
                 _ => None,
             },
@@ -94,25 +136,28 @@ fn count<R: Wait>(rt: &R, failures: &mut u64)
 
 /// The calls of a process. It is at its desk: they are opened there, with the replies.
 #[derive(Drop)]
-pub(crate) struct PipeSource<'d, 'a, 'e, R: Wait> {
-    desk: &'d PipeDesk<'a, 'e, R>,
+pub(crate) struct PipeSource<'d, 'a, 'n, R: Wait> {
+    desk: &'d PipeDesk<'a, 'n, R>,
     failures: u64,
 }
 
-impl<'d, 'a, 'e, R: Wait> Desk<PipeSink<'d, 'a, 'e, R>> for PipeSource<'d, 'a, 'e, R> {
+impl<'d, 'a, 'n, R: Wait> Desk<PipeSink<'d, 'a, 'n, R>> for PipeSource<'d, 'a, 'n, R> {
     ghost failures = { λ s. s.failures };
 
     // Where a pipe cannot be opened any more, the first read fails.
     fn open(&self) {
-        if let Ok(opened) = self.desk.open_both() {
-            self.desk.keep(opened);
-            self.desk.tell(Event::Came(self.desk.pipes.name));
+        match self.desk.open_both() {
+            Ok(opened) => {
+                self.desk.keep(opened);
+                self.desk.tell(Event::Came(self.desk.pipes.name));
+            }
+            Err(shut) => self.desk.keep(Opened::none(Some(shut))),
         }
     }
 
     fn hear(
         &mut self,
-        _sink: &PipeSink<'d, 'a, 'e, R>,
+        _sink: &PipeSink<'d, 'a, 'n, R>,
         buffer: &mut [u8],
     ) -> Result<usize, Failed> {
         match self.desk.read(buffer) {
@@ -124,23 +169,22 @@ impl<'d, 'a, 'e, R: Wait> Desk<PipeSink<'d, 'a, 'e, R>> for PipeSource<'d, 'a, '
         }
     }
 
-    fn close(&self, _end: SessionEnd, calls: u64) {
-        self.desk.keep(Opened {
-            calls: None,
-            replies: None,
-        });
-        self.desk.tell(Event::Left(self.desk.pipes.name, calls));
+    fn close(&self, end: SessionEnd, calls: u64) {
+        let why = self.desk.why(end);
+        self.desk.keep(Opened::none(None));
+        self.desk
+            .tell(Event::Left(self.desk.pipes.name, calls, why));
     }
 }
 
 /// The replies to a process.
 #[derive(Drop)]
-pub(crate) struct PipeSink<'d, 'a, 'e, R: Wait> {
-    desk: &'d PipeDesk<'a, 'e, R>,
+pub(crate) struct PipeSink<'d, 'a, 'n, R: Wait> {
+    desk: &'d PipeDesk<'a, 'n, R>,
     failures: u64,
 }
 
-impl<'d, 'a, 'e, R: Wait> Sink for PipeSink<'d, 'a, 'e, R> {
+impl<'d, 'a, 'n, R: Wait> Sink for PipeSink<'d, 'a, 'n, R> {
     ghost failures = { λ s. s.failures };
 
     fn write(&mut self, bytes: &[u8]) -> Result<usize, Failed> {
@@ -158,19 +202,16 @@ impl<'d, 'a, 'e, R: Wait> Sink for PipeSink<'d, 'a, 'e, R> {
 }
 
 /// A desk at each of these pipes, closed.
-pub(crate) fn desks_at<'a, 'e, R: Wait>(
+pub(crate) fn desks_at<'a, 'n, R: Wait>(
     rt: &'a R,
     alloc: Global,
     files: &'a HostRuntime,
-    all: &'a [Pipes<'a>],
-    events: &'e Events<Stdout>,
-) -> Result<Vec<PipeDesk<'a, 'e, R>>, AllocError> {
+    all: &'a [Pipes<'n>],
+    events: &'a Events<'n>,
+) -> Result<Vec<PipeDesk<'a, 'n, R>>, AllocError> {
     let mut desks = Vec::new(alloc);
     for pipes in all {
-        let opened = Mutex::new(Opened {
-            calls: None,
-            replies: None,
-        });
+        let opened = Mutex::new(Opened::none(None));
         desks.push(PipeDesk {
             rt,
             files,
@@ -183,10 +224,10 @@ pub(crate) fn desks_at<'a, 'e, R: Wait>(
 }
 
 /// The devices of each desk, in order.
-pub(crate) fn peers_at<'d, 'a, 'e, R: Wait>(
+pub(crate) fn peers_at<'d, 'a, 'n, R: Wait>(
     alloc: Global,
-    desks: &'d [PipeDesk<'a, 'e, R>],
-) -> Result<Vec<Peer<PipeSource<'d, 'a, 'e, R>, PipeSink<'d, 'a, 'e, R>>>, AllocError> {
+    desks: &'d [PipeDesk<'a, 'n, R>],
+) -> Result<Vec<Peer<PipeSource<'d, 'a, 'n, R>, PipeSink<'d, 'a, 'n, R>>>, AllocError> {
     let mut peers = Vec::new(alloc);
     for desk in desks {
         let source = PipeSource { desk, failures: 0 };

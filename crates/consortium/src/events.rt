@@ -1,13 +1,38 @@
 //! What the operator of a server sees: a line on standard output at each event, never a figure.
-//! That the lines come whole and at once is tested, with the built program.
+//!
+//! The events are put into a list by whoever meets them, and written by a thread of their own: so
+//! a standard output that nobody reads holds up no session. That the lines come whole, in their
+//! order and at once is tested, with the built program.
 
+use crate::pipes::Shut;
 use std::alloc::{AllocError, Global};
 use std::io::Write;
-use std::sync::{Mutex, Wait};
+use std::sync::{Condvar, Mutex, Wait};
 
 /// The most bytes of an event's line: a process has a name of 32 bytes at most, and a count 20
 /// digits.
-const LINE_ROOM: usize = 128;
+const LINE_ROOM: usize = 192;
+
+/// Why a process has left, where that is not by itself.
+#[derive(Clone, Copy)]
+pub(crate) enum Why {
+    /// Its pipes were not opened.
+    Shut(Shut),
+    /// A growth of memory was refused to its session.
+    NoMemory,
+    /// The door was too late for its call.
+    Exhausted,
+}
+
+impl Why {
+    fn text(self) -> &'static str {
+        match self {
+            Why::Shut(shut) => shut.text(),
+            Why::NoMemory => "out of memory",
+            Why::Exhausted => "exhausted",
+        }
+    }
+}
 
 /// What happens at a server.
 #[derive(Clone, Copy)]
@@ -16,26 +41,32 @@ pub(crate) enum Event<'a> {
     Serving(u32),
     /// A process has opened its pipes.
     Came(&'a str),
-    /// The session of a process has ended, after so many calls.
-    Left(&'a str, u64),
+    /// The session of a process has ended, after so many calls, and why.
+    Left(&'a str, u64, Option<Why>),
     /// All have ended, after so many calls of all.
     Served(u64),
 }
 
-// What is kept of the events so far.
+// The events so far.
 #[derive(Drop)]
-struct Log<W: Write + Drop> {
-    out: W,
-    // Room for a line, so that no event wants memory.
-    line: String,
+struct Log<'a> {
+    events: Vec<Event<'a>>,
+    // How many of them were written.
+    written: usize,
     calls: u64,
-    has_failed: bool,
+    // The first process that was shut out.
+    shut_out: Option<&'a str>,
+    // No event comes any more.
+    is_over: bool,
+    // An event found no room. There is room for all.
+    is_lost: bool,
 }
 
 /// The events of a server, for all its threads.
 #[derive(Drop)]
-pub(crate) struct Events<W: Write + Drop> {
-    log: Mutex<Log<W>>,
+pub(crate) struct Events<'a> {
+    log: Mutex<Log<'a>>,
+    bell: Condvar,
 }
 
 // Puts the line of an event.
@@ -43,57 +74,131 @@ fn put_line(line: &mut String, event: Event) -> Result<(), AllocError> {
     match event {
         Event::Serving(processes) => write!(line, "serving {processes} processes\n"),
         Event::Came(name) => write!(line, "{name} came\n"),
-        Event::Left(name, calls) => write!(line, "{name} left after {calls} calls\n"),
+        Event::Left(name, calls, None) => write!(line, "{name} left after {calls} calls\n"),
+        Event::Left(name, calls, Some(why)) => {
+            let text = why.text();
+            write!(line, "{name} left after {calls} calls: {text}\n")
+        }
         Event::Served(calls) => write!(line, "served {calls} calls\n"),
     }
 }
 
-impl<W: Write + Drop> Log<W> {
-    // Writes the line of an event at once, by one write where that takes it. A failure is kept.
-    fn write(&mut self, event: Event) {
+/// Where the lines of events go, with room for one.
+#[derive(Drop)]
+pub(crate) struct EventLines<W: Write + Drop> {
+    out: W,
+    line: String,
+}
+
+impl<W: Write + Drop> EventLines<W> {
+    /// None yet, on this output.
+    pub(crate) fn new(alloc: Global, out: W) -> Result<EventLines<W>, AllocError> {
+        let line = String::with_capacity(alloc, LINE_ROOM)?;
+        Ok(EventLines { out, line })
+    }
+
+    // Writes the line of an event at once, by one write where that takes it. False where it failed.
+    fn write(&mut self, event: Event) -> bool {
         self.line.clear();
         if put_line(&mut self.line, event).is_err() {
-            self.has_failed = true;
-            return;
+            return false;
         }
-        let is_written = self.out.write_all(self.line.as_bytes()).is_ok();
-        if !is_written || self.out.flush().is_err() {
-            self.has_failed = true;
-        }
+        self.out.write_all(self.line.as_bytes()).is_ok() && self.out.flush().is_ok()
     }
 }
 
-impl<W: Write + Drop> Events<W> {
-    /// None yet, on this output.
-    pub(crate) fn new(alloc: Global, out: W) -> Result<Events<W>, AllocError> {
-        let line = String::with_capacity(alloc, LINE_ROOM)?;
+impl<'a> Log<'a> {
+    fn add(&mut self, event: Event<'a>) {
+        if let Event::Left(name, calls, why) = event {
+            self.calls = self.calls.saturating_add(calls);
+            if let (Some(Why::Shut(_)), None) = (why, self.shut_out) {
+                self.shut_out = Some(name);
+            }
+        }
+        if self.events.push(event).is_err() {
+            self.is_lost = true;
+        }
+    }
+
+    // The next event that is to be written; none where there is none any more.
+    fn next(&mut self) -> Option<Event<'a>> {
+        let event = self.events.get(self.written).copied()?;
+        self.written = self.written.saturating_add(1);
+        Some(event)
+    }
+}
+
+impl<'a> Events<'a> {
+    /// None yet, with room for all of a server of so many processes.
+    pub(crate) fn new(alloc: Global, processes: usize) -> Result<Events<'a>, AllocError> {
+        let room = processes.saturating_mul(2).saturating_add(2);
+        let events = Vec::with_capacity(alloc, room)?;
         let log = Log {
-            out,
-            line,
+            events,
+            written: 0,
             calls: 0,
-            has_failed: false,
+            shut_out: None,
+            is_over: false,
+            is_lost: false,
         };
         Ok(Events {
             log: Mutex::new(log),
+            bell: Condvar::new(),
         })
     }
 
-    /// Tells an event: no two lines are mixed.
-    pub(crate) fn tell<R: Wait>(&self, rt: &R, event: Event) {
+    /// An event, which is told as soon as those before it are. Nobody waits for that.
+    pub(crate) fn tell<R: Wait>(&self, rt: &R, event: Event<'a>) {
         let mut guard = self.log.lock(rt);
-        let log = &mut *guard;
-        if let Event::Left(_, calls) = event {
-            log.calls = log.calls.saturating_add(calls);
-        }
-        log.write(event);
+        (*guard).add(event);
+        drop(guard);
+        self.bell.notify_one();
     }
 
-    /// Tells that all have ended. False where a line so far was not written.
-    pub(crate) fn end<R: Wait>(&self, rt: &R) -> bool {
+    /// No event comes any more, but, where all have ended, that.
+    pub(crate) fn end<R: Wait>(&self, rt: &R, have_ended: bool) {
         let mut guard = self.log.lock(rt);
         let log = &mut *guard;
-        let calls = log.calls;
-        log.write(Event::Served(calls));
-        !log.has_failed
+        if have_ended {
+            let calls = log.calls;
+            log.add(Event::Served(calls));
+        }
+        log.is_over = true;
+        drop(guard);
+        self.bell.notify_one();
+    }
+
+    /// The first process that was shut out.
+    pub(crate) fn shut_out<R: Wait>(&self, rt: &R) -> Option<&'a str> {
+        self.log.lock(rt).shut_out
+    }
+
+    // Waits for an event; none where none comes any more.
+    fn next<R: Wait>(&self, rt: &R) -> Option<Event<'a>> {
+        let guard = self.log.lock(rt);
+        let mut guard = self.bell.wait_while(rt, guard, |log| {
+            log.written >= log.events.len() && !log.is_over
+        });
+        (*guard).next()
+    }
+
+    /// Writes the events as they come, until none comes any more. False where one was not written.
+    pub(crate) fn write_to<R: Wait, W: Write + Drop>(
+        &self,
+        rt: &R,
+        mut lines: EventLines<W>,
+    ) -> bool {
+        let mut is_well = true;
+        for _ in rt.forever() {
+            match self.next(rt) {
+                Some(event) => {
+                    if !lines.write(event) {
+                        is_well = false;
+                    }
+                }
+                None => break,
+            }
+        }
+        is_well && !self.log.lock(rt).is_lost
     }
 }

@@ -14,9 +14,11 @@
 
 mod book_file;
 mod desk;
+mod ended;
 mod events;
 mod pipes;
 mod server;
+mod standard;
 
 pub use program_commands::{
     audit_after, audit_on, check_on, read_wall_after, replay_after, replay_on, report_on,
@@ -26,11 +28,15 @@ pub use program_line::{CountedFiles, LivePaths, Performed, perform};
 use program_line::{Blanks, Outcome, Served, serve};
 pub use program_words::read_words;
 use server::{ServerBlanks, System, serve_live};
+use standard::{hold_streams, unheld};
 use std::io::{Stderr, Stdout};
 use std::marker::Brand;
 use std::sync::ledger::Blank;
 
 fn main(rt: HostRuntime) -> Served {
+    if !hold_streams(&rt) {
+        return Served::with(unheld(&rt));
+    }
     let blanks = Blanks {
         policy: Blank::new(1),
         second: Blank::new(1),

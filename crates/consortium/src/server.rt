@@ -3,12 +3,13 @@
 //! What the sessions come to says the contract of `serve_on`; the pipes, and so this, have none.
 ghost use Rattle.program_line.specs.Kinds.{Opens};
 
-use crate::book_file::{BookFile, CountedBook, NewBook, new_file};
+use crate::book_file::{BookFile, CountedBook, NewBook, new_book, take_away};
 use crate::desk::{desks_at, peers_at};
-use crate::events::{Event, Events};
+use crate::ended::{Ended, let_go, status_of};
+use crate::events::{Event, EventLines, Events};
 use crate::pipes::{Pipes, first_fault, pipes_in};
 use live_session::{Desk, Peer};
-use program_commands::{Ending, ServeEnd, end, read_wall_after, refuse, serve_on};
+use program_commands::{Ending, end, read_wall_after, refuse, serve_on};
 use program_files::{Count, FileSource, StreamSink};
 use program_line::{LivePaths, listed, texts};
 use std::alloc::Global;
@@ -16,12 +17,10 @@ use std::io::{Stderr, Stdout};
 use std::marker::Brand;
 use std::sync::Wait;
 use std::sync::ledger::{Blank, Ledger};
+use std::thread;
 use std::thread::Threads;
 use wall_labels::Sink;
 use wall_policy::Policy;
-
-// The status where a write failed.
-const WRITE_FAULT: u8 = 3;
 
 /// The system of a server: its files, and its streams.
 pub(crate) struct System<'a> {
@@ -83,51 +82,79 @@ impl<'a, R: AllocGlobal + Threads + Wait + Sync> PipeServer<'a, R> {
     // Looks at the pipes, and serves at them if none is amiss.
     fn serve_under<E: Sink>(&self, policy: &Policy, err: &mut E) -> u8 {
         let alloc = self.rt.alloc();
-        let Ok(all) = pipes_in(alloc, policy, &self.paths.pipes) else {
+        let Ok(mut all) = pipes_in(alloc, policy, &self.paths.pipes) else {
             return end(err, Ending::NoMemory);
         };
-        if let Some(unready) = first_fault(self.files, &all) {
+        if let Some(unready) = first_fault(self.files, &mut all) {
             return refuse(err, unready);
         }
-        let Ok(events) = Events::new(alloc, self.out) else {
+        let Ok(events) = Events::new(alloc, all.len()) else {
             return end(err, Ending::NoMemory);
         };
-        self.serve_at(policy, &all, &events, err)
+        let Ok(lines) = EventLines::new(alloc, self.out) else {
+            return end(err, Ending::NoMemory);
+        };
+        self.serve_at(policy, &all, &events, lines, err)
     }
 
-    // Makes the devices and the book, and serves.
-    fn serve_at<E: Sink>(
+    // Makes the devices and the book, and serves, while another thread writes the events.
+    fn serve_at<'n, E: Sink>(
         &self,
         policy: &Policy,
-        all: &[Pipes],
-        events: &Events<Stdout>,
+        all: &[Pipes<'n>],
+        events: &Events<'n>,
+        lines: EventLines<Stdout>,
         err: &mut E,
     ) -> u8 {
-        let (rt, files) = (self.rt, self.files);
+        let rt = self.rt;
         let alloc = rt.alloc();
-        let Ok(desks) = desks_at(rt, alloc, files, all, events) else {
+        let Ok(desks) = desks_at(rt, alloc, self.files, all, events) else {
             return end(err, Ending::NoMemory);
         };
         let Ok(peers) = peers_at(alloc, &desks) else {
             return end(err, Ending::NoMemory);
         };
-        let kept = match &self.paths.book {
-            Some(path) => match new_file(files, path, err) {
-                Ok(file) => {
-                    let is_synced = self.paths.sync;
-                    Some(NewBook {
-                        files,
-                        path,
-                        file,
-                        is_synced,
-                    })
-                }
-                Err(status) => return status,
-            },
-            None => None,
+        let book = match self.book(err) {
+            Ok(book) => book,
+            Err(status) => return status,
         };
+        let (is_told, ended) = thread::join(
+            rt,
+            || events.write_to(rt, lines),
+            || self.serve_while_told(policy, peers, book, events, err),
+        );
+        if ended.sessions != policy.processes() as usize {
+            if let Some(path) = &self.paths.book {
+                take_away(self.files, path);
+            }
+            return ended.status();
+        }
+        status_of(rt, ended, events, is_told, err)
+    }
+
+    // The file of the book, if it is wanted; or the status, behind the line of the fault.
+    fn book<E: Sink>(&self, err: &mut E) -> Result<Option<NewBook<'a>>, u8> {
+        match &self.paths.book {
+            Some(path) => match new_book(self.files, path, self.paths.sync, err) {
+                Ok(book) => Ok(Some(book)),
+                Err(status) => Err(status),
+            },
+            None => Ok(None),
+        }
+    }
+
+    // Serves, between the first event and the last.
+    fn serve_while_told<S: Desk<O> + Send + Drop, O: Sink + Send + Drop, E: Sink>(
+        &self,
+        policy: &Policy,
+        peers: Vec<Peer<S, O>>,
+        book: Option<NewBook>,
+        events: &Events,
+        err: &mut E,
+    ) -> Ended {
+        let rt = self.rt;
         events.tell(rt, Event::Serving(policy.processes()));
-        let ended = match kept {
+        let ended = match book {
             Some(book) => {
                 let blank = Blank::new(1);
                 let book = CountedBook { book, blank };
@@ -135,34 +162,8 @@ impl<'a, R: AllocGlobal + Threads + Wait + Sync> PipeServer<'a, R> {
             }
             None => serve_bookless(rt, policy, peers, err),
         };
-        let Ended { status, sessions } = ended;
-        let have_ended = sessions == policy.processes() as usize;
-        if !have_ended || events.end(rt) || status == WRITE_FAULT {
-            return status;
-        }
-        end(err, Ending::WriteFault)
-    }
-}
-
-// What serving came to: the status, and how many sessions have ended.
-struct Ended {
-    status: u8,
-    sessions: usize,
-}
-
-// Lets the devices of the sessions and the file of the book go.
-fn let_go<S: Drop, O: Drop, B: Drop>(end: ServeEnd<S, O, B>) -> Ended {
-    let ServeEnd {
-        status,
-        sessions,
-        book,
-    } = end;
-    drop(book);
-    let count = sessions.len();
-    drop(sessions);
-    Ended {
-        status,
-        sessions: count,
+        events.end(rt, ended.sessions == policy.processes() as usize);
+        ended
     }
 }
 

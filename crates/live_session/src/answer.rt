@@ -10,7 +10,7 @@ ghost use Rattle.live_session.specs.Steps.{AnswersLine};
 
 use crate::acting::Came;
 use crate::ending::SessionEnd;
-use crate::line::{Lines, bad_line};
+use crate::line::{Lines, bad_line, give_back};
 use crate::seat::Seat;
 use crate::setting::Setting;
 use coll_text::{put, send};
@@ -114,12 +114,15 @@ impl<'s, R: Wait, M: Machine> Setting<'s, R, M> {
             Err(_) => return Err(SessionEnd::NoMemory),
         };
         match send(&mut lines.text, sink) {
-            Ok(()) => match next {
-                Next::GoesOn => Ok(()),
-                Next::Left => Err(SessionEnd::Left),
-                Next::Exhausted => Err(SessionEnd::Exhausted),
-                Next::Unbooked => Err(SessionEnd::Unbooked),
-            },
+            Ok(()) => {
+                give_back(self.alloc, &mut lines.text);
+                match next {
+                    Next::GoesOn => Ok(()),
+                    Next::Left => Err(SessionEnd::Left),
+                    Next::Exhausted => Err(SessionEnd::Exhausted),
+                    Next::Unbooked => Err(SessionEnd::Unbooked),
+                }
+            }
             Err(_) => Err(SessionEnd::WriteFailed),
         }
     }

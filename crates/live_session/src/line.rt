@@ -13,6 +13,19 @@ use wall_policy::Policy;
 /// limits has a line below it.
 pub const LINE_LIMIT: usize = 2_097_152;
 
+// The most room that a session keeps for its lines, and for its answers, while it has none.
+const ROOM_KEPT: usize = 1_048_576;
+
+/// Gives the room of a text without bytes back, if it is more than a session keeps.
+pub(crate) fn give_back(alloc: Global, text: &mut Vec<u8>)
+    requires { text.old.items ≡ [] }
+    ensures { text.new.items ≡ [] }
+{
+    if text.capacity() > ROOM_KEPT {
+        *text = Vec::new(alloc);
+    }
+}
+
 /// Why a finished line asks for nothing.
 #[derive(Clone, Copy, Debug, PartialEq, Eq)]
 pub enum BadLine {
@@ -84,12 +97,20 @@ impl Unfinished {
         self.bytes.extend_from_slice(more)
     }
 
-    /// Begins the next line with these bytes.
-    pub(crate) fn begin(&mut self, bytes: &[u8]) -> Result<(), AllocError>
-        ensures { OnOk result (Holds self.new bytes.now) }
+    // Forgets the line.
+    fn empty(&mut self, alloc: Global)
+        ensures { Holds self.new [] }
     {
         self.bytes.clear();
+        give_back(alloc, &mut self.bytes);
         self.is_long = false;
+    }
+
+    /// Begins the next line with these bytes.
+    pub(crate) fn begin(&mut self, alloc: Global, bytes: &[u8]) -> Result<(), AllocError>
+        ensures { OnOk result (Holds self.new bytes.now) }
+    {
+        self.empty(alloc);
         self.add(bytes)
     }
 

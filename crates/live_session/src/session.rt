@@ -52,7 +52,7 @@ impl<'s, R: Wait, M: Machine> Setting<'s, R, M> {
                 Ok(()) => {}
                 Err(end) => return Err(end),
             }
-            match lines.line.begin(part) {
+            match lines.line.begin(self.alloc, part) {
                 Ok(()) => {}
                 Err(_) => return Err(SessionEnd::NoMemory),
             }

@@ -8,7 +8,7 @@ ghost use Rattle.program_files.specs.Files.{bytes_of, IsOpened, IsMadeForBytes, 
 use crate::cause::{Cause, Explains, cause_of};
 use std::fs::{File, OpenOptions};
 use std::io;
-use std::io::{Read, Write};
+use std::io::{ErrorKind, Read, Write};
 use std::marker::Model;
 use std::rt::Files;
 use std::sync::ledger::{Blank, Book, Ledger, Share};
@@ -63,6 +63,47 @@ pub struct FileSource<'a, R: Files, L: Ledger> {
     pub cause: Option<Cause>,
 }
 
+// How often a call that a signal cut short is made again, before that is a failure.
+const TRIES: usize = 64;
+
+/// Reads from a file. A read that a signal cut short is made again.
+#[tactic(auto, using(crate::proofs::KeptLemmas::read_after_kept, crate::proofs::KeptLemmas::kept_after_kept))]
+pub fn read_again<F: Read>(file: &mut F, buffer: &mut [u8]) -> io::Result<usize>
+    ensures within { IfOk result (λ n. n ≤ length buffer.new) }
+    ensures bytes { ReadConsumes (F.remaining file.old) (F.remaining file.new) result buffer.new }
+{
+    for _ in 0..TRIES {
+        match file.read(buffer) {
+            Ok(n) => return Ok(n),
+            Err(error) => {
+                if error.kind() != ErrorKind::Interrupted {
+                    return Err(error);
+                }
+            }
+        }
+    }
+    file.read(buffer)
+}
+
+/// Writes to a file or a stream. A write that a signal cut short is made again.
+#[tactic(auto, using(crate::proofs::KeptLemmas::write_after_kept, crate::proofs::KeptLemmas::kept_after_kept))]
+pub fn write_again<F: Write>(file: &mut F, bytes: &[u8]) -> io::Result<usize>
+    ensures within { IfOk result (λ n. n ≤ length bytes.now) }
+    ensures bytes { WriteAppends (F.contents file.old) (F.contents file.new) result bytes.now }
+{
+    for _ in 0..TRIES {
+        match file.write(bytes) {
+            Ok(n) => return Ok(n),
+            Err(error) => {
+                if error.kind() != ErrorKind::Interrupted {
+                    return Err(error);
+                }
+            }
+        }
+    }
+    file.write(bytes)
+}
+
 // Reads from a file that was opened, or opens it first.
 fn read_opened<R: Files>(
     rt: &R,
@@ -76,10 +117,10 @@ fn read_opened<R: Files>(
         ReadConsumes (left file.old) (left file.new) result buffer.new }
 {
     match file {
-        Some(opened) => opened.read(buffer),
+        Some(opened) => read_again(opened, buffer),
         None => {
             let mut opened = File::open(rt, path)?;
-            let outcome = opened.read(buffer);
+            let outcome = read_again(&mut opened, buffer);
             *file = Some(opened);
             outcome
         }
@@ -251,10 +292,10 @@ fn write_made<R: Files>(
         WriteAppends (held file.old) (held file.new) result bytes.now }
 {
     match file {
-        Some(made) => made.write(bytes),
+        Some(made) => write_again(made, bytes),
         None => {
             let mut made = made_at(place, is_new)?;
-            let outcome = made.write(bytes);
+            let outcome = write_again(&mut made, bytes);
             *file = Some(made);
             outcome
         }
@@ -346,7 +387,7 @@ impl<W: io::Write + Drop, L: Ledger> Sink for StreamSink<W, L> {
         if bytes.is_empty() {
             return Ok(0);
         }
-        let outcome = self.stream.write(bytes);
+        let outcome = write_again(&mut self.stream, bytes);
         counted(outcome, &mut self.failures)
     }
 }

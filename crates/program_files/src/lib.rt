@@ -5,4 +5,7 @@ mod cause;
 mod devices;
 
 pub use cause::{Cause, Explains, cause_of};
-pub use devices::{Count, FileSink, FileSource, ListedFile, NewFileSink, StreamSink, only_new};
+pub use devices::{
+    Count, FileSink, FileSource, ListedFile, NewFileSink, StreamSink, only_new, read_again,
+    write_again,
+};

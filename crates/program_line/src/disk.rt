@@ -261,7 +261,15 @@ impl<'a> Files for System<'a> {
     fn open_file(&self, how: &OpenOptions, path: &str) -> io::Result<Opened<'a>> {
         let disk = self.disk;
         let name = disk.asked(path)?;
-        disk.turn(name)?;
+        match disk.turn(name) {
+            Ok(()) => {}
+            // The system's own opening is tried again where a signal cut it short.
+            Err(error) => {
+                if error.kind() != ErrorKind::Interrupted {
+                    return Err(error);
+                }
+            }
+        }
         disk.admit(name, how)?;
         disk.open.set(disk.open.get().wrapping_add(1));
         let rest = match name {

@@ -199,7 +199,7 @@ pub(crate) fn is_as_told(ended: &Ended, case: &Case) -> bool {
 // The texts of a long run of one process: so many barriers that script, replies and book are longer
 // than a piece that is read or written.
 #[derive(Drop)]
-struct Long {
+pub(crate) struct Long {
     script: String,
     replies: String,
     run: String,
@@ -210,7 +210,7 @@ struct Long {
     sealed: String,
 }
 
-fn long_texts(rt: &impl AllocGlobal, posts: u64) -> Result<Long, Fail> {
+pub(crate) fn long_texts(rt: &impl AllocGlobal, posts: u64) -> Result<Long, Fail> {
     let mut script = String::new(rt.alloc());
     let mut replies = String::new(rt.alloc());
     let mut book = String::new(rt.alloc());
@@ -241,7 +241,7 @@ fn long_texts(rt: &impl AllocGlobal, posts: u64) -> Result<Long, Fail> {
 }
 
 // Each command that has files, over these texts.
-fn commands<'a>(long: &'a Long) -> [Case<'a>; 7] {
+pub(crate) fn commands<'a>(long: &'a Long) -> [Case<'a>; 7] {
     let quiet = Case {
         words: &[],
         policy: ALONE.as_bytes(),
@@ -315,7 +315,6 @@ fn long_files_are_read_and_written_whole(rt: HostRuntime) -> Result<(), Fail> {
 const WAYS: &[(u64, usize, Refusal)] = &[
     (30, 53, Refusal::Other),
     (30, usize::MAX, Refusal::Other),
-    (30, usize::MAX, Refusal::Interrupted),
     (30, usize::MAX, Refusal::PermissionDenied),
     (30, usize::MAX, Refusal::WouldBlock),
     (30, usize::MAX, Refusal::TimedOut),

@@ -13,6 +13,8 @@ pub use devices::{CountedFiles, listed};
 pub use serving::{Blanks, Complaints, Outcome, Output, Served, serve, texts};
 
 #[cfg(test)]
+mod cut_short_tests;
+#[cfg(test)]
 mod disk;
 #[cfg(test)]
 mod disk_tests;

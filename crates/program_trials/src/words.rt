@@ -48,8 +48,8 @@ const ASKED: &[(&[&str], &str)] = &[
         "replay w s none --book",
     ),
     (
-        &["replay", "w", "s", "--book", "b", "--after", "b"],
-        "replay w s b b",
+        &["replay", "w", "s", "--book", "b", "--after", "x"],
+        "replay w s b x",
     ),
     (&["replay", "--", "w", "--after"], "replay w --after none"),
     (
@@ -156,6 +156,8 @@ const BAD: &[&[&str]] = &[
         "replay", "w", "s", "--after", "x", "--book", "b", "--book", "c",
     ],
     &["run", "w", "--after", "x"],
+    &["replay", "w", "s", "--book", "b", "--after", "b"],
+    &["run", "w", "s", "--after", "x", "--after=b", "--book=b"],
     &["audit", "w", "--after", "b"],
     &["audit", "w", "b", "--after"],
     &["serve", "--after", "w", "d"],

@@ -3,6 +3,7 @@ use Rattle.std.specs.Prelude.{◌≡◌, Bool, true, false, List, [], ◌∷◌,
 use Rattle.std.specs.Prelude.{option_and_then}
 use Rattle.std.specs.Prelude.{option_map, unwrap_or, map, Result, Ok, Err, if◌then◌else◌}
 use Rattle.std.specs.Borrow.{Bor}
+use Rattle.std.specs.List.{list_any}
 use Rattle.std.specs.Str.{bytes_eq}
 use Rattle.clap.specs.Words.{App, Row, Rule, Text, Kinds, fault_of, all_of, first_of, new_app}
 use Rattle.clap.specs.Words.{new_rule, subcommand_of, with_rule, with_subcommand}
@@ -170,10 +171,19 @@ every_of id rows = unwrap_or (all_of id rows) []
 abbrev pub is_set : Text → List Row → Bool
 is_set id rows = unwrap_or (option_map (λ v. bytes_eq v (codes "true")) (first_of id rows)) false
 
+-- whether a file that is to be written is one of these
+abbrev pub is_one_of : Option Text → List Text → Bool
+is_one_of None paths = false
+is_one_of (Some path) paths = list_any (λ p. bytes_eq p path) paths
+
+-- these files, unless the book would be written over an earlier one
+abbrev pub unless_lost : {F : Type 0} → (book : Option Text) → (after : List Text) → F → Option F
+unless_lost book after files = if is_one_of book after then None else Some files
+
 abbrev pub replay_in : List Row → Option ReplayFiles
 replay_in rows =
     option_and_then (λ p. option_and_then (λ s.
-    Some (record {
+    unless_lost (first_of (codes "book") rows) (every_of (codes "after") rows) (record {
       policy = p;
       after = every_of (codes "after") rows;
       script = s;
@@ -183,7 +193,7 @@ replay_in rows =
 abbrev pub run_in : List Row → Option RunFiles
 run_in rows =
     option_and_then (λ p. option_and_then (λ s.
-    Some (record {
+    unless_lost (first_of (codes "book") rows) (every_of (codes "after") rows) (record {
       policy = p;
       after = every_of (codes "after") rows;
       script = s;

@@ -103,6 +103,7 @@ status  0  all have left, and the book was written if it was asked for
         1  the policy is refused                             policy: NAME
         2  an earlier book is no book, or not sound          after PATH: ..
         3  a pipe is missing, or open to others              no pipe: NAME, open to others: NAME
+        3  a process's pipes could not be opened             not opened: NAME
         3  there is a file at FILE already                   book exists: FILE
         3  a file could not be read, or is too long          read fault
         3  the events or the book could not be written       write fault

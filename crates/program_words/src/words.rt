@@ -3,6 +3,7 @@ ghost use Rattle.std.specs.Prelude.{◌≡◌, IfOk, IsOkAnd, map, false, option
 ghost use Rattle.clap.specs.Words.{first_of, found_of, rows_of, fault_of, Row};
 ghost use Rattle.clap.specs.Words.{subcommand_of, subcommand_rows_of};
 ghost use Rattle.program_words.specs.Grammar.{every_of, is_set, AreEarlier, program_app};
+ghost use Rattle.program_words.specs.Grammar.{is_one_of, texts_of};
 ghost use Rattle.program_words.specs.Grammar.{replay_in, run_in, audit_in, serve_in, seal_in};
 ghost use Rattle.program_words.specs.Grammar.{check_in, report_in, to_check, to_report};
 ghost use Rattle.program_words.specs.Grammar.{to_replay, to_run, to_audit, to_serve, to_seal};
@@ -152,6 +153,16 @@ fn values_of<'a>(
     Ok(values)
 }
 
+// Whether a file that is to be written is one of these.
+fn is_one_of(path: Option<&str>, paths: &[&str]) -> bool
+    ensures { result ≡ is_one_of (option_map (λ p. p.now) path.entry) (texts_of paths.now) }
+{
+    match path {
+        Some(path) => paths.contains(&path),
+        None => false,
+    }
+}
+
 // A replay of the files that its arguments name.
 fn replay_asked<'a>(matches: &ArgMatches<'a>, after: Vec<&'a str>) -> Option<Command<'a>>
     requires { AreEarlier (rows_of (found_of matches.now)) after.items }
@@ -161,6 +172,9 @@ fn replay_asked<'a>(matches: &ArgMatches<'a>, after: Vec<&'a str>) -> Option<Com
     let policy = value_of(matches, "policy")?;
     let script = value_of(matches, "script")?;
     let book = value_of(matches, "book");
+    if is_one_of(book, &after) {
+        return None;
+    }
     let paths = ReplayPaths {
         policy,
         after,
@@ -179,6 +193,9 @@ fn run_asked<'a>(matches: &ArgMatches<'a>, after: Vec<&'a str>) -> Option<Comman
     let policy = value_of(matches, "policy")?;
     let script = value_of(matches, "script")?;
     let kept = value_of(matches, "book");
+    if is_one_of(kept, &after) {
+        return None;
+    }
     let paths = RunPaths {
         policy,
         after,
@@ -347,7 +364,8 @@ fn matches_of<'a>(alloc: Global, words: &'a [&'a str]) -> Result<ArgMatches<'a>,
 /// POLICY SCRIPT [--book FILE]`, `audit POLICY BOOK`, `serve POLICY DIR [--book FILE] [--sync]`,
 /// `seal POLICY BOOK OUT` or `report POLICY BOOK [--html FILE]`, each with `--after BOOK` any
 /// number of times; `check POLICY [SCRIPT] [--book BOOK]`, `usage [COMMAND]` or `version`. They are
-/// bad arguments exactly where `clap` refuses them for another cause than memory.
+/// bad arguments exactly where `clap` refuses them for another cause than memory, or where the book
+/// of a replay or a run would be written over an earlier one.
 #[tactic(auto, unfolding(crate::specs::Grammar::asked))]
 pub fn read_words<'a>(alloc: Global, words: &'a [&'a str]) -> Result<Command<'a>, ArgFault>
     ensures { SaysCommand result (asked (map (λ w. w.now) words.entry.now)) }
