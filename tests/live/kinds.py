@@ -150,9 +150,9 @@ def constructors(world, rank):
     want(world.Icreate([]).wait(), None, "create of nobody")
     grid = world.Icreate_cart([2, 2], [False, True]).wait()
     if rank < 4:
-        want((members(grid, rank), grid.dims), ([0, 1, 2, 3], 2), "cart_create")
+        want((members(grid, rank), grid.dims), ([0, 1, 2, 3], [2, 2]), "cart_create")
         row = grid.Isub([False, True]).wait()
-        want((members(row, rank), row.dims), ([0, 1] if rank < 2 else [2, 3], 1), "cart_sub")
+        want((members(row, rank), row.dims), ([0, 1] if rank < 2 else [2, 3], [2]), "cart_sub")
     else:
         want(grid, None, "cart_create of fewer")
 
@@ -160,7 +160,11 @@ def constructors(world, rank):
 def neighbours(world, rank):
     """Two rows of three, of which the second dimension is periodic."""
     grid = world.Create_cart([2, 3], [False, True])
-    want((grid.rank, grid.size, grid.dims), (rank, SIZE, 2), "the grid")
+    want((grid.rank, grid.size, grid.dims), (rank, SIZE, [2, 3]), "the grid")
+    row, column = divmod(rank, 3)
+    want((grid.Get_coords(rank), grid.Get_cart_rank([row, column + 3])), ([row, column], rank), "its coordinates")
+    want(grid.Shift(1, 1), (3 * row + (column - 1) % 3, 3 * row + (column + 1) % 3), "a shift")
+    want(grid.Shift(0, 1), (None if row == 0 else rank - 3, None if row == 1 else rank + 3), "another")
 
     def slots(r):
         row, column = divmod(r, 3)

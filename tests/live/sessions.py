@@ -1,13 +1,16 @@
 """Pipes, events, and what a session is told."""
 import doctest
+import importlib
 import hashlib
 import os
+import pkgutil
 import re
 import shutil
 import signal
 import subprocess
 
 from live import consortium
+from consortium.comms import Intracomm
 from live import EXAMPLES, GROUPS, SERVERS, TOP, Client, House, Raw, Wrong
 from live import a_folder, all_results, die_with_parent, neutral, want
 
@@ -182,12 +185,16 @@ def examples_of_the_client(given):
     house = House(given.program, [("solo", "alpha")], [["alpha", "beta"]]).start()
     with house.connect("solo", "alpha") as process:
         told = []
-        names = {"process": process, "world": process.world}
+        names = {name: getattr(consortium, name) for name in consortium.__all__}
+        world = process.world
+        names.update(process=process, world=world, COMM=Intracomm(world, [0], 0, "alpha"))
         runner = doctest.DocTestRunner(verbose=False)
-        for test in doctest.DocTestFinder().find(consortium, extraglobs=names):
-            runner.run(test, out=told.append)
+        for part in pkgutil.iter_modules(consortium.__path__):
+            module = importlib.import_module(f"consortium.{part.name}")
+            for test in doctest.DocTestFinder().find(module, extraglobs=names):
+                runner.run(test, out=told.append)
         results = runner.summarize(verbose=False)
-    if results.failed or results.attempted < 40:
+    if results.failed or results.attempted < 60:
         raise Wrong(f"{results}: {''.join(told)}")
     house.end()
     house.audit()
@@ -197,9 +204,9 @@ class Counted(consortium.Process):
     """Counts the calls that it makes."""
     calls = 0
 
-    def _ask(self, call):
+    def _exchange(self, call, then, timeout=None):
         self.calls += call != "leave"
-        return super()._ask(call)
+        super()._exchange(call, then, timeout)
 
 
 def outcome(request):

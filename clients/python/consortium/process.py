@@ -1,0 +1,164 @@
+"""A process of the policy, at its pair of pipes."""
+
+from __future__ import annotations
+
+import os
+import threading
+from typing import Any, Callable, List, Optional, Tuple
+
+from .comm import Comm
+from .errors import BadLine, Gone, Refused, shown
+from .pipes import Late, Pipes
+from .request import Request
+from .values import one_word
+
+
+class Process:
+    """A process of the policy, at its pair of pipes `folder/name.calls` and `folder/name.replies`.
+
+    `label` is that of all its posts that say no other. It waits until the server has opened the
+    pipes, for at most `timeout` seconds where that is given, and then raises `Gone`. Used in a
+    `with` statement it leaves at the end.
+
+    One exchange goes at a time: threads that share a process take turns, and who waits keeps the
+    others out. An exchange that was interrupted (by ^C, or a timeout) is ended by the next: its
+    reply is then handed to the request that it is of. A post that was interrupted stands all the
+    same, and its request is found in `interrupted`.
+
+    >>> process.name, process.world.rank, process.world.size
+    ('solo', 0, 1)
+    """
+
+    def __init__(self, folder: str, name: str, label: Optional[str] = None,
+                 timeout: Optional[float] = None) -> None:
+        self.name, self.label = name, None if label is None else one_word(label)
+        self.interrupted: List[Request] = []
+        self._lock = threading.RLock()
+        self._pipes = Pipes(os.path.join(folder, name), timeout)
+        try:
+            size, rank, _ = self._info(0)
+        except BaseException:
+            self.close()
+            raise
+        self.world = Comm(self, 0, rank, size)
+
+    def __repr__(self) -> str:
+        return f"Process({self.name!r})"
+
+    def ask(self, call: str, timeout: Optional[float] = None) -> str:
+        """Writes one line, and gives the line that answers it.
+
+        It is for lines that this package has no call for. `Gone` is raised where there is no
+        answer, and `TimeoutError` where it does not come in time.
+
+        >>> process.ask("info 0")
+        'info size 1 rank 0'
+        """
+        found: List[bytes] = []
+        self._exchange(call, found.append, timeout)
+        return found[0].decode("ascii")
+
+    def leave(self) -> None:
+        """Ends the session. The others go on; what is still open of this process stays so."""
+        if self._pipes.is_open:
+            try:
+                self._exchange("leave", lambda reply: None)
+            finally:
+                self.close()
+
+    def close(self) -> None:
+        """Closes the pipes and says nothing, by which the session ends too."""
+        self._pipes.close()
+
+    def __enter__(self) -> Process:
+        return self
+
+    def __exit__(self, kind: Any, value: Any, trace: Any) -> None:
+        try:
+            self.leave()
+        except Gone:
+            pass
+
+    def _exchange(self, call: str, then: Callable[[bytes], None],
+                  timeout: Optional[float] = None) -> None:
+        """Writes a line and reads on to its reply, which `then` is handed."""
+        if "\n" in call or not call.isascii():
+            raise ValueError(f"no line: {shown(call)!r}")
+        with self._lock:
+            self._see_open()
+            try:
+                self._pipes.send(call.encode("ascii") + b"\n", then)
+                self._pipes.settle(timeout)
+            except Late:
+                raise TimeoutError(f"no reply in time: {shown(call)}") from None
+            except (Gone, OSError):
+                self.close()
+                raise
+
+    def _settle(self, timeout: Optional[float]) -> None:
+        """Reads the replies that are owed."""
+        with self._lock:
+            self._see_open()
+            try:
+                self._pipes.settle(timeout)
+            except Late:
+                raise TimeoutError(f"{self.name}: no reply in time") from None
+            except (Gone, OSError):
+                self.close()
+                raise
+
+    def _see_open(self) -> None:
+        if not self._pipes.is_open:
+            raise Gone("left", f"{self.name} has left")
+
+    def _call(self, call: str) -> List[bytes]:
+        """The words of the reply to a line that waits for nobody."""
+        found: List[bytes] = []
+        self._exchange(call, found.append)
+        return words_of(found[0], call)
+
+    def _post(self, call: str, form: str, is_pairs: bool) -> Request:
+        """Posts, and gives the request. Where that is interrupted it is kept."""
+        found: List[Any] = []
+
+        def then(reply: bytes) -> None:
+            try:
+                words = words_of(reply, call)
+            except (BadLine, Refused, Gone) as fault:
+                found.append(fault)
+                return
+            barred = words[2].decode("ascii") if words[0] == b"barred" else None
+            found.append(Request(self, int(words[1]), barred, form, is_pairs))
+            if is_lost:
+                self.interrupted.append(found[-1])
+
+        is_lost = False
+        try:
+            self._exchange(call, then)
+        except BaseException:
+            is_lost = True
+            raise
+        if isinstance(found[0], Exception):
+            raise found[0]
+        request: Request = found[0]
+        return request
+
+    def _info(self, number: int) -> Tuple[int, int, Optional[int]]:
+        words = self._call(f"info {number}")
+        return int(words[2]), int(words[4]), int(words[6]) if len(words) > 6 else None
+
+
+def words_of(reply: bytes, call: str) -> List[bytes]:
+    """The words of a reply, of a delivery the first word and all the rest; a refusal is raised."""
+    word, _, rest = reply.partition(b" ")
+    if word == b"delivered":
+        return [word, rest]
+    if word == b"refused":
+        raise Refused(rest.decode("ascii"), call)
+    if word == b"bad":
+        raise BadLine(rest.decode("ascii"), call)
+    if word == b"exhausted":
+        raise Gone("exhausted", "exhausted: the server takes no more calls")
+    if word == b"unbooked":
+        raise Gone("unbooked", "unbooked: the server cannot write its book any more")
+    return [word] + rest.split()
