@@ -29,16 +29,16 @@ use Rattle.book_seal.proofs.BegunLemmas.{told, entries_are, told_step, told_behi
 use Rattle.book_seal.proofs.BegunLemmas.{end_told, whole_told}
 use Rattle.book_seal.proofs.SealLemmas.{ok_value}
 
-abbrev Read : Type 0
+abbrev pub Read : Type 0
 Read = Result (List Entry) ReadFault
 
 -- All entries begin with those that finished lines tell; what is read of these lines alone is not
 -- bad, and a book only of all entries.
-record Extends (told : List Entry) (alone : Read) (all : List Entry) : Type 0 where
-  more : List Entry
-  is : all ≡ told ++ more
-  good : (n : ℕ) → alone ≡ Err (BadLine n) → ⊥
-  whole : (es : List Entry) → alone ≡ Ok es → es ≡ all
+pub record Extends (told : List Entry) (alone : Read) (all : List Entry) : Type 0 where
+  pub more : List Entry
+  pub is : all ≡ told ++ more
+  pub good : (n : ℕ) → alone ≡ Err (BadLine n) → ⊥
+  pub whole : (es : List Entry) → alone ≡ Ok es → es ≡ all
 
 prefix_fault : (e : Entry) (r : Read) (n : ℕ) → with_prefix (e ∷ []) r ≡ Err (BadLine n) →
     r ≡ Err (BadLine n)
@@ -139,7 +139,7 @@ module _ (wall : ChineseWall) where
       (bytes_eq l (header_line wall.version)) refl read).0) h
 
   -- a book's text that starts with the finished lines of a text
-  text_extends : (text rest : List ℕ) (all : List Entry) →
+  pub text_extends : (text rest : List ℕ) (all : List Entry) →
       book_in wall (finished text ++ rest) ≡ Ok all →
       Extends (finished_entries wall text) (book_in wall (finished text)) all
   unfolding book_in

@@ -58,7 +58,7 @@ ended_step x [] false e some = absurd (omega arith)
 ended_step x (l ∷ ls) false e some = refl
 
 -- the parts of a text, each with a line feed
-ended_parts : (a : List ℕ) → ended_lines (parts 10 a) ≡ a ++ (10 ∷ [])
+pub ended_parts : (a : List ℕ) → ended_lines (parts 10 a) ≡ a ++ (10 ∷ [])
 ended_parts [] = refl
 ended_parts (x ∷ a) = ended_step x (parts 10 a) (eqb x 10) refl (some_parts a)
     ∙ ap (λ t. x ∷ t) (ended_parts a)

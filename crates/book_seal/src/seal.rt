@@ -4,6 +4,7 @@ ghost use Rattle.std.specs.Io.KnownBytes.{Appends};
 ghost use Rattle.run_model.specs.Known.{IsKnownEntry};
 ghost use Rattle.audit_book.specs.Text.{book_text};
 ghost use Rattle.book_seal.specs.declared.fault.SealFault.TheVariants.{NoMemory};
+ghost use Rattle.book_seal.specs.CutBooks.{KeepsEachRun};
 ghost use Rattle.book_seal.specs.Seals.{IsSealOf};
 ghost use Rattle.book_seal.specs.Refusals.{IsFaultOf, StartsSoundly};
 ghost use Rattle.book_seal.specs.SealSteps.{IsCompleted, IsUncompleted};
@@ -19,6 +20,9 @@ use wall_policy::Policy;
 /// which `write_book` writes, has the `end` line too. A whole book is its own seal, and so is it
 /// with bytes behind its `end` that no line feed ends.
 ///
+/// Of a run that was cut, as by a kill, the seal has all that it told: its posts begin with those of
+/// the run as far as it was written, and none are made up.
+///
 /// A text is refused exactly if its finished lines are not the beginning of a sound book's text:
 /// `BadLine` for the first of them that should not stand there, else `BadEntry` for the first entry
 /// that the posts don't give. `NoMemory` is answered only where a growth was refused, and never in
@@ -28,6 +32,8 @@ use wall_policy::Policy;
 pub fn seal_book(alloc: Global, policy: &Policy, text: &[u8]) -> Result<Book, SealFault>
     ensures sealed { IfOk result
         (λ book. IsSealOf policy.now text.now (book_text policy.now book.list)) }
+    ensures keeps { IfOk result
+        (λ book. KeepsEachRun policy.now text.now (book_text policy.now book.list)) }
     ensures known { IfOk result (λ book. All (IsKnownEntry policy.now) book.list) }
     ensures fault { IfErr result (IsFaultOf policy.now text.now) }
     ensures exact { IfErr result

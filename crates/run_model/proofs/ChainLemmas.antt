@@ -16,13 +16,13 @@ use Rattle.run_model.proofs.HoldingLemmas.{held_later, rival_first, rival_within
 use Rattle.run_model.proofs.HoldingLemmas.{nobody_holds_two_rivals}
 
 -- what is held after some posts is held after more
-held_on : (wall : ChineseWall) (later past : List Post) (p d : ℕ) → Holds wall past p d →
+pub held_on : (wall : ChineseWall) (later past : List Post) (p d : ℕ) → Holds wall past p d →
     Holds wall (later ++ past) p d
 held_on wall [] past p d h = h
 held_on wall (x ∷ later) past p d h = held_later wall x (held_on wall later past p d h)
 
 -- what is held before an entry of a book is held at its end
-held_at_end : (wall : ChineseWall) (entries : List Entry) (n p d : ℕ) →
+pub held_at_end : (wall : ChineseWall) (entries : List Entry) (n p d : ℕ) →
     Holds wall (posts_in (take n entries)) p d → Holds wall (posts_in entries) p d
 held_at_end wall entries n p d h = subst (λ ps. Holds wall ps p d) (older_posts entries n)
     (held_on wall (posts_in (drop n entries)) (posts_in (take n entries)) p d h)

@@ -20,6 +20,10 @@ pub mod RunLemmas
 pub mod PostingLemmas
 pub mod TellLemmas
 pub mod HeadlineLemmas
+pub mod YearLemmas
+pub mod GrownLemmas
+pub mod RenumberLemmas
+pub mod NumberingLemmas
 pub mod OmitLemmas
 pub mod SeenLemmas
 pub mod WorldsLemmas
@@ -32,5 +36,6 @@ pub mod TypeRowProofs
 pub mod RoomRowProofs
 pub mod WorldRowProofs
 pub mod HeadlineRowProofs
+pub mod YearRowProofs
 pub mod KnownLemmas
 pub mod RunModelLemmas

@@ -119,7 +119,7 @@ pub books_are_sound : laws.BooksAreSound
 books_are_sound wall run h =
     books_of_posts_are_sound wall (posts run) (legal_posts_count wall run h)
 
-book_grows : (wall : ChineseWall) (later past : List Post) →
+pub book_grows : (wall : ChineseWall) (later past : List Post) →
     (rest : List _) × (book wall (later ++ past) ≡ book wall past ++ rest)
 book_grows wall [] past = ([], sym (append-nil (book wall past)))
 book_grows wall (x ∷ later) past =

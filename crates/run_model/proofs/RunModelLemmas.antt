@@ -7,7 +7,7 @@ pub use Rattle.run_model.proofs.BookLemmas.{sound_books_keep_the_wall}
 pub use Rattle.run_model.proofs.BufferLemmas.{after_but_for_room, instance_but_for_room}
 pub use Rattle.run_model.proofs.BufferLemmas.{posts_but_for_room, proper_but_for_room}
 pub use Rattle.run_model.proofs.BufferLemmas.{reply_but_for_room, same_value}
-pub use Rattle.run_model.proofs.ChainLemmas.{chains_keep_the_wall}
+pub use Rattle.run_model.proofs.ChainLemmas.{chains_keep_the_wall, held_on}
 pub use Rattle.run_model.proofs.CommLemmas.{length_members_at}
 pub use Rattle.run_model.proofs.CountLemmas.{fault_spared, taken}
 pub use Rattle.run_model.proofs.CountedLemmas.{accepted, comm_stays, comms_stay, no_fault_has}
@@ -23,6 +23,8 @@ pub use Rattle.run_model.proofs.PostingLemmas.{posts_within}
 pub use Rattle.run_model.proofs.ProperLemmas.{legal_proper, proper_step}
 pub use Rattle.run_model.proofs.RequestLemmas.{request_member, request_new, requests_other}
 pub use Rattle.run_model.proofs.RequestLemmas.{requests_own}
+pub use Rattle.run_model.proofs.CountLemmas.{legal_posts_count}
+pub use Rattle.run_model.proofs.RunLemmas.{book_grows, posts-append}
 pub use Rattle.run_model.proofs.RunLemmas.{holding_is_history_in_runs}
 pub use Rattle.run_model.proofs.RunLemmas.{nobody_holds_two_rivals_in_runs}
 pub use Rattle.run_model.proofs.SettledLemmas.{IsSettled, comm_at_is, filled_at, instance_stays}
@@ -33,3 +35,4 @@ pub use Rattle.run_model.proofs.SizeLemmas.{length_ranks_apart}
 pub use Rattle.run_model.proofs.TellLemmas.{verdict_makes_none}
 pub use Rattle.run_model.proofs.WholeLemmas.{granted_whole}
 pub use Rattle.run_model.proofs.WorldRowProofs.{is_want, none_wanted, same_act, same_self}
+pub use Rattle.run_model.proofs.YearLemmas.{held_by_end, years_keep_the_wall}

@@ -30,6 +30,10 @@ pub mod Proper
 pub mod RunLaws
 -- what becomes of every collective that is full, after every legal run
 pub mod Headline
+-- chains of books, each under the policy of its own day, and a run behind them
+pub mod Years
+-- what may change from one policy file to the next
+pub mod Growth
 -- laws over two legal runs whose calls differ in values alone
 pub mod Worlds
 -- worked books
@@ -48,3 +52,5 @@ pub mod TypeRows
 pub mod WallRows
 -- where the last communicators are made
 pub mod RoomRows
+-- worked policies of a later day
+pub mod YearRows

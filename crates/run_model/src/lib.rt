@@ -36,6 +36,8 @@ mod scripts;
 pub mod type_rows;
 pub mod wall_rows;
 pub mod worlds;
+pub mod year_rows;
+pub mod years;
 
 pub use call::{Act, Call, Posting};
 pub use coll_values::{Block, Delivery, Integers};

@@ -1,6 +1,8 @@
 use Rattle.std.proofs.Common.{rules}
 use Rattle.std.specs.Prelude.{IfErr}
+use Rattle.audit_book.specs.Text.{book_text}
 use Rattle.book_seal.specs.SealSteps.{IsUnread}
+use Rattle.book_seal.proofs.CutLemmas.{seals_keep_runs}
 use Rattle.book_seal.proofs.ExactLemmas.{starts_unsoundly}
 use Rattle.book_seal.proofs.SealLemmas.{seal_is, unread_is, uncompleted_is}
 use Rattle.audit_book.proofs.AuditBookLemmas.{err_more}
@@ -18,6 +20,14 @@ pub returns-clause-sealed : goal.returns-clause-sealed
 returns-clause-sealed c = ok_more c.complete.result _ _ (λ sealed done.
     seal_is c.args.policy.now c.processes.ensures.policy c.args.text.now c.in_ok-book.book.list
     sealed.list c.in_ok-book.is_ended c.in_ok-book.ensures.begun done)
+    c.complete.ensures.completed
+
+pub returns-clause-keeps : goal.returns-clause-keeps
+returns-clause-keeps c = ok_more c.complete.result _ _ (λ sealed done.
+    seals_keep_runs c.args.policy.now c.processes.ensures.policy c.args.text.now
+    (book_text c.args.policy.now sealed.list)
+    (seal_is c.args.policy.now c.processes.ensures.policy c.args.text.now c.in_ok-book.book.list
+    sealed.list c.in_ok-book.is_ended c.in_ok-book.ensures.begun done))
     c.complete.ensures.completed
 
 pub returns-clause-exact : goal.returns-clause-exact
