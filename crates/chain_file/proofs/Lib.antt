@@ -1,0 +1,10 @@
+pub mod HexWordLemmas
+pub mod SpellLemmas
+pub mod LineLemmas
+pub mod TextLemmas
+pub mod StepLemmas
+pub mod FoundLemmas
+pub mod SolidLemmas
+pub mod AgainLemmas
+pub mod KnownLemmas
+pub mod LawLemmas
