@@ -1,5 +1,5 @@
 -- The text of a run's book, as it is written call by call.
-use Rattle.std.proofs.Common.{◌≡◌, ◌+◌, ℕ, List, [], ◌∷◌, ◌++◌, length, refl, sym, ap, ◌∙◌, subst}
+use Rattle.std.proofs.Common.{◌≡◌, ◌+◌, ◌≤◌, ℕ, List, [], ◌∷◌, ◌++◌, length, refl, sym, ap, ◌∙◌, subst}
 use Rattle.std.proofs.Common.{Option, Some, None, append_assoc, length-append, arith, take, get_or}
 use Rattle.std.proofs.Common.{slice_get, eqb-true, eq-eqb}
 use Rattle.std.specs.Prelude.{◌↔◌, Err, IfErr, IfSome, IsTrue, Ok, OnOk, Result, nat_eq, unwrap_or}
@@ -21,6 +21,7 @@ use Rattle.hall_core.specs.Halls.{HallValue, HallView, StandsFor, view_of}
 use Rattle.hall_core.specs.Machines.{RepliesWith, Stands}
 use Rattle.hall_turn.specs.Machines.{Settles, entries_of}
 use Rattle.live_book.specs.declared.unbooked.Unbooked.{Unbooked}
+use Rattle.live_book.specs.declared.unbooked.Unbooked.TheVariants.{TooLong}
 use Rattle.live_book.specs.Books.{IsBooked, IsCut, IsUnbooked, IsWritten, SinkValue}
 use Rattle.live_book.specs.Books.{StandsWithBook, book_of, text_so_far}
 use Rattle.live_book.specs.Writing.{TellsWritten, Writes, WritesAll, WritesPrefix}
@@ -97,6 +98,11 @@ text_whole wall entries = sym (append_assoc (line_of (header_words wall.version)
 
 -- ## one call
 
+-- a book that is too long has more entries than can be counted
+abbrev pub IsTooLongAt : ChineseWall → List Entry → Unbooked → Type 0
+IsTooLongAt wall run fault =
+    fault ≡ TooLong → 18446744073709551616 ≤ length (book_of wall run)
+
 module _ (wall : ChineseWall) (begun : SinkValue) (run : List Entry) (e : Entry)
     (added : List BookEntry) (is_book : book_of wall (e ∷ run) ≡ book_of wall run ++ added) where
   -- all was written, and is now
@@ -113,8 +119,9 @@ module _ (wall : ChineseWall) (begun : SinkValue) (run : List Entry) (e : Entry)
 
   -- all was written, and of this a prefix
   cut_now : (old new : SinkValue) (fault : Unbooked) → IsBooked wall begun old run →
-      WritesPrefix fault old new (entry_lines wall added) → IsCut wall begun new (e ∷ run) fault
-  cut_now old new fault is by = record {
+      WritesPrefix fault old new (entry_lines wall added) → IsTooLongAt wall (e ∷ run) fault →
+      IsCut wall begun new (e ∷ run) fault
+  cut_now old new fault is by long = record {
     past = run;
     later = e ∷ [];
     is_run = refl;
@@ -124,6 +131,7 @@ module _ (wall : ChineseWall) (begun : SinkValue) (run : List Entry) (e : Entry)
     is_book = is_book;
     prefix = by.prefix;
     is_fault = subst (λ (n : ℕ). IsUnbooked fault n new.failures) is.went by.is_fault;
+    too_long = long;
   }
 
   -- not all was written
@@ -146,17 +154,23 @@ module _ (wall : ChineseWall) (begun : SinkValue) (run : List Entry) (e : Entry)
             (prefix_more is.held old.contents (entry_lines wall is.next) (entry_lines wall added)
             is.prefix);
         is_fault = is.is_fault;
+        too_long = λ long.
+            let most = is.too_long long in
+            let grows = ap length is_book ∙ length-append (book_of wall run) added in
+            omega (arith, most, grows);
       })
 
   pub written_more : (old new : SinkValue) (before after : Option Unbooked) →
       IsWritten wall begun old before run →
       Writes before after old new (entry_lines wall added) →
+      (before ≡ None → (fault : Unbooked) → after ≡ Some fault → IsTooLongAt wall (e ∷ run) fault) →
       IsWritten wall begun new after (e ∷ run)
-  written_more old new (Some fault) after is by =
+  written_more old new (Some fault) after is by long =
       subst (λ (f : Option Unbooked). IsWritten wall begun new f (e ∷ run)) (sym by.0)
       (still_cut old new fault by.1 is)
-  written_more old new None None is by = booked_more old new is by
-  written_more old new None (Some fault) is by = cut_now old new fault is by
+  written_more old new None None is by long = booked_more old new is by
+  written_more old new None (Some fault) is by long =
+      cut_now old new fault is by (long refl fault refl)
 
 -- a take adds nothing
 pub written_still : (wall : ChineseWall) (begun sink : SinkValue) (fault : Option Unbooked)
@@ -179,10 +193,12 @@ pub stands_more : (wall : ChineseWall) (old new : HallValue) (begun was is : Sin
     (before after : Option Unbooked) (run : List Entry) (e : Entry) (w : ChineseWall)
     (olds news : List BookEntry) → olds ≡ [] → w ≡ wall → Stands wall new (e ∷ run) →
     Adds wall run e olds news → Writes before after was is (entry_lines w news) →
+    (before ≡ None → (fault : Unbooked) → after ≡ Some fault →
+    IsTooLongAt wall (e ∷ run) fault) →
     StandsWithBook wall (record { hall = old; begun = begun; sink = was; fault = before }) run →
     StandsWithBook wall (record { hall = new; begun = begun; sink = is; fault = after }) (e ∷ run)
 stands_more wall old new begun was is before after run e w olds news none lines hall adds writes
-    stands =
+    long stands =
     let news_are : news ≡ adds.added =
     adds.news ∙ ap (λ (l : List BookEntry). l ++ adds.added) none in
     record {
@@ -190,7 +206,7 @@ stands_more wall old new begun was is before after run e w olds news none lines 
       hall = hall.1;
       book = written_more wall begun run e adds.added adds.book was is before after stands.book
           (subst (λ (bytes : List ℕ). Writes before after was is bytes)
-          (λ i. entry_lines (lines i) (news_are i)) writes);
+          (λ i. entry_lines (lines i) (news_are i)) writes) long;
     }
 
 -- and after a take
@@ -355,6 +371,16 @@ module _ (wall : ChineseWall) (begun old new : SinkValue) (run : List Entry) (n 
             (subst (λ (s : SinkValue). IsUnbooked was begun.failures s.failures) (sym by.1)
             is.is_fault);
       }
+
+-- the entries that are gone, and the news, are all of the run's book
+pub count_more : (wall w : ChineseWall) (run : List Entry) (gone was news : List BookEntry) (n : ℕ) →
+    w ≡ wall → book_of w run ≡ gone ++ news → gone ≡ was → n ≡ length was →
+    18446744073709551616 ≤ n + length news → 18446744073709551616 ≤ length (book_of wall run)
+count_more wall w run gone was news n same parts kept count most =
+    let all = ap (λ (v : ChineseWall). length (book_of v run)) (sym same) ∙ ap length parts
+    ∙ length-append gone news in
+    let gone_are = ap length kept in
+    omega (arith, all, gone_are, count, most)
 
 -- the entries that are gone are all of the run's book
 pub count_is : (wall w : ChineseWall) (run : List Entry) (gone news : List BookEntry) (n : ℕ) →

@@ -1,5 +1,5 @@
 -- What a hall whose book is written while it runs stands for, and has written. (Own rules.)
-use Rattle.std.specs.Prelude.{◌≡◌, ℕ, ◌+◌, Bool, List, ◌++◌, Option, Some, None, is_none}
+use Rattle.std.specs.Prelude.{◌≡◌, ℕ, ◌+◌, ◌≤◌, Bool, List, ◌++◌, length, Option, Some, None, is_none}
 use Rattle.std.specs.Io.KnownBytes.{Appends}
 use Rattle.wall_labels.specs.Known.{AppendsPrefix}
 use Rattle.wall_policy.specs.Policy.{ChineseWall}
@@ -44,7 +44,8 @@ book_of wall run = book wall (posts run)
 abbrev pub text_so_far : ChineseWall → List BookEntry → List ℕ
 text_so_far wall entries = line_of (header_words wall.version) ++ entry_lines wall entries
 
--- why nothing is written any more, by the sink's failures before and after
+-- why nothing is written any more, by the sink's failures before and after; a book that is too long
+-- has more entries than can be counted (`IsCut`)
 abbrev pub IsUnbooked : Unbooked → (before after : ℕ) → Type 0
 IsUnbooked Write before after = after ≡ before + 1
 IsUnbooked NoMemory before after = after ≡ before
@@ -70,6 +71,7 @@ pub record IsCut (wall : ChineseWall) (begun sink : SinkValue) (run : List Entry
   pub is_book : book_of wall run ≡ book_of wall past ++ next
   pub prefix : AppendsPrefix held sink.contents (entry_lines wall next)
   pub is_fault : IsUnbooked fault begun.failures sink.failures
+  pub too_long : fault ≡ TooLong → 18446744073709551616 ≤ length (book_of wall run)
 
 -- the one as long as nothing went wrong, and then the other
 abbrev pub IsWritten : ChineseWall → (begun sink : SinkValue) → Option Unbooked → List Entry →

@@ -1,11 +1,12 @@
 //! Writes the lines of a book.
-ghost use Rattle.std.specs.Prelude.{◌≡◌, ◌++◌, [], All, IfErr, IsTrue, OnOk};
+ghost use Rattle.std.specs.Prelude.{◌≡◌, ◌≢◌, ◌++◌, [], All, IfErr, IsTrue, OnOk};
 ghost use Rattle.std.specs.Io.KnownBytes.{Keeps};
 ghost use Rattle.run_model.specs.Known.{IsKnownEntry};
 ghost use Rattle.audit_book.specs.Text.{end_words, entry_lines, header_words, line_of};
 ghost use Rattle.live_book.specs.Books.{IsUnbooked};
 ghost use Rattle.live_book.specs.Writing.{TellsWritten, sink_value};
 ghost use Rattle.live_book.specs.declared.unbooked.Unbooked.TheVariants.{NoMemory as LacksMemory};
+ghost use Rattle.live_book.specs.declared.unbooked.Unbooked.TheVariants.{TooLong};
 
 use crate::sink::BookSink;
 use crate::unbooked::Unbooked;
@@ -20,6 +21,7 @@ fn send_text<B: BookSink>(text: &mut Vec<u8>, sink: &mut B) -> Result<(), Unbook
     ensures written { TellsWritten result (sink_value B.contents B.lasting B.failures sink.old)
         (sink_value B.contents B.lasting B.failures sink.new) text.old.items }
     ensures none { OnOk result (text.new.items ≡ []) }
+    ensures short { IfErr result (λ fault. fault ≢ TooLong) }
 {
     match send(text, sink) {
         Ok(()) => Ok(()),
@@ -32,6 +34,7 @@ fn tell<B: BookSink>(settled: bool, sink: &mut B) -> Result<(), Unbooked>
     ensures went { OnOk result (B.failures sink.new ≡ B.failures sink.old) }
     ensures fault { IfErr result
         (λ fault. IsUnbooked fault (B.failures sink.old) (B.failures sink.new)) }
+    ensures short { IfErr result (λ fault. fault ≢ TooLong) }
     ensures same { Keeps (B.contents sink.old) (B.contents sink.new) }
     ensures lasts { IsTrue settled →
         OnOk result (Keeps (B.lasting sink.new) (B.contents sink.new)) }
@@ -89,6 +92,7 @@ pub fn write_news<B: BookSink>(
     ensures none { OnOk result (text.new.items ≡ []) }
     ensures lasts { IsTrue settled →
         OnOk result (Keeps (B.lasting sink.new) (B.contents sink.new)) }
+    ensures short { IfErr result (λ fault. fault ≢ TooLong) }
 {
     put_entries(hall.policy(), hall.news(), text)?;
     send_text(text, sink)?;

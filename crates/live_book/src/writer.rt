@@ -1,8 +1,9 @@
 //! The sink of a book, and what was written to it.
-ghost use Rattle.std.specs.Prelude.{◌≡◌, ◌+◌, [], None, IsTrue, length};
+ghost use Rattle.std.specs.Prelude.{◌≡◌, ◌+◌, ◌≤◌, [], None, Some, IsTrue, length};
 ghost use Rattle.std.specs.Io.KnownBytes.{Keeps};
 ghost use Rattle.audit_book.specs.Text.{end_words, entry_lines, line_of};
 ghost use Rattle.live_book.specs.Writing.{Writes, sink_value};
+ghost use Rattle.live_book.specs.declared.unbooked.Unbooked.TheVariants.{TooLong};
 
 use crate::lines::{write_end, write_news};
 use crate::sink::BookSink;
@@ -35,6 +36,8 @@ impl<B: BookSink> BookWriter<B> {
             self.new.entries ≡ self.old.entries + length hall.now.news }
         ensures lasts { IsTrue settled → self.new.fault ≡ None →
             Keeps (B.lasting self.new.sink) (B.contents self.new.sink) }
+        ensures too_long { self.old.fault ≡ None → self.new.fault ≡ Some TooLong →
+            18446744073709551616 ≤ self.old.entries + length hall.now.news }
     {
         if self.fault.is_some() {
             return;

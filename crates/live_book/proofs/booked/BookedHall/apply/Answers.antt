@@ -1,9 +1,10 @@
-use Rattle.std.proofs.Common.{ap, length, ◌∙◌, ◌∷◌}
+use Rattle.std.proofs.Common.{ap, length, ◌∙◌, ◌∷◌, Some}
 use Rattle.audit_book.specs.Text.{entry_lines}
 use Rattle.run_model.specs.Runs.{entry}
+use Rattle.live_book.specs.declared.unbooked.Unbooked.{Unbooked}
 use Rattle.live_book.specs.Writing.{sink_value}
 use Rattle.live_book.proofs.WritingLemmas.{replies_still, settles_by, stands_more, stands_still}
-use Rattle.live_book.proofs.WritingLemmas.{sticks_by}
+use Rattle.live_book.proofs.WritingLemmas.{count_more, sticks_by}
 use Rattle.live_book.proofs.booked.BookedHall.apply.Goals as goal
 
 pub returns-clause-replies : goal.returns-clause-replies
@@ -28,7 +29,15 @@ returns-clause-carries g c = rw (← c.self.view_is) (λ wall run legal stands.
           (stands_still wall c.apply-reply.new.self.hall c.forget.new.self.hall later
           c.forget.ensures.unchanged (c.forget.ensures.runs later) after.1)
           (c.apply-reply.ensures.news wall run legal (stands.policy, stands.hall))
-          c.write_down.ensures.writes stands,
+          c.write_down.ensures.writes
+          (λ none fault at long. count_more wall c.apply-reply.new.self.hall.policy later
+          c.apply-reply.new.self.gone c.self.inside.hall.gone c.apply-reply.new.self.news
+          c.self.inside.writer.entries after.1.0
+          (c.news.ensures.runs later after.1.1) c.apply-reply.ensures.gone
+          (c.self.invariant.entries none)
+          (c.write_down.ensures.too_long none
+          (at ∙ ap (λ (f : Unbooked). Some f) long)))
+          stands,
       after.2,
     ))
 
