@@ -1,59 +1,17 @@
 -- The first fault of a script is the first of all its faults.
-use Rattle.std.proofs.Common.{◌≡◌, ℕ, zero, suc, ◌+◌, ◌-◌, ◌<◌, ◌≤◌, Bool, cond, List}
+use Rattle.std.proofs.Common.{◌≡◌, ℕ, zero, suc, ◌+◌, ◌-◌, ◌<◌, ◌≤◌, List}
 use Rattle.std.proofs.Common.{[], ◌∷◌, length, get_or, Option, Some, None, Result, Ok, Err, refl}
-use Rattle.std.proofs.Common.{sym, ap, ◌∙◌, arith, slice_get, inl, inr}
+use Rattle.std.proofs.Common.{sym, ap, ◌∙◌, arith, slice_get}
 use Rattle.std.specs.Prelude.{All, AllPairs, Contains, ◌↔◌}
-use Rattle.std.proofs.lemmas.Bool.{cases_Bool}
 use Rattle.std.proofs.lemmas.List.Elements.{All-weaker}
+use Rattle.wall_policy.specs.Policy.{ChineseWall}
 use Rattle.run_model.specs.declared.call.Call.{Call}
 use Rattle.coll_text.specs.declared.fault.LineFault.{LineFault}
-use Rattle.coll_text.specs.Numbers.{Word}
-use Rattle.coll_text.specs.Reading.{◌>>=◌, parts}
-use Rattle.hall_script.specs.Lines.{answer_to}
-use Rattle.hall_script.specs.Scripts.{trimmed, is_skipped, line_call, script_from, script_of}
-use Rattle.hall_script.specs.Scripts.{with_line}
+use Rattle.coll_text.specs.Reading.{parts}
+use Rattle.hall_script.specs.Scripts.{script_from, with_line, member_call, members_script}
 use Rattle.script_places.specs.declared.found.Found.{Found}
-use Rattle.script_places.specs.Found.{HasFault, IsFound, AreFaults}
+use Rattle.script_places.specs.Found.{IsFound, AreFaults}
 use Rattle.check_text.specs.Lines.{first_of, IsFaultless}
-
----- the fault of a line, as a replay reads it
-
-said : List Word → List ℕ → Bool → Result (Option Call) LineFault
-said datasets line skipped = cond skipped (Ok None)
-    (answer_to datasets (trimmed line) >>= λ call. Ok (Some call))
-
-read_is : (datasets : List Word) (line : List ℕ) →
-    line_call datasets line ≡ said datasets line (is_skipped (trimmed line))
-unfolding line_call said
-read_is datasets line = refl
-
-fault_read : (datasets : List Word) (line : List ℕ) (fault : LineFault) →
-    HasFault datasets line fault → line_call datasets line ≡ Err fault
-unfolding said
-fault_read datasets line fault has = read_is datasets line
-    ∙ ap (said datasets line) has.read
-    ∙ ap (λ (r : Result Call LineFault). r >>= λ call. Ok (Some call)) has.answer
-
-answer_fault : (r : Result Call LineFault) (fault : LineFault) →
-    ◌≡◌ {A = Result (Option Call) LineFault} (r >>= λ call. Ok (Some call)) (Err fault) →
-    r ≡ Err fault
-answer_fault (Ok call) fault e = absurd cc
-answer_fault (Err other) fault e = let same : other ≡ fault = cc in ap (λ f. Err f) same
-
-fault_has : (datasets : List Word) (line : List ℕ) (fault : LineFault) →
-    line_call datasets line ≡ Err fault → HasFault datasets line fault
-unfolding said
-fault_has datasets line fault e = elim (cases_Bool (is_skipped (trimmed line))) [
-  | inl skipped ↦
-      let none : Ok None ≡ Err fault =
-      sym (ap (said datasets line) skipped) ∙ sym (read_is datasets line) ∙ e in
-      absurd cc
-  | inr not_skipped ↦ record {
-    read = not_skipped;
-    answer = answer_fault (answer_to datasets (trimmed line)) fault
-        (sym (ap (said datasets line) not_skipped) ∙ sym (read_is datasets line) ∙ e);
-  }
-]
 
 ---- the faults of lines from a number on, each read so
 
@@ -169,39 +127,38 @@ module _ (read : List ℕ → Result (Option Call) LineFault) where
 
 ---- the faults of a script
 
-from_one : (datasets : List Word) (lines : List (List ℕ)) (found : List Found) →
-    AreFaults datasets lines found → AreFaultsFrom (line_call datasets) 1 lines found
-from_one datasets lines found all = record {
-  sound = All-weaker (IsFound datasets lines) (IsFaultFrom (line_call datasets) 1 lines)
+from_one : (wall : ChineseWall) (lines : List (List ℕ)) (found : List Found) →
+    AreFaults wall lines found → AreFaultsFrom (member_call wall) 1 lines found
+from_one wall lines found all = record {
+  sound = All-weaker (IsFound wall lines) (IsFaultFrom (member_call wall) 1 lines)
       (λ one is. record {
         from = is.counted;
         line = is.line;
         there = is.there;
-        fault = fault_read datasets is.line one.fault is.fault;
+        fault = is.fault;
       }) found all.sound;
   whole = λ m line fault at has.
-      let old = all.whole m line fault at (fault_has datasets line fault has) in
+      let old = all.whole m line fault at has in
       let place = old.2 in
       (old.0, old.1, omega arith);
   once = all.once;
 }
 
--- the first of them is the fault that a replay ends with
-pub first_is : (datasets : List Word) (script : List ℕ) (found : List Found) →
-    AreFaults datasets (parts 10 script) found →
-    first_of found ≡ (script_of datasets script).fault
-first_is datasets script found all = sym (first_from (line_call datasets) 1 (parts 10 script) found
-    (from_one datasets (parts 10 script) found all))
+-- the first of them is the fault that a run ends with
+pub first_is : (wall : ChineseWall) (script : List ℕ) (found : List Found) →
+    AreFaults wall (parts 10 script) found → first_of found ≡ (members_script wall script).fault
+first_is wall script found all = sym (first_from (member_call wall) 1 (parts 10 script) found
+    (from_one wall (parts 10 script) found all))
 
 -- there is none just where no line is at fault
-pub none_is : (datasets : List Word) (lines : List (List ℕ)) (found : List Found) →
-    AreFaults datasets lines found → (first_of found ≡ None) ↔ IsFaultless datasets lines
-none_is datasets lines [] all = (
+pub none_is : (wall : ChineseWall) (lines : List (List ℕ)) (found : List Found) →
+    AreFaults wall lines found → (first_of found ≡ None) ↔ IsFaultless wall lines
+none_is wall lines [] all = (
   λ none n line fault at has.
       let low = (all.whole n line fault at has).1.1 in absurd (omega arith),
   λ faultless. refl,
 )
-none_is datasets lines (h ∷ rest) all = (
+none_is wall lines (h ∷ rest) all = (
   λ none. absurd cc,
   λ faultless.
       let is = all.sound 0 h (omega arith) in
@@ -210,7 +167,7 @@ none_is datasets lines (h ∷ rest) all = (
 
 ---- what a walk through the lines needs
 
-pub counted : (datasets : List Word) (lines : List (List ℕ)) (found : List Found) →
-    AreFaults datasets lines found → All (λ one. 1 ≤ one.line) found
-counted datasets lines found all = All-weaker (IsFound datasets lines) (λ one. 1 ≤ one.line)
+pub counted : (wall : ChineseWall) (lines : List (List ℕ)) (found : List Found) →
+    AreFaults wall lines found → All (λ one. 1 ≤ one.line) found
+counted wall lines found all = All-weaker (IsFound wall lines) (λ one. 1 ≤ one.line)
     (λ one is. is.counted) found all.sound

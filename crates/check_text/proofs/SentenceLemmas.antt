@@ -20,7 +20,9 @@ use Rattle.coll_text.specs.Numbers.{Word}
 use Rattle.coll_text.specs.Reading.{is_printable}
 use Rattle.script_places.specs.declared.found.Found.{Found}
 use Rattle.check_text.specs.Words.{word_from, ends_in_space, shown, shown_word, quoted}
+use Rattle.script_places.specs.Places.{process_column}
 use Rattle.check_text.specs.Sentences.{complaint, subject, complaint_of, shape_of_byte}
+use Rattle.check_text.specs.Sentences.{field_complaint}
 use Rattle.check_text.specs.Sentences.{shape_of_end, shape_at, sentence, place_text}
 use Rattle.check_text.specs.Laws.{SentencesArePrintable, LinesAreShort}
 
@@ -66,6 +68,10 @@ complaint_printable BadLabel = refl
 complaint_printable BadNumber = refl
 complaint_printable OddPair = refl
 complaint_printable NoMemory = refl
+
+field_printable : (line : List ℕ) (column : ℕ) → ArePrintable (field_complaint line column)
+field_printable line column = cond_both (column == process_column line)
+    (codes " is no process of the policy") (complaint BadField) ArePrintable (λ e. refl) (λ e. refl)
 
 complaint_of_printable : (w : Word) (fault : LineFault) → ArePrintable (complaint_of w fault)
 complaint_of_printable w fault = joined (subject w) (complaint fault) (subject_printable w)
@@ -114,8 +120,9 @@ sentences_are_printable BadShape line column bytes = at_byte ArePrintable line
 sentences_are_printable OddPair line column bytes = refl
 sentences_are_printable BadVerb line column bytes =
     complaint_of_printable (word_from line column) BadVerb
-sentences_are_printable BadField line column bytes =
-    complaint_of_printable (word_from line column) BadField
+sentences_are_printable BadField line column bytes = joined (subject (word_from line column))
+    (field_complaint line column) (subject_printable (word_from line column))
+    (field_printable line column)
 sentences_are_printable BadKind line column bytes =
     complaint_of_printable (word_from line column) BadKind
 sentences_are_printable BadType line column bytes =
@@ -168,6 +175,11 @@ complaint_few BadNumber = lit≤ tt
 complaint_few OddPair = lit≤ tt
 complaint_few NoMemory = lit≤ tt
 
+field_few : (line : List ℕ) (column : ℕ) → length (field_complaint line column) ≤ 41
+field_few line column = cond_both (column == process_column line)
+    (codes " is no process of the policy") (complaint BadField) (λ bytes. length bytes ≤ 41)
+    (λ e. lit≤ tt) (λ e. lit≤ tt)
+
 complaint_of_few : (w : Word) (fault : LineFault) → AreFew (complaint_of w fault)
 complaint_of_few w fault =
     let both = length-append (subject w) (complaint fault) in
@@ -198,7 +210,11 @@ sentence_few BadShape line column bytes = at_byte AreFew line
     (λ b low. byte_few (word_from line column) b low) (end_few line) bytes
 sentence_few OddPair line column bytes = lit≤ tt
 sentence_few BadVerb line column bytes = complaint_of_few (word_from line column) BadVerb
-sentence_few BadField line column bytes = complaint_of_few (word_from line column) BadField
+sentence_few BadField line column bytes =
+    let both = length-append (subject (word_from line column)) (field_complaint line column) in
+    let prefix = subject_few (word_from line column) in
+    let back = field_few line column in
+    omega (arith, both, prefix, back)
 sentence_few BadKind line column bytes = complaint_of_few (word_from line column) BadKind
 sentence_few BadType line column bytes = complaint_of_few (word_from line column) BadType
 sentence_few UnknownOp line column bytes = complaint_of_few (word_from line column) UnknownOp

@@ -3,7 +3,7 @@ use Rattle.std.specs.Prelude.{◌≡◌, ℕ, ◌-◌, List, [], ◌∷◌, Opti
 use Rattle.std.specs.Prelude.{slice_index_or}
 use Rattle.std.specs.List.{flat_map}
 use Rattle.coll_text.specs.declared.fault.LineFault.{LineFault}
-use Rattle.coll_text.specs.Numbers.{Word}
+use Rattle.wall_policy.specs.Policy.{ChineseWall}
 use Rattle.coll_text.specs.Reading.{parts}
 use Rattle.hall_script.specs.Scripts.{trimmed}
 use Rattle.script_places.specs.declared.found.Found.{Found}
@@ -25,14 +25,14 @@ first_of [] = None
 first_of (one ∷ rest) = Some (one.line, one.fault)
 
 -- what is said of a script is the lines of all its faults, in their order, and the first of them
-pub record AreLines (datasets : List Word) (path script : List ℕ) (said : ScriptFaults)
+pub record AreLines (wall : ChineseWall) (path script : List ℕ) (said : ScriptFaults)
     : Type 0 where
   pub found : List Found
-  pub faults : AreFaults datasets (parts 10 script) found
+  pub faults : AreFaults wall (parts 10 script) found
   pub text : said.text.items ≡ flat_map (fault_line path (parts 10 script)) found
   pub first : said.first ≡ first_of found
 
 -- no line is at fault
-abbrev pub IsFaultless : (datasets : List Word) → (lines : List (List ℕ)) → Type 0
-IsFaultless datasets lines = (n : ℕ) (line : List ℕ) (fault : LineFault) →
-    slice_get lines n ≡ Some line → ¬ (HasFault datasets line fault)
+abbrev pub IsFaultless : ChineseWall → (lines : List (List ℕ)) → Type 0
+IsFaultless wall lines = (n : ℕ) (line : List ℕ) (fault : LineFault) →
+    slice_get lines n ≡ Some line → ¬ (HasFault wall line fault)

@@ -10,6 +10,7 @@ use Rattle.coll_text.specs.declared.fault.LineFault.TheVariants.{NoMemory}
 use Rattle.coll_text.specs.Numbers.{Word}
 use Rattle.coll_text.specs.Reading.{is_printable}
 use Rattle.script_places.specs.declared.found.Found.{Found}
+use Rattle.script_places.specs.Places.{process_column}
 use Rattle.check_text.specs.Words.{word_from, ends_in_space, quoted}
 
 -- What is said of the word at fault, behind it. `NoMemory` is no fault that a line has: it never
@@ -25,6 +26,12 @@ complaint BadLabel = codes " is neither a dataset nor public"
 complaint BadNumber = codes " is no number of the type"
 complaint OddPair = codes " is an odd element of 2int"
 complaint NoMemory = codes " was not read: memory ran out"
+
+-- what is said of a field in this column: of the process, which stands behind the verb, and of any
+-- other
+abbrev pub field_complaint : (line : List ℕ) → (column : ℕ) → List ℕ
+field_complaint line column = if column == process_column line
+    then codes " is no process of the policy" else complaint BadField
 
 -- the word in quotes; where none stands, the end of the line
 abbrev pub subject : Word → List ℕ
@@ -59,6 +66,7 @@ shape_text line column = shape_at line (word_from line column) (slice_get line (
 abbrev pub sentence : LineFault → (line : List ℕ) → (column : ℕ) → List ℕ
 sentence BadShape line column = shape_text line column
 sentence OddPair line column = codes "an odd number of elements for 2int"
+sentence BadField line column = subject (word_from line column) ++ field_complaint line column
 sentence fault line column = complaint_of (word_from line column) fault
 
 abbrev pub place_text : (path : List ℕ) → Found → List ℕ

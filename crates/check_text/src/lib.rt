@@ -11,6 +11,6 @@ mod words;
 
 pub use coll_text::LineFault;
 pub use faults::ScriptFaults;
-pub use policies::put_policy_line;
+pub use policies::{put_absent_line, put_long_line, put_policy_line};
 pub use script::script_lines;
 pub use wall_labels::NoMemory;

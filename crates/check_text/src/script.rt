@@ -3,7 +3,7 @@ ghost use Rattle.std.specs.Prelude.{◌≡◌, ◌↔◌, ◌-◌, ◌<◌, ◌�
 ghost use Rattle.std.specs.Prelude.{None, drop};
 ghost use Rattle.std.specs.List.{flat_map};
 ghost use Rattle.coll_text.specs.Reading.{parts};
-ghost use Rattle.hall_script.specs.Scripts.{script_of};
+ghost use Rattle.hall_script.specs.Scripts.{members_script};
 ghost use Rattle.check_text.specs.Lines.{raw_line, fault_line, first_of, AreLines, IsFaultless};
 
 use crate::faults::ScriptFaults;
@@ -58,8 +58,8 @@ fn first_of(found: &[Found]) -> Option<(u64, LineFault)>
     }
 }
 
-/// The faults of a script: for each line that is no call a line
-/// `PATH:LINE:COLUMN: SENTENCE`, in the order of the script, and the first of them.
+/// The faults of a script: for each line that is no call, or is one of a process that the policy
+/// lacks, a line `PATH:LINE:COLUMN: SENTENCE`, in the order of the script, and the first of them.
 ///
 /// The sentence names the word that begins in the column, up to the next space or the end of the
 /// line. Of a word of more than 36 bytes it has the first 34, and `..` behind them; a byte that is
@@ -73,11 +73,11 @@ pub fn script_lines(
     script: &[u8],
 ) -> Result<ScriptFaults, NoMemory>
     ensures lines { IfOk result
-        (λ faults. AreLines policy.now.dataset_names path.now script.now faults) }
-    ensures replay { IfOk result
-        (λ faults. faults.first ≡ (script_of policy.now.dataset_names script.now).fault) }
+        (λ faults. AreLines policy.now path.now script.now faults) }
+    ensures run { IfOk result
+        (λ faults. faults.first ≡ (members_script policy.now script.now).fault) }
     ensures none { IfOk result (λ faults.
-        (faults.first ≡ None) ↔ IsFaultless policy.now.dataset_names (parts 10 script.now)) }
+        (faults.first ≡ None) ↔ IsFaultless policy.now (parts 10 script.now)) }
 {
     let found = faults_of(alloc, policy, script)?;
     let mut text = Vec::new(alloc);

@@ -1,12 +1,12 @@
 //! The sentence of a fault, and its line.
 ghost use Rattle.std.specs.Prelude.{◌≡◌, ◌++◌, OnOk};
 ghost use Rattle.check_text.specs.Sentences.{complaint, subject, complaint_of, byte_text};
-ghost use Rattle.check_text.specs.Sentences.{shape_of_byte, shape_text, sentence};
+ghost use Rattle.check_text.specs.Sentences.{shape_of_byte, shape_text, sentence, field_complaint};
 ghost use Rattle.check_text.specs.Sentences.{place_text, told_line};
 
 use crate::words::{ends_in_space, is_printable, put_quoted, word_from};
 use coll_text::{LineFault, put, put_decimal};
-use script_places::Found;
+use script_places::{Found, process_column};
 use std::alloc::AllocError;
 
 // What is said of the word at fault, behind it.
@@ -41,6 +41,25 @@ fn put_complaint(text: &mut Vec<u8>, word: &[u8], fault: LineFault) -> Result<()
 {
     put_subject(text, word)?;
     put(text, complaint(fault))
+}
+
+// What is said of a field in this column, behind its word.
+fn field_complaint(line: &[u8], column: u64) -> &'static str
+    ensures { result.now ≡ field_complaint line.now column }
+{
+    if column == process_column(line) {
+        " is no process of the policy"
+    } else {
+        complaint(LineFault::BadField)
+    }
+}
+
+fn put_field(text: &mut Vec<u8>, line: &[u8], column: u64) -> Result<(), AllocError>
+    ensures { OnOk result
+        (text.new.items ≡ text.old.items ++ sentence LineFault.BadField line.now column) }
+{
+    put_subject(text, word_from(line, column))?;
+    put(text, field_complaint(line, column))
 }
 
 fn put_byte(text: &mut Vec<u8>, byte: u8) -> Result<(), AllocError>
@@ -88,6 +107,7 @@ fn put_sentence(
     match fault {
         LineFault::BadShape => put_shape(text, line, column),
         LineFault::OddPair => put(text, "an odd number of elements for 2int"),
+        LineFault::BadField => put_field(text, line, column),
         _ => put_complaint(text, word_from(line, column), fault),
     }
 }

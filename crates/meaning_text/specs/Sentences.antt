@@ -1,5 +1,6 @@
 -- The line of each fact and of each warning. (Own format.)
-use Rattle.std.specs.Prelude.{◌≡◌, ℕ, ◌<◌, ◌↔◌, nat_eq, List, ◌++◌, codes, AllPairs, Contains}
+use Rattle.std.specs.Prelude.{◌≡◌, ℕ, ◌<◌, ◌↔◌, nat_eq, Bool, true, false, List, [], ◌++◌, codes}
+use Rattle.std.specs.Prelude.{AllPairs, Contains}
 use Rattle.std.specs.Prelude.{Option, Some, None, find, length, if◌then◌else◌}
 use Rattle.std.specs.List.{flat_map}
 use Rattle.std.specs.Fmt.{decimal}
@@ -14,13 +15,14 @@ use Rattle.policy_meaning.specs.declared.fact.Fact.TheVariants.{KeptApart, Sanit
 use Rattle.policy_meaning.specs.declared.warning.Doubt.{Doubt}
 use Rattle.policy_meaning.specs.declared.warning.Doubt.TheVariants.{TooFewProcesses}
 use Rattle.policy_meaning.specs.declared.warning.Doubt.TheVariants.{TooFewDatasets, TellsOneFigure}
-use Rattle.policy_meaning.specs.declared.warning.Doubt.TheVariants.{TwoContributors, FewDatasets}
+use Rattle.policy_meaning.specs.declared.warning.Doubt.TheVariants.{ShowsThrough, TwoContributors}
+use Rattle.policy_meaning.specs.declared.warning.Doubt.TheVariants.{FewDatasets, BelowAsked}
 use Rattle.policy_meaning.specs.declared.warning.Warning.{Warning}
 use Rattle.policy_meaning.specs.declared.warning.Warning.TheVariants.{NothingSanitised}
 use Rattle.policy_meaning.specs.declared.warning.Warning.TheVariants.{OfOperation, NoRival}
 use Rattle.policy_meaning.specs.declared.warning.Warning.TheVariants.{NobodysHome, AnyLabel}
 use Rattle.policy_meaning.specs.Facts.{IsFact, fact_place}
-use Rattle.policy_meaning.specs.Warnings.{Warns, warning_place}
+use Rattle.policy_meaning.specs.Warnings.{Warns, warning_place, asked}
 
 abbrev pub dataset_name : ChineseWall → ℕ → List ℕ
 dataset_name wall d = name_at wall.dataset_names d
@@ -64,21 +66,31 @@ fact_text wall (NoHome p) = process_name wall p ++ codes " has no home"
 fact_text wall (KeptApart p q) = pair_text (process_name wall p) (process_name wall q)
 fact_text wall (SanitisedFrom op least distinct) = numbers_text op least distinct
 
+-- the number that a sum should take, and where the page says why
+abbrev pub number_text : (number : ℕ) → List ℕ
+number_text number = decimal number ++ codes " datasets on: \"Which number\" in POLICY.md"
+
+-- what is said of a sum that takes fewer different datasets than it should
+abbrev pub asked_text : (number : ℕ) → List ℕ
+asked_text number = codes " is sanitised from fewer than " ++ number_text number
+
 -- what is said of an operation, behind its name
-abbrev pub doubt_text : Doubt → List ℕ
-doubt_text TooFewProcesses =
+abbrev pub doubt_text : ChineseWall → Doubt → List ℕ
+doubt_text wall TooFewProcesses =
     codes " is never sanitised: it takes more contributors than there are processes"
-doubt_text TooFewDatasets =
+doubt_text wall TooFewDatasets =
     codes " is never sanitised: it takes more datasets than the processes can give data of"
-doubt_text TellsOneFigure = codes " is sanitised, though its result is one member's figure"
-doubt_text TwoContributors =
+doubt_text wall TellsOneFigure = codes " is sanitised, though its result is one member's figure"
+doubt_text wall ShowsThrough = codes " is sanitised, though a single 0 or 1 shows in its result"
+doubt_text wall TwoContributors =
     codes " is sanitised from 2 contributors on: each can learn the other's figure"
-doubt_text FewDatasets =
+doubt_text wall FewDatasets =
     codes " is sanitised from 1 or 2 datasets on: a firm can learn its rival's figure"
+doubt_text wall BelowAsked = asked_text (asked wall)
 
 abbrev pub warning_text : ChineseWall → Warning → List ℕ
 warning_text wall NothingSanitised = codes "no result is ever sanitised: there is no sanitise rule"
-warning_text wall (OfOperation op doubt) = op_name op ++ doubt_text doubt
+warning_text wall (OfOperation op doubt) = op_name op ++ doubt_text wall doubt
 warning_text wall (NoRival d) =
     dataset_name wall d ++ codes " has no rival: its data may reach everybody"
 warning_text wall (NobodysHome d) = codes "no process is at home at " ++ dataset_name wall d
@@ -88,10 +100,22 @@ warning_text wall (AnyLabel p) =
 abbrev pub fact_line : ChineseWall → Fact → List ℕ
 fact_line wall fact = fact_text wall fact ++ codes "\n"
 
+abbrev pub is_pair : Fact → Bool
+is_pair (KeptApart p q) = true
+is_pair _ = false
+
+-- the line of a fact that is no pair, and of one that is; nothing of another
+abbrev pub plain_line : ChineseWall → Fact → List ℕ
+plain_line wall fact = if is_pair fact then [] else fact_line wall fact
+
+abbrev pub pair_line : ChineseWall → Fact → List ℕ
+pair_line wall fact = if is_pair fact then fact_line wall fact else []
+
 abbrev pub warning_line : ChineseWall → Warning → List ℕ
 warning_line wall warning = codes "warning: " ++ warning_text wall warning ++ codes "\n"
 
--- the lines of all facts of the policy, and of all warnings that are due to it, in their orders
+-- The lines of all facts of the policy but the pairs, of all warnings that are due to it, and of the
+-- pairs, each in their orders: the pairs come last, since they are many.
 pub record IsMeaning (wall : ChineseWall) (text : List ℕ) : Type 0 where
   pub facts : List Fact
   pub warnings : List Warning
@@ -99,4 +123,5 @@ pub record IsMeaning (wall : ChineseWall) (text : List ℕ) : Type 0 where
   pub facts_in_order : AllPairs (λ a b. fact_place a < fact_place b) facts
   pub all_warnings : (warning : Warning) → Contains warnings warning ↔ Warns wall warning
   pub warnings_in_order : AllPairs (λ a b. warning_place a < warning_place b) warnings
-  pub lines : text ≡ flat_map (fact_line wall) facts ++ flat_map (warning_line wall) warnings
+  pub lines : text ≡ flat_map (plain_line wall) facts ++ flat_map (warning_line wall) warnings
+      ++ flat_map (pair_line wall) facts

@@ -3,12 +3,14 @@ ghost use Rattle.std.specs.Prelude.{◌≡◌, ◌<◌, ◌++◌, OnOk, IfOk, If
 ghost use Rattle.std.specs.List.{flat_map};
 ghost use Rattle.meaning_text.specs.Sentences.{rival_of, class_words, class_text, home_text};
 ghost use Rattle.meaning_text.specs.Sentences.{pair_text, datasets_text, counts_text};
-ghost use Rattle.meaning_text.specs.Sentences.{numbers_text, fact_text, doubt_text};
-ghost use Rattle.meaning_text.specs.Sentences.{warning_text, fact_line, warning_line, IsMeaning};
+ghost use Rattle.meaning_text.specs.Sentences.{numbers_text, fact_text, number_text, asked_text};
+ghost use Rattle.meaning_text.specs.Sentences.{doubt_text, warning_text, fact_line, is_pair, plain_line};
+ghost use Rattle.meaning_text.specs.Sentences.{pair_line, warning_line, IsMeaning};
+ghost use Rattle.wall_labels.specs.Ops.{op_name};
 ghost use Rattle.policy_meaning.specs.Known.{IsKnownFact, IsKnownWarning};
 
 use coll_text::{put, put_decimal};
-use policy_meaning::{Doubt, Fact, Warning, facts, warnings};
+use policy_meaning::{Doubt, Fact, Warning, asked, facts, warnings};
 use std::alloc::{AllocError, Global};
 use wall_labels::{DatasetId, NoMemory, Op};
 use wall_policy::Policy;
@@ -130,24 +132,65 @@ fn put_fact(text: &mut Vec<u8>, policy: &Policy, fact: &Fact) -> Result<(), Allo
     }
 }
 
-fn doubt_words(doubt: Doubt) -> &'static str
-    ensures { result.now ≡ doubt_text doubt }
+// The number that a sum should take, and where the page says why.
+fn put_number(text: &mut Vec<u8>, number: u32) -> Result<(), AllocError>
+    ensures { OnOk result (text.new.items ≡ text.old.items ++ number_text number) }
+{
+    put_decimal(text, u64::from(number))?;
+    put(text, " datasets on: \"Which number\" in POLICY.md")
+}
+
+fn put_asked(text: &mut Vec<u8>, number: u32) -> Result<(), AllocError>
+    ensures { OnOk result (text.new.items ≡ text.old.items ++ asked_text number) }
+{
+    put(text, " is sanitised from fewer than ")?;
+    put_number(text, number)
+}
+
+// What is said of an operation, behind its name.
+fn put_doubt(text: &mut Vec<u8>, policy: &Policy, doubt: Doubt) -> Result<(), AllocError>
+    ensures { OnOk result (text.new.items ≡ text.old.items ++ doubt_text policy.now doubt) }
 {
     match doubt {
-        Doubt::TooFewProcesses => {
-            " is never sanitised: it takes more contributors than there are processes"
-        }
-        Doubt::TooFewDatasets => {
-            " is never sanitised: it takes more datasets than the processes can give data of"
-        }
-        Doubt::TellsOneFigure => " is sanitised, though its result is one member's figure",
-        Doubt::TwoContributors => {
-            " is sanitised from 2 contributors on: each can learn the other's figure"
-        }
-        Doubt::FewDatasets => {
-            " is sanitised from 1 or 2 datasets on: a firm can learn its rival's figure"
-        }
+        Doubt::TooFewProcesses => put(
+            text,
+            " is never sanitised: it takes more contributors than there are processes",
+        ),
+        Doubt::TooFewDatasets => put(
+            text,
+            " is never sanitised: it takes more datasets than the processes can give data of",
+        ),
+        Doubt::TellsOneFigure => put(
+            text,
+            " is sanitised, though its result is one member's figure",
+        ),
+        Doubt::ShowsThrough => put(
+            text,
+            " is sanitised, though a single 0 or 1 shows in its result",
+        ),
+        Doubt::TwoContributors => put(
+            text,
+            " is sanitised from 2 contributors on: each can learn the other's figure",
+        ),
+        Doubt::FewDatasets => put(
+            text,
+            " is sanitised from 1 or 2 datasets on: a firm can learn its rival's figure",
+        ),
+        Doubt::BelowAsked => put_asked(text, asked(policy)),
     }
+}
+
+fn put_operation(
+    text: &mut Vec<u8>,
+    policy: &Policy,
+    op: Op,
+    doubt: Doubt,
+) -> Result<(), AllocError>
+    ensures { OnOk result
+        (text.new.items ≡ text.old.items ++ (op_name op ++ doubt_text policy.now doubt)) }
+{
+    put(text, op.name())?;
+    put_doubt(text, policy, doubt)
 }
 
 #[tactic(auto, using(crate::proofs::NameLemmas::name_is))]
@@ -162,7 +205,7 @@ fn put_warning(text: &mut Vec<u8>, policy: &Policy, warning: &Warning) -> Result
                 "no result is ever sanitised: there is no sanitise rule",
             )
         }
-        Warning::OfOperation { op, doubt } => put_two(text, op.name(), doubt_words(*doubt)),
+        Warning::OfOperation { op, doubt } => put_operation(text, policy, *op, *doubt),
         Warning::NoRival { dataset } => put_two(
             text,
             policy.dataset_name(*dataset),
@@ -181,14 +224,60 @@ fn put_warning(text: &mut Vec<u8>, policy: &Policy, warning: &Warning) -> Result
     }
 }
 
-fn put_facts(text: &mut Vec<u8>, policy: &Policy, facts: &[Fact]) -> Result<(), AllocError>
+fn put_fact_line(text: &mut Vec<u8>, policy: &Policy, fact: &Fact) -> Result<(), AllocError>
+    requires { IsKnownFact policy.now fact.now }
+    ensures { OnOk result (text.new.items ≡ text.old.items ++ fact_line policy.now fact.now) }
+{
+    put_fact(text, policy, fact)?;
+    put(text, "\n")
+}
+
+fn is_pair(fact: &Fact) -> bool
+    ensures { result ≡ is_pair fact.now }
+{
+    matches!(fact, Fact::KeptApart { .. })
+}
+
+fn put_plain_line(text: &mut Vec<u8>, policy: &Policy, fact: &Fact) -> Result<(), AllocError>
+    requires { IsKnownFact policy.now fact.now }
+    ensures { OnOk result (text.new.items ≡ text.old.items ++ plain_line policy.now fact.now) }
+{
+    if is_pair(fact) {
+        return Ok(());
+    }
+    put_fact_line(text, policy, fact)
+}
+
+fn put_pair_line(text: &mut Vec<u8>, policy: &Policy, fact: &Fact) -> Result<(), AllocError>
+    requires { IsKnownFact policy.now fact.now }
+    ensures { OnOk result (text.new.items ≡ text.old.items ++ pair_line policy.now fact.now) }
+{
+    if is_pair(fact) {
+        return put_fact_line(text, policy, fact);
+    }
+    Ok(())
+}
+
+// The facts that are no pairs.
+fn put_plain(text: &mut Vec<u8>, policy: &Policy, facts: &[Fact]) -> Result<(), AllocError>
     requires { All (IsKnownFact policy.now) facts.now }
     ensures { OnOk result
-        (text.new.items ≡ text.old.items ++ flat_map (fact_line policy.now) facts.now) }
+        (text.new.items ≡ text.old.items ++ flat_map (plain_line policy.now) facts.now) }
 {
     for fact in facts {
-        put_fact(text, policy, fact)?;
-        put(text, "\n")?;
+        put_plain_line(text, policy, fact)?;
+    }
+    Ok(())
+}
+
+// The pairs among the facts.
+fn put_pairs(text: &mut Vec<u8>, policy: &Policy, facts: &[Fact]) -> Result<(), AllocError>
+    requires { All (IsKnownFact policy.now) facts.now }
+    ensures { OnOk result
+        (text.new.items ≡ text.old.items ++ flat_map (pair_line policy.now) facts.now) }
+{
+    for fact in facts {
+        put_pair_line(text, policy, fact)?;
     }
     Ok(())
 }
@@ -206,7 +295,8 @@ fn put_warnings(text: &mut Vec<u8>, policy: &Policy, warnings: &[Warning]) -> Re
     Ok(())
 }
 
-/// What the policy means: a line for each fact, and one for each warning.
+/// What the policy means: a line for each fact that is no pair, one for each warning, and one for
+/// each pair.
 ///
 /// A line has at most 98 bytes, its end left out, since a name has at most 32.
 pub fn meaning_text(alloc: Global, policy: &Policy) -> Result<Vec<u8>, NoMemory>
@@ -215,7 +305,8 @@ pub fn meaning_text(alloc: Global, policy: &Policy) -> Result<Vec<u8>, NoMemory>
     let facts = facts(alloc, policy)?;
     let warnings = warnings(alloc, policy)?;
     let mut text = Vec::new(alloc);
-    put_facts(&mut text, policy, &facts)?;
+    put_plain(&mut text, policy, &facts)?;
     put_warnings(&mut text, policy, &warnings)?;
+    put_pairs(&mut text, policy, &facts)?;
     Ok(text)
 }

@@ -13,7 +13,7 @@ use Rattle.policy_meaning.specs.Warnings.{is_a_home}
 use Rattle.policy_meaning.proofs.BelowLemmas.{none_more, some_later}
 use Rattle.policy_meaning.proofs.FactLemmas.{home_known}
 
-is_no_other : (o : Option ℕ) (d : ℕ) → (o ≡ Some d → ⊥) → is_that o d ≡ false
+pub is_no_other : (o : Option ℕ) (d : ℕ) → (o ≡ Some d → ⊥) → is_that o d ≡ false
 is_no_other None d h = refl
 is_no_other (Some home) d h = ne_eqb home d (λ e. h (ap (λ (n : ℕ). Some n) e))
 

@@ -6,4 +6,5 @@ pub mod HomeLemmas
 pub mod WarningLemmas
 pub mod LawLemmas
 pub mod ReachLemmas
+pub mod AgreeLemmas
 pub mod PolicyMeaningLemmas

@@ -10,7 +10,8 @@ use Rattle.wall_policy.specs.Policy.{ChineseWall, IsPolicy}
 use Rattle.policy_meaning.specs.declared.warning.Doubt.{Doubt}
 use Rattle.policy_meaning.specs.declared.warning.Doubt.TheVariants.{TooFewProcesses}
 use Rattle.policy_meaning.specs.declared.warning.Doubt.TheVariants.{TooFewDatasets, TellsOneFigure}
-use Rattle.policy_meaning.specs.declared.warning.Doubt.TheVariants.{TwoContributors, FewDatasets}
+use Rattle.policy_meaning.specs.declared.warning.Doubt.TheVariants.{ShowsThrough, TwoContributors}
+use Rattle.policy_meaning.specs.declared.warning.Doubt.TheVariants.{FewDatasets, BelowAsked}
 use Rattle.policy_meaning.specs.declared.warning.Warning.{Warning}
 use Rattle.policy_meaning.specs.declared.warning.Warning.TheVariants.{NothingSanitised}
 use Rattle.policy_meaning.specs.declared.warning.Warning.TheVariants.{OfOperation, NoRival}
@@ -23,33 +24,40 @@ use Rattle.policy_meaning.proofs.FactLemmas.{op_is, op_number_below}
 
 abbrev pub all_doubts : List Doubt
 all_doubts =
-    TooFewProcesses ∷ TooFewDatasets ∷ TellsOneFigure ∷ TwoContributors ∷ FewDatasets ∷ []
+    TooFewProcesses ∷ TooFewDatasets ∷ TellsOneFigure ∷ ShowsThrough ∷ TwoContributors ∷ FewDatasets
+    ∷ BelowAsked ∷ []
 
 doubt_back : (x : Doubt) → slice_get all_doubts (doubt_number x) ≡ Some x
 doubt_back TooFewProcesses = refl
 doubt_back TooFewDatasets = refl
 doubt_back TellsOneFigure = refl
+doubt_back ShowsThrough = refl
 doubt_back TwoContributors = refl
 doubt_back FewDatasets = refl
+doubt_back BelowAsked = refl
 
 doubt_is : (x y : Doubt) → doubt_number x ≡ doubt_number y → x ≡ y
 doubt_is x y e =
     let one = doubt_back x in let two = doubt_back y in let same = ap (slice_get all_doubts) e in cc
 
-pub doubt_number_below : (x : Doubt) → doubt_number x < 5
+pub doubt_number_below : (x : Doubt) → doubt_number x < 7
 doubt_number_below TooFewProcesses = omega arith
 doubt_number_below TooFewDatasets = omega arith
 doubt_number_below TellsOneFigure = omega arith
+doubt_number_below ShowsThrough = omega arith
 doubt_number_below TwoContributors = omega arith
 doubt_number_below FewDatasets = omega arith
+doubt_number_below BelowAsked = omega arith
 
-pub doubt_at : (i : ℕ) → i < 5 → doubt_number (get_or all_doubts i TooFewProcesses) ≡ i
+pub doubt_at : (i : ℕ) → i < 7 → doubt_number (get_or all_doubts i TooFewProcesses) ≡ i
 doubt_at zero lt = refl
 doubt_at (suc zero) lt = refl
 doubt_at (suc (suc zero)) lt = refl
 doubt_at (suc (suc (suc zero))) lt = refl
 doubt_at (suc (suc (suc (suc zero)))) lt = refl
-doubt_at (suc (suc (suc (suc (suc i))))) lt = absurd (omega arith)
+doubt_at (suc (suc (suc (suc (suc zero))))) lt = refl
+doubt_at (suc (suc (suc (suc (suc (suc zero)))))) lt = refl
+doubt_at (suc (suc (suc (suc (suc (suc (suc i))))))) lt = absurd (omega arith)
 
 pub op_at : (i : ℕ) → i < 12 → op_number (get_or all_ops i Max) ≡ i
 op_at zero lt = refl
@@ -158,7 +166,7 @@ past_warning wall xs w policy is_known listed none =
 -- No warning stands behind those of the last dataset, and of the last process.
 
 none_without_rival : (wall : ChineseWall) (w : Warning) → IsKnownWarning wall w →
-    61 + length wall.dataset_names ≤ warning_place w → warning_place w < 1085 → ⊥
+    85 + length wall.dataset_names ≤ warning_place w → warning_place w < 1109 → ⊥
 none_without_rival wall NothingSanitised h low high = omega arith
 none_without_rival wall (OfOperation op doubt) h low high =
     let one = op_number_below op in let two = doubt_number_below doubt in omega arith
@@ -167,14 +175,14 @@ none_without_rival wall (NobodysHome d) h low high = omega arith
 none_without_rival wall (AnyLabel p) h low high = omega arith
 
 pub past_without_rival : (wall : ChineseWall) (xs : List Warning) (n : ℕ) →
-    AreWarnings wall xs (61 + n) → length wall.dataset_names ≤ n → n ≤ 1024 →
-    AreWarnings wall xs 1085
+    AreWarnings wall xs (85 + n) → length wall.dataset_names ≤ n → n ≤ 1024 →
+    AreWarnings wall xs 1109
 past_without_rival wall xs n listed all few =
-    listed_past (Warns wall) warning_place xs (61 + n) 1085 listed (omega arith)
+    listed_past (Warns wall) warning_place xs (85 + n) 1109 listed (omega arith)
     (λ w due low high. none_without_rival wall w (known wall w due) (omega arith) high)
 
 none_nobodys : (wall : ChineseWall) (w : Warning) → IsPolicy wall → IsKnownWarning wall w →
-    1085 + length wall.dataset_names ≤ warning_place w → warning_place w < 2109 → ⊥
+    1109 + length wall.dataset_names ≤ warning_place w → warning_place w < 2133 → ⊥
 none_nobodys wall NothingSanitised policy h low high = omega arith
 none_nobodys wall (OfOperation op doubt) policy h low high =
     let one = op_number_below op in let two = doubt_number_below doubt in omega arith
@@ -183,15 +191,15 @@ none_nobodys wall (NobodysHome d) policy h low high = omega arith
 none_nobodys wall (AnyLabel p) policy h low high = omega arith
 
 pub past_nobodys : (wall : ChineseWall) (xs : List Warning) (n : ℕ) → IsPolicy wall →
-    AreWarnings wall xs (1085 + n) → length wall.dataset_names ≤ n → n ≤ 1024 →
-    AreWarnings wall xs 2109
+    AreWarnings wall xs (1109 + n) → length wall.dataset_names ≤ n → n ≤ 1024 →
+    AreWarnings wall xs 2133
 past_nobodys wall xs n policy listed all few =
-    listed_past (Warns wall) warning_place xs (1085 + n) 2109 listed (omega arith)
+    listed_past (Warns wall) warning_place xs (1109 + n) 2133 listed (omega arith)
     (λ w due low high. none_nobodys wall w policy (known wall w due) (omega arith) high)
 
 -- every warning stands below this
 last : (wall : ChineseWall) (w : Warning) → IsPolicy wall → IsKnownWarning wall w →
-    warning_place w < 2109 + length wall.process_names
+    warning_place w < 2133 + length wall.process_names
 last wall NothingSanitised policy h = omega arith
 last wall (OfOperation op doubt) policy h =
     let one = op_number_below op in let two = doubt_number_below doubt in omega arith
@@ -200,14 +208,14 @@ last wall (NobodysHome d) policy h = let few = policy.few_datasets in omega arit
 last wall (AnyLabel p) policy h = omega arith
 
 pub past_all : (wall : ChineseWall) (xs : List Warning) (n : ℕ) → IsPolicy wall →
-    AreWarnings wall xs (2109 + n) → length wall.process_names ≤ n → n ≤ 256 →
-    AreWarnings wall xs 2365
+    AreWarnings wall xs (2133 + n) → length wall.process_names ≤ n → n ≤ 256 →
+    AreWarnings wall xs 2389
 past_all wall xs n policy listed all few =
-    listed_past (Warns wall) warning_place xs (2109 + n) 2365 listed (omega arith)
+    listed_past (Warns wall) warning_place xs (2133 + n) 2389 listed (omega arith)
     (λ w due low high. let place = last wall w policy (known wall w due) in omega arith)
 
 pub all_warnings : (wall : ChineseWall) (xs : List Warning) → IsPolicy wall →
-    AreWarnings wall xs 2365 →
+    AreWarnings wall xs 2389 →
     (w : Warning) → (Contains xs w → Warns wall w) × (Warns wall w → Contains xs w)
 all_warnings wall xs policy listed w = (
   λ has. All-contains (Warns wall) xs w listed.sound has,

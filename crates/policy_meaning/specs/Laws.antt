@@ -1,6 +1,6 @@
 -- What the facts and the warnings of a policy mean for every run under it.
-use Rattle.std.specs.Prelude.{◌≡◌, ℕ, ◌<◌, ◌≤◌, ◌↔◌, ◌⊎◌, false, IsTrue, List, length, slice_get}
-use Rattle.std.specs.Prelude.{Some, None}
+use Rattle.std.specs.Prelude.{◌≡◌, ℕ, ◌<◌, ◌≤◌, ◌↔◌, ◌⊎◌, Bool, true, false, IsTrue, List, length}
+use Rattle.std.specs.Prelude.{Some, None, slice_get}
 use Rattle.wall_labels.specs.declared.op.Op.{Op}
 use Rattle.wall_policy.specs.Policy.{ChineseWall, IsPolicy, home_of}
 use Rattle.mpi_group.specs.Groups.{IsGroup}
@@ -11,6 +11,7 @@ use Rattle.run_model.specs.Holding.{Holds}
 use Rattle.run_model.specs.Runs.{Entry, posts}
 use Rattle.run_model.specs.Replies.{Legal}
 use Rattle.policy_meaning.specs.declared.fact.Fact.TheVariants.{SanitisedFrom}
+use Rattle.policy_meaning.specs.declared.warning.Doubt.{Doubt}
 use Rattle.policy_meaning.specs.declared.warning.Doubt.TheVariants.{TooFewProcesses}
 use Rattle.policy_meaning.specs.declared.warning.Doubt.TheVariants.{TooFewDatasets}
 use Rattle.policy_meaning.specs.declared.warning.Warning.TheVariants.{OfOperation}
@@ -62,3 +63,14 @@ abbrev pub OutOfReachIsNeverSanitised : Type 0
 OutOfReachIsNeverSanitised = (wall : ChineseWall) (op : Op) (roll : Roll) (j : ℕ) →
     IsOutOfReach wall op → IsOfPolicy wall roll j → reduction roll.sig ≡ Some op →
     sanitised wall roll j ≡ false
+
+-- the doubt is of a result that is sanitised
+abbrev pub is_of_a_result : Doubt → Bool
+is_of_a_result TooFewProcesses = false
+is_of_a_result TooFewDatasets = false
+is_of_a_result _ = true
+
+-- none is due to an operation that is warned of as never sanitised
+abbrev pub WarningsAgree : Type 0
+WarningsAgree = (wall : ChineseWall) (op : Op) (doubt : Doubt) → IsOutOfReach wall op →
+    is_of_a_result doubt ≡ true → ¬ (Warns wall (OfOperation op doubt))

@@ -3,14 +3,17 @@ ghost use Rattle.std.specs.Prelude.{◌≡◌, ◌≢◌, ℕ, ◌≤◌, ◌<�
 ghost use Rattle.std.specs.Prelude.{AllPairs, Contains, length, MatchBool, None, true, false};
 ghost use Rattle.wall_labels.specs.declared.op.Op.{Op};
 ghost use Rattle.wall_labels.specs.Ops.{op_number};
-ghost use Rattle.wall_policy.specs.Policy.{IsPolicy, least_of, home_of, class_of};
-ghost use Rattle.wall_policy.specs.Rivals.{AreRivals, datasets_in};
+ghost use Rattle.wall_policy.specs.Policy.{IsPolicy, least_of, home_of};
+ghost use Rattle.wall_policy.specs.Rivals.{AreRivals};
 ghost use Rattle.policy_meaning.specs.declared.warning.Warning.{Warning};
-ghost use Rattle.policy_meaning.specs.Warnings.{picks, is_a_home, homes, homeless, most_labels};
-ghost use Rattle.policy_meaning.specs.Warnings.{IsDoubtful, Warns, warning_place};
+ghost use Rattle.policy_meaning.specs.Warnings.{picks, shows_through, is_sum, is_a_home, homes};
+ghost use Rattle.policy_meaning.specs.Warnings.{homeless, most_labels, IsInReach, CanBeSanitised};
+ghost use Rattle.policy_meaning.specs.Warnings.{IsCrowd, IsDoubtful, Warns, warning_place};
 ghost use Rattle.policy_meaning.specs.Known.{IsKnownWarning};
 ghost use Rattle.policy_meaning.specs.Listed.{AreListed};
 
+use crate::crowd::has_crowd;
+use crate::number::asked;
 use crate::ops::OPS;
 use crate::warning::{Doubt, Warning};
 use std::alloc::Global;
@@ -18,12 +21,14 @@ use wall_labels::{DatasetId, NoMemory, Op, ProcessId};
 use wall_policy::Policy;
 
 // What may be doubtful of an operation, by number.
-const DOUBTS: [Doubt; 5] = [
+const DOUBTS: [Doubt; 7] = [
     Doubt::TooFewProcesses,
     Doubt::TooFewDatasets,
     Doubt::TellsOneFigure,
+    Doubt::ShowsThrough,
     Doubt::TwoContributors,
     Doubt::FewDatasets,
+    Doubt::BelowAsked,
 ];
 
 // Whether the results of some operation may be sanitised.
@@ -40,7 +45,7 @@ fn sanitises(policy: &Policy) -> bool
 }
 
 // Whether some process is at home at the dataset.
-fn is_a_home(policy: &Policy, dataset: DatasetId) -> bool
+pub(crate) fn is_a_home(policy: &Policy, dataset: DatasetId) -> bool
     ensures test { result ≡ is_a_home policy.now dataset }
     ensures some { result ≡ true → (p : ℕ) × (home_of policy.now p ≡ Some dataset) }
     ensures none { result ≡ false → (p : ℕ) → home_of policy.now p ≢ Some dataset }
@@ -68,7 +73,7 @@ fn homes(policy: &Policy) -> u32
 }
 
 // How many processes have no home.
-fn homeless(policy: &Policy) -> u32
+pub(crate) fn homeless(policy: &Policy) -> u32
     ensures number { result ≡ homeless policy.now }
     ensures few { result ≤ length policy.now.process_names }
 {
@@ -89,35 +94,6 @@ pub fn most_labels(policy: &Policy) -> u32
     policy.datasets().min(homes(policy) + homeless(policy))
 }
 
-// How many datasets the class of this one has.
-fn class_size(policy: &Policy, dataset: DatasetId) -> u32
-    requires { dataset < length policy.now.dataset_names }
-    ensures { (class : ℕ) → class_of policy.now dataset ≡ Some class →
-        result ≡ length (datasets_in policy.now.classes class) }
-{
-    let class = policy.class_of(dataset);
-    let mut count = 0;
-    for number in 0..policy.datasets() {
-        if policy.class_of(DatasetId::new(number).unwrap()) == class {
-            count += 1;
-        }
-    }
-    count
-}
-
-// Whether some class has more datasets.
-fn has_class_above(policy: &Policy, most: u32) -> bool
-    ensures { IsTrue result
-        ↔ ((class : ℕ) × (most < length (datasets_in policy.now.classes class))) }
-{
-    for number in 0..policy.datasets() {
-        if class_size(policy, DatasetId::new(number).unwrap()) > most {
-            return true;
-        }
-    }
-    false
-}
-
 // Whether the operation picks one of the values.
 fn picks(op: Op) -> bool
     ensures { result ≡ picks op }
@@ -125,17 +101,100 @@ fn picks(op: Op) -> bool
     matches!(op, Op::Max | Op::Min | Op::Maxloc | Op::Minloc)
 }
 
-// Whether this is doubtful of an operation whose results are sanitised from these numbers on.
-fn is_doubtful(policy: &Policy, op: Op, least: u32, distinct: u32, doubt: Doubt) -> bool
+// Whether one value can settle the whole result.
+fn shows_through(op: Op) -> bool
+    ensures { result ≡ shows_through op }
+{
+    matches!(op, Op::Prod | Op::Land | Op::Lor | Op::Band | Op::Bor)
+}
+
+fn is_sum(op: Op) -> bool
+    ensures { result ≡ is_sum op }
+{
+    matches!(op, Op::Sum)
+}
+
+// Whether a result that takes these numbers can be sanitised.
+fn is_in_reach(policy: &Policy, least: u32, distinct: u32) -> bool
+    ensures { IsTrue result ↔ IsInReach policy.now least distinct }
+{
+    least <= policy.processes() && distinct <= most_labels(policy)
+}
+
+// Whether some result of the operation can be sanitised.
+fn can_be_sanitised(policy: &Policy, op: Op) -> bool
+    ensures { IsTrue result ↔ CanBeSanitised policy.now op }
+{
+    let Some(least) = policy.least(op) else {
+        return false;
+    };
+    let Some(distinct) = policy.distinct(op) else {
+        return false;
+    };
+    is_in_reach(policy, least, distinct)
+}
+
+// Whether some result of some operation can be.
+fn some_can_be_sanitised(policy: &Policy) -> bool
+    ensures { IsTrue result ↔ ((op : Op) × CanBeSanitised policy.now op) }
+{
+    for op in &OPS {
+        if can_be_sanitised(policy, *op) {
+            return true;
+        }
+    }
+    false
+}
+
+// Whether two rivals by themselves can give such a result.
+fn is_of_few_datasets(policy: &Policy, least: u32, distinct: u32) -> bool
+    ensures { IsTrue result ↔ ((distinct ≤ 2)
+        × ((left : ℕ) × (right : ℕ) × IsCrowd policy.now least left right)) }
+{
+    distinct <= 2 && has_crowd(policy, least)
+}
+
+// Whether this is doubtful of an operation whose results are sanitised from these numbers on, which
+// some can reach.
+fn is_doubtful_in_reach(policy: &Policy, op: Op, least: u32, distinct: u32, doubt: Doubt) -> bool
+    requires { IsInReach policy.now least distinct }
     ensures { IsTrue result ↔ IsDoubtful policy.now op least distinct doubt }
+{
+    let _ = policy.processes();
+    match doubt {
+        Doubt::TooFewProcesses | Doubt::TooFewDatasets => false,
+        Doubt::TellsOneFigure => picks(op),
+        Doubt::ShowsThrough => shows_through(op),
+        Doubt::TwoContributors => least == 2,
+        Doubt::FewDatasets => is_of_few_datasets(policy, least, distinct),
+        Doubt::BelowAsked => is_sum(op) && distinct < asked(policy),
+    }
+}
+
+// The same where none can reach them.
+fn is_doubtful_out_of_reach(policy: &Policy, least: u32, distinct: u32, doubt: Doubt) -> bool
+    requires { ¬ (IsInReach policy.now least distinct) }
+    ensures { (op : Op) → IsTrue result ↔ IsDoubtful policy.now op least distinct doubt }
 {
     match doubt {
         Doubt::TooFewProcesses => policy.processes() < least,
         Doubt::TooFewDatasets => most_labels(policy) < distinct,
-        Doubt::TellsOneFigure => picks(op),
-        Doubt::TwoContributors => least == 2,
-        Doubt::FewDatasets => distinct <= 2 && has_class_above(policy, distinct),
+        Doubt::TellsOneFigure
+        | Doubt::ShowsThrough
+        | Doubt::TwoContributors
+        | Doubt::FewDatasets
+        | Doubt::BelowAsked => false,
     }
+}
+
+// Whether this is doubtful of an operation whose results are sanitised from these numbers on.
+fn is_doubtful(policy: &Policy, op: Op, least: u32, distinct: u32, doubt: Doubt) -> bool
+    ensures { IsTrue result ↔ IsDoubtful policy.now op least distinct doubt }
+{
+    if is_in_reach(policy, least, distinct) {
+        return is_doubtful_in_reach(policy, op, least, distinct, doubt);
+    }
+    is_doubtful_out_of_reach(policy, least, distinct, doubt)
 }
 
 // Whether this is doubtful of the operation, if its results may be sanitised.
@@ -163,6 +222,14 @@ fn has_no_rival(policy: &Policy, dataset: DatasetId) -> bool
     dataset.number() < policy.datasets()
 }
 
+// Whether the process is the policy's, and has no home.
+fn is_free(policy: &Policy, process: ProcessId) -> bool
+    ensures { IsTrue result
+        ↔ ((process < length policy.now.process_names) × (home_of policy.now process ≡ None)) }
+{
+    process.number() < policy.processes() && policy.home(process).is_none()
+}
+
 /// Whether the warning is due to the policy.
 pub fn warns(policy: &Policy, warning: &Warning) -> bool
     ensures { IsTrue result ↔ Warns policy.now warning.now }
@@ -175,9 +242,7 @@ pub fn warns(policy: &Policy, warning: &Warning) -> bool
             dataset.number() < policy.datasets() && !is_a_home(policy, *dataset)
         }
         Warning::AnyLabel { process } => {
-            process.number() < policy.processes()
-                && policy.home(*process).is_none()
-                && sanitises(policy)
+            is_free(policy, *process) && some_can_be_sanitised(policy)
         }
     }
 }
@@ -199,9 +264,9 @@ fn add(policy: &Policy, warning: Warning, list: &mut Vec<Warning>) -> Result<(),
 
 // Adds what is doubtful of the operation.
 fn add_doubts(policy: &Policy, op: Op, list: &mut Vec<Warning>) -> Result<(), NoMemory>
-    requires { AreListed (Warns policy.now) warning_place list.old.items (1 + 5 * op_number op) }
+    requires { AreListed (Warns policy.now) warning_place list.old.items (1 + 7 * op_number op) }
     ensures { OnOk result
-        (AreListed (Warns policy.now) warning_place list.new.items (1 + 5 * (op_number op + 1))) }
+        (AreListed (Warns policy.now) warning_place list.new.items (1 + 7 * (op_number op + 1))) }
 {
     for doubt in &DOUBTS {
         add(policy, Warning::OfOperation { op, doubt: *doubt }, list)?;
@@ -211,7 +276,7 @@ fn add_doubts(policy: &Policy, op: Op, list: &mut Vec<Warning>) -> Result<(), No
 
 fn add_operations(policy: &Policy, list: &mut Vec<Warning>) -> Result<(), NoMemory>
     requires { AreListed (Warns policy.now) warning_place list.old.items 1 }
-    ensures { OnOk result (AreListed (Warns policy.now) warning_place list.new.items 61) }
+    ensures { OnOk result (AreListed (Warns policy.now) warning_place list.new.items 85) }
 {
     for op in &OPS {
         add_doubts(policy, *op, list)?;
@@ -220,8 +285,8 @@ fn add_operations(policy: &Policy, list: &mut Vec<Warning>) -> Result<(), NoMemo
 }
 
 fn add_without_rival(policy: &Policy, list: &mut Vec<Warning>) -> Result<(), NoMemory>
-    requires { AreListed (Warns policy.now) warning_place list.old.items 61 }
-    ensures { OnOk result (AreListed (Warns policy.now) warning_place list.new.items 1085) }
+    requires { AreListed (Warns policy.now) warning_place list.old.items 85 }
+    ensures { OnOk result (AreListed (Warns policy.now) warning_place list.new.items 1109) }
 {
     for number in 0..policy.datasets() {
         let dataset = DatasetId::new(number).unwrap();
@@ -231,8 +296,8 @@ fn add_without_rival(policy: &Policy, list: &mut Vec<Warning>) -> Result<(), NoM
 }
 
 fn add_nobodys_homes(policy: &Policy, list: &mut Vec<Warning>) -> Result<(), NoMemory>
-    requires { AreListed (Warns policy.now) warning_place list.old.items 1085 }
-    ensures { OnOk result (AreListed (Warns policy.now) warning_place list.new.items 2109) }
+    requires { AreListed (Warns policy.now) warning_place list.old.items 1109 }
+    ensures { OnOk result (AreListed (Warns policy.now) warning_place list.new.items 2133) }
 {
     for number in 0..policy.datasets() {
         let dataset = DatasetId::new(number).unwrap();
@@ -242,8 +307,8 @@ fn add_nobodys_homes(policy: &Policy, list: &mut Vec<Warning>) -> Result<(), NoM
 }
 
 fn add_free_labels(policy: &Policy, list: &mut Vec<Warning>) -> Result<(), NoMemory>
-    requires { AreListed (Warns policy.now) warning_place list.old.items 2109 }
-    ensures { OnOk result (AreListed (Warns policy.now) warning_place list.new.items 2365) }
+    requires { AreListed (Warns policy.now) warning_place list.old.items 2133 }
+    ensures { OnOk result (AreListed (Warns policy.now) warning_place list.new.items 2389) }
 {
     for number in 0..policy.processes() {
         let process = ProcessId::new(number).unwrap();

@@ -2,6 +2,7 @@
 //! nothing.
 ghost use Rattle.policy_meaning.specs.Laws.{KeptApartNeverMeet, NumbersAreOfTheVerdict};
 ghost use Rattle.policy_meaning.specs.Laws.{OthersAreNeverSanitised, OutOfReachIsNeverSanitised};
+ghost use Rattle.policy_meaning.specs.Laws.{WarningsAgree};
 
 use wall_verdict::laws::different_are_counted_once;
 
@@ -28,3 +29,8 @@ pub fn out_of_reach_is_never_sanitised()
 {
     different_are_counted_once();
 }
+
+/// No warning speaks of a sanitised result of an operation that is warned of as never sanitised.
+pub fn warnings_agree()
+    ensures { WarningsAgree }
+{}

@@ -5,15 +5,18 @@
 //! holds of the policy.
 #![tactic(auto)]
 
+mod crowd;
 mod due;
 mod fact;
 pub mod laws;
+mod number;
 mod ops;
 mod stated;
 mod warning;
 
 pub use due::{most_labels, warnings, warns};
 pub use fact::Fact;
+pub use number::asked;
 pub use stated::{are_kept_apart, facts};
 pub use wall_labels::NoMemory;
 pub use warning::{Doubt, Warning};

@@ -15,15 +15,15 @@ use Rattle.policy_places.specs.declared.part.Part.TheVariants.{Class, Process, R
 use Rattle.policy_places.specs.declared.sign.Sign.{Sign}
 use Rattle.policy_places.specs.declared.sign.Sign.TheVariants as signs
 use Rattle.policy_places.specs.Prefixes.{prefix}
-use Rattle.policy_places.specs.Parts.{tables_at, texts_in, datasets_in}
+use Rattle.policy_places.specs.Parts.{key_of, tables_at, texts_in, datasets_in}
 use Rattle.policy_places.specs.Signs.{known_of, stated_version, shows, sign_of, is_file_key}
 use Rattle.policy_places.specs.Signs.{is_key_of, all_keys, has_keys, has_stray, has, lacks}
 use Rattle.policy_places.specs.Signs.{has_required, or_next, lacking_in, table_there}
-use Rattle.policy_places.specs.Signs.{has_bad_least, has_bad_distinct, is_bad_rule}
+use Rattle.policy_places.specs.Signs.{has_bad_least, has_bad_distinct, is_bad_rule, part_fits}
 use Rattle.policy_places.specs.Places.{IsFoundBy, IsFoundIn}
 use Rattle.policy_places.specs.Named.{named_in, or_else, first_read, first_key, stray_in, stray_of}
 use Rattle.policy_places.specs.Named.{first_missing, missing_in, read_there, first_twice}
-use Rattle.policy_places.specs.Named.{bad_least_in, names}
+use Rattle.policy_places.specs.Named.{bad_least_in, names, misfit_in, misfit_of}
 use Rattle.policy_places.specs.Laws.{has_word, WordsAreNamed}
 
 -- ---- one of two
@@ -44,6 +44,12 @@ word_there : (part : Option Part) (o : Option Name) → is_some o ≡ true →
     is_some (named_in part o) ≡ true
 word_there part (Some w) h = refl
 word_there part None h = absurd (false≢true h)
+
+-- of two, where a test fails
+kind_there : {X : Type 0} (p : Bool) (a b : Option X) → is_some b ≡ true → not p ≡ true →
+    is_some (cond p None (or_else a b)) ≡ true
+kind_there true a b there h = absurd (false≢true h)
+kind_there false a b there h = then_there a b there
 
 three_there : {X : Type 0} (a b c : Option X) (p q r : Bool) → (not p ≡ true → is_some a ≡ true) →
     (not q ≡ true → is_some b ≡ true) → (not r ≡ true → is_some c ≡ true) →
@@ -320,11 +326,23 @@ module _ (whole ms : Members) where
       some None h = h
       some (Some one) h = refl
 
+  misfit_there : (part : Part) → not (part_fits version part ms) ≡ true →
+      is_some (misfit_of version part ms) ≡ true
+  misfit_there part h = kind_there (part_fits version part ms)
+      (named_in (Some part) (first_read (misfit_in version part) (tables_at part ms)))
+      (named_in None (Some (key_of part))) refl h
+
+  other_kind : shows (known_of whole) signs.OtherKind ms ≡ true →
+      is_some (names whole (known_of whole) signs.OtherKind ms) ≡ true
+  other_kind h = three_there (misfit_of version Class ms) (misfit_of version Process ms)
+      (misfit_of version Rule ms) (part_fits version Class ms) (part_fits version Process ms)
+      (part_fits version Rule ms) (misfit_there Class) (misfit_there Process) (misfit_there Rule) h
+
   pub named_where_shown : (sign : Sign) → shows (known_of whole) sign ms ≡ true →
       has_word sign ≡ true → is_some (names whole (known_of whole) sign ms) ≡ true
   named_where_shown signs.NotToml h word = absurd (false≢true word)
   named_where_shown signs.Version h word = absurd (false≢true word)
-  named_where_shown signs.OtherKind h word = absurd (false≢true word)
+  named_where_shown signs.OtherKind h word = other_kind h
   named_where_shown signs.FileKey h word =
       word_there None (first_key is_file_key ms) (key_there is_file_key ms h)
   named_where_shown signs.StrayKey h word =

@@ -11,7 +11,7 @@ use Rattle.policy_places.specs.declared.sign.Sign.{Sign}
 use Rattle.policy_places.specs.declared.sign.Sign.TheVariants.{UnknownKey, BadName, DuplicateName}
 use Rattle.policy_places.specs.declared.sign.Sign.TheVariants.{UnknownDataset, BadOp, BadLeast}
 use Rattle.policy_places.specs.declared.sign.Sign.TheVariants.{TooMany}
-use Rattle.policy_places.specs.declared.sign.Sign.TheVariants.{NotToml, Version, OtherKind}
+use Rattle.policy_places.specs.declared.sign.Sign.TheVariants.{NotToml, Version}
 use Rattle.policy_places.specs.declared.place.Found.{Found}
 use Rattle.policy_places.specs.declared.place.Place.{Place}
 use Rattle.policy_places.specs.Places.{IsPlace}
@@ -57,7 +57,6 @@ NowhereIsAbsent = (text : List ℕ) (place : Place) → IsPlace text place → p
 abbrev pub has_word : Sign → Bool
 has_word NotToml = false
 has_word Version = false
-has_word OtherKind = false
 has_word sign = true
 
 -- Where a fault has its line, and a word of it is named, there is one.

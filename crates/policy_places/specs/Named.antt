@@ -1,6 +1,6 @@
 -- What is named where a fault stands: the key, the name or the number that shows its sign there, as
 -- the document of the lines up to that one has it. (Own rule.)
-use Rattle.std.specs.Prelude.{ℕ, nat_eq, nat_lt, Bool, not, ◌&&◌, List, [], ◌∷◌}
+use Rattle.std.specs.Prelude.{ℕ, nat_eq, nat_lt, Bool, not, ◌&&◌, ◌||◌, List, [], ◌∷◌}
 use Rattle.std.specs.Prelude.{length, find, Option, Some, None, is_some, codes}
 use Rattle.std.specs.Prelude.{option_and_then, slice_get, if◌then◌else◌}
 use Rattle.toml.specs.Data.{Data, Members, no_members, member, as_table}
@@ -18,9 +18,10 @@ use Rattle.policy_places.specs.declared.sign.Sign.TheVariants.{UnknownDataset, B
 use Rattle.policy_places.specs.declared.sign.Sign.TheVariants.{TooMany}
 use Rattle.policy_places.specs.declared.place.Found.{Found}
 use Rattle.policy_places.specs.Prefixes.{prefix}
-use Rattle.policy_places.specs.Parts.{tables_at, texts_in, datasets_in}
+use Rattle.policy_places.specs.Parts.{key_of, tables_at, texts_in, datasets_in}
 use Rattle.policy_places.specs.Signs.{Known, known_of, is_file_key, is_key_of, has}
-use Rattle.policy_places.specs.Signs.{has_bad_least, has_bad_distinct}
+use Rattle.policy_places.specs.Signs.{has_bad_least, has_bad_distinct, is_text, is_texts}
+use Rattle.policy_places.specs.Signs.{is_integer, fits, part_fits}
 
 -- a word of the document, and the part in whose tables it stands; of none, where it stands outside
 -- them
@@ -119,15 +120,47 @@ too_many_in ms = if nat_lt process_limit (length (tables_at Process ms)) then co
     else (if nat_lt dataset_limit (length (datasets_in (tables_at Class ms)))
     then codes "datasets" else codes "classes")
 
+---- kinds of values
+
+-- the first key of the part that holds another kind of value in these members than it should
+abbrev pub misfit : (version : ℕ) → Part → Members → Option Name
+misfit version Class ms = if fits is_text (codes "name") ms
+    then (if fits is_texts (codes "datasets") ms then None else Some (codes "datasets"))
+    else Some (codes "name")
+misfit version Process ms = if fits is_text (codes "name") ms
+    then (if fits is_text (codes "home") ms then None else Some (codes "home"))
+    else Some (codes "name")
+misfit version Rule ms = if fits is_text (codes "op") ms
+    then (if fits is_integer (codes "least") ms
+    then (if nat_eq version 1 || fits is_integer (codes "distinct") ms then None
+    else Some (codes "distinct")) else Some (codes "least"))
+    else Some (codes "op")
+
+-- that of a value, if it is a table
+abbrev pub misfit_in : (version : ℕ) → Part → Data → Option Name
+misfit_in version part d = option_and_then (misfit version part) (as_table d)
+
+-- what of a part is not as it should be: the first such key of its tables; else its own key, at
+-- which no array of tables stands, or of processes none
+abbrev pub misfit_of : (version : ℕ) → Part → Members → Option Named
+misfit_of version part ms = if part_fits version part ms then None
+    else or_else (named_in (Some part) (first_read (misfit_in version part) (tables_at part ms)))
+    (named_in None (Some (key_of part)))
+
+-- classes first, then processes, then rules
+abbrev pub other_kind_in : (version : ℕ) → Members → Option Named
+other_kind_in version ms = or_else (misfit_of version Class ms)
+    (or_else (misfit_of version Process ms) (misfit_of version Rule ms))
+
 ---- signs
 
 -- What is named of a document that shows the sign, where this is known of the whole document whose
--- prefix it is. Nothing of three signs; of a table that lacks a key, which the whole table lacks.
+-- prefix it is. Nothing of two signs; of a table that lacks a key, which the whole table lacks.
 abbrev pub names : (whole : Members) → Known → Sign → Members → Option Named
 names whole k NotToml ms = None
 names whole k Version ms = None
 names whole k FileKey ms = named_in None (first_key is_file_key ms)
-names whole k OtherKind ms = None
+names whole k OtherKind ms = other_kind_in k.version ms
 names whole k StrayKey ms = read_there ms k.lacking (stray_in k.version)
 names whole k Lacking ms = read_there whole k.lacking (missing_in k.version)
 names whole k UnknownKey ms = unknown_in k.version ms

@@ -20,8 +20,8 @@ pub fn nowhere_is_absent()
     ensures { NowhereIsAbsent }
 {}
 
-/// Where a fault has its line there is a word of it, but of a text that is no TOML, of a version
-/// that is not read and of a key with another kind of value.
+/// Where a fault has its line there is a word of it, but of a text that is no TOML and of a version
+/// that is not read.
 pub fn words_are_named()
     ensures { WordsAreNamed }
 {}

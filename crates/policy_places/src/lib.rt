@@ -10,6 +10,7 @@ mod known;
 pub mod laws;
 mod lines;
 mod look;
+mod misfit;
 mod named;
 mod names;
 mod part;

@@ -163,7 +163,7 @@ pub(crate) fn first_lacking(version: u32, part: Part, values: &[Value]) -> Optio
 }
 
 // Whether nothing stands at the key, or a text.
-fn fits_text(members: &Table, key: &str) -> bool
+pub(crate) fn fits_text(members: &Table, key: &str) -> bool
     ensures { result ≡ fits is_text key.now (table_view members.now) }
 {
     match value_at(members, key) {
@@ -173,7 +173,7 @@ fn fits_text(members: &Table, key: &str) -> bool
 }
 
 // Whether nothing stands at the key, or an integer.
-fn fits_integer(members: &Table, key: &str) -> bool
+pub(crate) fn fits_integer(members: &Table, key: &str) -> bool
     ensures { result ≡ fits is_integer key.now (table_view members.now) }
 {
     match value_at(members, key) {
@@ -202,7 +202,7 @@ fn is_texts(value: &Value) -> bool
 }
 
 // Whether nothing stands at the key, or an array of texts.
-fn fits_texts(members: &Table, key: &str) -> bool
+pub(crate) fn fits_texts(members: &Table, key: &str) -> bool
     ensures { result ≡ fits is_texts key.now (table_view members.now) }
 {
     match value_at(members, key) {

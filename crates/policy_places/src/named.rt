@@ -5,7 +5,7 @@ ghost use Rattle.wall_labels.specs.Ops.{op_of};
 ghost use Rattle.policy_places.specs.Parts.{tables_at, texts_in};
 ghost use Rattle.policy_places.specs.Named.{named_in, stray_in, stray_of, unknown_in, missing_in};
 ghost use Rattle.policy_places.specs.Named.{bad_name_in, twice_in, too_many_in, names, named_at};
-ghost use Rattle.policy_places.specs.Named.{read_there};
+ghost use Rattle.policy_places.specs.Named.{read_there, misfit_of, other_kind_in};
 
 use crate::at_fault::{
     first_bad_dataset, first_bad_least, first_bad_name, first_bad_op, first_stray, first_twice,
@@ -14,7 +14,9 @@ use crate::at_fault::{
 use crate::document::{datasets_in, tables_at, texts_in, tree_of};
 use crate::known::{Known, known_of};
 use crate::lines::Lines;
-use crate::part::Part;
+use crate::look::part_fits;
+use crate::misfit::first_misfit;
+use crate::part::{Part, key_of};
 use crate::place::Found;
 use crate::sign::Sign;
 use crate::texts::Word;
@@ -99,6 +101,37 @@ fn unknown_in(alloc: Global, version: u32, members: &Table) -> Result<Option<Nam
         return Ok(Some(named));
     }
     stray_of(alloc, version, Part::Rule, members)
+}
+
+// What of a part is not as it should be.
+fn misfit_of(
+    alloc: Global,
+    version: u32,
+    part: Part,
+    members: &Table,
+) -> Result<Option<Named>, AllocError>
+    ensures { IfOk result (λ n. n ≡ misfit_of version part (table_view members.now)) }
+{
+    if part_fits(version, part, members) {
+        return Ok(None);
+    }
+    match first_misfit(version, part, tables_at(part, members)) {
+        Some(key) => named_in(alloc, Some(part), Some(key)),
+        None => named_in(alloc, None, Some(key_of(part))),
+    }
+}
+
+// The first key that has another kind of value.
+fn other_kind_in(alloc: Global, version: u32, members: &Table) -> Result<Option<Named>, AllocError>
+    ensures { IfOk result (λ n. n ≡ other_kind_in version (table_view members.now)) }
+{
+    if let Some(named) = misfit_of(alloc, version, Part::Class, members)? {
+        return Ok(Some(named));
+    }
+    if let Some(named) = misfit_of(alloc, version, Part::Process, members)? {
+        return Ok(Some(named));
+    }
+    misfit_of(alloc, version, Part::Rule, members)
 }
 
 fn bad_name_in(alloc: Global, members: &Table) -> Result<Option<Named>, AllocError>
@@ -196,7 +229,8 @@ impl Known {
             n ≡ names (table_view whole.now) self.now sign (table_view members.now)) }
     {
         match sign {
-            Sign::NotToml | Sign::Version | Sign::OtherKind => Ok(None),
+            Sign::NotToml | Sign::Version => Ok(None),
+            Sign::OtherKind => other_kind_in(alloc, self.version, members),
             Sign::FileKey => named_in(alloc, None, stray_of_file(members)),
             Sign::StrayKey => self.stray_there(alloc, members),
             Sign::Lacking => self.missing_there(alloc, whole),
@@ -233,9 +267,10 @@ fn bad_op_in(alloc: Global, members: &Table) -> Result<Option<Named>, AllocError
 ///
 /// It is that of the document of the lines up to the one that was found: the unknown key, or the
 /// name, the operation or the home that is at fault, and the key of a least number; `processes`,
-/// `datasets` or `classes`, where there are too many; and of a table that lacks a key the first that
-/// the whole table lacks. Of a text that is no TOML nothing is named, nor of a version that is not
-/// read, nor of a key with another kind of value.
+/// `datasets` or `classes`, where there are too many; of a table that lacks a key the first that the
+/// whole table lacks; and of what has another kind of value the key in its table, or the key of the
+/// part whose tables it should hold. Of a text that is no TOML nothing is named, nor of a version
+/// that is not read.
 pub fn named_at(alloc: Global, policy: &[u8], found: Found) -> Result<Option<Named>, NoMemory>
     ensures { IfOk result (λ n. n ≡ named_at policy.now found) }
 {

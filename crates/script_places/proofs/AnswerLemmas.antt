@@ -4,7 +4,7 @@ use Rattle.std.proofs.Common.{take, drop, cond, ◌&&◌, Err, refl, sym, ap, �
 use Rattle.std.proofs.Common.{inr, get_or}
 use Rattle.std.specs.List.{list_all}
 use Rattle.std.proofs.lemmas.Bool.{cases_Bool, and_parts}
-use Rattle.std.proofs.lemmas.List.{append-nil, take_all, length-take-le}
+use Rattle.std.proofs.lemmas.List.{append-nil, take_all}
 use Rattle.std.proofs.lemmas.List.Folds.{list_all-append}
 use Rattle.std.proofs.lemmas.List.Splits.{length-slice_split}
 use Rattle.std.proofs.lemmas.Option.{slice_get-get_or}
@@ -18,7 +18,7 @@ use Rattle.script_places.specs.Cuts.{IsCut, AreEnds, probe}
 use Rattle.script_places.proofs.CutLemmas.{parts_apart}
 use Rattle.script_places.proofs.EndLemmas.{column_behind}
 use Rattle.script_places.proofs.PlaceLemmas.{take_drop, not_printable}
-use Rattle.script_places.proofs.ProbeLemmas.{probe_tells, none_yet}
+use Rattle.script_places.proofs.ProbeLemmas.{probe_tells}
 
 ---- the answer to a line and that to its words
 

@@ -1,16 +1,18 @@
 -- The fault of a line stands in one place.
-use Rattle.std.proofs.Common.{◌≡◌, ℕ, zero, suc, ◌+◌, ◌<◌, ◌≤◌, Bool, true, false, List, [], ◌∷◌}
+use Rattle.std.proofs.Common.{◌≡◌, ℕ, zero, suc, ◌+◌, ◌<◌, ◌≤◌, true, List, [], ◌∷◌}
 use Rattle.std.proofs.Common.{◌++◌}
 use Rattle.std.proofs.Common.{length, take, drop, Some, Err, refl, sym, ap, ◌∙◌, subst, arith, inl}
 use Rattle.std.proofs.Common.{inr}
-use Rattle.std.proofs.Common.{append_assoc, slice_get, get_or, ◌⊎◌}
+use Rattle.std.proofs.Common.{append_assoc, slice_get}
+use Rattle.std.specs.Prelude.{Result, Ok, IsOk}
 use Rattle.std.specs.List.{list_all}
 use Rattle.std.proofs.lemmas.Bool.{cases_lt, false≢true, and_parts}
 use Rattle.std.proofs.lemmas.List.{take-take, take_all}
 use Rattle.coll_text.specs.declared.fault.LineFault.{LineFault}
 use Rattle.coll_text.specs.Numbers.{Word}
+use Rattle.run_model.specs.declared.call.Call.{Call}
 use Rattle.coll_text.specs.Reading.{parts, is_printable}
-use Rattle.hall_script.specs.Lines.{call_of}
+use Rattle.hall_script.specs.Lines.{call_of, answer_to}
 use Rattle.script_places.specs.Places.{HaveFault, StandsAt, StandsBehind, IsUnprintable}
 use Rattle.script_places.specs.Places.{IsWordColumn}
 use Rattle.script_places.specs.Places.{IsColumn, column_of}
@@ -95,11 +97,26 @@ words_unique datasets line fault c d (inr one) (inl two) =
     absurd (not_both datasets (parts 32 line) fault two.0 two.1 one.0)
 words_unique datasets line fault c d (inr one) (inr two) = one.1 ∙ sym two.1
 
-pub columns_are_unique : ColumnsAreUnique
-columns_are_unique datasets line fault c d (inl one) (inl two) = one_byte line c d one.1 two.1
-columns_are_unique datasets line fault c d (inl one) (inr two) =
+own_columns : (datasets : List Word) (line : List ℕ) (fault : LineFault) (c d : ℕ) →
+    IsColumn datasets line fault c → IsColumn datasets line fault d → c ≡ d
+own_columns datasets line fault c d (inl one) (inl two) = one_byte line c d one.1 two.1
+own_columns datasets line fault c d (inl one) (inr two) =
     absurd (not_printable line c one.1 two.0)
-columns_are_unique datasets line fault c d (inr one) (inl two) =
+own_columns datasets line fault c d (inr one) (inl two) =
     absurd (not_printable line d two.1 one.0)
-columns_are_unique datasets line fault c d (inr one) (inr two) =
+own_columns datasets line fault c d (inr one) (inr two) =
     words_unique datasets line fault c d one.1 two.1
+
+-- no line both is a call and is none
+not_ok : (r : Result Call LineFault) (fault : LineFault) → r ≡ Err fault → IsOk r → ⊥
+not_ok (Ok call) fault e ok = absurd cc
+not_ok (Err other) fault e ok = false≢true ok
+
+pub columns_are_unique : ColumnsAreUnique
+columns_are_unique wall line fault c d (inl one) (inl two) =
+    own_columns wall.dataset_names line fault c d one.1 two.1
+columns_are_unique wall line fault c d (inl one) (inr two) =
+    absurd (not_ok (answer_to wall.dataset_names line) fault one.0 two.0)
+columns_are_unique wall line fault c d (inr one) (inl two) =
+    absurd (not_ok (answer_to wall.dataset_names line) fault two.0 one.0)
+columns_are_unique wall line fault c d (inr one) (inr two) = one.1 ∙ sym two.1

@@ -3,7 +3,7 @@
 -- Each part of the grammar reads words from the left. Of some words it says one of three things: it
 -- reads the same whatever stands behind them; it fails in the same way whatever stands behind them;
 -- or it lacks a word, and then the probe is told another fault than the lack of it.
-use Rattle.std.proofs.Common.{◌≡◌, ◌≢◌, ℕ, ℤ, ◌==◌, nat_eq, Bool, true, false, not, ◌&&◌, ◌%◌, List}
+use Rattle.std.proofs.Common.{◌≡◌, ◌≢◌, ℕ, ℤ, ◌==◌, Bool, true, false, not, ◌&&◌, ◌%◌, List}
 use Rattle.std.proofs.Common.{[], ◌∷◌, ◌++◌, length, Option, Some, None, Result, Ok, Err, refl, sym}
 use Rattle.std.proofs.Common.{ap, ◌∙◌, subst, inl, inr, ◌⊎◌, cond, append-nil}
 use Rattle.std.specs.Prelude.{codes}
@@ -33,16 +33,16 @@ use Rattle.coll_text.specs.Reading.{◌>>=◌, some_or, word_at, number_at, numb
 use Rattle.coll_text.specs.Reading.{each_of}
 use Rattle.coll_text.specs.Reading.{list_of}
 use Rattle.coll_text.specs.Table.{forms_of, no_fields, signature_of, own_of}
-use Rattle.coll_text.specs.Fields.{number_of, key_of, colour_of, with_field, fields_at}
+use Rattle.coll_text.specs.Fields.{colour_of, with_field, fields_at}
 use Rattle.coll_text.specs.Fields.{statement_at}
 use Rattle.coll_text.specs.Words.{label_of}
 use Rattle.run_model.specs.declared.call.Act.{Act}
 use Rattle.run_model.specs.declared.call.Act.TheVariants.{Post, Take, Info}
 use Rattle.run_model.specs.declared.call.Call.{Call}
 use Rattle.hall_script.specs.Lines.{value_of, buffer_of, values_of, labelled, given_of, post_of}
-use Rattle.hall_script.specs.Lines.{last_number, act_of, verb_of, call_of, typed}
+use Rattle.hall_script.specs.Lines.{last_number, act_of, verb_of, call_of}
 use Rattle.script_places.specs.Places.{HaveFault}
-use Rattle.script_places.specs.Cuts.{probe, StaysWithProbe}
+use Rattle.script_places.specs.Cuts.{probe}
 use Rattle.script_places.specs.Laws.{ProbeTells}
 
 ---- what a part of the grammar says of some words

@@ -2,7 +2,8 @@
 use Rattle.std.specs.Prelude.{◌≡◌, ℕ, List}
 use Rattle.coll_text.specs.declared.fault.LineFault.{LineFault}
 use Rattle.coll_text.specs.Numbers.{Word}
-use Rattle.script_places.specs.Places.{HaveFault, IsColumn}
+use Rattle.wall_policy.specs.Policy.{ChineseWall}
+use Rattle.script_places.specs.Places.{HaveFault, IsFaultColumn}
 use Rattle.script_places.specs.Cuts.{StaysWithProbe}
 
 -- a fault that stays with the probe behind the words stays whatever stands behind them
@@ -12,5 +13,5 @@ ProbeTells = (datasets ws : List Word) (fault : LineFault) → StaysWithProbe da
 
 -- the fault of a line stands in one column
 abbrev pub ColumnsAreUnique : Type 0
-ColumnsAreUnique = (datasets : List Word) (line : List ℕ) (fault : LineFault) (c d : ℕ) →
-    IsColumn datasets line fault c → IsColumn datasets line fault d → c ≡ d
+ColumnsAreUnique = (wall : ChineseWall) (line : List ℕ) (fault : LineFault) (c d : ℕ) →
+    IsFaultColumn wall line fault c → IsFaultColumn wall line fault d → c ≡ d

@@ -1,13 +1,14 @@
 -- Where the fault of a line stands. (Own rule.) What a line says, and which fault it has, is said
--- by the grammar of lines.
-use Rattle.std.specs.Prelude.{◌≡◌, ℕ, ◌+◌, ◌<◌, ◌⊎◌, Bool, true, false, List, ◌++◌, length, take}
-use Rattle.std.specs.Prelude.{slice_get, Some, Err, sum_by}
+-- by the grammar of lines, and by the number of the policy's processes.
+use Rattle.std.specs.Prelude.{◌≡◌, ℕ, ◌+◌, ◌<◌, ◌⊎◌, true, false, List, ◌++◌, length, take}
+use Rattle.std.specs.Prelude.{slice_get, Some, Err, IsOk, sum_by}
 use Rattle.std.specs.List.{list_all}
+use Rattle.wall_policy.specs.Policy.{ChineseWall}
 use Rattle.coll_text.specs.declared.fault.LineFault.{LineFault}
 use Rattle.coll_text.specs.declared.fault.LineFault.TheVariants.{BadShape}
 use Rattle.coll_text.specs.Numbers.{Word}
 use Rattle.coll_text.specs.Reading.{parts, is_printable}
-use Rattle.hall_script.specs.Lines.{call_of}
+use Rattle.hall_script.specs.Lines.{call_of, answer_to}
 
 -- These words have the fault already: whatever words stand behind them, the answer is this fault.
 abbrev pub HaveFault : (datasets ws : List Word) → LineFault → Type 0
@@ -47,8 +48,21 @@ IsWordColumn datasets line fault column =
     ((i : ℕ) × StandsAt datasets (parts 32 line) fault i × (column ≡ column_of (parts 32 line) i))
     ⊎ (StandsBehind datasets (parts 32 line) fault × (column ≡ length line + 1))
 
--- The fault of a line stands in this column. A byte that is not printable comes before all else.
+-- The fault of a line that is no call stands in this column. A byte that is not printable comes
+-- before all else.
 abbrev pub IsColumn : (datasets : List Word) → (line : List ℕ) → LineFault → (column : ℕ) → Type 0
 IsColumn datasets line fault column =
     ((fault ≡ BadShape) × IsUnprintable line column)
     ⊎ ((list_all is_printable line ≡ true) × IsWordColumn datasets line fault column)
+
+-- the column of the word behind the verb, which names the process
+abbrev pub process_column : (line : List ℕ) → ℕ
+process_column line = column_of (parts 32 line) 1
+
+-- The fault of a line stands in this column: of one that is no call, in its place; of a call, which
+-- has one only where the policy lacks its process, at the process.
+abbrev pub IsFaultColumn : ChineseWall → (line : List ℕ) → LineFault → (column : ℕ) → Type 0
+IsFaultColumn wall line fault column =
+    ((answer_to wall.dataset_names line ≡ Err fault)
+    × IsColumn wall.dataset_names line fault column)
+    ⊎ (IsOk (answer_to wall.dataset_names line) × (column ≡ process_column line))

@@ -2,7 +2,8 @@
 
 use coll_text::LineFault;
 
-/// A fault of a script: the line that is no call, and where in it the fault stands.
+/// A fault of a script: the line that is no call, or of a process that the policy lacks, and where in
+/// it the fault stands.
 #[derive(Clone, Copy, Debug, PartialEq, Eq)]
 pub struct Found {
     /// The number of the line, from 1.

@@ -6,4 +6,4 @@ use Rattle.policy_meaning.proofs.due.add_doubts.Given as goal
 
 abbrev pub invariant-loop-doubt : goal.invariant-loop-doubt
 invariant-loop-doubt l = AreListed (Warns l.policy) warning_place l.list.items
-    (1 + (5 * op_number l.op + l.doubt-index))
+    (1 + (7 * op_number l.op + l.doubt-index))

@@ -5,4 +5,4 @@ use Rattle.policy_meaning.proofs.due.add_nobodys_homes.Given as goal
 
 abbrev pub invariant-loop-number : goal.invariant-loop-number
 invariant-loop-number l =
-    AreListed (Warns l.policy) warning_place l.list.items (1085 + l.number)
+    AreListed (Warns l.policy) warning_place l.list.items (1109 + l.number)

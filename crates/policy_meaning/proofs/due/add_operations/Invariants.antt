@@ -4,4 +4,4 @@ use Rattle.policy_meaning.specs.Listed.{AreListed}
 use Rattle.policy_meaning.proofs.due.add_operations.Given as goal
 
 abbrev pub invariant-loop-op : goal.invariant-loop-op
-invariant-loop-op l = AreListed (Warns l.policy) warning_place l.list.items (1 + 5 * l.op-index)
+invariant-loop-op l = AreListed (Warns l.policy) warning_place l.list.items (1 + 7 * l.op-index)

@@ -5,4 +5,4 @@ use Rattle.policy_meaning.proofs.due.add_without_rival.Given as goal
 
 abbrev pub invariant-loop-number : goal.invariant-loop-number
 invariant-loop-number l =
-    AreListed (Warns l.policy) warning_place l.list.items (61 + l.number)
+    AreListed (Warns l.policy) warning_place l.list.items (85 + l.number)

@@ -1,4 +1,4 @@
-use Rattle.std.proofs.Common.{◌≡◌, ◌<◌, ◌≤◌, ◌-◌, arith}
+use Rattle.std.proofs.Common.{◌-◌, arith}
 use Rattle.script_places.proofs.AnswerLemmas.{cut_at, begins_at}
 use Rattle.script_places.proofs.column.begin_of.Goals as goal
 

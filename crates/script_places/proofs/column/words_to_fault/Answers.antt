@@ -1,4 +1,4 @@
-use Rattle.std.proofs.Common.{◌≡◌, ◌<◌, ◌≤◌, length, take, get_or, sym, arith}
+use Rattle.std.proofs.Common.{sym, arith}
 use Rattle.std.proofs.lemmas.List.{length-take-le}
 use Rattle.script_places.proofs.AnswerLemmas.{printable_prefix, cut_at, some_words, have_all}
 use Rattle.script_places.proofs.AnswerLemmas.{have_prefix, no_prefix, stands_at}

@@ -1,7 +1,6 @@
-use Rattle.std.proofs.Common.{◌≡◌, ℕ, ◌<◌, ◌≤◌, sym, ap, ◌∙◌, subst, arith, slice_get, get_or, Some}
-use Rattle.std.proofs.Common.{length}
+use Rattle.std.proofs.Common.{ℕ, ap, ◌∙◌, get_or, Some}
 use Rattle.std.proofs.lemmas.Option.{slice_get-get_or}
-use Rattle.script_places.proofs.EndLemmas.{AreEndsTo, space_to, other_to, end_to}
+use Rattle.script_places.proofs.EndLemmas.{space_to, other_to, end_to}
 use Rattle.script_places.proofs.cuts.ends.Goals as goal
 use Rattle.script_places.proofs.cuts.ends.Goals.{then-byte-eq32+in_ok-push, else-byte-eq32}
 

@@ -1,4 +1,3 @@
-use Rattle.std.proofs.Common.{ℕ}
 use Rattle.script_places.proofs.EndLemmas.{AreEndsTo}
 use Rattle.script_places.proofs.cuts.ends.Given as goal
 

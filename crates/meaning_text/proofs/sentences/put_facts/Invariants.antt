@@ -1,8 +1,0 @@
-use Rattle.std.proofs.Common.{◌≡◌, ◌++◌, take}
-use Rattle.std.specs.List.{flat_map}
-use Rattle.meaning_text.specs.Sentences.{fact_line}
-use Rattle.meaning_text.proofs.sentences.put_facts.Given as goal
-
-abbrev pub invariant-loop-fact : goal.invariant-loop-fact
-invariant-loop-fact l =
-    l.text.items ≡ l.fn.text.items ++ flat_map (fact_line l.policy) (take l.fact-index l.facts)
