@@ -1,26 +1,32 @@
 -- What was due at the first bad entry.
-use Rattle.std.proofs.Common.{◌≡◌, ◌≢◌, ℕ, ◌+◌, ◌-◌, ◌<◌, ◌≤◌, List, [], ◌∷◌, ◌++◌, length, take}
-use Rattle.std.proofs.Common.{drop, slice_get, Some, None, refl, sym, ap, ◌∙◌, subst, arith}
-use Rattle.std.proofs.Common.{append_assoc, inl, inr}
+use Rattle.std.proofs.Common.{◌≡◌, ℕ, ◌+◌, ◌-◌, ◌<◌, ◌≤◌, List, [], ◌∷◌, ◌++◌, length, take}
+use Rattle.std.proofs.Common.{drop, Some, None, refl, sym, ap, ◌∙◌, subst, arith}
+use Rattle.std.proofs.Common.{append_assoc, inl, inr, Bool, not}
 use Rattle.std.specs.Prelude.{All}
 use Rattle.std.specs.Option.{option_to_list}
 use Rattle.std.proofs.lemmas.List.{append-nil, take_all, take-append-drop}
-use Rattle.std.proofs.lemmas.Bool.{cases_lt}
+use Rattle.std.proofs.lemmas.Bool.{cases_lt, and_parts}
 use Rattle.std.proofs.lemmas.List.Elements.{All-take}
 use Rattle.std.proofs.lemmas.Option.{slice_get_within}
 use Rattle.wall_policy.specs.Policy.{ChineseWall, IsPolicy}
+use Rattle.wall_verdict.specs.Star.{star}
 use Rattle.coll_routes.specs.declared.statement.Stated.{Stated}
 use Rattle.run_model.specs.declared.entry.Entry.{Entry}
 use Rattle.run_model.specs.declared.entry.Entry.TheVariants.{Posted, Settled}
 use Rattle.run_model.specs.Posts.{Post, outcome}
-use Rattle.run_model.specs.Books.{book, posted, post_in, posts_in, outcome_entry, entries_for}
-use Rattle.run_model.specs.Books.{IsCounted, AreCounted, IsSound, Begins, IsFirstBad}
+use Rattle.run_model.specs.Books.{posted, post_in, posts_in, outcome_entry, entries_for}
+use Rattle.run_model.specs.Books.{IsCounted, IsSound, Begins, IsFirstBad}
+use Rattle.run_model.specs.Books.{histories_before, is_labelled}
+use Rattle.run_model.specs.EntryForms.{is_formed, HasForm}
+use Rattle.run_model.specs.Refusals.{post_fault}
+use Rattle.run_model.specs.declared.refusal.Refusal.{Refusal}
 use Rattle.run_model.specs.Known.{IsKnownEntry}
 use Rattle.run_model.proofs.RunModelLemmas.{book_is_sound}
+use Rattle.audit_book.specs.Checks.{post_of}
 use Rattle.audit_book.specs.Dues.{IsDueBehind}
 use Rattle.audit_book.proofs.AuditBookLemmas.{take_more}
 use Rattle.book_seal.proofs.BookSealLemmas.{due_known}
-use Rattle.book_places.specs.Owed.{before, IsEntryAt, LacksVerdict, HasOtherPost}
+use Rattle.book_places.specs.Owed.{before, IsEntryAt, LacksVerdict, HasRefusedPost, HasOtherWord}
 
 -- a verdict is no post
 no_post : (e : Entry) → posts_in (e ∷ []) ≡ [] → post_in e ≡ None
@@ -74,17 +80,34 @@ module _ (wall : ChineseWall) where
           absurd (bad.missing last (subst (IsSound wall) (take_all (n - 1) es high) sound))
     ]
 
-    pub has_other_post : (p c : ℕ) (s : Stated) → IsEntryAt es n (Posted p c s) →
-        IsSound wall (before n es) → HasOtherPost wall es n
-    has_other_post p c s there sound =
-        let x : Post = record { process = p; comm = c; stated = s } in
-        record {
-          sound = sound;
-          post = x;
-          at = there;
-          uncounted = λ counted. wrong_at (Posted p c s) there
-              (post_goes_on (before n es) x sound counted);
-        }
+    module _ (p c : ℕ) (s : Stated) (there : IsEntryAt es n (Posted p c s))
+        (sound : IsSound wall (before n es)) where
+      abbrev post : Post
+      post = post_of p c s
+
+      pub has_refused_post : (refusal : Refusal) →
+          post_fault wall (posts_in (before n es)) post ≡ Some refusal →
+          HasRefusedPost wall es n refusal
+      has_refused_post refusal refused =
+          record { sound = sound; post = post; at = there; refused = refused }
+
+      -- a post that meets no refusal and has a label where it gives elements counts with that word
+      pub has_other_word : (barred : Bool) →
+          post_fault wall (posts_in (before n es)) post ≡ None → HasForm (Posted p c s) →
+          barred ≡ not (star (histories_before wall es n) p s.label) → HasOtherWord wall es n barred
+      has_other_word barred accepted form due = record {
+        sound = sound;
+        post = post;
+        at = there;
+        accepted = accepted;
+        due = due;
+        other = λ same. wrong_at (Posted p c s) there
+            (post_goes_on (before n es) post sound (record {
+              accepted = accepted;
+              label = (and_parts (is_formed s.sig s.own) (is_labelled s) form).1;
+              word = same ∙ due;
+            }));
+      }
 
     pub lacks_verdict : (prefix : List Entry) → prefix ≡ before n es → (due : Entry) →
         IsDueBehind wall prefix (Some due) → LacksVerdict wall es n due

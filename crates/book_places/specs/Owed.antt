@@ -1,12 +1,15 @@
 -- What was due at the first entry of a book that its posts don't give. (Own rule.)
 use Rattle.std.specs.Prelude.{◌≡◌, ◌≢◌, ℕ, ◌-◌, List, [], ◌∷◌, ◌++◌, length, take, slice_get}
-use Rattle.std.specs.Prelude.{Option, Some, None, Ok}
+use Rattle.std.specs.Prelude.{Option, Some, None, Ok, Bool, not}
 use Rattle.wall_policy.specs.Policy.{ChineseWall}
+use Rattle.wall_verdict.specs.Star.{star}
 use Rattle.run_model.specs.declared.entry.Entry.{Entry}
 use Rattle.run_model.specs.declared.entry.Entry.TheVariants.{Posted, Settled}
+use Rattle.run_model.specs.declared.refusal.Refusal.{Refusal}
+use Rattle.run_model.specs.Refusals.{post_fault}
 use Rattle.run_model.specs.Known.{IsKnownEntry}
 use Rattle.run_model.specs.Posts.{Post}
-use Rattle.run_model.specs.Books.{posted, post_in, posts_in, IsCounted, IsSound}
+use Rattle.run_model.specs.Books.{posted, post_in, posts_in, IsSound, histories_before}
 use Rattle.coll_text.specs.Numbers.{Word}
 use Rattle.audit_book.specs.declared.line.Line.{Line}
 use Rattle.audit_book.specs.declared.line.Line.TheVariants.{Said, End}
@@ -39,18 +42,32 @@ pub record HasVerdict (wall : ChineseWall) (entries : List Entry) (n : ℕ) : Ty
   pub at : IsEntryAt entries n entry
   pub verdict : post_in entry ≡ None
 
--- the entries before are a sound book as they are, and what stands there is a post that does not
--- count after theirs
-pub record HasOtherPost (wall : ChineseWall) (entries : List Entry) (n : ℕ) : Type 0 where
+-- the entries before are a sound book as they are, and what stands there is a post that meets this
+-- refusal after theirs, the first that holds
+pub record HasRefusedPost (wall : ChineseWall) (entries : List Entry) (n : ℕ) (refusal : Refusal)
+    : Type 0 where
   pub sound : IsSound wall (before n entries)
   pub post : Post
   pub at : IsEntryAt entries n (posted post)
-  pub uncounted : ¬ (IsCounted wall post (posts_in (before n entries)))
+  pub refused : post_fault wall (posts_in (before n entries)) post ≡ Some refusal
+
+-- The same, but the post meets no refusal after theirs. Its last word has to say whether the star
+-- rule bars it, as this does, and says the other.
+pub record HasOtherWord (wall : ChineseWall) (entries : List Entry) (n : ℕ) (barred : Bool)
+    : Type 0 where
+  pub sound : IsSound wall (before n entries)
+  pub post : Post
+  pub at : IsEntryAt entries n (posted post)
+  pub accepted : post_fault wall (posts_in (before n entries)) post ≡ None
+  pub due : barred
+      ≡ not (star (histories_before wall entries n) post.process post.stated.label)
+  pub other : post.stated.barred ≢ barred
 
 abbrev pub IsOwedAt : ChineseWall → List Entry → (n : ℕ) → Owed → Type 0
 IsOwedAt wall entries n (owed.Verdict due) = LacksVerdict wall entries n due
 IsOwedAt wall entries n owed.NoVerdict = HasVerdict wall entries n
-IsOwedAt wall entries n owed.OtherPost = HasOtherPost wall entries n
+IsOwedAt wall entries n (owed.OtherPost refusal) = HasRefusedPost wall entries n refusal
+IsOwedAt wall entries n (owed.OtherWord barred) = HasOtherWord wall entries n barred
 
 -- it names only what the policy has
 abbrev pub IsKnownOwed : ChineseWall → Owed → Type 0

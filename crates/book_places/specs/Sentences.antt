@@ -1,8 +1,11 @@
 -- The line that tells what is found of the text of a book. (Own format.)
-use Rattle.std.specs.Prelude.{ℕ, ◌-◌, ◌==◌, List, ◌++◌, codes, if◌then◌else◌}
+use Rattle.std.specs.Prelude.{ℕ, ◌-◌, ◌==◌, Bool, List, ◌++◌, codes, if◌then◌else◌}
 use Rattle.std.specs.Fmt.{decimal}
 use Rattle.wall_policy.specs.Policy.{ChineseWall}
-use Rattle.audit_book.specs.Text.{line_of, header_words, entry_words}
+use Rattle.run_model.specs.declared.refusal.Refusal.{Refusal}
+use Rattle.run_model.specs.declared.reply.Reply.TheVariants.{Refused}
+use Rattle.hall_script.specs.Replies.{reply_line}
+use Rattle.audit_book.specs.Text.{line_of, header_words, entry_words, passage_word}
 use Rattle.book_places.specs.declared.due.Due.{Due}
 use Rattle.book_places.specs.declared.due.Due.TheVariants as dues
 use Rattle.book_places.specs.declared.owed.Stands.{Stands}
@@ -33,12 +36,22 @@ standing_text stands.Post = codes "a post stands; due was: "
 standing_text stands.Verdict = codes "another verdict stands; due was: "
 standing_text stands.End = codes "the end stands; due was: "
 
+-- the refusal that a post meets, in the words of the reply to it
+abbrev pub refused_text : ChineseWall → Refusal → List ℕ
+refused_text wall refusal =
+    codes "a post stands that does not count: " ++ reply_line wall (Refused refusal)
+
+-- the last word that was due
+abbrev pub other_word_text : (barred : Bool) → List ℕ
+other_word_text barred =
+    codes "a post stands with another last word; due was: " ++ (passage_word barred ++ codes "\n")
+
 -- what is wrong with an entry
 abbrev pub owed_text : ChineseWall → Stands → Owed → List ℕ
 owed_text wall s (owed.Verdict due) = standing_text s ++ line_of (entry_words wall due)
 owed_text wall s owed.NoVerdict = codes "a verdict stands where none is due\n"
-owed_text wall s owed.OtherPost =
-    codes "a post stands that does not count: it is refused, or its last word is wrong\n"
+owed_text wall s (owed.OtherPost refusal) = refused_text wall refusal
+owed_text wall s (owed.OtherWord barred) = other_word_text barred
 
 -- `PATH:N: `
 abbrev pub place_text : (path : List ℕ) → (n : ℕ) → List ℕ

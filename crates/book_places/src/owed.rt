@@ -1,10 +1,14 @@
 //! What was due at the first entry of a book that its posts don't give.
 ghost use Rattle.std.specs.Prelude.{◌≡◌, ◌≤◌, ◌-◌, All, take, length, slice_get, IfOk};
-ghost use Rattle.run_model.specs.Books.{IsSound, IsFirstBad};
+ghost use Rattle.run_model.specs.Books.{posts_in, IsSound, IsFirstBad};
 ghost use Rattle.run_model.specs.Known.{IsKnownEntry};
+ghost use Rattle.audit_book.specs.Checks.{Stands as StandsFor};
+ghost use Rattle.audit_book.specs.Audits.{HasSeen};
 ghost use Rattle.book_places.specs.Owed.{IsOwedAt, IsKnownOwed, standing};
 
-use audit_book::{Book, BookFault, Entry, NoMemory, due_behind};
+use audit_book::{Audit, Book, BookFault, Entry, NoMemory, Unwatched, watch_entries};
+use run_model::Refusal;
+use run_state::{PostState, Terms};
 use std::alloc::Global;
 use wall_policy::Policy;
 
@@ -16,9 +20,11 @@ pub enum Owed {
     Verdict(Entry),
     /// No verdict: one stands there, and each instance that the posts before fill has its own.
     NoVerdict,
-    /// A post that counts, or the end. A post stands there that meets a refusal, or that was barred
-    /// where the star rule lets it pass, or has passed where it bars.
-    OtherPost,
+    /// A post that counts, or the end. The post that stands there meets this refusal, the first
+    /// that holds.
+    OtherPost { refusal: Refusal },
+    /// The post that stands there, with the other last word: whether the star rule bars it.
+    OtherWord { barred: bool },
 }
 
 /// What stands where a verdict was due.
@@ -83,17 +89,42 @@ fn prefix(alloc: Global, book: &Book, number: usize) -> Result<Book, NoMemory>
     Ok(prefix)
 }
 
-// What was due at the first bad entry, where the entries before it are a sound book.
-fn owed_none(policy: &Policy, book: &Book, number: u64) -> Owed
+// What was due at the first bad entry, where the entries before it are a sound book, for whose posts
+// the state stands.
+fn owed_none(policy: &Policy, book: &Book, number: u64, post_state: &PostState<()>) -> Owed
     requires bad { IsFirstBad policy.now book.now.list number }
     requires sound { IsSound policy.now (take (number - 1) book.now.list) }
+    requires stands { StandsFor policy.now post_state.now
+        (posts_in (take (number - 1) book.now.list)) }
     ensures owed { IsOwedAt policy.now book.now.list number result }
     ensures known { IsKnownOwed policy.now result }
 {
-    let _ = policy;
     match book.get((number - 1) as usize) {
         Entry::Settled { .. } => Owed::NoVerdict,
-        Entry::Posted { .. } => Owed::OtherPost,
+        Entry::Posted {
+            process,
+            comm,
+            stated,
+        } => match post_state.look(policy, process.number(), *comm, Terms::of(stated)) {
+            Err(refusal) => Owed::OtherPost { refusal },
+            Ok(seat) => Owed::OtherWord {
+                barred: !post_state.passes(&seat, &stated.label),
+            },
+        },
+    }
+}
+
+// What was due at the first bad entry, where this audit has gone through those before it.
+fn owed_behind(policy: &Policy, book: &Book, number: u64, audit: &Audit) -> Owed
+    requires bad { IsFirstBad policy.now book.now.list number }
+    requires seen { HasSeen policy.now audit.now (take (number - 1) book.now.list) }
+    ensures owed { IsOwedAt policy.now book.now.list number result }
+    ensures known { All (IsKnownEntry policy.now) book.now.list → IsKnownOwed policy.now result }
+{
+    let _ = policy.processes();
+    match audit.due() {
+        Some(verdict) => Owed::Verdict(verdict.entry()),
+        None => owed_none(policy, book, number, audit.post_state()),
     }
 }
 
@@ -107,12 +138,10 @@ pub fn owed_at(alloc: Global, policy: &Policy, book: &Book, number: u64) -> Resu
     ensures known { IfOk result (λ owed.
         All (IsKnownEntry policy.now) book.now.list → IsKnownOwed policy.now owed) }
 {
-    let _ = policy.processes();
     let _ = book.len();
     let prefix = prefix(alloc, book, (number - 1) as usize)?;
-    match due_behind(alloc, policy, &prefix) {
-        Ok(Some(verdict)) => Ok(Owed::Verdict(verdict)),
-        Ok(None) => Ok(owed_none(policy, book, number)),
+    match watch_entries(alloc, policy, &prefix, &mut Unwatched) {
+        Ok(audit) => Ok(owed_behind(policy, book, number, &audit)),
         Err(BookFault::NoMemory) => Err(NoMemory),
         Err(BookFault::BadEntry(_)) => unreachable!(),
     }

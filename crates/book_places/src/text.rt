@@ -1,9 +1,11 @@
 //! The line that tells what is found of the text of a book.
-ghost use Rattle.std.specs.Prelude.{◌≡◌, ◌++◌, OnOk};
+ghost use Rattle.std.specs.Prelude.{◌≡◌, ◌++◌, codes, OnOk};
+ghost use Rattle.audit_book.specs.Text.{passage_word};
 ghost use Rattle.book_places.specs.Owed.{IsKnownOwed};
 ghost use Rattle.book_places.specs.Books.{IsKnownFound};
 ghost use Rattle.book_places.specs.Sentences.{count_text, other_end_text, due_text};
-ghost use Rattle.book_places.specs.Sentences.{standing_text, owed_text, place_text};
+ghost use Rattle.book_places.specs.Sentences.{standing_text, refused_text, other_word_text};
+ghost use Rattle.book_places.specs.Sentences.{owed_text, place_text};
 ghost use Rattle.book_places.specs.Sentences.{sound_text, found_line};
 
 use crate::due::Due;
@@ -11,6 +13,8 @@ use crate::owed::{Owed, Stands};
 use crate::place::Found;
 use audit_book::{NoMemory, put_entry, put_header};
 use coll_text::{put, put_decimal};
+use hall_script::write_reply;
+use run_model::{Refusal, Reply};
 use std::alloc::AllocError;
 use wall_policy::Policy;
 
@@ -61,6 +65,29 @@ fn standing_text(stands: Stands) -> &'static str
     }
 }
 
+// The refusal that a post meets.
+fn put_refused(text: &mut Vec<u8>, policy: &Policy, refusal: Refusal) -> Result<(), NoMemory>
+    ensures { OnOk result
+        (text.new.items ≡ text.old.items ++ refused_text policy.now refusal) }
+{
+    put(text, "a post stands that does not count: ")?;
+    write_reply(policy, &Reply::Refused(refusal), text)
+}
+
+fn passage_line(barred: bool) -> &'static str
+    ensures { result.now ≡ passage_word barred ++ codes "\n" }
+{
+    if barred { "barred\n" } else { "passed\n" }
+}
+
+// The last word that was due.
+fn put_other_word(text: &mut Vec<u8>, barred: bool) -> Result<(), AllocError>
+    ensures { OnOk result (text.new.items ≡ text.old.items ++ other_word_text barred) }
+{
+    put(text, "a post stands with another last word; due was: ")?;
+    put(text, passage_line(barred))
+}
+
 // What is wrong with an entry.
 fn put_owed(
     text: &mut Vec<u8>,
@@ -78,10 +105,8 @@ fn put_owed(
             put_entry(policy, verdict, text)
         }
         Owed::NoVerdict => Ok(put(text, "a verdict stands where none is due\n")?),
-        Owed::OtherPost => Ok(put(
-            text,
-            "a post stands that does not count: it is refused, or its last word is wrong\n",
-        )?),
+        Owed::OtherPost { refusal } => put_refused(text, policy, *refusal),
+        Owed::OtherWord { barred } => Ok(put_other_word(text, *barred)?),
     }
 }
 
