@@ -18,7 +18,7 @@ use Rattle.wall_verdict.specs.Grants.{charged_at, charged_to}
 use Rattle.wall_verdict.proofs.WallVerdictLemmas.{charges_are_labels}
 use Rattle.run_model.specs.declared.entry.Entry.{Entry}
 use Rattle.book_report.specs.declared.row.Way.TheVariants.{Delivered}
-use Rattle.book_report.specs.Held.{IsFirstAfter, IsRow}
+use Rattle.book_report.specs.Held.{IsFirstAfter, IsOwnPost, IsRow}
 use Rattle.book_report.specs.Walk.{GivesTo, IsGrantAt}
 
 ---- labels
@@ -81,22 +81,26 @@ module _ (wall : ChineseWall) (roll : Roll) (j d : ℕ) where
       IsGrantAt wall entries n c k roll → slice_get roll.members j ≡ Some p →
       slice_get roll.members i ≡ Some from → GivesTo roll i j d
       → ((m : ℕ) → m < i → ¬ (GivesTo roll m j d)) → IsFirstAfter wall entries p d n →
+      ¬ (IsOwnPost entries p d n) →
       IsRow wall entries
       (record { process = p; dataset = d; entry = n; way = Delivered c k from })
-  delivered entries p n c k i from charge grant receiver giver gives lowest first = record {
+  delivered entries p n c k i from charge grant receiver giver gives lowest first other = record {
     first = first;
-    way = record {
-      x = grant.x;
-      roll = roll;
-      i = i;
-      j = j;
-      at = grant.at;
-      comm = grant.comm;
-      kth = grant.kth;
-      grant = grant.grant;
-      receiver = receiver;
-      giver = giver;
-      charged = record { routed = gives.0; label = gives.1; unsanitised = unsanitised charge };
-      lowest = λ m low from_m. lowest m low (from_m.routed, from_m.label);
-    };
+    way = (
+      record {
+        x = grant.x;
+        roll = roll;
+        i = i;
+        j = j;
+        at = grant.at;
+        comm = grant.comm;
+        kth = grant.kth;
+        grant = grant.grant;
+        receiver = receiver;
+        giver = giver;
+        charged = record { routed = gives.0; label = gives.1; unsanitised = unsanitised charge };
+        lowest = λ m low from_m. lowest m low (from_m.routed, from_m.label);
+      },
+      other,
+    );
   }

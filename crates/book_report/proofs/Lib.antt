@@ -9,3 +9,5 @@ pub mod OffenceLemmas
 pub mod DenialLemmas
 pub mod ReasonLemmas
 pub mod CountLemmas
+pub mod SanitisedLemmas
+pub mod CleanLemmas

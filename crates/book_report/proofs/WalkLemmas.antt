@@ -11,6 +11,7 @@ use Rattle.wall_policy.specs.Policy.{ChineseWall, IsPolicy}
 use Rattle.wall_rules.specs.Histories.{History, opening}
 use Rattle.wall_rules.proofs.WallRulesLemmas.{opening-Decides, first_is_known}
 use Rattle.coll_routes.specs.declared.roll.Roll.{Roll}
+use Rattle.coll_routes.specs.declared.statement.Stated.{Stated}
 use Rattle.wall_verdict.specs.Grants.{charged_to}
 use Rattle.run_model.specs.declared.outcome.Outcome.{Outcome}
 use Rattle.run_model.specs.declared.outcome.Outcome.TheVariants.{Granted}
@@ -32,6 +33,7 @@ use Rattle.book_report.specs.declared.row.Row.{Row}
 use Rattle.book_report.specs.declared.row.Way.TheVariants.{OwnPost}
 use Rattle.book_report.specs.declared.known.Known.{Known}
 use Rattle.book_report.specs.Held.{posts_to, histories_after, IsFirstAfter, IsPostAt, IsRow}
+use Rattle.book_report.specs.Held.{IsOwnPost}
 use Rattle.book_report.specs.Walk.{AreKnown, Covers, HasCome, IsGrantAt, IsTold, Grows, knows}
 use Rattle.book_report.specs.Walk.{PassedWith, row_of}
 use Rattle.book_report.proofs.HistoryLemmas.{posts_posted, posts_settled, first_after}
@@ -145,6 +147,25 @@ module _ (wall : ChineseWall) (entries : List Entry) (n : ℕ) (x : Post)
       not_true true h = absurd cc
       not_true false h = refl
 
+  -- what is not known behind the label is of no own post here
+  not_own : (known : Known) → Covers (labelled has x) known → (p d : ℕ) → knows known p d ≡ false →
+      ¬ (IsOwnPost entries p d (n + 1))
+  not_own known covers p d fresh own =
+      let last : n + 1 - 1 ≡ n = omega arith in
+      let there : slice_get entries n ≡ Some (posted own.x) =
+      subst (λ m. slice_get entries m ≡ Some (posted own.x)) last own.at.entry in
+      let both : Some (posted own.x) ≡ Some (posted x) = sym there ∙ at in
+      let process : own.x.process ≡ x.process = cc in
+      let stated : own.x.stated ≡ x.stated = cc in
+      let passed : x.stated.barred ≡ false =
+      sym (ap (λ (s : Stated). s.barred) stated) ∙ own.passed in
+      let label : x.stated.label ≡ Some (Of d) =
+      sym (ap (λ (s : Stated). s.label) stated) ∙ own.label in
+      let same : x.process ≡ p = sym process ∙ own.by in
+      false≢true (sym fresh
+      ∙ subst (λ q. knows known q d ≡ true) same
+      (covers x.process d (own_is_written wall x past d passed label)))
+
   covers_less : (known : Known) → Covers (labelled has x) known → Covers has known
   covers_less known covers p d h = covers p d (or_left (has p d) _ h)
 
@@ -171,13 +192,15 @@ module _ (wall : ChineseWall) (entries : List Entry) (n : ℕ) (x : Post)
           | inr charge ↦ there p d charge
         ]
 
-    -- what a grant brings and was not known is held after it first
+    -- what a grant brings and was not known is held after it first, and not by the own post
     pub grant_new : (known : Known) → is_granted o ≡ true → Covers (labelled has x) known →
         (p d : ℕ) → charged_to wall roll p d ≡ true → knows known p d ≡ false →
-        IsFirstAfter wall entries p d (n + 1)
-    grant_new known was_granted covers p d charge fresh =
-        new_first known p d (covers_less known covers) fresh
-        (granted_enters wall x past roll fills (granted_came o _ was_granted came) p d charge)
+        IsFirstAfter wall entries p d (n + 1) × ¬ (IsOwnPost entries p d (n + 1))
+    grant_new known was_granted covers p d charge fresh = (
+      new_first known p d (covers_less known covers) fresh
+          (granted_enters wall x past roll fills (granted_came o _ was_granted came) p d charge),
+      not_own known covers p d fresh,
+    )
 
     pub grant_at : (c k : ℕ) → x.comm ≡ c → place x past ≡ k → is_granted o ≡ true →
         IsGrantAt wall entries (n + 1) c k roll

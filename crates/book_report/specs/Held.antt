@@ -59,11 +59,13 @@ pub record IsDelivery (wall : ChineseWall) (entries : List Entry) (p d n c k fro
   pub charged : IsChargedFrom wall roll j i d
   pub lowest : (m : ℕ) → m < i → ¬ (IsChargedFrom wall roll j m d)
 
--- p came by entry n to hold d, in this way
+-- p came by entry n to hold d, in this way; where entry n is p's own post of d, that is the way, also
+-- if it filled an instance that brought d to p
 abbrev pub CameBy : ChineseWall → List Entry → (p d n : ℕ) → Way → Type 0
 CameBy wall entries p d n AtFirst = n ≡ 0
 CameBy wall entries p d n OwnPost = IsOwnPost entries p d n
-CameBy wall entries p d n (Delivered c k from) = IsDelivery wall entries p d n c k from
+CameBy wall entries p d n (Delivered c k from) =
+    IsDelivery wall entries p d n c k from × ¬ (IsOwnPost entries p d n)
 
 -- the row tells how its process first came to hold its dataset
 pub record IsRow (wall : ChineseWall) (entries : List Entry) (row : Row) : Type 0 where

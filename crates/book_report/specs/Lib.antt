@@ -8,5 +8,9 @@ pub mod Walk
 pub mod Bars
 -- why instances were denied
 pub mod Denials
+-- whose results were sanitised
+pub mod Sanitised
+-- how far a walk has come by that
+pub mod Clean
 -- how the reason of a denial is found
 pub mod Reasons

@@ -24,7 +24,7 @@ use Rattle.book_report.specs.declared.known.Known.{Known}
 use Rattle.book_report.specs.declared.place.Place.{Place}
 use Rattle.book_report.specs.declared.place.Instance.{Instance}
 use Rattle.book_report.specs.Held.{histories_after, posts_to, IsRow, HasRow, Follows, IsPostAt}
-use Rattle.book_report.specs.Held.{IsFirstAfter}
+use Rattle.book_report.specs.Held.{IsFirstAfter, IsOwnPost}
 use Rattle.book_report.specs.Places.{IsPlace}
 
 -- some row is of this pair, as the sets have it
@@ -104,10 +104,12 @@ pub record IsGranted (instance : Instance) : Type 0 where
   pub grant : IsGrantAt instance.place.policy.now instance.place.book.now.list
       (instance.place.at + 1) instance.comm instance.k instance.roll.now
 
--- p first holds d by the entry at the place, if it is not known yet to hold it
+-- p first holds d by the entry at the place, and not by its own post there, if it is not known yet to
+-- hold it
 abbrev pub IsNew : Place → Known → (p d : ℕ) → Type 0
 IsNew place known p d = knows known p d ≡ false →
     IsFirstAfter place.policy.now place.book.now.list p d (place.at + 1)
+    × ¬ (IsOwnPost place.book.now.list p d (place.at + 1))
 
 -- the rows are right, up to the entry at the place
 pub record AreKnownAt (place : Place) (known : Known) : Type 0 where

@@ -7,6 +7,7 @@
 
 mod bar;
 mod bars;
+mod clean;
 mod denial;
 mod denied;
 mod enter;
@@ -16,13 +17,16 @@ mod last;
 mod place;
 mod reason;
 mod row;
+mod sanitised;
 mod walk;
 
 pub use audit_book::{Book, BookFault, NoMemory};
 pub use bar::Bar;
 pub use bars::barred_posts;
+pub use clean::sanitised_results;
 pub use denial::{Denial, Reason, Source};
 pub use denied::denials;
 pub use last::state_at_last;
 pub use row::{Row, Way};
+pub use sanitised::Sanitised;
 pub use walk::held;

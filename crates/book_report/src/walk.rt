@@ -22,7 +22,7 @@ use std::alloc::Global;
 use wall_labels::NoMemory;
 use wall_policy::Policy;
 
-fn is_granted(outcome: &Outcome) -> bool
+pub(crate) fn is_granted(outcome: &Outcome) -> bool
     ensures { result ≡ is_granted outcome.now }
 {
     matches!(outcome, Outcome::Granted)

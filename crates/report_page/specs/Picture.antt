@@ -63,7 +63,7 @@ key_text entries =
     codes "</svg>\n<div class=ends><span>entry 0</span><span>entry " ++ decimal entries
     ++ codes "</span></div>\n</div>\n<figcaption>"
     ++ codes "<b class=came>Blue</b>: by this entry a dataset came in.\n"
-    ++ codes "<b class=kept>Red</b>, and longer: this entry tells a denial, which kept one out."
+    ++ codes "<b class=kept>Red</b>, and longer: this entry tells a denial, which names this process."
     ++ codes "</figcaption>\n</figure>\n"
 
 abbrev pub picture_text : ChineseWall → (entries : ℕ) → List Row → List Denial → List ℕ

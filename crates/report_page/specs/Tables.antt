@@ -1,4 +1,4 @@
--- The rows of the five tables, in the words of `report_text`. (Own format.)
+-- The rows of the six tables, in the words of `report_text`. (Own format.)
 use Rattle.std.specs.Prelude.{ℕ, List, [], ◌++◌, codes}
 use Rattle.std.specs.List.{flat_map}
 use Rattle.wall_policy.specs.Policy.{ChineseWall}
@@ -8,6 +8,7 @@ use Rattle.run_model.specs.declared.outcome.Outcome.{Outcome}
 use Rattle.run_model.specs.declared.entry.Entry.{Entry}
 use Rattle.run_model.specs.declared.entry.Entry.TheVariants.{Posted, Settled}
 use Rattle.book_report.specs.declared.row.Row.{Row}
+use Rattle.book_report.specs.declared.sanitised.Sanitised.{Sanitised}
 use Rattle.book_report.specs.declared.bar.Bar.{Bar}
 use Rattle.book_report.specs.declared.denial.Denial.{Denial}
 use Rattle.report_text.specs.Words.{process_name, dataset_name, kind_at, numbered}
@@ -62,6 +63,18 @@ abbrev pub instances_table : ChineseWall → List Entry → List ℕ
 instances_table wall entries = table (codes "How each instance came out")
     (codes "<th>Instance<th>Kind<th>Filled by entry<th>Outcome")
     (numbered (entry_row wall entries) 0 entries)
+
+-- ## whose results were sanitised
+
+abbrev pub sanitised_row : ChineseWall → List Entry → Sanitised → List ℕ
+sanitised_row wall entries it = codes "<tr>" ++ pair_cell it.comm it.k
+    ++ cell (kind_at entries it.entry) ++ number_cell it.entry
+    ++ cell (process_name wall it.process) ++ codes "\n"
+
+abbrev pub sanitised_table : ChineseWall → List Entry → List Sanitised → List ℕ
+sanitised_table wall entries those = table (codes "Whose results were sanitised")
+    (codes "<th>Instance<th>Kind<th>Filled by entry<th>Process")
+    (flat_map (sanitised_row wall entries) those)
 
 -- ## why posts were barred and instances denied
 

@@ -1,7 +1,7 @@
 //! A report on a book as one page of HTML, with a picture.
 //!
 //! [`report_page`] writes what `report_text` writes, as tables, and draws when each process came to
-//! hold a dataset and when a denial kept one out. The page stands by itself: it has no script and
+//! hold a dataset and when a denial named one. The page stands by itself: it has no script and
 //! no link, and names nothing outside.
 #![tactic(auto)]
 
@@ -14,6 +14,7 @@ pub mod laws;
 mod members;
 mod picture;
 mod rows;
+mod sanitised;
 mod whole;
 
 pub use book_report::{Book, BookFault};

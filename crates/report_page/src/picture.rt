@@ -171,7 +171,7 @@ fn put_key(text: &mut Vec<u8>, entries: u64) -> Result<(), AllocError>
     )?;
     put(
         text,
-        "<b class=kept>Red</b>, and longer: this entry tells a denial, which kept one out.",
+        "<b class=kept>Red</b>, and longer: this entry tells a denial, which names this process.",
     )?;
     put(text, "</figcaption>\n</figure>\n")
 }

@@ -6,6 +6,8 @@ pub mod Rows
 pub mod Members
 -- how each instance came out
 pub mod Instances
+-- whose results were sanitised
+pub mod Sanitised
 -- why posts were barred and instances denied
 pub mod Reasons
 -- the whole text

@@ -1,9 +1,10 @@
 -- The sentences of barred posts and of denials. (Own format.)
-use Rattle.std.specs.Prelude.{ℕ, List, ◌++◌, codes}
+use Rattle.std.specs.Prelude.{ℕ, List, [], ◌++◌, codes, if◌then◌else◌}
 use Rattle.std.specs.List.{flat_map}
 use Rattle.std.specs.Fmt.{decimal}
 use Rattle.wall_labels.specs.declared.label.Label.{Label}
 use Rattle.wall_policy.specs.Policy.{ChineseWall}
+use Rattle.wall_rules.specs.Histories.{at_home}
 use Rattle.coll_text.specs.Words.{label_word}
 use Rattle.book_report.specs.declared.bar.Bar.{Bar}
 use Rattle.book_report.specs.declared.denial.Source.{Source}
@@ -43,10 +44,16 @@ abbrev pub star_text : ChineseWall → (p : ℕ) → Label → (post : ℕ) → 
 star_text wall p label post = folded 98 (codes "entry " ++ decimal post ++ codes " was barred;")
     (may_not_text wall p label)
 
+-- what stands behind a dataset that is the home of who holds it
+abbrev pub home_mark : ChineseWall → (p d : ℕ) → List ℕ
+home_mark wall p d = if at_home wall p d then codes " (home)" else []
+
 -- by the simple rule: p holds one of two rivals, and would get the other
 abbrev pub holding_text : ChineseWall → (p d giver given rival : ℕ) → List ℕ
 holding_text wall p d giver given rival =
-    folded 98 (process_name wall p ++ codes " holds " ++ dataset_name wall rival ++ codes ";")
+    folded 98
+    (process_name wall p ++ codes " holds " ++ dataset_name wall rival ++ home_mark wall p rival
+    ++ codes ";")
     (coming_text wall d (codes " would come from ") giver given)
 
 -- or it would get both

@@ -8,12 +8,15 @@ use Rattle.run_model.specs.Posts.{Post, comms}
 use Rattle.book_report.specs.declared.row.Row.{Row}
 use Rattle.book_report.specs.declared.bar.Bar.{Bar}
 use Rattle.book_report.specs.declared.denial.Denial.{Denial}
+use Rattle.book_report.specs.declared.sanitised.Sanitised.{Sanitised}
 use Rattle.book_report.specs.Held.{histories_after, posts_to, IsRow, HasRow, Follows}
 use Rattle.book_report.specs.Bars.{IsBar, IsBarredAt, HasBar}
 use Rattle.book_report.specs.Denials.{IsDenial, IsDeniedAt, HasDenial}
+use Rattle.book_report.specs.Sanitised.{IsSanitised, IsSanitisedAt, HasSanitised, Precedes}
 use Rattle.report_text.specs.Rows.{rows_text}
 use Rattle.report_text.specs.Members.{comms_text}
 use Rattle.report_text.specs.Instances.{instances_text}
+use Rattle.report_text.specs.Sanitised.{sanitised_text}
 use Rattle.report_text.specs.Reasons.{bars_text, denials_text}
 
 -- these are the rows of the book, and no others: each tells how its process first came to hold its
@@ -38,15 +41,26 @@ pub record AreDenials (wall : ChineseWall) (entries : List Entry) (denials : Lis
       HasDenial denials n
   pub once : AllPairs (λ a b. a.entry < b.entry) denials
 
--- who holds what; the communicators that the book's posts make; the outcomes that it tells; and why
--- posts were barred and instances denied
+-- the members of granted instances whose results were sanitised, all of them, by the entries that
+-- filled the instances and by rank
+pub record AreSanitised (wall : ChineseWall) (entries : List Entry) (those : List Sanitised)
+    : Type 0 where
+  pub right : All (IsSanitised wall entries) those
+  pub all : (n c k j p : ℕ) → IsSanitisedAt wall entries n c k j p → HasSanitised those n j
+  pub once : AllPairs Precedes those
+
+-- who holds what; the communicators that the book's posts make; the outcomes that it tells;
+-- whose results were sanitised; and why posts were barred and instances denied
 pub record IsReport (wall : ChineseWall) (entries : List Entry) (text : List ℕ) : Type 0 where
   pub rows : List Row
+  pub sanitised : List Sanitised
   pub bars : List Bar
   pub denials : List Denial
   pub are_rows : AreRows wall entries rows
+  pub are_sanitised : AreSanitised wall entries sanitised
   pub are_bars : AreBars wall entries bars
   pub are_denials : AreDenials wall entries denials
   pub lines : text ≡ rows_text wall entries rows
       ++ comms_text wall (comms wall (posts_to entries (length entries)))
-      ++ instances_text wall entries ++ bars_text wall bars ++ denials_text wall denials
+      ++ instances_text wall entries ++ sanitised_text wall entries sanitised
+      ++ bars_text wall bars ++ denials_text wall denials

@@ -3,10 +3,11 @@ ghost use Rattle.std.specs.Prelude.{◌≡◌, ◌++◌, OnOk};
 ghost use Rattle.std.specs.List.{flat_map};
 ghost use Rattle.report_text.specs.Reasons.{coming_text, star_text, holding_text, rivals_text};
 ghost use Rattle.report_text.specs.Reasons.{both_text, simple_text, reason_text, denied_text};
-ghost use Rattle.report_text.specs.Reasons.{denial_line, denials_text};
+ghost use Rattle.report_text.specs.Reasons.{denial_line, denials_text, home_mark};
 
 use crate::bars::put_may_not;
 use crate::lines::{COLUMNS, put_folded};
+use crate::rows::is_at_home;
 use crate::words::{put_dataset, put_pair, put_process};
 use book_report::{Denial, Reason, Source};
 use coll_text::{put, put_decimal};
@@ -71,6 +72,22 @@ struct Offence {
     rival: DatasetId,
 }
 
+// Marks a dataset that is the home of who holds it.
+fn put_home_mark(
+    text: &mut Vec<u8>,
+    policy: &Policy,
+    process: ProcessId,
+    dataset: DatasetId,
+) -> Result<(), AllocError>
+    ensures { OnOk result
+        (text.new.items ≡ text.old.items ++ home_mark policy.now process dataset) }
+{
+    if is_at_home(policy, process, dataset) {
+        return put(text, " (home)");
+    }
+    Ok(())
+}
+
 // By the simple rule: the process holds the rival.
 fn put_holding(text: &mut Vec<u8>, policy: &Policy, offence: &Offence) -> Result<(), AllocError>
     ensures { OnOk result (text.new.items ≡ text.old.items
@@ -81,6 +98,7 @@ fn put_holding(text: &mut Vec<u8>, policy: &Policy, offence: &Offence) -> Result
     put_process(&mut holds, policy, offence.process)?;
     put(&mut holds, " holds ")?;
     put_dataset(&mut holds, policy, offence.rival)?;
+    put_home_mark(&mut holds, policy, offence.process, offence.rival)?;
     put(&mut holds, ";")?;
     let mut comes = Vec::new(*text.allocator());
     put_coming(&mut comes, policy, " would come from ", offence.coming)?;

@@ -24,7 +24,8 @@ pub struct Filled {
     pub entry: u64,
 }
 
-fn put_filled(text: &mut Vec<u8>, filled: &Filled) -> Result<(), AllocError>
+/// An instance and the entry that filled it, before what is told of it.
+pub(crate) fn put_filled(text: &mut Vec<u8>, filled: &Filled) -> Result<(), AllocError>
     ensures { OnOk result (text.new.items ≡ text.old.items
         ++ filled_text filled.now.kind.now filled.now.comm filled.now.k filled.now.entry) }
 {

@@ -13,6 +13,7 @@ mod instances;
 mod lines;
 mod members;
 mod rows;
+mod sanitised;
 mod whole;
 mod words;
 

@@ -14,8 +14,8 @@ use std::alloc::AllocError;
 use wall_labels::{DatasetId, ProcessId};
 use wall_policy::Policy;
 
-// Whether the process is at home there.
-fn is_at_home(policy: &Policy, process: ProcessId, dataset: DatasetId) -> bool
+/// Whether the process is at home there.
+pub(crate) fn is_at_home(policy: &Policy, process: ProcessId, dataset: DatasetId) -> bool
     ensures { result ≡ at_home policy.now process dataset }
 {
     match policy.home(process) {

@@ -77,7 +77,9 @@ fn owed_text(alloc: Global, owed: &Owed) -> Result<String, Fail> {
         }
         Owed::Verdict(Entry::Posted { .. }) => String::from_str(alloc, "a post")?,
         Owed::NoVerdict => String::from_str(alloc, "no verdict")?,
-        Owed::OtherPost => String::from_str(alloc, "another post")?,
+        Owed::OtherPost { refusal } => format!(in alloc; "refused {refusal:?}")?,
+        Owed::OtherWord { barred: true } => String::from_str(alloc, "barred")?,
+        Owed::OtherWord { barred: false } => String::from_str(alloc, "passed")?,
     };
     Ok(text)
 }
@@ -176,7 +178,7 @@ const ALONE: [(&str, &str); 6] = [
     // the star rule bars what b0 posts as alpha
     (
         "book 2\npost 1 0 bcast 1 int32 2 gives 2 as alpha passed\nend 1\n",
-        "1 in line 2: another post, not a post",
+        "1 in line 2: barred, not a post",
     ),
     (
         "book 2\npost 1 0 bcast 1 int32 2 gives 2 as alpha barred\nend 1\n",
@@ -185,12 +187,12 @@ const ALONE: [(&str, &str); 6] = [
     // and lets pass what a0 posts as alpha
     (
         "book 2\npost 0 0 bcast 0 int32 2 gives 2 as alpha barred\nend 1\n",
-        "1 in line 2: another post, not a post",
+        "1 in line 2: passed, not a post",
     ),
     // no such communicator
     (
         "book 2\npost 0 7 barrier gives 0 as none passed\nend 1\n",
-        "1 in line 2: another post, not a post",
+        "1 in line 2: refused NoSuchComm, not a post",
     ),
     // the second of an instance is of another kind
     (
@@ -199,7 +201,7 @@ post 0 0 barrier gives 0 as none passed
 post 1 0 bcast 0 int32 2 gives 0 as none passed
 end 2
 ",
-        "2 in line 3: another post, not a post",
+        "2 in line 3: refused Mismatch, not a post",
     ),
     (
         "book 2\nverdict 0 0 granted\nend 1\n",
@@ -252,7 +254,7 @@ const LINES: [(&str, &str); 7] = [
 ];
 
 // The same of whole texts.
-const WHOLE_LINES: [(&str, &str); 6] = [
+const WHOLE_LINES: [(&str, &str); 8] = [
     ("book 1\nend 0\n", "b.txt:1: due was: book 2\n"),
     (
         "book 2\nend 0\nend 0\n",
@@ -272,7 +274,15 @@ const WHOLE_LINES: [(&str, &str); 6] = [
     ),
     (
         "book 2\npost 0 7 barrier gives 0 as none passed\nend 1\n",
-        "b.txt:2: a post stands that does not count: it is refused, or its last word is wrong\n",
+        "b.txt:2: a post stands that does not count: refused NoSuchComm\n",
+    ),
+    (
+        "book 2\npost 1 0 bcast 1 int32 2 gives 2 as alpha passed\nend 1\n",
+        "b.txt:2: a post stands with another last word; due was: barred\n",
+    ),
+    (
+        "book 2\npost 0 0 bcast 0 int32 2 gives 2 as alpha barred\nend 1\n",
+        "b.txt:2: a post stands with another last word; due was: passed\n",
     ),
 ];
 

@@ -34,7 +34,7 @@ fn no_faults(rt: HostRuntime) -> Result<(), Fail> {
 post 0 0 allreduce sum int32 1 as alpha 5\r
 
 take 0 0
-info 9 9",
+info 2 9",
         "",
         None,
     )
@@ -67,6 +67,33 @@ s.txt:9:8: \"x\" is not in the form or range of its field
 s.txt:10:7: a field is missing at the end of the line
 ",
         Some((2, LineFault::BadVerb)),
+    )
+}
+
+// A call of a process that the policy lacks, and a process in no form: the place is that of the
+// process. Another field of the same form is told as a field.
+#[test]
+fn no_process_of_the_policy(rt: HostRuntime) -> Result<(), Fail> {
+    says(
+        &rt,
+        b"post 2 0 barrier
+post 3 0 barrier
+post 9 0 bcast 0 int32 1 as alpha 1
+take 4294967295 0
+info x 0
+info 4294967296 0
+info 0 x
+post 9 0 bcast 0 int32 1 as gamma 1
+",
+        "s.txt:2:6: \"3\" is no process of the policy
+s.txt:3:6: \"9\" is no process of the policy
+s.txt:4:6: \"4294967295\" is no process of the policy
+s.txt:5:6: \"x\" is no process of the policy
+s.txt:6:6: \"4294967296\" is no process of the policy
+s.txt:7:8: \"x\" is not in the form or range of its field
+s.txt:8:29: \"gamma\" is neither a dataset nor public
+",
+        Some((2, LineFault::BadField)),
     )
 }
 

@@ -1,10 +1,11 @@
 //! What policies mean, worked by hand from the rules.
 
 use crate::walls::{
-    BANKS_AND_INSURER, CONSULTANTS, DESKS, DESKS_OF_TWO, DOUBTFUL, FOUR_BANKS, LONG, policy,
+    BANKS_AND_INSURER, CONSULTANTS, DESKS, DESKS_OF_TWO, DESKS_OF_TWO_AS_ONE, DOUBTFUL, FOUR_BANKS,
+    LONG, ONE_DESK_EACH, policy,
 };
 use meaning_text::meaning_text;
-use policy_meaning::{Doubt, Warning, are_kept_apart, most_labels, warns};
+use policy_meaning::{Doubt, Warning, are_kept_apart, asked, most_labels, warns};
 use std::process::Abort;
 use std::test::Fail;
 use wall_labels::{DatasetId, Op, ProcessId};
@@ -43,9 +44,10 @@ umbra is alone in its class
 a0 is at home at alpha
 b0 is at home at beta
 i0 is at home at umbra
-a0 and b0 never hold each other's data
 sum is sanitised from 3 contributors and 3 datasets on
+warning: sum is sanitised from fewer than 4 datasets on: \"Which number\" in POLICY.md
 warning: umbra has no rival: its data may reach everybody
+a0 and b0 never hold each other's data
 ",
     )
 }
@@ -63,9 +65,9 @@ a0 is at home at alpha
 b0 is at home at beta
 c0 is at home at crude
 consultant has no home
-a0 and b0 never hold each other's data
 warning: no result is ever sanitised: there is no sanitise rule
 warning: no process is at home at delta
+a0 and b0 never hold each other's data
 ",
     )
 }
@@ -80,10 +82,11 @@ beta is in one class with alpha
 a0 is at home at alpha
 a1 is at home at alpha
 b0 is at home at beta
-a0 and b0 never hold each other's data
-a1 and b0 never hold each other's data
 sum is sanitised from 3 contributors and 1 dataset on
 warning: sum is sanitised from 1 or 2 datasets on: a firm can learn its rival's figure
+warning: sum is sanitised from fewer than 3 datasets on: \"Which number\" in POLICY.md
+a0 and b0 never hold each other's data
+a1 and b0 never hold each other's data
 ",
     )?;
     says(
@@ -94,10 +97,54 @@ beta is in one class with alpha
 a0 is at home at alpha
 a1 is at home at alpha
 b0 is at home at beta
-a0 and b0 never hold each other's data
-a1 and b0 never hold each other's data
 sum is sanitised from 3 contributors and 3 datasets on
 warning: sum is never sanitised: it takes more datasets than the processes can give data of
+a0 and b0 never hold each other's data
+a1 and b0 never hold each other's data
+",
+    )
+}
+
+// Two datasets are what two rivals give, with desks enough: each learns the other's figure.
+#[test]
+fn two_datasets_are_too_few(rt: HostRuntime) -> Result<(), Fail> {
+    says(
+        &rt,
+        DESKS_OF_TWO_AS_ONE,
+        "alpha is in one class with beta
+beta is in one class with alpha
+a0 is at home at alpha
+a1 is at home at alpha
+b0 is at home at beta
+sum is sanitised from 3 contributors and 2 datasets on
+warning: sum is sanitised from 1 or 2 datasets on: a firm can learn its rival's figure
+warning: sum is sanitised from fewer than 3 datasets on: \"Which number\" in POLICY.md
+a0 and b0 never hold each other's data
+a1 and b0 never hold each other's data
+",
+    )
+}
+
+// Two banks by themselves have no three desks; a single 0 shows in a product.
+#[test]
+fn one_desk_each(rt: HostRuntime) -> Result<(), Fail> {
+    says(
+        &rt,
+        ONE_DESK_EACH,
+        "alpha is in one class with beta
+beta is in one class with alpha
+gamma is in one class with alpha
+a0 is at home at alpha
+b0 is at home at beta
+g0 is at home at gamma
+sum is sanitised from 3 contributors and 1 dataset on
+prod is sanitised from 3 contributors and 1 dataset on
+bxor is sanitised from 3 contributors and 1 dataset on
+warning: sum is sanitised from fewer than 3 datasets on: \"Which number\" in POLICY.md
+warning: prod is sanitised, though a single 0 or 1 shows in its result
+a0 and b0 never hold each other's data
+a0 and g0 never hold each other's data
+b0 and g0 never hold each other's data
 ",
     )
 }
@@ -116,14 +163,14 @@ b0 is at home at beta
 g0 is at home at gamma
 d0 is at home at delta
 n0 has no home
+sum is sanitised from 4 contributors and 4 datasets on
+warning: n0 has no home: it may write any label on a zero
 a0 and b0 never hold each other's data
 a0 and g0 never hold each other's data
 a0 and d0 never hold each other's data
 b0 and g0 never hold each other's data
 b0 and d0 never hold each other's data
 g0 and d0 never hold each other's data
-sum is sanitised from 4 contributors and 4 datasets on
-warning: n0 has no home: it may write any label on a zero
 ",
     )
 }
@@ -165,12 +212,10 @@ beta-beta-beta-beta-beta-beta-32 is in one class with alpha-alpha-alpha-alpha-al
 left-left-left-left-left-left-32 is at home at alpha-alpha-alpha-alpha-alpha-32
 right-right-right-right-right-32 is at home at beta-beta-beta-beta-beta-beta-32
 third-third-third-third-third-32 has no home
-left-left-left-left-left-left-32 and right-right-right-right-right-32 never hold each other's data
 maxloc is sanitised from 256 contributors and 256 datasets on
 warning: maxloc is never sanitised: it takes more contributors than there are processes
 warning: maxloc is never sanitised: it takes more datasets than the processes can give data of
-warning: maxloc is sanitised, though its result is one member's figure
-warning: third-third-third-third-third-32 has no home: it may write any label on a zero
+left-left-left-left-left-left-32 and right-right-right-right-right-32 never hold each other's data
 ",
     )
 }
@@ -196,6 +241,17 @@ fn how_many_datasets_labels_name(rt: HostRuntime) -> Result<(), Fail> {
     assert_eq!(&rt; most_labels(&policy(&rt, DOUBTFUL)), 2);
     assert_eq!(&rt; most_labels(&policy(&rt, FOUR_BANKS)), 4);
     assert_eq!(&rt; most_labels(&policy(&rt, DESKS)), 2);
+    Ok(())
+}
+
+// Two, a figure of each class that gives some, and one for each process without a home.
+#[test]
+fn how_many_datasets_a_sum_should_take(rt: HostRuntime) -> Result<(), Fail> {
+    assert_eq!(&rt; asked(&policy(&rt, DOUBTFUL)), 4);
+    assert_eq!(&rt; asked(&policy(&rt, FOUR_BANKS)), 4);
+    assert_eq!(&rt; asked(&policy(&rt, BANKS_AND_INSURER)), 4);
+    assert_eq!(&rt; asked(&policy(&rt, CONSULTANTS)), 5);
+    assert_eq!(&rt; asked(&policy(&rt, DESKS)), 3);
     Ok(())
 }
 

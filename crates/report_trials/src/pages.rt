@@ -87,7 +87,7 @@ The tables tell in words what it shows.\" preserveAspectRatio=none viewBox=\"0 0
 <div class=ends><span>entry 0</span><span>entry 31</span></div>
 </div>
 <figcaption><b class=came>Blue</b>: by this entry a dataset came in.
-<b class=kept>Red</b>, and longer: this entry tells a denial, which kept one out.</figcaption>
+<b class=kept>Red</b>, and longer: this entry tells a denial, which names this process.</figcaption>
 </figure>
 <h2>Who holds what, and by which entry</h2>
 <div class=wide><table>
@@ -123,6 +123,10 @@ The tables tell in words what it shows.\" preserveAspectRatio=none viewBox=\"0 0
 <tr><td>3 0<td>bcast<td>23<td>granted
 <tr><td>1 1<td>bcast<td>26<td>denied star consultant alpha
 <tr><td>1 2<td>bcast<td>30<td>granted
+</table></div>
+<h2>Whose results were sanitised</h2>
+<div class=wide><table>
+<tr><th>Instance<th>Kind<th>Filled by entry<th>Process
 </table></div>
 <h2>Why posts were barred</h2>
 <div class=wide><table>
@@ -164,7 +168,7 @@ The tables tell in words what it shows.\" preserveAspectRatio=none viewBox=\"0 0
 <div class=ends><span>entry 0</span><span>entry 8</span></div>
 </div>
 <figcaption><b class=came>Blue</b>: by this entry a dataset came in.
-<b class=kept>Red</b>, and longer: this entry tells a denial, which kept one out.</figcaption>
+<b class=kept>Red</b>, and longer: this entry tells a denial, which names this process.</figcaption>
 </figure>
 <h2>Who holds what, and by which entry</h2>
 <div class=wide><table>
@@ -188,6 +192,10 @@ The tables tell in words what it shows.\" preserveAspectRatio=none viewBox=\"0 0
 <div class=wide><table>
 <tr><th>Instance<th>Kind<th>Filled by entry<th>Outcome
 <tr><td>0 0<td>gather<td>5<td>denied simple n0 beta
+</table></div>
+<h2>Whose results were sanitised</h2>
+<div class=wide><table>
+<tr><th>Instance<th>Kind<th>Filled by entry<th>Process
 </table></div>
 <h2>Why posts were barred</h2>
 <div class=wide><table>

@@ -79,8 +79,8 @@ fn each_fault_has_its_column(rt: HostRuntime) -> Result<(), Fail> {
     Ok(())
 }
 
-// Comments and empty lines count, and have no fault; nor has a call. Of two CR before a LF the
-// first is a byte that is not printable.
+// Comments and empty lines count, and have no fault; nor has a call, but for one of a process that
+// the policy lacks, at its process. Of two CR before a LF the first is a byte that is not printable.
 #[test]
 fn all_faults_of_a_script(rt: HostRuntime) -> Result<(), Fail> {
     let policy = policy(&rt, DESKS);
@@ -90,6 +90,11 @@ fn all_faults_of_a_script(rt: HostRuntime) -> Result<(), Fail> {
             line: 4,
             column: 7,
             fault: LineFault::BadShape,
+        },
+        Found {
+            line: 5,
+            column: 6,
+            fault: LineFault::BadField,
         },
         Found {
             line: 7,

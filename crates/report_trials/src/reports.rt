@@ -86,6 +86,23 @@ post 3 0 allgather int32 1 gives 1 as public barred
 end 8
 ";
 
+// Sums of all four banks: one for everybody, and one for n0 alone.
+pub(crate) const OF_SUMS: &str = "book 2
+post 0 0 allreduce sum int64 1 gives 1 as alpha passed
+post 1 0 allreduce sum int64 1 gives 1 as beta passed
+post 2 0 allreduce sum int64 1 gives 1 as gamma passed
+post 3 0 allreduce sum int64 1 gives 1 as delta passed
+post 4 0 allreduce sum int64 1 gives 1 as public passed
+verdict 0 0 granted
+post 4 0 reduce 4 sum int64 1 gives 1 as public passed
+post 3 0 reduce 4 sum int64 1 gives 1 as delta passed
+post 2 0 reduce 4 sum int64 1 gives 1 as gamma passed
+post 1 0 reduce 4 sum int64 1 gives 1 as beta passed
+post 0 0 reduce 4 sum int64 1 gives 1 as alpha passed
+verdict 0 1 granted
+end 12
+";
+
 // Reads the book.
 fn is_told(
     rt: &(impl AllocGlobal + Abort),
@@ -175,6 +192,8 @@ instance 3 0, bcast by entry 23: granted
 instance 1 1, bcast by entry 26: denied star consultant alpha
 instance 1 2, bcast by entry 30: granted
 
+whose results were sanitised:
+
 why posts were barred:
 entry 25: consultant may not post under alpha: it holds crude
 entry 28: consultant may not post under crude: it holds alpha
@@ -214,13 +233,15 @@ instance 0 1, bcast by entry 10:
 instance 0 2, bcast by entry 14:
   denied star third-third-third-third-third-32 beta-beta-beta-beta-beta-beta-32
 
+whose results were sanitised:
+
 why posts were barred:
 entry 12: third-third-third-third-third-32 may not post under beta-beta-beta-beta-beta-beta-32:
   it holds alpha-alpha-alpha-alpha-alpha-32
 
 why instances were denied:
 instance 0 1 was denied:
-  right-right-right-right-right-32 holds beta-beta-beta-beta-beta-beta-32;
+  right-right-right-right-right-32 holds beta-beta-beta-beta-beta-beta-32 (home);
   alpha-alpha-alpha-alpha-alpha-32 would come from left-left-left-left-left-left-32 by entry 8
 instance 0 2 was denied:
   entry 12 was barred;
@@ -248,6 +269,8 @@ communicator 0, rank 2: third-third-third-third-third-32
 how each instance came out:
 instance 0 0, gather by entry 3:
   denied simple third-third-third-third-third-32 beta-beta-beta-beta-beta-beta-32
+
+whose results were sanitised:
 
 why posts were barred:
 
@@ -284,11 +307,53 @@ communicator 0, rank 4: n0
 how each instance came out:
 instance 0 0, gather by entry 5: denied simple n0 beta
 
+whose results were sanitised:
+
 why posts were barred:
 entry 8: d0 may not post under public: it holds delta
 
 why instances were denied:
 instance 0 0 was denied: n0 would get two rivals: alpha from a0 by entry 2, beta from b0 by entry 3
+",
+    )
+}
+
+// Sanitised results charge nothing: n0 holds nothing at the end.
+#[test]
+fn sums_of_four_banks(rt: HostRuntime) -> Result<(), Fail> {
+    let policy = policy(&rt, FOUR_BANKS);
+    is_told(
+        &rt,
+        &policy,
+        OF_SUMS,
+        "who holds what, and by which entry:
+0: a0 holds alpha: its home
+0: b0 holds beta: its home
+0: g0 holds gamma: its home
+0: d0 holds delta: its home
+
+who is in which communicator:
+communicator 0, rank 0: a0
+communicator 0, rank 1: b0
+communicator 0, rank 2: g0
+communicator 0, rank 3: d0
+communicator 0, rank 4: n0
+
+how each instance came out:
+instance 0 0, allreduce by entry 5: granted
+instance 0 1, reduce by entry 11: granted
+
+whose results were sanitised:
+instance 0 0, allreduce by entry 5: a0
+instance 0 0, allreduce by entry 5: b0
+instance 0 0, allreduce by entry 5: g0
+instance 0 0, allreduce by entry 5: d0
+instance 0 0, allreduce by entry 5: n0
+instance 0 1, reduce by entry 11: n0
+
+why posts were barred:
+
+why instances were denied:
 ",
     )
 }
@@ -328,6 +393,8 @@ communicator 0, rank 3: d0
 communicator 0, rank 4: n0
 
 how each instance came out:
+
+whose results were sanitised:
 
 why posts were barred:
 

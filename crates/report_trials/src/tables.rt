@@ -1,12 +1,14 @@
 //! What books tell, worked by hand from the rules.
 
+use crate::reports::OF_SUMS;
 use crate::stored::{
     BANKS_AND_OIL, BROADCAST, GATHERED_AS_PUBLIC, GATHERED_FROM_RIVALS, TWO_TABLES, UNSOUND,
 };
-use crate::walls::policy;
+use crate::walls::{FOUR_BANKS, policy};
 use audit_book::read_book;
 use book_report::{
-    Bar, Book, BookFault, Denial, Reason, Row, Source, Way, barred_posts, denials, held,
+    Bar, Book, BookFault, Denial, Reason, Row, Sanitised, Source, Way, barred_posts, denials, held,
+    sanitised_results,
 };
 use std::process::Abort;
 use std::test::Fail;
@@ -218,6 +220,40 @@ fn one_table_after_the_other(rt: HostRuntime) -> Result<(), Fail> {
     tells(&rt, TWO_TABLES, &rows, &bars, &denied)
 }
 
+fn sanitised(entry: u64, k: u64, rank: u32, process: ProcessId) -> Sanitised {
+    Sanitised {
+        entry,
+        comm: 0,
+        k,
+        rank,
+        process,
+    }
+}
+
+// Whose results were sanitised: one sum is everybody's, and one is the last process's alone.
+#[test]
+fn sums_of_four_banks(rt: HostRuntime) -> Result<(), Fail> {
+    let n = all_names(&rt);
+    let last = ProcessId::new(4).expect(&rt, "a process");
+    let those = [
+        sanitised(5, 0, 0, n.a0),
+        sanitised(5, 0, 1, n.b0),
+        sanitised(5, 0, 2, n.c0),
+        sanitised(5, 0, 3, n.n0),
+        sanitised(5, 0, 4, last),
+        sanitised(11, 1, 4, last),
+    ];
+    let policy = policy(&rt, FOUR_BANKS);
+    let book = book(&rt, &policy, OF_SUMS);
+    match sanitised_results(rt.alloc(), &policy, &book) {
+        Ok(told) => assert_eq!(&rt; told.as_slice(), those.as_slice()),
+        Err(fault) => panic!(&rt; "{fault}"),
+    }
+    drop(book);
+    drop(policy);
+    Ok(())
+}
+
 // Of a book that is not sound the first bad entry is told, as by its check.
 #[test]
 fn an_unsound_book(rt: HostRuntime) -> Result<(), Fail> {
@@ -225,6 +261,7 @@ fn an_unsound_book(rt: HostRuntime) -> Result<(), Fail> {
     let book = book(&rt, &policy, UNSOUND);
     let fault = Some(BookFault::BadEntry(5));
     assert_eq!(rt; held(rt.alloc(), &policy, &book).err(), fault);
+    assert_eq!(rt; sanitised_results(rt.alloc(), &policy, &book).err(), fault);
     assert_eq!(rt; barred_posts(rt.alloc(), &policy, &book).err(), fault);
     assert_eq!(rt; denials(rt.alloc(), &policy, &book).err(), fault);
     drop(book);

@@ -86,6 +86,52 @@ least = 3
 distinct = 3
 "#;
 
+// The same with two: a result of both banks is sanitised.
+pub(crate) const DESKS_OF_TWO_AS_ONE: &str = r#"version = 2
+[[class]]
+name = "banks"
+datasets = ["alpha", "beta"]
+[[process]]
+name = "a0"
+home = "alpha"
+[[process]]
+name = "a1"
+home = "alpha"
+[[process]]
+name = "b0"
+home = "beta"
+[[sanitise]]
+op = "sum"
+least = 3
+distinct = 2
+"#;
+
+// Three banks with one process each, in version 1: three contributors are always three banks. Of a
+// product, and of what each bank's flag says, one value tells.
+pub(crate) const ONE_DESK_EACH: &str = r#"version = 1
+[[class]]
+name = "banks"
+datasets = ["alpha", "beta", "gamma"]
+[[process]]
+name = "a0"
+home = "alpha"
+[[process]]
+name = "b0"
+home = "beta"
+[[process]]
+name = "g0"
+home = "gamma"
+[[sanitise]]
+op = "sum"
+least = 3
+[[sanitise]]
+op = "prod"
+least = 3
+[[sanitise]]
+op = "bxor"
+least = 3
+"#;
+
 // Four banks of one class, each with a process, and one more without a home.
 pub(crate) const FOUR_BANKS: &str = r#"version = 2
 [[class]]

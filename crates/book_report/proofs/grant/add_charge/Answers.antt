@@ -34,7 +34,8 @@ returns-clause-added c = ok_three c.add.result _ _ _ _
             (delivered wall it.roll.now c.args.to d entries receiver n it.comm it.k
             c.in-Some.from c.at-sender.result c.requires.charge c.requires.granted.grant
             c.at-receiver.ensures c.at-sender.ensures c.in-Some.ensures.gives
-            c.in-Some.ensures.lowest (c.requires.new receiver c.at-receiver.ensures fresh))));
+            c.in-Some.ensures.lowest (c.requires.new receiver c.at-receiver.ensures fresh).0
+            (c.requires.new receiver c.at-receiver.ensures fresh).1)));
       };
       grows = grows;
     })

@@ -13,7 +13,7 @@ returns c =
     ∷ (codes "</span></div>\n</div>\n<figcaption>", c.put-2.new.text.items)
     ∷ (codes "<b class=came>Blue</b>: by this entry a dataset came in.\n", c.put-3.new.text.items)
     ∷ (
-      codes "<b class=kept>Red</b>, and longer: this entry tells a denial, which kept one out.",
+      codes "<b class=kept>Red</b>, and longer: this entry tells a denial, which names this process.",
       c.put-4.new.text.items,
     )
     ∷ (codes "</figcaption>\n</figure>\n", c.put-5.new.text.items) ∷ [])

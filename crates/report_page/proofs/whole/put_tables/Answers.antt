@@ -1,11 +1,12 @@
 use Rattle.std.proofs.Common.{[], ◌∷◌, ◌++◌, List, length, ap, ◌∙◌}
 use Rattle.run_model.specs.Posts.{comms}
 use Rattle.book_report.specs.declared.row.Row.{Row}
+use Rattle.book_report.specs.declared.sanitised.Sanitised.{Sanitised}
 use Rattle.book_report.specs.declared.bar.Bar.{Bar}
 use Rattle.book_report.specs.declared.denial.Denial.{Denial}
 use Rattle.book_report.specs.Held.{posts_to}
 use Rattle.report_page.specs.Tables.{rows_table, comms_table, instances_table}
-use Rattle.report_page.specs.Tables.{bars_table, denials_table}
+use Rattle.report_page.specs.Tables.{sanitised_table, bars_table, denials_table}
 use Rattle.report_page.proofs.PieceLemmas.{◌&◌, all_written}
 use Rattle.report_page.proofs.whole.put_tables.Goals as goal
 
@@ -17,12 +18,15 @@ returns c =
     let rows = c.in_ok-put_rows.ensures
     ∙ ap (λ (rs : List Row). c.args.text.now.items ++ rows_table wall entries rs)
     c.deref.ensures.value in
+    let sanitised = c.in_ok-put_sanitised.ensures
+    ∙ ap (λ (ss : List Sanitised).
+    c.put_instances.new.text.items ++ sanitised_table wall entries ss) c.deref-2.ensures.value in
     let bars = c.in_ok-put_bars.ensures
-    ∙ ap (λ (bs : List Bar). c.put_instances.new.text.items ++ bars_table wall bs)
-    c.deref-2.ensures.value in
+    ∙ ap (λ (bs : List Bar). c.put_sanitised.new.text.items ++ bars_table wall bs)
+    c.deref-3.ensures.value in
     let denials = c.in_ok-put_denials.ensures
     ∙ ap (λ (ds : List Denial). c.put_bars.new.text.items ++ denials_table wall ds)
-    c.deref-3.ensures.value in
+    c.deref-4.ensures.value in
     all_written c.args.text.now.items
     (rows_table wall entries found.rows.items)
     c.put_rows.new.text.items
@@ -31,7 +35,8 @@ returns c =
       c.put_comms_of.new.text.items,
     )
     ∷ (instances_table wall entries, c.put_instances.new.text.items)
+    ∷ (sanitised_table wall entries found.sanitised.items, c.put_sanitised.new.text.items)
     ∷ (bars_table wall found.bars.items, c.put_bars.new.text.items)
     ∷ (denials_table wall found.denials.items, c.put_denials.new.text.items) ∷ [])
     rows
-    (c.in_ok-put_comms_of.ensures & c.in_ok-put_instances.ensures & bars & denials & tt)
+    (c.in_ok-put_comms_of.ensures & c.in_ok-put_instances.ensures & sanitised & bars & denials & tt)

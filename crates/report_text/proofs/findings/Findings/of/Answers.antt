@@ -7,6 +7,13 @@ returns-clause-rows c = record {
   once = c.in_ok-rows.ensures.once;
 }
 
+pub returns-clause-sanitised : goal.returns-clause-sanitised
+returns-clause-sanitised c = record {
+  right = c.in_ok-sanitised.ensures.sanitised;
+  all = c.in_ok-sanitised.ensures.all;
+  once = c.in_ok-sanitised.ensures.once;
+}
+
 pub returns-clause-bars : goal.returns-clause-bars
 returns-clause-bars c = record {
   right = c.in_ok-bars.ensures.bars;
