@@ -1,7 +1,8 @@
 //! Devices over std's files and streams, with a count of failures that takes no bytes.
 ghost use Rattle.std.specs.Prelude.{◌≡◌, ℕ, ◌+◌, ◌<◌, ◌≤◌, List, Option, length, IsSome, IfOk};
 ghost use Rattle.std.specs.Prelude.{OnOk, OnErr, Ok, None, true, false};
-ghost use Rattle.std.specs.Fs.{new_options, with_write, with_create_new};
+ghost use Rattle.std.specs.Fs.{new_options, with_write, with_create, with_create_new};
+ghost use Rattle.std.specs.Fs.{with_truncate};
 ghost use Rattle.std.specs.Io.KnownBytes.{ReadConsumes, WriteAppends};
 ghost use Rattle.program_files.specs.Files.{bytes_of, IsOpened, IsMadeForBytes, TellsCause};
 
@@ -264,25 +265,27 @@ pub fn only_new() -> OpenOptions
     how
 }
 
-// The path of a file, in its system.
+// How a file is opened that is made, in place of one that was there.
+fn replacing() -> OpenOptions
+    ensures { result ≡ with_truncate (with_create (with_write new_options true) true) true }
+{
+    let mut how = OpenOptions::new();
+    how.write(true).create(true).truncate(true);
+    how
+}
+
+// The path of a file, in its system, and how it is opened to be made.
 #[derive(Drop)]
 struct Place<'p, R> {
     rt: &'p R,
     path: &'p str,
+    how: OpenOptions,
 }
 
-// Makes a file: in place of one that was there, or, where it is to be new, never.
-fn made_at<R: Files>(place: &Place<R>, is_new: bool) -> io::Result<R::File> {
-    if is_new {
-        return only_new().open(place.rt, place.path);
-    }
-    File::create(place.rt, place.path)
-}
-
-// Writes to a file that was made, or makes it first.
+// Writes to a file that was made, or makes it first. (That a file is opened as `how` says, no
+// contract of the system's can say.)
 fn write_made<R: Files>(
     place: &Place<R>,
-    is_new: bool,
     file: &mut Option<R::File>,
     bytes: &[u8],
 ) -> io::Result<usize>
@@ -294,7 +297,7 @@ fn write_made<R: Files>(
     match file {
         Some(made) => write_again(made, bytes),
         None => {
-            let mut made = made_at(place, is_new)?;
+            let mut made = place.how.open(place.rt, place.path)?;
             let outcome = write_again(&mut made, bytes);
             *file = Some(made);
             outcome
@@ -325,8 +328,9 @@ impl<'a, R: Files, L: Ledger> Sink for FileSink<'a, R, L> {
         let place = Place {
             rt: self.rt,
             path: self.path,
+            how: replacing(),
         };
-        let outcome = write_made(&place, false, &mut self.file, bytes);
+        let outcome = write_made(&place, &mut self.file, bytes);
         counted(outcome, &mut self.failures)
     }
 }
@@ -362,11 +366,12 @@ impl<'a, R: Files, L: Ledger> Sink for NewFileSink<'a, R, L> {
         if bytes.is_empty() {
             return Ok(0);
         }
-        let place = Place {
+        let fresh = Place {
             rt: self.rt,
             path: self.path,
+            how: only_new(),
         };
-        let outcome = write_made(&place, true, &mut self.file, bytes);
+        let outcome = write_made(&fresh, &mut self.file, bytes);
         counted(outcome, &mut self.failures)
     }
 }
