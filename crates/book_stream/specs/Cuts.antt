@@ -5,7 +5,7 @@ use Rattle.book_stream.specs.declared.line.Unfinished.{Unfinished}
 
 -- the most bytes of a line, without its LF
 abbrev pub line_limit : ℕ
-line_limit = 2097152
+line_limit = 134217728
 
 -- what is kept of the line so far: its bytes, or that they are above the limit
 pub record Holds (kept : Unfinished) (line : List ℕ) : Type 0 where

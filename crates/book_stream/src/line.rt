@@ -4,8 +4,9 @@ ghost use Rattle.book_stream.specs.Cuts.{Holds, line_limit};
 
 use std::alloc::{AllocError, Global};
 
-/// The most bytes of a line, without its LF.
-pub const LINE_LIMIT: usize = 2_097_152;
+/// The most bytes of a line, without its LF: as many as a whole book may have that is read at once, so
+/// that a line of such a book is never too long.
+pub const LINE_LIMIT: usize = 134_217_728;
 
 /// The line that is not finished yet: its bytes, or that they are above the limit.
 #[derive(Drop)]

@@ -7,6 +7,7 @@ use Rattle.run_model.specs.Books.{book}
 use Rattle.run_model.specs.Chains.{Link}
 use Rattle.run_model.specs.Runs.{posts}
 use Rattle.run_model.proofs.RunModelLemmas.{book_is_sound, chains_keep_the_wall, legal_proper}
+use Rattle.run_model.specs.Years.{OverYears}
 use Rattle.book_chain.specs.Chain.{ChainValue, begun}
 use Rattle.hall_script.specs.Devices.{Used}
 use Rattle.program_commands.specs.declared.earlier.Earlier.{Earlier}
@@ -100,8 +101,8 @@ module _ {D : Type 0} (failures : D → ℕ) (bytes : D → Option (List ℕ)) w
 pub wall_after : {P D : Type 0} (policy : Used P) (earlier : EarlierBooks D)
     (first wall : ChineseWall) (links : List Link) (least : ℕ) → IsPolicyOf policy first →
     IsAfter first earlier links (record { wall = wall; least = least }) → IsPolicy wall →
-    IsWallAfter policy earlier wall
-wall_after policy earlier first wall links least read after is = record {
+    OverYears → IsWallAfter policy earlier wall
+wall_after policy earlier first wall links least read after is over = record {
   first = first;
   read = read;
   links = links;
@@ -110,6 +111,9 @@ wall_after policy earlier first wall links least read after is = record {
   books_keep = λ entries sound. chains_keep_the_wall links wall entries is after.stands.0 sound;
   runs_keep = λ run legal. chains_keep_the_wall links wall (book wall (posts run)) is after.stands.0
       (book_is_sound wall (posts run) (legal_proper wall run legal).posts);
+  years_keep = λ run p d e legal were held_d held_e. over.apart links wall run p d e is
+      after.stands.0 legal were held_d held_e;
+  had = λ p d low nothing held. over.had links wall p d low nothing after.stands.0 held;
 }
 
 -- ---- no earlier book

@@ -7,6 +7,8 @@ use Rattle.run_model.specs.PostLaws.{KeepsTheWall}
 use Rattle.audit_book.specs.declared.fault.ReadFault.{ReadFault as TextFault}
 use Rattle.audit_book.specs.declared.fault.ReadFault.TheVariants as texts
 use Rattle.audit_book.specs.Reading.{book_in}
+use Rattle.book_stream.specs.declared.fault.AuditFault.TheVariants as audits
+use Rattle.book_stream.specs.Audits.{GaveAll, AuditsTo}
 use Rattle.hall_script.specs.Devices.{Used, IsUntouched, NeverFailed, IsRead, IsUnreadable}
 use Rattle.hall_script.specs.Devices.{IsWritten, BrokeOff}
 use Rattle.program_commands.specs.declared.audit.Finding.{Finding}
@@ -15,7 +17,7 @@ use Rattle.program_commands.specs.declared.ending.Ending.{Ending}
 use Rattle.program_commands.specs.declared.ending.Ending.TheVariants.{Done, BadBookLine, CutBook}
 use Rattle.program_commands.specs.declared.ending.Ending.TheVariants.{Unsound}
 use Rattle.program_commands.specs.declared.ending.Ending.TheVariants.{ReadFault, WriteFault}
-use Rattle.program_commands.specs.declared.ending.Ending.TheVariants.{NoMemory}
+use Rattle.program_commands.specs.declared.ending.Ending.TheVariants.{NoMemory, Exhausted}
 use Rattle.program_commands.specs.Endings.{numbered_line}
 use Rattle.program_commands.specs.Walls.{IsPolicyOf, IsNoPolicy}
 
@@ -75,19 +77,37 @@ Announces finding out ending =
     (IsWritten out (finding_line finding) × (ending ≡ finding_ending finding))
     ⊎ (BrokeOff out (finding_line finding) × (ending ≡ WriteFault))
 
--- the book was read and checked, and its finding announced
+-- ---- a book that is judged while it is read
+
+-- all that the device had to give, without a failure, is the text of a book of these entries
+abbrev pub IsBookGiven : {B : Type 0} → ChineseWall → Used B → List Entry → Type 0
+IsBookGiven wall book entries =
+    (text : List ℕ) × GaveAll book text × (book_in wall text ≡ Ok entries)
+
+-- No book was judged, and this is why. A line at fault is told of what the device gave until then,
+-- whatever is behind it; one of more bytes than a line may have is told as one that is none.
+abbrev pub IsNoneJudged : {B : Type 0} → ChineseWall → Used B → Ending → Type 0
+IsNoneJudged wall book (BadBookLine n) =
+    AuditsTo wall book (Err (audits.BadLine n)) ⊎ AuditsTo wall book (Err (audits.LongLine n))
+IsNoneJudged wall book CutBook = AuditsTo wall book (Err audits.Cut)
+IsNoneJudged wall book ReadFault = AuditsTo wall book (Err audits.Read)
+IsNoneJudged wall book Exhausted = AuditsTo wall book (Err audits.TooMany)
+IsNoneJudged wall book NoMemory = AuditsTo wall book (Err audits.NoMemory)
+IsNoneJudged wall book ending = ⊥
+
+-- the book was read to its end and judged, and its finding announced
 pub record Checks {B O : Type 0}
     (wall : ChineseWall) (book : Used B) (out : Used O) (ending : Ending) : Type 0 where
   pub entries : List Entry
-  pub read : IsBookOf wall book entries
+  pub read : IsBookGiven wall book entries
   pub finding : Finding
   pub found : IsFound wall entries finding
   pub announced : Announces finding out ending
 
--- how the audit of a book ends: none was checked, and nothing was written; or it was checked
+-- how the audit of a book ends: none was judged, and nothing was written; or it was judged
 abbrev pub Audits : {B O : Type 0} → ChineseWall → Used B → Used O → Ending → Type 0
 Audits wall book out ending =
-    (IsNoBook wall book ending × IsUntouched out) ⊎ Checks wall book out ending
+    (IsNoneJudged wall book ending × IsUntouched out) ⊎ Checks wall book out ending
 
 -- how `audit` ends: there is no policy, and no other device was touched; or its book was audited
 abbrev pub AuditEnds : {P B O : Type 0} → Used P → Used B → Used O → Ending → Type 0

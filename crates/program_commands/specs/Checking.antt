@@ -17,7 +17,7 @@ use Rattle.book_places.specs.Sentences.{found_line}
 use Rattle.meaning_text.specs.Sentences.{IsMeaning}
 use Rattle.check_text.specs.declared.faults.ScriptFaults.{ScriptFaults}
 use Rattle.check_text.specs.Lines.{AreLines}
-use Rattle.check_text.specs.Policies.{policy_line}
+use Rattle.check_text.specs.Policies.{policy_line, absent_line, long_line}
 use Rattle.hall_script.specs.Devices.{Used, used, IsUntouched, NeverFailed, IsRead}
 use Rattle.hall_script.specs.Devices.{IsUnreadable, IsWritten, BrokeOff}
 use Rattle.hall_script.specs.Scripts.{script_limit}
@@ -49,15 +49,15 @@ abbrev pub TellsMeaning : ChineseWall → (text : List ℕ) → Ending → Type 
 TellsMeaning wall text ending =
     (IsMeaning wall text × (ending ≡ Done)) ⊎ TellsNone NoMemory text ending
 
--- how it ends by the first line of a script that is no call
+-- how it ends by the first line of a script that is at fault
 abbrev pub script_ending : Option (ℕ × LineFault) → Ending
 script_ending None = Done
 script_ending (Some first) = BadLine first.0 first.1
 
--- the lines of a script that are no calls, or memory ran out
+-- the lines of a script that are no calls, or of processes that there are not, or memory ran out
 abbrev pub TellsLines : ChineseWall → (path script text : List ℕ) → Ending → Type 0
 TellsLines wall path script text ending =
-    ((said : ScriptFaults) × AreLines wall.dataset_names path script said
+    ((said : ScriptFaults) × AreLines wall path script said
     × (text ≡ said.text.items) × (ending ≡ script_ending said.first))
     ⊎ TellsNone NoMemory text ending
 
@@ -149,31 +149,33 @@ Checks wall path book_path script book out ending =
     (text : List ℕ) × (due : Ending) × IsChecked wall path script book_path book text due
     × ((IsWritten out text × (ending ≡ due)) ⊎ (BrokeOff out text × (ending ≡ WriteFault)))
 
--- the line of a fault was told, with what is named there, or memory ran out
-abbrev pub TellsLine : {O : Type 0} → (path text : List ℕ) → Found → PolicyFault → Used O → Ending
-    → Type 0
-TellsLine path text found fault out ending =
-    (IsWritten out (policy_line path found (named_at text found)) × (ending ≡ BadPolicy fault))
-    ⊎ (BrokeOff out (policy_line path found (named_at text found)) × (ending ≡ WriteFault))
+-- the line of a fault was told, or memory ran out
+abbrev pub TellsLine : {O : Type 0} → (line : List ℕ) → PolicyFault → Used O → Ending → Type 0
+TellsLine line fault out ending =
+    (IsWritten out line × (ending ≡ BadPolicy fault))
+    ⊎ (BrokeOff out line × (ending ≡ WriteFault))
     ⊎ ((ending ≡ NoMemory) × IsUntouched out)
 
--- the line of a fault was told, or the fault stands on none, and nothing was written
+-- the line of a fault was told, with what is named there; or, where it stands on none, what the file
+-- lacks
 abbrev pub TellsPlace : {O : Type 0} → (path text : List ℕ) → PolicyFault → Option Found → Used O
     → Ending → Type 0
-TellsPlace path text fault None out ending = (ending ≡ BadPolicy fault) × IsUntouched out
-TellsPlace path text fault (Some found) out ending = TellsLine path text found fault out ending
+TellsPlace path text fault None out ending = TellsLine (absent_line path fault) fault out ending
+TellsPlace path text fault (Some found) out ending =
+    TellsLine (policy_line path found (named_at text found)) fault out ending
 
 -- the most bytes of a policy for whose fault a line is looked for
 abbrev pub place_limit : ℕ
 place_limit = 262144
 
--- The place of the fault was told; of a long text it was not looked for; or memory ran out.
+-- The place of the fault was told; or that it is not looked for in a long text; or memory ran out.
 abbrev pub TellsRefused : {O : Type 0} → (path text : List ℕ) → PolicyFault → Used O → Ending
     → Type 0
 TellsRefused path text fault out ending =
     ((place : Place) × IsPlace text place
     × TellsPlace path text place.fault place.found out ending)
-    ⊎ ((place_limit < length text) × (ending ≡ BadPolicy fault) × IsUntouched out)
+    ⊎ ((place_limit < length text)
+    × TellsLine (long_line path place_limit) fault out ending)
     ⊎ ((ending ≡ NoMemory) × IsUntouched out)
 
 -- The text is a policy, and script and book were checked under it; or it is none, and that was

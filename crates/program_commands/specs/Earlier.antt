@@ -1,11 +1,13 @@
 -- Earlier books, and the policy for what comes after them: what was held at their end is held
 -- before. What a chain of books is, and what it keeps, say the definitions of chains.
-use Rattle.std.specs.Prelude.{◌≡◌, ◌⊎◌, ℕ, List, [], ◌∷◌, ◌++◌, reverse, Option}
+use Rattle.std.specs.Prelude.{◌≡◌, ◌<◌, ◌⊎◌, ℕ, true, List, [], ◌∷◌, ◌++◌, reverse, Option}
 use Rattle.std.specs.Borrow.{Bor}
-use Rattle.wall_policy.specs.Policy.{ChineseWall, first_processes}
+use Rattle.wall_labels.specs.declared.ids.TheConstants.{DATASET_LIMIT}
+use Rattle.wall_policy.specs.Policy.{ChineseWall, first_processes, held_of}
 use Rattle.run_model.specs.declared.entry.Entry.{Entry as BookEntry}
 use Rattle.run_model.specs.Books.{book, IsSound}
 use Rattle.run_model.specs.Chains.{Link, NobodyEverHeldBoth}
+use Rattle.run_model.specs.Years.{WereEverRivals, HeldByThen, BeginsWithNothing, HadOnce}
 use Rattle.run_model.specs.Runs.{Entry, posts}
 use Rattle.run_model.specs.Replies.{Legal}
 use Rattle.audit_book.specs.declared.check_fault.BookFault.TheVariants.{BadEntry}
@@ -68,6 +70,19 @@ abbrev pub RunsKeepTheWall : List Link → ChineseWall → Type 0
 RunsKeepTheWall links wall = (run : List Entry) → Legal wall run →
     NobodyEverHeldBoth wall.classes (record { wall = wall; book = book wall (posts run) } ∷ links)
 
+-- Over these books and any legal run under this policy nobody ever held two who were rivals under
+-- the policy of any of the books or are under this one, before or after any entry.
+abbrev pub YearsKeepTheWall : List Link → ChineseWall → Type 0
+YearsKeepTheWall links wall = (run : List Entry) (p d e : ℕ) → Legal wall run →
+    WereEverRivals links wall d e → HeldByThen links wall run p d →
+    ¬ (HeldByThen links wall run p e)
+
+-- What is held before under this policy was had once: at a home, or by an entry of one of these
+-- books.
+abbrev pub WasHadOnce : List Link → ChineseWall → Type 0
+WasHadOnce links wall = (p d : ℕ) → d < DATASET_LIMIT → BeginsWithNothing links wall →
+    held_of wall p d ≡ true → HadOnce links p d
+
 -- The policy that all else goes by: a policy was read, and it is that one, or, where there are
 -- earlier books, the one after them.
 pub record IsWallAfter {P D : Type 0} (policy : Used P) (earlier : EarlierBooks D)
@@ -79,6 +94,8 @@ pub record IsWallAfter {P D : Type 0} (policy : Used P) (earlier : EarlierBooks 
   pub after : IsAfter first earlier links (record { wall = wall; least = least })
   pub books_keep : BooksKeepTheWall links wall
   pub runs_keep : RunsKeepTheWall links wall
+  pub years_keep : YearsKeepTheWall links wall
+  pub had : WasHadOnce links wall
 
 -- ---- none
 

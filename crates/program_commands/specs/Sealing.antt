@@ -7,6 +7,7 @@ use Rattle.audit_book.specs.Text.{book_text}
 use Rattle.book_seal.specs.declared.fault.SealFault.{SealFault}
 use Rattle.book_seal.specs.declared.fault.SealFault.TheVariants as seals
 use Rattle.book_seal.specs.Seals.{IsSealOf}
+use Rattle.book_seal.specs.CutBooks.{KeepsEachRun}
 use Rattle.book_seal.specs.Refusals.{IsFaultOf, StartsSoundly}
 use Rattle.hall_script.specs.Devices.{Used, IsUntouched, NeverFailed, IsRead, IsUnreadable}
 use Rattle.hall_script.specs.Devices.{IsWritten}
@@ -41,6 +42,8 @@ pub record IsSealed {W O : Type 0} (wall : ChineseWall) (text : List ℕ) (seale
     (out : Used O) (ending : Ending) : Type 0 where
   pub whole : List ℕ
   pub seal : IsSealOf wall text whole
+  -- nothing that a cut run told is forgotten
+  pub keeps : KeepsEachRun wall text whole
   pub kept : KeepsSeal whole (length seal.entries) sealed out ending
 
 -- ---- a text that has none

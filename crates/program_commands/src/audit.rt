@@ -15,6 +15,7 @@ use crate::devices::Devices;
 use crate::earlier::{Earlier, no_earlier, read_wall_after};
 use crate::ending::{Ending, end, write_numbered};
 use audit_book::{Book, BookFault, ReadFault, check_book, read_book};
+use book_stream::{AuditFault, audit_source};
 use hall_script::{DeviceFault, read_device};
 use std::alloc::Global;
 use wall_labels::{Failed, NoMemory, Sink, Source};
@@ -115,7 +116,7 @@ pub(crate) fn tell<O: Sink>(out: &mut O, finding: Finding) -> Ending<'static>
     }
 }
 
-// Reads and checks the book.
+// Judges the book while it is read.
 fn audit_under<B: Source, O: Sink>(
     alloc: Global,
     wall: &Policy,
@@ -127,15 +128,16 @@ fn audit_under<B: Source, O: Sink>(
         (used O.failures O.contents out.old out.new)
         result }
 {
-    let entries = match read_entries(alloc, wall, book) {
-        Ok(entries) => entries,
-        Err(ending) => return ending,
-    };
-    let judged = judge(alloc, wall, &entries);
-    drop(entries);
-    match judged {
-        Ok(finding) => tell(out, finding),
-        Err(_) => Ending::NoMemory,
+    let _ = wall.processes();
+    match audit_source(alloc, wall, book) {
+        Ok(entries) => tell(out, Finding::Sound(entries)),
+        Err(AuditFault::BadEntry(number)) => tell(out, Finding::Unsound(number)),
+        Err(AuditFault::BadLine(number)) => Ending::BadBookLine(number),
+        Err(AuditFault::LongLine(number)) => Ending::BadBookLine(number),
+        Err(AuditFault::Cut) => Ending::CutBook,
+        Err(AuditFault::Read) => Ending::ReadFault,
+        Err(AuditFault::TooMany) => Ending::Exhausted,
+        Err(AuditFault::NoMemory) => Ending::NoMemory,
     }
 }
 
@@ -144,8 +146,10 @@ fn audit_under<B: Source, O: Sink>(
 /// first bad one, to `out`. It writes the line of a fault to `err`, and gives the status: 0 exactly
 /// where the book is sound and the line was written.
 ///
-/// The policy is read and judged before the book is looked at. A book of more than `BOOK_LIMIT`
-/// bytes is a read fault.
+/// The policy is read and judged before the book is looked at. The book is judged while it is read,
+/// however long it is, in the memory of what is open and of one line. A line at fault is told as soon
+/// as it is read, before the reader can fail behind it; one of more than 134,217,728 bytes is at
+/// fault. More than 2^62 entries are told as `Ending::Exhausted`.
 pub fn audit_on<P: Source, B: Source, O: Sink, E: Sink>(
     alloc: Global,
     policy: &mut P,

@@ -301,10 +301,11 @@ fn check_devices<
 /// where all of it reads, the book is sound, and all was written.
 ///
 /// What is told of one file does not hang on the others. Where the policy is refused the others are
-/// not looked at, and `PATH:LINE: ..` is written to `out`, the line on which its fault stands, if it
-/// stands on one, and what is wrong there. Of a policy of more than `PLACE_LIMIT` bytes no line is
-/// looked for. A file that was not read is told by its path and why: for the cause that its reader
-/// tells, or since it has more than `SCRIPT_LIMIT` or `BOOK_LIMIT` bytes.
+/// not looked at, and `PATH:LINE: ..` is written to `out`, the line on which its fault stands and
+/// what is wrong there, or `PATH: ..` and what the file lacks, where it stands on none. Of a policy
+/// of more than `PLACE_LIMIT` bytes it is written that no line is looked for. A file that was not
+/// read is told by its path and why: for the cause that its reader tells, or since it has more than
+/// `SCRIPT_LIMIT` or `BOOK_LIMIT` bytes.
 pub fn check_on<
     P: Source + Explains,
     S: Source + Explains + Drop,

@@ -11,6 +11,7 @@ use crate::ending::{EarlierFault, Ending};
 use crate::wall::read_wall;
 use audit_book::BookFault;
 use book_chain::Chain;
+use run_model::years::over_years;
 use std::alloc::Global;
 use wall_labels::Source;
 use wall_labels::memory::MemorySource;
@@ -112,7 +113,8 @@ pub(crate) fn read_links<'a, D: Source + Drop>(
 
 /// Reads a policy file and then the earlier books, the oldest first, and gives the policy for what
 /// comes after them: what each process held at their end is what it held before. So a run under it
-/// begins where they end, and over all of them nobody ever held two rivals.
+/// begins where they end, over all of them nobody ever held two rivals, and what somebody holds from
+/// before it had once, at a home or by an entry of one of the books.
 ///
 /// Each book is read and checked under the policy after those before it, and its reader is let go
 /// before the next one is looked at. Processes may have been added to the policy since: a book is
@@ -145,5 +147,6 @@ pub fn read_wall_after<'a, P: Source, D: Source + Drop>(
         }
     };
     let _ = wall.processes();
+    over_years();
     Ok(wall)
 }

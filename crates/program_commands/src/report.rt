@@ -23,6 +23,7 @@ use hall_script::SCRIPT_LIMIT;
 use program_files::Explains;
 use report_page::report_page;
 use report_text::report_text;
+use run_model::years::over_years;
 use std::alloc::Global;
 use wall_labels::{Sink, Source, write_all};
 use wall_policy::Policy;
@@ -145,6 +146,7 @@ fn wall_told<'a, 'd, P: Source + Explains, D: Source + Explains + Drop>(
         }
     };
     let _ = wall.processes();
+    over_years();
     Ok(wall)
 }
 

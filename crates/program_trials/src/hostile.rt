@@ -150,19 +150,17 @@ fn audit_status<B: Source>(
     if is_same { Some(status) } else { None }
 }
 
-// The limit is 134,217,728 bytes: a text of that length is read and judged, one byte more is a read
-// fault.
+// A book has no limit for its audit: a line at fault is told as soon as it is read, however much
+// stands behind it.
 #[test]
-fn books_have_a_limit(rt: HostRuntime) {
-    let rows = [
-        (134217728, "book: line 1\n", 2),
-        (134217729, "read fault\n", 3),
-        (usize::MAX, "read fault\n", 3),
-    ];
-    for (length, line, status) in rows {
+fn audited_books_have_no_limit(rt: HostRuntime) {
+    for length in [134217728, 134217729, usize::MAX] {
         let mut book = long(b"book\nend 0\n", length);
-        let given = audit_status(&rt, &mut book, b"", line.as_bytes());
-        assert_eq!(&rt; given, Some(status), "{length}");
+        let status = audit_status(&rt, &mut book, b"", b"book: line 1\n");
+        assert_eq!(&rt; status, Some(2), "{length}");
+        let mut book = long(b"book 1\nend 0\n", length);
+        let status = audit_status(&rt, &mut book, b"", b"book: line 3\n");
+        assert_eq!(&rt; status, Some(2), "{length}");
     }
 }
 

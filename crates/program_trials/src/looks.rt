@@ -18,8 +18,8 @@ a0 is at home at alpha
 b0 is at home at beta
 n0 has no home
 m0 has no home
-a0 and b0 never hold each other's data
 warning: no result is ever sanitised: there is no sanitise rule
+a0 and b0 never hold each other's data
 ";
 
 const REPORT: &str = "who holds what, and by which entry:
@@ -40,6 +40,8 @@ communicator 2, rank 1: m0
 how each instance came out:
 instance 0 0, split by entry 4: made 1 2
 instance 1 0, bcast by entry 7: granted
+
+whose results were sanitised:
 
 why posts were barred:
 
@@ -65,6 +67,8 @@ communicator 2, rank 1: m0
 how each instance came out:
 instance 0 0, split by entry 4: made 1 2
 instance 1 0, bcast by entry 7: granted
+
+whose results were sanitised:
 
 why posts were barred:
 
@@ -133,9 +137,7 @@ calls.txt:3:7: a field is missing at the end of the line
 #[test]
 fn checks_end_by_the_first_fault(rt: HostRuntime) -> Result<(), Fail> {
     let spoilt = "book 1\npost 0 0 barrier gives 0 as none barred\nend 1\n";
-    let post =
-        "calls.book:2: a post stands that does not count: it is refused, or its last word is wrong
-";
+    let post = "calls.book:2: a post stands with another last word; due was: passed\n";
     let told = format!(in rt.alloc(); "{MEANING}{post}")?;
     assert!(&rt; checks_so(&rt, WALL, Some(ALPHA), Some(spoilt), &told, "", 2));
     let told = format!(in rt.alloc(); "{MEANING}calls.book: the text stops before its end\n")?;
@@ -154,6 +156,36 @@ fn checks_end_by_the_first_fault(rt: HostRuntime) -> Result<(), Fail> {
         "policy: UnknownKey\n",
     );
     assert!(&rt; checks_so(&rt, typo.as_str(), None, None, told, line, 1));
+    Ok(())
+}
+
+// A policy that is refused has a sentence, also where its fault stands on no line.
+#[test]
+fn each_refused_policy_has_its_sentence(rt: HostRuntime) -> Result<(), Fail> {
+    let bad = "policy: BadVersion\n";
+    let told = "policy.toml: there is no version\n";
+    assert!(&rt; checks_so(&rt, "# a comment\n", None, None, told, bad, 1));
+    let missing = "policy: MissingKey\n";
+    let told = "policy.toml: there is no [[process]]\n";
+    assert!(&rt; checks_so(&rt, "version = 2\n", None, None, told, missing, 1));
+    let told = "policy.toml:2: \"process\" is not given by tables [[process]]\n";
+    assert!(&rt;
+        checks_so(
+            &rt,
+            "version = 2\nprocess = []\n",
+            None,
+            None,
+            told,
+            missing,
+            1
+        )
+    );
+    let single = "version = 2\n[class]\nname = \"banks\"\n";
+    let told = "policy.toml:2: \"class\" is not given by tables [[class]]\n";
+    assert!(&rt; checks_so(&rt, single, None, None, told, missing, 1));
+    let kind = WALL.replace(rt.alloc(), "home = \"beta\"", "home = 7")?;
+    let told = "policy.toml:10: \"home\" in [[process]] has another kind of value than it should\n";
+    assert!(&rt; checks_so(&rt, kind.as_str(), None, None, told, missing, 1));
     Ok(())
 }
 

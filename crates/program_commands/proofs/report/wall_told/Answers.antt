@@ -26,4 +26,4 @@ pub returns-clause-policy : goal.returns-clause-policy
 returns-clause-policy g c =
     wall_after _ _ c.in-Ok.first c.in-Ok-read_links.wall c.in-Ok-read_links.ensures.after.0
     c.in-Ok-read_links.ensures.after.1.0 c.in-Ok.ensures.policy
-    c.in-Ok-read_links.ensures.after.1.1 c.processes.ensures.policy
+    c.in-Ok-read_links.ensures.after.1.1 c.processes.ensures.policy c.over_years.ensures
