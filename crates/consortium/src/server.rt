@@ -9,10 +9,9 @@ use crate::ended::{Ended, let_go, status_of};
 use crate::events::{Event, EventLines, Events};
 use crate::pipes::{Pipes, first_fault, pipes_in};
 use live_session::{Desk, Peer};
-use program_commands::{Ending, end, read_wall_after, refuse, serve_on};
-use program_files::{Count, FileSource, StreamSink};
-use program_line::{LivePaths, listed, texts};
-use std::alloc::Global;
+use program_commands::{Ending, end, refuse, serve_on};
+use program_files::{Count, StreamSink};
+use program_line::{LivePaths, served_policy};
 use std::io::{Stderr, Stdout};
 use std::marker::Brand;
 use std::sync::Wait;
@@ -54,7 +53,8 @@ where
         stream: err,
         failures: Count::<E>::new(told),
     };
-    let policy = match policy_at::<P>(rt.alloc(), files, paths, policy) {
+    let failures = Count::<P>::new(policy);
+    let policy = match served_policy(rt.alloc(), files, paths, failures) {
         Ok(policy) => policy,
         Err(ending) => return end(&mut err, ending),
     };
@@ -198,29 +198,4 @@ where
     O: Sink + Send + Drop,
 {
     let_go(serve_on::<_, _, _, _, BookFile<Brand>>(rt, rt.alloc(), policy, peers, err, None))
-}
-
-// Reads a policy file, and then the earlier books.
-fn policy_at<'a, L: Ledger>(
-    alloc: Global,
-    files: &'a HostRuntime,
-    paths: &'a LivePaths,
-    blank: Blank,
-) -> Result<Policy, Ending<'a>>
-    requires { Opens blank L.name L.parts }
-{
-    let mut source = FileSource {
-        rt: files,
-        path: &paths.policy,
-        file: None,
-        failures: Count::<L>::new(blank),
-        cause: None,
-    };
-    let Ok(after) = texts(alloc, &paths.after) else {
-        return Err(Ending::NoMemory);
-    };
-    let Ok(earlier) = listed(alloc, files, &after) else {
-        return Err(Ending::NoMemory);
-    };
-    read_wall_after(alloc, &mut source, earlier)
 }

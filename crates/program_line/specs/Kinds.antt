@@ -41,6 +41,17 @@ listed_kind = record {
   before = 0;
 }
 
+-- the kind of a file that is read, by what is known of the bytes that an opened file has to give: it
+-- counts on from so many failures
+abbrev pub source_kind : {F L File Dir : Type 0} → (remaining : File → Option (List ℕ))
+    → (before : ℕ) → FileKind (FileSource F L File Dir)
+source_kind remaining before = record {
+  failures = λ d. d.failures;
+  bytes = λ d. bytes_of remaining d.file;
+  unopened = λ d. path_unopened d.path.now d.file;
+  before = before;
+}
+
 -- The kinds over these files, by what is known of the bytes of an opened file, those that it still
 -- has to give and those that it was given: each device counts on from the count that is kept here
 -- for it.
@@ -49,19 +60,9 @@ abbrev pub kinds_of : {F P S B File Dir : Type 0} → (remaining contents : File
     → Kinds (FileSource F P File Dir) (ListedFile F File Dir) (FileSource F S File Dir)
     (FileSink F B File Dir) (NewFileSink F B File Dir)
 kinds_of remaining contents files = record {
-  policies = record {
-    failures = λ d. d.failures;
-    bytes = λ d. bytes_of remaining d.file;
-    unopened = λ d. path_unopened d.path.now d.file;
-    before = files.policy;
-  };
+  policies = source_kind remaining files.policy;
   listed = listed_kind;
-  seconds = record {
-    failures = λ d. d.failures;
-    bytes = λ d. bytes_of remaining d.file;
-    unopened = λ d. path_unopened d.path.now d.file;
-    before = files.second;
-  };
+  seconds = source_kind remaining files.second;
   books = record {
     failures = λ d. d.failures;
     bytes = λ d. bytes_of contents d.file;

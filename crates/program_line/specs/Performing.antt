@@ -21,7 +21,9 @@ use Rattle.program_line.specs.declared.commands.Performed.TheVariants as perform
 use Rattle.program_line.specs.Kinds.{FileKind, Kinds}
 use Rattle.program_line.specs.declared.serving.Outcome.{Outcome}
 use Rattle.program_line.specs.declared.serving.Outcome.TheVariants as outcomes
-use Rattle.program_commands.specs.Earlier.{EarlierBooks, earlier_books}
+use Rattle.wall_policy.specs.Policy.{ChineseWall}
+use Rattle.program_commands.specs.Earlier.{EarlierBooks, earlier_books, IsWallAfter}
+use Rattle.program_commands.specs.Earlier.{IsNoWallAfter}
 use Rattle.program_commands.specs.Continuing.{ReplayAfterEnds, RunAfterEnds, AuditAfterEnds}
 use Rattle.program_commands.specs.Sealing.{SealEnds}
 use Rattle.program_commands.specs.Reporting.{ReportEnds}
@@ -227,3 +229,20 @@ Settles (Ok (performs.ToServe paths)) err (outcomes.ToServe kept) =
 Settles (Err fault) err (outcomes.Ended served) =
     EndsSo (λ e. e ≡ refusal_ending fault) err served
 Settles outcome err settled = ⊥
+
+-- ---- a server
+
+-- the policy that a server goes by: what its policy file and the earlier books give
+abbrev pub IsServedPolicy : {P D : Type 0} → FileKind P → FileKind D → ServeFiles → ChineseWall
+    → Type 0
+IsServedPolicy policies listed files wall = (policy : FileUse policies files.policy)
+    × (earlier : EarlierUse listed files.after)
+    × IsWallAfter (used_file policies policy) (used_earlier listed earlier) wall
+
+-- they give none, and this is why; or memory ran out before
+abbrev pub IsNoServedPolicy : {P D : Type 0} → FileKind P → FileKind D → ServeFiles → Ending
+    → Type 0
+IsNoServedPolicy policies listed files ending = ((policy : FileUse policies files.policy)
+    × (earlier : EarlierUse listed files.after)
+    × IsNoWallAfter (used_file policies policy) (used_earlier listed earlier) ending)
+    ⊎ (ending ≡ NoMemory)

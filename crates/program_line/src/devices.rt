@@ -23,7 +23,7 @@ pub struct CountedFiles<'a, F: Files, P: Ledger, S: Ledger, B: Ledger> {
 
 /// Readers for earlier books at these paths, in order. Out of memory comes only where a growth was
 /// refused.
-pub fn listed<'a, F: Files>(
+pub(crate) fn listed<'a, F: Files>(
     alloc: Global,
     files: &'a F,
     paths: &[&'a str],

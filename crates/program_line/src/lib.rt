@@ -6,11 +6,13 @@
 mod commands;
 mod devices;
 mod looking;
+mod policy;
 mod serving;
 
 pub use commands::{LivePaths, Performed, perform};
-pub use devices::{CountedFiles, listed};
-pub use serving::{Blanks, Complaints, Outcome, Output, Served, serve, texts};
+pub use devices::CountedFiles;
+pub use policy::served_policy;
+pub use serving::{Blanks, Complaints, Outcome, Output, Served, serve};
 
 #[cfg(test)]
 mod cut_short_tests;

@@ -1,6 +1,5 @@
 //! Serves one command line of a system, over its files and streams.
-ghost use Rattle.std.specs.Prelude.{◌≡◌, IfOk, OnErr, List, map, drop, string_bytes};
-ghost use Rattle.clap.specs.Words.{Text};
+ghost use Rattle.std.specs.Prelude.{◌≡◌, IfOk, OnErr, map, drop, string_bytes};
 ghost use Rattle.std.specs.Vec.Iter.{into_iter_items};
 ghost use Rattle.std.specs.Process.{exit_status};
 ghost use Rattle.hall_script.specs.Devices.{used, IsUntouched};
@@ -92,6 +91,8 @@ pub enum Outcome {
 }
 
 /// Does what the command line asks for, and gives the status; or hands on that it is to serve live.
+/// That its words are those of the process no contract can say, since the system's call has none;
+/// which of them are done says that of `answered`.
 pub fn serve<R, F, W, V, P: Ledger, S: Ledger, B: Ledger, O: Ledger, E: Ledger>(
     rt: &R,
     system: &F,
@@ -135,16 +136,20 @@ where
         out: &mut out,
         err: &mut err,
     };
-    let outcome = answered(rt, files, streams);
+    let outcome = match env::args(&(system, rt.alloc())) {
+        Ok(args) => answered(rt, files, args, streams),
+        // Words that are no text are bad arguments.
+        Err(fault) => Err(ArgFault::from(fault)),
+    };
     settle(outcome, &mut err)
 }
 
-// Does what the words of the command line ask for, and gives the status. That they are the words
-// which the system was given, no contract can say: there are some that were done, and where they
-// cannot be read nothing is.
-fn answered<'a, R, F: Files + Env, P: Ledger, S: Ledger, B: Ledger, O: Sink, E: Sink>(
+// Does what the words behind the program's name ask for, and gives the status. Where memory runs out
+// for them nothing is done.
+fn answered<'a, R, F: Files, P: Ledger, S: Ledger, B: Ledger, O: Sink, E: Sink>(
     rt: &R,
     files: CountedFiles<'a, F, P, S, B>,
+    args: Args,
     streams: Streams<O, E>,
 ) -> Result<Performed, ArgFault>
 where
@@ -152,13 +157,13 @@ where
     ensures done { let kinds = kinds_of F.File.remaining F.File.contents files.entry in
         let outs = out_stream O.failures O.contents streams.entry streams.exit in
         let errs = err_stream E.failures E.contents streams.entry streams.exit in
-        IfOk result (λ performed. (words : List Text)
-        × Performs kinds (asked words) outs errs performed) }
+        let words = map (λ w. string_bytes w) (drop 1 (into_iter_items args)) in
+        IfOk result (Performs kinds (asked words) outs errs) }
     ensures refused { let outs = out_stream O.failures O.contents streams.entry streams.exit in
         let errs = err_stream E.failures E.contents streams.entry streams.exit in
         OnErr result (IsUntouched outs × IsUntouched errs) }
 {
-    let words = given_words(rt.alloc(), files.files)?;
+    let words = behind_the_name(rt.alloc(), args)?;
     let texts = texts(rt.alloc(), &words)?;
     Ok(perform(rt, files, &texts, streams))
 }
@@ -178,13 +183,6 @@ fn settle<E: Sink>(outcome: Result<Performed, ArgFault>, err: &mut E) -> Outcome
     }
 }
 
-// The words behind the program's name. Words that are no text are bad arguments.
-fn given_words<F: Env>(alloc: Global, system: &F) -> Result<Vec<String>, ArgFault> {
-    let args = env::args(&(system, alloc))?;
-    let words = behind_the_name(alloc, args)?;
-    Ok(words)
-}
-
 // All that the command line says but its first word, which is the program's name.
 fn behind_the_name(alloc: Global, mut args: Args) -> Result<Vec<String>, AllocError>
     ensures { IfOk result (λ words. words.items ≡ drop 1 (into_iter_items args)) }
@@ -198,7 +196,7 @@ fn behind_the_name(alloc: Global, mut args: Args) -> Result<Vec<String>, AllocEr
 }
 
 /// The words as they are, letter for letter. Out of memory comes only where a growth was refused.
-pub fn texts<'a>(alloc: Global, words: &'a [String]) -> Result<Vec<&'a str>, AllocError>
+pub(crate) fn texts<'a>(alloc: Global, words: &'a [String]) -> Result<Vec<&'a str>, AllocError>
     ensures { IfOk result (λ texts.
         map (λ t. t.now) texts.items ≡ map (λ w. string_bytes w) words.entry.now) }
 {

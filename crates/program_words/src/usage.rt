@@ -3,7 +3,7 @@ ghost use Rattle.std.specs.Prelude.{◌≡◌, option_map};
 ghost use Rattle.program_words.specs.Usage.{command_usage, usage_of};
 
 /// The program's name and version: the date of the newest changes in `CHANGELOG.md`.
-pub const VERSION: &str = "consortium 2026-11-28\n";
+pub const VERSION: &str = "consortium 2026-11-30\n";
 
 const PROGRAM: &str = "\
 usage: consortium COMMAND WORDS
