@@ -170,5 +170,96 @@ def denials_of_mpi4py(given):
     house.end()
 
 
-TESTS = [programs_of_mpi4py, denials_of_mpi4py, errors_can_be_sent, labels_bring_no_elements, arrays_are_elements, waits_are_interrupted,
-         threads_take_turns]
+def a_long_rank(house, name, label):
+    """What one of three ranks gets of arrays that are longer than a post."""
+    os.environ.update(CONSORTIUM_DIR=str(house.pipes), CONSORTIUM_PROCESS=name, CONSORTIUM_LABEL=label)
+    from consortium import MPI
+
+    comm, number = MPI.COMM_WORLD, 70001
+    rank, size = comm.rank, comm.size
+    given, room = array("q", range(size * number)), array("q", [-1] * (size * number))
+    part = array("q", [-1] * number)
+    comm.Bcast([room if rank else given, number, MPI.LONG])
+    found = [rank == 0 or room[:number] == given[:number] and room[number] == -1]
+    comm.Scatter(given, part, root=1)
+    found.append(part == given[rank * number:(rank + 1) * number])
+    request = comm.Iallreduce([given, number, MPI.LONG], [room, number, MPI.LONG])
+    barrier = comm.Ibarrier()
+    MPI.Request.Waitall([request, barrier])
+    found.append(room[number - 1] == size * (number - 1))
+    comm.Scan(MPI.IN_PLACE, part, MPI.MAX)
+    found.append(part == given[rank * number:(rank + 1) * number])
+    counts = [number, 3, number - 1]
+    comm.Reduce_scatter(given[:sum(counts)], part, counts)
+    first = sum(counts[:rank])
+    found.append(part[counts[rank] - 1] == size * (first + counts[rank] - 1) and part[0] == size * first)
+    found.append(comm.allreduce([1] * number) == [size] * number)
+    for call in (lambda: comm.Allgather([given, number, MPI.LONG], room),
+                 lambda: comm.Reduce_scatter(given, part, [2 * number, 1, number - 1])):
+        fault = raised(MPI.Exception, call)
+        found.append(fault.Get_error_class() == MPI.ERR_COUNT)
+    comm.Barrier()
+    MPI.Finalize()
+    return found
+
+
+def long_arrays_are_cut(given):
+    """Arrays longer than a post: cut where the root gives or what all give is reduced, else refused."""
+    house = House(given.program, neutral(3)).start()
+    told = all_results([Client(a_long_rank, house, name, "public") for name in house.names])
+    house.end()
+    want(told, [[True] * 8] * 3, "long arrays")
+
+
+def a_split_rank(house, name, label):
+    """What one of three ranks knows of those that it was split with."""
+    os.environ.update(CONSORTIUM_DIR=str(house.pipes), CONSORTIUM_PROCESS=name, CONSORTIUM_LABEL=label)
+    from consortium import MPI
+
+    world, own = MPI.COMM_WORLD, MPI.COMM_SELF
+    half = world.Split(world.rank > 0, -world.rank)
+    try:
+        found = [MPI.Group.Translate_ranks(half.group, list(range(half.size)), world.group)]
+    except MPI.Exception as fault:
+        found = [fault.Get_error_class() == MPI.ERR_UNSUPPORTED_OPERATION]
+    found.append(MPI.Comm.Compare(half, half.Dup()) == MPI.CONGRUENT)
+    turned = half.Create(half.group.Incl(range(half.size - 1, -1, -1)))
+    found.append(turned.rank == half.size - 1 - half.rank)
+    # Of this process alone, and by the server for nobody.
+    room = array("q", [0, 0])
+    own.Create_cart([1], [True]).Neighbor_alltoall(array("q", [7, 8]), room)
+    found += [room.tolist(), own.allreduce([world.rank]), own.Split().size,
+              MPI.Group.Translate_ranks(own.group, [0], world.group)]
+    # The request of one communicator may end before that of another.
+    twin, status = world.Dup(), MPI.Status()
+    if world.rank == 0:
+        requests = [twin.Ibarrier(), world.Ibarrier()]
+        found += [MPI.Request.Waitany(requests, status), status.Get_source() == MPI.ANY_SOURCE]
+        world.Barrier()
+    else:
+        world.Barrier()
+        world.Barrier()
+        requests = [twin.Ibarrier()]
+    found.append(MPI.Request.Waitall(requests))
+    MPI.Finalize()
+    return found
+
+
+def members_of_a_split(given):
+    """Who gives public data tells the others of a split who it is; the rest are strangers there."""
+    house = House(given.program, neutral(3)).start()
+    told = all_results([Client(a_split_rank, house, name, "public") for name in house.names])
+    house.end()
+    alone = [[[8, 7], [rank], 1, [rank]] for rank in range(3)]
+    want(told, [[[0], True, True, *alone[0], 1, True, True], [[2, 1], True, True, *alone[1], True],
+                [[2, 1], True, True, *alone[2], True]], "a split of public ranks")
+    firms = [("a0", "alpha"), ("b0", "beta"), ("c0", "gamma")]
+    house = House(given.program, firms, [["alpha", "beta", "gamma"]]).start()
+    told = all_results([Client(a_split_rank, house, name, label) for name, label in firms])
+    house.end()
+    want([found[:3] for found in told], [[[0], True, True], [True, True, True], [True, True, True]],
+         "a split of rivals")
+
+
+TESTS = [programs_of_mpi4py, denials_of_mpi4py, long_arrays_are_cut, members_of_a_split, errors_can_be_sent,
+         labels_bring_no_elements, arrays_are_elements, waits_are_interrupted, threads_take_turns]

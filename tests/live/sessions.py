@@ -8,8 +8,10 @@ import re
 import shutil
 import signal
 import subprocess
+from array import array
 
 from live import consortium
+from consortium import MPI
 from consortium.comms import Intracomm
 from live import EXAMPLES, GROUPS, SERVERS, TOP, Client, House, Raw, Wrong
 from live import a_folder, all_results, die_with_parent, neutral, want
@@ -187,17 +189,20 @@ def examples_of_the_client(given):
         told = []
         names = {name: getattr(consortium, name) for name in consortium.__all__}
         world = process.world
-        names.update(process=process, world=world, COMM=Intracomm(world, [0], 0, "alpha"))
+        other = House(given.program, neutral(1)).start()
+        names.update(process=process, world=world, COMM=Intracomm(world, [0], 0, "alpha"),
+                     spare=other.connect("p0"), MPI=MPI, array=array)
         runner = doctest.DocTestRunner(verbose=False)
         for part in pkgutil.iter_modules(consortium.__path__):
             module = importlib.import_module(f"consortium.{part.name}")
             for test in doctest.DocTestFinder().find(module, extraglobs=names):
                 runner.run(test, out=told.append)
         results = runner.summarize(verbose=False)
-    if results.failed or results.attempted < 60:
+    if results.failed or results.attempted < 350:
         raise Wrong(f"{results}: {''.join(told)}")
     house.end()
     house.audit()
+    other.end()
 
 
 class Counted(consortium.Process):

@@ -12,6 +12,7 @@ MPI_Count number_at(struct numbers numbers, int place) {
 
 int block_count(enum shape shape, MPI_Comm comm) {
     switch (shape) {
+    case WHOLE:
     case RANKS: return comm->size;
     case SLOTS: return comm->grid == NULL ? 0 : 2 * comm->grid->dimensions;
     default: return 1;
@@ -45,27 +46,29 @@ static struct region side_block(const struct side *side, int block) {
     return region;
 }
 
-/* What a member gives to a reduction whose result is scattered: a block for each rank. */
-static MPI_Count whole_count(const struct call *call) {
-    if (call->get.counts.at == NULL) {
-        return call->get.count * call->comm->size;
+/* What a member gives to a reduction whose result is scattered: for each rank a block, behind those
+ * for the ranks below it. */
+static struct region block_of_whole(const struct call *call, int block) {
+    const struct side *get = &call->get;
+    void *whole = is_in_place(&call->give) ? get->buffer : call->give.buffer;
+    struct region region = {whole, get->count, get->type};
+    if (get->counts.at == NULL) {
+        region.at += block * region.count * region.type->extent;
+        return region;
     }
-    MPI_Count whole = 0;
-    for (int rank = 0; rank < call->comm->size; rank++) {
-        whole += number_at(call->get.counts, rank);
+    for (int rank = 0; rank < block; rank++) {
+        region.at += number_at(get->counts, rank) * region.type->extent;
     }
-    return whole;
+    region.count = number_at(get->counts, block);
+    return region;
 }
 
 struct region given_block(const struct call *call, int block) {
-    const struct side *give = &call->give;
-    if (!is_in_place(give)) {
-        struct region region = side_block(give, block);
-        region.count = call->kind->gives == WHOLE ? whole_count(call) : region.count;
-        return region;
-    }
     if (call->kind->gives == WHOLE) {
-        return (struct region){call->get.buffer, whole_count(call), call->get.type};
+        return block_of_whole(call, block);
+    }
+    if (!is_in_place(&call->give)) {
+        return side_block(&call->give, block);
     }
     bool is_own = call->kind->gives == ONE && call->kind->gets == RANKS;
     return side_block(&call->get, is_own ? call->comm->rank : block);
@@ -115,7 +118,7 @@ static int side_check(const struct call *call, const struct side *side, enum sha
         return in_place_check(call, side);
     }
     bool is_list = side->counts.at != NULL;
-    int blocks = call->kind->gives == WHOLE ? call->comm->size : block_count(shape, call->comm);
+    int blocks = block_count(call->kind->gives == WHOLE ? WHOLE : shape, call->comm);
     if (!is_list && side->count < 0) {
         return MPI_ERR_COUNT;
     }

@@ -21,6 +21,15 @@ struct region gotten_block(const struct call *call, int block);
  * block has a type of its own, all travel as int64. */
 enum element wire_element(const struct call *call);
 MPI_Count region_count(const struct call *call, struct region region);
+
+/* Into how many pieces a call is cut, so that none gives more than one post can: 0 where it gives
+ * more, and is not cut. */
+MPI_Count piece_count(const struct call *call);
+/* The numbers of a region that are in the piece at hand: how many, and how many are before them. */
+struct part {
+    MPI_Count first, count;
+};
+struct part region_part(const struct call *call, struct region region);
 /* Whether all arguments are as MPI wants them: an error class. */
 int call_check(const struct call *call);
 

@@ -19,29 +19,27 @@ static MPI_Count given_numbers(const struct call *call) {
     if (takes_part(call->kind->giver, call)) {
         int blocks = block_count(call->kind->gives, call->comm);
         for (int block = 0; block < blocks; block++) {
-            numbers += region_count(call, given_block(call, block));
+            numbers += region_part(call, given_block(call, block)).count;
         }
     }
     return numbers;
 }
 
 static bool add_counts(const struct call *call) {
-    bool is_whole = call->kind->gives == WHOLE;
-    int blocks = is_whole ? call->comm->size : block_count(call->kind->gives, call->comm);
+    int blocks = block_count(call->kind->gives, call->comm);
     if (!takes_part(call->kind->giver, call) || blocks == 0) {
         return text_add(&out, " -");
     }
     bool is_good = true;
     for (int block = 0; block < blocks; block++) {
-        struct region region = is_whole ? gotten_block(call, 0) : given_block(call, block);
-        region.count = is_whole ? number_at(call->get.counts, block) : region.count;
-        is_good &= text_add(&out, "%c%lld", block > 0 ? ',' : ' ', region_count(call, region));
+        MPI_Count count = region_part(call, given_block(call, block)).count;
+        is_good &= text_add(&out, "%c%lld", block > 0 ? ',' : ' ', count);
     }
     return is_good;
 }
 
 static bool add_field(const struct call *call, enum field field) {
-    bool is_given = takes_part(call->kind->giver, call) && call->kind->gives != WHOLE;
+    bool is_given = takes_part(call->kind->giver, call);
     switch (field) {
     case FIELD_ROOT: return text_add(&out, " %d", call->root);
     case FIELD_OP: return text_add(&out, " %s", call->op->name);
@@ -49,19 +47,30 @@ static bool add_field(const struct call *call, enum field field) {
     case FIELD_COUNTS: return add_counts(call);
     case FIELD_COUNT: {
         struct region region = is_given ? given_block(call, 0) : gotten_block(call, 0);
-        return text_add(&out, " %lld", region_count(call, region));
+        return text_add(&out, " %lld", region_part(call, region).count);
     }
     default: return true;
     }
 }
 
-static void write_region(struct region region, enum element wire) {
+/* Where the piece at hand has its elements in a region. A region of which all has a type of its own
+ * travels in one piece. */
+static struct place piece_of(const struct call *call, struct region region) {
+    struct part part = region_part(call, region);
     struct place place = place_first(region.at, region.count, region.type);
+    if (call->pieces > 1) {
+        place_cut(&place, part.first, part.count);
+    }
+    return place;
+}
+
+static void write_region(const struct call *call, struct region region) {
+    struct place place = piece_of(call, region);
     const struct run *run;
     MPI_Count count;
     char *to = out.bytes + out.length;
     for (char *at; (at = place_span(&place, &run, &count)) != NULL;) {
-        to = span_write(run, at, count, wire, to);
+        to = span_write(run, at, count, wire_element(call), to);
     }
     out.length = (size_t)(to - out.bytes);
 }
@@ -85,7 +94,7 @@ static int add_line(const struct call *call) {
         is_good = text_add(&out, " as %s", label_of_process()) && reserve_numbers(numbers);
         for (int block = 0; is_good && block < block_count(call->kind->gives, call->comm);
              block++) {
-            write_region(given_block(call, block), wire_element(call));
+            write_region(call, given_block(call, block));
         }
     }
     return is_good && text_add(&out, "\n") ? MPI_SUCCESS : MPI_ERR_NO_MEM;
@@ -108,7 +117,7 @@ static int add_own_delivery(const struct call *call) {
         }
         text_add(&out, " [");
         size_t start = out.length;
-        write_region(given_block(call, kind->gives == SLOTS ? block ^ 1 : 0), wire_element(call));
+        write_region(call, given_block(call, kind->gives == SLOTS ? block ^ 1 : 0));
         if (out.length > start) {
             memmove(out.bytes + start, out.bytes + start + 1, out.length - start - 1);
             out.length--;
@@ -118,8 +127,9 @@ static int add_own_delivery(const struct call *call) {
     return MPI_SUCCESS;
 }
 
-static int read_region(struct blocks *blocks, struct region region, enum element wire) {
-    struct place place = place_first(region.at, region.count, region.type);
+static int read_region(struct blocks *blocks, const struct call *call, struct region region) {
+    enum element wire = wire_element(call);
+    struct place place = piece_of(call, region);
     const struct run *run;
     MPI_Count count;
     int64_t value;
@@ -153,25 +163,30 @@ static int read_blocks(const struct call *call, const struct reply *reply) {
         if (place >= most) {
             return MPI_ERR_INTERN;
         }
-        int code = read_region(&blocks, gotten_block(call, place), wire_element(call));
+        int code = read_region(&blocks, call, gotten_block(call, place));
         if (code != MPI_SUCCESS) {
             return code;
         }
     }
 }
 
-void call_settle(struct ompi_request_t *request, const struct reply *reply) {
-    request->state = REQUEST_DONE;
+static int outcome(struct ompi_request_t *request, const struct reply *reply) {
     if (reply->answer == DELIVERED) {
-        request->error =
-            request->call.kind == NULL ? MPI_ERR_INTERN : read_blocks(&request->call, reply);
-    } else if (reply->answer == NEW_COMM || reply->answer == NULL_COMM) {
-        request->error = request->made == NULL ? MPI_ERR_INTERN : comm_settle(request, reply);
-    } else {
-        request->error = class_of_reply(reply);
-        if (reply->answer == PENDING) {
-            request->state = REQUEST_POSTED; /* it may still come */
-        }
+        return request->call.kind == NULL ? MPI_ERR_INTERN : read_blocks(&request->call, reply);
+    }
+    if (reply->answer == NEW_COMM || reply->answer == NULL_COMM) {
+        return request->made == NULL ? MPI_ERR_INTERN : comm_settle(request, reply);
+    }
+    return class_of_reply(reply);
+}
+
+void call_settle(struct ompi_request_t *request, const struct reply *reply) {
+    int code = outcome(request, reply);
+    request->error = request->error == MPI_SUCCESS ? code : request->error;
+    if (reply->answer != PENDING) { /* that may still come */
+        request->call.piece++;
+        bool is_last = request->call.piece >= request->posted;
+        request->state = is_last ? REQUEST_DONE : REQUEST_POSTED;
     }
 }
 
@@ -190,33 +205,58 @@ static int posted(struct ompi_request_t *request, const struct reply *reply) {
     if (reply->answer != POSTED && reply->answer != BARRED) {
         return class_of_reply(reply);
     }
-    request->number = reply->request;
+    request->number = request->posted == 0 ? reply->request : request->number;
+    request->posted++;
     request->state = REQUEST_POSTED;
     session_count_request();
     return MPI_SUCCESS;
 }
 
-/* Writes the line of a call, or settles it where the server knows nothing of its communicator. */
+/* Checks a call and cuts it, or settles it where the server knows nothing of its communicator. */
 static int prepare(struct ompi_request_t *request) {
-    int code = call_check(&request->call);
+    struct call *call = &request->call;
+    request->state = REQUEST_IDLE;
+    request->posted = call->piece = call->pieces = 0;
+    int code = call_check(call);
     if (code != MPI_SUCCESS) {
         return code;
     }
-    return request->call.comm->is_local ? settle_own(request) : add_line(&request->call);
+    if (call->comm->is_local) {
+        return settle_own(request);
+    }
+    call->pieces = piece_count(call);
+    return call->pieces > 0 ? MPI_SUCCESS : MPI_ERR_COUNT;
 }
 
-int call_post(struct ompi_request_t *request) {
+static int post_piece(struct ompi_request_t *request) {
     struct reply reply;
-    request->state = REQUEST_IDLE;
-    int code = prepare(request);
-    if (code != MPI_SUCCESS || request->state == REQUEST_DONE) {
-        return code;
+    int code = add_line(&request->call);
+    if (code == MPI_SUCCESS) {
+        code = session_write(out.bytes, out.length);
     }
-    code = session_write(out.bytes, out.length);
     if (code == MPI_SUCCESS) {
         code = session_read(&reply);
     }
     return code == MPI_SUCCESS ? posted(request, &reply) : code;
+}
+
+/* All pieces are posted at once, in front of what is posted later. What keeps a later one from being
+ * posted is told when those before it have ended. */
+int call_post(struct ompi_request_t *request) {
+    struct call *call = &request->call;
+    int code = prepare(request);
+    if (code == MPI_SUCCESS && call->pieces > MOST_REQUESTS) {
+        code = MPI_ERR_NO_SPACE;
+    }
+    for (; code == MPI_SUCCESS && call->piece < call->pieces; call->piece++) {
+        code = post_piece(request);
+    }
+    call->piece = 0;
+    if (request->posted > 0) {
+        request->error = code;
+        code = MPI_SUCCESS;
+    }
+    return code;
 }
 
 int line_post(struct ompi_request_t *request, const char *line) {
@@ -227,31 +267,37 @@ int line_post(struct ompi_request_t *request, const char *line) {
 
 /* The post and the wait go out together, since the number of the request is known. Where the post
  * is refused there is no such request, and both are. */
-static int post_and_wait(struct ompi_request_t *request) {
-    struct reply reply;
+static int post_and_wait(struct ompi_request_t *request, struct reply *reply) {
+    int code = add_line(&request->call);
+    if (code != MPI_SUCCESS) {
+        return code;
+    }
     if (!text_add(&out, "wait %llu\n", (unsigned long long)session_next_request())) {
         return MPI_ERR_NO_MEM;
     }
-    int code = session_write(out.bytes, out.length);
+    code = session_write(out.bytes, out.length);
     if (code == MPI_SUCCESS) {
-        code = session_read(&reply);
+        code = session_read(reply);
     }
     if (code != MPI_SUCCESS) {
         return code;
     }
-    code = posted(request, &reply);
-    int second = session_read(&reply);
+    code = posted(request, reply);
+    int second = session_read(reply);
     if (code == MPI_SUCCESS && second == MPI_SUCCESS) {
-        call_settle(request, &reply);
+        call_settle(request, reply);
     }
     return code == MPI_SUCCESS ? second : code;
 }
 
+/* One piece after the other, until one is not delivered, which all members are told alike. */
 int blocking(struct call *call, const char *function) {
     struct ompi_request_t request = {.call = *call};
+    struct reply reply = {.answer = DELIVERED};
     int code = prepare(&request);
-    if (code == MPI_SUCCESS && request.state == REQUEST_IDLE) {
-        code = post_and_wait(&request);
+    while (code == MPI_SUCCESS && request.call.piece < request.call.pieces &&
+           reply.answer == DELIVERED) {
+        code = post_and_wait(&request, &reply);
     }
     return raised(call->comm, code == MPI_SUCCESS ? request.error : code, function);
 }

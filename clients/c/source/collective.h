@@ -40,6 +40,7 @@ struct call {
     MPI_Op op;
     int root;
     MPI_Comm comm;
+    MPI_Count piece, pieces; /* where it is cut: which piece of how many is at hand */
 };
 
 /* What a constructor's communicator will be. */
@@ -52,8 +53,9 @@ struct plan {
 struct ompi_request_t {
     enum { REQUEST_IDLE, REQUEST_POSTED, REQUEST_DONE } state;
     bool is_persistent;
-    uint64_t number;
-    int error; /* of the outcome, once it is done */
+    uint64_t number;  /* of the first piece; the others' follow */
+    MPI_Count posted; /* pieces of a call, or 1 */
+    int error;        /* of the outcome, once it is done */
     /* What the outcome is for: a collective, or where `made` is given a communicator. */
     struct call call;
     MPI_Comm *made;
@@ -64,7 +66,7 @@ struct ompi_request_t {
 int call_post(struct ompi_request_t *request);
 /* Posts a constructor, whose line is given. */
 int line_post(struct ompi_request_t *request, const char *line);
-/* Takes the outcome from a reply. */
+/* Takes the outcome of the next piece from a reply. */
 void call_settle(struct ompi_request_t *request, const struct reply *reply);
 
 /* The three forms that a function can have. */

@@ -8,7 +8,7 @@
 
 #include "mpi.h"
 
-enum { MOST_MEMBERS = 256, MOST_ELEMENTS = 65536 };
+enum { MOST_MEMBERS = 256, MOST_ELEMENTS = 65536, MOST_REQUESTS = 256 };
 
 /* What an element is, as docs/KINDS.md names it. OPAQUE is for types that only have a size. */
 enum element { OPAQUE, INT8, INT16, INT32, INT64, UINT8, UINT16, UINT32, UINT64, PAIR };

@@ -107,20 +107,20 @@ int MPI_Request_free(MPI_Request *request) {
     return MPI_SUCCESS;
 }
 
-/* Asks the server for the outcome, by a take or a wait. */
+/* Asks the server for the outcome of each piece, by a take or a wait. */
 static int ask(MPI_Request request, const char *verb) {
     struct reply reply;
-    if (request->state != REQUEST_POSTED) {
-        return MPI_SUCCESS;
-    }
-    int code = session_ask(&reply, "%s %llu", verb, (unsigned long long)request->number);
-    if (code != MPI_SUCCESS) {
-        request->state = REQUEST_DONE;
-        request->error = code;
-    } else if (reply.answer == PENDING) {
-        return MPIX_ERR_STUCK;
-    } else {
-        call_settle(request, &reply);
+    while (request->state == REQUEST_POSTED) {
+        uint64_t number = request->number + (uint64_t)request->call.piece;
+        int code = session_ask(&reply, "%s %llu", verb, (unsigned long long)number);
+        if (code != MPI_SUCCESS) {
+            request->state = REQUEST_DONE;
+            request->error = code;
+        } else if (reply.answer == PENDING) {
+            return MPIX_ERR_STUCK;
+        } else {
+            call_settle(request, &reply);
+        }
     }
     return MPI_SUCCESS;
 }
@@ -241,9 +241,26 @@ static int first_done(int count, MPI_Request *requests, int *left) {
     return MPI_UNDEFINED;
 }
 
-/* Until one of the requests is done. One that is alone is waited for; of several any may be the
- * first, and the server can wait for one only, so they are looked at after longer and longer
- * sleeps. */
+/* The one that is done first: where all are of one communicator, the one that was posted first, since
+ * each member posts its collectives in the same order. MPI_UNDEFINED where they are of several. */
+static int first_to_end(int count, MPI_Request *requests) {
+    int first = MPI_UNDEFINED;
+    for (int i = 0; i < count; i++) {
+        if (!is_active(requests[i])) {
+            continue;
+        }
+        if (first != MPI_UNDEFINED && requests[i]->call.comm != requests[first]->call.comm) {
+            return MPI_UNDEFINED;
+        }
+        if (first == MPI_UNDEFINED || requests[i]->number < requests[first]->number) {
+            first = i;
+        }
+    }
+    return first;
+}
+
+/* Until one of the requests is done. The server can wait for one only, so where any may be the first
+ * they are looked at after longer and longer sleeps. */
 static int wait_for_one(int count, MPI_Request *requests, int *index) {
     long sleep = SHORTEST_SLEEP;
     for (int left;; sleep = 2 * sleep < LONGEST_SLEEP ? 2 * sleep : LONGEST_SLEEP) {
@@ -251,11 +268,9 @@ static int wait_for_one(int count, MPI_Request *requests, int *index) {
         if (*index != MPI_UNDEFINED || left == 0) {
             return MPI_SUCCESS;
         }
-        for (int i = 0; left == 1 && i < count; i++) {
-            if (is_active(requests[i])) {
-                *index = i;
-                return ask(requests[i], "wait");
-            }
+        *index = first_to_end(count, requests);
+        if (*index != MPI_UNDEFINED) {
+            return ask(requests[*index], "wait");
         }
         nanosleep(&(struct timespec){0, sleep}, NULL);
     }

@@ -23,10 +23,18 @@ void type_release(MPI_Datatype type) {
 }
 
 struct place place_first(void *buffer, MPI_Count count, MPI_Datatype type) {
-    return (struct place){buffer, type->elements > 0 ? count : 0, type, 0};
+    return (struct place){buffer, type->elements > 0 ? count : 0, type, 0, 0, -1};
 }
 
-char *place_span(struct place *place, const struct run **run, MPI_Count *count) {
+void place_cut(struct place *place, MPI_Count first, MPI_Count most) {
+    MPI_Count items = place->left > 0 ? first / place->type->elements : 0;
+    place->item += items * place->type->extent;
+    place->left -= items;
+    place->skipped = first - items * place->type->elements;
+    place->most = most;
+}
+
+static char *next_span(struct place *place, const struct run **run, MPI_Count *count) {
     if (place->left <= 0) {
         return NULL;
     }
@@ -41,6 +49,24 @@ char *place_span(struct place *place, const struct run **run, MPI_Count *count) 
         place->run = 0;
         place->item += type->extent;
         place->left--;
+    }
+    return at;
+}
+
+char *place_span(struct place *place, const struct run **run, MPI_Count *count) {
+    char *at = next_span(place, run, count);
+    for (; at != NULL && *count <= place->skipped; at = next_span(place, run, count)) {
+        place->skipped -= *count;
+    }
+    if (at == NULL || place->most == 0) {
+        return NULL;
+    }
+    at += place->skipped * (*run)->width;
+    *count -= place->skipped;
+    place->skipped = 0;
+    if (place->most > 0) {
+        *count = *count < place->most ? *count : place->most;
+        place->most -= *count;
     }
     return at;
 }

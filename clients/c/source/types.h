@@ -14,8 +14,11 @@ struct place {
     MPI_Count left; /* items that are still to come, this one included */
     MPI_Datatype type;
     size_t run;
+    MPI_Count skipped, most; /* elements that are passed over first, and how many come at most */
 };
 struct place place_first(void *buffer, MPI_Count count, MPI_Datatype type);
+/* Cuts a first place to `most` elements from the element `first` on. */
+void place_cut(struct place *place, MPI_Count first, MPI_Count most);
 /* The next elements that stand one behind the other: how many, and the run that they are of. NULL
  * behind the last. */
 char *place_span(struct place *place, const struct run **run, MPI_Count *count);

@@ -10,6 +10,14 @@
 
 enum { ROOM = 1 << 16, MOST_COMMS = 8, MOST_TESTED = 64 };
 
+/* MPICH is asked for values; its errors, and what it tells of types, are its own. Where 4.0.2 does
+ * otherwise than MPI says, the cases pass over it. */
+#ifdef MPICH_NAME
+enum { IS_MPICH = 1 };
+#else
+enum { IS_MPICH = 0 };
+#endif
+
 /* Numbers that are the same in all processes, but where `rank` goes into them. */
 struct dice {
     uint64_t state;
@@ -29,10 +37,14 @@ struct form form_of(MPI_Datatype base, struct dice *dice);
 void form_drop(struct form *form);
 /* An operation that the type takes, or MPI_OP_NULL. */
 MPI_Op operation(MPI_Datatype base, struct dice *dice);
+int has_no_sign(MPI_Datatype base);
 
 /* Fills a buffer, with 0 and 1 for booleans, and tells what is in it. */
 void fill(void *buffer, size_t size, uint64_t seed, MPI_Datatype base);
 void tell(const char *what, const void *buffer, size_t size);
+
+/* A rank, or -2 for MPI_PROC_NULL, whose number is each library's own. */
+int shown_rank(int rank);
 
 /* The kinds of cases. Each is given a communicator that this process is in. */
 void try_collective(MPI_Comm comm, struct dice dice);

@@ -82,6 +82,18 @@ MPI_Op operation(MPI_Datatype base, struct dice *dice) {
     return base == MPI_BYTE ? OPS[7 + throw(dice, 3)] : OPS[throw(dice, 10)];
 }
 
+int has_no_sign(MPI_Datatype base) {
+    const MPI_Datatype TYPES[] = {
+        MPI_UNSIGNED, MPI_UNSIGNED_SHORT, MPI_UNSIGNED_CHAR, MPI_UNSIGNED_LONG_LONG,
+        MPI_UINT8_T,  MPI_UINT16_T,       MPI_UINT32_T,      MPI_UINT64_T,
+    };
+    int found = 0;
+    for (int i = 0; i < (int)(sizeof TYPES / sizeof *TYPES); i++) {
+        found |= TYPES[i] == base;
+    }
+    return found;
+}
+
 void fill(void *buffer, size_t size, uint64_t seed, MPI_Datatype base) {
     bool is_small = mixed(seed, 77) % 2;
     for (size_t i = 0; i < size; i++) {
@@ -90,6 +102,8 @@ void fill(void *buffer, size_t size, uint64_t seed, MPI_Datatype base) {
             (unsigned char)(base == MPI_C_BOOL || is_small ? value % 2 : value);
     }
 }
+
+int shown_rank(int rank) { return rank == MPI_PROC_NULL ? -2 : rank; }
 
 void tell(const char *what, const void *buffer, size_t size) {
     uint64_t sum = 1469598103934665603u;

@@ -67,7 +67,7 @@ void try_groups(MPI_Comm comm, struct dice dice) {
     MPI_Group_size(all, &size);
     ranks[0] = throw(&dice, size);
     MPI_Group_translate_ranks(all, 2, ranks, world, found);
-    printf(" world %d %d", found[0], found[1]);
+    printf(" world %d %d", found[0], shown_rank(found[1]));
     MPI_Group_free(&world);
     MPI_Group_free(&one);
     MPI_Group_free(&other);
@@ -81,13 +81,19 @@ void try_grid(MPI_Comm comm, struct dice dice) {
     if (throw(&dice, 3) == 0) {
         sides[throw(&dice, dimensions)] = 1 + throw(&dice, 3);
     }
+    for (int d = 0; IS_MPICH && d < dimensions; d++) {
+        if (sides[d] > 0 && (nodes % sides[d] != 0 || (dimensions == 1 && sides[d] != nodes))) {
+            printf("passed over"); /* there it is no error */
+            return;
+        }
+    }
     code = MPI_Dims_create(nodes, dimensions, sides);
     printf("grid dims %d", code == MPI_SUCCESS);
     for (int d = 0; code == MPI_SUCCESS && d < dimensions; d++) {
         printf(" %d", sides[d]);
     }
     MPI_Topo_test(comm, &status);
-    printf(" topology %d", status);
+    printf(" topology %d", status == MPI_CART ? 1 : status);
     if (status != MPI_CART) {
         return;
     }
@@ -99,7 +105,8 @@ void try_grid(MPI_Comm comm, struct dice dice) {
     printf(" rank %d", rank);
     for (int d = 0; d < count; d++) {
         MPI_Cart_shift(comm, d, throw(&dice, 7) - 3, &source, &target);
-        printf(" (%d %d %d: %d %d)", made[d], is_periodic[d], at[d], source, target);
+        printf(" (%d %d %d: %d %d)", made[d], is_periodic[d], at[d], shown_rank(source),
+               shown_rank(target));
     }
     other = throw(&dice, size);
     MPI_Cart_coords(comm, other, count, at);

@@ -7,7 +7,7 @@
 
 int LLVMFuzzerTestOneInput(const uint8_t *data, size_t size);
 
-/* The rest of the input is a line; its first byte says which call it answers. */
+/* The rest of the input is a line; its first byte says which call it answers, or which piece of it. */
 int LLVMFuzzerTestOneInput(const uint8_t *data, size_t size) {
     static const struct kind KINDS[] = {
         {"allgather", ALL, ONE, ALL, RANKS, {FIELD_TYPE, FIELD_COUNT}},
@@ -29,8 +29,12 @@ int LLVMFuzzerTestOneInput(const uint8_t *data, size_t size) {
     request.call.kind = &KINDS[data[0] / 4 % 3];
     request.call.get = (struct side){.buffer = room, .count = 2, .type = type};
     request.call.give = request.call.get;
+    request.call.pieces = request.posted = data[0] / 12 % 3;
     reply_read(line, size - 1, &reply);
     call_settle(&request, &reply);
+    if (request.state == REQUEST_POSTED && request.call.piece > 0) {
+        call_settle(&request, &reply);
+    }
     free(room);
     free(line);
     return 0;

@@ -104,7 +104,7 @@ static void refusals(void) {
     double one = 1, two;
     char text[MPI_MAX_ERROR_STRING];
     int length;
-    CHECK(MPI_Bcast(many, 65537, MPI_INT, 0, MPI_COMM_WORLD) == MPI_ERR_COUNT);
+    CHECK(MPI_Bcast(many, 65537, MPI_INT, 0, MPI_COMM_WORLD) == MPI_SUCCESS);
     CHECK(MPI_Bcast(many, 65536, MPI_INT, 0, MPI_COMM_WORLD) == MPI_SUCCESS);
     CHECK(MPI_Allreduce(&one, &two, 1, MPI_DOUBLE, MPI_SUM, MPI_COMM_WORLD) == MPI_ERR_TYPE);
     CHECK(MPI_Send(many, 1, MPI_INT, 0, 0, MPI_COMM_WORLD) == MPI_ERR_UNSUPPORTED_OPERATION);
@@ -168,14 +168,43 @@ static void places(void) {
     MPI_Comm_free(&comms[1]);
 }
 
+/* In place, each pair of ranks trades as many numbers of a type of its own: 1 + both ranks. */
+static void traded(void) {
+    const MPI_Datatype TYPES[] = {MPI_SHORT, MPI_INT, MPI_UNSIGNED_CHAR, MPI_LONG, MPI_SIGNED_CHAR};
+    MPI_Datatype types[3];
+    MPI_Request request;
+    int counts[3], places[3], size_of_one, length;
+    char room[3 * 64];
+    for (int other = 0; other < 3; other++) {
+        types[other] = TYPES[rank + other];
+        counts[other] = 1 + rank + other;
+        places[other] = 64 * other;
+        memset(room + places[other], 10 * rank + other, 64);
+    }
+    CHECK(MPI_Ialltoallw(MPI_IN_PLACE, NULL, NULL, NULL, room, counts, places, types,
+                         MPI_COMM_WORLD, &request) == MPI_SUCCESS);
+    CHECK(MPI_Wait(&request, MPI_STATUS_IGNORE) == MPI_SUCCESS);
+    for (int other = 0; other < 3; other++) {
+        MPI_Type_size(types[other], &size_of_one);
+        length = counts[other] * size_of_one;
+        CHECK(room[64 * other] == 10 * other + rank);
+        CHECK(room[64 * other + length - 1] == 10 * other + rank);
+        CHECK(room[64 * other + length] == 10 * rank + other);
+    }
+}
+
 /* The last member leaves, and so nobody can end this wait. */
 static void stuck(void) {
     if (rank != 0) {
         return;
     }
     char text[MPI_MAX_ERROR_STRING];
-    int length;
+    int length, index;
+    MPI_Request requests[2];
     CHECK(MPI_Barrier(MPI_COMM_WORLD) == MPIX_ERR_STUCK);
+    MPI_Ibarrier(MPI_COMM_WORLD, &requests[1]);
+    MPI_Ibarrier(MPI_COMM_WORLD, &requests[0]);
+    CHECK(MPI_Waitany(2, requests, &index, MPI_STATUS_IGNORE) == MPIX_ERR_STUCK && index == 1);
     MPI_Error_string(MPIX_ERR_STUCK, text, &length);
     CHECK(strncmp(text, "stuck", 5) == 0);
 }
@@ -196,6 +225,7 @@ int main(int count, char **words) {
     refusals();
     alone();
     places();
+    traded();
     stuck();
     MPI_Finalize();
     CHECK(MPI_Finalized(&flag) == MPI_SUCCESS && flag);

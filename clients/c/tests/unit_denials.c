@@ -42,6 +42,24 @@ static void denials(void) {
     CHECK(label[4] == '0' + rank);
 }
 
+/* An array that is cut is denied at its first piece, and nothing has moved; a sanitised sum of it is
+ * delivered. */
+static void long_arrays(void) {
+    enum { LONG = 70000 };
+    static int given[LONG], gotten[LONG];
+    MPI_Request request;
+    for (int i = 0; i < LONG; i++) {
+        given[i] = rank == 0 ? i : -1;
+    }
+    CHECK(MPI_Bcast(given, LONG, MPI_INT, 0, MPI_COMM_WORLD) == MPIX_ERR_DENIED);
+    CHECK(given[LONG - 1] == (rank == 0 ? LONG - 1 : -1) && is_denial("simple", "p1", "firm0"));
+    CHECK(MPI_Ibcast(given, LONG, MPI_INT, 0, MPI_COMM_WORLD, &request) == MPI_SUCCESS);
+    CHECK(MPI_Wait(&request, MPI_STATUS_IGNORE) == MPIX_ERR_DENIED);
+    CHECK(given[0] == (rank == 0 ? 0 : -1) && request == MPI_REQUEST_NULL);
+    CHECK(MPI_Allreduce(given, gotten, LONG, MPI_INT, MPI_SUM, MPI_COMM_WORLD) == MPI_SUCCESS);
+    CHECK(gotten[0] == -2 && gotten[LONG - 1] == LONG - 3);
+}
+
 /* Who is in a communicator that a split made, nobody tells; all else can be done with it. */
 static void splits(void) {
     MPI_Comm half, again;
@@ -80,6 +98,7 @@ int main(void) {
     MPI_Comm_set_errhandler(MPI_COMM_WORLD, MPI_ERRORS_RETURN);
     MPI_Comm_rank(MPI_COMM_WORLD, &rank);
     denials();
+    long_arrays();
     splits();
     MPI_Finalize();
     return checks_end();

@@ -23,16 +23,17 @@ from typing import List, Optional, Sequence
 
 from . import buffers as _buffers
 from . import comm as _thin
+from .alone import Alone as _Alone
 from .buffers import (INT8_T, INT16_T, INT32_T, INT64_T, TWOINT, UINT8_T, UINT16_T, UINT32_T,
                       UINT64_T, Datatype)
 from .buffers import Exception_ as Exception
 from .collectives import (BAND, BOR, BXOR, IN_PLACE, LAND, LOR, LXOR, MAX, MAXLOC, MIN, MINLOC,
                           PROD, SUM, Op)
-from .comms import CART, COMM_NULL, Cartcomm, Comm, Intracomm
+from .comms import CART, COMM_NULL, COMM_TYPE_SHARED, Cartcomm, Comm, Intracomm
 from .errors import Gone
 from .groups import CONGRUENT, IDENT, PROC_NULL, SIMILAR, UNDEFINED, UNEQUAL, Group
 from .process import Process
-from .requests import DeniedException, Prequest, Request, Status
+from .requests import ANY_SOURCE, ANY_TAG, DeniedException, Prequest, Request, Status
 
 SIGNED_CHAR = CHAR = INT8_T
 SHORT, INT, LONG, LONG_LONG = INT16_T, INT32_T, INT64_T, INT64_T
@@ -52,8 +53,8 @@ ROOT = -4
 _process: Optional[Process] = None
 
 
-class _World(Intracomm):
-    """The communicator of all processes. Its first use opens the pipes."""
+class _Begun(Intracomm):
+    """A communicator that is there from the start. Its first use opens the pipes."""
 
     @property
     def thin(self) -> _thin.Comm:
@@ -65,11 +66,18 @@ class _World(Intracomm):
         return True
 
 
-COMM_WORLD = _World(None, None)
+COMM_WORLD, COMM_SELF = _Begun(None, []), _Begun(None, [])
 
 
 def Init() -> None:
-    """Opens the pipes of the process that the environment names."""
+    """Opens the pipes of the process that the environment names.
+
+    >>> try:
+    ...     MPI.Init()
+    ... except MPI.Exception as error:    # the environment names no process
+    ...     print(error.Get_error_class() == MPI.ERR_OTHER)
+    True
+    """
     global _process
     if _process is not None:
         return
@@ -82,16 +90,24 @@ def Init() -> None:
         raise Exception(ERR_OTHER, str(fault)) from None
     thin = _process.world
     COMM_WORLD._thin, COMM_WORLD._members, COMM_WORLD._me = thin, list(range(thin.size)), thin.rank
+    COMM_SELF._thin, COMM_SELF._members, COMM_SELF._me = _Alone(_process), [thin.rank], thin.rank
     atexit.register(Finalize)
 
 
 def Is_initialized() -> bool:
-    """Whether the pipes were opened."""
+    """Whether the pipes were opened.
+
+    >>> MPI.Is_initialized()
+    False
+    """
     return _process is not None
 
 
 def Finalize() -> None:
-    """Leaves the session. No call is made after it."""
+    """Leaves the session. No call is made after it.
+
+    >>> MPI.Finalize()    # nothing is to be left
+    """
     if _process is not None:
         try:
             _process.leave()
@@ -100,27 +116,47 @@ def Finalize() -> None:
 
 
 def Is_finalized() -> bool:
-    """Whether the session was left, or is over."""
+    """Whether the session was left, or is over.
+
+    >>> MPI.Is_finalized()
+    False
+    """
     return _process is not None and not _process._pipes.is_open
 
 
 def Wtime() -> float:
-    """Seconds of a clock that never goes back."""
+    """Seconds of a clock that never goes back.
+
+    >>> MPI.Wtime() <= MPI.Wtime()
+    True
+    """
     return time.monotonic()
 
 
 def Wtick() -> float:
-    """The resolution of that clock."""
+    """The resolution of that clock.
+
+    >>> 0 < MPI.Wtick() < 1
+    True
+    """
     return time.get_clock_info("monotonic").resolution
 
 
 def Get_processor_name() -> str:
-    """The name of this machine."""
+    """The name of this machine.
+
+    >>> MPI.Get_processor_name() != ""
+    True
+    """
     return os.uname().nodename
 
 
 def Get_version() -> tuple:
-    """The version of MPI whose collectives these are."""
+    """The version of MPI whose collectives these are.
+
+    >>> MPI.Get_version()
+    (4, 1)
+    """
     return 4, 1
 
 

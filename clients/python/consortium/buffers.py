@@ -10,7 +10,7 @@ from __future__ import annotations
 
 import struct
 from operator import index
-from typing import Any, List, Optional, Sequence, Tuple
+from typing import Any, List, NamedTuple, Optional, Sequence, Tuple
 
 
 class Datatype:
@@ -27,19 +27,35 @@ class Datatype:
         return f"<{self.name}>"
 
     def Get_size(self) -> int:
-        """How many bytes an element has."""
+        """How many bytes an element has.
+
+        >>> MPI.TWOINT.Get_size()
+        8
+        """
         return struct.calcsize(self._format)
 
     def Get_name(self) -> str:
-        """Its name in MPI."""
+        """Its name in MPI.
+
+        >>> MPI.INT.Get_name()
+        'MPI_INT32_T'
+        """
         return self.name
 
     def Get_extent(self) -> Tuple[int, int]:
-        """Where an element begins, and how many bytes lie to the next."""
+        """Where an element begins, and how many bytes lie to the next.
+
+        >>> MPI.LONG.Get_extent()
+        (0, 8)
+        """
         return 0, self.Get_size()
 
     def unpack(self, memory: memoryview, first: int, count: int) -> List[Any]:
-        """So many elements from this one on, as whole numbers, or pairs of them."""
+        """So many elements from this one on, as whole numbers, or pairs of them.
+
+        >>> MPI.INT8_T.unpack(memoryview(b"\\x01\\xff\\x03"), 1, 2)
+        [-1, 3]
+        """
         size = self.Get_size()
         if first < 0 or count < 0 or (first + count) * size > len(memory):
             raise Exception_(TRUNCATE, f"{count} elements from {first} on, of {len(memory) // size}")
@@ -47,7 +63,13 @@ class Datatype:
         return found if self.word == "2int" else [number for number, in found]
 
     def pack(self, memory: memoryview, first: int, elements: Sequence[Any]) -> None:
-        """Puts these elements from this one on."""
+        """Puts these elements from this one on.
+
+        >>> room = bytearray(3)
+        >>> MPI.INT8_T.pack(memoryview(room), 1, [-1])
+        >>> room
+        bytearray(b'\\x00\\xff\\x00')
+        """
         size = self.Get_size()
         if first < 0 or (first + len(elements)) * size > len(memory):
             raise Exception_(TRUNCATE, f"{len(elements)} elements from {first} on, in {len(memory) // size}")
@@ -81,15 +103,27 @@ class Exception_(RuntimeError):
         return self.Get_error_string()
 
     def Get_error_class(self) -> int:
-        """The class of the error: one of the numbers `ERR_..`."""
+        """The class of the error: one of the numbers `ERR_..`.
+
+        >>> MPI.Exception(MPI.ERR_ROOT).Get_error_class() == MPI.ERR_ROOT
+        True
+        """
         return self.number
 
     def Get_error_code(self) -> int:
-        """The same: there is one code of each class."""
+        """The same: there is one code of each class.
+
+        >>> MPI.Exception(MPI.ERR_ROOT).Get_error_code() == MPI.ERR_ROOT
+        True
+        """
         return self.number
 
     def Get_error_string(self) -> str:
-        """The name of the class, and what was wrong."""
+        """The name of the class, and what was wrong.
+
+        >>> MPI.Exception(MPI.ERR_ROOT, "7").Get_error_string()
+        'MPI_ERR_ROOT: 7'
+        """
         return f"MPI_ERR_{CLASSES[self.number]}: {self.words}"
 
 
@@ -103,13 +137,40 @@ UNSIGNED = {1: UINT8_T, 2: UINT16_T, 4: UINT32_T, 8: UINT64_T}
 
 
 def type_of(view: memoryview) -> Datatype:
-    """The type of what an array holds."""
+    """The type of what an array holds.
+
+    >>> type_of(memoryview(array("h", [7])))
+    <MPI_INT16_T>
+    """
     code = view.format.lstrip("@=<>!")
     if code in ("b", "h", "i", "l", "q", "n"):
         return SIGNED[view.itemsize]
     if code in ("B", "H", "I", "L", "Q", "N", "?"):
         return UNSIGNED[view.itemsize]
     raise Exception_(TYPE, f"no integer type: {view.format!r}")
+
+
+class Part(NamedTuple):
+    """A piece of so many, into which a collective of many elements is cut.
+
+    >>> [Part(piece, 3).of(10, 7) for piece in range(3)]
+    [(10, 3), (13, 2), (15, 2)]
+    """
+
+    piece: int
+    pieces: int
+
+    def of(self, first: int, count: int) -> Tuple[int, int]:
+        """Where its part of a block begins, and how many elements that has.
+
+        >>> Part(1, 2).of(0, 5)
+        (3, 2)
+        """
+        each, longer = divmod(count, self.pieces)
+        return first + self.piece * each + min(self.piece, longer), each + (self.piece < longer)
+
+
+WHOLE = Part(0, 1)
 
 
 class Buffer:
@@ -144,31 +205,59 @@ class Buffer:
             return counts, [index(it) for it in given[1]]
         return counts, [sum(counts[:at]) for at in range(len(counts))]
 
-    def all(self) -> List[Any]:
-        """All its elements."""
-        return self.type.unpack(self.memory, 0, self.length)
+    def all(self, part: Part = WHOLE) -> List[Any]:
+        """All its elements, or those of a piece.
+
+        >>> Buffer(array("i", [5, 6])).all()
+        [5, 6]
+        """
+        return self.type.unpack(self.memory, *part.of(0, self.length))
 
     def part_of(self, number: int, parts: int) -> Tuple[int, int]:
-        """Where a part begins, and how many elements it has."""
+        """Where a part begins, and how many elements it has.
+
+        >>> Buffer([array("i", [5, 6, 7]), [1, 2], None, MPI.INT]).part_of(1, 2)
+        (1, 2)
+        """
         if self.counts is not None and self.starts is not None:
             return self.starts[number], self.counts[number]
         each = self.length // parts if parts else 0
         return number * each, each
 
-    def block(self, number: int, parts: int) -> List[Any]:
-        """The elements of a part."""
-        return self.type.unpack(self.memory, *self.part_of(number, parts))
+    def block(self, number: int, parts: int, part: Part = WHOLE) -> List[Any]:
+        """The elements of a part, or those of them that are in a piece.
 
-    def blocks(self, parts: int) -> List[List[Any]]:
-        """Those of each part."""
-        return [self.block(number, parts) for number in range(parts)]
+        >>> Buffer(array("i", [5, 6, 7, 8])).block(1, 2)
+        [7, 8]
+        """
+        return self.type.unpack(self.memory, *part.of(*self.part_of(number, parts)))
 
-    def put_all(self, elements: Sequence[Any]) -> None:
-        """Puts elements from the first on."""
-        self.type.pack(self.memory, 0, elements)
+    def blocks(self, parts: int, part: Part = WHOLE) -> List[List[Any]]:
+        """Those of each part.
+
+        >>> Buffer(array("i", [5, 6, 7, 8])).blocks(2)
+        [[5, 6], [7, 8]]
+        """
+        return [self.block(number, parts, part) for number in range(parts)]
+
+    def put_all(self, elements: Sequence[Any], skipped: int = 0) -> None:
+        """Puts elements behind so many.
+
+        >>> room = array("i", [0, 0])
+        >>> Buffer(room).put_all([7], 1)
+        >>> room
+        array('i', [0, 7])
+        """
+        self.type.pack(self.memory, skipped, elements)
 
     def put_blocks(self, blocks: Sequence[Optional[Sequence[Any]]]) -> None:
-        """Puts a block into each part; one that is missing leaves its part alone."""
+        """Puts a block into each part; one that is missing leaves its part alone.
+
+        >>> room = array("i", [0, 0])
+        >>> Buffer(room).put_blocks([None, [7]])
+        >>> room
+        array('i', [0, 7])
+        """
         for number, block in enumerate(blocks):
             first, count = self.part_of(number, len(blocks))
             if block is not None:

@@ -17,6 +17,7 @@ if TYPE_CHECKING:
 # A field that is a number, a list, or no colour.
 FIELD = re.compile(r"[-0-9,]+|undefined")
 
+
 class Comm(OnGrid):
     """A communicator: its `number` at the server, the process's `rank` in it, and its `size`.
 
@@ -245,7 +246,7 @@ class Comm(OnGrid):
 
         >>> world.Isplit(color=None).wait()
         """
-        return self._post("split", "undefined" if color is None else index(color), index(key))
+        return self._post("split", "undefined" if color is None else color, key)
 
     def Icreate(self, ranks: Iterable[int]) -> Request:
         """The communicator of these ranks, in this order; all members state them alike.
@@ -355,10 +356,13 @@ class Comm(OnGrid):
                 known(field, TYPES + OPERATIONS, "type or operation")
         is_pairs = "2int" in fields
         words = numbers(flat(values), is_pairs)
-        call = " ".join(["post", str(self.number), kind, *map(str, fields)])
+        told = [field if isinstance(field, str) else format(index(field), "d") for field in fields]
+        call = " ".join(["post", str(self.number), kind, *told])
         if words:
             label = self.process.label if label is None else label
             if label is None:
                 raise ValueError("who gives elements says whose they are: label=..")
             call = " ".join([call, "as", one_word(label), *words])
-        return self.process._post(call, form, is_pairs)
+        request = self.process._post(call, form, is_pairs)
+        request._comm = self.number
+        return request

@@ -6,7 +6,11 @@ from typing import Any, Optional
 
 
 def shown(call: str) -> str:
-    """The beginning of a line, as an error shows it."""
+    """The beginning of a line, as an error shows it.
+
+    >>> len(shown("x" * 1000))
+    83
+    """
     return call if len(call) <= 80 else call[:80] + " .."
 
 

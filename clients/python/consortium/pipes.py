@@ -15,11 +15,22 @@ PIECE = 1 << 20
 
 
 class Late(Exception):
-    """The reply did not come in time. It is owed, and read before any other."""
+    """The reply did not come in time. It is owed, and read before any other.
+
+    >>> issubclass(Late, Exception)
+    True
+    """
 
 
 def open_for_writing(path: str, timeout: Optional[float]) -> int:
-    """Opens a named pipe for writing as soon as somebody has it open for reading."""
+    """Opens a named pipe for writing as soon as somebody has it open for reading.
+
+    >>> try:
+    ...     open_for_writing("/dev/null/calls", timeout=1)
+    ... except OSError as fault:
+    ...     print(type(fault).__name__)
+    NotADirectoryError
+    """
     if timeout is None:
         return os.open(path, os.O_WRONLY)
     end = time.monotonic() + timeout
@@ -38,7 +49,16 @@ def open_for_writing(path: str, timeout: Optional[float]) -> int:
 
 def await_writer(pipe: int) -> None:
     """Until a named pipe that was opened before anybody wrote to it has something to read. From
-    then on reading it blocks, and tells the end once the writer has closed it."""
+    then on reading it blocks, and tells the end once the writer has closed it.
+
+    >>> import os
+    >>> end, other = os.pipe()
+    >>> os.write(other, b"info")
+    4
+    >>> await_writer(end)
+    >>> os.read(end, 4)
+    b'info'
+    """
     poll = select.poll()
     poll.register(pipe, select.POLLIN)
     poll.poll()
@@ -50,6 +70,9 @@ class Pipes:
 
     A line that was written has one reply. Where whoever asked was interrupted, or did not wait any
     longer, the reply is owed: the next to ask reads it first, and hands it to who is to have it.
+
+    >>> process._pipes.is_open
+    True
     """
 
     def __init__(self, path: str, timeout: Optional[float]) -> None:
@@ -66,14 +89,24 @@ class Pipes:
         self._owed: Deque[Callable[[bytes], None]] = deque()
 
     def close(self) -> None:
-        """Closes both, once."""
+        """Closes both, once.
+
+        >>> spare._pipes.close(), spare._pipes.is_open
+        (None, False)
+        """
         if self.is_open:
             self.is_open = False
             os.close(self._calls)
             os.close(self._replies)
 
     def send(self, line: bytes, then: Callable[[bytes], None]) -> None:
-        """Writes a line, whose reply `then` is to have."""
+        """Writes a line, whose reply `then` is to have.
+
+        >>> told = []
+        >>> process._pipes.send(b"info 0\\n", told.append)
+        >>> process._pipes.settle(), told
+        (None, [b'info size 1 rank 0'])
+        """
         self._flush()
         self._unwritten = line
         self._owed.append(then)
@@ -88,7 +121,10 @@ class Pipes:
             raise Gone("unread", "nobody reads the calls") from None
 
     def settle(self, timeout: Optional[float] = None) -> None:
-        """Reads all replies that are owed, or raises `Late`."""
+        """Reads all replies that are owed, or raises `Late`.
+
+        >>> process._pipes.settle()    # none is owed
+        """
         end = None if timeout is None else time.monotonic() + timeout
         self._flush()
         while self._owed:

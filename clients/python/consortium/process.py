@@ -59,7 +59,10 @@ class Process:
         return found[0].decode("ascii")
 
     def leave(self) -> None:
-        """Ends the session. The others go on; what is still open of this process stays so."""
+        """Ends the session. The others go on; what is still open of this process stays so.
+
+        >>> spare.leave()
+        """
         if self._pipes.is_open:
             try:
                 self._exchange("leave", lambda reply: None)
@@ -67,7 +70,10 @@ class Process:
                 self.close()
 
     def close(self) -> None:
-        """Closes the pipes and says nothing, by which the session ends too."""
+        """Closes the pipes and says nothing, by which the session ends too.
+
+        >>> spare.close()
+        """
         self._pipes.close()
 
     def __enter__(self) -> Process:
@@ -149,7 +155,11 @@ class Process:
 
 
 def words_of(reply: bytes, call: str) -> List[bytes]:
-    """The words of a reply, of a delivery the first word and all the rest; a refusal is raised."""
+    """The words of a reply, of a delivery the first word and all the rest; a refusal is raised.
+
+    >>> words_of(b"info size 1 rank 0", "info 0")
+    [b'info', b'size', b'1', b'rank', b'0']
+    """
     word, _, rest = reply.partition(b" ")
     if word == b"delivered":
         return [word, rest]

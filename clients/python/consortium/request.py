@@ -27,6 +27,7 @@ class Request:
                  is_pairs: bool) -> None:
         self.number, self.barred = number, barred
         self._process, self._form, self._is_pairs = process, form, is_pairs
+        self._comm: Optional[int] = None
         self._grid: Optional[Tuple[List[int], List[bool]]] = None
         self._outcome: Any = None
         self._refusal: Optional[ConsortiumError] = None

@@ -92,7 +92,11 @@ def one_word(label: Any) -> str:
 
 
 def read_block(found: Any, is_pairs: bool) -> Optional[Block]:
-    """A block of a delivery, or None for one that is missing."""
+    """A block of a delivery, or None for one that is missing.
+
+    >>> [read_block(found, True) for found in BLOCK.finditer(b"[7 0] -")]
+    [[(7, 0)], None]
+    """
     if found.group(1) is None:
         return None
     read = [int(word) for word in found.group(1).split()]

@@ -12,6 +12,7 @@ periodic dimension of one or two ranks.
 import importlib
 import random
 import sys
+import zlib
 from array import array
 
 MPI = importlib.import_module(sys.argv[1])
@@ -168,6 +169,10 @@ def grid(turn):
 
 def constructors(turn):
     copy = WORLD.Dup()
+    if SIZE > 1:    # two disjoint groups at once
+        half = [rank for rank in range(SIZE) if rank % 2 == RANK % 2]
+        part = WORLD.Create(WORLD.Get_group().Incl(half))
+        part.Barrier()
     found = [copy.Get_rank(), copy.Get_size(), MPI.Comm.Compare(WORLD, copy) == MPI.CONGRUENT]
     some = [rank for rank in range(SIZE) if turn.counts[rank]][::-1] or [0]
     comm = WORLD.Create(WORLD.Get_group().Incl(some))
@@ -175,7 +180,10 @@ def constructors(turn):
         found += [comm.Get_rank(), comm.allreduce(RANK, op=MPI.SUM), comm.bcast([RANK, 3])]
     colour = turn.counts[RANK] if turn.counts[RANK] < 5 else MPI.UNDEFINED
     comm = WORLD.Split(colour, (turn.root - RANK) % SIZE)
-    return found + ([] if comm == MPI.COMM_NULL else [comm.Get_rank(), comm.Get_size(), comm.allgather(RANK)])
+    if comm == MPI.COMM_NULL:
+        return found
+    members = MPI.Group.Translate_ranks(comm.Get_group(), list(range(comm.Get_size())), WORLD.Get_group())
+    return found + [comm.Get_rank(), comm.Get_size(), comm.allgather(RANK), list(members)]
 
 
 def values(turn):
@@ -196,9 +204,47 @@ def groups(turn):
     return found + [MPI.Group.Compare(one, one) == MPI.IDENT, MPI.Group.Compare(one, other) == MPI.UNEQUAL]
 
 
+def long(turn):
+    """Arrays of more elements than a post has."""
+    count = 70001 + turn.root
+    mine = [array("q", range(RANK, count * SIZE + RANK)), MPI.INT64_T]
+    own, room = [mine[0][:count], MPI.INT64_T], [array("q", [0] * count), MPI.INT64_T]
+    found = []
+    for name, sent, named in (("Allreduce", own, {"op": turn.op}), ("Scan", own, {"op": turn.op}),
+                              ("Reduce_scatter_block", mine, {"op": turn.op}),
+                              ("Scatter", mine if RANK == turn.root else None, {"root": turn.root})):
+        turn.call(WORLD, name, sent, room, **named)
+        found.append(zlib.crc32(room[0].tobytes()))
+    turn.call(WORLD, "Bcast", own, root=turn.root)
+    return found + [zlib.crc32(own[0].tobytes())]
+
+
+def of_self(turn):
+    own = MPI.COMM_SELF
+    data, room = turn.sent(turn.count), turn.room(turn.count)
+    turn.call(own, "Allgather", data, [room, turn.type])
+    found = [own.Get_rank(), own.Get_size(), room.tolist(), own.allreduce(RANK), own.bcast([RANK])]
+    return found + [MPI.Comm.Compare(own, own.Dup()) == MPI.CONGRUENT]
+
+
+def statuses(turn):
+    """Requests of two communicators, ended in four ways. (Source, tag and count of a collective's
+    status MPI leaves open.)"""
+    twin, given, rooms = WORLD.Dup(), array("q", [RANK]), [array("q", [0]) for _ in range(4)]
+    requests = [(WORLD, twin)[at % 2].Iallreduce(given, rooms[at]) for at in range(4)]
+    told, done, way = [MPI.Status() for _ in range(4)], [], turn.root % 4
+    if way == 0:
+        MPI.Request.Waitall(requests, told)
+    while way and len(done) < 4:
+        done += {1: lambda: [MPI.Request.Waitany(requests, told[0])], 2: lambda: MPI.Request.Waitsome(requests, told),
+                 3: lambda: [it for it, is_done in [MPI.Request.Testany(requests, told[0])] if it != MPI.UNDEFINED],
+                 }[way]()
+    return [room.tolist() for room in rooms], sorted(done), told[0].Get_error(), [bool(it) for it in requests]
+
+
 ALL = [bcast, gather, gatherv, scatter, scatterv, allgather, allgatherv, alltoall, alltoallv, reduce,
        allreduce, scan, exscan, reduce_scatter_block, reduce_scatter, in_place, grid, constructors,
-       values, groups]
+       values, groups, long, of_self, statuses]
 
 
 def main():
