@@ -23,6 +23,7 @@ use Rattle.book_stream.specs.declared.reading.Stage.{Stage}
 use Rattle.book_stream.specs.declared.reading.Stage.TheVariants as stages
 use Rattle.book_stream.specs.Readings.{SayEntries, SayBook, SayAt, IsBadBehind, IsJudged}
 use Rattle.book_stream.specs.Audits.{IsFaultAmong, Says, StandsBehind, TakesIn, IsClear, IsVerdict}
+use Rattle.book_stream.specs.Audits.{HasLongLine}
 use Rattle.book_stream.specs.Audits.{EndsSo, HasMoreBehind, Gave, GaveAll, AuditsTo, FailedBehind}
 use Rattle.book_stream.proofs.CutLemmas.{parts_behind}
 use Rattle.book_stream.proofs.StayLemmas.{bad_stays}
@@ -53,7 +54,7 @@ pub said_by_parts : (wall : ChineseWall) (text : List ℕ) (words : List Word) (
 unfolding book_in
 said_by_parts wall text words (BadLine n) cut h = ap (lines_in wall) cut ∙ h
 said_by_parts wall text words (LongLine n) cut h =
-    (h.0, h.1, h.2, h.3, cut ∙ h.4, h.5)
+    (h.0, h.1, h.2 ∷ h.3, cut ∙ h.4, h.5)
 said_by_parts wall text words TooMany cut h = inl (h.0, h.1, h.2, cut ∙ h.3, h.4)
 said_by_parts wall text words NoMemory cut h = tt
 said_by_parts wall text words Cut cut h = absurd h
@@ -111,6 +112,36 @@ module _ (wall : ChineseWall) (reader : Reader) (text : List ℕ) (lines : List 
   ended_more is some =
       has_more wall text lines line cut s.read.entries (at_stage stages.Ended is) some
       ∙ ap (λ k. Err (faults.BadLine (k + 3))) (sym s.read.number)
+
+  pub long_at_header : reader.reading.stage ≡ stages.Header → reader.line.is_long ≡ true →
+      HasLongLine wall text 1
+  long_at_header is long =
+      let none = (at_stage stages.Header is).0 in (
+        lines,
+        line,
+        [],
+        cut,
+        record {
+          before = inl none;
+          long = s.holds.long long;
+          place = sym (ap (λ (l : List Word). length l + 1) none);
+        },
+      )
+
+  pub long_at_entry : reader.reading.stage ≡ stages.Entry → reader.line.is_long ≡ true →
+      HasLongLine wall text (reader.reading.entries + 2)
+  long_at_entry is long =
+      let say = at_stage stages.Entry is in (
+        lines,
+        line,
+        [],
+        cut,
+        record {
+          before = inr (s.read.entries, say);
+          long = s.holds.long long;
+          place = let n = say.number in let m = s.read.number in omega (arith, n, m);
+        },
+      )
 
   ended_book : reader.reading.stage ≡ stages.Ended → IsClear reader line →
       book_in wall text ≡ Ok s.read.entries
@@ -170,7 +201,7 @@ module _ {D : Type 0} (wall : ChineseWall) (d : Used D) (text : List ℕ) where
   pub more_stops : Gave d text → (fault : AuditFault) → HasMoreBehind wall text fault →
       AuditsTo wall d (Err fault)
   more_stops gave (BadLine n) h = (text, gave, λ rest. bad_stays wall text rest n h)
-  more_stops gave (LongLine n) h = absurd h
+  more_stops gave (LongLine n) h = (text, gave, h)
   more_stops gave TooMany h = absurd h
   more_stops gave NoMemory h = absurd h
   more_stops gave Cut h = absurd h

@@ -32,11 +32,10 @@ abbrev pub IsUnsoundText : ChineseWall → List ℕ → (number : ℕ) → Type 
 IsUnsoundText wall text number =
     (entries : List Entry) × (book_in wall text ≡ Ok entries) × IsFirstBad wall entries number
 
--- it has a finished line of this number that is long, and those before it are in their form
+-- it has a line of this number that is long, finished or not, and those before it are in their form
 abbrev pub HasLongLine : ChineseWall → List ℕ → (number : ℕ) → Type 0
-HasLongLine wall text number = (lines : List Word) × (line : Word) × (next : Word)
-    × (more : List Word) × (parts 10 text ≡ lines ++ line ∷ next ∷ more)
-    × IsLong wall lines line number
+HasLongLine wall text number = (lines : List Word) × (line : Word) × (more : List Word)
+    × (parts 10 text ≡ lines ++ line ∷ more) × IsLong wall lines line number
 
 -- it has more than 2^62 entries, or 2^64 - 1 bytes or more
 abbrev pub HasTooMany : ChineseWall → List ℕ → Type 0
@@ -128,9 +127,10 @@ TakesIn wall lines words new (Err fault) = IsFaultAmong wall (lines ++ words) fa
 abbrev pub IsClear : Reader → Word → Type 0
 IsClear reader line = reader.reading.stage ≡ stages.Ended → (length line == 0) ≡ true
 
--- something stands behind the end
+-- something stands behind the end; or the line that is not finished is long already
 abbrev pub HasMoreBehind : ChineseWall → List ℕ → AuditFault → Type 0
 HasMoreBehind wall text (BadLine n) = book_in wall text ≡ Err (faults.BadLine n)
+HasMoreBehind wall text (LongLine n) = HasLongLine wall text n
 HasMoreBehind wall text _ = ⊥
 
 -- what is said of the entries of a book

@@ -9,7 +9,8 @@ pub enum AuditFault {
     /// What stands behind it is not read.
     #[error("line {0}")]
     BadLine(u64),
-    /// The line of this number is longer than `LINE_LIMIT`, and all before it are in their form.
+    /// The line of this number is longer than `LINE_LIMIT`, and all before it are in their form. It is
+    /// told as soon as so much of it was read.
     #[error("line {0} is too long")]
     LongLine(u64),
     /// The text stops before a finished `end` line, and all finished lines are in their form.

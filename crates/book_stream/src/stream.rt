@@ -85,7 +85,8 @@ fn take_in(
     Ok(())
 }
 
-// Sees that nothing stands behind the end.
+// Sees that nothing stands behind the end, and that the line which is not finished is not long
+// already: of a source that gives no line feed no more is read than a line may have.
 fn see_end(policy: &Policy, reader: &Reader) -> Result<(), AuditFault>
     requires { IsStanding policy.now reader.now }
     ensures clear { OnOk result ((lines : List Word) (line : Word) →
@@ -96,8 +97,20 @@ fn see_end(policy: &Policy, reader: &Reader) -> Result<(), AuditFault>
 {
     let _ = policy;
     match reader.reading.stage {
-        Stage::Header => Ok(()),
-        Stage::Entry => Ok(()),
+        Stage::Header => {
+            if reader.line.is_long {
+                Err(AuditFault::LongLine(1))
+            } else {
+                Ok(())
+            }
+        }
+        Stage::Entry => {
+            if reader.line.is_long {
+                Err(AuditFault::LongLine(reader.reading.entries + 2))
+            } else {
+                Ok(())
+            }
+        }
         Stage::Ended => {
             if reader.line.is_empty() {
                 Ok(())

@@ -322,10 +322,23 @@ const WAYS: &[(u64, usize, Refusal)] = &[
     (2500, usize::MAX, Refusal::Other),
 ];
 
-// The most bytes that one read asks for, and the least that are written before the last.
+// The most bytes that one read asks for, also of a book that is audited, and the least that are
+// written before the last.
 const READ: usize = 1024;
 
+const AUDITED: usize = 4096;
+
 const WRITTEN: usize = 65536;
+
+// The most bytes that one read of the book asks for.
+fn book_piece(case: &Case) -> usize {
+    if let [_, command, ..] = case.words {
+        if *command == b"audit".as_slice() {
+            return AUDITED;
+        }
+    }
+    READ
+}
 
 // The most calls at the files that a use asks for: each is opened, its bytes come or go in pieces
 // of such a size, the last of them short, and the end is seen.
@@ -335,7 +348,7 @@ fn most_calls(case: &Case, step: usize) -> u64 {
         let (bytes, size) = match *name {
             b'w' => (case.policy, READ),
             b's' => (case.script, READ),
-            b'b' => (case.book, READ),
+            b'b' => (case.book, book_piece(case)),
             b'k' | b'n' => (case.kept, WRITTEN),
             _ => continue,
         };
