@@ -330,8 +330,9 @@ const AUDITED: usize = 4096;
 
 const WRITTEN: usize = 65536;
 
-// The most bytes that one read of the book asks for.
-fn book_piece(case: &Case) -> usize {
+// The most bytes that one read asks for of the last book that is opened. (An audit reads the books
+// before its own as any other command does.)
+fn last_piece(case: &Case) -> usize {
     if let [_, command, ..] = case.words {
         if *command == b"audit".as_slice() {
             return AUDITED;
@@ -344,11 +345,16 @@ fn book_piece(case: &Case) -> usize {
 // of such a size, the last of them short, and the end is seen.
 fn most_calls(case: &Case, step: usize) -> u64 {
     let mut most: u64 = 0;
-    for name in case.opened {
+    let mut piece = last_piece(case);
+    for name in case.opened.iter().rev() {
         let (bytes, size) = match *name {
             b'w' => (case.policy, READ),
             b's' => (case.script, READ),
-            b'b' => (case.book, book_piece(case)),
+            b'b' => {
+                let size = piece;
+                piece = READ;
+                (case.book, size)
+            }
             b'k' | b'n' => (case.kept, WRITTEN),
             _ => continue,
         };
