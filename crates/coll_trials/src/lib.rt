@@ -18,6 +18,8 @@ mod grids;
 #[cfg(test)]
 mod groups;
 #[cfg(test)]
+mod growth;
+#[cfg(test)]
 mod histories;
 #[cfg(test)]
 mod instances;

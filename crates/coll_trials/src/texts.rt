@@ -8,7 +8,7 @@ use mpi_group::GroupFault;
 use std::fmt::Display;
 use std::process::Abort;
 
-fn expect_texts<T: Display>(rt: &(impl AllocGlobal + Abort), table: &[(T, &str)]) {
+pub(crate) fn expect_texts<T: Display>(rt: &(impl AllocGlobal + Abort), table: &[(T, &str)]) {
     for (fault, text) in table {
         let Ok(said) = format!(in rt.alloc(); "{fault}") else {
             panic!(rt; "no memory")

@@ -22,8 +22,6 @@ pub mod TellLemmas
 pub mod HeadlineLemmas
 pub mod YearLemmas
 pub mod GrownLemmas
-pub mod RenumberLemmas
-pub mod NumberingLemmas
 pub mod OmitLemmas
 pub mod SeenLemmas
 pub mod WorldsLemmas

@@ -27,7 +27,7 @@ use Rattle.run_model.specs.Chains.{IsChain, GrewFrom}
 use Rattle.run_model.specs.ChainRows.{alpha_for_n0, one_book}
 use Rattle.run_model.specs.Holding.{Holds}
 use Rattle.run_model.specs.Years.{BeginsWithNothing, CameToHold, HadOnce}
-use Rattle.run_model.specs.Growth.{KeepsProcess, KeepsDataset, HasGrown, renumbered}
+use Rattle.wall_policy.specs.Growth.{KeepsProcess, KeepsDataset, HasGrown, renumbered}
 use Rattle.run_model.specs.YearRows.{banks_lowered, beta_moved, home_removed, n0_renamed}
 use Rattle.run_model.specs.YearRows.{gamma_joined, gamma_behind}
 use Rattle.run_model.proofs.ChainRowProofs.{grown_is_chain}

@@ -1,10 +1,11 @@
 -- Chains of books: each is read under the policy after those before it, and so begins with what was
 -- held at their end. (Own rule: what somebody once had access to stays. Brewer and Nash 1989 have
 -- one history without an end.) A list of books has the newest first.
-use Rattle.std.specs.Prelude.{◌≡◌, ◌⊎◌, ◌<◌, ℕ, take, List, [], ◌∷◌, ◌++◌, true}
+use Rattle.std.specs.Prelude.{◌≡◌, ◌⊎◌, ◌<◌, ℕ, take, List, [], ◌∷◌, true}
 use Rattle.wall_labels.specs.declared.ids.TheConstants.{DATASET_LIMIT}
 use Rattle.wall_policy.specs.Policy.{ChineseWall, IsPolicy, held_of}
 use Rattle.wall_policy.specs.Rivals.{AreRivals}
+pub use Rattle.wall_policy.specs.Growth.{IsPrefix, GrewFrom}
 use Rattle.run_model.specs.declared.entry.Entry.{Entry}
 use Rattle.run_model.specs.Posts.{Post}
 use Rattle.run_model.specs.Books.{posts_in, IsSound}
@@ -12,17 +13,6 @@ use Rattle.run_model.specs.Holding.{Holds}
 use Rattle.run_model.specs.PostLaws.{IsWhatIsHeld}
 
 ---- The policy after posts.
-
-abbrev pub IsPrefix : {X : Type 0} → (prefix whole : List X) → Type 0
-IsPrefix {X} prefix whole = (rest : List X) × (prefix ++ rest ≡ whole)
-
--- A policy that only grew: what an earlier one has stands in it at the same numbers, with the same
--- names, classes and homes, and more may stand behind it.
-pub record GrewFrom (old new : ChineseWall) : Type 0 where
-  pub datasets : IsPrefix old.dataset_names new.dataset_names
-  pub classes : IsPrefix old.classes new.classes
-  pub processes : IsPrefix old.process_names new.process_names
-  pub homes : IsPrefix old.homes new.homes
 
 -- The policy for what comes after these posts: the same, or one that only grew, where what each
 -- process held after them, directly or through others, is what it held before. (No history occurs

@@ -32,8 +32,6 @@ pub mod RunLaws
 pub mod Headline
 -- chains of books, each under the policy of its own day, and a run behind them
 pub mod Years
--- what may change from one policy file to the next
-pub mod Growth
 -- laws over two legal runs whose calls differ in values alone
 pub mod Worlds
 -- worked books

@@ -2,7 +2,7 @@
 ghost use Rattle.run_model.specs.BookRows.{banks_and_oil};
 ghost use Rattle.std.specs.Prelude.{◌≡◌};
 ghost use Rattle.run_model.specs.Chains.{IsChain, GrewFrom};
-ghost use Rattle.run_model.specs.Growth.{HasGrown, renumbered};
+ghost use Rattle.wall_policy.specs.Growth.{HasGrown, renumbered};
 ghost use Rattle.run_model.specs.ChainRows.{alpha_for_n0, one_book};
 ghost use Rattle.run_model.specs.Years.{BeginsWithNothing, CameToHold, HadOnce};
 ghost use Rattle.run_model.specs.YearRows.{banks_lowered, beta_moved, home_removed, n0_renamed};

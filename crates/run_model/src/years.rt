@@ -1,6 +1,5 @@
 //! The law over years, and the policy of a later day, as functions that do nothing.
 ghost use Rattle.run_model.specs.Years.{OverYears, GrownPoliciesGoOn};
-ghost use Rattle.run_model.specs.Growth.{GrownFilesGrow, GrownFilesArePolicies};
 
 /// The law over years. Over a chain of books, each sound under its own policy after those before
 /// it, and any legal run under the policy after them, nobody ever held two who were rivals under
@@ -16,15 +15,4 @@ pub fn over_years()
 /// the book. Its least numbers are its own.
 pub fn grown_policies_go_on()
     ensures { GrownPoliciesGoOn }
-{}
-
-/// A policy file that has grown by names has grown by the numbers that are given anew, those of the
-/// earlier policy first.
-pub fn grown_files_grow()
-    ensures { GrownFilesGrow }
-{}
-
-/// And so numbered it is a policy, and says what its file says.
-pub fn grown_files_are_policies()
-    ensures { GrownFilesArePolicies }
 {}

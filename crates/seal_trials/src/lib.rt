@@ -9,6 +9,8 @@ mod chains;
 #[cfg(test)]
 mod cuts;
 #[cfg(test)]
+mod days;
+#[cfg(test)]
 mod grown;
 #[cfg(test)]
 mod refused;

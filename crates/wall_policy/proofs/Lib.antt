@@ -8,4 +8,8 @@ pub mod LowestLemmas
 pub mod PlaceLemmas
 pub mod PolicyLemmas
 pub mod RivalLemmas
+pub mod RenumberLemmas
+pub mod NumberingLemmas
+pub mod AnewLemmas
+pub mod GrowthLemmas
 pub mod WallPolicyLemmas

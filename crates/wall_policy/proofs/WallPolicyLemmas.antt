@@ -4,3 +4,5 @@ pub use Rattle.wall_policy.proofs.RivalLemmas.{are_rivals-Decides, are_rivals-sy
 pub use Rattle.wall_policy.proofs.RivalLemmas.{rivals_in_prefix, rivals_turned}
 pub use Rattle.wall_policy.proofs.PrefixLemmas.{has_pair-prefix, has_at_first-prefix}
 pub use Rattle.wall_policy.proofs.PrefixLemmas.{first_processes-IsPolicy}
+pub use Rattle.wall_policy.proofs.RenumberLemmas.{grown_files_grow}
+pub use Rattle.wall_policy.proofs.NumberingLemmas.{grown_files_are_policies}

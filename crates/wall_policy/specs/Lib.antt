@@ -2,6 +2,8 @@ pub mod Names
 pub mod Numbering
 pub mod Rivals
 pub mod Policy
+pub mod Growth
+pub mod GrowthFaults
 pub mod Plain
 pub mod Tree
 pub mod Form

@@ -7,8 +7,11 @@
 #![tactic(auto)]
 
 mod build;
+mod by_name;
 mod checks;
 mod fault;
+mod growth;
+pub mod growth_laws;
 mod keys;
 mod lists;
 mod names;
@@ -16,10 +19,12 @@ mod numbering;
 mod plain;
 mod policy;
 mod read;
+mod renumber;
 mod tree;
 
 pub use checks::NAME_LIMIT;
 pub use fault::PolicyFault;
+pub use growth::{GrowthFault, grown_from};
 pub use lists::are_rivals;
 pub use policy::Policy;
 pub use read::read_policy;

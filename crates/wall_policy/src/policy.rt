@@ -2,6 +2,7 @@
 ghost use Rattle.std.specs.Prelude.{◌≡◌, ◌<◌, ◌≤◌, ◌↔◌, length, IsTrue, IfSome, Some, false, true};
 ghost use Rattle.std.specs.Prelude.{slice_get, ◌+◌};
 ghost use Rattle.wall_labels.specs.declared.ids.TheConstants.{PROCESS_LIMIT, DATASET_LIMIT};
+ghost use Rattle.wall_labels.specs.declared.ids.TheConstants.{CLASS_LIMIT};
 ghost use Rattle.wall_policy.specs.Names.{place_of, is_name, is_dataset_name};
 ghost use Rattle.wall_policy.specs.Rivals.{AreRivals};
 ghost use Rattle.wall_policy.specs.Policy.{with_held, CanBeHeld, first_processes, AreKnownPairs};
@@ -19,15 +20,15 @@ use wall_labels::{ClassId, DatasetId, NoMemory, Op, ProcessId};
 ///
 /// No accessor takes memory.
 pub struct Policy {
-    version: u32,
-    class_names: NameTable,
-    dataset_names: NameTable,
-    process_names: NameTable,
-    classes: Vec<ClassId>,
-    homes: Vec<Option<DatasetId>>,
-    leasts: Vec<(Op, u32)>,
-    distincts: Vec<(Op, u32)>,
-    held: Vec<(ProcessId, DatasetId)>,
+    pub(crate) version: u32,
+    pub(crate) class_names: NameTable,
+    pub(crate) dataset_names: NameTable,
+    pub(crate) process_names: NameTable,
+    pub(crate) classes: Vec<ClassId>,
+    pub(crate) homes: Vec<Option<DatasetId>>,
+    pub(crate) leasts: Vec<(Op, u32)>,
+    pub(crate) distincts: Vec<(Op, u32)>,
+    pub(crate) held: Vec<(ProcessId, DatasetId)>,
 }
 
 // By hand: a derived one is proved anew in each crate that drops one.
@@ -261,6 +262,15 @@ impl Policy {
         self.dataset_names.len() as u32
     }
 
+    /// How many classes there are.
+    pub fn classes(&self) -> u32
+        ensures number { result ≡ length self.now.class_names }
+        ensures few { result ≤ CLASS_LIMIT }
+        ensures policy { IsPolicy self.now }
+    {
+        self.class_names.len() as u32
+    }
+
     /// The dataset where the process is at home. There is none for some processes, and for a number
     /// that is no process.
     pub fn home(&self, process: ProcessId) -> Option<DatasetId>
@@ -321,6 +331,16 @@ impl Policy {
         ensures form { is_name result.now ≡ true }
     {
         self.process_names.name_at(process.number() as usize)
+    }
+
+    /// The name of the class.
+    pub fn class_name(&self, class: ClassId) -> &str
+        requires { class < length self.now.class_names }
+        ensures name { slice_get self.now.class_names class ≡ Some result.now }
+        ensures leads_back { place_of result.now self.now.class_names ≡ Some class }
+        ensures form { is_name result.now ≡ true }
+    {
+        self.class_names.name_at(class.number() as usize)
     }
 
     /// The name of the dataset.

@@ -8,14 +8,20 @@ use Rattle.std.specs.Str.{bytes_eq}
 use Rattle.std.proofs.lemmas.Option.{slice_get_within, slice_get-map}
 use Rattle.wall_policy.specs.Names.{Name, place_of}
 use Rattle.wall_policy.specs.Policy.{ChineseWall, IsPolicy, class_of, home_if_any}
-use Rattle.wall_policy.proofs.WallPolicyLemmas.{place_of-name}
-use Rattle.run_model.specs.Chains.{IsPrefix, GrewFrom}
-use Rattle.run_model.specs.Growth as growth
-use Rattle.run_model.specs.Growth.{HasGrown, renumbered, names_first, class_name, class_name_of}
-use Rattle.run_model.specs.Growth.{class_number, place_if_any, home_name}
-use Rattle.run_model.proofs.PostLemmas.{get_prefix}
+use Rattle.wall_policy.specs.Growth as growth
+use Rattle.wall_policy.specs.Growth.{IsPrefix, GrewFrom}
+use Rattle.wall_policy.specs.Growth.{HasGrown, renumbered, names_first, class_name, class_name_of}
+use Rattle.wall_policy.specs.Growth.{class_number, place_if_any, home_name}
+use Rattle.wall_policy.proofs.PlaceLemmas.{place_of-name}
 
 ---- Lists that go on.
+
+-- what stands at a place stands there also where the list goes on
+get_prefix : {X : Type 0} (xs ys : List X) (k : ℕ) (x : X) → slice_get xs k ≡ Some x →
+    slice_get (xs ++ ys) k ≡ Some x
+get_prefix [] ys k x at = absurd cc
+get_prefix (z ∷ xs) ys zero x at = at
+get_prefix (z ∷ xs) ys (suc k) x at = get_prefix xs ys k x at
 
 pub some_same : {X : Type 0} (x y : X) → Some x ≡ Some y → x ≡ y
 some_same x y e = cc

@@ -14,11 +14,11 @@ use Rattle.std.proofs.lemmas.Slice.Eq.{bytes_eq-Decides}
 use Rattle.wall_policy.specs.Names.{Name, place_of, is_in, comes_twice, is_name, is_dataset_name}
 use Rattle.wall_policy.specs.Policy.{ChineseWall, IsPolicy, HasAtFirst, class_of}
 use Rattle.wall_policy.specs.Policy.{home_if_any}
-use Rattle.wall_policy.proofs.WallPolicyLemmas.{place_of-name}
-use Rattle.run_model.specs.Growth as growth
-use Rattle.run_model.specs.Growth.{HasGrown, renumbered, names_first, class_name, class_name_of}
-use Rattle.run_model.specs.Growth.{class_number, place_if_any, SaysTheSame}
-use Rattle.run_model.proofs.RenumberLemmas.{get_low, some_same}
+use Rattle.wall_policy.proofs.PlaceLemmas.{place_of-name}
+use Rattle.wall_policy.specs.Growth as growth
+use Rattle.wall_policy.specs.Growth.{HasGrown, renumbered, names_first, class_name, class_name_of}
+use Rattle.wall_policy.specs.Growth.{class_number, place_if_any, SaysTheSame}
+use Rattle.wall_policy.proofs.RenumberLemmas.{get_low, some_same}
 
 ---- Names of a list, and their places.
 
@@ -415,7 +415,7 @@ there_at n ns i at =
     let is : i ≡ found.0 = omega (arith, far) in
     ap (λ j. slice_get ns j) is ∙ found.2
 
-not_there : (n : Name) (k : ℕ) (ns : List Name) → is_in ns n ≡ false →
+pub not_there : (n : Name) (k : ℕ) (ns : List Name) → is_in ns n ≡ false →
     position_from (bytes_eq n) k ns ≡ None
 not_there n k [] none = refl
 not_there n k (x ∷ ns) none =

@@ -1,12 +1,24 @@
--- What may change from one policy file to the next: it may grow. (Own rule.) A file numbers its
--- datasets class by class, so a firm that is added to any class but the last moves the numbers of
--- those behind it: which policy has grown from which is said by names, and the numbers of the later
+-- What may change from one policy to the next: it may grow. (Own rule.) A file numbers its datasets
+-- class by class, so a firm that is added to any class but the last moves the numbers of those behind
+-- it: which policy file has grown from which policy is said by names, and the numbers of the later
 -- file are given anew, those of the earlier policy first.
 use Rattle.std.specs.Prelude.{◌≡◌, ◌<◌, ℕ, not, true, List, [], ◌++◌, length, map, filter, Option, Some}
 use Rattle.std.specs.Prelude.{option_and_then, slice_get, unwrap_or}
 use Rattle.wall_policy.specs.Names.{Name, place_of, is_in}
 use Rattle.wall_policy.specs.Policy.{ChineseWall, IsPolicy, class_of, home_of}
-use Rattle.run_model.specs.Chains.{GrewFrom}
+
+---- Growth by numbers.
+
+abbrev pub IsPrefix : {X : Type 0} → (prefix whole : List X) → Type 0
+IsPrefix {X} prefix whole = (rest : List X) × (prefix ++ rest ≡ whole)
+
+-- A policy that only grew: what an earlier one has stands in it at the same numbers, with the same
+-- names, classes and homes, and more may stand behind it.
+pub record GrewFrom (old new : ChineseWall) : Type 0 where
+  pub datasets : IsPrefix old.dataset_names new.dataset_names
+  pub classes : IsPrefix old.classes new.classes
+  pub processes : IsPrefix old.process_names new.process_names
+  pub homes : IsPrefix old.homes new.homes
 
 ---- Facts by names.
 
@@ -22,7 +34,7 @@ class_name_of w name = option_and_then (class_name w) (place_of name w.dataset_n
 abbrev pub home_name : ChineseWall → (p : ℕ) → Option Name
 home_name w p = option_and_then (λ d. slice_get w.dataset_names d) (home_of w p)
 
----- Growth.
+---- Growth by names.
 
 -- The process of this number in the earlier policy has its number, its name and its home in the
 -- later. (Its number is its rank in the world.)
