@@ -2,7 +2,6 @@
 use Rattle.std.proofs.Common.{◌≡◌, ◌≢◌, ℕ, ◌<◌, ◌≤◌, List, Some, None}
 use Rattle.std.proofs.Common.{refl, sym, ap, ◌∙◌, subst, length, ⊎_elim, inl}
 use Rattle.std.specs.Prelude.{unwrap_or}
-use Rattle.std.specs.Arc.{arc_value}
 use Rattle.mpi_elems.specs.Contents.{Contents}
 use Rattle.mpi_group.specs.Groups.{rank_in}
 use Rattle.coll_values.specs.declared.full.Full.{Full}
@@ -24,12 +23,12 @@ use Rattle.hall_core.specs.declared.looks.Open.{Open}
 use Rattle.hall_core.specs.declared.requests.Request.{Request}
 use Rattle.hall_core.specs.declared.settled.Settlement.{Settlement}
 use Rattle.hall_core.specs.Asking.{Asked, opened, requests_of}
-use Rattle.hall_core.specs.Claims.{to_take, claim_reply, HoldsWhatIsKept, IsHeld}
+use Rattle.hall_core.specs.Claims.{to_take, claim_reply, HoldsShare, HoldsWhatIsKept, IsHeld}
 use Rattle.hall_core.specs.Halls.{HallValue, HallView, settlement, view_of}
 use Rattle.hall_core.specs.Invariant.{IsHallView}
 use Rattle.hall_core.specs.Looks.{IsOf, IsOpen, IsDue, IsOutcome, Finds, due_reply}
 use Rattle.hall_core.specs.Looks.{instance_for}
-use Rattle.hall_core.specs.Moves.{Closes, FindsIn, FindsOn, HoldsGrant, IsGrantIn, Steps}
+use Rattle.hall_core.specs.Moves.{Closes, FindsIn, FindsOn, IsGrantIn, Steps}
 use Rattle.hall_core.proofs.CountLemmas.{nobody_asks}
 use Rattle.hall_core.proofs.TakeLemmas.{quiet_steps, refused_due, pending_due, settled_due}
 use Rattle.hall_core.proofs.TakeLemmas.{taken_steps, told_not_quiet, wanting}
@@ -136,14 +135,6 @@ module _ (hall : HallView) (p r : ℕ) (full : Full Contents) (rank : ℕ) (it :
       (λ m is stands. wanting hall m stands it.process it.request (instance_for it)
       (settlement full Granted) grant.is_open.waits grant.is_open.came refl))
 
-  pub grant_of : IsGrantIn hall it.process it.request full rank it
-  grant_of = record {
-    of = record { process = refl; number = refl };
-    is_open = grant.is_open;
-    is_member = ap (λ q. rank_in full.roll.members q) grant.of.process ∙ grant.is_member;
-    can = grant.can;
-  }
-
   grant_held : IsHeld hall p r full rank
   grant_held = record {
     asked = instance_for it;
@@ -155,52 +146,40 @@ module _ (hall : HallView) (p r : ℕ) (full : Full Contents) (rank : ℕ) (it :
 
 -- ## claims
 
-module _ (hall : HallView) (full : Full Contents) (rank : ℕ) (it : Open)
-    (grant : IsGrantIn hall it.process it.request full rank it) where
-  shares : (shared : Full Contents) →
-      hall.settled it.comm it.k ≡ Some (settlement shared Granted) → full ≡ shared
-  shares shared there = ap (λ o. (unwrap_or o (settlement full Granted)).full)
-      (sym grant.is_open.came ∙ there)
+module _ (hall : HallView) (p r : ℕ) (q : Request) (full : Full Contents)
+    (waits : opened (hall.asked p) r ≡ Some q)
+    (came : hall.settled q.comm q.k ≡ Some (settlement full Granted)) where
+  shared_told : (claim : Claim) → HoldsShare p full claim →
+      claim_reply claim ≡ reply_by_outcome p full (Some Granted)
+  shared_told (Done got) holds = absurd holds
+  shared_told (Ready shared rank room) holds =
+      (λ i. Delivered (value (holds.0 i) rank))
+      ∙ sym (ap (λ o. Delivered (value full (unwrap_or o 0))) holds.1)
 
-  pub granted_holds : (claim : Claim) → HoldsGrant hall it rank claim →
-      HoldsWhatIsKept hall it.process it.request claim
-  granted_holds (Done got) holds = absurd holds
-  granted_holds (Ready shared its room) holds = record {
-    asked = instance_for it;
-    waits = grant.is_open.waits;
-    granted = holds.1;
-    is_member = ap (λ (F : Full Contents). rank_in F.roll.members it.process)
-        (sym (shares (arc_value shared) holds.1))
-        ∙ (grant.is_member ∙ ap (λ n. Some n) (sym holds.0));
+  pub shared_holds : (claim : Claim) → HoldsShare p full claim → HoldsWhatIsKept hall p r claim
+  shared_holds (Done got) holds = absurd holds
+  shared_holds (Ready shared rank room) holds = record {
+    asked = q;
+    waits = waits;
+    granted = came ∙ ap (λ (F : Full Contents). Some (settlement F Granted)) (sym holds.0);
+    is_member = ap (λ (F : Full Contents). rank_in F.roll.members p) holds.0 ∙ holds.1;
   }
 
-  granted_reply : (claim : Claim) → HoldsGrant hall it rank claim →
-      claim_reply claim ≡ Delivered (value full rank)
-  granted_reply (Done got) holds = absurd holds
-  granted_reply (Ready shared its room) holds =
-      λ i. Delivered (value (sym (shares (arc_value shared) holds.1) i) (holds.0 i))
+  pub shared_steps : (new : HallView) (claim : Claim) → HoldsShare p full claim →
+      Closes hall new p r → Steps hall new p (Take r) (claim_reply claim)
+  shared_steps new claim holds closes =
+      taken_steps hall new p r q (settlement full Granted) (claim_reply claim) waits came
+      (shared_told claim holds) closes
 
-  claim_due : (claim : Claim) → HoldsGrant hall it rank claim → IsDue hall it (claim_reply claim)
-  claim_due claim holds = subst (λ got. IsDue hall it got) (sym (granted_reply claim holds))
-      (grant_due hall it.process it.request full rank it grant)
-
-  pub granted_steps : (new : HallView) (claim : Claim) → HoldsGrant hall it rank claim →
-      Closes hall new it.process it.request →
-      Steps hall new it.process (Take it.request) (claim_reply claim)
-  granted_steps new claim holds closes =
-      due_steps hall new it (claim_reply claim) (claim_due claim holds) closes
-
-  pub granted_not_quiet : (claim : Claim) → HoldsGrant hall it rank claim →
+  pub shared_not_quiet : (claim : Claim) → HoldsShare p full claim →
       MakesNothing (claim_reply claim) → ⊥
-  granted_not_quiet claim holds =
-      due_not_quiet hall it (claim_reply claim) (claim_due claim holds)
+  shared_not_quiet claim holds =
+      told_not_quiet p (settlement full Granted) (claim_reply claim) (shared_told claim holds)
 
--- what is held by its process and number is held by the request's
-pub holds_of : (hall : HallView) (p r : ℕ) (it : Open) (claim : Claim) → IsOf it p r →
-    HoldsWhatIsKept hall it.process it.request claim → HoldsWhatIsKept hall p r claim
-holds_of hall p r it claim of holds =
-    subst (λ q. HoldsWhatIsKept hall q r claim) of.process
-    (subst (λ n. HoldsWhatIsKept hall it.process n claim) of.number holds)
+  -- or there is no memory for it
+  pub shared_wanting : Steps hall hall p (Take r) (Refused NoMemory)
+  shared_wanting = quiet_steps hall hall p (Take r) (Refused NoMemory) refl tt
+      (λ m is stands. wanting hall m stands p r q (settlement full Granted) waits came refl)
 
 -- ## in a hall
 

@@ -1,4 +1,7 @@
-pub mod FrontLemmas
+pub mod NumberLemmas
+pub mod SlotLemmas
+pub mod SlotEditLemmas
+pub mod LeftLemmas
 pub mod AskingLemmas
 pub mod SettlingLemmas
 pub mod LookLemmas

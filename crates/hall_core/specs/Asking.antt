@@ -3,7 +3,9 @@
 use Rattle.std.specs.Prelude.{ℕ, zero, suc, ◌+◌, ◌&&◌, Bool, false, List, [], ◌∷◌, ◌++◌, slice_get}
 use Rattle.std.specs.Prelude.{slice_index_or, slice_set, Option, Some, None, is_some, is_none, ◌==◌}
 use Rattle.std.specs.Prelude.{count_by, if◌then◌else◌}
+use Rattle.std.specs.Prelude.{◌≡◌, refl}
 use Rattle.std.specs.Option.{option_map_or}
+use Rattle.std.proofs.lemmas.Bool.{true≢false}
 use Rattle.hall_core.specs.declared.requests.Request.{Request}
 
 -- The requests of a process, for each in order the instance that it is for, and nothing of one that
@@ -19,6 +21,11 @@ opened list number = slice_index_or list number None
 -- the request of this number was given, and taken
 abbrev pub taken_at : List (Option Request) → (number : ℕ) → Bool
 taken_at list number = option_map_or is_none (slice_get list number) false
+
+-- of what is not some nothing is left
+pub none_is_left : (o : Option Request) → is_some o ≡ false → o ≡ None
+none_is_left None e = refl
+none_is_left (Some r) e = absurd (true≢false e)
 
 -- how many requests are not taken
 abbrev pub open_number : List (Option Request) → ℕ

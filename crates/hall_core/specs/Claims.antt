@@ -98,3 +98,9 @@ abbrev pub HoldsWhatIsKept : HallView → (p request : ℕ) → Claim → Type 0
 HoldsWhatIsKept hall p request (Done reply) = IsNoDelivery reply
 HoldsWhatIsKept hall p request (Ready shared rank room) =
     IsHeld hall p request (arc_value shared) rank
+
+-- the claim has this instance, and the rank in it of p
+abbrev pub HoldsShare : (p : ℕ) → Full Contents → Claim → Type 0
+HoldsShare p full (Done reply) = ⊥
+HoldsShare p full (Ready shared rank room) =
+    (arc_value shared ≡ full) × (rank_in full.roll.members p ≡ Some rank)

@@ -10,5 +10,6 @@ pub mod Machines
 pub mod Moves
 pub mod Settling
 pub mod Sharing
+pub mod Slots
 pub mod Windows
 pub mod Worlds

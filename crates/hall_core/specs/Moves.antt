@@ -1,7 +1,6 @@
 -- What a call makes of a hall, by what callers can tell. (The contracts of the hall's own steps.)
 use Rattle.std.specs.Prelude.{◌≡◌, ◌≢◌, ◌==◌, ◌&&◌, ◌+◌, ◌≤◌, ◌<◌, ◌^◌, ℕ, List, [], ◌∷◌, ◌++◌}
 use Rattle.std.specs.Prelude.{Option, Some, length, slice_get, take, drop, nat_lt, if◌then◌else◌}
-use Rattle.std.specs.Arc.{arc_value}
 use Rattle.mpi_elems.specs.Contents.{Contents}
 use Rattle.mpi_group.specs.Groups.{rank_in}
 use Rattle.coll_routes.specs.declared.statement.Stated.{Stated}
@@ -24,8 +23,6 @@ use Rattle.run_model.specs.declared.reply.Reply.{Reply}
 use Rattle.run_model.specs.declared.reply.Reply.TheVariants.{Refused}
 use Rattle.run_model.specs.Runs.{after_entry, given_in, with_contribution, Effects, MakesNothing}
 use Rattle.run_model.specs.Replies.{info_on, reply_by, reply_by_outcome, IsAnswer, posts_made}
-use Rattle.hall_core.specs.declared.claims.Claim.{Claim}
-use Rattle.hall_core.specs.declared.claims.Claim.TheVariants.{Done, Ready}
 use Rattle.hall_core.specs.declared.looks.Due.{Due}
 use Rattle.hall_core.specs.declared.looks.Due.TheVariants as dues
 use Rattle.hall_core.specs.declared.looks.Open.{Open}
@@ -159,12 +156,6 @@ pub record IsGrantIn (hall : HallView) (p request : ℕ) (full : Full Contents) 
   pub is_open : IsOpen hall it (settlement full Granted)
   pub is_member : rank_in full.roll.members p ≡ Some rank
   pub can : CanDeliver full rank
-
--- the claim has room for this rank, and is on the instance that the request is for
-abbrev pub HoldsGrant : HallView → Open → (rank : ℕ) → Claim → Type 0
-HoldsGrant hall it rank (Done got) = ⊥
-HoldsGrant hall it rank (Ready full its room) = (its ≡ rank)
-    × (hall.settled it.comm it.k ≡ Some (settlement (arc_value full) Granted))
 
 -- What a look at a request of p finds: a reply that changes nothing, or what came of the instance.
 abbrev pub FindsIn : HallView → (p request : ℕ) → Due → Type 0

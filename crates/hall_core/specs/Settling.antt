@@ -1,10 +1,17 @@
 -- The places of instances, looked up by communicator and number.
-use Rattle.std.specs.Prelude.{◌≡◌, ℕ, ◌+◌, ◌-◌, ◌<◌, ◌≤◌, ◌==◌, ◌&&◌, List, [], length}
-use Rattle.std.specs.Prelude.{slice_index_or, Option, None, Some, if◌then◌else◌}
+use Rattle.std.specs.Prelude.{◌≡◌, ℕ, ◌+◌, ◌-◌, ◌<◌, ◌==◌, ◌&&◌, List, [], length}
+use Rattle.std.specs.Prelude.{slice_index_or, Option, None, Some, is_some, if◌then◌else◌}
+use Rattle.std.specs.Prelude.{Bool, true, false, not, ◌||◌, refl}
+use Rattle.std.proofs.Common.{eqb-true}
+use Rattle.std.proofs.lemmas.Bool.{true≢false}
+use Rattle.std.specs.Arc.{arc_value}
+use Rattle.run_model.specs.declared.outcome.Outcome.TheVariants.{Granted}
 use Rattle.hall_core.specs.declared.settled.Settlement.{Settlement}
+use Rattle.hall_core.specs.declared.settled.Share.{Share}
+use Rattle.hall_core.specs.declared.settled.Share.TheVariants.{Awaited, Given, Withheld}
 use Rattle.hall_core.specs.declared.settled.Place.{Place}
 use Rattle.hall_core.specs.Asking.{open_for}
-use Rattle.hall_core.specs.Windows.{Windowed}
+use Rattle.hall_core.specs.Windows.{Windowed, IsInWindow}
 use Rattle.hall_core.specs.declared.requests.Request.{Request}
 
 -- the places of one communicator's instances by number
@@ -15,8 +22,25 @@ Places = Windowed Place
 abbrev pub nothing : Place
 nothing = record { waiting = 0; settlement = None }
 
+-- something stands there: a request waits, or what came of the instance
+abbrev pub stands : Place → Bool
+stands place = not (place.waiting == 0) || is_some place.settlement
+
+-- of what does not stand nothing is left
+pub nothing_stands : (place : Place) → stands place ≡ false → place ≡ nothing
+nothing_stands place none = from (place.waiting == 0) refl place.settlement refl none
+  where
+    from : (b : Bool) → (place.waiting == 0) ≡ b → (s : Option Settlement) →
+        place.settlement ≡ s → (not b || is_some s) ≡ false → place ≡ nothing
+    from true zero_is None none_is h = λ i. record {
+      waiting = eqb-true place.waiting 0 zero_is i;
+      settlement = none_is i;
+    }
+    from true zero_is (Some s) some_is h = absurd (true≢false h)
+    from false more s is h = absurd (true≢false h)
+
 abbrev pub no_places : Places
-no_places = record { first = 0; list = []; room = 0 }
+no_places = record { numbers = []; list = []; room = 0 }
 
 abbrev pub place_in : List Place → (k : ℕ) → Place
 place_in list k = slice_index_or list k nothing
@@ -39,8 +63,7 @@ settlement_at rows c k = (place_at rows c k).settlement
 -- there is a place for instance k of communicator c
 pub record HasPlace (rows : List Places) (c k : ℕ) : Type 0 where
   pub there : c < length rows
-  pub low : (places_of rows c).first ≤ k
-  pub within : k < length (places_of rows c).list
+  pub kept : IsInWindow (places_of rows c) k
 
 -- ## changes
 
@@ -75,3 +98,12 @@ pub record KeepsCount (asked : (p : ℕ) → List (Option Request)) (processes :
   pub waiting : (c k : ℕ) → open_at rows c k ≡ open_for asked processes c k
   pub held : (c k : ℕ) (s : Settlement) → settlement_at rows c k ≡ Some s →
       0 < open_at rows c k
+
+-- ## shares
+
+-- What is handed out of an instance of which this came: it is awaited where nothing did, and given
+-- only where it was granted.
+abbrev pub IsShareOf : Option Settlement → Share → Type 0
+IsShareOf came Awaited = came ≡ None
+IsShareOf came (Given full) = came ≡ Some (record { full = arc_value full; outcome = Granted })
+IsShareOf came Withheld = (s : Settlement) × (came ≡ Some s)

@@ -25,6 +25,7 @@ mod requests;
 mod room;
 mod runs;
 mod settled;
+mod slots;
 mod takes;
 mod window;
 mod worlds;

@@ -1,27 +1,32 @@
 //! All that a hall keeps.
-ghost use Rattle.std.specs.Prelude.{◌≡◌, [], length, IfOk};
+ghost use Rattle.std.specs.Prelude.{◌≡◌, ◌≢◌, [], length, IfOk, Some, None};
+ghost use Rattle.std.specs.Arc.{arc_value};
 ghost use Rattle.std.specs.Option.{option_map};
 ghost use Rattle.wall_policy.specs.Policy.{IsPolicy};
 ghost use Rattle.mpi_cart.specs.Grids.{Topology};
+ghost use Rattle.mpi_group.specs.Groups.{rank_in};
+ghost use Rattle.coll_values.specs.Instances.{IsWhole};
 ghost use Rattle.run_model.specs.Comms.{processes};
 ghost use Rattle.run_model.specs.declared.reply.Reply.TheVariants.{Info};
-ghost use Rattle.hall_core.specs.Asking.{requests_of};
-ghost use Rattle.hall_core.specs.Settling.{KeepsCount};
+ghost use Rattle.hall_core.specs.Asking.{opened, requests_of};
+ghost use Rattle.hall_core.specs.Claims.{CanFinish, HoldsShare};
+ghost use Rattle.hall_core.specs.Settling.{IsShareOf, KeepsCount, settlement_at};
 
 use crate::claims::Claim;
 use crate::ledger::Ledger;
 use crate::looks::{Due, Open};
-use crate::requests::Requests;
-use crate::settled::{Settlement, Settlements};
+use crate::requests::{Request, Requests};
+use crate::settled::{Settlement, Settlements, Share};
 use crate::takes::found;
 use crate::{posts, requests};
 use coll_routes::Shape;
-use coll_values::{deliver, room};
+use coll_values::{Full, deliver, room};
 use mpi_elems::Buffer;
 use run_model::{Act, Refusal, Reply};
 use run_state::PostState;
 use std::alloc::Global;
-use wall_labels::NoMemory;
+use std::sync::Arc;
+use wall_labels::{NoMemory, ProcessId};
 use wall_policy::Policy;
 
 /// The policy; the counted posts so far, as the state has them; the requests of each process; the
@@ -58,17 +63,15 @@ impl Drop for Records {
 }
 
 impl Records {
-    ghost use Rattle.mpi_elems.specs.Contents.{Contents};
-    ghost use Rattle.coll_values.specs.declared.full.Full.{Full};
     ghost use Rattle.run_model.specs.declared.call.Act.TheVariants.{Take as ToTake};
+    ghost use Rattle.run_model.specs.declared.outcome.Outcome.TheVariants.{Granted};
     ghost use Rattle.run_model.specs.Runs.{effects, MakesNothing};
-    ghost use Rattle.hall_core.specs.Claims.{claim_reply, CanFinish, HoldsWhatIsKept};
+    ghost use Rattle.hall_core.specs.Claims.{claim_reply, HoldsWhatIsKept};
     ghost use Rattle.hall_core.specs.declared.settled.Settlement.{Settlement};
     ghost use Rattle.hall_core.specs.Looks.{IsOpen};
-    ghost use Rattle.hall_core.specs.Halls.{StandsForEffects};
+    ghost use Rattle.hall_core.specs.Halls.{StandsForEffects, settlement};
     ghost use Rattle.hall_core.specs.Invariant.{IsHallView, Keeps, view_in};
-    ghost use Rattle.hall_core.specs.Moves.{info_of, Closes, Steps, FindsIn, IsGrantIn};
-    ghost use Rattle.hall_core.specs.Moves.{HoldsGrant};
+    ghost use Rattle.hall_core.specs.Moves.{info_of, Closes, Steps, FindsIn};
 
     /// Records of no call.
     pub fn open(alloc: Global, policy: Policy) -> Result<Records, NoMemory>
@@ -166,8 +169,21 @@ impl Records {
         ensures keeps { Keeps self.old self.new }
         ensures closes { Closes (view_in self.old) (view_in self.new) it.process it.request }
     {
-        requests::take(&mut self.requests, it.process, it.request as usize);
-        self.settled.leave(it.comm, it.k);
+        let asked = Request {
+            comm: it.comm,
+            k: it.k,
+        };
+        self.close_asked(it.process, it.request, asked);
+    }
+
+    // The same, by the instance that the request is for.
+    fn close_asked(&mut self, process: u32, request: u64, asked: Request)
+        requires { opened (requests_of self.old.requests.items process) request ≡ Some asked }
+        ensures keeps { Keeps self.old self.new }
+        ensures closes { Closes (view_in self.old) (view_in self.new) process request }
+    {
+        requests::take(&mut self.requests, process, request as usize);
+        self.settled.leave(asked.comm, asked.k);
     }
 
     /// The outcome of a request, which is then marked as taken.
@@ -209,64 +225,93 @@ impl Records {
         ensures can { CanFinish result }
         ensures holds { HoldsWhatIsKept (view_in self.old) process request result }
     {
-        match self.look(process, request) {
-            Due::Told(reply) => Claim::Done(reply),
-            Due::Outcome(reply, it) => {
-                self.close(it);
-                Claim::Done(reply)
-            }
-            Due::Granted { rank, open: it, .. } => self.claim_granted(rank, it),
+        // Not by `look`: a rank that waits comes here at each of its tries.
+        let Some(asked) = requests::opened_by(&self.requests, process, request as usize) else {
+            return Claim::Done(Reply::Refused(Refusal::NoSuchRequest));
+        };
+        match self.share(asked.comm, asked.k) {
+            Share::Awaited => Claim::Done(Reply::Pending),
+            Share::Given(full) => self.claim_shared(process, request, asked, full),
+            Share::Withheld => self.claim_looked(process, request),
         }
     }
 
-    // A claim of this rank for an open request whose instance was granted.
-    fn claim_granted(&mut self, rank: u32, it: Open) -> Claim
-        requires { (full : Full Contents)
-            × IsGrantIn (view_in self.old) it.process it.request full rank it }
+    // A share of an instance, where it was granted and there is memory. Callers can tell no
+    // difference.
+    #[tactic(auto, using(crate::proofs::CountLemmas::counted_ready, crate::proofs::CountLemmas::settled_same))]
+    fn share(&mut self, comm: u32, k: u64) -> Share
         ensures keeps { Keeps self.old self.new }
-        ensures steps { Steps (view_in self.old) (view_in self.new) it.process
-            (ToTake it.request) (claim_reply result) }
+        ensures same { view_in self.new ≡ view_in self.old }
+        ensures shares { IsShareOf (settlement_at self.old.settled comm k) result }
+    {
+        self.settled.share(comm, k)
+    }
+
+    // A claim of an open request by this share of its instance, which was granted.
+    fn claim_shared(
+        &mut self,
+        process: u32,
+        request: u64,
+        asked: Request,
+        full: Arc<Full<Buffer>>,
+    ) -> Claim
+        requires hall { IsHallView (view_in self.old) }
+        requires waits { opened (requests_of self.old.requests.items process) request
+            ≡ Some asked }
+        requires granted { settlement_at self.old.settled asked.comm asked.k
+            ≡ Some (settlement (arc_value full) Granted) }
+        ensures keeps { Keeps self.old self.new }
+        ensures steps { Steps (view_in self.old) (view_in self.new) process (ToTake request)
+            (claim_reply result) }
         ensures unchanged { MakesNothing (claim_reply result) →
             view_in self.new ≡ view_in self.old }
         ensures can { CanFinish result }
-        ensures holds { HoldsWhatIsKept (view_in self.old) it.process it.request result }
+        ensures holds { HoldsWhatIsKept (view_in self.old) process request result }
     {
-        self.freeze(it.comm, it.k);
-        match self.ready(rank, it) {
+        match ready(self.alloc, posts::member(process), full) {
             Ok(claim) => {
-                self.close(it);
+                self.close_asked(process, request, asked);
                 claim
             }
             Err(_) => Claim::Done(Reply::Refused(Refusal::NoMemory)),
         }
     }
 
-    // Shares an instance, where it was granted and there is memory. Callers can tell no difference.
-    #[tactic(auto, using(crate::proofs::CountLemmas::counted_ready, crate::proofs::CountLemmas::settled_same))]
-    fn freeze(&mut self, comm: u32, k: u64)
+    // A claim of a request whose instance there is no share of: what a look finds, or no memory to
+    // share what was granted.
+    fn claim_looked(&mut self, process: u32, request: u64) -> Claim
+        requires { IsHallView (view_in self.old) }
         ensures keeps { Keeps self.old self.new }
-        ensures same { view_in self.new ≡ view_in self.old }
+        ensures steps { Steps (view_in self.old) (view_in self.new) process (ToTake request)
+            (claim_reply result) }
+        ensures unchanged { MakesNothing (claim_reply result) →
+            view_in self.new ≡ view_in self.old }
+        ensures can { CanFinish result }
+        ensures holds { HoldsWhatIsKept (view_in self.old) process request result }
     {
-        self.settled.freeze(comm, k);
+        match self.look(process, request) {
+            Due::Told(reply) => Claim::Done(reply),
+            Due::Outcome(reply, it) => {
+                self.close(it);
+                Claim::Done(reply)
+            }
+            Due::Granted { .. } => Claim::Done(Reply::Refused(Refusal::NoMemory)),
+        }
     }
+}
 
-    // A share of an instance that was granted, and room for what this rank gets of it.
-    fn ready(&self, rank: u32, it: Open) -> Result<Claim, NoMemory>
-        requires granted { (full : Full Contents)
-            × IsGrantIn (view_in self.now) it.process it.request full rank it }
-        ensures can { IfOk result CanFinish }
-        ensures holds { IfOk result (HoldsGrant (view_in self.now) it rank) }
-    {
-        let Some(place) = self.settled.place(it.comm, it.k) else {
-            unreachable!()
-        };
-        let Some(settlement) = &place.settlement else {
-            unreachable!()
-        };
-        let full = settlement.full.share()?;
-        let room = room(self.alloc, &full, rank)?;
-        Ok(Claim::Ready { full, rank, room })
-    }
+// A claim of a member by a share of its instance: its rank there, and room for what that gets.
+fn ready(alloc: Global, member: ProcessId, full: Arc<Full<Buffer>>) -> Result<Claim, NoMemory>
+    requires whole { IsWhole (arc_value full) }
+    requires member { rank_in (arc_value full).roll.members member ≢ None }
+    ensures can { IfOk result CanFinish }
+    ensures holds { IfOk result (HoldsShare member (arc_value full)) }
+{
+    let Some(rank) = full.roll.members.rank_of(member) else {
+        unreachable!()
+    };
+    let room = room(alloc, &full, rank)?;
+    Ok(Claim::Ready { full, rank, room })
 }
 
 // No request for each process of the policy.

@@ -28,22 +28,31 @@ pub struct Requests {
 }
 
 impl Forgettable for Option<Request> {
+    ghost use Rattle.std.specs.Prelude.{None, is_some, refl};
+    ghost use Rattle.hall_core.specs.Asking.{none_is_left};
+
     ghost nothing = { None };
+
+    ghost is_left = { is_some };
+
+    ghost none = { refl };
+
+    ghost only = { none_is_left };
 
     fn nothing() -> Option<Request> {
         None
     }
 
-    fn is_nothing(&self) -> bool {
-        self.is_none()
+    fn is_some_left(&self) -> bool {
+        self.is_some()
     }
 }
 
 impl Model for Requests {
     ghost use Rattle.std.specs.Prelude.{◌≡◌};
-    ghost use Rattle.std.specs.Prelude.{None};
+    ghost use Rattle.std.specs.Prelude.{is_some};
     ghost use Rattle.hall_core.specs.Asking.{Asked, open_number};
-    ghost use Rattle.hall_core.specs.Windows.{IsTrimmed};
+    ghost use Rattle.hall_core.specs.Windows.{HoldsHalf};
 
     ghost Value = { Asked };
 
@@ -51,7 +60,7 @@ impl Model for Requests {
 
     ghost invariant = { λ r. record {
       waiting : r.waiting ≡ open_number r.window.list;
-      trimmed : IsTrimmed None r.window;
+      half : HoldsHalf is_some r.window;
     } };
 }
 

@@ -1,17 +1,21 @@
 //! The places of instances, each with what came of it.
-ghost use Rattle.std.specs.Prelude.{◌≡◌, ◌<◌, ◌+◌, ◌^◌, ℕ, length, max, None};
+ghost use Rattle.std.specs.Prelude.{◌≡◌, ◌<◌, ◌+◌, ◌^◌, ℕ, length, max, Some, None};
 ghost use Rattle.std.specs.Prelude.{OnOk, OnErr, IsTrue, unwrap_or};
 ghost use Rattle.std.specs.Option.{option_copied};
 ghost use Rattle.run_model.specs.declared.outcome.Outcome.TheVariants.{Granted};
-ghost use Rattle.hall_core.specs.Settling.{nothing, place_at, open_at, HasPlace, one_more};
+ghost use Rattle.hall_core.specs.Settling.{nothing, stands, place_at, open_at, HasPlace, one_more};
 ghost use Rattle.hall_core.specs.Settling.{one_fewer, settled_as, places_of, AreSame, IsPlaced};
-ghost use Rattle.hall_core.specs.Windows.{IsTrimmed, HasReached, KeepAlike};
+ghost use Rattle.hall_core.specs.Settling.{IsShareOf, settlement_at};
+ghost use Rattle.hall_core.specs.Windows.{HoldsHalf, HasReached, KeepAlike};
 
 use crate::instance::Instance;
 use crate::window::{Forgettable, Window};
+use coll_values::Full;
+use mpi_elems::Buffer;
 use run_model::Outcome;
 use std::alloc::Global;
 use std::marker::Model;
+use std::sync::Arc;
 use wall_labels::NoMemory;
 
 /// A full instance, and its outcome.
@@ -44,6 +48,30 @@ impl Settlement {
         let full = full.frozen(alloc);
         Settlement { full, outcome }
     }
+
+    // A share of it, where it was granted and is shared.
+    fn share(&self) -> Share
+        ensures { IsShareOf (Some self.now) result }
+    {
+        if !matches!(&self.outcome, Outcome::Granted) {
+            return Share::Withheld;
+        }
+        match self.full.share() {
+            Ok(full) => Share::Given(full),
+            Err(_) => Share::Withheld,
+        }
+    }
+}
+
+/// What a claim gets of an instance.
+#[derive(Drop)]
+pub enum Share {
+    /// Nothing came of it yet.
+    Awaited,
+    /// It was granted: the instance, which never changes again.
+    Given(Arc<Full<Buffer>>),
+    /// It was not granted, or there is no memory to share it.
+    Withheld,
 }
 
 /// The place of an instance: how many of the requests for it wait to be taken, and what came of it,
@@ -90,6 +118,18 @@ fn freeze_place(alloc: Global, place: &mut Place)
     }
 }
 
+// A share of the instance at the place, if there is one that was granted, and memory.
+fn share_of(alloc: Global, place: &mut Place) -> Share
+    ensures same { place.new ≡ place.old }
+    ensures shares { IsShareOf place.old.settlement result }
+{
+    freeze_place(alloc, place);
+    match &place.settlement {
+        Some(settlement) => settlement.share(),
+        None => Share::Awaited,
+    }
+}
+
 // Shares the instance at the place, if there is one and memory for it.
 fn share_in(alloc: Global, place: &mut Place)
     ensures { place.new ≡ place.old }
@@ -101,7 +141,16 @@ fn share_in(alloc: Global, place: &mut Place)
 }
 
 impl Forgettable for Place {
+    ghost use Rattle.std.specs.Prelude.{refl};
+    ghost use Rattle.hall_core.specs.Settling.{nothing, stands, nothing_stands};
+
     ghost nothing = { nothing };
+
+    ghost is_left = { stands };
+
+    ghost none = { refl };
+
+    ghost only = { nothing_stands };
 
     fn nothing() -> Place {
         Place {
@@ -110,14 +159,14 @@ impl Forgettable for Place {
         }
     }
 
-    fn is_nothing(&self) -> bool {
-        self.waiting == 0 && self.settlement.is_none()
+    fn is_some_left(&self) -> bool {
+        self.waiting != 0 || self.settlement.is_some()
     }
 }
 
 /// For each communicator the places of its instances. An instance is let go when no request for it
-/// is open any more, so there is a place for each instance with an open request, and for those
-/// between the first and the last of a communicator.
+/// is open any more, so there is a place for each instance with an open request, and behind each
+/// take for no more than as many others.
 pub struct Settlements {
     alloc: Global,
     rows: Vec<Window<Place>>,
@@ -199,16 +248,18 @@ impl Settlements {
         place.settlement = Some(settlement);
     }
 
-    /// Shares instance k of a communicator, where it was granted and there is memory. Callers can
-    /// tell no difference.
-    pub fn freeze(&mut self, comm: u32, k: u64)
-        ensures { AreSame self.old self.new }
+    /// A share of instance k of a communicator, where it was granted and there is memory. Callers
+    /// can tell no difference.
+    pub fn share(&mut self, comm: u32, k: u64) -> Share
+        ensures same { AreSame self.old self.new }
+        ensures shares { IsShareOf (settlement_at self.old comm k) result }
     {
         let Some(row) = self.rows.get_mut(comm as usize) else {
-            return;
+            return Share::Awaited;
         };
-        if let Some(place) = row.get_mut(k as usize) {
-            freeze_place(self.alloc, place);
+        match row.get_mut(k as usize) {
+            Some(place) => share_of(self.alloc, place),
+            None => Share::Awaited,
         }
     }
 
@@ -218,7 +269,7 @@ impl Settlements {
         requires { 0 < open_at self.old comm k }
         ensures placed { IsPlaced self.old self.new comm k
             (one_fewer (place_at self.old comm k)) }
-        ensures trimmed { IsTrimmed nothing (places_of self.new comm) }
+        ensures half { HoldsHalf stands (places_of self.new comm) }
     {
         let row = &mut self.rows[comm as usize];
         let Some(place) = row.get_mut(k as usize) else {

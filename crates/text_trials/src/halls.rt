@@ -98,18 +98,6 @@ fn copy_world(
     assert!(rt; is_as_said, "{request}");
 }
 
-/// How many pages fewer are resident once the process takes this request.
-fn pages_of_taking<R: Files + AllocGlobal + Abort>(
-    rt: &R,
-    hall: &mut BriefHall,
-    request: u64,
-) -> Result<u64, Fail> {
-    let before = pages(rt, 1)?;
-    pass(rt, hall, request);
-    let after = pages(rt, 1)?;
-    Ok(before.saturating_sub(after))
-}
-
 /// A hall of the lone process.
 fn opened(rt: &(impl AllocGlobal + Abort)) -> BriefHall {
     match BriefHall::open(rt.alloc(), policy_of(rt, LONE)) {
@@ -118,43 +106,17 @@ fn opened(rt: &(impl AllocGlobal + Abort)) -> BriefHall {
     }
 }
 
-/// A window of 100,000 requests, of 24 bytes each, behind an open one on another communicator: some
-/// 586 pages.
-#[test]
-fn pages_of_a_long_window_are_given_back(rt: HostRuntime) -> Result<(), Fail> {
-    let mut hall = opened(&rt);
-    copy_world(&rt, &mut hall, 0, Some(1));
-    bar(&rt, &mut hall, 0, 1);
-    bar_often(&rt, &mut hall, 1, 2, 100_000);
-    let pages = pages_of_taking(&rt, &mut hall, 1);
-    drop(hall);
-    let pages = pages?;
-    assert!(&rt; 450 < pages, "{pages} pages fewer");
-    Ok(())
-}
-
-/// A window of 50,000 requests, which are 293 pages, and as many places of one communicator, of
-/// more than 128 bytes each: more than 1,560.
-#[test]
-fn pages_of_a_long_row_are_given_back(rt: HostRuntime) -> Result<(), Fail> {
-    let mut hall = opened(&rt);
-    bar(&rt, &mut hall, 0, 0);
-    bar_often(&rt, &mut hall, 0, 1, 50_000);
-    let pages = pages_of_taking(&rt, &mut hall, 0);
-    drop(hall);
-    let pages = pages?;
-    assert!(&rt; 1200 < pages, "{pages} pages fewer");
-    Ok(())
-}
-
-/// How many more pages are asked for by 20,000 barriers more.
+/// How many more pages are asked for by 20,000 barriers more on a communicator, where this request
+/// is the next.
 fn pages_of_news<R: Files + AllocGlobal + Abort>(
     rt: &R,
     hall: &mut BriefHall,
+    comm: u32,
+    next: u64,
 ) -> Result<u64, Fail> {
-    bar_often(rt, hall, 0, 0, 1000);
+    bar_often(rt, hall, comm, next, 1000);
     let before = pages(rt, 0)?;
-    bar_often(rt, hall, 0, 1000, 21_000);
+    bar_often(rt, hall, comm, 1000, 21_000);
     let after = pages(rt, 0)?;
     assert!(rt; hall.news().is_empty());
     Ok(after.saturating_sub(before))
@@ -165,10 +127,39 @@ fn pages_of_news<R: Files + AllocGlobal + Abort>(
 #[test]
 fn news_are_let_go(rt: HostRuntime) -> Result<(), Fail> {
     let mut hall = opened(&rt);
-    let more = pages_of_news(&rt, &mut hall);
+    let more = pages_of_news(&rt, &mut hall, 0, 0);
     drop(hall);
     let more = more?;
     assert!(&rt; more < 128, "{more} pages more");
+    Ok(())
+}
+
+/// A request that stays open keeps its own place and that of its instance, and none of those behind
+/// it: 20,000 requests of 24 bytes each, and as many places of its communicator, of more than 128,
+/// would be more than 700 pages.
+#[test]
+fn an_open_request_keeps_its_own_place(rt: HostRuntime) -> Result<(), Fail> {
+    let mut hall = opened(&rt);
+    bar(&rt, &mut hall, 0, 0);
+    let more = pages_of_news(&rt, &mut hall, 0, 1);
+    pass(&rt, &mut hall, 0);
+    drop(hall);
+    let more = more?;
+    assert!(&rt; more < 128, "{more} pages more");
+    Ok(())
+}
+
+/// So is it with those on another communicator.
+#[test]
+fn an_open_request_is_alone_on_its_communicator(rt: HostRuntime) -> Result<(), Fail> {
+    let mut hall = opened(&rt);
+    copy_world(&rt, &mut hall, 0, Some(1));
+    bar(&rt, &mut hall, 0, 1);
+    let more = pages_of_news(&rt, &mut hall, 1, 2);
+    pass(&rt, &mut hall, 1);
+    drop(hall);
+    let more = more?;
+    assert!(&rt; more < 64, "{more} pages more");
     Ok(())
 }
 
