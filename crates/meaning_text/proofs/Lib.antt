@@ -1,6 +1,6 @@
--- the first of the numbers from one on
-mod FirstLemmas
 -- names by number
 pub mod NameLemmas
+-- the datasets of a class that are left to name
+mod MemberLemmas
 -- what facts and warnings name
 mod KnownLemmas

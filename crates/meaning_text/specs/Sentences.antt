@@ -1,16 +1,16 @@
 -- The line of each fact and of each warning. (Own format.)
 use Rattle.std.specs.Prelude.{◌≡◌, ℕ, ◌<◌, ◌↔◌, nat_eq, Bool, true, false, List, [], ◌++◌, codes}
-use Rattle.std.specs.Prelude.{AllPairs, Contains}
-use Rattle.std.specs.Prelude.{Option, Some, None, find, length, if◌then◌else◌}
+use Rattle.std.specs.Prelude.{AllPairs, Contains, map, ◌∷◌}
+use Rattle.std.specs.Prelude.{if◌then◌else◌}
 use Rattle.std.specs.List.{flat_map}
 use Rattle.std.specs.Fmt.{decimal}
 use Rattle.wall_labels.specs.declared.op.Op.{Op}
 use Rattle.wall_labels.specs.Ops.{op_name}
-use Rattle.wall_policy.specs.Policy.{ChineseWall, rival}
-use Rattle.mpi_cart.specs.Grids.{below}
+use Rattle.wall_policy.specs.Policy.{ChineseWall}
+use Rattle.wall_policy.specs.Rivals.{datasets_in}
 use Rattle.coll_text.specs.Words.{name_at}
 use Rattle.policy_meaning.specs.declared.fact.Fact.{Fact}
-use Rattle.policy_meaning.specs.declared.fact.Fact.TheVariants.{OfClass, AtHome, NoHome}
+use Rattle.policy_meaning.specs.declared.fact.Fact.TheVariants.{HasClass, AtHome, NoHome}
 use Rattle.policy_meaning.specs.declared.fact.Fact.TheVariants.{KeptApart, SanitisedFrom}
 use Rattle.policy_meaning.specs.declared.warning.Doubt.{Doubt}
 use Rattle.policy_meaning.specs.declared.warning.Doubt.TheVariants.{TooFewProcesses}
@@ -30,18 +30,17 @@ dataset_name wall d = name_at wall.dataset_names d
 abbrev pub process_name : ChineseWall → ℕ → List ℕ
 process_name wall p = name_at wall.process_names p
 
--- the first rival of a dataset, if it has one
-abbrev pub rival_of : ChineseWall → (dataset : ℕ) → Option ℕ
-rival_of wall d = find (rival wall d) (below (length wall.dataset_names))
+-- the datasets of a class by name, with commas between them; `none`, as no dataset is called, where
+-- it has none
+abbrev pub joined : List (List ℕ) → List ℕ
+joined [] = codes "none"
+joined (name ∷ names) = name ++ flat_map (λ other. codes ", " ++ other) names
 
--- what is said of the class of a dataset: a class has no name here, so another dataset of it is
--- named
-abbrev pub class_words : ChineseWall → (other : Option ℕ) → List ℕ
-class_words wall (Some d) = codes " is in one class with " ++ dataset_name wall d
-class_words wall None = codes " is alone in its class"
+abbrev pub members_text : ChineseWall → (class : ℕ) → List ℕ
+members_text wall class = joined (map (dataset_name wall) (datasets_in wall.classes class))
 
-abbrev pub class_text : ChineseWall → (dataset : ℕ) → List ℕ
-class_text wall d = dataset_name wall d ++ class_words wall (rival_of wall d)
+abbrev pub class_text : ChineseWall → (class : ℕ) → List ℕ
+class_text wall class = name_at wall.class_names class ++ codes ": " ++ members_text wall class
 
 abbrev pub home_text : (process dataset : List ℕ) → List ℕ
 home_text process dataset = process ++ codes " is at home at " ++ dataset
@@ -60,7 +59,7 @@ numbers_text op least distinct =
     op_name op ++ codes " is sanitised from " ++ counts_text least distinct ++ codes " on"
 
 abbrev pub fact_text : ChineseWall → Fact → List ℕ
-fact_text wall (OfClass d class) = class_text wall d
+fact_text wall (HasClass class) = class_text wall class
 fact_text wall (AtHome p d) = home_text (process_name wall p) (dataset_name wall d)
 fact_text wall (NoHome p) = process_name wall p ++ codes " has no home"
 fact_text wall (KeptApart p q) = pair_text (process_name wall p) (process_name wall q)

@@ -1,18 +1,19 @@
 //! The line of each fact and of each warning.
 ghost use Rattle.std.specs.Prelude.{◌≡◌, ◌<◌, ◌++◌, OnOk, IfOk, IfSome, All, length};
 ghost use Rattle.std.specs.List.{flat_map};
-ghost use Rattle.meaning_text.specs.Sentences.{rival_of, class_words, class_text, home_text};
+ghost use Rattle.meaning_text.specs.Sentences.{class_text, members_text, home_text};
 ghost use Rattle.meaning_text.specs.Sentences.{pair_text, datasets_text, counts_text};
 ghost use Rattle.meaning_text.specs.Sentences.{numbers_text, fact_text, number_text, asked_text};
 ghost use Rattle.meaning_text.specs.Sentences.{doubt_text, warning_text, fact_line, is_pair, plain_line};
 ghost use Rattle.meaning_text.specs.Sentences.{pair_line, warning_line, IsMeaning};
+ghost use Rattle.std.specs.Prelude.{codes, if◌then◌else◌};
 ghost use Rattle.wall_labels.specs.Ops.{op_name};
 ghost use Rattle.policy_meaning.specs.Known.{IsKnownFact, IsKnownWarning};
 
 use coll_text::{put, put_decimal};
 use policy_meaning::{Doubt, Fact, Warning, asked, facts, warnings};
 use std::alloc::{AllocError, Global};
-use wall_labels::{DatasetId, NoMemory, Op};
+use wall_labels::{ClassId, DatasetId, NoMemory, Op};
 use wall_policy::Policy;
 
 // Two words one after the other.
@@ -23,43 +24,43 @@ fn put_two(text: &mut Vec<u8>, first: &str, second: &str) -> Result<(), AllocErr
     put(text, second)
 }
 
-// The first rival of the dataset.
-fn rival_of(policy: &Policy, dataset: DatasetId) -> Option<DatasetId>
-    ensures first { result ≡ rival_of policy.now dataset }
-    ensures known { IfSome result (λ other. other < length policy.now.dataset_names) }
+// A name behind others, or the first.
+fn put_next(text: &mut Vec<u8>, is_first: bool, name: &str) -> Result<(), AllocError>
+    ensures { OnOk result (text.new.items ≡ text.old.items
+        ++ (if is_first then name.now else codes ", " ++ name.now)) }
 {
+    if !is_first {
+        put(text, ", ")?;
+    }
+    put(text, name)
+}
+
+// The datasets of the class by name, with commas between them.
+fn put_members(text: &mut Vec<u8>, policy: &Policy, class: ClassId) -> Result<(), AllocError>
+    ensures { OnOk result (text.new.items ≡ text.old.items ++ members_text policy.now class) }
+{
+    let mut is_first = true;
     for number in 0..policy.datasets() {
-        let other = DatasetId::new(number).unwrap();
-        if policy.rival(dataset, other) {
-            return Some(other);
+        let dataset = DatasetId::new(number).unwrap();
+        if policy.class_of(dataset).number() == class.number() {
+            put_next(text, is_first, policy.dataset_name(dataset))?;
+            is_first = false;
         }
     }
-    None
-}
-
-// What is said of the class of a dataset whose first rival this is.
-#[tactic(auto, using(crate::proofs::NameLemmas::name_is))]
-fn put_rival(
-    text: &mut Vec<u8>,
-    policy: &Policy,
-    rival: Option<DatasetId>,
-) -> Result<(), AllocError>
-    requires { IfSome rival (λ other. other < length policy.now.dataset_names) }
-    ensures { OnOk result (text.new.items ≡ text.old.items ++ class_words policy.now rival) }
-{
-    match rival {
-        Some(other) => put_two(text, " is in one class with ", policy.dataset_name(other)),
-        None => put(text, " is alone in its class"),
+    if is_first {
+        return put(text, "none");
     }
+    Ok(())
 }
 
+// The class, with its datasets.
 #[tactic(auto, using(crate::proofs::NameLemmas::name_is))]
-fn put_class(text: &mut Vec<u8>, policy: &Policy, dataset: DatasetId) -> Result<(), AllocError>
-    requires { dataset < length policy.now.dataset_names }
-    ensures { OnOk result (text.new.items ≡ text.old.items ++ class_text policy.now dataset) }
+fn put_class(text: &mut Vec<u8>, policy: &Policy, class: ClassId) -> Result<(), AllocError>
+    requires { class < length policy.now.class_names }
+    ensures { OnOk result (text.new.items ≡ text.old.items ++ class_text policy.now class) }
 {
-    put(text, policy.dataset_name(dataset))?;
-    put_rival(text, policy, rival_of(policy, dataset))
+    put_two(text, policy.class_name(class), ": ")?;
+    put_members(text, policy, class)
 }
 
 fn put_home(text: &mut Vec<u8>, process: &str, dataset: &str) -> Result<(), AllocError>
@@ -112,7 +113,7 @@ fn put_fact(text: &mut Vec<u8>, policy: &Policy, fact: &Fact) -> Result<(), Allo
     ensures { OnOk result (text.new.items ≡ text.old.items ++ fact_text policy.now fact.now) }
 {
     match fact {
-        Fact::OfClass { dataset, class: _ } => put_class(text, policy, *dataset),
+        Fact::HasClass { class } => put_class(text, policy, *class),
         Fact::AtHome { process, dataset } => put_home(
             text,
             policy.process_name(*process),
@@ -298,7 +299,8 @@ fn put_warnings(text: &mut Vec<u8>, policy: &Policy, warnings: &[Warning]) -> Re
 /// What the policy means: a line for each fact that is no pair, one for each warning, and one for
 /// each pair.
 ///
-/// A line has at most 98 bytes, its end left out, since a name has at most 32.
+/// The line of a class has its name and those of all its datasets; another has at most 98 bytes,
+/// its end left out, since a name has at most 32.
 pub fn meaning_text(alloc: Global, policy: &Policy) -> Result<Vec<u8>, NoMemory>
     ensures { IfOk result (λ text. IsMeaning policy.now text.items) }
 {

@@ -8,11 +8,11 @@ use Rattle.wall_labels.specs.declared.op.Op.{Op}
 use Rattle.wall_labels.specs.declared.op.Op.TheVariants.{Max, Min, Sum, Prod, Land, Lor, Lxor, Band}
 use Rattle.wall_labels.specs.declared.op.Op.TheVariants.{Bor, Bxor, Maxloc, Minloc}
 use Rattle.wall_labels.specs.Ops.{op_number, all_ops}
-use Rattle.wall_policy.specs.Policy.{ChineseWall, IsPolicy, home_if_any, home_of, class_of}
+use Rattle.wall_policy.specs.Policy.{ChineseWall, IsPolicy, home_if_any, home_of}
 use Rattle.wall_policy.specs.Policy.{least_of}
 use Rattle.wall_policy.specs.Policy.{distinct_of}
 use Rattle.policy_meaning.specs.declared.fact.Fact.{Fact}
-use Rattle.policy_meaning.specs.declared.fact.Fact.TheVariants.{OfClass, AtHome, NoHome}
+use Rattle.policy_meaning.specs.declared.fact.Fact.TheVariants.{HasClass, AtHome, NoHome}
 use Rattle.policy_meaning.specs.declared.fact.Fact.TheVariants.{KeptApart, SanitisedFrom}
 use Rattle.policy_meaning.specs.Facts.{IsFact, fact_place}
 use Rattle.policy_meaning.specs.Known.{IsKnownFact}
@@ -68,16 +68,10 @@ pub home_known : (wall : ChineseWall) (p d : ℕ) → IsPolicy wall → home_of 
 home_known wall p d policy h =
     let within = home_within wall.homes p d h in omega (arith, within, policy.home_for_each)
 
-pub class_known : (wall : ChineseWall) (d class : ℕ) → IsPolicy wall → class_of wall d ≡ Some class
-    → d < length wall.dataset_names
-class_known wall d class policy h =
-    let within = slice_get_within wall.classes d class h in
-    omega (arith, within, policy.class_for_each)
-
 ---- where facts stand
 
 abbrev pub Stands : ChineseWall → Fact → Type 0
-Stands wall (OfClass d class) = d < length wall.dataset_names
+Stands wall (HasClass class) = class < length wall.class_names
 Stands wall (AtHome p d) = p < length wall.process_names
 Stands wall (NoHome p) = p < length wall.process_names
 Stands wall (KeptApart p q) =
@@ -85,7 +79,7 @@ Stands wall (KeptApart p q) =
 Stands wall (SanitisedFrom op least distinct) = op_number op < 12
 
 pub stands : (wall : ChineseWall) (f : Fact) → IsPolicy wall → IsFact wall f → Stands wall f
-stands wall (OfClass d class) policy h = class_known wall d class policy h
+stands wall (HasClass class) policy h = h
 stands wall (AtHome p d) policy h = home_known wall p d policy h
 stands wall (NoHome p) policy h = h.0
 stands wall (KeptApart p q) policy h = (
@@ -98,30 +92,28 @@ stands wall (SanitisedFrom op least distinct) policy h = op_number_below op
 -- two facts with one place are one
 pub one_at_place : (wall : ChineseWall) (a b : Fact) → IsPolicy wall → IsFact wall a →
     IsFact wall b → fact_place a ≡ fact_place b → a ≡ b
-one_at_place wall (OfClass d c) (OfClass d2 c2) policy h k e =
-    let same : d ≡ d2 = e in
-    let here = ap (class_of wall) same in
-    let class : c ≡ c2 = cc in cc
-one_at_place wall (OfClass d c) (AtHome p2 d2) policy h k e =
-    let one = stands wall (OfClass d c) policy h in
+one_at_place wall (HasClass c) (HasClass c2) policy h k e =
+    let same : c ≡ c2 = e in cc
+one_at_place wall (HasClass c) (AtHome p2 d2) policy h k e =
+    let one = stands wall (HasClass c) policy h in
     let two = stands wall (AtHome p2 d2) policy k in
-    let few = policy.few_processes in let low = policy.few_datasets in absurd (omega arith)
-one_at_place wall (OfClass d c) (NoHome p2) policy h k e =
-    let one = stands wall (OfClass d c) policy h in
+    let few = policy.few_processes in let low = policy.few_classes in absurd (omega arith)
+one_at_place wall (HasClass c) (NoHome p2) policy h k e =
+    let one = stands wall (HasClass c) policy h in
     let two = stands wall (NoHome p2) policy k in
-    let few = policy.few_processes in let low = policy.few_datasets in absurd (omega arith)
-one_at_place wall (OfClass d c) (KeptApart p2 q2) policy h k e =
-    let one = stands wall (OfClass d c) policy h in
+    let few = policy.few_processes in let low = policy.few_classes in absurd (omega arith)
+one_at_place wall (HasClass c) (KeptApart p2 q2) policy h k e =
+    let one = stands wall (HasClass c) policy h in
     let two = stands wall (KeptApart p2 q2) policy k in
-    let few = policy.few_processes in let low = policy.few_datasets in absurd (omega arith)
-one_at_place wall (OfClass d c) (SanitisedFrom op2 l2 n2) policy h k e =
-    let one = stands wall (OfClass d c) policy h in
+    let few = policy.few_processes in let low = policy.few_classes in absurd (omega arith)
+one_at_place wall (HasClass c) (SanitisedFrom op2 l2 n2) policy h k e =
+    let one = stands wall (HasClass c) policy h in
     let two = stands wall (SanitisedFrom op2 l2 n2) policy k in
-    let few = policy.few_processes in let low = policy.few_datasets in absurd (omega arith)
-one_at_place wall (AtHome p d) (OfClass d2 c2) policy h k e =
+    let few = policy.few_processes in let low = policy.few_classes in absurd (omega arith)
+one_at_place wall (AtHome p d) (HasClass c2) policy h k e =
     let one = stands wall (AtHome p d) policy h in
-    let two = stands wall (OfClass d2 c2) policy k in
-    let few = policy.few_processes in let low = policy.few_datasets in absurd (omega arith)
+    let two = stands wall (HasClass c2) policy k in
+    let few = policy.few_processes in let low = policy.few_classes in absurd (omega arith)
 one_at_place wall (AtHome p d) (AtHome p2 d2) policy h k e =
     let same : p ≡ p2 = omega arith in
     let here = ap (home_of wall) same in
@@ -132,15 +124,15 @@ one_at_place wall (AtHome p d) (NoHome p2) policy h k e =
 one_at_place wall (AtHome p d) (KeptApart p2 q2) policy h k e =
     let one = stands wall (AtHome p d) policy h in
     let two = stands wall (KeptApart p2 q2) policy k in
-    let few = policy.few_processes in let low = policy.few_datasets in absurd (omega arith)
+    let few = policy.few_processes in let low = policy.few_classes in absurd (omega arith)
 one_at_place wall (AtHome p d) (SanitisedFrom op2 l2 n2) policy h k e =
     let one = stands wall (AtHome p d) policy h in
     let two = stands wall (SanitisedFrom op2 l2 n2) policy k in
-    let few = policy.few_processes in let low = policy.few_datasets in absurd (omega arith)
-one_at_place wall (NoHome p) (OfClass d2 c2) policy h k e =
+    let few = policy.few_processes in let low = policy.few_classes in absurd (omega arith)
+one_at_place wall (NoHome p) (HasClass c2) policy h k e =
     let one = stands wall (NoHome p) policy h in
-    let two = stands wall (OfClass d2 c2) policy k in
-    let few = policy.few_processes in let low = policy.few_datasets in absurd (omega arith)
+    let two = stands wall (HasClass c2) policy k in
+    let few = policy.few_processes in let low = policy.few_classes in absurd (omega arith)
 one_at_place wall (NoHome p) (AtHome p2 d2) policy h k e =
     let same : p ≡ p2 = omega arith in
     let here = ap (home_of wall) same in absurd cc
@@ -148,23 +140,23 @@ one_at_place wall (NoHome p) (NoHome p2) policy h k e = ap (λ (n : ℕ). NoHome
 one_at_place wall (NoHome p) (KeptApart p2 q2) policy h k e =
     let one = stands wall (NoHome p) policy h in
     let two = stands wall (KeptApart p2 q2) policy k in
-    let few = policy.few_processes in let low = policy.few_datasets in absurd (omega arith)
+    let few = policy.few_processes in let low = policy.few_classes in absurd (omega arith)
 one_at_place wall (NoHome p) (SanitisedFrom op2 l2 n2) policy h k e =
     let one = stands wall (NoHome p) policy h in
     let two = stands wall (SanitisedFrom op2 l2 n2) policy k in
-    let few = policy.few_processes in let low = policy.few_datasets in absurd (omega arith)
-one_at_place wall (KeptApart p q) (OfClass d2 c2) policy h k e =
+    let few = policy.few_processes in let low = policy.few_classes in absurd (omega arith)
+one_at_place wall (KeptApart p q) (HasClass c2) policy h k e =
     let one = stands wall (KeptApart p q) policy h in
-    let two = stands wall (OfClass d2 c2) policy k in
-    let few = policy.few_processes in let low = policy.few_datasets in absurd (omega arith)
+    let two = stands wall (HasClass c2) policy k in
+    let few = policy.few_processes in let low = policy.few_classes in absurd (omega arith)
 one_at_place wall (KeptApart p q) (AtHome p2 d2) policy h k e =
     let one = stands wall (KeptApart p q) policy h in
     let two = stands wall (AtHome p2 d2) policy k in
-    let few = policy.few_processes in let low = policy.few_datasets in absurd (omega arith)
+    let few = policy.few_processes in let low = policy.few_classes in absurd (omega arith)
 one_at_place wall (KeptApart p q) (NoHome p2) policy h k e =
     let one = stands wall (KeptApart p q) policy h in
     let two = stands wall (NoHome p2) policy k in
-    let few = policy.few_processes in let low = policy.few_datasets in absurd (omega arith)
+    let few = policy.few_processes in let low = policy.few_classes in absurd (omega arith)
 one_at_place wall (KeptApart p q) (KeptApart p2 q2) policy h k e =
     let one = stands wall (KeptApart p q) policy h in
     let two = stands wall (KeptApart p2 q2) policy k in
@@ -174,23 +166,23 @@ one_at_place wall (KeptApart p q) (KeptApart p2 q2) policy h k e =
 one_at_place wall (KeptApart p q) (SanitisedFrom op2 l2 n2) policy h k e =
     let one = stands wall (KeptApart p q) policy h in
     let two = stands wall (SanitisedFrom op2 l2 n2) policy k in
-    let few = policy.few_processes in let low = policy.few_datasets in absurd (omega arith)
-one_at_place wall (SanitisedFrom op l n) (OfClass d2 c2) policy h k e =
+    let few = policy.few_processes in let low = policy.few_classes in absurd (omega arith)
+one_at_place wall (SanitisedFrom op l n) (HasClass c2) policy h k e =
     let one = stands wall (SanitisedFrom op l n) policy h in
-    let two = stands wall (OfClass d2 c2) policy k in
-    let few = policy.few_processes in let low = policy.few_datasets in absurd (omega arith)
+    let two = stands wall (HasClass c2) policy k in
+    let few = policy.few_processes in let low = policy.few_classes in absurd (omega arith)
 one_at_place wall (SanitisedFrom op l n) (AtHome p2 d2) policy h k e =
     let one = stands wall (SanitisedFrom op l n) policy h in
     let two = stands wall (AtHome p2 d2) policy k in
-    let few = policy.few_processes in let low = policy.few_datasets in absurd (omega arith)
+    let few = policy.few_processes in let low = policy.few_classes in absurd (omega arith)
 one_at_place wall (SanitisedFrom op l n) (NoHome p2) policy h k e =
     let one = stands wall (SanitisedFrom op l n) policy h in
     let two = stands wall (NoHome p2) policy k in
-    let few = policy.few_processes in let low = policy.few_datasets in absurd (omega arith)
+    let few = policy.few_processes in let low = policy.few_classes in absurd (omega arith)
 one_at_place wall (SanitisedFrom op l n) (KeptApart p2 q2) policy h k e =
     let one = stands wall (SanitisedFrom op l n) policy h in
     let two = stands wall (KeptApart p2 q2) policy k in
-    let few = policy.few_processes in let low = policy.few_datasets in absurd (omega arith)
+    let few = policy.few_processes in let low = policy.few_classes in absurd (omega arith)
 one_at_place wall (SanitisedFrom op l n) (SanitisedFrom op2 l2 n2) policy h k e =
     let same = op_is op op2 (omega arith) in
     let leasts = ap (least_of wall) same in
@@ -212,26 +204,26 @@ add_fact wall xs f n m policy listed fact at next =
     (listed_more (IsFact wall) fact_place xs f n listed fact at
     (λ g other place. one_at_place wall f g policy fact other (at ∙ sym place)))
 
--- No fact stands behind those of the last dataset, of the last process, and of the last pair.
+-- No fact stands behind those of the last class, of the last process, and of the last pair.
 
 none_of_classes : (wall : ChineseWall) (f : Fact) → Stands wall f →
-    length wall.dataset_names ≤ fact_place f → fact_place f < 1024 → ⊥
-none_of_classes wall (OfClass d class) h low high = omega arith
+    length wall.class_names ≤ fact_place f → fact_place f < 1024 → ⊥
+none_of_classes wall (HasClass class) h low high = omega arith
 none_of_classes wall (AtHome p d) h low high = omega arith
 none_of_classes wall (NoHome p) h low high = omega arith
 none_of_classes wall (KeptApart p q) h low high = omega arith
 none_of_classes wall (SanitisedFrom op least distinct) h low high = omega arith
 
 pub past_classes : (wall : ChineseWall) (xs : List Fact) (n : ℕ) → IsPolicy wall →
-    AreFacts wall xs n → length wall.dataset_names ≤ n → n ≤ 1024 → AreFacts wall xs 1024
+    AreFacts wall xs n → length wall.class_names ≤ n → n ≤ 1024 → AreFacts wall xs 1024
 past_classes wall xs n policy listed all few =
     listed_past (IsFact wall) fact_place xs n 1024 listed few
     (λ f fact low high. none_of_classes wall f (stands wall f policy fact) (omega arith) high)
 
 none_of_homes : (wall : ChineseWall) (f : Fact) → IsPolicy wall → Stands wall f →
     1024 + length wall.process_names ≤ fact_place f → fact_place f < 1280 → ⊥
-none_of_homes wall (OfClass d class) policy h low high =
-    let few = policy.few_datasets in omega arith
+none_of_homes wall (HasClass class) policy h low high =
+    let few = policy.few_classes in omega arith
 none_of_homes wall (AtHome p d) policy h low high = omega arith
 none_of_homes wall (NoHome p) policy h low high = omega arith
 none_of_homes wall (KeptApart p q) policy h low high = omega arith
@@ -247,8 +239,8 @@ past_homes wall xs n policy listed all few =
 none_of_pairs : (wall : ChineseWall) (p a b : ℕ) (f : Fact) → IsPolicy wall → b ≤ 256 →
     ((q : ℕ) → a ≤ q → q < b → ¬ (IsFact wall (KeptApart p q))) → IsFact wall f →
     1280 + (256 * p + a) ≤ fact_place f → fact_place f < 1280 + (256 * p + b) → p < 256 → ⊥
-none_of_pairs wall p a b (OfClass d class) policy few none h low high within =
-    let one = class_known wall d class policy h in let all = policy.few_datasets in omega arith
+none_of_pairs wall p a b (HasClass class) policy few none h low high within =
+    let one = h in let all = policy.few_classes in omega arith
 none_of_pairs wall p a b (AtHome q d) policy few none h low high within =
     let one = home_known wall q d policy h in let all = policy.few_processes in omega arith
 none_of_pairs wall p a b (NoHome q) policy few none h low high within =
@@ -271,8 +263,8 @@ past_pairs wall xs p a b n m policy listed from to within more few none =
 
 none_of_later : (wall : ChineseWall) (f : Fact) → IsPolicy wall → Stands wall f →
     1280 + 256 * length wall.process_names ≤ fact_place f → fact_place f < 66816 → ⊥
-none_of_later wall (OfClass d class) policy h low high =
-    let few = policy.few_datasets in omega arith
+none_of_later wall (HasClass class) policy h low high =
+    let few = policy.few_classes in omega arith
 none_of_later wall (AtHome p d) policy h low high = let few = policy.few_processes in omega arith
 none_of_later wall (NoHome p) policy h low high = let few = policy.few_processes in omega arith
 none_of_later wall (KeptApart p q) policy h low high =
@@ -290,8 +282,8 @@ past_all_pairs wall xs n policy listed all few =
 none_of_op : (wall : ChineseWall) (op : Op) (f : Fact) → IsPolicy wall →
     ((least distinct : ℕ) → ¬ (IsFact wall (SanitisedFrom op least distinct))) → IsFact wall f →
     66816 + op_number op ≤ fact_place f → fact_place f < 66816 + op_number op + 1 → ⊥
-none_of_op wall op (OfClass d class) policy none h low high =
-    let one = class_known wall d class policy h in let all = policy.few_datasets in omega arith
+none_of_op wall op (HasClass class) policy none h low high =
+    let one = h in let all = policy.few_classes in omega arith
 none_of_op wall op (AtHome q d) policy none h low high =
     let one = home_known wall q d policy h in let all = policy.few_processes in omega arith
 none_of_op wall op (NoHome q) policy none h low high =
@@ -321,7 +313,7 @@ all_facts wall xs policy listed f = (
 )
   where
     last : (wall : ChineseWall) (f : Fact) → IsPolicy wall → Stands wall f → fact_place f < 66828
-    last wall (OfClass d class) policy h = let few = policy.few_datasets in omega arith
+    last wall (HasClass class) policy h = let few = policy.few_classes in omega arith
     last wall (AtHome p d) policy h = let few = policy.few_processes in omega arith
     last wall (NoHome p) policy h = let few = policy.few_processes in omega arith
     last wall (KeptApart p q) policy h = let few = policy.few_processes in omega arith
@@ -330,7 +322,7 @@ all_facts wall xs policy listed f = (
 -- what a fact names is of the policy
 pub known_fact : (wall : ChineseWall) (f : Fact) → IsPolicy wall → IsFact wall f →
     IsKnownFact wall f
-known_fact wall (OfClass d class) policy h = class_known wall d class policy h
+known_fact wall (HasClass class) policy h = h
 known_fact wall (AtHome p d) policy h = (home_known wall p d policy h, policy.known_homes p d h)
 known_fact wall (NoHome p) policy h = h.0
 known_fact wall (KeptApart p q) policy h = (

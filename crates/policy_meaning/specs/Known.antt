@@ -1,8 +1,8 @@
--- Facts and warnings whose processes and datasets the policy has.
+-- Facts and warnings whose classes, processes and datasets the policy has.
 use Rattle.std.specs.Prelude.{ℕ, ◌<◌, length}
 use Rattle.wall_policy.specs.Policy.{ChineseWall}
 use Rattle.policy_meaning.specs.declared.fact.Fact.{Fact}
-use Rattle.policy_meaning.specs.declared.fact.Fact.TheVariants.{OfClass, AtHome, NoHome}
+use Rattle.policy_meaning.specs.declared.fact.Fact.TheVariants.{HasClass, AtHome, NoHome}
 use Rattle.policy_meaning.specs.declared.fact.Fact.TheVariants.{KeptApart, SanitisedFrom}
 use Rattle.policy_meaning.specs.declared.warning.Warning.{Warning}
 use Rattle.policy_meaning.specs.declared.warning.Warning.TheVariants.{NothingSanitised}
@@ -16,7 +16,7 @@ abbrev pub IsDataset : ChineseWall → ℕ → Type 0
 IsDataset wall d = d < length wall.dataset_names
 
 abbrev pub IsKnownFact : ChineseWall → Fact → Type 0
-IsKnownFact wall (OfClass d class) = IsDataset wall d
+IsKnownFact wall (HasClass class) = class < length wall.class_names
 IsKnownFact wall (AtHome p d) = IsProcess wall p × IsDataset wall d
 IsKnownFact wall (NoHome p) = IsProcess wall p
 IsKnownFact wall (KeptApart p q) = IsProcess wall p × IsProcess wall q

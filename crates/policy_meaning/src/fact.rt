@@ -5,9 +5,8 @@ use wall_labels::{ClassId, DatasetId, Op, ProcessId};
 /// One thing that a policy says.
 #[derive(Clone, Copy, Debug, PartialEq, Eq)]
 pub enum Fact {
-    /// The dataset is one of this class: all others of the class are its rivals.
-    OfClass {
-        dataset: DatasetId,
+    /// There is this class: its datasets are each other's rivals.
+    HasClass {
         class: ClassId,
     },
     /// The process has had access to this dataset from the start.

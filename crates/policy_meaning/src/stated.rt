@@ -10,7 +10,7 @@ ghost use Rattle.policy_meaning.specs.Listed.{AreListed};
 use crate::fact::Fact;
 use crate::ops::OPS;
 use std::alloc::Global;
-use wall_labels::{ClassId, DatasetId, NoMemory, Op, ProcessId};
+use wall_labels::{ClassId, NoMemory, Op, ProcessId};
 use wall_policy::Policy;
 
 /// Whether the two processes are at home at rivals: then neither ever holds data of the other's
@@ -27,15 +27,14 @@ pub fn are_kept_apart(policy: &Policy, left: ProcessId, right: ProcessId) -> boo
     policy.rival(home, other)
 }
 
-// The class of each dataset.
+// The classes, those without a dataset too.
 fn add_classes(policy: &Policy, list: &mut Vec<Fact>) -> Result<(), NoMemory>
     requires { AreListed (IsFact policy.now) fact_place list.old.items 0 }
     ensures { OnOk result (AreListed (IsFact policy.now) fact_place list.new.items 1024) }
 {
-    for number in 0..policy.datasets() {
-        let dataset = DatasetId::new(number).unwrap();
-        let class = policy.class_of(dataset);
-        list.push(Fact::OfClass { dataset, class })?;
+    for number in 0..policy.classes() {
+        let class = ClassId::new(number).unwrap();
+        list.push(Fact::HasClass { class })?;
     }
     Ok(())
 }
@@ -122,8 +121,8 @@ fn add_operations(policy: &Policy, list: &mut Vec<Fact>) -> Result<(), NoMemory>
     Ok(())
 }
 
-/// All that the policy says, each thing once: first the classes of the datasets, then the homes of
-/// the processes, then the pairs that are kept apart, then the operations that are sanitised, each
+/// All that the policy says, each thing once: first the classes, then the homes of the
+/// processes, then the pairs that are kept apart, then the operations that are sanitised, each
 /// by number.
 pub fn facts(alloc: Global, policy: &Policy) -> Result<Vec<Fact>, NoMemory>
     ensures all { IfOk result
