@@ -1,11 +1,10 @@
 -- The bars of a book, entry by entry.
-use Rattle.std.proofs.Common.{◌≡◌, ◌≢◌, ◌⊎◌, ℕ, ◌+◌, ◌-◌, ◌<◌, ◌≤◌, Bool, true, false, not, List}
+use Rattle.std.proofs.Common.{◌≡◌, ℕ, ◌+◌, ◌-◌, ◌<◌, ◌≤◌, true, false, not, List}
 use Rattle.std.proofs.Common.{[]}
-use Rattle.std.proofs.Common.{◌∷◌, ◌++◌, length, get_or, Option, Some, None, refl, sym, ap, ◌∙◌}
+use Rattle.std.proofs.Common.{◌∷◌, ◌++◌, Some, None, refl, sym, ap, ◌∙◌}
 use Rattle.std.proofs.Common.{subst, arith, slice_get, inl, inr}
-use Rattle.std.specs.Prelude.{All, AllPairs, Contains}
+use Rattle.std.specs.Prelude.{All, AllPairs}
 use Rattle.std.proofs.lemmas.Bool.{false≢true, cases_lt}
-use Rattle.std.proofs.lemmas.Option.{slice_get_within}
 use Rattle.std.proofs.lemmas.List.Elements.{All-push, All-weaker, All-get_or, Contains-push}
 use Rattle.std.proofs.lemmas.List.Elements.{Contains-append_left}
 use Rattle.std.proofs.lemmas.List.Quantifiers.{all_pairs_push}
@@ -19,9 +18,9 @@ use Rattle.wall_verdict.specs.Star.{star}
 use Rattle.coll_routes.specs.declared.statement.Stated.{Stated}
 use Rattle.run_model.specs.declared.outcome.Outcome.{Outcome}
 use Rattle.run_model.specs.declared.entry.Entry.{Entry}
-use Rattle.run_model.specs.declared.entry.Entry.TheVariants.{Posted, Settled}
+use Rattle.run_model.specs.declared.entry.Entry.TheVariants.{Settled}
 use Rattle.run_model.specs.Posts.{Post, histories}
-use Rattle.run_model.specs.Books.{posted, IsCounted, histories_before}
+use Rattle.run_model.specs.Books.{posted, IsCounted}
 use Rattle.run_model.specs.Contributions.{Contribution, posts_of}
 use Rattle.run_state.specs.Views.{PostStateValue, view_of}
 use Rattle.run_state.specs.Stands.{StandsForPosts}
@@ -29,7 +28,7 @@ use Rattle.audit_book.specs.Checks.{Stands, bare}
 use Rattle.audit_book.proofs.AuditBookLemmas.{bare_posts}
 use Rattle.book_report.specs.declared.bar.Bar.{Bar}
 use Rattle.book_report.specs.Held.{histories_after, posts_to, IsPostAt}
-use Rattle.book_report.specs.Bars.{IsBar, IsBarredAt, HasBar, AreBars}
+use Rattle.book_report.specs.Bars.{IsBar, IsBarredAt, AreBars}
 use Rattle.book_report.proofs.WalkLemmas.{post_at}
 
 -- the rule as a test passes where the rule does

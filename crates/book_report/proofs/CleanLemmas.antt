@@ -2,7 +2,7 @@
 use Rattle.std.proofs.Common.{◌≡◌, ℕ, ◌+◌, ◌-◌, ◌<◌, false, length, slice_get, Some, arith, subst}
 use Rattle.wall_verdict.specs.Charges.{sanitised}
 use Rattle.run_model.specs.Books.{posted}
-use Rattle.run_model.specs.Posts.{Post, comms, filled}
+use Rattle.run_model.specs.Posts.{comms, filled}
 use Rattle.book_report.specs.declared.place.Instance.{Instance}
 use Rattle.book_report.specs.Held.{posts_to}
 use Rattle.book_report.specs.Walk.{IsGranted}

@@ -1,11 +1,11 @@
 -- The denials of a book, entry by entry.
-use Rattle.std.proofs.Common.{◌≡◌, ◌≢◌, ◌⊎◌, ℕ, ◌+◌, ◌-◌, ◌<◌, ◌≤◌, ◌^◌, Bool, true, false, List}
+use Rattle.std.proofs.Common.{◌≡◌, ℕ, ◌+◌, ◌-◌, ◌<◌, ◌≤◌, Bool, true, false, List}
 use Rattle.std.proofs.Common.{[]}
 use Rattle.std.proofs.Common.{◌∷◌, ◌++◌, length, Option, Some, None, refl, sym, ap, ◌∙◌, subst}
 use Rattle.std.proofs.Common.{arith, slice_get, inl, inr, if◌then◌else◌}
-use Rattle.std.specs.Prelude.{All, AllPairs, Contains}
+use Rattle.std.specs.Prelude.{All, AllPairs}
 use Rattle.std.specs.Option.{option_map}
-use Rattle.std.proofs.lemmas.Bool.{false≢true, cases_lt, cases_Bool}
+use Rattle.std.proofs.lemmas.Bool.{false≢true, cases_lt}
 use Rattle.std.proofs.lemmas.Option.{slice_get_within}
 use Rattle.std.proofs.lemmas.List.Elements.{All-push, All-weaker, All-get_or, Contains-push}
 use Rattle.std.proofs.lemmas.List.Elements.{Contains-append_left}
@@ -32,16 +32,14 @@ use Rattle.run_model.specs.Comms.{new_comms}
 use Rattle.run_model.specs.Posts.{Post, place, comms, filled, outcome, outcome_of, by_verdict}
 use Rattle.run_model.specs.Posts.{histories, labelled}
 use Rattle.run_model.specs.Books.{posted, IsSound}
-use Rattle.run_model.specs.Contributions.{posts_of}
 use Rattle.run_state.specs.declared.entered.Entered.{Entered}
 use Rattle.run_state.specs.declared.entered.Entered.TheVariants.{Waiting as waits}
 use Rattle.run_state.specs.declared.entered.Entered.TheVariants.{Settled as settles}
 use Rattle.run_state.specs.Views.{PostStateValue}
-use Rattle.audit_book.specs.Checks.{Stands, bare}
 use Rattle.audit_book.proofs.AuditBookLemmas.{bare_posts}
 use Rattle.book_report.specs.declared.denial.Denial.{Denial}
 use Rattle.book_report.specs.declared.place.Place.{Place}
-use Rattle.book_report.specs.Held.{histories_after, posts_to, IsPostAt}
+use Rattle.book_report.specs.Held.{histories_after, posts_to}
 use Rattle.book_report.specs.Walk.{IsTold}
 use Rattle.book_report.specs.Denials.{IsDeniedAt, IsFilledAt, IsDenial, HasDenial}
 use Rattle.book_report.specs.Reasons.{IsDenied, IsDeniedPost, AreDenials, HasFollowed}

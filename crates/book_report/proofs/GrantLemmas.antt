@@ -1,5 +1,5 @@
 -- What a grant brings, receiver by receiver and dataset by dataset.
-use Rattle.std.proofs.Common.{◌≡◌, ◌≢◌, ℕ, ◌<◌, Bool, true, false, not, List, length}
+use Rattle.std.proofs.Common.{◌≡◌, ℕ, ◌<◌, Bool, true, false, not, List, length}
 use Rattle.std.proofs.Common.{Option, Some, None, refl, ap, ◌∙◌, slice_get}
 use Rattle.std.proofs.Common.{get_or}
 use Rattle.std.proofs.lemmas.Bool.{false≢true, and_parts}
@@ -12,7 +12,6 @@ use Rattle.mpi_group.specs.Groups.{IsGroup, rank_in}
 use Rattle.mpi_group.proofs.MpiGroupLemmas.{rank_is}
 use Rattle.mpi_group.proofs.MpiGroupLemmas.{ranked}
 use Rattle.coll_routes.specs.declared.roll.Roll.{Roll}
-use Rattle.coll_routes.specs.Rolls.{routed}
 use Rattle.wall_verdict.specs.Charges.{dataset_in, sanitised, charged}
 use Rattle.wall_verdict.specs.Grants.{charged_at, charged_to}
 use Rattle.wall_verdict.proofs.WallVerdictLemmas.{charges_are_labels}

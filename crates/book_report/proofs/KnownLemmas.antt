@@ -1,11 +1,11 @@
 -- What is known of who holds what grows by one pair.
-use Rattle.std.proofs.Common.{◌≡◌, ◌≢◌, ◌⊎◌, ℕ, zero, suc, ◌+◌, ◌<◌, ◌≤◌, Bool, true, false, ◌&&◌}
+use Rattle.std.proofs.Common.{◌≡◌, ℕ, zero, suc, ◌<◌, ◌≤◌, Bool, true, false, ◌&&◌}
 use Rattle.std.proofs.Common.{◌||◌, nat_eq}
 use Rattle.std.proofs.Common.{List, [], ◌∷◌, ◌++◌, length, get_or, refl, sym, ap, ◌∙◌, subst, arith}
 use Rattle.std.proofs.Common.{inl, inr, get_or-set_same, get_or-set_other, replicate}
-use Rattle.std.specs.Prelude.{All, AllPairs, Contains, Result, Ok, Err, OnOk}
+use Rattle.std.specs.Prelude.{All, AllPairs, Result, Ok, Err, OnOk}
 use Rattle.std.proofs.Math.ListN.{set}
-use Rattle.std.proofs.lemmas.Bool.{ne_eqb, eq-eqb, and_parts, false≢true, or_cases, or_left}
+use Rattle.std.proofs.lemmas.Bool.{eq-eqb, and_parts, false≢true, or_cases, or_left}
 use Rattle.std.proofs.lemmas.Bool.{or_right, cases_Bool, eqb-true}
 use Rattle.std.proofs.lemmas.Bool.Decides.{eqb_tells}
 use Rattle.std.proofs.lemmas.List.{get_or_default}

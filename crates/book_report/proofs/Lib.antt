@@ -11,3 +11,6 @@ pub mod ReasonLemmas
 pub mod CountLemmas
 pub mod SanitisedLemmas
 pub mod CleanLemmas
+pub mod TurnLemmas
+pub mod WaitLemmas
+pub mod MeetingLemmas

@@ -1,10 +1,9 @@
 -- The least pair that offends is of the lowest rank that gives the receiver what it may not have.
-use Rattle.std.proofs.Common.{◌≡◌, ◌≢◌, ◌⊎◌, ℕ, ◌+◌, ◌<◌, ◌≤◌, ◌||◌, Bool, true, false, List}
+use Rattle.std.proofs.Common.{◌≡◌, ℕ, ◌<◌, true}
 use Rattle.std.proofs.Common.{Option}
-use Rattle.std.proofs.Common.{Some, None, length, refl, sym, ap, ◌∙◌, subst, arith, slice_get, inl}
+use Rattle.std.proofs.Common.{Some, refl, sym, ◌∙◌, subst, arith, slice_get, inl}
 use Rattle.std.proofs.Common.{inr}
-use Rattle.std.proofs.lemmas.Bool.{cases_lt, false≢true, or_cases}
-use Rattle.std.specs.Prelude.{IfNone}
+use Rattle.std.proofs.lemmas.Bool.{cases_lt}
 use Rattle.wall_labels.specs.declared.label.Label.{Label}
 use Rattle.wall_labels.specs.declared.label.Label.TheVariants.{Of}
 use Rattle.wall_policy.specs.Policy.{ChineseWall}
@@ -14,11 +13,10 @@ use Rattle.wall_rules.specs.Histories.{History}
 use Rattle.mpi_group.specs.Groups.{IsGroup, rank_in}
 use Rattle.coll_routes.specs.declared.roll.Roll.{Roll}
 use Rattle.coll_routes.specs.Rolls.{label_of}
-use Rattle.wall_verdict.specs.Charges.{sanitised}
 use Rattle.wall_verdict.specs.Meanings.{IsChargedFrom, IsHeldBefore, Offends, IsLeastOffence}
 use Rattle.wall_verdict.specs.Meanings.{NamesOffence}
 use Rattle.book_report.specs.Walk.{GivesTo}
-use Rattle.book_report.specs.Reasons.{GivesRival, IsBeside}
+use Rattle.book_report.specs.Reasons.{IsBeside}
 use Rattle.mpi_group.proofs.MpiGroupLemmas.{ranked}
 
 -- one rank has one label

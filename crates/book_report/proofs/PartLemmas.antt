@@ -1,5 +1,5 @@
 -- The posts of a member for an instance, and where they stand.
-use Rattle.std.proofs.Common.{◌≡◌, ℕ, ◌+◌, ◌-◌, ◌<◌, ◌≤◌, Bool, true, false, ◌&&◌, List, ◌∷◌, ◌++◌}
+use Rattle.std.proofs.Common.{◌≡◌, ℕ, ◌+◌, ◌-◌, ◌<◌, true, false, ◌&&◌, List, ◌∷◌, ◌++◌}
 use Rattle.std.proofs.Common.{[]}
 use Rattle.std.proofs.Common.{length, Option, Some, None, refl, sym, ap, ◌∙◌, subst, arith}
 use Rattle.std.proofs.Common.{slice_get}
@@ -15,7 +15,7 @@ use Rattle.coll_routes.specs.Fit.{IsFit}
 use Rattle.coll_routes.specs.Rolls.{stated_in}
 use Rattle.run_model.specs.declared.entry.Entry.{Entry}
 use Rattle.run_model.specs.declared.entry.Entry.TheVariants.{Posted, Settled}
-use Rattle.run_model.specs.Posts.{Post, posts_on, place, comms}
+use Rattle.run_model.specs.Posts.{posts_on, place, comms}
 use Rattle.run_model.proofs.RunModelLemmas.{filled_is, stated_at}
 use Rattle.audit_book.specs.Checks.{post_of}
 use Rattle.book_report.specs.Held.{posts_to}

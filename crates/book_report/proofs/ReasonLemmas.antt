@@ -1,5 +1,5 @@
 -- What a rule names, found by the calls.
-use Rattle.std.proofs.Common.{◌≡◌, ℕ, ◌+◌, ◌-◌, ◌<◌, Bool, true, false, Option, Some, None, refl}
+use Rattle.std.proofs.Common.{◌≡◌, ℕ, ◌+◌, ◌-◌, ◌<◌, Bool, true, Option, Some, None}
 use Rattle.std.proofs.Common.{sym, ap}
 use Rattle.std.proofs.Common.{◌∙◌, ◌||◌, subst, arith, slice_get, inl, inr, List}
 use Rattle.std.specs.Prelude.{IfSome, IfNone}

@@ -1,8 +1,8 @@
 -- The sanitised results of a book, entry by entry and rank by rank.
-use Rattle.std.proofs.Common.{◌≡◌, ◌⊎◌, ℕ, ◌+◌, ◌-◌, ◌<◌, ◌≤◌, Bool, true, false, List, []}
-use Rattle.std.proofs.Common.{◌∷◌, ◌++◌, length, Option, Some, None, refl, sym, ap, ◌∙◌, subst}
+use Rattle.std.proofs.Common.{◌≡◌, ℕ, ◌+◌, ◌-◌, ◌<◌, ◌≤◌, true, false, List, []}
+use Rattle.std.proofs.Common.{◌∷◌, ◌++◌, length, Some, None, sym, ap, ◌∙◌, subst}
 use Rattle.std.proofs.Common.{arith, slice_get, get_or, inl, inr}
-use Rattle.std.specs.Prelude.{All, AllPairs, Contains}
+use Rattle.std.specs.Prelude.{All, AllPairs}
 use Rattle.std.proofs.lemmas.Bool.{false≢true, cases_lt}
 use Rattle.std.proofs.lemmas.Option.{slice_get_within}
 use Rattle.std.proofs.lemmas.List.Elements.{All-push, All-weaker, All-get_or, Contains-push}
@@ -19,8 +19,8 @@ use Rattle.run_model.specs.Posts.{Post, comms, filled, outcome, is_granted}
 use Rattle.run_model.specs.Books.{posted}
 use Rattle.run_model.specs.Holding.{IsGrant}
 use Rattle.book_report.specs.declared.sanitised.Sanitised.{Sanitised}
-use Rattle.book_report.specs.Held.{posts_to, IsPostAt}
-use Rattle.book_report.specs.Sanitised.{IsSanitisedAt, IsSanitised, HasSanitised, IsBefore, Precedes}
+use Rattle.book_report.specs.Held.{posts_to}
+use Rattle.book_report.specs.Sanitised.{IsSanitisedAt, IsSanitised, IsBefore, Precedes}
 use Rattle.book_report.specs.Clean.{AreSanitisedTo, AreSanitised}
 use Rattle.book_report.proofs.SoundLemmas.{post_is}
 

@@ -1,11 +1,10 @@
 -- A walk through a sound book, entry by entry.
-use Rattle.std.proofs.Common.{◌≡◌, ◌⊎◌, ℕ, zero, suc, ◌+◌, ◌-◌, ◌<◌, ◌≤◌, ◌^◌, Bool, true, false}
-use Rattle.std.proofs.Common.{◌&&◌}
-use Rattle.std.proofs.Common.{not, List, [], ◌∷◌, ◌++◌, length, take, drop, Option, Some, None}
+use Rattle.std.proofs.Common.{◌≡◌, ℕ, ◌+◌, ◌-◌, ◌<◌, ◌^◌, Bool, true, false}
+use Rattle.std.proofs.Common.{not, List, ◌∷◌, length, take, Some, None}
 use Rattle.std.proofs.Common.{refl, sym, ap, inl, inr}
 use Rattle.std.proofs.Common.{◌∙◌, subst, arith, slice_get}
 use Rattle.std.proofs.lemmas.Bool.{cases_Bool, false≢true, or_left}
-use Rattle.std.proofs.lemmas.Option.{slice_get_within, slice_get_past}
+use Rattle.std.proofs.lemmas.Option.{slice_get_within}
 use Rattle.wall_labels.specs.declared.label.Label.TheVariants.{Of}
 use Rattle.wall_policy.specs.Policy.{ChineseWall, IsPolicy}
 use Rattle.wall_rules.specs.Histories.{History, opening}
@@ -14,12 +13,11 @@ use Rattle.coll_routes.specs.declared.roll.Roll.{Roll}
 use Rattle.coll_routes.specs.declared.statement.Stated.{Stated}
 use Rattle.wall_verdict.specs.Grants.{charged_to}
 use Rattle.run_model.specs.declared.outcome.Outcome.{Outcome}
-use Rattle.run_model.specs.declared.outcome.Outcome.TheVariants.{Granted}
 use Rattle.run_model.specs.declared.entry.Entry.{Entry}
-use Rattle.run_model.specs.declared.entry.Entry.TheVariants.{Posted, Settled}
+use Rattle.run_model.specs.declared.entry.Entry.TheVariants.{Settled}
 use Rattle.run_model.specs.Posts.{Post, comms, filled, histories, outcome, labelled, is_granted}
 use Rattle.run_model.specs.Posts.{place}
-use Rattle.run_model.specs.Books.{posted, IsSound}
+use Rattle.run_model.specs.Books.{posted}
 use Rattle.run_model.specs.Holding.{IsGrant}
 use Rattle.run_model.specs.Contributions.{posts_of}
 use Rattle.run_state.specs.declared.entered.Entered.{Entered}
@@ -29,12 +27,11 @@ use Rattle.run_state.specs.Views.{PostStateValue, view_of}
 use Rattle.run_state.specs.Stands.{StandsForPosts, Tells}
 use Rattle.audit_book.specs.Checks.{Stands, bare}
 use Rattle.audit_book.proofs.AuditBookLemmas.{posts_few, length_prefix, bare_posts}
-use Rattle.book_report.specs.declared.row.Row.{Row}
 use Rattle.book_report.specs.declared.row.Way.TheVariants.{OwnPost}
 use Rattle.book_report.specs.declared.known.Known.{Known}
 use Rattle.book_report.specs.Held.{posts_to, histories_after, IsFirstAfter, IsPostAt, IsRow}
 use Rattle.book_report.specs.Held.{IsOwnPost}
-use Rattle.book_report.specs.Walk.{AreKnown, Covers, HasCome, IsGrantAt, IsTold, Grows, knows}
+use Rattle.book_report.specs.Walk.{Covers, HasCome, IsGrantAt, IsTold, Grows, knows}
 use Rattle.book_report.specs.Walk.{PassedWith, row_of}
 use Rattle.book_report.proofs.HistoryLemmas.{posts_posted, posts_settled, first_after}
 use Rattle.book_report.proofs.HistoryLemmas.{label_cases, own_is_written, written_stays, unfilled}

@@ -1,7 +1,6 @@
 -- Why instances were denied, by what the rules of the wall name. (Own rules, in the words of the
 -- verdict.)
-use Rattle.std.specs.Prelude.{◌≡◌, ℕ, ◌<◌, ◌≤◌, ◌-◌, true, List, slice_get, Contains, Some, All}
-use Rattle.std.specs.Prelude.{AllPairs}
+use Rattle.std.specs.Prelude.{◌≡◌, ℕ, ◌<◌, ◌≤◌, ◌-◌, true, List, slice_get, Contains, Some}
 use Rattle.wall_labels.specs.declared.label.Label.{Label}
 use Rattle.wall_labels.specs.declared.label.Label.TheVariants.{Of}
 use Rattle.wall_policy.specs.Policy.{ChineseWall}

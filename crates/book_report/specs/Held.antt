@@ -1,7 +1,7 @@
 -- Which process holds what after which entry of a book, and how it came to that. (Own rules, in the
 -- words of the book's definition.)
-use Rattle.std.specs.Prelude.{◌≡◌, ◌≢◌, ◌⊎◌, ℕ, ◌<◌, ◌≤◌, ◌-◌, take, List, Bool, true, false}
-use Rattle.std.specs.Prelude.{length, slice_get, AllPairs, Contains, Some}
+use Rattle.std.specs.Prelude.{◌≡◌, ◌≢◌, ◌⊎◌, ℕ, ◌<◌, ◌≤◌, ◌-◌, take, List, true, false}
+use Rattle.std.specs.Prelude.{length, slice_get, Contains, Some}
 use Rattle.wall_labels.specs.declared.label.Label.TheVariants.{Of}
 use Rattle.wall_policy.specs.Policy.{ChineseWall}
 use Rattle.wall_rules.specs.Histories.{History}

@@ -12,5 +12,9 @@ pub mod Denials
 pub mod Sanitised
 -- how far a walk has come by that
 pub mod Clean
+-- which instances wait for members
+pub mod Waits
+-- the posts of members on a communicator
+pub mod Turns
 -- how the reason of a denial is found
 pub mod Reasons

@@ -1,5 +1,5 @@
 -- Whose results of granted instances were sanitised. (Own rule, in the words of the verdict.)
-use Rattle.std.specs.Prelude.{◌≡◌, ◌⊎◌, ℕ, ◌<◌, ◌≤◌, ◌-◌, List, true, slice_get, All, AllPairs}
+use Rattle.std.specs.Prelude.{◌≡◌, ◌⊎◌, ℕ, ◌<◌, ◌-◌, List, true, slice_get}
 use Rattle.std.specs.Prelude.{Contains, Some}
 use Rattle.wall_policy.specs.Policy.{ChineseWall}
 use Rattle.coll_routes.specs.declared.roll.Roll.{Roll}

@@ -18,6 +18,9 @@ mod place;
 mod reason;
 mod row;
 mod sanitised;
+mod turns;
+mod wait;
+mod waits;
 mod walk;
 
 pub use audit_book::{Book, BookFault, NoMemory};
@@ -29,4 +32,6 @@ pub use denied::denials;
 pub use last::state_at_last;
 pub use row::{Row, Way};
 pub use sanitised::Sanitised;
+pub use wait::Wait;
+pub use waits::waiting_members;
 pub use walk::held;

@@ -44,8 +44,8 @@ fn is_by(by: ProcessId, there: u32, process: ProcessId, comm: u32) -> bool
     there == comm && by.number() == process.number()
 }
 
-// Whether the entry is a post of the process on the communicator.
-fn is_part(entry: &Entry, process: ProcessId, comm: u32) -> bool
+/// Whether the entry is a post of the process on the communicator.
+pub(crate) fn is_part(entry: &Entry, process: ProcessId, comm: u32) -> bool
     ensures { result ≡ is_part entry.now process comm }
 {
     match entry {

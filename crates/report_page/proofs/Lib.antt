@@ -2,3 +2,4 @@
 pub mod EscapeLemmas
 -- texts that are written piece by piece
 pub mod PieceLemmas
+pub mod TableLemmas

@@ -1,5 +1,5 @@
--- The rows of the six tables, in the words of `report_text`. (Own format.)
-use Rattle.std.specs.Prelude.{ℕ, List, [], ◌++◌, codes}
+-- The rows of the seven tables, in the words of `report_text`. (Own format.)
+use Rattle.std.specs.Prelude.{ℕ, List, [], ◌∷◌, ◌++◌, codes, Option, Some, None}
 use Rattle.std.specs.List.{flat_map}
 use Rattle.wall_policy.specs.Policy.{ChineseWall}
 use Rattle.coll_text.specs.Words.{label_word}
@@ -9,6 +9,7 @@ use Rattle.run_model.specs.declared.entry.Entry.{Entry}
 use Rattle.run_model.specs.declared.entry.Entry.TheVariants.{Posted, Settled}
 use Rattle.book_report.specs.declared.row.Row.{Row}
 use Rattle.book_report.specs.declared.sanitised.Sanitised.{Sanitised}
+use Rattle.book_report.specs.declared.wait.Wait.{Wait}
 use Rattle.book_report.specs.declared.bar.Bar.{Bar}
 use Rattle.book_report.specs.declared.denial.Denial.{Denial}
 use Rattle.report_text.specs.Words.{process_name, dataset_name, kind_at, numbered}
@@ -75,6 +76,24 @@ abbrev pub sanitised_table : ChineseWall → List Entry → List Sanitised → L
 sanitised_table wall entries those = table (codes "Whose results were sanitised")
     (codes "<th>Instance<th>Kind<th>Filled by entry<th>Process")
     (flat_map (sanitised_row wall entries) those)
+
+-- ## which instances wait, and for whom
+
+abbrev pub posted_cell : Option ℕ → List ℕ
+posted_cell (Some n) = number_cell n
+posted_cell None = codes "<td>missing"
+
+abbrev pub wait_row : ChineseWall → List Entry → Wait → List ℕ
+wait_row wall entries it = codes "<tr>" ++ pair_cell it.comm it.k
+    ++ cell (kind_at entries it.begun) ++ cell (process_name wall it.process)
+    ++ posted_cell it.posted ++ codes "\n"
+
+-- a row for each member of each instance that waits; no table where none does
+abbrev pub waits_table : ChineseWall → List Entry → List Wait → List ℕ
+waits_table wall entries [] = []
+waits_table wall entries (it ∷ waits) = table (codes "Which instances wait, and for whom")
+    (codes "<th>Instance<th>Kind<th>Process<th>Posted by entry")
+    (flat_map (wait_row wall entries) (it ∷ waits))
 
 -- ## why posts were barred and instances denied
 

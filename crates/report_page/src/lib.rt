@@ -15,6 +15,7 @@ mod members;
 mod picture;
 mod rows;
 mod sanitised;
+mod waits;
 mod whole;
 
 pub use book_report::{Book, BookFault};

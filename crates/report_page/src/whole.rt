@@ -12,6 +12,7 @@ use crate::members::put_comms_of;
 use crate::picture::put_picture;
 use crate::rows::put_rows;
 use crate::sanitised::put_sanitised;
+use crate::waits::put_waits;
 use book_report::{Book, BookFault};
 use coll_text::put;
 use report_text::Findings;
@@ -55,13 +56,14 @@ fn put_tables(
 ) -> Result<(), NoMemory>
     requires { IsSound policy.now book.now.list }
     ensures { OnOk result (text.new.items ≡ text.old.items ++ tables_text policy.now book.now.list
-        found.now.rows.items found.now.sanitised.items found.now.bars.items
-        found.now.denials.items) }
+        found.now.rows.items found.now.sanitised.items found.now.waits.items
+        found.now.bars.items found.now.denials.items) }
 {
     put_rows(text, policy, book, &found.rows)?;
     put_comms_of(text, policy, book)?;
     put_instances(text, policy, book)?;
     put_sanitised(text, policy, book, &found.sanitised)?;
+    put_waits(text, policy, book, &found.waits)?;
     put_bars(text, policy, &found.bars)?;
     put_denials(text, policy, &found.denials)?;
     Ok(())
@@ -75,8 +77,8 @@ fn page_of(
 ) -> Result<Vec<u8>, NoMemory>
     requires { IsSound policy.now book.now.list }
     ensures { IfOk result (λ text. text.items ≡ page_text policy.now book.now.list
-        found.now.rows.items found.now.sanitised.items found.now.bars.items
-        found.now.denials.items) }
+        found.now.rows.items found.now.sanitised.items found.now.waits.items
+        found.now.bars.items found.now.denials.items) }
 {
     let mut text = Vec::new(alloc);
     put(&mut text, HEAD)?;
@@ -94,8 +96,8 @@ fn page_of(
 
 /// A report on a book as one page of HTML: a picture of when each process came to hold a dataset
 /// and when a denial named one, and as tables who holds what, by which entry and how; who is in
-/// which communicator; how each instance came out, and whose results were sanitised; and why posts
-/// were barred and instances denied.
+/// which communicator; how each instance came out, and whose results were sanitised; which
+/// instances wait, and for whom; and why posts were barred and instances denied.
 ///
 /// The book is checked first, as by `check_book`, and where it is not sound its fault is answered.
 /// The page has no script and no link and names nothing outside. A number that the policy has no

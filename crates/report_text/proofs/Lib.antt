@@ -3,3 +3,4 @@ pub mod WordLemmas
 -- the communicators of a state
 pub mod StateLemmas
 pub mod ReportTextLemmas
+pub mod TellLemmas

@@ -8,6 +8,8 @@ pub mod Members
 pub mod Instances
 -- whose results were sanitised
 pub mod Sanitised
+-- which instances wait, and for whom
+pub mod Waits
 -- why posts were barred and instances denied
 pub mod Reasons
 -- the whole text

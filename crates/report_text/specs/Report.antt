@@ -9,14 +9,18 @@ use Rattle.book_report.specs.declared.row.Row.{Row}
 use Rattle.book_report.specs.declared.bar.Bar.{Bar}
 use Rattle.book_report.specs.declared.denial.Denial.{Denial}
 use Rattle.book_report.specs.declared.sanitised.Sanitised.{Sanitised}
+use Rattle.book_report.specs.declared.wait.Wait.{Wait}
 use Rattle.book_report.specs.Held.{histories_after, posts_to, IsRow, HasRow, Follows}
 use Rattle.book_report.specs.Bars.{IsBar, IsBarredAt, HasBar}
 use Rattle.book_report.specs.Denials.{IsDenial, IsDeniedAt, HasDenial}
 use Rattle.book_report.specs.Sanitised.{IsSanitised, IsSanitisedAt, HasSanitised, Precedes}
+use Rattle.book_report.specs.Waits.{IsWait, IsWaitingAt, HasWait}
+use Rattle.book_report.specs.Waits.{Precedes as ComesBefore}
 use Rattle.report_text.specs.Rows.{rows_text}
 use Rattle.report_text.specs.Members.{comms_text}
 use Rattle.report_text.specs.Instances.{instances_text}
 use Rattle.report_text.specs.Sanitised.{sanitised_text}
+use Rattle.report_text.specs.Waits.{waits_text}
 use Rattle.report_text.specs.Reasons.{bars_text, denials_text}
 
 -- these are the rows of the book, and no others: each tells how its process first came to hold its
@@ -49,18 +53,29 @@ pub record AreSanitised (wall : ChineseWall) (entries : List Entry) (those : Lis
   pub all : (n c k j p : ℕ) → IsSanitisedAt wall entries n c k j p → HasSanitised those n j
   pub once : AllPairs Precedes those
 
--- who holds what; the communicators that the book's posts make; the outcomes that it tells;
--- whose results were sanitised; and why posts were barred and instances denied
+-- the members of the instances that wait at the end, all of them, by communicator, instance and
+-- rank
+pub record AreWaits (wall : ChineseWall) (entries : List Entry) (waits : List Wait) : Type 0 where
+  pub right : All (IsWait wall entries) waits
+  pub all : (c k j p : ℕ) → IsWaitingAt wall entries c k j p → HasWait waits c k j
+  pub once : AllPairs ComesBefore waits
+
+-- who holds what; the communicators that the book's posts make; the outcomes that it tells; whose
+-- results were sanitised; which instances wait, and for whom; and why posts were barred and
+-- instances denied
 pub record IsReport (wall : ChineseWall) (entries : List Entry) (text : List ℕ) : Type 0 where
   pub rows : List Row
   pub sanitised : List Sanitised
+  pub waits : List Wait
   pub bars : List Bar
   pub denials : List Denial
   pub are_rows : AreRows wall entries rows
   pub are_sanitised : AreSanitised wall entries sanitised
+  pub are_waits : AreWaits wall entries waits
   pub are_bars : AreBars wall entries bars
   pub are_denials : AreDenials wall entries denials
   pub lines : text ≡ rows_text wall entries rows
       ++ comms_text wall (comms wall (posts_to entries (length entries)))
       ++ instances_text wall entries ++ sanitised_text wall entries sanitised
-      ++ bars_text wall bars ++ denials_text wall denials
+      ++ waits_text wall entries waits ++ bars_text wall bars
+      ++ denials_text wall denials

@@ -3,20 +3,22 @@ ghost use Rattle.std.specs.Prelude.{IfOk, IfErr, OnOk};
 ghost use Rattle.run_model.specs.Books.{IsSound};
 ghost use Rattle.run_model.specs.PostLaws.{KeepsTheWall};
 ghost use Rattle.audit_book.specs.Checks.{IsFaultOf};
-ghost use Rattle.report_text.specs.Report.{AreRows, AreSanitised, AreBars, AreDenials};
+ghost use Rattle.report_text.specs.Report.{AreRows, AreSanitised, AreWaits, AreBars, AreDenials};
 
 use book_report::{
-    Bar, Book, BookFault, Denial, Row, Sanitised, barred_posts, denials, held, sanitised_results,
+    Bar, Book, BookFault, Denial, Row, Sanitised, Wait, barred_posts, denials, held,
+    sanitised_results, waiting_members,
 };
 use std::alloc::Global;
 use wall_policy::Policy;
 
-/// Who came to hold what in a book, whose results were sanitised, which posts were barred, and which
-/// instances denied.
+/// Who came to hold what in a book, whose results were sanitised, which instances wait, which posts
+/// were barred, and which instances denied.
 #[derive(Drop)]
 pub struct Findings {
     pub rows: Vec<Row>,
     pub sanitised: Vec<Sanitised>,
+    pub waits: Vec<Wait>,
     pub bars: Vec<Bar>,
     pub denials: Vec<Denial>,
 }
@@ -30,6 +32,7 @@ impl Findings {
         ensures rows { IfOk result (λ found. AreRows policy.now book.now.list found.rows.items) }
         ensures sanitised { IfOk result (λ found.
             AreSanitised policy.now book.now.list found.sanitised.items) }
+        ensures waits { IfOk result (λ found. AreWaits policy.now book.now.list found.waits.items) }
         ensures bars { IfOk result (λ found. AreBars policy.now book.now.list found.bars.items) }
         ensures denials { IfOk result (λ found.
             AreDenials policy.now book.now.list found.denials.items) }
@@ -37,11 +40,13 @@ impl Findings {
     {
         let rows = held(alloc, policy, book)?;
         let sanitised = sanitised_results(alloc, policy, book)?;
+        let waits = waiting_members(alloc, policy, book)?;
         let bars = barred_posts(alloc, policy, book)?;
         let denied = denials(alloc, policy, book)?;
         Ok(Findings {
             rows,
             sanitised,
+            waits,
             bars,
             denials: denied,
         })

@@ -14,6 +14,7 @@ mod lines;
 mod members;
 mod rows;
 mod sanitised;
+mod waits;
 mod whole;
 mod words;
 

@@ -9,6 +9,7 @@ ghost use Rattle.report_text.specs.Rows.{rows_text};
 ghost use Rattle.report_text.specs.Members.{comms_text};
 ghost use Rattle.report_text.specs.Instances.{instances_text};
 ghost use Rattle.report_text.specs.Sanitised.{sanitised_text};
+ghost use Rattle.report_text.specs.Waits.{waits_text};
 ghost use Rattle.report_text.specs.Reasons.{bars_text, denials_text};
 ghost use Rattle.report_text.specs.Report.{IsReport};
 
@@ -19,6 +20,7 @@ use crate::instances::put_instances;
 use crate::members::put_comms_of;
 use crate::rows::put_rows;
 use crate::sanitised::put_sanitised;
+use crate::waits::put_waits;
 use book_report::{Book, BookFault};
 use std::alloc::Global;
 use wall_labels::NoMemory;
@@ -38,6 +40,7 @@ fn text_of(
         (comms policy.now (posts_to book.now.list (length book.now.list)))
         ++ instances_text policy.now book.now.list
         ++ sanitised_text policy.now book.now.list found.now.sanitised.items
+        ++ waits_text policy.now book.now.list found.now.waits.items
         ++ bars_text policy.now found.now.bars.items
         ++ denials_text policy.now found.now.denials.items) }
 {
@@ -46,14 +49,15 @@ fn text_of(
     put_comms_of(&mut text, policy, book)?;
     put_instances(&mut text, policy, book)?;
     put_sanitised(&mut text, policy, book, &found.sanitised)?;
+    put_waits(&mut text, policy, book, &found.waits)?;
     put_bars(&mut text, policy, &found.bars)?;
     put_denials(&mut text, policy, &found.denials)?;
     Ok(text)
 }
 
 /// The text of a report on a book: who holds what at its end, by which entry and how; who is in
-/// which communicator; how each instance came out, and whose results were sanitised; and why posts were
-/// barred and instances denied.
+/// which communicator; how each instance came out, and whose results were sanitised; which
+/// instances wait, and for whom; and why posts were barred and instances denied.
 ///
 /// The book is checked first, as by `check_book`, and where it is not sound its fault is answered.
 /// A line has at most 100 columns as long as the book has fewer than ten million entries, since a

@@ -38,9 +38,8 @@ fn banks_and_an_insurer(rt: HostRuntime) -> Result<(), Fail> {
     says(
         &rt,
         BANKS_AND_INSURER,
-        "alpha is in one class with beta
-beta is in one class with alpha
-umbra is alone in its class
+        "banks: alpha, beta
+insurers: umbra
 a0 is at home at alpha
 b0 is at home at beta
 i0 is at home at umbra
@@ -57,10 +56,8 @@ fn consultants(rt: HostRuntime) -> Result<(), Fail> {
     says(
         &rt,
         CONSULTANTS,
-        "alpha is in one class with beta
-beta is in one class with alpha
-crude is in one class with delta
-delta is in one class with crude
+        "banks: alpha, beta
+oil: crude, delta
 a0 is at home at alpha
 b0 is at home at beta
 c0 is at home at crude
@@ -77,8 +74,7 @@ fn desks(rt: HostRuntime) -> Result<(), Fail> {
     says(
         &rt,
         DESKS,
-        "alpha is in one class with beta
-beta is in one class with alpha
+        "banks: alpha, beta
 a0 is at home at alpha
 a1 is at home at alpha
 b0 is at home at beta
@@ -92,8 +88,7 @@ a1 and b0 never hold each other's data
     says(
         &rt,
         DESKS_OF_TWO,
-        "alpha is in one class with beta
-beta is in one class with alpha
+        "banks: alpha, beta
 a0 is at home at alpha
 a1 is at home at alpha
 b0 is at home at beta
@@ -111,8 +106,7 @@ fn two_datasets_are_too_few(rt: HostRuntime) -> Result<(), Fail> {
     says(
         &rt,
         DESKS_OF_TWO_AS_ONE,
-        "alpha is in one class with beta
-beta is in one class with alpha
+        "banks: alpha, beta
 a0 is at home at alpha
 a1 is at home at alpha
 b0 is at home at beta
@@ -131,9 +125,7 @@ fn one_desk_each(rt: HostRuntime) -> Result<(), Fail> {
     says(
         &rt,
         ONE_DESK_EACH,
-        "alpha is in one class with beta
-beta is in one class with alpha
-gamma is in one class with alpha
+        "banks: alpha, beta, gamma
 a0 is at home at alpha
 b0 is at home at beta
 g0 is at home at gamma
@@ -154,10 +146,7 @@ fn four_banks(rt: HostRuntime) -> Result<(), Fail> {
     says(
         &rt,
         FOUR_BANKS,
-        "alpha is in one class with beta
-beta is in one class with alpha
-gamma is in one class with alpha
-delta is in one class with alpha
+        "banks: alpha, beta, gamma, delta
 a0 is at home at alpha
 b0 is at home at beta
 g0 is at home at gamma
@@ -180,10 +169,9 @@ fn each_warning(rt: HostRuntime) -> Result<(), Fail> {
     says(
         &rt,
         DOUBTFUL,
-        "alpha is in one class with beta
-beta is in one class with alpha
-gamma is in one class with alpha
-umbra is alone in its class
+        "banks: alpha, beta, gamma
+mints: umbra
+ships: none
 a0 is at home at alpha
 n0 has no home
 sum is sanitised from 4 contributors and 4 datasets on
@@ -207,8 +195,7 @@ fn long_names(rt: HostRuntime) -> Result<(), Fail> {
     says(
         &rt,
         LONG,
-        "alpha-alpha-alpha-alpha-alpha-32 is in one class with beta-beta-beta-beta-beta-beta-32
-beta-beta-beta-beta-beta-beta-32 is in one class with alpha-alpha-alpha-alpha-alpha-32
+        "banks: alpha-alpha-alpha-alpha-alpha-32, beta-beta-beta-beta-beta-beta-32
 left-left-left-left-left-left-32 is at home at alpha-alpha-alpha-alpha-alpha-32
 right-right-right-right-right-32 is at home at beta-beta-beta-beta-beta-beta-32
 third-third-third-third-third-32 has no home

@@ -128,6 +128,12 @@ The tables tell in words what it shows.\" preserveAspectRatio=none viewBox=\"0 0
 <div class=wide><table>
 <tr><th>Instance<th>Kind<th>Filled by entry<th>Process
 </table></div>
+<h2>Which instances wait, and for whom</h2>
+<div class=wide><table>
+<tr><th>Instance<th>Kind<th>Process<th>Posted by entry
+<tr><td>3 1<td>bcast<td>c0<td>missing
+<tr><td>3 1<td>bcast<td>consultant<td>28
+</table></div>
 <h2>Why posts were barred</h2>
 <div class=wide><table>
 <tr><th>Entry<th>Process<th>May not post under<th>Since it holds
@@ -196,6 +202,15 @@ The tables tell in words what it shows.\" preserveAspectRatio=none viewBox=\"0 0
 <h2>Whose results were sanitised</h2>
 <div class=wide><table>
 <tr><th>Instance<th>Kind<th>Filled by entry<th>Process
+</table></div>
+<h2>Which instances wait, and for whom</h2>
+<div class=wide><table>
+<tr><th>Instance<th>Kind<th>Process<th>Posted by entry
+<tr><td>0 1<td>allgather<td>a0<td>missing
+<tr><td>0 1<td>allgather<td>b0<td>missing
+<tr><td>0 1<td>allgather<td>g0<td>missing
+<tr><td>0 1<td>allgather<td>d0<td>8
+<tr><td>0 1<td>allgather<td>n0<td>7
 </table></div>
 <h2>Why posts were barred</h2>
 <div class=wide><table>

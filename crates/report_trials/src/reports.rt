@@ -194,6 +194,10 @@ instance 1 2, bcast by entry 30: granted
 
 whose results were sanitised:
 
+which instances wait, and for whom:
+instance 3 1, bcast: c0 is missing
+instance 3 1, bcast: consultant posted by entry 28
+
 why posts were barred:
 entry 25: consultant may not post under alpha: it holds crude
 entry 28: consultant may not post under crude: it holds alpha
@@ -308,6 +312,13 @@ how each instance came out:
 instance 0 0, gather by entry 5: denied simple n0 beta
 
 whose results were sanitised:
+
+which instances wait, and for whom:
+instance 0 1, allgather: a0 is missing
+instance 0 1, allgather: b0 is missing
+instance 0 1, allgather: g0 is missing
+instance 0 1, allgather: d0 posted by entry 8
+instance 0 1, allgather: n0 posted by entry 7
 
 why posts were barred:
 entry 8: d0 may not post under public: it holds delta

@@ -85,3 +85,18 @@ post 0 1 bcast 1 int32 1 gives 0 as none passed
 verdict 1 1 denied star n0 beta
 end 19
 ";
+
+/// The first and the fourth process meet on communicator 1, where the fourth waits for the first.
+/// Of all, two have posted for the second instance, and one of these for the third.
+pub(crate) const STANDING: &str = "book 1
+post 0 0 split 0 0 gives 0 as none passed
+post 1 0 split undefined 0 gives 0 as none passed
+post 2 0 split undefined 0 gives 0 as none passed
+post 3 0 split 0 0 gives 0 as none passed
+verdict 0 0 made 1 1
+post 3 1 bcast 0 int32 1 gives 0 as none passed
+post 1 0 bcast 0 int32 1 gives 0 as none passed
+post 2 0 bcast 0 int32 1 gives 0 as none passed
+post 1 0 bcast 1 int32 1 gives 1 as beta passed
+end 9
+";

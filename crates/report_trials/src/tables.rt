@@ -2,13 +2,14 @@
 
 use crate::reports::OF_SUMS;
 use crate::stored::{
-    BANKS_AND_OIL, BROADCAST, GATHERED_AS_PUBLIC, GATHERED_FROM_RIVALS, TWO_TABLES, UNSOUND,
+    BANKS_AND_OIL, BROADCAST, GATHERED_AS_PUBLIC, GATHERED_FROM_RIVALS, STANDING, TWO_TABLES,
+    UNSOUND,
 };
 use crate::walls::{FOUR_BANKS, policy};
 use audit_book::read_book;
 use book_report::{
-    Bar, Book, BookFault, Denial, Reason, Row, Sanitised, Source, Way, barred_posts, denials, held,
-    sanitised_results,
+    Bar, Book, BookFault, Denial, Reason, Row, Sanitised, Source, Wait, Way, barred_posts, denials,
+    held, sanitised_results, waiting_members,
 };
 use std::process::Abort;
 use std::test::Fail;
@@ -254,6 +255,44 @@ fn sums_of_four_banks(rt: HostRuntime) -> Result<(), Fail> {
     Ok(())
 }
 
+fn wait(comm: u32, k: u64, begun: u64, rank: u32, process: ProcessId, posted: Option<u64>) -> Wait {
+    Wait {
+        comm,
+        k,
+        begun,
+        rank,
+        process,
+        posted,
+    }
+}
+
+// Two instances of communicator 0 wait, and one of communicator 1; the one that came out does not.
+#[test]
+fn a_run_that_stands(rt: HostRuntime) -> Result<(), Fail> {
+    let n = all_names(&rt);
+    let those = [
+        wait(0, 1, 7, 0, n.a0, None),
+        wait(0, 1, 7, 1, n.b0, Some(7)),
+        wait(0, 1, 7, 2, n.c0, Some(8)),
+        wait(0, 1, 7, 3, n.n0, None),
+        wait(0, 2, 9, 0, n.a0, None),
+        wait(0, 2, 9, 1, n.b0, Some(9)),
+        wait(0, 2, 9, 2, n.c0, None),
+        wait(0, 2, 9, 3, n.n0, None),
+        wait(1, 0, 6, 0, n.a0, None),
+        wait(1, 0, 6, 1, n.n0, Some(6)),
+    ];
+    let policy = policy(&rt, BANKS_AND_OIL);
+    let book = book(&rt, &policy, STANDING);
+    match waiting_members(rt.alloc(), &policy, &book) {
+        Ok(told) => assert_eq!(&rt; told.as_slice(), those.as_slice()),
+        Err(fault) => panic!(&rt; "{fault}"),
+    }
+    drop(book);
+    drop(policy);
+    Ok(())
+}
+
 // Of a book that is not sound the first bad entry is told, as by its check.
 #[test]
 fn an_unsound_book(rt: HostRuntime) -> Result<(), Fail> {
@@ -262,6 +301,7 @@ fn an_unsound_book(rt: HostRuntime) -> Result<(), Fail> {
     let fault = Some(BookFault::BadEntry(5));
     assert_eq!(rt; held(rt.alloc(), &policy, &book).err(), fault);
     assert_eq!(rt; sanitised_results(rt.alloc(), &policy, &book).err(), fault);
+    assert_eq!(rt; waiting_members(rt.alloc(), &policy, &book).err(), fault);
     assert_eq!(rt; barred_posts(rt.alloc(), &policy, &book).err(), fault);
     assert_eq!(rt; denials(rt.alloc(), &policy, &book).err(), fault);
     drop(book);

@@ -166,6 +166,9 @@ datasets = ["alpha", "beta", "gamma"]
 [[class]]
 name = "mints"
 datasets = ["umbra"]
+[[class]]
+name = "ships"
+datasets = []
 [[process]]
 name = "a0"
 home = "alpha"

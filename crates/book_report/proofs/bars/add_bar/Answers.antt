@@ -1,4 +1,4 @@
-use Rattle.std.proofs.Common.{◌≡◌, ◌+◌, refl, sym, ◌∙◌, subst}
+use Rattle.std.proofs.Common.{◌+◌, refl, sym, ◌∙◌, subst}
 use Rattle.std.proofs.lemmas.Bool.{false≢true}
 use Rattle.wall_rules.specs.Rules.{IsLowest, IsHeldOther, PassesStar}
 use Rattle.book_report.specs.declared.bar.Bar.{Bar}

@@ -1,4 +1,4 @@
-use Rattle.std.proofs.Common.{◌≡◌, ◌+◌, List, false, true, sym, ◌∙◌, subst, refl}
+use Rattle.std.proofs.Common.{◌≡◌, ◌+◌, List, false, sym, ◌∙◌, subst, refl}
 use Rattle.wall_verdict.specs.Charges.{sanitised}
 use Rattle.book_report.specs.declared.sanitised.Sanitised.{Sanitised}
 use Rattle.book_report.specs.Sanitised.{IsSanitisedAt}

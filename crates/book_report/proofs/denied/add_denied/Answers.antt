@@ -1,4 +1,4 @@
-use Rattle.std.proofs.Common.{◌≡◌, ◌+◌, ap, ◌∙◌, sym, subst, refl}
+use Rattle.std.proofs.Common.{◌+◌, ap, ◌∙◌, sym, subst, refl}
 use Rattle.run_model.specs.declared.outcome.Outcome.{Outcome}
 use Rattle.wall_rules.specs.Histories.{Accesses, has}
 use Rattle.run_state.specs.declared.entered.Entered.TheVariants.{Settled}

@@ -1,4 +1,4 @@
-use Rattle.std.proofs.Common.{◌≡◌, true, false, sym, ◌∙◌, subst, below_more, arith}
+use Rattle.std.proofs.Common.{◌≡◌, true, sym, ◌∙◌, subst, below_more, arith}
 use Rattle.std.proofs.lemmas.Bool.{false≢true}
 use Rattle.wall_verdict.specs.Charges.{charged}
 use Rattle.book_report.specs.Walk.{knows, AtRank}

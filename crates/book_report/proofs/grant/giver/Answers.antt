@@ -1,4 +1,4 @@
-use Rattle.std.proofs.Common.{sym, ◌∙◌, below_more, arith, ℕ}
+use Rattle.std.proofs.Common.{sym, ◌∙◌, below_more}
 use Rattle.std.proofs.lemmas.Bool.{false≢true}
 use Rattle.book_report.specs.Walk.{GivesTo}
 use Rattle.book_report.proofs.grant.giver.Goals as goal

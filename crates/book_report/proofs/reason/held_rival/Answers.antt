@@ -1,4 +1,3 @@
-use Rattle.std.proofs.Common.{◌≡◌}
 use Rattle.std.proofs.lemmas.Bool.{or_left}
 use Rattle.wall_rules.specs.Histories.{has}
 use Rattle.book_report.proofs.ReasonLemmas.{some_more, none_more, apart}

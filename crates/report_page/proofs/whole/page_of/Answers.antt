@@ -11,6 +11,7 @@ returns c =
     let entries = c.args.book.now.list in
     let rows = c.args.found.now.rows.items in
     let sanitised = c.args.found.now.sanitised.items in
+    let waits = c.args.found.now.waits.items in
     let bars = c.args.found.now.bars.items in
     let denials = c.args.found.now.denials.items in
     let begun = c.in_ok-put.ensures.ok
@@ -25,7 +26,7 @@ returns c =
     ∷ (codes "<p>Entry N stands in line N + 1 of the book. ", c.put-3.new.text.items)
     ∷ (codes "What was held before the first entry is at entry 0.\n", c.put-4.new.text.items)
     ∷ (picture_text wall (length entries) rows denials, c.put_picture.new.text.items)
-    ∷ (tables_text wall entries rows sanitised bars denials, c.put_tables.new.text.items)
+    ∷ (tables_text wall entries rows sanitised waits bars denials, c.put_tables.new.text.items)
     ∷ (codes "</html>\n", c.put-5.new.text.items) ∷ [])
     begun
     (c.in_ok-put-2.ensures.ok & c.in_ok-put-3.ensures.ok & c.in_ok-put-4.ensures.ok & drawn

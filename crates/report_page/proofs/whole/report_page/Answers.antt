@@ -4,10 +4,12 @@ pub returns-in-Ok-clause-page : goal.returns-in-Ok-clause-page
 returns-in-Ok-clause-page c = record {
   rows = c.in_ok-found.found.rows.items;
   sanitised = c.in_ok-found.found.sanitised.items;
+  waits = c.in_ok-found.found.waits.items;
   bars = c.in_ok-found.found.bars.items;
   denials = c.in_ok-found.found.denials.items;
   are_rows = c.in_ok-found.ensures.rows;
   are_sanitised = c.in_ok-found.ensures.sanitised;
+  are_waits = c.in_ok-found.ensures.waits;
   are_bars = c.in_ok-found.ensures.bars;
   are_denials = c.in_ok-found.ensures.denials;
   parts = c.in-Ok.ensures;

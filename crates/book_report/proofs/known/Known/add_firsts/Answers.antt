@@ -1,5 +1,5 @@
-use Rattle.std.proofs.Common.{◌≡◌, ◌<◌, ℕ, true, length, subst, below_more, ◌∙◌, arith}
-use Rattle.wall_rules.specs.Histories.{has, opening}
+use Rattle.std.proofs.Common.{◌≡◌, ◌<◌, true, length, subst, below_more, ◌∙◌, arith}
+use Rattle.wall_rules.specs.Histories.{has}
 use Rattle.book_report.specs.Walk.{knows}
 use Rattle.book_report.proofs.WalkLemmas.{opening_within}
 use Rattle.book_report.proofs.known.Known.add_firsts.Goals as goal

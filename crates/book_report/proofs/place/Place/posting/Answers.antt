@@ -1,4 +1,4 @@
-use Rattle.std.proofs.Common.{◌≡◌, ap, ◌∙◌, Some}
+use Rattle.std.proofs.Common.{ap, ◌∙◌, Some}
 use Rattle.run_model.specs.declared.entry.Entry.{Entry}
 use Rattle.book_report.proofs.place.Place.posting.Goals as goal
 

@@ -1,4 +1,4 @@
-use Rattle.std.proofs.Common.{◌≡◌, sym, subst}
+use Rattle.std.proofs.Common.{sym, subst}
 use Rattle.wall_policy.specs.Rivals.{AreRivals}
 use Rattle.book_report.proofs.reason.Judged.clash_of.Goals as goal
 

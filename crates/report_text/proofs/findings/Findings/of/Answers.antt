@@ -14,6 +14,13 @@ returns-clause-sanitised c = record {
   once = c.in_ok-sanitised.ensures.once;
 }
 
+pub returns-clause-waits : goal.returns-clause-waits
+returns-clause-waits c = record {
+  right = c.in_ok-waits.ensures.waits;
+  all = c.in_ok-waits.ensures.all;
+  once = c.in_ok-waits.ensures.once;
+}
+
 pub returns-clause-bars : goal.returns-clause-bars
 returns-clause-bars c = record {
   right = c.in_ok-bars.ensures.bars;
