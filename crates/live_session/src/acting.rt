@@ -31,10 +31,14 @@ pub(crate) enum Came {
 }
 
 // What a line came to whose last call was answered so, with the machine booked or not at the end of
-// its turn. It counts as one call, if it was made.
-fn came_of(seat: &mut Seat, answer: Answer, is_booked: bool) -> Came
+// its turn. It counts as one call, if it was made. Whoever waits is told of a machine that is not
+// booked.
+fn came_of<R: Wait>(rt: &R, seat: &mut Seat, answer: Answer, is_booked: bool) -> Came
     ensures { result ≡ came_of answer is_booked }
 {
+    if !is_booked {
+        seat.tell_unbooked(rt);
+    }
     match answer {
         Answer::Reply(reply) => {
             seat.called();
@@ -85,7 +89,8 @@ impl<'s, R: Wait, M: Machine> Setting<'s, R, M> {
     }
 
     // Takes the outcome of a request as soon as its instance has settled, and sleeps before that.
-    // Where nothing can settle it any more, the answer is `Pending`.
+    // Where nothing can settle it any more, or the machine is not booked any more, one last take
+    // has the answer, which may be `Pending`.
     fn wait(&self, pass: &mut PassTo<M>, seat: &mut Seat, request: u64) -> Answer
         requires door { pass.old.door ≡ self.now.door.now }
         ensures same { IsSamePass pass.old pass.new }
@@ -98,11 +103,13 @@ impl<'s, R: Wait, M: Machine> Setting<'s, R, M> {
             answer => return answer,
         }
         for _ in self.rt.forever() {
-            if !seat.sleep(self.rt, request) {
-                return Answer::Reply(Reply::Pending);
-            }
+            let sleeps_on = seat.sleep(self.rt, request);
             match self.take(pass, seat, request) {
-                Answer::Reply(Reply::Pending) => {}
+                Answer::Reply(Reply::Pending) => {
+                    if !sleeps_on {
+                        return Answer::Reply(Reply::Pending);
+                    }
+                }
                 Answer::Exhausted => return Answer::Reply(Reply::Pending),
                 answer => return answer,
             }
@@ -157,11 +164,11 @@ impl<'s, R: Wait, M: Machine> Setting<'s, R, M> {
         match ask {
             Ask::Act(act) => {
                 let answer = self.make(pass, seat, act);
-                came_of(seat, answer, pass.is_booked())
+                came_of(self.rt, seat, answer, pass.is_booked())
             }
             Ask::Wait(request) => {
                 let answer = self.wait(pass, seat, request);
-                came_of(seat, answer, pass.is_booked())
+                came_of(self.rt, seat, answer, pass.is_booked())
             }
             Ask::Leave => Came::Left,
         }

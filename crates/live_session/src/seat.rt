@@ -69,14 +69,20 @@ impl<'s> Seat<'s> {
         }
     }
 
+    /// The machine is not booked: no session sleeps any more, so that each is told so.
+    pub(crate) fn tell_unbooked<R: Wait>(&self, rt: &R) {
+        self.stage.close(rt);
+    }
+
     /// Sleeps until the instance of a request has settled. False where nothing can settle it before
-    /// this session goes on: every other one has ended or sleeps.
+    /// this session goes on, since every other one has ended or sleeps, as all that sleep are told;
+    /// and where the machine is not booked any more.
     pub(crate) fn sleep<R: Wait>(&mut self, rt: &R, request: u64) -> bool {
         let Some(instance) = self.requests.instance_of(request) else {
             return false;
         };
         self.step_back(rt);
-        let has_settled = self.stage.sleep(rt, &self.role, instance);
+        let has_settled = self.stage.wait(rt, &self.role, instance);
         self.step_aside(rt);
         has_settled
     }
@@ -94,7 +100,7 @@ impl<'s> Seat<'s> {
         if let Some(aside) = aside {
             stage.step_back(rt, aside);
         }
-        stage.end(rt, role);
+        stage.leave(rt, role);
         calls
     }
 }

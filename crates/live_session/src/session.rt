@@ -104,11 +104,12 @@ impl<'s, R: Wait, M: Machine> Setting<'s, R, M> {
     /// `info C`, or `wait REQUEST`, or `leave`; it ends at LF, and one CR before that is dropped. A
     /// call is answered by the line of its reply. A wait takes the request, and again when its
     /// instance has settled, and is answered as the last of these takes was: `pending` where every
-    /// other session has ended or waits too, so that nobody is left who could settle it. `leave` is
-    /// answered by `left`, and ends the session, as does a call after 2^62 turns of the door,
-    /// answered by `exhausted`. So does a call behind whose turn the machine is not booked: it was
-    /// made, and in place of its reply stands `unbooked`. Any other line is answered by `bad NAME`:
-    /// then nothing was done, and the session goes on.
+    /// other session has ended or waits too, so that nobody is left who could settle it; all that
+    /// wait are told so then. `leave` is answered by `left`, and ends the session, as does a call
+    /// after 2^62 turns of the door, answered by `exhausted`. So does a call behind whose turn the
+    /// machine is not booked: it was made, and in place of its reply stands `unbooked`; whoever
+    /// waits is told so too. Any other line is answered by `bad NAME`: then nothing was done, and
+    /// the session goes on.
     ///
     /// No turn is held while it reads, works out a delivery, writes or sleeps. The source is told
     /// when the session begins, before its first line is read, and when it has ended; no turn and
@@ -134,7 +135,7 @@ impl<'s, R: Wait, M: Machine> Setting<'s, R, M> {
         let requests = match requests {
             Ok(requests) => requests,
             Err(_) => {
-                self.stage.end(self.rt, role);
+                self.stage.leave(self.rt, role);
                 source.open();
                 source.close(SessionEnd::NoMemory, 0);
                 return Some(SessionEnd::NoMemory);

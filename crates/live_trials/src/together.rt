@@ -1,7 +1,7 @@
 //! The sessions of several processes, each in a thread of its own.
 ghost use Rattle.std.specs.Prelude.{[]};
 
-use crate::devices::{Answers, Client, Due, Heard, hearers, new_answers, new_client};
+use crate::devices::{Answers, Client, Due, Heard, Hold, hearers, new_answers, new_client};
 use crate::machines::hall;
 use crate::parties::{many, wall};
 use hall_turn::Machine;
@@ -144,6 +144,56 @@ fn waits_that_are_in_vain_are_pending(rt: HostRuntime) {
             &[waits, waits, waits, dies]
         ) == 4
     );
+}
+
+// The sessions of three that wait, and of a fourth that leaves. None of the three reads on before
+// the one behind it has had its second answer.
+fn three_that_wait<'a>(
+    alloc: Global,
+    hearers: &'a [Heard],
+) -> Result<Vec<Peer<Client<'a>, Answers<'a>>>, AllocError> {
+    let waits = "post 0 barrier\nwait 0\n";
+    let told = "posted 0\npending\n";
+    let mut peers = Vec::new(alloc);
+    for (process, heard) in hearers.iter().enumerate() {
+        let (lines, answers, end, calls) = if process == 3 {
+            ("leave\n", "left\n", SessionEnd::Left, 0)
+        } else {
+            (waits, told, SessionEnd::EndOfStream, 2)
+        };
+        let due = Due { end, calls };
+        let mut source = new_client(lines.as_bytes(), Fuse::Whole, usize::MAX, due, heard);
+        let next = match process {
+            0 => hearers.get(1),
+            1 => hearers.get(2),
+            2 => hearers.first(),
+            _ => None,
+        };
+        if let Some(next) = next {
+            source.hold = Some(Hold::until(1, &next.writes, 2));
+        }
+        let sink = new_answers(answers, Fuse::Whole, heard);
+        peers.push(Peer { source, sink })?;
+    }
+    Ok(peers)
+}
+
+/// All that wait in vain are told so, and not one after the other.
+#[test]
+fn all_that_wait_in_vain_are_told(rt: HostRuntime) {
+    let alloc = rt.alloc();
+    let policy = wall(&rt, alloc, FOUR_OF_A_BANK);
+    let hearers = hearers(alloc, 4).expect(&rt, "no memory");
+    let peers = three_that_wait(alloc, hearers.as_slice()).expect(&rt, "no memory");
+    let machine = hall(&rt, alloc, &policy);
+    let served = serve_all(&rt, alloc, &policy, machine, peers).expect(&rt, "not served");
+    for session in &served.sessions {
+        assert!(&rt; session.peer.sink.are_all());
+    }
+    drop(served);
+    for heard in &hearers {
+        assert!(&rt; heard.is_whole());
+    }
 }
 
 /// Four wait for each other again and again, and each gets the sum.

@@ -137,3 +137,44 @@ fn who_sleeps_is_told_too(rt: HostRuntime) {
         assert!(&rt; heard.is_whole());
     }
 }
+
+// The four sessions of `in_turn`, of which the first posts twice and waits for its second request.
+fn first_waits_on<'a>(
+    alloc: Global,
+    hearers: &'a [Heard],
+) -> Result<Vec<Peer<Client<'a>, Answers<'a>>>, AllocError> {
+    let mut peers = in_turn(alloc, hearers)?;
+    let (Some(peer), Some(heard)) = (peers.get_mut(0), hearers.get(0)) else {
+        return Ok(peers);
+    };
+    let due = Due {
+        end: SessionEnd::Unbooked,
+        calls: 3,
+    };
+    let lines = b"post 0 barrier\npost 0 barrier\nwait 1\ninfo 0\n";
+    peer.source = new_client(lines, Fuse::Whole, usize::MAX, due, heard);
+    peer.sink = new_answers("posted 0\nposted 1\nunbooked\n", Fuse::Whole, heard);
+    if let (Some(next), Some(first)) = (peers.get_mut(1), hearers.get(0)) {
+        next.source.hold = Some(Hold::until(0, &first.writes, 2));
+    }
+    Ok(peers)
+}
+
+/// The same where the first waits for an instance that has not settled: no `pending` is told of
+/// what is not booked.
+#[test]
+fn who_sleeps_for_another_instance_is_told_too(rt: HostRuntime) {
+    let alloc = rt.alloc();
+    let policy = wall(&rt, alloc, FOUR_OF_A_BANK);
+    let hearers = hearers(alloc, 4).expect(&rt, "no memory");
+    let peers = first_waits_on(alloc, hearers.as_slice()).expect(&rt, "no memory");
+    let machine = booked_till_it_settles(&rt, alloc, &policy);
+    let served = serve_all(&rt, alloc, &policy, machine, peers).expect(&rt, "not served");
+    for session in &served.sessions {
+        assert!(&rt; session.end == SessionEnd::Unbooked && session.peer.sink.are_all());
+    }
+    drop(served);
+    for heard in &hearers {
+        assert!(&rt; heard.is_whole());
+    }
+}

@@ -39,6 +39,14 @@ IsHeard board = (rank : ℕ) → HasHeard board rank
 abbrev pub PlaysAlone : Board → Type 0
 PlaysAlone board = (rank : ℕ) → (place_of board rank ≡ Plays) ↔ (board.player ≡ Some rank)
 
+-- the rank does not sleep
+abbrev pub SleepsForNothing : Board → (rank : ℕ) → Type 0
+SleepsForNothing board rank = (it : Instance) → place_of board rank ≢ Sleeps it
+
+-- nobody sleeps
+abbrev pub NobodySleeps : Board → Type 0
+NobodySleeps board = (rank : ℕ) → SleepsForNothing board rank
+
 -- nobody is awake
 abbrev pub AllSleep : Board → Type 0
 AllSleep board = (rank : ℕ) → is_awake (place_of board rank) ≡ false

@@ -9,6 +9,7 @@ ghost use Rattle.rank_stage.specs.Boards.{IsOrderly, AwaitsCast, KeepsRest, Call
 ghost use Rattle.rank_stage.specs.Boards.{Stays, StaysOrPlays, OthersStay, MayLeaveFor, HasHeard};
 ghost use Rattle.rank_stage.specs.Boards.{PlaysAlone, IsWatched, IsHeard, HasBeenWoken};
 ghost use Rattle.rank_stage.specs.Boards.{HasBeenCalled, IsLastAwake, CountsOneMore};
+ghost use Rattle.rank_stage.specs.Boards.{SleepsForNothing, NobodySleeps};
 
 use std::alloc::{AllocError, Global};
 
@@ -278,6 +279,52 @@ impl Board {
         }
         if let Some(sleeper) = self.first_asleep() {
             self.set(sleeper, Place::InLine);
+        }
+    }
+
+    // It stands in line if it sleeps.
+    fn call_if_asleep(&mut self, rank: usize)
+        requires { rank < length self.old.places.items }
+        ensures none { SleepsForNothing self.new rank }
+        ensures moves { Stays self.old self.new rank ⊎ HasBeenWoken self.old self.new rank }
+        ensures others { (other : ℕ) → other ≢ rank → Stays self.old self.new other }
+        ensures one { PlaysAlone self.old → PlaysAlone self.new }
+        ensures rest { KeepsRest self.old self.new }
+    {
+        let Place::Sleeps(_) = self.place_of(rank) else {
+            return;
+        };
+        self.set(rank, Place::InLine);
+    }
+
+    // All that sleep stand in line, and nobody else moves.
+    pub(crate) fn call_all_asleep(&mut self)
+        requires one { PlaysAlone self.old }
+        ensures none { NobodySleeps self.new }
+        ensures one { PlaysAlone self.new }
+        ensures moves { (rank : ℕ) →
+            Stays self.old self.new rank ⊎ HasBeenWoken self.old self.new rank }
+        ensures rest { KeepsRest self.old self.new }
+    {
+        for rank in 0..self.places.len() {
+            self.call_if_asleep(rank);
+        }
+    }
+
+    // Where nobody is awake but the rank, which has ended, all that sleep stand in line.
+    pub(crate) fn call_all_if_last(&mut self, rank: usize)
+        requires heard { IsHeard self.old }
+        requires one { PlaysAlone self.old }
+        requires ended { place_of self.old rank ≡ Ended }
+        ensures awaits { AwaitsCast self.new }
+        ensures moves { (other : ℕ) → Stays self.old self.new other
+            ⊎ (HasBeenWoken self.old self.new other × IsLastAwake self.old rank) }
+        ensures all { IsLastAwake self.old rank → NobodySleeps self.new }
+        ensures rest { KeepsRest self.old self.new }
+    {
+        let others = self.others_are_awake(rank);
+        if !others {
+            self.call_all_asleep();
         }
     }
 }

@@ -28,7 +28,9 @@
 //!   let go, so each rank that begins ends, and each that steps aside comes back.
 //! - Where every other rank has ended or sleeps, a rank does not sleep: it makes its tries one
 //!   after another, is answered `Pending`, and goes on. Where the last that is awake ends, one that
-//!   sleeps is called, and does the same.
+//!   sleeps is called, and does the same. Who waits by [`Stage::wait`] makes no tries: there all
+//!   that sleep are called, each is told that it waits in vain, and the last that is awake ends by
+//!   [`Stage::leave`].
 //! - Memory for all of this is there before the first thread starts.
 //!
 //! No rank begins before all threads have started, so that where one is refused nobody waits for a
@@ -188,7 +190,25 @@ impl Stage {
         unreachable!()
     }
 
-    /// The rank has ended.
+    /// The rank has ended. Where it was the last that was awake, all that sleep are woken, for
+    /// nothing that they sleep for can settle before one of them goes on.
+    pub fn leave<R: Wait>(&self, rt: &R, role: Role) {
+        let mut standing = self.standing.lock(rt);
+        let call = standing.end_for_all(role.lay_down());
+        drop(standing);
+        call.ring(self.bells.as_slice());
+    }
+
+    /// Nobody sleeps any more: all that sleep are woken.
+    pub fn close<R: Wait>(&self, rt: &R) {
+        let mut standing = self.standing.lock(rt);
+        let call = standing.close();
+        drop(standing);
+        call.ring(self.bells.as_slice());
+    }
+
+    /// The rank has ended. Where it was the last that was awake, one that sleeps is woken, which
+    /// makes its tries alone.
     pub fn end<R: Wait>(&self, rt: &R, role: Role) {
         let mut standing = self.standing.lock(rt);
         let call = standing.end(role.lay_down());
@@ -258,6 +278,34 @@ impl Stage {
         let mut standing = self.standing.lock(rt);
         match standing.lie_down(rank, it) {
             Rest::Stays => standing.has_settled(it),
+            Rest::Sleeps(call) => {
+                drop(standing);
+                call.ring(self.bells.as_slice());
+                match self.await_place(rt, rank) {
+                    Some(standing) => standing.has_settled(it),
+                    None => false,
+                }
+            }
+        }
+    }
+
+    /// Sleeps until the instance has settled, as [`Stage::sleep`] does, and where that is in vain
+    /// for this rank all others that sleep are woken and told the same. False also where the stage
+    /// was closed.
+    pub fn wait<R: Wait>(&self, rt: &R, role: &Role, it: Instance) -> bool {
+        let rank = role.rank();
+        if self.is_settled(it) {
+            return true;
+        }
+        let mut standing = self.standing.lock(rt);
+        match standing.lie_down(rank, it) {
+            Rest::Stays => {
+                let has_settled = standing.has_settled(it);
+                if !has_settled {
+                    standing.wake_all(rank);
+                }
+                has_settled
+            }
             Rest::Sleeps(call) => {
                 drop(standing);
                 call.ring(self.bells.as_slice());

@@ -14,7 +14,8 @@ ghost use Rattle.rank_stage.specs.declared.standing.Role.{Role};
 ghost use Rattle.rank_stage.specs.declared.standing.SentHome.{SentHome};
 ghost use Rattle.rank_stage.specs.Boards.{place_of, settled_on, IsOrderly, Opens, Calls};
 ghost use Rattle.rank_stage.specs.Boards.{OthersStay, StaysOrPlays, HasBeenWoken, HasBeenCalled};
-ghost use Rattle.rank_stage.specs.Boards.{IsLastAwake, CountsOneMore};
+ghost use Rattle.rank_stage.specs.Boards.{KeepsRest};
+ghost use Rattle.rank_stage.specs.Boards.{IsLastAwake, CountsOneMore, NobodySleeps};
 ghost use Rattle.rank_stage.specs.Entries.{MayBegin, called_by};
 
 use crate::board::{Board, Instance, Place, no_counts, places_in_line};
@@ -111,7 +112,10 @@ pub(crate) enum Rest {
 pub(crate) struct Standing {
     board: Board,
     start: Start,
+    // Nobody sleeps any more.
+    closed: bool,
     ghost orderly: { IsOrderly board },
+    ghost woken: { closed ≡ true → NobodySleeps board },
 }
 
 impl Standing {
@@ -134,11 +138,16 @@ impl Standing {
         };
         let _ = board.cast();
         let start = Start::Awaited;
-        Ok(Standing { board, start })
+        Ok(Standing {
+            board,
+            start,
+            closed: false,
+        })
     }
 
     /// Each rank begins when it comes to play. The one that plays is to be called.
     pub(crate) fn begin_in_turn(&mut self) -> Call
+        ensures stays { self.new.closed ≡ self.old.closed }
         ensures told { self.new.start ≡ InTurn }
         ensures first { result.0 ≡ self.old.board.player }
         ensures same { self.new.board ≡ self.old.board }
@@ -149,6 +158,7 @@ impl Standing {
 
     /// All ranks begin.
     pub(crate) fn begin_at_once(&mut self) -> CallAll
+        ensures stays { self.new.closed ≡ self.old.closed }
         ensures told { self.new.start ≡ AtOnce }
         ensures same { self.new.board ≡ self.old.board }
     {
@@ -158,6 +168,7 @@ impl Standing {
 
     /// No rank begins.
     pub(crate) fn give_up(&mut self) -> CallAll
+        ensures stays { self.new.closed ≡ self.old.closed }
         ensures told { self.new.start ≡ GivenUp }
         ensures same { self.new.board ≡ self.old.board }
     {
@@ -210,6 +221,7 @@ impl Standing {
 
     /// The rank, if it plays, steps aside: it makes no call for a while.
     pub(crate) fn step_aside(&mut self, rank: usize) -> Call
+        ensures stays { self.new.closed ≡ self.old.closed }
         ensures calls { Calls self.old.board self.new.board result.0 }
         ensures aside { place_of self.old.board rank ≡ Plays →
             place_of self.new.board rank ≡ Aside }
@@ -226,6 +238,7 @@ impl Standing {
     /// A rank that had stepped aside comes back: it plays at once, or stands in line. Gives whether
     /// it plays.
     pub(crate) fn step_back(&mut self, rank: usize) -> bool
+        ensures stays { self.new.closed ≡ self.old.closed }
         ensures plays { result ≡ true → place_of self.new.board rank ≡ Plays }
         ensures in_line { result ≡ false → place_of self.old.board rank ≡ Aside →
             place_of self.new.board rank ≡ InLine }
@@ -248,25 +261,61 @@ impl Standing {
     }
 
     /// The rank, if it plays, lies down to sleep until the instance settles. It does not where that
-    /// has settled, or where no other rank is awake.
+    /// has settled, where no other rank is awake, or where nobody sleeps any more.
     pub(crate) fn lie_down(&mut self, rank: usize, it: Instance) -> Rest
+        ensures stays { self.new.closed ≡ self.old.closed }
         ensures lies { result ≢ Stays → Calls self.old.board self.new.board (called_by result)
             × (place_of self.new.board rank ≡ AtRest it) }
         ensures awake { result ≡ Stays → self.new ≡ self.old }
         ensures only { result ≡ Stays → place_of self.old.board rank ≡ Plays →
-            settled_on self.old.board it.comm ≤ it.number → IsLastAwake self.old.board rank }
+            settled_on self.old.board it.comm ≤ it.number → self.old.closed ≡ false →
+            IsLastAwake self.old.board rank }
         ensures stay { OthersStay self.old.board self.new.board rank }
         ensures settled { self.new.board.settled ≡ self.old.board.settled }
     {
-        if !self.plays(rank) || self.has_settled(it) || !self.board.others_are_awake(rank) {
+        if self.closed || !self.plays(rank) || self.has_settled(it) {
+            return Rest::Stays;
+        }
+        if !self.board.others_are_awake(rank) {
             return Rest::Stays;
         }
         Rest::Sleeps(Call(self.board.leave(rank, Place::Sleeps(it))))
     }
 
+    /// Where the rank plays and no other is awake, all that sleep stand in line: what they sleep
+    /// for cannot settle before one of them goes on.
+    pub(crate) fn wake_all(&mut self, rank: usize)
+        ensures stays { self.new.closed ≡ self.old.closed }
+        ensures all { place_of self.old.board rank ≡ Plays → IsLastAwake self.old.board rank →
+            NobodySleeps self.new.board }
+        ensures moves { (other : ℕ) → place_of self.new.board other ≡ place_of self.old.board other
+            ⊎ (HasBeenWoken self.old.board self.new.board other
+            × IsLastAwake self.old.board rank) }
+        ensures plays { place_of self.old.board rank ≡ Plays → place_of self.new.board rank ≡ Plays }
+        ensures rest { KeepsRest self.old.board self.new.board }
+    {
+        if self.plays(rank) && !self.board.others_are_awake(rank) {
+            self.board.call_all_asleep();
+        }
+    }
+
+    /// Nobody sleeps any more: all that sleep stand in line.
+    pub(crate) fn close(&mut self) -> Call
+        ensures calls { Calls self.old.board self.new.board result.0 }
+        ensures closed { self.new.closed ≡ true }
+        ensures moves { (rank : ℕ) → StaysOrPlays self.old.board self.new.board rank
+            ⊎ HasBeenWoken self.old.board self.new.board rank }
+        ensures settled { self.new.board.settled ≡ self.old.board.settled }
+    {
+        self.board.call_all_asleep();
+        self.closed = true;
+        Call(self.board.cast())
+    }
+
     /// One more instance has settled on the communicator: whoever sleeps for it stands in line, and
     /// nobody else moves.
     pub(crate) fn settle(&mut self, comm: u32) -> Call
+        ensures stays { self.new.closed ≡ self.old.closed }
         ensures calls { Calls self.old.board self.new.board result.0 }
         ensures moves { (rank : ℕ) → StaysOrPlays self.old.board self.new.board rank
             ⊎ HasBeenCalled self.old.board self.new.board rank }
@@ -280,6 +329,7 @@ impl Standing {
     /// The rank has ended, wherever it stood. Where that was the last that was awake, one that
     /// sleeps is to play.
     pub(crate) fn end(&mut self, rank: usize) -> Call
+        ensures stays { self.new.closed ≡ self.old.closed }
         ensures calls { Calls self.old.board self.new.board result.0 }
         ensures ended { place_of self.new.board rank ≡ Ended }
         ensures moves { (other : ℕ) → other ≢ rank →
@@ -289,6 +339,23 @@ impl Standing {
     {
         self.board.take_off(rank);
         self.board.call_if_last(rank);
+        Call(self.board.cast())
+    }
+
+    /// The rank has ended, wherever it stood. Where that was the last that was awake, all that sleep
+    /// stand in line.
+    pub(crate) fn end_for_all(&mut self, rank: usize) -> Call
+        ensures stays { self.new.closed ≡ self.old.closed }
+        ensures calls { Calls self.old.board self.new.board result.0 }
+        ensures ended { place_of self.new.board rank ≡ Ended }
+        ensures moves { (other : ℕ) → other ≢ rank →
+            StaysOrPlays self.old.board self.new.board other
+            ⊎ (HasBeenWoken self.old.board self.new.board other × IsLastAwake self.old.board rank) }
+        ensures all { IsLastAwake self.old.board rank → NobodySleeps self.new.board }
+        ensures settled { self.new.board.settled ≡ self.old.board.settled }
+    {
+        self.board.take_off(rank);
+        self.board.call_all_if_last(rank);
         Call(self.board.cast())
     }
 }

@@ -67,8 +67,8 @@ returns-in-Exhausted-clause-waited g c =
     i.waited e.same
     (at_door door mid new.seen (i.same.0 ∙ c.requires.door) e.legal) e.answered e.stood
 
-pub loop-preserved-in-Reply-Pending-take-2 : goal.loop-preserved-in-Reply-Pending-take-2
-loop-preserved-in-Reply-Pending-take-2 g c =
+pub loop-preserved-else-not-sleeps_on-2 : goal.loop-preserved-else-not-sleeps_on-2
+loop-preserved-else-not-sleeps_on-2 g c =
     let door = c.args.self.now.door.now in
     let pass = c.args.pass.now in
     let mid = c.loop.pass in
@@ -86,3 +86,18 @@ loop-preserved-in-Reply-Pending-take-2 g c =
           (at_door door mid new.seen (i.same.0 ∙ c.requires.door) e.legal) e.answered
           e.stood);
     }
+
+pub returns-then-not-sleeps_on-clause-waited : goal.returns-then-not-sleeps_on-clause-waited
+returns-then-not-sleeps_on-clause-waited g c =
+    let door = c.args.self.now.door.now in
+    let pass = c.args.pass.now in
+    let mid = c.loop.pass in
+    let new = c.take-in-loop.new.pass in
+    let i = c.loop.invariant in
+    let e = c.in-Reply-Pending-take.ensures in
+    let stood = Stood g.M.Machine.stands g.M.Machine.is_booked in
+    subst (λ (r : Reply). Waited stood pass c.args.request (Replied r) new)
+    c.in-Reply-Pending-take.field-0-is
+    (waited_more g.M.Machine.stands g.M.Machine.is_booked pass mid new c.args.request
+    c.in-Reply-Pending-take.field-0 i.waited e.same
+    (at_door door mid new.seen (i.same.0 ∙ c.requires.door) e.legal) e.answered e.stood)
