@@ -83,18 +83,10 @@ impl<'a, 'n, R: Wait> PipeDesk<'a, 'n, R> {
     }
 
     // Why the process has left, where its session ended so.
-    fn why(&self, end: SessionEnd) -> Option<Why> {
-        if let Some(shut) = self.opened.lock(self.rt).shut {
-            return Some(Why::Shut(shut));
-        }
-        match end {
-            SessionEnd::NoMemory => Some(Why::NoMemory),
-            SessionEnd::Exhausted => Some(Why::Exhausted),
-            SessionEnd::EndOfStream
-            | SessionEnd::Left
-            | SessionEnd::ReadFailed
-            | SessionEnd::WriteFailed
-            | SessionEnd::Unbooked => None,
+    fn why(&self, end: SessionEnd) -> Why {
+        match self.opened.lock(self.rt).shut {
+            Some(shut) => Why::Shut(shut),
+            None => Why::End(end),
         }
     }
 

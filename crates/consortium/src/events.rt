@@ -5,6 +5,7 @@
 //! order and at once is tested, with the built program.
 
 use crate::pipes::Shut;
+use live_session::SessionEnd;
 use std::alloc::{AllocError, Global};
 use std::io::Write;
 use std::sync::{Condvar, Mutex, Wait};
@@ -13,23 +14,28 @@ use std::sync::{Condvar, Mutex, Wait};
 /// digits.
 const LINE_ROOM: usize = 192;
 
-/// Why a process has left, where that is not by itself.
+/// Why a process has left.
 #[derive(Clone, Copy)]
 pub(crate) enum Why {
     /// Its pipes were not opened.
     Shut(Shut),
-    /// A growth of memory was refused to its session.
-    NoMemory,
-    /// The door was too late for its call.
-    Exhausted,
+    /// Its session ended so.
+    End(SessionEnd),
 }
 
 impl Why {
     fn text(self) -> &'static str {
         match self {
             Why::Shut(shut) => shut.text(),
-            Why::NoMemory => "out of memory",
-            Why::Exhausted => "exhausted",
+            Why::End(end) => match end {
+                SessionEnd::Left => "left",
+                SessionEnd::EndOfStream => "end of stream",
+                SessionEnd::ReadFailed => "calls not readable",
+                SessionEnd::WriteFailed => "replies not read",
+                SessionEnd::Exhausted => "exhausted",
+                SessionEnd::Unbooked => "unbooked",
+                SessionEnd::NoMemory => "out of memory",
+            },
         }
     }
 }
@@ -42,7 +48,7 @@ pub(crate) enum Event<'a> {
     /// A process has opened its pipes.
     Came(&'a str),
     /// The session of a process has ended, after so many calls, and why.
-    Left(&'a str, u64, Option<Why>),
+    Left(&'a str, u64, Why),
     /// All have ended, after so many calls of all.
     Served(u64),
 }
@@ -74,8 +80,7 @@ fn put_line(line: &mut String, event: Event) -> Result<(), AllocError> {
     match event {
         Event::Serving(processes) => write!(line, "serving {processes} processes\n"),
         Event::Came(name) => write!(line, "{name} came\n"),
-        Event::Left(name, calls, None) => write!(line, "{name} left after {calls} calls\n"),
-        Event::Left(name, calls, Some(why)) => {
+        Event::Left(name, calls, why) => {
             let text = why.text();
             write!(line, "{name} left after {calls} calls: {text}\n")
         }
@@ -111,7 +116,7 @@ impl<'a> Log<'a> {
     fn add(&mut self, event: Event<'a>) {
         if let Event::Left(name, calls, why) = event {
             self.calls = self.calls.saturating_add(calls);
-            if let (Some(Why::Shut(_)), None) = (why, self.shut_out) {
+            if let (Why::Shut(_), None) = (why, self.shut_out) {
                 self.shut_out = Some(name);
             }
         }

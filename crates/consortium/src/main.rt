@@ -16,6 +16,7 @@ mod book_file;
 mod desk;
 mod ended;
 mod events;
+mod folder;
 mod pipes;
 mod server;
 mod standard;

@@ -7,6 +7,7 @@ use crate::book_file::{BookFile, CountedBook, NewBook, new_book, take_away};
 use crate::desk::{desks_at, peers_at};
 use crate::ended::{Ended, let_go, status_of};
 use crate::events::{Event, EventLines, Events};
+use crate::folder::Folder;
 use crate::pipes::{Pipes, first_fault, pipes_in};
 use live_session::{Desk, Peer};
 use program_commands::{Ending, end, refuse, serve_on};
@@ -79,13 +80,22 @@ struct PipeServer<'a, R> {
 }
 
 impl<'a, R: AllocGlobal + Threads + Wait + Sync> PipeServer<'a, R> {
-    // Looks at the pipes, and serves at them if none is amiss.
+    // Holds the folder, looks at the pipes, and serves at them if nothing is amiss.
     fn serve_under<E: Sink>(&self, policy: &Policy, err: &mut E) -> u8 {
         let alloc = self.rt.alloc();
+        let Ok(mut folder) = Folder::at(alloc, self.files, &self.paths.pipes) else {
+            return end(err, Ending::NoMemory);
+        };
+        if let Some(unready) = folder.hold() {
+            return refuse(err, unready);
+        }
         let Ok(mut all) = pipes_in(alloc, policy, &self.paths.pipes) else {
             return end(err, Ending::NoMemory);
         };
         if let Some(unready) = first_fault(self.files, &mut all) {
+            return refuse(err, unready);
+        }
+        if let Some(unready) = folder.used() {
             return refuse(err, unready);
         }
         let Ok(events) = Events::new(alloc, all.len()) else {
@@ -94,7 +104,7 @@ impl<'a, R: AllocGlobal + Threads + Wait + Sync> PipeServer<'a, R> {
         let Ok(lines) = EventLines::new(alloc, self.out) else {
             return end(err, Ending::NoMemory);
         };
-        self.serve_at(policy, &all, &events, lines, err)
+        self.serve_at(policy, &all, &folder, &events, lines, err)
     }
 
     // Makes the devices and the book, and serves, while another thread writes the events.
@@ -102,6 +112,7 @@ impl<'a, R: AllocGlobal + Threads + Wait + Sync> PipeServer<'a, R> {
         &self,
         policy: &Policy,
         all: &[Pipes<'n>],
+        folder: &Folder,
         events: &Events<'n>,
         lines: EventLines<Stdout>,
         err: &mut E,
@@ -118,18 +129,27 @@ impl<'a, R: AllocGlobal + Threads + Wait + Sync> PipeServer<'a, R> {
             Ok(book) => book,
             Err(status) => return status,
         };
+        if let Some(unready) = folder.use_up() {
+            self.take_back();
+            return refuse(err, unready);
+        }
         let (is_told, ended) = thread::join(
             rt,
             || events.write_to(rt, lines),
             || self.serve_while_told(policy, peers, book, events, err),
         );
         if ended.sessions != policy.processes() as usize {
-            if let Some(path) = &self.paths.book {
-                take_away(self.files, path);
-            }
+            self.take_back();
             return ended.status();
         }
         status_of(rt, ended, events, is_told, err)
+    }
+
+    // Takes the file of the book away, where one was made and no session began.
+    fn take_back(&self) {
+        if let Some(path) = &self.paths.book {
+            take_away(self.files, path);
+        }
     }
 
     // The file of the book, if it is wanted; or the status, behind the line of the fault.

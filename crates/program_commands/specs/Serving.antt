@@ -30,6 +30,8 @@ use Rattle.program_commands.specs.Replaying.{text_of}
 abbrev pub unready_line : Unready → List ℕ
 unready_line (unreadies.NoPipe name) = codes "no pipe: " ++ (name.now ++ codes "\n")
 unready_line (unreadies.OpenToOthers name) = codes "open to others: " ++ (name.now ++ codes "\n")
+unready_line (unreadies.InUse path) = codes "in use: " ++ (path.now ++ codes "\n")
+unready_line (unreadies.PipesUsed path) = codes "pipes used: " ++ (path.now ++ codes "\n")
 unready_line (unreadies.BookExists path) = codes "book exists: " ++ (path.now ++ codes "\n")
 
 -- how it ends where no session began

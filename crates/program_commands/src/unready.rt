@@ -14,6 +14,10 @@ pub enum Unready<'a> {
     NoPipe(&'a str),
     /// Others than its owner and its group may read or write a pipe of this process.
     OpenToOthers(&'a str),
+    /// Another server holds the folder of the pipes.
+    InUse(&'a str),
+    /// The pipes in this folder have served a run.
+    PipesUsed(&'a str),
     /// There is a file already at this path, at which the book is to be.
     BookExists(&'a str),
 }
@@ -28,6 +32,8 @@ fn write_unready<W: Sink>(sink: &mut W, unready: Unready) -> Result<(), Failed>
     match unready {
         Unready::NoPipe(name) => write_worded(sink, b"no pipe: ", name.as_bytes()),
         Unready::OpenToOthers(name) => write_worded(sink, b"open to others: ", name.as_bytes()),
+        Unready::InUse(path) => write_worded(sink, b"in use: ", path.as_bytes()),
+        Unready::PipesUsed(path) => write_worded(sink, b"pipes used: ", path.as_bytes()),
         Unready::BookExists(path) => write_worded(sink, b"book exists: ", path.as_bytes()),
     }
 }

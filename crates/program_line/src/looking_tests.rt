@@ -10,8 +10,7 @@ use std::thread::Threads;
 
 const BOOK: &str = "book 1\npost 0 0 barrier gives 0 as none passed\nverdict 0 0 granted\nend 2\n";
 
-const MEANING: &str = "alpha is in one class with beta
-beta is in one class with alpha
+const MEANING: &str = "banks: alpha, beta
 p0 is at home at alpha
 warning: no result is ever sanitised: there is no sanitise rule
 warning: no process is at home at beta

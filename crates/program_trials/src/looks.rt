@@ -12,8 +12,7 @@ use std::test::Fail;
 use wall_labels::memory::{ExpectingSink, Fuse, MemorySource};
 use wall_policy::read_policy;
 
-const MEANING: &str = "alpha is in one class with beta
-beta is in one class with alpha
+const MEANING: &str = "banks: alpha, beta
 a0 is at home at alpha
 b0 is at home at beta
 n0 has no home
