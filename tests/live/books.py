@@ -220,6 +220,30 @@ def full_disks(given):
             raw.close()
 
 
+def waits_end_where_the_book_does(given):
+    """Who waits when the book can no longer be written is told at once."""
+    house = House(given.program, neutral(3))
+    server = subprocess.Popen(house.words, stdin=subprocess.DEVNULL, stdout=subprocess.DEVNULL,
+                              stderr=subprocess.PIPE, preexec_fn=bounded(200))
+    SERVERS.append(server)
+    house.server = server
+    raws = [Raw(house, name) for name in house.names]
+    want(raws[0].ask("post 0 barrier"), "posted 0", "a post")
+    raws[0].send(b"wait 0\n")
+    number = 0
+    while True:
+        told = raws[1].ask("post 0 barrier")
+        if told == "unbooked":
+            break
+        want(told, f"posted {number}", "a post while there is room")
+        number += 1
+    # The third has not come to act, and could still settle what is waited for.
+    want(raws[0].line(), "unbooked", "what the wait is told")
+    want(raws[2].ask("info 0"), "unbooked", "what the third is told")
+    server.communicate(timeout=60)
+    want(server.returncode, 3, "the status")
+
+
 def books_are_locked(given):
     """While a server writes its book nobody else gets a lock on it, and no second server starts."""
     house = House(given.program, neutral(1)).start()
@@ -229,7 +253,7 @@ def books_are_locked(given):
     locked = subprocess.run(["flock", "--nonblock", str(house.book), "true"], check=False)
     want(locked.returncode, 1, "whether the book is locked")
     second = subprocess.run(house.words, capture_output=True, text=True, timeout=60, check=False)
-    want((second.returncode, second.stderr), (3, f"book exists: {house.book}\n"), "a second server")
+    want((second.returncode, second.stderr), (3, f"in use: {house.pipes}\n"), "a second server")
     want(raw.ask("leave"), "left", "the leave")
     house.end()
     locked = subprocess.run(["flock", "--nonblock", str(house.book), "true"], check=False)
@@ -318,5 +342,5 @@ def syncs_that_fail(given):
         want(len(sealed(house)) - 2 in (4, 6), True, "what the book has at least")
 
 
-TESTS = [book_is_ahead, books_are_locked, full_disks, killed_servers, killed_after_earlier_books,
-         syncs_that_fail]
+TESTS = [book_is_ahead, books_are_locked, waits_end_where_the_book_does, full_disks,
+         killed_servers, killed_after_earlier_books, syncs_that_fail]

@@ -264,25 +264,30 @@ def files_that_may_not_grow(given):
     want(house.book.stat().st_size <= 1024, True, "the size of the book")
 
 
-def one_of_those_who_wait_is_told(given):
-    """Where all that have not left wait, one is told so; when it has left, the next."""
+def all_who_wait_are_told(given):
+    """Where all that have not left wait, each is told so; who waits again is told with all others."""
     house = House(given.program, neutral(4)).start()
     raws = [Raw(house, name) for name in house.names]
     for raw in raws[:3]:
         want(raw.ask("post 0 barrier"), "posted 0", "a post")
         raw.send(b"wait 0\n")
+    # Nobody is told while somebody could still post.
+    time.sleep(0.3)
+    told = select.select([raw.replies for raw in raws[:3]], [], [], 0)[0]
+    want(told, [], "who is told before the last has left")
     want(raws[3].ask("leave"), "left", "the leave of the last")
-    waiting = raws[:3]
-    while waiting:
-        ready = select.select([raw.replies for raw in waiting], [], [], 60)[0]
-        # Nobody else is told meanwhile.
-        time.sleep(0.2)
-        again = select.select([raw.replies for raw in waiting], [], [], 0)[0]
-        want((len(ready), again), (1, ready), "how many are told")
-        first = next(raw for raw in waiting if raw.replies == ready[0])
-        want(first.line(), "pending", "what it is told")
-        waiting.remove(first)
-        want(first.ask("leave"), "left", "its leave")
+    for raw in raws[:3]:
+        want(raw.line(), "pending", "what each is told")
+    # Two wait again, and sleep while the third may act; as it leaves, both are told.
+    for raw in raws[:2]:
+        raw.send(b"wait 0\n")
+    time.sleep(0.3)
+    told = select.select([raw.replies for raw in raws[:2]], [], [], 0)[0]
+    want(told, [], "who is told beside one that is awake")
+    want(raws[2].ask("leave"), "left", "the leave of the third")
+    for raw in raws[:2]:
+        want(raw.line(), "pending", "what both are told")
+        want(raw.ask("leave"), "left", "a leave")
     house.end()
 
 
@@ -313,5 +318,5 @@ def room_is_given_back(given):
 
 TESTS = [streams_that_are_closed, books_are_of_the_user_alone, starts_that_fail,
          syncs_are_asked_for, nobody_reads_the_events, calls_that_are_cut_short,
-         memory_that_is_refused, files_that_may_not_grow, one_of_those_who_wait_is_told,
+         memory_that_is_refused, files_that_may_not_grow, all_who_wait_are_told,
          room_is_given_back]

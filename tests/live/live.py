@@ -120,13 +120,25 @@ class House:
         for name in self.names:
             os.mkfifo(self.pipes / f"{name}.calls", 0o600)
             os.mkfifo(self.pipes / f"{name}.replies", 0o600)
+        self.mark()
         self.words = [program, "serve", str(self.policy), str(self.pipes)]
         if book:
             self.words += ["--book", str(self.book)]
         self.out, self.err = self.folder / "out", self.folder / "err"
         self.server = None
 
+    def mark(self):
+        """Has the pipes serve one run more, as if they were made anew."""
+        (self.pipes / "unused").touch()
+
+    def make_pipes(self):
+        """What examples/serve/make_pipes comes to."""
+        return subprocess.run([EXAMPLES / "make_pipes", self.policy, self.pipes],
+                              env=dict(os.environ, CONSORTIUM=self.program), capture_output=True,
+                              text=True, timeout=60, check=False)
+
     def start(self):
+        self.mark()
         with open(self.out, "wb") as out, open(self.err, "wb") as err:
             self.server = subprocess.Popen(self.words, stdin=subprocess.DEVNULL, stdout=out,
                                            stderr=err, preexec_fn=die_with_parent)
@@ -184,7 +196,9 @@ class House:
 
 def started(house, before=die_with_parent, **streams):
     """The server, with what is to be done before it begins, and these streams."""
-    server = subprocess.Popen(house.words, preexec_fn=before, **{
+    house.mark()
+    # (unbuffered: a line that is read must not take those behind it from who reads all at the end)
+    server = subprocess.Popen(house.words, preexec_fn=before, bufsize=0, **{
         "stdin": subprocess.DEVNULL, "stdout": subprocess.PIPE, "stderr": subprocess.PIPE,
         **streams})
     SERVERS.append(server)

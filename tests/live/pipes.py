@@ -80,9 +80,10 @@ def files_that_are_too_many(given):
     """A limit on open files that is too low: who finds none is told of, with the limit."""
     house = House(given.program, neutral(2), book=False)
     of_nobody(house)
-    started(house, as_nobody((resource.RLIMIT_NOFILE, 6)))
+    started(house, as_nobody((resource.RLIMIT_NOFILE, 7)))
     first_event(house)
-    # Three are the standard streams, and each process has its replies: one has calls too.
+    # Three are the standard streams, one is the folder, and each process has its replies: one has
+    # calls too.
     first = Raw(house, "p0")
     want(first.ask("info 0"), "info size 2 rank 0", "an info")
     late = os.open(house.pipes / "p1.replies", os.O_RDONLY | os.O_NONBLOCK)
@@ -93,7 +94,7 @@ def files_that_are_too_many(given):
     out, err = house.server.communicate(timeout=60)
     os.close(late)
     want((house.server.returncode, err), (3, b"not opened: p1\n"), "how the server ends")
-    want(out, b"p0 left after 1 calls\nserved 1 calls\n", "the other events")
+    want(out, b"p0 left after 1 calls: left\nserved 1 calls\n", "the other events")
 
 
 def talk_at_pipes_of_the_page(given):
@@ -116,5 +117,52 @@ def talk_at_pipes_of_the_page(given):
     house.end()
 
 
-TESTS = [pipes_that_are_not_opened, pipes_that_may_not_be_opened, files_that_are_too_many,
-         talk_at_pipes_of_the_page]
+def one_server_holds_a_folder(given):
+    """Beside a server no other one starts on its folder, and no pipes are made there."""
+    house = House(given.program, neutral(1)).start()
+    raw = Raw(house, "p0")
+    want(raw.ask("info 0"), "info size 1 rank 0", "an info")
+    house.mark()
+    second = subprocess.run(house.words[:4], capture_output=True, text=True, timeout=60, check=False)
+    busy = (3, "", f"in use: {house.pipes}\n")
+    want((second.returncode, second.stdout, second.stderr), busy, "a second server")
+    made = house.make_pipes()
+    want((made.returncode, made.stdout, made.stderr), busy, "make_pipes")
+    want(raw.ask("info 0"), "info size 1 rank 0", "an info behind both")
+    want(raw.ask("leave"), "left", "the leave")
+    house.end()
+
+
+def pipes_serve_one_run(given):
+    """An old client is no client of the next run: its ends are those of pipes that are gone."""
+    house = House(given.program, neutral(2)).start()
+    old = Raw(house, "p0")
+    want(old.ask("post 0 barrier"), "posted 0", "a post to the first server")
+    house.server.kill()
+    house.server.wait()
+    house.book.unlink()
+    again = subprocess.run(house.words, capture_output=True, text=True, timeout=60, check=False)
+    want((again.returncode, again.stderr), (3, f"pipes used: {house.pipes}\n"), "the old pipes")
+    want(house.book.exists(), False, "a book")
+    made = house.make_pipes()
+    want((made.returncode, made.stderr), (0, ""), "make_pipes")
+    house.server = subprocess.Popen(house.words, stdin=subprocess.DEVNULL, stderr=subprocess.PIPE,
+                                    stdout=subprocess.DEVNULL, preexec_fn=die_with_parent)
+    SERVERS.append(house.server)
+    new = Raw(house, "p0")
+    want(old.read(), b"", "what the old client reads")
+    try:
+        old.send(b"post 0 barrier\n")
+        raise AssertionError("an old client's line was taken")
+    except BrokenPipeError:
+        pass
+    want(new.ask("post 0 barrier"), "posted 0", "a post to the second server")
+    for raw in (new, Raw(house, "p1")):
+        want(raw.ask("leave"), "left", "a leave")
+    house.server.communicate(timeout=60)
+    want(house.server.returncode, 0, "how the second server ends")
+    want(len(house.book_lines()), 3, "the lines of its book")
+
+
+TESTS = [one_server_holds_a_folder, pipes_serve_one_run, pipes_that_are_not_opened,
+         pipes_that_may_not_be_opened, files_that_are_too_many, talk_at_pipes_of_the_page]

@@ -30,11 +30,13 @@ def waits_that_sleep(given):
     house.end()
 
 
-def calls_often(house, name, first, all_calls):
+def calls_often(house, name, first, all_calls, keeps):
     """Rounds of a post, a wait, two infos, a take and a bad line, six lines each. After the first
-    calls it waits until the server has been measured."""
+    calls it waits until the server has been measured. If it keeps a request, it never takes the
+    outcome of its first post."""
     with house.connect(name) as process:
         world, calls, measured = process.world, 1, False
+        kept = world.Ibarrier() if keeps else None
         while calls < all_calls:
             want(world.Iallreduce([calls]).wait(), [2 * calls], "a sum")
             for line in ("info 0", "info 700", "take 9999999999", "hello"):
@@ -44,30 +46,33 @@ def calls_often(house, name, first, all_calls):
                 measured = True
                 (house.folder / f"{name}.first").write_bytes(b"")
                 until(lambda: (house.folder / "measured").exists(), "the measure")
+        if keeps:
+            kept.wait()
         (house.folder / f"{name}.last").write_bytes(b"")
         until(lambda: (house.folder / "measured_again").exists(), "the measure")
 
 
-def memory_stays_with(given, book):
-    """A server that is measured, with a book or without."""
+def memory_stays_with(given, book, keeps=False):
+    """A server that is measured, with a book or without, and where each process keeps a request."""
     house = House(given.program, neutral(2), book=book).start()
     first = min(100_000, given.calls // 3)
-    clients = [Client(calls_often, house, name, first // 2, given.calls // 2)
+    clients = [Client(calls_often, house, name, first // 2, given.calls // 2, keeps)
                for name in house.names]
     before = measured(house, "first", "measured", given.seconds)
     after = measured(house, "last", "measured_again", given.seconds)
     all_results(clients)
     if after > before * 1.1:
         raise Wrong(f"{before} KiB after {first} calls, {after} KiB after {given.calls}, "
-                    f"{'with' if book else 'without'} a book")
+                    f"{'with' if book else 'without'} a book{', a request kept' if keeps else ''}")
     house.end()
 
 
 def memory_stays(given):
     """The server's memory after many calls is that after 100,000, within a tenth: no entry of the
-    book is kept."""
+    book is kept, and nothing behind a request that is never taken."""
     for book in (False, True):
         memory_stays_with(given, book)
+    memory_stays_with(given, False, keeps=True)
 
 
 def measured(house, mark, answer, seconds):

@@ -124,11 +124,11 @@ def events_are_told(given):
     events = house.events()
     want(events[0], "serving 3 processes", "the first event")
     want([event for event in events if event.startswith("p0")],
-         ["p0 came", "p0 left after 3 calls"], "p0's events")
+         ["p0 came", "p0 left after 3 calls: end of stream"], "p0's events")
     want([event for event in events if event.startswith("p1")],
-         ["p1 came", "p1 left after 0 calls"], "p1's events")
+         ["p1 came", "p1 left after 0 calls: end of stream"], "p1's events")
     want([event for event in events if event.startswith("p2")],
-         ["p2 came", "p2 left after 1 calls"], "p2's events")
+         ["p2 came", "p2 left after 1 calls: end of stream"], "p2's events")
     want(events[-1:] + [len(events)], ["served 4 calls", 8], "the end of the events")
 
 
@@ -146,6 +146,8 @@ def a_failed_write_ends_a_session(given):
     want(other.ask("wait 0"), "pending", "the other's wait")
     want(other.ask("leave"), "left", "the other's leave")
     house.end()
+    want([event for event in house.events() if event.startswith("p0 left")],
+         ["p0 left after 2 calls: replies not read"], "why p0 has left")
 
 
 def bad_lines_are_answered(given):
@@ -258,7 +260,7 @@ def four_firms(given):
     calls = {name + "0": count for name, (_, count) in told.items()}
     for name, count in calls.items():
         want([event for event in events if event.startswith(name)],
-             [f"{name} came", f"{name} left after {count} calls"], f"{name}'s events")
+             [f"{name} came", f"{name} left after {count} calls: left"], f"{name}'s events")
     want(events[-1], f"served {sum(calls.values())} calls", "the last event")
 
 
@@ -391,12 +393,10 @@ def talk_in_the_shell(given):
     """examples/serve: make_pipes, talk.sh with echo and read, the bridge, and the digests."""
     house = House(given.program, BANKS, CLASSES, SUMS)
     shutil.rmtree(house.pipes)
-    environment = dict(os.environ, CONSORTIUM=given.program)
-    made = subprocess.run([EXAMPLES / "make_pipes", house.policy, house.pipes], env=environment,
-                          capture_output=True, text=True, timeout=60, check=False)
+    made = house.make_pipes()
     want((made.returncode, made.stdout, made.stderr), (0, "", ""), "make_pipes")
-    names = sorted(f"{name}.{end}" for name in house.names for end in ("calls", "replies"))
-    want(sorted(os.listdir(house.pipes)), names, "the pipes")
+    names = [f"{name}.{end}" for name in house.names for end in ("calls", "replies")]
+    want(sorted(os.listdir(house.pipes)), sorted([*names, "unused"]), "the pipes")
     house.start()
     firms = [("a0", "alpha", 120), ("b0", "beta", 80), ("u0", "umbra", 300)]
     started = [begun([EXAMPLES / "talk.sh", house.pipes, name, label]) for name, label, _ in firms]
@@ -411,6 +411,7 @@ def talk_in_the_shell(given):
         want(talk.stdout.read().decode("ascii"), f"{name}: delivered [500]\n", name)
     house.end()
     house.audit()
+    environment = dict(os.environ, CONSORTIUM=given.program)
     words = [EXAMPLES / "digests", house.policy, house.book]
     told = subprocess.run(words, env=environment, capture_output=True, text=True, timeout=60,
                           check=False)
