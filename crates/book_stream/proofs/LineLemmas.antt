@@ -1,6 +1,6 @@
 -- The line that is not finished.
 use Rattle.std.proofs.Common.{◌≡◌, ◌+◌, ◌<◌, ◌≤◌, ℕ, true, false, List, [], ◌++◌, length}
-use Rattle.std.proofs.Common.{length-append, sym, ap, ◌∙◌, arith}
+use Rattle.std.proofs.Common.{length-append, ap, ◌∙◌, arith}
 use Rattle.book_stream.specs.declared.line.Unfinished.{Unfinished}
 use Rattle.book_stream.specs.Cuts.{line_limit, Holds}
 

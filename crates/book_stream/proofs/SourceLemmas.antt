@@ -5,14 +5,14 @@ use Rattle.std.proofs.Common.{subst, ◌∙◌, append_assoc, arith, inl, inr}
 use Rattle.std.proofs.lemmas.List.{append-nil, length-append}
 use Rattle.wall_policy.specs.Policy.{ChineseWall}
 use Rattle.run_model.specs.declared.entry.Entry.{Entry}
-use Rattle.run_model.specs.Books.{IsSound, IsFirstBad}
+use Rattle.run_model.specs.Books.{IsSound}
 use Rattle.coll_text.specs.Numbers.{Word}
 use Rattle.coll_text.specs.Reading.{parts}
-use Rattle.audit_book.specs.declared.check_fault.BookFault.{BookFault}
-use Rattle.audit_book.specs.declared.check_fault.BookFault.TheVariants as book_faults
+use Rattle.std.specs.Borrow.{Bor}
+use Rattle.audit_book.specs.declared.audit.Audit.{Audit}
 use Rattle.audit_book.specs.declared.fault.ReadFault.{ReadFault}
 use Rattle.audit_book.specs.declared.fault.ReadFault.TheVariants as faults
-use Rattle.audit_book.specs.Reading.{with_prefix, ended_at, entries_in, lines_in, book_in}
+use Rattle.audit_book.specs.Reading.{with_prefix, entries_in, lines_in, book_in}
 use Rattle.book_stream.specs.declared.fault.AuditFault.{AuditFault}
 use Rattle.book_stream.specs.declared.fault.AuditFault.TheVariants.{BadLine, LongLine, Cut}
 use Rattle.book_stream.specs.declared.fault.AuditFault.TheVariants.{BadEntry, TooMany, Read}
@@ -21,18 +21,16 @@ use Rattle.book_stream.specs.declared.stream.Reader.{Reader}
 use Rattle.book_stream.specs.Cuts.{behind}
 use Rattle.book_stream.specs.declared.reading.Stage.{Stage}
 use Rattle.book_stream.specs.declared.reading.Stage.TheVariants as stages
-use Rattle.book_stream.specs.Readings.{SayEntries, SayBook, SayAt, IsBadBehind, IsJudged}
-use Rattle.book_stream.specs.Audits.{IsFaultAmong, Says, StandsBehind, TakesIn, IsClear, IsVerdict}
+use Rattle.book_stream.specs.Readings.{SayEntries, SayBook, SayAt, IsBadBehind}
+use Rattle.book_stream.specs.Audits.{IsFaultAmong, Says, StandsBehind, IsClear, IsVerdict}
 use Rattle.book_stream.specs.Audits.{HasLongLine}
-use Rattle.book_stream.specs.Audits.{EndsSo, HasMoreBehind, Gave, GaveAll, AuditsTo, FailedBehind}
+use Rattle.book_stream.specs.Audits.{EndsSo, HasMoreBehind, Gave, GaveAll, AuditsTo}
 use Rattle.book_stream.proofs.CutLemmas.{parts_behind}
 use Rattle.book_stream.proofs.StayLemmas.{bad_stays}
-use Rattle.hall_script.specs.Devices.{Used, used, NeverFailed}
+use Rattle.hall_script.specs.Devices.{Used, used}
 use Rattle.std.specs.Io.KnownBytes.{Consumes, IsAtEnd, Keeps}
 use Rattle.std.proofs.KnownBytes.{Consumes-nil, Consumes-trans, Consumes-kept}
 use Rattle.wall_labels.specs.Known.{AreLeft}
-use Rattle.audit_book.specs.Audits.{HasSeen}
-use Rattle.audit_book.proofs.AuditBookLemmas.{none_missing, one_missing}
 
 -- ---- a fault of a finished line is one of the text
 
@@ -159,8 +157,9 @@ module _ (wall : ChineseWall) (reader : Reader) (text : List ℕ) (lines : List 
   not_bad clear n = no_bad_at reader.reading.stage refl clear n
 
   pub ended_says : reader.reading.stage ≡ stages.Ended → IsClear reader line →
-      (said : Result ℕ AuditFault) → IsVerdict wall s.read.entries said → EndsSo wall text said
-  ended_says is clear (Ok n) v = (s.read.entries, ended_book is clear, v)
+      (said : Result (Bor Audit) AuditFault) → IsVerdict wall s.read.entries said →
+      EndsSo wall text said
+  ended_says is clear (Ok audit) v = (s.read.entries, ended_book is clear, v)
   ended_says is clear (Err (BadEntry n)) v = (s.read.entries, ended_book is clear, v)
   ended_says is clear (Err NoMemory) v = (s.read.entries, ended_book is clear, v)
   ended_says is clear (Err (BadLine n)) v = absurd v
@@ -172,16 +171,19 @@ module _ (wall : ChineseWall) (reader : Reader) (text : List ℕ) (lines : List 
 -- ---- what is said of the source
 
 module _ {D : Type 0} (wall : ChineseWall) (d : Used D) (text : List ℕ) where
-  pub ends : GaveAll d text → (said : Result ℕ AuditFault) → EndsSo wall text said →
-      AuditsTo wall d said
-  ends gave (Ok n) h = (text, gave, (h.0, h.1, h.2.0, h.2.1))
-  ends gave (Err Cut) h = (text, gave, h)
-  ends gave (Err (BadEntry n)) h = (text, gave, (h.0, h.1, h.2))
-  ends gave (Err NoMemory) h = gave.0
-  ends gave (Err (BadLine n)) h = absurd h.2
-  ends gave (Err (LongLine n)) h = absurd h.2
-  ends gave (Err TooMany) h = absurd h.2
-  ends gave (Err Read) h = absurd h.2
+  pub ends_sound : GaveAll d text → (es : List Entry) → book_in wall text ≡ Ok es →
+      IsSound wall es → (n : ℕ) → n ≡ length es → AuditsTo wall d (Ok n)
+  ends_sound gave es says sound n number = (text, gave, (es, says, sound, number))
+
+  pub ends_badly : GaveAll d text → (fault : AuditFault) → EndsSo wall text (Err fault) →
+      AuditsTo wall d (Err fault)
+  ends_badly gave Cut h = (text, gave, h)
+  ends_badly gave (BadEntry n) h = (text, gave, (h.0, h.1, h.2))
+  ends_badly gave NoMemory h = gave.0
+  ends_badly gave (BadLine n) h = absurd h.2
+  ends_badly gave (LongLine n) h = absurd h.2
+  ends_badly gave TooMany h = absurd h.2
+  ends_badly gave Read h = absurd h.2
 
   pub breaks : Gave d text → (words : List Word) → parts 10 text ≡ words → (fault : AuditFault) →
       IsFaultAmong wall words fault → AuditsTo wall d (Err fault)
@@ -215,8 +217,9 @@ all_left (Some xs) None text h end = absurd h
 all_left (Some xs) (Some ys) text h end = h ∙ ap (λ l. text ++ l) end ∙ append-nil text
 
 module _ {S : Type 0} (fails : S → ℕ) (left : S → Option (List ℕ)) (wall : ChineseWall) where
-  -- the source gave a text in so many reads, and the reader stands in it
-  pub record Going (first last : S) (reader : Reader) (reads : ℕ) : Type 0 where
+  -- the source gave a text in so many reads, which was taken along, and the reader stands in it
+  pub record Going (first last : S) (reader : Reader) (takes : List ℕ → Type 0) (reads : ℕ)
+      : Type 0 where
     pub text : List ℕ
     pub lines : List Word
     pub line : Word
@@ -226,10 +229,11 @@ module _ {S : Type 0} (fails : S → ℕ) (left : S → Option (List ℕ)) (wall
     pub gave : Consumes (left first) (left last) text
     pub went : fails last ≡ fails first
     pub few : reads ≤ length text
+    pub taken : takes text
 
-  pub going_none : (source : S) (reader : Reader) → StandsBehind wall reader [] [] →
-      Going source source reader 0
-  going_none source reader stands = record {
+  pub going_none : (source : S) (reader : Reader) (takes : List ℕ → Type 0) → takes [] →
+      StandsBehind wall reader [] [] → Going source source reader takes 0
+  going_none source reader takes taken stands = record {
     text = [];
     lines = [];
     line = [];
@@ -239,9 +243,11 @@ module _ {S : Type 0} (fails : S → ℕ) (left : S → Option (List ℕ)) (wall
     gave = Consumes-nil (left source);
     went = refl;
     few = omega arith;
+    taken = taken;
   }
 
-  module _ (first mid last : S) (old : Reader) (reads : ℕ) (g : Going first mid old reads) where
+  module _ (first mid last : S) (old : Reader) (takes : List ℕ → Type 0) (reads : ℕ)
+      (g : Going first mid old takes reads) where
     -- it came to its end
     pub given_all : (chunk : List ℕ) → chunk ≡ [] → fails last ≡ fails mid →
         Consumes (left mid) (left last) chunk → IsAtEnd (left last) →
@@ -289,8 +295,9 @@ module _ {S : Type 0} (fails : S → ℕ) (left : S → Option (List ℕ)) (wall
             ∙ sym (append_assoc g.lines more (line ∷ []))
 
         pub going_on : (new : Reader) → StandsBehind wall new (g.lines ++ more) line →
-            IsClear new line → 0 < length chunk → Going first last new (reads + 1)
-        going_on new stands clear some = record {
+            IsClear new line → 0 < length chunk → (now : List ℕ → Type 0) → now (g.text ++ chunk) →
+            Going first last new now (reads + 1)
+        going_on new stands clear some now taken = record {
           text = g.text ++ chunk;
           lines = g.lines ++ more;
           line = line;
@@ -303,6 +310,7 @@ module _ {S : Type 0} (fails : S → ℕ) (left : S → Option (List ℕ)) (wall
               let long = length-append g.text chunk in
               let was = g.few in
               omega (arith, long, was, some);
+          taken = taken;
         }
 
     -- it did not come to its end in so many reads

@@ -1,6 +1,7 @@
 -- What an audit says of all that a source has to give.
-use Rattle.std.specs.Prelude.{◌≡◌, ◌≢◌, ◌⊎◌, ℕ, ◌+◌, ◌<◌, ◌≤◌, ◌^◌, List, [], ◌∷◌, ◌++◌, length}
+use Rattle.std.specs.Prelude.{◌≡◌, ◌≢◌, ◌⊎◌, ℕ, ◌≤◌, List, [], ◌∷◌, ◌++◌, length}
 use Rattle.std.specs.Prelude.{◌==◌, true, Result, Ok, Err}
+use Rattle.std.specs.Borrow.{Bor}
 use Rattle.std.specs.Io.KnownBytes.{Consumes}
 use Rattle.wall_labels.specs.Known.{AreLeft}
 use Rattle.wall_policy.specs.Policy.{ChineseWall}
@@ -10,6 +11,8 @@ use Rattle.coll_text.specs.Numbers.{Word}
 use Rattle.coll_text.specs.Reading.{parts}
 use Rattle.hall_script.specs.Devices.{Used, NeverFailed, FailedOnce, bytes_before, bytes_after}
 use Rattle.audit_book.specs.declared.fault.ReadFault.TheVariants as faults
+use Rattle.audit_book.specs.declared.audit.Audit.{Audit}
+use Rattle.audit_book.specs.Audits.{IsSeenWhole}
 use Rattle.audit_book.specs.Reading.{lines_in, book_in}
 use Rattle.book_stream.specs.declared.fault.AuditFault.{AuditFault}
 use Rattle.book_stream.specs.declared.fault.AuditFault.TheVariants.{BadLine, LongLine, Cut}
@@ -133,15 +136,16 @@ HasMoreBehind wall text (BadLine n) = book_in wall text ≡ Err (faults.BadLine 
 HasMoreBehind wall text (LongLine n) = HasLongLine wall text n
 HasMoreBehind wall text _ = ⊥
 
--- what is said of the entries of a book
-abbrev pub IsVerdict : ChineseWall → List Entry → Result ℕ AuditFault → Type 0
-IsVerdict wall entries (Ok number) = IsSound wall entries × (number ≡ length entries)
+-- what is said of the entries of a book: an audit has gone through them all, and they are sound; or
+-- their fault
+abbrev pub IsVerdict : ChineseWall → List Entry → Result (Bor Audit) AuditFault → Type 0
+IsVerdict wall entries (Ok audit) = IsSeenWhole wall entries audit.now
 IsVerdict wall entries (Err (BadEntry n)) = IsFirstBad wall entries n
 IsVerdict wall entries (Err NoMemory) = Unit {0}
 IsVerdict wall entries (Err _) = ⊥
 
 -- what is said of a text that no line at fault is in
-abbrev pub EndsSo : ChineseWall → List ℕ → Result ℕ AuditFault → Type 0
+abbrev pub EndsSo : ChineseWall → List ℕ → Result (Bor Audit) AuditFault → Type 0
 EndsSo wall text (Err Cut) = book_in wall text ≡ Err faults.Cut
 EndsSo wall text said = (entries : List Entry) × (book_in wall text ≡ Ok entries)
     × IsVerdict wall entries said

@@ -4,3 +4,5 @@ pub mod Cuts
 pub mod Readings
 -- what an audit says of a source
 pub mod Audits
+-- a source that was read to its end, and what a sound book came to
+pub mod Passes

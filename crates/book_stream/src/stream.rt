@@ -1,5 +1,5 @@
 //! Audits what a source has to give, in pieces.
-ghost use Rattle.std.specs.Prelude.{◌≡◌, ◌≤◌, ◌^◌, ◌∷◌, ◌++◌, [], List, ℕ, IfOk, IfErr, OnOk};
+ghost use Rattle.std.specs.Prelude.{◌≡◌, ◌≤◌, ◌^◌, ◌∷◌, ◌++◌, [], List, ℕ, Err, IfOk, IfErr, OnOk};
 ghost use Rattle.std.specs.Prelude.{length};
 ghost use Rattle.run_model.specs.declared.entry.Entry.{Entry};
 ghost use Rattle.coll_text.specs.Numbers.{Word};
@@ -8,12 +8,14 @@ ghost use Rattle.hall_script.specs.Devices.{used};
 ghost use Rattle.book_stream.specs.Cuts.{behind};
 ghost use Rattle.book_stream.specs.Audits.{StandsBehind, IsStanding, TakesIn, TakesOne};
 ghost use Rattle.book_stream.specs.Audits.{IsClear, HasMoreBehind, IsVerdict, EndsSo, AuditsTo};
+ghost use Rattle.book_stream.specs.Passes.{HasReadAll};
 ghost use Rattle.book_stream.specs.Readings.{IsJudged};
 
+use crate::along::{Along, Nothing};
 use crate::fault::AuditFault;
 use crate::line::Unfinished;
 use crate::reading::{Reading, Stage};
-use audit_book::BookFault;
+use audit_book::{Audit, BookFault};
 use coll_text::Parts;
 use std::alloc::Global;
 use wall_labels::{NoMemory, Source};
@@ -21,8 +23,8 @@ use wall_policy::Policy;
 
 // A reader of a book: what is known behind the finished lines, and the line that is not finished.
 #[derive(Drop)]
-struct Reader {
-    reading: Reading,
+pub(crate) struct Reader {
+    pub(crate) reading: Reading,
     line: Unfinished,
 }
 
@@ -121,8 +123,8 @@ fn see_end(policy: &Policy, reader: &Reader) -> Result<(), AuditFault>
     }
 }
 
-// What is said of the entries of a book.
-fn judged(policy: &Policy, reading: &Reading) -> Result<u64, AuditFault>
+// What is said of the entries of a book: the audit that has gone through them, or their fault.
+fn judged<'r>(policy: &Policy, reading: &'r Reading) -> Result<&'r Audit, AuditFault>
     requires { reading.now.entries ≤ 2 ^ 62 }
     ensures { (entries : List Entry) → reading.now.entries ≡ length entries →
         IsJudged policy.now reading.now.audit reading.now.fault entries →
@@ -133,14 +135,14 @@ fn judged(policy: &Policy, reading: &Reading) -> Result<u64, AuditFault>
         Some(BookFault::BadEntry(number)) => Err(AuditFault::BadEntry(number)),
         Some(BookFault::NoMemory) => Err(AuditFault::NoMemory),
         None => match reading.audit.due() {
-            None => Ok(reading.entries),
+            None => Ok(&reading.audit),
             Some(_) => Err(AuditFault::BadEntry(reading.entries + 1)),
         },
     }
 }
 
 // What is said of the whole text.
-fn end(policy: &Policy, reader: &Reader) -> Result<u64, AuditFault>
+pub(crate) fn end<'r>(policy: &Policy, reader: &'r Reader) -> Result<&'r Audit, AuditFault>
     requires { IsStanding policy.now reader.now }
     ensures { (text : List ℕ) (lines : List Word) (line : Word) →
         StandsBehind policy.now reader.now lines line → IsClear reader.now line →
@@ -151,6 +153,44 @@ fn end(policy: &Policy, reader: &Reader) -> Result<u64, AuditFault>
         Stage::Entry => Err(AuditFault::Cut),
         Stage::Ended => judged(policy, &reader.reading),
     }
+}
+
+// Reads a source to its end, or to the first line at fault. What it gives is taken along.
+pub(crate) fn read_whole<S: Source, T: Along>(
+    alloc: Global,
+    policy: &Policy,
+    source: &mut S,
+    along: &mut T,
+) -> Result<Reader, AuditFault>
+    requires { T.has_taken along.old [] }
+    ensures whole { IfOk result (λ reader. HasReadAll policy.now
+        (used S.failures S.remaining source.old source.new) reader (T.has_taken along.new)) }
+    ensures fault { IfErr result (λ fault. AuditsTo policy.now
+        (used S.failures S.remaining source.old source.new) (Err fault)) }
+{
+    let Ok(mut reader) = begin(alloc, policy) else {
+        return Err(AuditFault::NoMemory);
+    };
+    let mut buffer = [0u8; 4096];
+    for reads in 0..u64::MAX {
+        let n = match source.read(&mut buffer) {
+            Ok(n) => n,
+            Err(_) => return Err(AuditFault::Read),
+        };
+        if n == 0 {
+            return Ok(reader);
+        }
+        along.take(&buffer[..n]);
+        match take_in(alloc, policy, &mut reader, &buffer[..n]) {
+            Ok(()) => {}
+            Err(fault) => return Err(fault),
+        }
+        match see_end(policy, &reader) {
+            Ok(()) => {}
+            Err(fault) => return Err(fault),
+        }
+    }
+    Err(AuditFault::TooMany)
 }
 
 /// Audits what a source has to give to its end: says of all of it, however long it is, what
@@ -166,26 +206,12 @@ pub fn audit_source<S: Source>(
 ) -> Result<u64, AuditFault>
     ensures { AuditsTo policy.now (used S.failures S.remaining source.old source.new) result }
 {
-    let Ok(mut reader) = begin(alloc, policy) else {
-        return Err(AuditFault::NoMemory);
+    let reader = match read_whole(alloc, policy, source, &mut Nothing) {
+        Ok(reader) => reader,
+        Err(fault) => return Err(fault),
     };
-    let mut buffer = [0u8; 4096];
-    for reads in 0..u64::MAX {
-        let n = match source.read(&mut buffer) {
-            Ok(n) => n,
-            Err(_) => return Err(AuditFault::Read),
-        };
-        if n == 0 {
-            return end(policy, &reader);
-        }
-        match take_in(alloc, policy, &mut reader, &buffer[..n]) {
-            Ok(()) => {}
-            Err(fault) => return Err(fault),
-        }
-        match see_end(policy, &reader) {
-            Ok(()) => {}
-            Err(fault) => return Err(fault),
-        }
+    match end(policy, &reader) {
+        Ok(audit) => Ok(audit.entries()),
+        Err(fault) => Err(fault),
     }
-    Err(AuditFault::TooMany)
 }

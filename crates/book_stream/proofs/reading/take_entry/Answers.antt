@@ -1,5 +1,4 @@
-use Rattle.std.proofs.Common.{◌≡◌, ◌<◌, ◌+◌, length, Ok, Err, refl, sym, ap, ◌∙◌, arith}
-use Rattle.audit_book.specs.declared.line.Line.TheVariants.{Said}
+use Rattle.std.proofs.Common.{◌<◌, ◌+◌, Ok, Err, refl, sym, ap, ◌∙◌, arith}
 use Rattle.audit_book.specs.Lines.{line_at}
 use Rattle.audit_book.specs.LineSteps.{number_of_end}
 use Rattle.book_stream.proofs.ReadingLemmas.{entry_told, end_told, fault_told, same_entry}

@@ -1,6 +1,6 @@
 use Rattle.std.proofs.Common.{◌+◌, sym, ap, subst}
 use Rattle.std.specs.Option.{option_map}
-use Rattle.run_model.specs.Books.{IsFirstBad, IsSound}
+use Rattle.run_model.specs.Books.{IsFirstBad}
 use Rattle.audit_book.specs.Checks.{entry_of}
 use Rattle.audit_book.proofs.AuditBookLemmas.{one_missing}
 use Rattle.book_stream.specs.Readings.{IsJudged}

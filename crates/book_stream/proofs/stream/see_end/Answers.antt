@@ -1,5 +1,5 @@
 use Rattle.std.proofs.Common.{sym, ◌∙◌}
-use Rattle.book_stream.proofs.SourceLemmas.{ended_more, long_at_header, long_at_entry}
+use Rattle.book_stream.proofs.SourceLemmas.{ended_more}
 use Rattle.book_stream.proofs.stream.see_end.Goals as goal
 
 pub returns-else-is_empty-clause-more : goal.returns-else-is_empty-clause-more

@@ -1,8 +1,7 @@
-use Rattle.std.proofs.Common.{◌≡◌, ◌∙◌, List, [], ◌∷◌, ◌++◌, length, refl, ap, sym, subst, eqb}
+use Rattle.std.proofs.Common.{◌∙◌, List, [], ◌∷◌, ◌++◌, length, ap, sym, subst, eqb}
 use Rattle.std.proofs.Common.{arith, append_assoc, append-nil}
 use Rattle.std.proofs.lemmas.List.Splits.{length-slice_split}
 use Rattle.coll_text.specs.Numbers.{Word}
-use Rattle.coll_text.specs.Reading.{parts}
 use Rattle.book_stream.specs.Cuts.{behind}
 use Rattle.book_stream.specs.Readings.{HasRead}
 use Rattle.book_stream.specs.Audits.{IsFaultAmong, StandsBehind}

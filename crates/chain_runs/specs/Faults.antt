@@ -1,0 +1,68 @@
+-- Why a run of a chain does not stand: the first thing that is wrong.
+use Rattle.std.specs.Prelude.{◌≡◌, ◌≢◌, ℕ, List, Option, Some, None, Err}
+use Rattle.sha2.specs.Sha256.{sha256}
+use Rattle.wall_policy.specs.declared.growth.GrowthFault.{GrowthFault}
+use Rattle.wall_policy.specs.Policy.{ChineseWall}
+use Rattle.wall_policy.specs.Answer.{answer_to}
+use Rattle.wall_policy.specs.GrowthFaults.{IsGrowthFault}
+use Rattle.run_model.specs.declared.entry.Entry.{Entry}
+use Rattle.run_model.specs.Books.{IsSound}
+use Rattle.hall_script.specs.Devices.{Used, IsRead, IsUnreadable, IsUntouched, NeverFailed}
+use Rattle.hall_script.specs.Scripts.{script_limit}
+use Rattle.book_stream.specs.Audits.{AuditsTo}
+use Rattle.chain_file.specs.declared.run.Begun.{Begun}
+use Rattle.chain_file.specs.declared.run.Run.{Run}
+use Rattle.chain_runs.specs.declared.fault.RunFault.{RunFault}
+use Rattle.chain_runs.specs.declared.fault.RunFault.TheVariants.{UnreadPolicy, OtherPolicy}
+use Rattle.chain_runs.specs.declared.fault.RunFault.TheVariants.{BadPolicy, NotGrown, BadBook}
+use Rattle.chain_runs.specs.declared.fault.RunFault.TheVariants.{OtherBook, NoMemory}
+use Rattle.chain_runs.specs.Runs.{IsFileOf, SaysPolicy, IsUnder, SaysBook}
+
+-- the file was not read, or has another digest
+abbrev pub IsNoFile : {P : Type 0} → Used P → (digest : List ℕ) → RunFault → Type 0
+IsNoFile policy digest UnreadPolicy = IsUnreadable policy script_limit
+IsNoFile policy digest OtherPolicy =
+    (bytes : List ℕ) × IsRead policy script_limit bytes × (sha256 bytes ≢ digest)
+IsNoFile policy digest NoMemory = NeverFailed policy
+IsNoFile policy digest fault = ⊥
+
+-- or it says no policy
+abbrev pub IsNoPolicy : {P : Type 0} → Used P → Begun → RunFault → Type 0
+IsNoPolicy policy begun (BadPolicy fault) = (bytes : List ℕ)
+    × IsFileOf policy begun.policy_digest bytes × (answer_to bytes ≡ Err fault)
+IsNoPolicy policy begun fault = IsNoFile policy begun.policy_digest fault
+
+-- what the file says has not grown from the policy after the runs before, and this is not kept
+abbrev pub HasNotGrown : (after : Option ChineseWall) → (file : ChineseWall) → GrowthFault → Type 0
+HasNotGrown None file fault = ⊥
+HasNotGrown (Some after) file fault = IsGrowthFault after file fault
+
+abbrev pub IsNotUnder : (after : Option ChineseWall) → (file : ChineseWall) → RunFault → Type 0
+IsNotUnder after file (NotGrown fault) = HasNotGrown after file fault
+IsNotUnder after file NoMemory = Unit {0}
+IsNotUnder after file fault = ⊥
+
+-- this is the policy of the run
+pub record IsRunUnder {P : Type 0} (after : Option ChineseWall) (run : Run) (policy : Used P)
+    (wall : ChineseWall) : Type 0 where
+  pub file : ChineseWall
+  pub says : SaysPolicy policy run.begun file
+  pub under : IsUnder after file wall
+
+-- it is a sound book of another digest
+abbrev pub IsOther : {B : Type 0} → ChineseWall → Used B → (digest : List ℕ) → Type 0
+IsOther wall book digest = (other : List ℕ) × (entries : List Entry)
+    × SaysBook wall book other entries × IsSound wall entries × (other ≢ digest)
+
+-- Why the run does not stand. Where its policy does not, its book was not looked at. Out of memory
+-- says that no reader failed.
+abbrev pub IsRunFault : {P B : Type 0} → (after : Option ChineseWall) → Run → Used P → Used B →
+    RunFault → Type 0
+IsRunFault after run policy book (NotGrown fault) = ((file : ChineseWall)
+    × SaysPolicy policy run.begun file × HasNotGrown after file fault) × IsUntouched book
+IsRunFault after run policy book (BadBook fault) = (wall : ChineseWall)
+    × IsRunUnder after run policy wall × AuditsTo wall book (Err fault)
+IsRunFault after run policy book OtherBook = (wall : ChineseWall)
+    × IsRunUnder after run policy wall × IsOther wall book run.book_digest
+IsRunFault after run policy book NoMemory = NeverFailed policy × NeverFailed book
+IsRunFault after run policy book fault = IsNoPolicy policy run.begun fault × IsUntouched book

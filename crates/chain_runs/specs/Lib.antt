@@ -1,0 +1,6 @@
+-- the runs of a chain, read again
+pub mod Runs
+-- why one does not stand
+pub mod Faults
+-- words of private contracts
+pub mod Steps

@@ -1,0 +1,153 @@
+//! Reads a run of a chain again.
+ghost use Rattle.std.specs.Prelude.{◌≡◌, ◌≢◌, ◌∷◌, List, Option, None, Some, IfOk, IfErr, IfSome};
+ghost use Rattle.std.specs.Prelude.{option_map, OnOk, ◌↔◌, IsTrue};
+ghost use Rattle.sha2.specs.Sha256.{sha256};
+ghost use Rattle.wall_policy.specs.Policy.{ChineseWall};
+ghost use Rattle.wall_policy.specs.Answer.{answer_to};
+ghost use Rattle.run_model.specs.Chains.{Link, IsChain};
+ghost use Rattle.hall_script.specs.Devices.{used};
+ghost use Rattle.chain_runs.specs.Runs.{IsUnder, IsFileOf, SaysPolicy, Stands, IsChainAfter};
+ghost use Rattle.chain_runs.specs.Faults.{IsNoFile, IsNoPolicy, IsNotUnder, IsRunFault};
+ghost use Rattle.chain_runs.specs.Steps.{HasJoined, IsNotJoined};
+
+use crate::fault::RunFault;
+use book_chain::{GrowthFault, next_policy};
+use book_stream::{AuditFault, Passed, pass_source};
+use chain_file::{Begun, Run};
+use hall_script::{DeviceFault, SCRIPT_LIMIT, read_device};
+use sha2::{Digest, Sha256};
+use std::alloc::Global;
+use wall_labels::Source;
+use wall_policy::{Policy, PolicyFault, read_policy};
+
+// Reads the policy file of a run whole. It is the one of which the chain has the digest.
+fn read_file<P: Source>(
+    alloc: Global,
+    begun: &Begun,
+    source: &mut P,
+) -> Result<Vec<u8>, RunFault>
+    ensures file { let device = used P.failures P.remaining source.old source.new in
+        IfOk result (λ bytes. IsFileOf device begun.now.policy_digest bytes.items) }
+    ensures fault { let device = used P.failures P.remaining source.old source.new in
+        IfErr result (IsNoFile device begun.now.policy_digest) }
+{
+    let bytes = match read_device(alloc, source, SCRIPT_LIMIT) {
+        Ok(bytes) => bytes,
+        Err(DeviceFault::Read) => return Err(RunFault::UnreadPolicy),
+        Err(DeviceFault::NoMemory) => return Err(RunFault::NoMemory),
+    };
+    let digest = Sha256::digest(bytes.as_slice());
+    if digest != begun.policy_digest {
+        return Err(RunFault::OtherPolicy);
+    }
+    Ok(bytes)
+}
+
+// The policy that the file of a run says.
+fn read_said<P: Source>(
+    alloc: Global,
+    begun: &Begun,
+    source: &mut P,
+) -> Result<Policy, RunFault>
+    ensures said { let device = used P.failures P.remaining source.old source.new in
+        IfOk result (SaysPolicy device begun.now) }
+    ensures fault { let device = used P.failures P.remaining source.old source.new in
+        IfErr result (IsNoPolicy device begun.now) }
+{
+    let bytes = match read_file(alloc, begun, source) {
+        Ok(bytes) => bytes,
+        Err(fault) => return Err(fault),
+    };
+    match read_policy(alloc, &bytes) {
+        Ok(file) => Ok(file),
+        Err(PolicyFault::NoMemory) => Err(RunFault::NoMemory),
+        Err(fault) => Err(RunFault::BadPolicy(fault)),
+    }
+}
+
+// The policy of a run whose file says this one.
+fn under(alloc: Global, after: Option<&Policy>, file: Policy) -> Result<Policy, RunFault>
+    ensures under { IfOk result (IsUnder (option_map (λ p. p.now) after.entry) file) }
+    ensures chain { IfOk result (λ wall. (links : List Link) →
+        IsChainAfter (option_map (λ p. p.now) after.entry) links → IsChain links wall) }
+    ensures fault { IfErr result (IsNotUnder (option_map (λ p. p.now) after.entry) file) }
+{
+    let Some(after) = after else {
+        return Ok(file);
+    };
+    match next_policy(alloc, after, &file) {
+        Ok(wall) => Ok(wall),
+        Err(GrowthFault::NoMemory) => Err(RunFault::NoMemory),
+        Err(fault) => Err(RunFault::NotGrown(fault)),
+    }
+}
+
+// Reads the book of a run, which is the one of which the chain has the digest.
+fn pass<B: Source>(
+    alloc: Global,
+    policy: &Policy,
+    run: &Run,
+    book: &mut B,
+) -> Result<Passed, RunFault>
+    ensures passed { let device = used B.failures B.remaining book.old book.new in
+        IfOk result (HasJoined policy.now device run.now.book_digest) }
+    ensures fault { let device = used B.failures B.remaining book.old book.new in
+        IfErr result (IsNotJoined policy.now device run.now.book_digest) }
+{
+    let passed = match pass_source(alloc, policy, book) {
+        Ok(passed) => passed,
+        Err(AuditFault::NoMemory) => return Err(RunFault::NoMemory),
+        Err(fault) => return Err(RunFault::BadBook(fault)),
+    };
+    if passed.digest != run.book_digest {
+        return Err(RunFault::OtherBook);
+    }
+    Ok(passed)
+}
+
+/// Reads a run of a chain again, behind those before it: gives the policy for what comes after it.
+/// `after` is the policy after the runs before it; none where it is the first.
+///
+/// Its policy file and its book are those of which the chain has the digests. Its policy is that of
+/// the file; where it is not the first, the file has grown from `after`, by names, and what was held
+/// before stays held. The book is sound under it, and is judged while it is read, in the memory of
+/// what is open and of one line. What each process held at its end is what was held before what comes
+/// after it: so over the runs, and any legal run behind them, nobody ever held two rivals.
+///
+/// The book is looked at only where the policy stands. Of a book whose line is at fault no more is
+/// read; the digest of one that is sound is looked at when it was read to its end.
+pub fn read_run<P: Source, B: Source>(
+    alloc: Global,
+    after: Option<&Policy>,
+    run: &Run,
+    policy: &mut P,
+    book: &mut B,
+) -> Result<Policy, RunFault>
+    ensures stands { let policies = used P.failures P.remaining policy.old policy.new in
+        let books = used B.failures B.remaining book.old book.new in
+        IfOk result (λ now. (r : Link)
+        × Stands (option_map (λ p. p.now) after.entry) run.now policies books now r
+        × ((older : List Link) → IsChainAfter (option_map (λ p. p.now) after.entry) older →
+        IsChain (r ∷ older) now)) }
+    ensures fault { let policies = used P.failures P.remaining policy.old policy.new in
+        let books = used B.failures B.remaining book.old book.new in
+        IfErr result (IsRunFault (option_map (λ p. p.now) after.entry) run.now policies books) }
+{
+    let file = match read_said(alloc, &run.begun, policy) {
+        Ok(file) => file,
+        Err(fault) => return Err(fault),
+    };
+    let wall = match under(alloc, after, file) {
+        Ok(wall) => wall,
+        Err(fault) => return Err(fault),
+    };
+    let Passed { held, .. } = match pass(alloc, &wall, run, book) {
+        Ok(passed) => passed,
+        Err(fault) => {
+            drop(wall);
+            return Err(fault);
+        }
+    };
+    let _ = wall.processes();
+    Ok(wall.after(held))
+}
