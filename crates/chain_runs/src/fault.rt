@@ -25,6 +25,9 @@ pub enum RunFault {
     /// Its book is sound, and has another digest than the chain says.
     #[error("another book")]
     OtherBook,
+    /// The books of all runs up to it have 2^64 entries or more.
+    #[error("too many entries")]
+    TooMany,
     /// Memory ran out.
     #[error("out of memory")]
     NoMemory,

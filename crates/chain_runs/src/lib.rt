@@ -6,7 +6,11 @@
 #![tactic(auto)]
 
 mod fault;
+mod files;
 mod run;
+mod runs;
 
 pub use fault::RunFault;
-pub use run::read_run;
+pub use files::FileSystem;
+pub use run::{Behind, read_run};
+pub use runs::{Broken, Past, read_runs};

@@ -1,9 +1,7 @@
 //! Reads a run of a chain again.
-ghost use Rattle.std.specs.Prelude.{◌≡◌, ◌≢◌, ◌∷◌, List, Option, None, Some, IfOk, IfErr, IfSome};
-ghost use Rattle.std.specs.Prelude.{option_map, OnOk, ◌↔◌, IsTrue};
-ghost use Rattle.sha2.specs.Sha256.{sha256};
-ghost use Rattle.wall_policy.specs.Policy.{ChineseWall};
-ghost use Rattle.wall_policy.specs.Answer.{answer_to};
+ghost use Rattle.std.specs.Prelude.{◌≡◌, ◌∷◌, List, IfOk, IfErr};
+ghost use Rattle.std.specs.Prelude.{length};
+ghost use Rattle.std.specs.Option.{option_copied};
 ghost use Rattle.run_model.specs.Chains.{Link, IsChain};
 ghost use Rattle.hall_script.specs.Devices.{used};
 ghost use Rattle.chain_runs.specs.Runs.{IsUnder, IsFileOf, SaysPolicy, Stands, IsChainAfter};
@@ -21,11 +19,7 @@ use wall_labels::Source;
 use wall_policy::{Policy, PolicyFault, read_policy};
 
 // Reads the policy file of a run whole. It is the one of which the chain has the digest.
-fn read_file<P: Source>(
-    alloc: Global,
-    begun: &Begun,
-    source: &mut P,
-) -> Result<Vec<u8>, RunFault>
+fn read_file<P: Source>(alloc: Global, begun: &Begun, source: &mut P) -> Result<Vec<u8>, RunFault>
     ensures file { let device = used P.failures P.remaining source.old source.new in
         IfOk result (λ bytes. IsFileOf device begun.now.policy_digest bytes.items) }
     ensures fault { let device = used P.failures P.remaining source.old source.new in
@@ -44,11 +38,7 @@ fn read_file<P: Source>(
 }
 
 // The policy that the file of a run says.
-fn read_said<P: Source>(
-    alloc: Global,
-    begun: &Begun,
-    source: &mut P,
-) -> Result<Policy, RunFault>
+fn read_said<P: Source>(alloc: Global, begun: &Begun, source: &mut P) -> Result<Policy, RunFault>
     ensures said { let device = used P.failures P.remaining source.old source.new in
         IfOk result (SaysPolicy device begun.now) }
     ensures fault { let device = used P.failures P.remaining source.old source.new in
@@ -67,10 +57,10 @@ fn read_said<P: Source>(
 
 // The policy of a run whose file says this one.
 fn under(alloc: Global, after: Option<&Policy>, file: Policy) -> Result<Policy, RunFault>
-    ensures under { IfOk result (IsUnder (option_map (λ p. p.now) after.entry) file) }
+    ensures under { IfOk result (IsUnder (option_copied after.entry) file) }
     ensures chain { IfOk result (λ wall. (links : List Link) →
-        IsChainAfter (option_map (λ p. p.now) after.entry) links → IsChain links wall) }
-    ensures fault { IfErr result (IsNotUnder (option_map (λ p. p.now) after.entry) file) }
+        IsChainAfter (option_copied after.entry) links → IsChain links wall) }
+    ensures fault { IfErr result (IsNotUnder (option_copied after.entry) file) }
 {
     let Some(after) = after else {
         return Ok(file);
@@ -105,8 +95,18 @@ fn pass<B: Source>(
     Ok(passed)
 }
 
-/// Reads a run of a chain again, behind those before it: gives the policy for what comes after it.
-/// `after` is the policy after the runs before it; none where it is the first.
+/// What comes after a run.
+#[derive(Drop)]
+pub struct Behind {
+    /// The policy for what comes after it.
+    pub policy: Policy,
+    /// The number of entries of its book.
+    pub entries: u64,
+}
+
+/// Reads a run of a chain again, behind those before it: gives the policy for what comes after it,
+/// and the number of its entries. `after` is the policy after the runs before it; none where it is
+/// the first.
 ///
 /// Its policy file and its book are those of which the chain has the digests. Its policy is that of
 /// the file; where it is not the first, the file has grown from `after`, by names, and what was held
@@ -122,16 +122,17 @@ pub fn read_run<P: Source, B: Source>(
     run: &Run,
     policy: &mut P,
     book: &mut B,
-) -> Result<Policy, RunFault>
+) -> Result<Behind, RunFault>
     ensures stands { let policies = used P.failures P.remaining policy.old policy.new in
         let books = used B.failures B.remaining book.old book.new in
-        IfOk result (λ now. (r : Link)
-        × Stands (option_map (λ p. p.now) after.entry) run.now policies books now r
-        × ((older : List Link) → IsChainAfter (option_map (λ p. p.now) after.entry) older →
-        IsChain (r ∷ older) now)) }
+        IfOk result (λ behind. (r : Link)
+        × Stands (option_copied after.entry) run.now policies books behind.policy r
+        × (behind.entries ≡ length r.book)
+        × ((older : List Link) → IsChainAfter (option_copied after.entry) older →
+        IsChain (r ∷ older) behind.policy)) }
     ensures fault { let policies = used P.failures P.remaining policy.old policy.new in
         let books = used B.failures B.remaining book.old book.new in
-        IfErr result (IsRunFault (option_map (λ p. p.now) after.entry) run.now policies books) }
+        IfErr result (IsRunFault (option_copied after.entry) run.now policies books) }
 {
     let file = match read_said(alloc, &run.begun, policy) {
         Ok(file) => file,
@@ -141,7 +142,7 @@ pub fn read_run<P: Source, B: Source>(
         Ok(wall) => wall,
         Err(fault) => return Err(fault),
     };
-    let Passed { held, .. } = match pass(alloc, &wall, run, book) {
+    let Passed { held, entries, .. } = match pass(alloc, &wall, run, book) {
         Ok(passed) => passed,
         Err(fault) => {
             drop(wall);
@@ -149,5 +150,8 @@ pub fn read_run<P: Source, B: Source>(
         }
     };
     let _ = wall.processes();
-    Ok(wall.after(held))
+    Ok(Behind {
+        policy: wall.after(held),
+        entries,
+    })
 }

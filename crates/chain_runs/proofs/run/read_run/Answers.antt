@@ -19,9 +19,9 @@ returns-clause-stands g c =
     let wall = c.in-Ok-under.wall in
     let p = c.in-Ok-pass.ensures.passed.0 in
     let behind = subst (λ (w : ChineseWall). IsPolicyAfter wall (posts_in p.entries) w)
-        (sym c.after.ensures)
-        (is_policy_after wall (posts_in p.entries) c.in-Ok-pass.passed.held.items p.sound.posts
-        p.held) in (
+    (sym c.after.ensures)
+    (is_policy_after wall (posts_in p.entries) c.in-Ok-pass.passed.held.items p.sound.posts
+    p.held) in (
       record { wall = wall; book = p.entries },
       record {
         file = c.in-Ok.file;
@@ -31,5 +31,6 @@ returns-clause-stands g c =
         sound = p.sound;
         behind = behind;
       },
+      p.number,
       λ older chain. (c.in-Ok-under.ensures.chain older chain, p.sound, behind),
     )
