@@ -5,7 +5,7 @@ use std::process::Abort;
 use wall_labels::{DatasetId, ProcessId};
 use wall_policy::{Policy, read_policy};
 
-const DAY_ONE: &str = r#"version = 2
+pub(crate) const DAY_ONE: &str = r#"version = 2
 [[class]]
 name = "banks"
 datasets = ["alpha", "beta"]
@@ -17,7 +17,7 @@ name = "n0"
 "#;
 
 // A class in front, a bank before the others, and b0 behind the others.
-const DAY_TWO: &str = r#"version = 2
+pub(crate) const DAY_TWO: &str = r#"version = 2
 [[class]]
 name = "oil"
 datasets = ["crude"]
@@ -35,7 +35,7 @@ home = "beta"
 "#;
 
 // a0 sends n0 data of alpha.
-const ALPHA_TO_N0: &str = "book 2
+pub(crate) const ALPHA_TO_N0: &str = "book 2
 post 0 0 bcast 0 int32 1 gives 1 as alpha passed
 post 1 0 bcast 0 int32 1 gives 0 as none passed
 verdict 0 0 granted
@@ -43,7 +43,7 @@ end 3
 ";
 
 // The day after, b0 would send n0 data of beta.
-const BETA_NOT_TO_N0: &str = "book 2
+pub(crate) const BETA_NOT_TO_N0: &str = "book 2
 post 0 0 split 1 0 gives 0 as none passed
 post 1 0 split 0 0 gives 0 as none passed
 post 2 0 split 0 0 gives 0 as none passed

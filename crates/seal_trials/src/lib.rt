@@ -15,4 +15,6 @@ mod grown;
 #[cfg(test)]
 mod refused;
 #[cfg(test)]
+mod runs;
+#[cfg(test)]
 mod stored;
