@@ -2,6 +2,7 @@
 use Rattle.std.specs.Prelude.{◌≡◌, ◌≢◌, ℕ, List, Option, Some, None, Err}
 use Rattle.sha2.specs.Sha256.{sha256}
 use Rattle.wall_policy.specs.declared.growth.GrowthFault.{GrowthFault}
+use Rattle.wall_policy.specs.declared.growth.GrowthFault.TheVariants as growths
 use Rattle.wall_policy.specs.Policy.{ChineseWall}
 use Rattle.wall_policy.specs.Answer.{answer_to}
 use Rattle.wall_policy.specs.GrowthFaults.{IsGrowthFault}
@@ -37,9 +38,10 @@ abbrev pub HasNotGrown : (after : Option ChineseWall) → (file : ChineseWall) �
 HasNotGrown None file fault = ⊥
 HasNotGrown (Some after) file fault = IsGrowthFault after file fault
 
+-- out of memory is answered only where it has grown
 abbrev pub IsNotUnder : (after : Option ChineseWall) → (file : ChineseWall) → RunFault → Type 0
 IsNotUnder after file (NotGrown fault) = HasNotGrown after file fault
-IsNotUnder after file NoMemory = Unit {0}
+IsNotUnder after file NoMemory = HasNotGrown after file growths.NoMemory
 IsNotUnder after file fault = ⊥
 
 -- this is the policy of the run
