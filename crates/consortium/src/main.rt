@@ -8,8 +8,9 @@
 //! report POLICY BOOK` tells who came to hold what by a book, and how, with `--html FILE` also as a
 //! page. Each goes on after earlier
 //! books where it has `--after BOOK`, any number of times, the oldest first. `consortium check
-//! POLICY [SCRIPT] [--book BOOK]` tells what a policy means, and what of a script and a book is at
-//! fault; `consortium usage [COMMAND]` how it is used, and `consortium version` its version.
+//! POLICY [SCRIPT] [--book BOOK [--after BOOK]..]` tells what a policy means, and what of a script
+//! and a book is at fault; `consortium usage [COMMAND]` how it is used, and `consortium version` its
+//! version.
 #![tactic(auto)]
 
 mod book_file;

@@ -16,7 +16,7 @@ use Rattle.program_commands.specs.declared.ending.Ending.TheVariants as endings
 use Rattle.program_commands.specs.Walls.{IsPolicyOf, IsNoPolicy}
 use Rattle.program_commands.specs.Auditing.{IsNoBook}
 use Rattle.program_commands.specs.Earlier.{EarlierBooks, earlier_books, reader, AreRead}
-use Rattle.program_commands.specs.Earlier.{IsAfter, IsWallAfter, IsNoLink, IsBroken}
+use Rattle.program_commands.specs.Earlier.{IsAfter, IsPolicyAfter, IsWallAfter, IsNoLink, IsBroken}
 use Rattle.program_commands.specs.Earlier.{IsNoWallAfter, earlier_ending, IsLink}
 
 -- a book that is none gives no policy, and its fault is told by its path
@@ -97,14 +97,12 @@ module _ {D : Type 0} (failures : D → ℕ) (bytes : D → Option (List ℕ)) w
   all_read first wall done (one ∷ rest) all links now are none is after =
       absurd (omega (arith, none))
 
--- what is read after a policy keeps the wall
-pub wall_after : {P D : Type 0} (policy : Used P) (earlier : EarlierBooks D)
-    (first wall : ChineseWall) (links : List Link) (least : ℕ) → IsPolicyOf policy first →
+-- what comes after these books keeps the wall
+pub goes_on_after : {D : Type 0} (earlier : EarlierBooks D) (first wall : ChineseWall)
+    (links : List Link) (least : ℕ) →
     IsAfter first earlier links (record { wall = wall; least = least }) → IsPolicy wall →
-    OverYears → IsWallAfter policy earlier wall
-wall_after policy earlier first wall links least read after is over = record {
-  first = first;
-  read = read;
+    OverYears → IsPolicyAfter first earlier wall
+goes_on_after earlier first wall links least after is over = record {
   links = links;
   least = least;
   after = after;
@@ -133,8 +131,9 @@ module _ {P D : Type 0} (failures : D → ℕ) (bytes : D → Option (List ℕ))
   pub policy_alone : (wall : ChineseWall) →
       IsWallAfter policy (earlier_books failures bytes []) wall → IsPolicyOf policy wall
   policy_alone wall h =
+      let now = h.goes_on in
       subst (IsPolicyOf policy)
-      (no_chain h.first (record { wall = wall; least = h.least }) h.links h.after) h.read
+      (no_chain h.first (record { wall = wall; least = now.least }) now.links now.after) h.read
 
   none_broken : (first : ChineseWall) (ending : Ending) →
       IsBroken first (earlier_books failures bytes []) ending → ⊥

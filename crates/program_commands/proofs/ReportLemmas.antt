@@ -12,11 +12,13 @@ use Rattle.hall_script.specs.Devices.{Used}
 use Rattle.program_commands.specs.declared.ending.Ending.{Ending}
 use Rattle.program_commands.specs.declared.report.Reading.{Reading}
 use Rattle.program_commands.specs.Auditing.{IsBookOf}
-use Rattle.program_commands.specs.Earlier.{EarlierBooks, IsWallAfter}
+use Rattle.program_commands.specs.Earlier.{EarlierBooks, IsPolicyAfter, IsWallAfter}
+use Rattle.program_commands.specs.Earlier.{IsBrokenTold}
 use Rattle.program_commands.specs.Unreading.{IsExplained}
 use Rattle.program_commands.specs.Replaying.{IsUnkept}
 use Rattle.program_commands.specs.Reporting.{ReportsEntries, ReportEnds, TellsFault}
-use Rattle.program_commands.specs.Reporting.{IsNoReading, ReportsIfRead}
+use Rattle.program_commands.specs.Reporting.{IsNoWallTold, IsNoReading, ReportsIfRead}
+use Rattle.program_commands.specs.Walls.{IsPolicyOf}
 
 -- a fault of the check of a book is told, and no page is touched
 pub told_fault : {O W : Type 0} (wall : ChineseWall) (entries : List Entry) (fault : BookFault)
@@ -35,6 +37,23 @@ pub explained_so : {D : Type 0} (causes : D → Option Cause) (plain ending : En
 explained_so causes plain ending path named left device cause limit same is told h =
     subst (λ c. IsExplained plain named c limit ending) (told ∙ ap causes (sym is))
     (subst (λ p. IsExplained plain p cause limit ending) (sym same) h)
+
+-- a policy was read, and this is what comes of the earlier books
+pub after_reading : {P D : Type 0} (policy : Used P) (earlier : EarlierBooks D)
+    (first : ChineseWall) (answer : Result ChineseWall Ending) → IsPolicyOf policy first →
+    IfOk answer (IsPolicyAfter first earlier) → IfOk answer (IsWallAfter policy earlier)
+after_reading policy earlier first (Ok wall) read after =
+    record { first = first; read = read; goes_on = after }
+after_reading policy earlier first (Err ending) read after = after
+
+pub none_after_reading : {P D : Type 0} (path : List ℕ) (cause : Option Cause) (policy : Used P)
+    (causes : D → Option Cause) (earlier : EarlierBooks D) (first : ChineseWall)
+    (answer : Result ChineseWall Ending) → IsPolicyOf policy first →
+    IfErr answer (IsBrokenTold first causes earlier) →
+    IfErr answer (IsNoWallTold path cause policy causes earlier)
+none_after_reading path cause policy causes earlier first (Ok wall) read broken = broken
+none_after_reading path cause policy causes earlier first (Err ending) read broken =
+    inr (first, read, broken)
 
 -- a report without a page, whichever kind of writer there is none of
 unpaged_entries : {O : Type 0} {A B : Type 0} (wall : ChineseWall) (entries : List Entry)

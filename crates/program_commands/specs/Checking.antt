@@ -27,6 +27,7 @@ use Rattle.program_commands.specs.declared.ending.Ending.TheVariants.{BadBookLin
 use Rattle.program_commands.specs.declared.ending.Ending.TheVariants.{WriteFault, NoMemory}
 use Rattle.program_commands.specs.Unreading.{IsUnread}
 use Rattle.program_commands.specs.Auditing.{book_limit}
+use Rattle.program_commands.specs.Earlier.{EarlierBooks, IsPolicyAfter, IsBrokenTold}
 
 -- the first of two that is at fault
 abbrev pub first_ending : Ending → Ending → Ending
@@ -118,18 +119,42 @@ TellsScriptIfAny wall path script text ending = Tells script.failures script.byt
     (λ device cause. TellsScript wall path device cause text ending) (TellsNone Done text ending)
     script.device
 
-abbrev pub TellsBookIfAny : {B : Type 0}
-    → ChineseWall → (path : List ℕ) → IfAny B → (text : List ℕ) → Ending → Type 0
-TellsBookIfAny wall path book text ending = Tells book.failures book.bytes book.cause
-    (λ device cause. TellsBook wall path device cause text ending) (TellsNone Done text ending)
-    book.device
+-- The book, if there is one, and the earlier ones that it goes on after.
+pub record BookAfter (D B : Type 0) : Type 0 where
+  -- why the last read of an earlier book that failed did so
+  pub causes : D → Option Cause
+  pub earlier : EarlierBooks D
+  pub book : IfAny B
+
+abbrev pub book_after : {D B : Type 0} → (D → Option Cause) → EarlierBooks D → IfAny B
+    → BookAfter D B
+book_after causes earlier book = record { causes = causes; earlier = earlier; book = book }
+
+-- This is told of the book under the policy after the earlier ones. Or one of these gives none, and
+-- this is why: the book is not looked at, and nothing is told of it.
+abbrev pub TellsBookAfter : {D B : Type 0} → (first : ChineseWall) → (D → Option Cause)
+    → EarlierBooks D → (path : List ℕ) → Used B → Option Cause → (text : List ℕ) → Ending → Type 0
+TellsBookAfter first causes earlier path book cause text ending =
+    ((wall : ChineseWall) × IsPolicyAfter first earlier wall
+    × TellsBook wall path book cause text ending)
+    ⊎ (IsBrokenTold first causes earlier ending × (text ≡ []) × IsUntouched book)
+
+abbrev pub TellsBookIfAny : {D B : Type 0}
+    → ChineseWall → (path : List ℕ) → BookAfter D B → (text : List ℕ) → Ending → Type 0
+TellsBookIfAny wall path after text ending =
+    let book = after.book in
+    Tells book.failures book.bytes book.cause
+    (λ device cause.
+    TellsBookAfter wall after.causes after.earlier path device cause text ending)
+    (TellsNone Done text ending) book.device
 
 -- ---- the command
 
 -- What is told of policy, script and book, one behind the other; it ends by the first of them that
 -- is at fault.
-pub record IsChecked {S B : Type 0} (wall : ChineseWall) (path : List ℕ) (script : IfAny S)
-    (book_path : List ℕ) (book : IfAny B) (text : List ℕ) (ending : Ending) : Type 0 where
+pub record IsChecked {S D B : Type 0} (wall : ChineseWall) (path : List ℕ) (script : IfAny S)
+    (book_path : List ℕ) (book : BookAfter D B) (text : List ℕ) (ending : Ending)
+    : Type 0 where
   pub meaning : List ℕ
   pub lines : List ℕ
   pub found : List ℕ
@@ -143,8 +168,8 @@ pub record IsChecked {S B : Type 0} (wall : ChineseWall) (path : List ℕ) (scri
   pub first : ending ≡ first_ending of_policy (first_ending of_script of_book)
 
 -- all that there is to tell was written, or the writer failed behind a prefix of it
-abbrev pub Checks : {S B O : Type 0} → ChineseWall → (path book_path : List ℕ) → IfAny S → IfAny B
-    → Used O → Ending → Type 0
+abbrev pub Checks : {S D B O : Type 0} → ChineseWall → (path book_path : List ℕ) → IfAny S
+    → BookAfter D B → Used O → Ending → Type 0
 Checks wall path book_path script book out ending =
     (text : List ℕ) × (due : Ending) × IsChecked wall path script book_path book text due
     × ((IsWritten out text × (ending ≡ due)) ⊎ (BrokeOff out text × (ending ≡ WriteFault)))
@@ -180,8 +205,8 @@ TellsRefused path text fault out ending =
 
 -- The text is a policy, and script and book were checked under it; or it is none, and that was
 -- told; or memory ran out.
-abbrev pub ChecksText : {S B O : Type 0} → (text policy_path path book_path : List ℕ) → IfAny S
-    → IfAny B → Used O → Ending → Type 0
+abbrev pub ChecksText : {S D B O : Type 0} → (text policy_path path book_path : List ℕ) → IfAny S
+    → BookAfter D B → Used O → Ending → Type 0
 ChecksText text policy_path path book_path script book out ending =
     ((wall : ChineseWall) × (answer_to text ≡ Ok wall)
     × Checks wall path book_path script book out ending)
@@ -196,9 +221,10 @@ IsNoText path policy cause ending =
     IsUnreadable policy script_limit × IsUnread path cause script_limit ending
 
 -- How `check` ends: no policy was read, and nothing was written; or its text was judged, and script
--- and book were checked under it, as far as there are any.
-abbrev pub CheckEnds : {P S B O : Type 0} → (policy_path path book_path : List ℕ) → Used P
-    → Option Cause → IfAny S → IfAny B → Used O → Ending → Type 0
+-- and book were checked under it, as far as there are any, the book under the policy after the
+-- earlier ones.
+abbrev pub CheckEnds : {P S D B O : Type 0} → (policy_path path book_path : List ℕ) → Used P
+    → Option Cause → IfAny S → BookAfter D B → Used O → Ending → Type 0
 CheckEnds policy_path path book_path policy cause script book out ending =
     (IsNoText policy_path policy cause ending × IsUntouched out)
     ⊎ ((text : List ℕ) × IsRead policy script_limit text

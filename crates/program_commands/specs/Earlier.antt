@@ -14,12 +14,14 @@ use Rattle.audit_book.specs.declared.check_fault.BookFault.TheVariants.{BadEntry
 use Rattle.audit_book.specs.declared.fault.ReadFault.TheVariants as texts
 use Rattle.book_chain.specs.Chain.{ChainValue, begun, IsAdded, IsNotAdded, StandsFor}
 use Rattle.hall_script.specs.Devices.{Used, used, NeverFailed, IsUnreadable}
+use Rattle.program_files.specs.declared.cause.Cause.{Cause}
 use Rattle.program_commands.specs.declared.earlier.Earlier.{Earlier}
 use Rattle.program_commands.specs.declared.ending.EarlierFault.{EarlierFault}
 use Rattle.program_commands.specs.declared.ending.EarlierFault.TheVariants as faults
 use Rattle.program_commands.specs.declared.ending.Ending.{Ending}
 use Rattle.program_commands.specs.declared.ending.Ending.TheVariants.{BadEarlier, BadBookLine}
 use Rattle.program_commands.specs.declared.ending.Ending.TheVariants.{CutBook, ReadFault, NoMemory}
+use Rattle.program_commands.specs.Unreading.{IsExplained}
 use Rattle.program_commands.specs.Walls.{IsPolicyOf, IsNoPolicy}
 use Rattle.program_commands.specs.Auditing.{book_limit, IsBookOf, IsNoText}
 
@@ -83,12 +85,10 @@ abbrev pub WasHadOnce : List Link → ChineseWall → Type 0
 WasHadOnce links wall = (p d : ℕ) → d < DATASET_LIMIT → BeginsWithNothing links wall →
     held_of wall p d ≡ true → HadOnce links p d
 
--- The policy that all else goes by: a policy was read, and it is that one, or, where there are
--- earlier books, the one after them.
-pub record IsWallAfter {P D : Type 0} (policy : Used P) (earlier : EarlierBooks D)
+-- The policy for what comes after these books, of which the oldest goes by the first policy: that
+-- one, or, where there are earlier books, the one after them.
+pub record IsPolicyAfter {D : Type 0} (first : ChineseWall) (earlier : EarlierBooks D)
     (wall : ChineseWall) : Type 0 where
-  pub first : ChineseWall
-  pub read : IsPolicyOf policy first
   pub links : List Link
   pub least : ℕ
   pub after : IsAfter first earlier links (record { wall = wall; least = least })
@@ -96,6 +96,14 @@ pub record IsWallAfter {P D : Type 0} (policy : Used P) (earlier : EarlierBooks 
   pub runs_keep : RunsKeepTheWall links wall
   pub years_keep : YearsKeepTheWall links wall
   pub had : WasHadOnce links wall
+
+-- The policy that all else goes by: a policy was read, and it is that one, or, where there are
+-- earlier books, the one after them.
+pub record IsWallAfter {P D : Type 0} (policy : Used P) (earlier : EarlierBooks D)
+    (wall : ChineseWall) : Type 0 where
+  pub first : ChineseWall
+  pub read : IsPolicyOf policy first
+  pub goes_on : IsPolicyAfter first earlier wall
 
 -- ---- none
 
@@ -134,6 +142,14 @@ abbrev pub IsBrokenBy : {D : Type 0} → (first : ChineseWall) → EarlierBooks 
     → (left : D) → Ending → Type 0
 IsBrokenBy first earlier path left ending = (broken : IsBroken first earlier ending)
     × (broken.one.path.now ≡ path) × (broken.left ≡ left)
+
+-- one of these books gives no policy, and this is why, as people are told: one that was not read by
+-- its path and the cause that its reader tells
+abbrev pub IsBrokenTold : {D : Type 0} → (first : ChineseWall) → (D → Option Cause)
+    → EarlierBooks D → Ending → Type 0
+IsBrokenTold first causes earlier ending =
+    (plain : Ending) × ((broken : IsBroken first earlier plain)
+    × IsExplained plain broken.one.path.now (causes broken.left) book_limit ending)
 
 -- there is no policy that all else could go by, and this is why
 abbrev pub IsNoWallAfter : {P D : Type 0} → Used P → EarlierBooks D → Ending → Type 0

@@ -20,7 +20,7 @@ use Rattle.program_commands.specs.Unreading.{IsExplained}
 use Rattle.program_commands.specs.Walls.{IsPolicyOf, IsNoPolicy}
 use Rattle.program_commands.specs.Replaying.{IsUnkept}
 use Rattle.program_commands.specs.Auditing.{book_limit, Announces, IsBookOf, IsNoBook}
-use Rattle.program_commands.specs.Earlier.{EarlierBooks, IsWallAfter, IsBroken}
+use Rattle.program_commands.specs.Earlier.{EarlierBooks, IsWallAfter, IsBrokenTold}
 
 -- ---- what is written
 
@@ -66,9 +66,7 @@ abbrev pub IsNoWallTold : {P D : Type 0} → (path : List ℕ) → Option Cause 
     → (D → Option Cause) → EarlierBooks D → Ending → Type 0
 IsNoWallTold path cause policy causes earlier ending =
     ((plain : Ending) × IsNoPolicy policy plain × IsExplained plain path cause script_limit ending)
-    ⊎ ((first : ChineseWall) × IsPolicyOf policy first × ((plain : Ending)
-    × ((broken : IsBroken first earlier plain)
-    × IsExplained plain broken.one.path.now (causes broken.left) book_limit ending)))
+    ⊎ ((first : ChineseWall) × IsPolicyOf policy first × IsBrokenTold first causes earlier ending)
 
 -- no book was read, and this is why, as people are told
 abbrev pub IsNoBookTold : {B : Type 0}

@@ -5,12 +5,15 @@ ghost use Rattle.program_commands.specs.Endings.{EndsSo};
 ghost use Rattle.program_commands.specs.Checking.{first_ending, script_ending, TellsMeaning};
 ghost use Rattle.program_commands.specs.Checking.{TellsLines, TellsScript, TellsFound};
 ghost use Rattle.program_commands.specs.Checking.{found_ending};
-ghost use Rattle.program_commands.specs.Checking.{TellsBook, TellsScriptIfAny, TellsBookIfAny};
-ghost use Rattle.program_commands.specs.Checking.{if_any, Checks, ChecksText, CheckEnds};
+ghost use Rattle.program_commands.specs.Checking.{TellsBook, TellsBookAfter, TellsScriptIfAny};
+ghost use Rattle.program_commands.specs.Checking.{TellsBookIfAny, if_any, book_after, Checks};
+ghost use Rattle.program_commands.specs.Checking.{ChecksText, CheckEnds};
+ghost use Rattle.program_commands.specs.Earlier.{earlier_books};
 ghost use Rattle.program_commands.specs.Using.{out_stream, err_stream};
 
 use crate::audit::BOOK_LIMIT;
 use crate::devices::Streams;
+use crate::earlier::{Earlier, policy_after};
 use crate::ending::{Ending, end, write_three};
 use crate::refused::{PolicyText, tell_refused};
 use crate::unread::unread;
@@ -159,6 +162,31 @@ fn tell_book<'a, B: Source + Explains>(
     }
 }
 
+// What is found of a book that goes on after earlier ones; or which of these is at fault.
+fn tell_book_after<'a, D: Source + Explains + Drop, B: Source + Explains>(
+    alloc: Global,
+    first: Policy,
+    earlier: Vec<Earlier<'a, D>>,
+    path: &'a str,
+    book: &mut B,
+) -> Told<'a>
+    ensures { TellsBookAfter first D.cause
+        (earlier_books D.failures D.remaining earlier.entry.items)
+        path.now
+        (used B.failures B.remaining book.old book.new)
+        (B.cause book.new)
+        result.text.items result.ending }
+{
+    match policy_after(alloc, first, earlier) {
+        Ok(wall) => {
+            let told = tell_book(alloc, &wall, path, book);
+            drop(wall);
+            told
+        }
+        Err(ending) => untold(alloc, ending),
+    }
+}
+
 fn tell_script_if_any<'a, S: Source + Explains + Drop>(
     alloc: Global,
     wall: &Policy,
@@ -178,34 +206,42 @@ fn tell_script_if_any<'a, S: Source + Explains + Drop>(
     }
 }
 
-fn tell_book_if_any<'a, B: Source + Explains + Drop>(
+fn tell_book_if_any<'a, D: Source + Explains + Drop, B: Source + Explains + Drop>(
     alloc: Global,
-    wall: &Policy,
+    wall: Policy,
+    earlier: Vec<Earlier<'a, D>>,
     path: &'a str,
     book: Option<B>,
 ) -> Told<'a>
-    ensures { TellsBookIfAny wall.now path.now
-        (if_any B.failures B.remaining B.cause book)
+    ensures { TellsBookIfAny wall path.now
+        (book_after D.cause (earlier_books D.failures D.remaining earlier.entry.items)
+        (if_any B.failures B.remaining B.cause book))
         result.text.items result.ending }
 {
     match book {
         Some(book) => {
             let mut book = book;
-            tell_book(alloc, wall, path, &mut book)
+            tell_book_after(alloc, wall, earlier, path, &mut book)
         }
-        None => untold(alloc, Ending::Done),
+        None => {
+            drop(wall);
+            drop(earlier);
+            untold(alloc, Ending::Done)
+        }
     }
 }
 
 /// The files of a check, as people are told of them, and the readers of all but its policy.
 #[derive(Drop)]
-pub struct CheckFiles<'a, S, B> {
+pub struct CheckFiles<'a, S, D, B> {
     /// The path of its policy.
     pub policy_path: &'a str,
     /// The path of its script.
     pub script_path: &'a str,
     /// The reader of its script, if there is one.
     pub script: Option<S>,
+    /// The earlier books that its book goes on after, the oldest first.
+    pub earlier: Vec<Earlier<'a, D>>,
     /// The path of its book.
     pub book_path: &'a str,
     /// The reader of its book, if there is one.
@@ -213,21 +249,23 @@ pub struct CheckFiles<'a, S, B> {
 }
 
 // Checks script and book under the policy, and writes all that there is to tell.
-fn check_under<'a, S: Source + Explains + Drop, B: Source + Explains + Drop, O: Sink>(
-    alloc: Global,
-    wall: &Policy,
-    files: CheckFiles<'a, S, B>,
-    out: &mut O,
-) -> Ending<'a>
-    ensures { Checks wall.now files.entry.script_path.now files.entry.book_path.now
+fn check_under<
+    'a,
+    S: Source + Explains + Drop,
+    D: Source + Explains + Drop,
+    B: Source + Explains + Drop,
+    O: Sink,
+>(alloc: Global, wall: Policy, files: CheckFiles<'a, S, D, B>, out: &mut O) -> Ending<'a>
+    ensures { Checks wall files.entry.script_path.now files.entry.book_path.now
         (if_any S.failures S.remaining S.cause files.entry.script)
-        (if_any B.failures B.remaining B.cause files.entry.book)
+        (book_after D.cause (earlier_books D.failures D.remaining files.entry.earlier.items)
+        (if_any B.failures B.remaining B.cause files.entry.book))
         (used O.failures O.contents out.old out.new)
         result }
 {
-    let meaning = tell_meaning(alloc, wall);
-    let lines = tell_script_if_any(alloc, wall, files.script_path, files.script);
-    let found = tell_book_if_any(alloc, wall, files.book_path, files.book);
+    let meaning = tell_meaning(alloc, &wall);
+    let lines = tell_script_if_any(alloc, &wall, files.script_path, files.script);
+    let found = tell_book_if_any(alloc, wall, files.earlier, files.book_path, files.book);
     let behind = first_ending(lines.ending, found.ending);
     let ending = first_ending(meaning.ending, behind);
     let written = write_three(out, &meaning.text, &lines.text, &found.text);
@@ -241,26 +279,24 @@ fn check_under<'a, S: Source + Explains + Drop, B: Source + Explains + Drop, O: 
 }
 
 // Judges the bytes of a policy, and then checks script and book under it.
-fn check_policy<'a, S: Source + Explains + Drop, B: Source + Explains + Drop, O: Sink>(
-    alloc: Global,
-    text: &[u8],
-    files: CheckFiles<'a, S, B>,
-    out: &mut O,
-) -> Ending<'a>
+fn check_policy<
+    'a,
+    S: Source + Explains + Drop,
+    D: Source + Explains + Drop,
+    B: Source + Explains + Drop,
+    O: Sink,
+>(alloc: Global, text: &[u8], files: CheckFiles<'a, S, D, B>, out: &mut O) -> Ending<'a>
     ensures { ChecksText text.now files.entry.policy_path.now files.entry.script_path.now
         files.entry.book_path.now
         (if_any S.failures S.remaining S.cause files.entry.script)
-        (if_any B.failures B.remaining B.cause files.entry.book)
+        (book_after D.cause (earlier_books D.failures D.remaining files.entry.earlier.items)
+        (if_any B.failures B.remaining B.cause files.entry.book))
         (used O.failures O.contents out.old out.new)
         result }
 {
     let path = files.policy_path;
     match read_policy(alloc, text) {
-        Ok(wall) => {
-            let ending = check_under(alloc, &wall, files, out);
-            drop(wall);
-            ending
-        }
+        Ok(wall) => check_under(alloc, wall, files, out),
         Err(PolicyFault::NoMemory) => Ending::NoMemory,
         Err(fault) => tell_refused(alloc, &PolicyText { path, text }, fault, out),
     }
@@ -271,14 +307,16 @@ fn check_devices<
     'a,
     P: Source + Explains,
     S: Source + Explains + Drop,
+    D: Source + Explains + Drop,
     B: Source + Explains + Drop,
     O: Sink,
->(alloc: Global, policy: &mut P, files: CheckFiles<'a, S, B>, out: &mut O) -> Ending<'a>
+>(alloc: Global, policy: &mut P, files: CheckFiles<'a, S, D, B>, out: &mut O) -> Ending<'a>
     ensures { CheckEnds
         files.entry.policy_path.now files.entry.script_path.now files.entry.book_path.now
         (used P.failures P.remaining policy.old policy.new) (P.cause policy.new)
         (if_any S.failures S.remaining S.cause files.entry.script)
-        (if_any B.failures B.remaining B.cause files.entry.book)
+        (book_after D.cause (earlier_books D.failures D.remaining files.entry.earlier.items)
+        (if_any B.failures B.remaining B.cause files.entry.book))
         (used O.failures O.contents out.old out.new)
         result }
 {
@@ -300,24 +338,30 @@ fn check_devices<
 /// fault there. It writes the line of the first fault to `err`, and gives the status: 0 exactly
 /// where all of it reads, the book is sound, and all was written.
 ///
-/// What is told of one file does not hang on the others. Where the policy is refused the others are
-/// not looked at, and `PATH:LINE: ..` is written to `out`, the line on which its fault stands and
-/// what is wrong there, or `PATH: ..` and what the file lacks, where it stands on none. Of a policy
-/// of more than `PLACE_LIMIT` bytes it is written that no line is looked for. A file that was not
-/// read is told by its path and why: for the cause that its reader tells, or since it has more than
-/// `SCRIPT_LIMIT` or `BOOK_LIMIT` bytes.
+/// A book that goes on after earlier ones is judged under the policy after them, as `audit_after`
+/// judges it. Where one of these is at fault, it ends by that one, and the book is not looked at;
+/// where there is no book, they are not looked at either. Else what is told of one file does not
+/// hang on the others.
+///
+/// Where the policy is refused the others are not looked at, and `PATH:LINE: ..` is written to
+/// `out`, the line on which its fault stands and what is wrong there, or `PATH: ..` and what the
+/// file lacks, where it stands on none. Of a policy of more than `PLACE_LIMIT` bytes it is written
+/// that no line is looked for. A file that was not read is told by its path and why: for the cause
+/// that its reader tells, or since it has more than `SCRIPT_LIMIT` or `BOOK_LIMIT` bytes.
 pub fn check_on<
     P: Source + Explains,
     S: Source + Explains + Drop,
+    D: Source + Explains + Drop,
     B: Source + Explains + Drop,
     O: Sink,
     E: Sink,
->(alloc: Global, policy: &mut P, files: CheckFiles<S, B>, streams: Streams<O, E>) -> u8
+>(alloc: Global, policy: &mut P, files: CheckFiles<S, D, B>, streams: Streams<O, E>) -> u8
     ensures { EndsSo (CheckEnds
         files.entry.policy_path.now files.entry.script_path.now files.entry.book_path.now
         (used P.failures P.remaining policy.old policy.new) (P.cause policy.new)
         (if_any S.failures S.remaining S.cause files.entry.script)
-        (if_any B.failures B.remaining B.cause files.entry.book)
+        (book_after D.cause (earlier_books D.failures D.remaining files.entry.earlier.items)
+        (if_any B.failures B.remaining B.cause files.entry.book))
         (out_stream O.failures O.contents streams.entry streams.exit))
         (err_stream E.failures E.contents streams.entry streams.exit) result }
 {

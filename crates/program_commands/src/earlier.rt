@@ -1,16 +1,17 @@
 //! Reads earlier books, and gives the policy for what comes after them.
-ghost use Rattle.std.specs.Prelude.{◌≡◌, IfOk, IfErr, ℕ, List, []};
-ghost use Rattle.run_model.specs.Chains.{Link};
+ghost use Rattle.std.specs.Prelude.{◌≡◌, IfOk, IfErr, []};
 ghost use Rattle.hall_script.specs.Devices.{used};
-ghost use Rattle.program_commands.specs.Earlier.{earlier_books, IsAfter, IsWallAfter};
+ghost use Rattle.program_commands.specs.Earlier.{earlier_books, IsPolicyAfter, IsWallAfter};
 ghost use Rattle.program_commands.specs.Earlier.{IsNoWallAfter, earlier_ending, IsLink, IsNoLink};
-ghost use Rattle.program_commands.specs.Earlier.{IsBrokenBy};
+ghost use Rattle.program_commands.specs.Earlier.{IsBrokenBy, IsBrokenTold};
 
-use crate::audit::read_entries;
+use crate::audit::{BOOK_LIMIT, read_entries};
 use crate::ending::{EarlierFault, Ending};
+use crate::unread::explained;
 use crate::wall::read_wall;
 use audit_book::BookFault;
 use book_chain::Chain;
+use program_files::Explains;
 use run_model::years::over_years;
 use std::alloc::Global;
 use wall_labels::Source;
@@ -73,23 +74,22 @@ fn read_link<'a, D: Source>(
     }
 }
 
-/// An earlier book that gave no policy, as its reader was left, and how that ends.
+// An earlier book that gave no policy, as its reader was left, and how that ends.
 #[derive(Drop)]
-pub(crate) struct Broken<'a, D> {
-    pub(crate) path: &'a str,
-    pub(crate) device: D,
-    pub(crate) ending: Ending<'a>,
+struct Broken<'a, D> {
+    path: &'a str,
+    device: D,
+    ending: Ending<'a>,
 }
 
-/// Reads and checks all books, the oldest first.
-pub(crate) fn read_links<'a, D: Source + Drop>(
+// Reads and checks all books, the oldest first.
+fn read_links<'a, D: Source + Drop>(
     alloc: Global,
     first: Policy,
     earlier: Vec<Earlier<'a, D>>,
 ) -> Result<Policy, Broken<'a, D>>
     ensures after { let books = earlier_books D.failures D.remaining earlier.entry.items in
-        IfOk result (λ wall. (links : List Link) × ((least : ℕ)
-        × IsAfter first books links (record { wall = wall; least = least }))) }
+        IfOk result (IsPolicyAfter first books) }
     ensures ending { let books = earlier_books D.failures D.remaining earlier.entry.items in
         IfErr result (λ broken.
         IsBrokenBy first books broken.path.now broken.device broken.ending) }
@@ -108,7 +108,33 @@ pub(crate) fn read_links<'a, D: Source + Drop>(
             }
         }
     }
-    Ok(chain.policy())
+    let wall = chain.policy();
+    let _ = wall.processes();
+    over_years();
+    Ok(wall)
+}
+
+/// Reads and checks the earlier books, the oldest first, and gives the policy for what comes after
+/// them; or how that ends, as people are told.
+pub(crate) fn policy_after<'a, D: Source + Explains + Drop>(
+    alloc: Global,
+    policy: Policy,
+    earlier: Vec<Earlier<'a, D>>,
+) -> Result<Policy, Ending<'a>>
+    ensures after { let books = earlier_books D.failures D.remaining earlier.entry.items in
+        IfOk result (IsPolicyAfter policy books) }
+    ensures ending { let books = earlier_books D.failures D.remaining earlier.entry.items in
+        IfErr result (IsBrokenTold policy D.cause books) }
+{
+    match read_links(alloc, policy, earlier) {
+        Ok(wall) => Ok(wall),
+        Err(broken) => {
+            let cause = broken.device.cause();
+            let ending = explained(broken.ending, broken.path, cause, BOOK_LIMIT);
+            drop(broken);
+            Err(ending)
+        }
+    }
 }
 
 /// Reads a policy file and then the earlier books, the oldest first, and gives the policy for what
@@ -138,15 +164,12 @@ pub fn read_wall_after<'a, P: Source, D: Source + Drop>(
         Ok(first) => first,
         Err(ending) => return Err(ending),
     };
-    let wall = match read_links(alloc, first, earlier) {
-        Ok(wall) => wall,
+    match read_links(alloc, first, earlier) {
+        Ok(wall) => Ok(wall),
         Err(broken) => {
             let ending = broken.ending;
             drop(broken);
-            return Err(ending);
+            Err(ending)
         }
-    };
-    let _ = wall.processes();
-    over_years();
-    Ok(wall)
+    }
 }

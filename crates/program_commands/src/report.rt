@@ -13,7 +13,7 @@ ghost use Rattle.program_commands.specs.Using.{named_used};
 
 use crate::audit::{BOOK_LIMIT, Finding, read_entries, tell};
 use crate::devices::Devices;
-use crate::earlier::{Earlier, read_links};
+use crate::earlier::{Earlier, policy_after};
 use crate::ending::{Ending, end};
 use crate::text::write_text;
 use crate::unread::explained;
@@ -23,7 +23,6 @@ use hall_script::SCRIPT_LIMIT;
 use program_files::Explains;
 use report_page::report_page;
 use report_text::report_text;
-use run_model::years::over_years;
 use std::alloc::Global;
 use wall_labels::{Sink, Source, write_all};
 use wall_policy::Policy;
@@ -136,18 +135,7 @@ fn wall_told<'a, 'd, P: Source + Explains, D: Source + Explains + Drop>(
             return Err(explained(ending, policy.path, policy.device.cause(), SCRIPT_LIMIT));
         }
     };
-    let wall = match read_links(alloc, first, earlier) {
-        Ok(wall) => wall,
-        Err(broken) => {
-            let cause = broken.device.cause();
-            let ending = explained(broken.ending, broken.path, cause, BOOK_LIMIT);
-            drop(broken);
-            return Err(ending);
-        }
-    };
-    let _ = wall.processes();
-    over_years();
-    Ok(wall)
+    policy_after(alloc, first, earlier)
 }
 
 // Reads a book; or how that ends, as people are told.

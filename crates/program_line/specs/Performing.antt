@@ -27,7 +27,7 @@ use Rattle.program_commands.specs.Earlier.{IsNoWallAfter}
 use Rattle.program_commands.specs.Continuing.{ReplayAfterEnds, RunAfterEnds, AuditAfterEnds}
 use Rattle.program_commands.specs.Sealing.{SealEnds}
 use Rattle.program_commands.specs.Reporting.{ReportEnds}
-use Rattle.program_commands.specs.Checking.{IfAny, if_any, CheckEnds}
+use Rattle.program_commands.specs.Checking.{IfAny, if_any, book_after, CheckEnds}
 use Rattle.program_files.specs.declared.cause.Cause.{Cause}
 
 -- how the program ends where its words are refused
@@ -149,12 +149,14 @@ ReportsFiles {P} {D} {S} kinds files out err status =
 abbrev pub ChecksFiles : {P D S B W O E : Type 0} → Kinds P D S B W → CheckFiles → Used O
     → Used E → (status : ℕ) → Type 0
 ChecksFiles {P} {D} kinds files out err status = (policy : FileUse kinds.policies files.policy)
+    × (earlier : EarlierUse kinds.listed files.after)
     × (script : UseIfAny kinds.listed files.script) × (book : UseIfAny kinds.listed files.book)
     × (causes : Causes P D D)
     × EndsSo (CheckEnds files.policy (unwrap_or files.script []) (unwrap_or files.book [])
     (used_file kinds.policies policy) (causes.of_policy policy.new)
     (used_if_any kinds.listed causes.of_listed script)
-    (used_if_any kinds.listed causes.of_second book) out) err status
+    (book_after causes.of_listed (used_earlier kinds.listed earlier)
+    (used_if_any kinds.listed causes.of_second book)) out) err status
 
 -- nothing was done but to tell this ending
 abbrev pub Declines : {O E : Type 0} → Ending → Used O → Used E → (status : ℕ) → Type 0

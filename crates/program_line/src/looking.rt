@@ -69,12 +69,16 @@ pub(crate) fn check_files<'a, F: Files, P: Ledger, S: Ledger, B: Ledger, O: Sink
     streams: Streams<O, E>,
 ) -> u8
     ensures { let kinds = kinds_of F.File.remaining F.File.contents files.entry in
-        ChecksFiles kinds (check_files paths.entry)
+        OrNoMemory (ChecksFiles kinds (check_files paths.entry))
         (out_stream O.failures O.contents streams.entry streams.exit)
         (err_stream E.failures E.contents streams.entry streams.exit)
         result }
 {
     let CountedFiles { files, policy, .. } = files;
+    let Streams { out, err } = streams;
+    let Ok(earlier) = listed(alloc, files, &paths.after) else {
+        return end(err, Ending::NoMemory);
+    };
     let mut policy = unopened(files, paths.policy, policy);
     let script = listed_if_any(files, paths.script);
     let book = listed_if_any(files, paths.book);
@@ -84,10 +88,11 @@ pub(crate) fn check_files<'a, F: Files, P: Ledger, S: Ledger, B: Ledger, O: Sink
         policy_path: paths.policy,
         script_path,
         script,
+        earlier,
         book_path,
         book,
     };
-    check_on(alloc, &mut policy, named, streams)
+    check_on(alloc, &mut policy, named, Streams { out, err })
 }
 
 /// Tells how the program is used, or the command of this name; where there is none, the words are

@@ -54,6 +54,23 @@ fn missing_files_are_told_by_their_paths(rt: HostRuntime) -> Result<(), Fail> {
             "w\ns\nnope\n",
         ),
         case_of(
+            &[
+                b"consortium",
+                b"check",
+                b"w",
+                b"s",
+                b"--book",
+                b"b",
+                b"--after",
+                b"b",
+                b"--after",
+                b"nope",
+            ],
+            MEANING,
+            "cannot read nope: no such file\n",
+            "w\ns\nb\nnope\n",
+        ),
+        case_of(
             &[b"consortium", b"report", b"w", b"nope", b"--html", b"k"],
             "",
             "cannot read nope: no such file\n",

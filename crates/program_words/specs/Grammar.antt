@@ -65,12 +65,13 @@ seal_app =
     in
     with_rule with_out (repeated_rule (codes "after"))
 
--- check POLICY [SCRIPT] [--book BOOK]
+-- check POLICY [SCRIPT] [--book BOOK] [--after BOOK]..
 abbrev pub check_app : App
 check_app =
     let with_policy = with_rule (new_app (codes "check")) (required_rule (codes "policy")) in
     let with_script = with_rule with_policy (new_rule (codes "script")) in
-    with_rule with_script (optional_rule (codes "book"))
+    let with_book = with_rule with_script (optional_rule (codes "book")) in
+    with_rule with_book (repeated_rule (codes "after"))
 
 -- report POLICY BOOK [--after BOOK].. [--html FILE]
 abbrev pub report_app : App
@@ -136,9 +137,10 @@ pub record SealFiles : Type 0 where
   pub book : Text
   pub out : Text
 
--- the files of a check, as text
+-- the files of a check, as text; the earlier books have the oldest first
 pub record CheckFiles : Type 0 where
   pub policy : Text
+  pub after : List Text
   pub script : Option Text
   pub book : Option Text
 
@@ -223,13 +225,24 @@ seal_in rows =
     Some (record { policy = p; after = every_of (codes "after") rows; book = b; out = o }))
     (first_of (codes "out") rows)) (first_of (codes "book") rows)) (first_of (codes "policy") rows)
 
+-- whether earlier books are named, and no book that goes on after them
+abbrev pub are_idle : (book : Option Text) → (after : List Text) → Bool
+are_idle None (oldest ∷ newer) = true
+are_idle book after = false
+
+-- these files, unless earlier books are named and no book that goes on after them
+abbrev pub unless_idle : {F : Type 0} → (book : Option Text) → (after : List Text) → F → Option F
+unless_idle book after files = if are_idle book after then None else Some files
+
 abbrev pub check_in : List Row → Option CheckFiles
 check_in rows =
-    option_map (λ p. record {
+    option_and_then (λ p.
+    unless_idle (first_of (codes "book") rows) (every_of (codes "after") rows) (record {
       policy = p;
+      after = every_of (codes "after") rows;
       script = first_of (codes "script") rows;
       book = first_of (codes "book") rows;
-    }) (first_of (codes "policy") rows)
+    })) (first_of (codes "policy") rows)
 
 abbrev pub report_in : List Row → Option ReportFiles
 report_in rows =
@@ -311,6 +324,7 @@ seal_files r = record {
 abbrev pub check_files : CheckPaths → CheckFiles
 check_files r = record {
   policy = r.policy.now;
+  after = texts_of r.after.items;
   script = option_map (λ s. s.now) r.script;
   book = option_map (λ b. b.now) r.book;
 }

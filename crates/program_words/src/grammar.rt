@@ -103,7 +103,7 @@ fn seal_command<'a>(alloc: Global) -> Result<clap::Command<'a>, AllocError>
     command.arg(repeated(alloc, "after"))
 }
 
-// The command `check POLICY [SCRIPT] [--book BOOK]`.
+// The command `check POLICY [SCRIPT] [--book BOOK] [--after BOOK]..`.
 fn check_command<'a>(alloc: Global) -> Result<clap::Command<'a>, AllocError>
     ensures app { IfOk result (λ c. app_of c ≡ check_app) }
     ensures globals { IfOk result (λ c. (fields_of c).has_globals ≡ false) }
@@ -114,7 +114,10 @@ fn check_command<'a>(alloc: Global) -> Result<clap::Command<'a>, AllocError>
     let Ok(command) = command.arg(Arg::new(alloc, "script")) else {
         return Err(AllocError);
     };
-    command.arg(Arg::new(alloc, "book").long("book"))
+    let Ok(command) = command.arg(Arg::new(alloc, "book").long("book")) else {
+        return Err(AllocError);
+    };
+    command.arg(repeated(alloc, "after"))
 }
 
 // The command `report POLICY BOOK [--after BOOK].. [--html FILE]`.

@@ -18,7 +18,7 @@ usage: consortium COMMAND WORDS
       tells whether a book is what its posts give
   seal POLICY BOOK OUT [--after BOOK]..
       makes a whole book of one that was cut, in a new file
-  check POLICY [SCRIPT] [--book BOOK]
+  check POLICY [SCRIPT] [--book BOOK [--after BOOK]..]
       tells what a policy means, and where a policy, a script or a book is at fault
   report POLICY BOOK [--after BOOK].. [--html FILE]
       tells who came to hold what by a book, and why posts were barred and instances denied
@@ -131,14 +131,16 @@ status  0  the whole book stands in OUT                      sealed N, on standa
 ";
 
 const CHECK: &str = "\
-usage: consortium check POLICY [SCRIPT] [--book BOOK]
+usage: consortium check POLICY [SCRIPT] [--book BOOK [--after BOOK]..]
 
 Tells what POLICY means, a line for each fact, and what in it is hardly meant, behind `warning: `.
 Where the policy is refused it tells the line in place of that. Of SCRIPT it tells each line that is
-no call, and of BOOK, which is checked as by an audit, where it is at fault.
+no call, and of BOOK, which is checked as by an audit, where it is at fault. With --after, any
+number of times, the oldest first, the book is one that goes on after earlier ones.
 
 status  0  all of it reads, and the book is sound
         1  the policy is refused                             policy: NAME
+        2  an earlier book is no book, or not sound          after PATH: ..
         2  a line of the script is no call                   script: line N: NAME
         2  the book is unsound                               PATH:LINE: .., on standard output
         2  the file is no book                               book: line N, book: cut

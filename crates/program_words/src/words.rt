@@ -3,7 +3,7 @@ ghost use Rattle.std.specs.Prelude.{◌≡◌, IfOk, IsOkAnd, map, false, option
 ghost use Rattle.clap.specs.Words.{first_of, found_of, rows_of, fault_of, Row};
 ghost use Rattle.clap.specs.Words.{subcommand_of, subcommand_rows_of};
 ghost use Rattle.program_words.specs.Grammar.{every_of, is_set, AreEarlier, program_app};
-ghost use Rattle.program_words.specs.Grammar.{is_one_of, texts_of};
+ghost use Rattle.program_words.specs.Grammar.{is_one_of, are_idle, texts_of};
 ghost use Rattle.program_words.specs.Grammar.{replay_in, run_in, audit_in, serve_in, seal_in};
 ghost use Rattle.program_words.specs.Grammar.{check_in, report_in, to_check, to_report};
 ghost use Rattle.program_words.specs.Grammar.{to_replay, to_run, to_audit, to_serve, to_seal};
@@ -77,6 +77,8 @@ pub struct SealPaths<'a> {
 #[derive(Debug, Drop)]
 pub struct CheckPaths<'a> {
     pub policy: &'a str,
+    /// The earlier books, the oldest first; none where no book is to be checked.
+    pub after: Vec<&'a str>,
     /// The script that is to be checked, if one is.
     pub script: Option<&'a str>,
     /// The book that is to be checked, if one is.
@@ -160,6 +162,16 @@ fn is_one_of(path: Option<&str>, paths: &[&str]) -> bool
     match path {
         Some(path) => paths.contains(&path),
         None => false,
+    }
+}
+
+// Whether earlier books are named, and no book that goes on after them.
+fn are_idle(book: Option<&str>, after: &[&str]) -> bool
+    ensures { result ≡ are_idle (option_map (λ b. b.now) book.entry) (texts_of after.now) }
+{
+    match book {
+        Some(_) => false,
+        None => !after.is_empty(),
     }
 }
 
@@ -260,15 +272,20 @@ fn seal_asked<'a>(matches: &ArgMatches<'a>, after: Vec<&'a str>) -> Option<Comma
 }
 
 // A check of the files that its arguments name.
-fn check_asked<'a>(matches: &ArgMatches<'a>) -> Option<Command<'a>>
+fn check_asked<'a>(matches: &ArgMatches<'a>, after: Vec<&'a str>) -> Option<Command<'a>>
+    requires { AreEarlier (rows_of (found_of matches.now)) after.items }
     ensures { option_map asked_by result
         ≡ option_map to_check (check_in (rows_of (found_of matches.now))) }
 {
     let policy = value_of(matches, "policy")?;
     let script = value_of(matches, "script");
     let checked = value_of(matches, "book");
+    if are_idle(checked, &after) {
+        return None;
+    }
     let paths = CheckPaths {
         policy,
+        after,
         script,
         book: checked,
     };
@@ -308,7 +325,7 @@ fn command_named<'a>(
         "audit" => audit_asked(matches, after),
         "serve" => serve_asked(matches, after),
         "seal" => seal_asked(matches, after),
-        "check" => check_asked(matches),
+        "check" => check_asked(matches, after),
         "report" => report_asked(matches, after),
         "usage" => Some(Command::Usage(value_of(matches, "command"))),
         "version" => Some(Command::Version),
@@ -363,9 +380,10 @@ fn matches_of<'a>(alloc: Global, words: &'a [&'a str]) -> Result<ArgMatches<'a>,
 /// What the words after the program's name ask for: `replay POLICY SCRIPT [--book FILE]`, `run
 /// POLICY SCRIPT [--book FILE]`, `audit POLICY BOOK`, `serve POLICY DIR [--book FILE] [--sync]`,
 /// `seal POLICY BOOK OUT` or `report POLICY BOOK [--html FILE]`, each with `--after BOOK` any
-/// number of times; `check POLICY [SCRIPT] [--book BOOK]`, `usage [COMMAND]` or `version`. They are
-/// bad arguments exactly where `clap` refuses them for another cause than memory, or where the book
-/// of a replay or a run would be written over an earlier one.
+/// number of times; `check POLICY [SCRIPT] [--book BOOK]`, with `--after BOOK` where it has a book;
+/// `usage [COMMAND]` or `version`. They are bad arguments exactly where `clap` refuses them for
+/// another cause than memory, where the book of a replay or a run would be written over an earlier
+/// one, or where a check has earlier books and no book.
 #[tactic(auto, unfolding(crate::specs::Grammar::asked))]
 pub fn read_words<'a>(alloc: Global, words: &'a [&'a str]) -> Result<Command<'a>, ArgFault>
     ensures { SaysCommand result (asked (map (λ w. w.now) words.entry.now)) }

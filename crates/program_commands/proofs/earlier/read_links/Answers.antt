@@ -2,7 +2,7 @@ use Rattle.std.proofs.Common.{◌∙◌, ◌++◌, ◌∷◌, [], ap, sym, subst
 use Rattle.std.specs.Vec.Iter.{into_iter_items}
 use Rattle.book_chain.specs.Chain.{ChainValue}
 use Rattle.program_commands.specs.Earlier.{earlier_books, IsAfter}
-use Rattle.program_commands.proofs.EarlierLemmas.{none_read, one_more, all_read}
+use Rattle.program_commands.proofs.EarlierLemmas.{none_read, one_more, all_read, goes_on_after}
 use Rattle.program_commands.proofs.earlier.read_links.Goals as goal
 
 pub loop-one-init : goal.loop-one-init
@@ -52,12 +52,10 @@ returns-in-Err-clause-ending g c =
 pub returns-clause-after : goal.returns-clause-after
 returns-clause-after g c =
     let i = c.loop-one.invariant in
-    let left = c.loop-one.one-iterator.rest in (
-      i.after.0,
-      (
-        c.loop-one.chain.least,
-        all_read g.D.Source.failures g.D.Source.remaining c.args.first c.policy.result
-            c.loop-one.yielded left.items c.args.earlier.items i.after.0 c.loop-one.chain
-            i.whole (sym left.ok.0 ∙ c.in-None.ensures.steps.0) c.policy.ensures i.after.1,
-      ),
-    )
+    let left = c.loop-one.one-iterator.rest in
+    goes_on_after (earlier_books g.D.Source.failures g.D.Source.remaining c.args.earlier.items)
+    c.args.first c.policy-wall.result i.after.0 c.loop-one.chain.least
+    (all_read g.D.Source.failures g.D.Source.remaining c.args.first c.policy-wall.result
+    c.loop-one.yielded left.items c.args.earlier.items i.after.0 c.loop-one.chain
+    i.whole (sym left.ok.0 ∙ c.in-None.ensures.steps.0) c.policy-wall.ensures i.after.1)
+    c.processes.ensures.policy c.over_years.ensures

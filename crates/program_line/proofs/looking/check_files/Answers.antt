@@ -1,5 +1,8 @@
-use Rattle.std.proofs.Common.{◌≡◌, ℕ, List, [], Option, Some, None, Bor, refl, ap, ◌∙◌}
+use Rattle.std.proofs.Common.{◌≡◌, ℕ, List, [], Option, Some, None, Bor, refl, ap, ◌∙◌, inl, map}
+use Rattle.std.proofs.Common.{subst}
 use Rattle.std.specs.Prelude.{option_map, unwrap_or}
+use Rattle.program_line.specs.Kinds.{listed_kind}
+use Rattle.program_line.specs.Performing.{AreListed}
 use Rattle.program_line.proofs.PerformLemmas.{at_path}
 use Rattle.program_line.proofs.looking.check_files.Goals as goal
 
@@ -14,12 +17,18 @@ returns g c =
     let path = ap (λ (b : Bor (List ℕ)). b.now) c.unwrap_or-script_path.ensures
     ∙ path_of c.args.paths.script _ refl in
     let book_path = ap (λ (b : Bor (List ℕ)). b.now) c.unwrap_or-book_path.ensures
-    ∙ path_of c.args.paths.book _ refl in (
+    ∙ path_of c.args.paths.book _ refl in
+    inl (
       record {
         old = c.unopened-policy.result;
         new = c.check_on.new.policy;
         at = at_path c.unopened-policy.ensures.unopened c.unopened-policy.ensures.path;
         begins = c.unopened-policy.ensures.count;
+      },
+      record {
+        books = c.in-Ok.earlier.items;
+        listed = subst (λ l. AreListed listed_kind (map (λ p. p.now) l) c.in-Ok.earlier.items)
+            c.deref.ensures.value c.in-Ok.ensures;
       },
       record {
         device = c.listed_if_any-script.result;
