@@ -31,11 +31,11 @@ pub struct Broken {
 }
 
 // Reads the next run.
-fn read_next<F: FileSystem>(
+fn read_next<'p, F: FileSystem<'p>>(
     alloc: Global,
     files: &F,
     past: &Past,
-    run: &Run,
+    run: &'p Run,
 ) -> Result<Past, RunFault>
     ensures read { IfOk result (HasRead F.Reader.Source.failures F.Reader.Source.remaining F.is_at
         past.now run.now) }
@@ -67,7 +67,7 @@ fn read_next<F: FileSystem>(
 /// gives the policy for what comes after them all. Each file is opened when its turn comes.
 ///
 /// Where a run does not stand, it is the first, and those behind it are not looked at.
-pub fn read_runs<F: FileSystem>(alloc: Global, files: &F, runs: &[Run]) -> Result<Past, Broken>
+pub fn read_runs<'p, F: FileSystem<'p>>(alloc: Global, files: &F, runs: &'p [Run]) -> Result<Past, Broken>
     ensures stand { IfOk result (λ past. (links : List Link)
         × IsPast F.Reader.Source.failures F.Reader.Source.remaining F.is_at runs.now links past) }
     ensures broken { IfErr result (IsBroken F.Reader.Source.failures F.Reader.Source.remaining

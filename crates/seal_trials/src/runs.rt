@@ -16,12 +16,12 @@ struct Shelf<'a> {
     books: [&'a [u8]; 2],
 }
 
-impl<'a> FileSystem for Shelf<'a> {
+impl<'a, 'p> FileSystem<'p> for Shelf<'a> {
     type Reader = MemorySource<'a>;
 
     ghost is_at = { λ _ _. Unit {0} };
 
-    fn reader(&self, path: &[u8]) -> MemorySource<'a> {
+    fn reader(&self, path: &'p [u8]) -> MemorySource<'a> {
         let [first, second] = self.policies;
         let [older, newer] = self.books;
         match path {
