@@ -67,7 +67,11 @@ fn read_next<'p, F: FileSystem<'p>>(
 /// gives the policy for what comes after them all. Each file is opened when its turn comes.
 ///
 /// Where a run does not stand, it is the first, and those behind it are not looked at.
-pub fn read_runs<'p, F: FileSystem<'p>>(alloc: Global, files: &F, runs: &'p [Run]) -> Result<Past, Broken>
+pub fn read_runs<'p, F: FileSystem<'p>>(
+    alloc: Global,
+    files: &F,
+    runs: &'p [Run],
+) -> Result<Past, Broken>
     ensures stand { IfOk result (λ past. (links : List Link)
         × IsPast F.Reader.Source.failures F.Reader.Source.remaining F.is_at runs.now links past) }
     ensures broken { IfErr result (IsBroken F.Reader.Source.failures F.Reader.Source.remaining
