@@ -8,6 +8,8 @@
 #[cfg(test)]
 mod chains;
 #[cfg(test)]
+mod checks;
+#[cfg(test)]
 mod endings;
 #[cfg(test)]
 mod hostile;

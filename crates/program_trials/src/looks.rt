@@ -1,18 +1,15 @@
-//! Checks of policies, scripts and books, and reports on books: all that is told, each status with
-//! its line, and devices that fail.
-use crate::chains::{ALPHA, ALPHA_TO_N0, BETA_TO_N0, WALL, books};
+//! Reports on books, and texts: all that is told, each status with its line, and devices that fail.
+use crate::chains::{ALPHA_TO_N0, BETA_TO_N0, WALL, books};
 use crate::endings::{sink, source};
 use audit_book::read_book;
-use program_commands::{
-    CheckFiles, Devices, Earlier, ReportFiles, Streams, check_on, report_on, text_on,
-};
+use program_commands::{Devices, Earlier, ReportFiles, report_on, text_on};
 use report_page::report_page;
 use std::process::Abort;
 use std::test::Fail;
 use wall_labels::memory::{ExpectingSink, Fuse, MemorySource};
 use wall_policy::read_policy;
 
-const MEANING: &str = "banks: alpha, beta
+pub(crate) const MEANING: &str = "banks: alpha, beta
 a0 is at home at alpha
 b0 is at home at beta
 n0 has no home
@@ -74,118 +71,8 @@ why posts were barred:
 why instances were denied:
 ";
 
-fn whole<'a>(text: &'a str) -> MemorySource<'a> {
+pub(crate) fn whole<'a>(text: &'a str) -> MemorySource<'a> {
     source(text.as_bytes(), Fuse::Whole)
-}
-
-// Whether a check of these files comes to this status and writes this, as far as the writer takes
-// it, and this line.
-fn checks_so(
-    rt: &impl AllocGlobal,
-    policy: &str,
-    script: Option<&str>,
-    book: Option<&str>,
-    said: &str,
-    line: &str,
-    status: u8,
-) -> bool {
-    let mut policy = whole(policy);
-    let script = match script {
-        Some(text) => Some(whole(text)),
-        None => None,
-    };
-    let book = match book {
-        Some(text) => Some(whole(text)),
-        None => None,
-    };
-    let mut out = sink(said.as_bytes(), Fuse::Whole);
-    let mut err = sink(line.as_bytes(), Fuse::Whole);
-    let files = CheckFiles {
-        policy_path: "policy.toml",
-        script_path: "calls.txt",
-        script,
-        book_path: "calls.book",
-        book,
-    };
-    let streams = Streams {
-        out: &mut out,
-        err: &mut err,
-    };
-    let ended = check_on(rt.alloc(), &mut policy, files, streams);
-    let is_all = out.rest.is_empty() && err.rest.is_empty();
-    ended == status && is_all && out.is_same && err.is_same
-}
-
-#[test]
-fn checks_tell_of_each_file(rt: HostRuntime) -> Result<(), Fail> {
-    assert!(&rt; checks_so(&rt, WALL, None, None, MEANING, "", 0));
-    assert!(&rt; checks_so(&rt, WALL, Some(ALPHA), None, MEANING, "", 0));
-    let told = format!(in rt.alloc(); "{MEANING}sound 8\n")?;
-    assert!(&rt; checks_so(&rt, WALL, Some(ALPHA), Some(ALPHA_TO_N0), &told, "", 0));
-    let bad = "info 0 0\nfoo\ntake 0\n";
-    let lines = "calls.txt:2:1: \"foo\" is no verb (post, take, info)
-calls.txt:3:7: a field is missing at the end of the line
-";
-    let told = format!(in rt.alloc(); "{MEANING}{lines}sound 8\n")?;
-    let line = "script: line 2: BadVerb\n";
-    assert!(&rt; checks_so(&rt, WALL, Some(bad), Some(ALPHA_TO_N0), &told, line, 2));
-    Ok(())
-}
-
-// The first that is at fault decides: policy, script, book.
-#[test]
-fn checks_end_by_the_first_fault(rt: HostRuntime) -> Result<(), Fail> {
-    let spoilt = "book 1\npost 0 0 barrier gives 0 as none barred\nend 1\n";
-    let post = "calls.book:2: a post stands with another last word; due was: passed\n";
-    let told = format!(in rt.alloc(); "{MEANING}{post}")?;
-    assert!(&rt; checks_so(&rt, WALL, Some(ALPHA), Some(spoilt), &told, "", 2));
-    let told = format!(in rt.alloc(); "{MEANING}calls.book: the text stops before its end\n")?;
-    let cut = "book: cut\n";
-    assert!(&rt; checks_so(&rt, WALL, Some(ALPHA), Some("book 1\n"), &told, cut, 2));
-    let told = format!(in rt.alloc(); "{MEANING}calls.book:2: \"end 4\" where 0 entries stand\n")?;
-    let other = "book 1\nend 4\n";
-    assert!(&rt; checks_so(&rt, WALL, None, Some(other), &told, "book: line 2\n", 2));
-    let none = "# a comment\nversion = 3\n";
-    let told = "policy.toml:2: the version is neither 1 nor 2\n";
-    let line = "policy: BadVersion\n";
-    assert!(&rt; checks_so(&rt, none, Some(ALPHA), None, told, line, 1));
-    let typo = WALL.replace(rt.alloc(), "home = \"beta\"", "hme = \"beta\"")?;
-    let (told, line) = (
-        "policy.toml:10: unknown key \"hme\" in [[process]]\n",
-        "policy: UnknownKey\n",
-    );
-    assert!(&rt; checks_so(&rt, typo.as_str(), None, None, told, line, 1));
-    Ok(())
-}
-
-// A policy that is refused has a sentence, also where its fault stands on no line.
-#[test]
-fn each_refused_policy_has_its_sentence(rt: HostRuntime) -> Result<(), Fail> {
-    let bad = "policy: BadVersion\n";
-    let told = "policy.toml: there is no version\n";
-    assert!(&rt; checks_so(&rt, "# a comment\n", None, None, told, bad, 1));
-    let missing = "policy: MissingKey\n";
-    let told = "policy.toml: there is no [[process]]\n";
-    assert!(&rt; checks_so(&rt, "version = 2\n", None, None, told, missing, 1));
-    let told = "policy.toml:2: \"process\" is not given by tables [[process]]\n";
-    assert!(&rt;
-        checks_so(
-            &rt,
-            "version = 2\nprocess = []\n",
-            None,
-            None,
-            told,
-            missing,
-            1
-        )
-    );
-    let single = "version = 2\n[class]\nname = \"banks\"\n";
-    let told = "policy.toml:2: \"class\" is not given by tables [[class]]\n";
-    assert!(&rt; checks_so(&rt, single, None, None, told, missing, 1));
-    let kind = WALL.replace(rt.alloc(), "home = \"beta\"", "home = 7")?;
-    let told = "policy.toml:10: \"home\" in [[process]] has another kind of value than it should\n";
-    assert!(&rt; checks_so(&rt, kind.as_str(), None, None, told, missing, 1));
-    Ok(())
 }
 
 // Whether a report after earlier books writes this, and the line, with this status.

@@ -91,6 +91,14 @@ const ASKED: &[(&[&str], &str)] = &[
     (&["check", "w", "s"], "check w s none"),
     (&["check", "w", "--book", "b"], "check w none b"),
     (&["check", "--book=b", "w", "s"], "check w s b"),
+    (
+        &["check", "w", "--book", "b", "--after", "x"],
+        "check w none b x",
+    ),
+    (
+        &["check", "--after=x", "w", "--after", "y", "--book=b", "s"],
+        "check w s b x y",
+    ),
     (&["report", "w", "b"], "report w b none"),
     (
         &["report", "--after", "x", "w", "--after=y", "b"],
@@ -177,6 +185,8 @@ const BAD: &[&[&str]] = &[
     &["check", "w", "s", "b"],
     &["check", "w", "s", "--book"],
     &["check", "w", "--after", "x"],
+    &["check", "w", "s", "--after=x"],
+    &["check", "w", "--book", "b", "--after"],
     &["report", "w"],
     &["report", "w", "b", "c"],
     &["report", "w", "b", "--book", "c"],
@@ -208,11 +218,6 @@ const BAD: &[&[&str]] = &[
 // A command that goes on after no earlier books.
 fn tell_plain(text: &mut String, command: &Command) -> Result<(), Fail> {
     match command {
-        Command::Check(paths) => {
-            let script = paths.script.unwrap_or("none");
-            let book = paths.book.unwrap_or("none");
-            write!(text, "check {} {script} {book}", paths.policy)?;
-        }
         Command::Usage(command) => {
             let command = command.unwrap_or("none");
             write!(text, "usage {command}")?;
@@ -251,6 +256,12 @@ fn told(alloc: Global, words: &[&str]) -> Result<String, Fail> {
         }
         Ok(Command::Seal(paths)) => {
             write!(text, "seal {} {} {}", paths.policy, paths.book, paths.out)?;
+            paths.after
+        }
+        Ok(Command::Check(paths)) => {
+            let script = paths.script.unwrap_or("none");
+            let book = paths.book.unwrap_or("none");
+            write!(text, "check {} {script} {book}", paths.policy)?;
             paths.after
         }
         Ok(Command::Report(paths)) => {

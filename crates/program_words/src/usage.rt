@@ -140,8 +140,8 @@ number of times, the oldest first, the book is one that goes on after earlier on
 
 status  0  all of it reads, and the book is sound
         1  the policy is refused                             policy: NAME
-        2  an earlier book is no book, or not sound          after PATH: ..
         2  a line of the script is no call                   script: line N: NAME
+        2  an earlier book is no book, or not sound          after PATH: ..
         2  the book is unsound                               PATH:LINE: .., on standard output
         2  the file is no book                               book: line N, book: cut
         3  a file could not be read, or is too long          cannot read PATH: ..
