@@ -164,14 +164,18 @@ impl<'a, R: AllocGlobal + Threads + Wait + Sync> PipeServer<'a, R> {
     }
 
     // Serves, between the first event and the last.
-    fn serve_while_told<S: Desk<O> + Send + Drop, O: Sink + Send + Drop, E: Sink>(
+    fn serve_while_told<S, O, E: Sink>(
         &self,
         policy: &Policy,
         peers: Vec<Peer<S, O>>,
         book: Option<NewBook>,
         events: &Events,
         err: &mut E,
-    ) -> Ended {
+    ) -> Ended
+    where
+        S: Desk<O, Option<FileReceipt>> + Send + Drop,
+        O: Sink + Send + Drop,
+    {
         let rt = self.rt;
         events.tell(rt, Event::Serving(policy.processes()));
         let ended = match book {
@@ -197,7 +201,7 @@ fn serve_keeping<R, S, O, E: Sink, B: Ledger + Send>(
 ) -> Ended
 where
     R: AllocGlobal + Threads + Wait + Sync,
-    S: Desk<O> + Send + Drop,
+    S: Desk<O, Option<FileReceipt>> + Send + Drop,
     O: Sink + Send + Drop,
     requires { Opens book.blank B.name B.parts }
 {
@@ -214,7 +218,7 @@ fn serve_bookless<R, S, O, E: Sink>(
 ) -> Ended
 where
     R: AllocGlobal + Threads + Wait + Sync,
-    S: Desk<O> + Send + Drop,
+    S: Desk<O, Option<FileReceipt>> + Send + Drop,
     O: Sink + Send + Drop,
 {
     let_go(serve_on::<_, _, _, _, BookFile<Brand>>(rt, rt.alloc(), policy, peers, err, None))

@@ -9,6 +9,7 @@ use Rattle.run_model.specs.declared.reply.Reply.{Reply}
 use Rattle.run_model.specs.Runs.{Entry, entry}
 use Rattle.run_model.specs.Replies.{Legal}
 use Rattle.hall_turn.specs.Runs.{Continues, calls_of}
+use Rattle.hall_turn.specs.Receipts.{Covered}
 use Rattle.hall_turn.specs.Known.{Doorway}
 use Rattle.hall_turn.specs.Answers.{SeesOn, EntersAnd}
 use Rattle.hall_turn.specs.Machines.{Carries, Settles}
@@ -155,16 +156,17 @@ module _ {M : Type 0} (stands : ChineseWall → M → List Entry → Type 0) whe
 
   -- the machine that carried it out, at the end of the turn
   pub stood_after : (v : SeatView) (m1 m2 m3 m4 m5 : Me (Option M) SeatView)
-      (in_slot after : Option M) (call : Call) (reply : Reply) (is_booked : M → Bool) (b : Bool)
+      (in_slot after : Option M) (call : Call) (reply : Reply) (booked : M → Option Covered)
+      (b : Option Covered)
       → m1.0.policy ≡ v.policy → HoldsMachine stands m1.0 m2 → m2.1 ≡ (0, in_slot) ∷ rest m2.1
       → m3 ≡ (m2.0, (0, after) ∷ rest m2.1)
       → m4 ≡ (declared m3.0 (entry call reply), m3.1)
       → (e : Entry) × (m4.0.said ≡ Some e) × (m5 ≡ (served m4.0 e, []))
       → (old : M) × (new : M) × (in_slot ≡ Some old) × (after ≡ Some new)
       × Carries stands old new call reply
-      → ((new : M) → after ≡ Some new → b ≡ is_booked new)
-      → (machine : M) × stands v.policy machine m5.0.seen × (b ≡ is_booked machine)
-  stood_after v m1 m2 m3 m4 m5 in_slot after call reply is_booked b policy holds slot writes
+      → ((new : M) → after ≡ Some new → b ≡ booked new)
+      → (machine : M) × stands v.policy machine m5.0.seen × (b ≡ booked machine)
+  stood_after v m1 m2 m3 m4 m5 in_slot after call reply booked b policy holds slot writes
       declares serves carries books =
       let same : holds.machine ≡ carries.0 = cc (was_machine m1.0 m2 in_slot holds slot, carries.2)
       in
@@ -184,7 +186,7 @@ module _ {M : Type 0} (stands : ChineseWall → M → List Entry → Type 0) whe
       )
 
   -- a look of a seat between two calls
-  pub sees_on : (door d : Doorway) (p : ℕ) (b b' k k' : Bool) (r : ℕ) (st : Step (Option M))
+  pub sees_on : (door d : Doorway) (p : ℕ) (b b' : Bool) (k k' : Option Covered) (r : ℕ) (st : Step (Option M))
       (m m' : Me (Option M) SeatView) → IsIdle p m → Looks stands st m r m'
       →
       SeesOn (record { door = door; process = p; seen = m.0.seen; settled = b; booked = k })
@@ -198,7 +200,7 @@ module _ {M : Type 0} (stands : ChineseWall → M → List Entry → Type 0) whe
       }
 
   -- what a deed that was carried out does
-  pub carried : (door d : Doorway) (p : ℕ) (b b' k k' : Bool) (e : Entry)
+  pub carried : (door d : Doorway) (p : ℕ) (b b' : Bool) (k k' : Option Covered) (e : Entry)
       (Tells : ChineseWall → List Entry → Type 0) (r : ℕ) (st : Step (Option M))
       (m m1 m2 : Me (Option M) SeatView)
       → door.policy ≡ m.0.policy → e.call.process ≡ p

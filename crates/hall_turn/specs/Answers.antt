@@ -1,6 +1,6 @@
 -- What a call at a door does to the pass. (Own rules.)
-use Rattle.std.specs.Prelude.{◌≡◌, ◌↔◌, ℕ, ◌^◌, ◌≤◌, List, [], ◌∷◌, length, map, Bool, true, false}
-use Rattle.std.specs.Prelude.{IsTrue}
+use Rattle.std.specs.Prelude.{◌≡◌, ◌↔◌, ℕ, ◌^◌, ◌≤◌, List, [], ◌∷◌, length, map, Bool, false, IsTrue}
+use Rattle.std.specs.Prelude.{Option, None}
 use Rattle.run_model.specs.declared.call.Act.{Act}
 use Rattle.mpi_cart.specs.Grids.{below}
 use Rattle.run_model.specs.Runs.{Entry, entry}
@@ -12,13 +12,14 @@ use Rattle.hall_turn.specs.declared.answer.Claimed.TheVariants as claimed
 use Rattle.hall_turn.specs.declared.answer.Answer.{Answer}
 use Rattle.hall_turn.specs.declared.answer.Answer.TheVariants.{Reply as Replied, Exhausted}
 use Rattle.hall_turn.specs.Runs.{Continues, calls_of}
+use Rattle.hall_turn.specs.Receipts.{Covered}
 use Rattle.hall_turn.specs.Known.{Doorway, Known}
 use Rattle.hall_turn.specs.Machines.{ClaimsAfter, Settles}
 
 -- the pass of a process at a new door
 abbrev pub new_pass : Doorway → (process : ℕ) → Known
 new_pass door process =
-    record { door = door; process = process; seen = []; settled = false; booked = true }
+    record { door = door; process = process; seen = []; settled = false; booked = None }
 
 -- the passes of so many processes, in order
 abbrev pub new_passes : Doorway → (processes : ℕ) → List Known
@@ -68,13 +69,14 @@ abbrev pub SaysOf : (before : Known) → Answer → (after : Known) → Type 0
 SaysOf before (Replied reply) after = SaysWhether after
 SaysOf before Exhausted after = after.settled ≡ before.settled
 
-module _ {M : Type 0} (stands : ChineseWall → M → List Entry → Type 0) (is_booked : M → Bool) where
+module _ {M : Type 0} (stands : ChineseWall → M → List Entry → Type 0)
+    (booked : M → Option Covered) where
   -- There is the machine as it was at the end of the turn that made the newest entry which the
-  -- pass has seen: it stands for exactly what the pass has seen, and the pass says whether it was
-  -- booked.
+  -- pass has seen: it stands for exactly what the pass has seen, and the pass's receipt is one that
+  -- it gave then, if it was booked.
   abbrev pub SaysBooked : Known → Type 0
   SaysBooked after = (machine : M) × stands after.door.policy machine after.seen
-      × (after.booked ≡ is_booked machine)
+      × (after.booked ≡ booked machine)
 
   -- so it says where the call was made; where it was not, it says what it said before
   abbrev pub StoodAt : (before : Known) → Answer → (after : Known) → Type 0
@@ -102,11 +104,11 @@ SaysOfClaim before (claimed.Claim claim) after = SaysWhether after
 SaysOfClaim before claimed.Exhausted after = after.settled ≡ before.settled
 
 -- and so of the machine
-abbrev pub ClaimStoodAt : {M : Type 0} → (ChineseWall → M → List Entry → Type 0) → (M → Bool)
-    → (before : Known) → Claimed → (after : Known) → Type 0
-ClaimStoodAt stands is_booked before (claimed.Claim claim) after =
-    SaysBooked stands is_booked after
-ClaimStoodAt stands is_booked before claimed.Exhausted after = after.booked ≡ before.booked
+abbrev pub ClaimStoodAt : {M : Type 0} → (ChineseWall → M → List Entry → Type 0)
+    → (M → Option Covered) → (before : Known) → Claimed → (after : Known) → Type 0
+ClaimStoodAt stands booked before (claimed.Claim claim) after =
+    SaysBooked stands booked after
+ClaimStoodAt stands booked before claimed.Exhausted after = after.booked ≡ before.booked
 
 -- a claim that was made may be finished
 abbrev pub MayFinish : Claimed → Type 0

@@ -152,14 +152,14 @@ impl<M: Machine + Drop> DoorTo<M> {
                 seat,
                 process,
                 settled: false,
-                booked: true,
+                receipt: None,
             });
         }
         passes.push_reserved(PassTo {
             seat: maker,
             process: last,
             settled: false,
-            booked: true,
+            receipt: None,
         });
         passes
     }
@@ -180,7 +180,7 @@ impl<M: Machine> DoorTo<M> {
         ensures answered { Answered pass.old (ToPost posting) result pass.new }
         ensures named { NamesKnown self.now.policy result }
         ensures settled { SaysOf pass.old result pass.new }
-        ensures stood { StoodAt M.stands M.is_booked pass.old result pass.new }
+        ensures stood { StoodAt M.stands M.booked pass.old result pass.new }
     {
         self.call(rt, pass, Act::Post(posting))
     }
@@ -197,7 +197,7 @@ impl<M: Machine> DoorTo<M> {
         ensures answered { Answered pass.old (ToTake request) result pass.new }
         ensures named { NamesKnown self.now.policy result }
         ensures settled { SaysOf pass.old result pass.new }
-        ensures stood { StoodAt M.stands M.is_booked pass.old result pass.new }
+        ensures stood { StoodAt M.stands M.booked pass.old result pass.new }
     {
         match self.claim(rt, pass, request) {
             Claimed::Claim(claim) => Answer::Reply(finish(claim)),
@@ -218,7 +218,7 @@ impl<M: Machine> DoorTo<M> {
         ensures may { MayFinish result }
         ensures named { ClaimNamesKnown self.now.policy result }
         ensures settled { SaysOfClaim pass.old result pass.new }
-        ensures stood { ClaimStoodAt M.stands M.is_booked pass.old result pass.new }
+        ensures stood { ClaimStoodAt M.stands M.booked pass.old result pass.new }
     {
         let claiming = Claiming {
             process: pass.process,
@@ -240,7 +240,7 @@ impl<M: Machine> DoorTo<M> {
         ensures answered { Answered pass.old (ToInfo comm) result pass.new }
         ensures named { NamesKnown self.now.policy result }
         ensures settled { SaysOf pass.old result pass.new }
-        ensures stood { StoodAt M.stands M.is_booked pass.old result pass.new }
+        ensures stood { StoodAt M.stands M.booked pass.old result pass.new }
     {
         self.call(rt, pass, Act::Info(comm))
     }
@@ -254,7 +254,7 @@ impl<M: Machine> DoorTo<M> {
         ensures answered { Answered pass.old act result pass.new }
         ensures named { NamesKnown self.now.policy result }
         ensures settled { SaysOf pass.old result pass.new }
-        ensures stood { StoodAt M.stands M.is_booked pass.old result pass.new }
+        ensures stood { StoodAt M.stands M.booked pass.old result pass.new }
     {
         let call = Call {
             process: pass.process,
@@ -284,7 +284,7 @@ impl<M: Machine> DoorTo<M> {
         ensures named { IfSome result (λ told. IsKnownReply self.now.policy (D.reply told)) }
         ensures exhausted { IfNone result (IsTooLate pass.old pass.new) }
         ensures settled { IfSome result (λ _. SaysWhether pass.new) }
-        ensures stood { IfSome result (λ _. SaysBooked M.stands M.is_booked pass.new) }
+        ensures stood { IfSome result (λ _. SaysBooked M.stands M.booked pass.new) }
         ensures kept { IfNone result ((pass.new.settled ≡ pass.old.settled)
             × (pass.new.booked ≡ pass.old.booked)) }
     {
@@ -296,7 +296,7 @@ impl<M: Machine> DoorTo<M> {
             &mut pass.seat,
             deed,
             &mut pass.settled,
-            &mut pass.booked,
+            &mut pass.receipt,
         );
         Some(told)
     }

@@ -1,6 +1,6 @@
 //! The steps of a turn.
 ghost use Rattle.std.specs.Prelude.{◌≡◌, ◌+◌, ◌^◌, ◌<◌, ◌↔◌, [], true, false};
-ghost use Rattle.std.specs.Prelude.{IsTrue, Some, None, length};
+ghost use Rattle.std.specs.Prelude.{IsTrue, Some, None, length, option_map};
 ghost use mathlib.Core.Option.{none};
 ghost use Rattle.atomic_table.specs.Table.{step};
 ghost use Rattle.run_model.specs.Runs.{entry};
@@ -43,12 +43,12 @@ fn pause(looks: u32) -> u32
 }
 
 // The machine in the slot carries out the deed, where it lies. It is noted whether that settled an
-// instance, and whether the machine is booked then.
+// instance, and what the machine then gives a receipt of.
 fn carry_out_in<M: Machine, D: Deed>(
     slot: &mut Option<M>,
     deed: D,
     settled: &mut bool,
-    booked: &mut bool,
+    receipt: &mut Option<M::Receipt>,
 ) -> D::Told
     requires { (machine : M) × (slot.old ≡ Some machine)
         × MayCarryOut M.stands machine (λ wall. D.may wall deed) }
@@ -58,11 +58,12 @@ fn carry_out_in<M: Machine, D: Deed>(
         → ForEachRun M.stands old (λ wall run. D.tells wall run deed result) }
     ensures settled { (old : M) → slot.old ≡ Some old
         → TellsWhether M.stands old settled.new (entry (D.call deed) (D.reply result)) }
-    ensures booked { (new : M) → slot.new ≡ Some new → booked.new ≡ M.is_booked new }
+    ensures booked { (new : M) → slot.new ≡ Some new →
+        option_map M.Receipt.covers receipt.new ≡ M.booked new }
 {
     let Some(machine) = slot else { unreachable!() };
     let told = deed.carry_out(machine, settled);
-    *booked = machine.is_booked();
+    *receipt = machine.receipt();
     told
 }
 
@@ -180,7 +181,7 @@ impl<M: Machine> Turns<M> {
         seat: &mut Seat<Option<M>, View>,
         deed: D,
         settled: &mut bool,
-        booked: &mut bool,
+        receipt: &mut Option<M::Receipt>,
     ) -> D::Told
         requires at { seat.old.table_id ≡ self.now.table.shared.table_id }
         requires idle { IsIdle (D.call deed).process seat.old.me }
@@ -198,13 +199,13 @@ impl<M: Machine> Turns<M> {
             ↔ Settles seat.old.me.0.policy run (entry (D.call deed) (D.reply result))) }
         ensures stood { (machine : M)
             × M.stands seat.old.me.0.policy machine seat.new.me.0.seen
-            × (booked.new ≡ M.is_booked machine) }
+            × (option_map M.Receipt.covers receipt.new ≡ M.booked machine) }
     {
         let ticket = self.draw(seat);
         self.await_turn(rt, seat, ticket);
         let asked = Snapshot::of(&deed);
         let slot = seat.slot_mut(&self.table.shared, SLOT);
-        let told = carry_out_in(slot, deed, settled, booked);
+        let told = carry_out_in(slot, deed, settled, receipt);
         self.declare::<Brand, D>(seat, &asked, &told);
         self.serve(seat);
         told

@@ -4,24 +4,26 @@ ghost use Rattle.std.specs.Prelude.{◌≡◌, [], IfOk};
 use hall_core::{BriefHall, Call, Claim, NoMemory};
 use hall_turn::Applied;
 use std::alloc::Global;
-use std::marker::Model;
+use std::marker::{Model, PhantomData};
 use wall_policy::Policy;
 
 /// A hall for a server that keeps no book: it forgets the entries of each call. Contracts see what
-/// a hall keeps that has its whole book.
-pub struct BooklessHall {
+/// a hall keeps that has its whole book. Where a book were kept there would be receipts of type T:
+/// so its sessions stand at the same desks.
+pub struct BooklessHall<T> {
     hall: BriefHall,
+    of: PhantomData<T>,
 }
 
 // By hand: a derived one is proved anew in each crate that drops one.
-impl Drop for BooklessHall {
+impl<T> Drop for BooklessHall<T> {
     fn drop(self) {
-        let BooklessHall { hall } = self;
+        let BooklessHall { hall, of: _ } = self;
         drop(hall);
     }
 }
 
-impl Model for BooklessHall {
+impl<T> Model for BooklessHall<T> {
     ghost use Rattle.std.specs.Prelude.{◌≡◌, []};
     ghost use Rattle.std.specs.Coded.{codes};
     ghost use Rattle.wall_rules.specs.Histories.{accesses_code};
@@ -36,7 +38,7 @@ impl Model for BooklessHall {
     ghost invariant = { λ b. b.hall.news ≡ [] };
 }
 
-impl BooklessHall {
+impl<T> BooklessHall<T> {
     ghost use Rattle.run_model.specs.Runs.{effects, entry};
     ghost use Rattle.run_model.specs.Known.{HasKnownLabel};
     ghost use Rattle.hall_core.specs.Claims.{CanFinish, Claims, claim_entry, claim_reply, to_take};
@@ -47,12 +49,15 @@ impl BooklessHall {
 
     /// A hall that stands for the empty run. `NoMemory` is answered only where a growth was
     /// refused.
-    pub fn open(alloc: Global, policy: Policy) -> Result<BooklessHall, NoMemory>
+    pub fn open(alloc: Global, policy: Policy) -> Result<BooklessHall<T>, NoMemory>
         ensures stands { IfOk result (λ hall. StandsFor hall []) }
         ensures policy { IfOk result (λ hall. hall.policy ≡ policy) }
     {
         match BriefHall::open(alloc, policy) {
-            Ok(hall) => Ok(BooklessHall { hall }),
+            Ok(hall) => Ok(BooklessHall {
+                hall,
+                of: PhantomData,
+            }),
             Err(_) => Err(NoMemory),
         }
     }

@@ -1,6 +1,6 @@
 //! Halls as machines behind a door.
 ghost use Rattle.hall_turn.specs.Machines.{Stands};
-ghost use Rattle.live_book.specs.Books.{StandsBehind, is_all_booked};
+ghost use Rattle.live_book.specs.Books.{StandsBehind, covered};
 ghost use Rattle.live_book.specs.Machines.{has_no_book};
 
 use crate::begun::Begun;
@@ -8,12 +8,14 @@ use crate::booked::BookedHall;
 use crate::bookless::BooklessHall;
 use crate::sink::BookSink;
 use hall_core::{Call, Claim};
-use hall_turn::{Applied, Machine};
+use hall_turn::{Applied, Machine, Receipt};
 
 impl<B: BookSink, K: Begun> Machine for BookedHall<B, K> {
+    type Receipt = Option<B::Receipt>;
+
     ghost stands = { StandsBehind K.begun };
 
-    ghost is_booked = { is_all_booked };
+    ghost booked = { covered };
 
     fn apply(&mut self, call: Call) -> Applied {
         BookedHall::apply(self, call)
@@ -23,16 +25,21 @@ impl<B: BookSink, K: Begun> Machine for BookedHall<B, K> {
         BookedHall::claim(self, process, request)
     }
 
-    fn is_booked(&self) -> bool {
-        BookedHall::is_booked(self)
+    fn receipt(&self) -> Option<Option<B::Receipt>> {
+        match BookedHall::receipt(self) {
+            Some(receipt) => Some(Some(receipt)),
+            None => None,
+        }
     }
 }
 
-/// It has nothing to write, and so is always booked.
-impl Machine for BooklessHall {
+/// It has nothing to write, and so is always booked, without a receipt of any book.
+impl<T: Receipt + Drop> Machine for BooklessHall<T> {
+    type Receipt = Option<T>;
+
     ghost stands = { Stands };
 
-    ghost is_booked = { has_no_book };
+    ghost booked = { has_no_book };
 
     fn apply(&mut self, call: Call) -> Applied {
         BooklessHall::apply(self, call)
@@ -42,7 +49,7 @@ impl Machine for BooklessHall {
         BooklessHall::claim(self, process, request)
     }
 
-    fn is_booked(&self) -> bool {
-        true
+    fn receipt(&self) -> Option<Option<T>> {
+        Some(None)
     }
 }

@@ -1,9 +1,10 @@
 //! Does what a line asks for.
-ghost use Rattle.std.specs.Prelude.{◌≡◌, Ok};
+ghost use Rattle.std.specs.Prelude.{◌≡◌, Ok, Option, is_some};
 ghost use Rattle.run_model.specs.declared.call.Act.TheVariants.{Take};
 ghost use Rattle.run_model.specs.Known.{HasKnownLabel};
 ghost use Rattle.run_model.specs.Replies.{Legal};
 ghost use Rattle.hall_script.specs.Asks.{AsksWithKnownLabel};
+ghost use Rattle.hall_turn.specs.Receipts.{Covered};
 ghost use Rattle.hall_turn.specs.Answers.{Answered, IsSamePass, NamesKnown, ClaimAnswered};
 ghost use Rattle.hall_turn.specs.Answers.{ClaimNamesKnown, MayFinish, StoodAt, ClaimStoodAt};
 ghost use Rattle.live_session.specs.Sessions.{Stood};
@@ -34,17 +35,16 @@ pub(crate) enum Came {
 // its turn. It counts as one call, if it was made. Whoever waits is told of a machine that is not
 // booked.
 fn came_of<R: Wait>(rt: &R, seat: &mut Seat, answer: Answer, is_booked: bool) -> Came
-    ensures { result ≡ came_of answer is_booked }
+    ensures { (booked : Option Covered) → is_booked ≡ is_some booked →
+        result ≡ came_of answer booked }
 {
-    if !is_booked {
-        seat.tell_unbooked(rt);
-    }
     match answer {
         Answer::Reply(reply) => {
             seat.called();
             if is_booked {
                 Came::Reply(reply)
             } else {
+                seat.tell_unbooked(rt);
                 Came::Unbooked
             }
         }
@@ -59,7 +59,7 @@ impl<'s, R: Wait, M: Machine> Setting<'s, R, M> {
         ensures same { IsSamePass pass.old pass.new }
         ensures legal { Legal self.now.door.now.policy pass.new.seen }
         ensures answered { ClaimAnswered pass.old request result pass.new }
-        ensures stood { ClaimStoodAt M.stands M.is_booked pass.old result pass.new }
+        ensures stood { ClaimStoodAt M.stands M.booked pass.old result pass.new }
         ensures may { MayFinish result }
         ensures named { ClaimNamesKnown self.now.door.now.policy result }
     {
@@ -75,7 +75,7 @@ impl<'s, R: Wait, M: Machine> Setting<'s, R, M> {
         ensures same { IsSamePass pass.old pass.new }
         ensures legal { Legal self.now.door.now.policy pass.new.seen }
         ensures answered { Answered pass.old (Take request) result pass.new }
-        ensures stood { StoodAt M.stands M.is_booked pass.old result pass.new }
+        ensures stood { StoodAt M.stands M.booked pass.old result pass.new }
         ensures named { NamesKnown self.now.door.now.policy result }
     {
         match self.claim(pass, request) {
@@ -95,7 +95,7 @@ impl<'s, R: Wait, M: Machine> Setting<'s, R, M> {
         requires door { pass.old.door ≡ self.now.door.now }
         ensures same { IsSamePass pass.old pass.new }
         ensures legal { Legal self.now.door.now.policy pass.new.seen }
-        ensures waited { Waited (Stood M.stands M.is_booked) pass.old request result pass.new }
+        ensures waited { Waited (Stood M.stands M.booked) pass.old request result pass.new }
         ensures named { NamesKnown self.now.door.now.policy result }
     {
         match self.take(pass, seat, request) {
@@ -124,7 +124,7 @@ impl<'s, R: Wait, M: Machine> Setting<'s, R, M> {
         ensures same { IsSamePass pass.old pass.new }
         ensures legal { Legal self.now.door.now.policy pass.new.seen }
         ensures answered { Answered pass.old act result pass.new }
-        ensures stood { StoodAt M.stands M.is_booked pass.old result pass.new }
+        ensures stood { StoodAt M.stands M.booked pass.old result pass.new }
         ensures named { NamesKnown self.now.door.now.policy result }
     {
         match act {
@@ -158,7 +158,7 @@ impl<'s, R: Wait, M: Machine> Setting<'s, R, M> {
         requires label { AsksWithKnownLabel self.now.door.now.policy ask }
         ensures same { IsSamePass pass.old pass.new }
         ensures legal { Legal self.now.door.now.policy pass.new.seen }
-        ensures came { CameTo (Stood M.stands M.is_booked) pass.old ask result pass.new }
+        ensures came { CameTo (Stood M.stands M.booked) pass.old ask result pass.new }
         ensures named { CameNamesKnown self.now.door.now.policy result }
     {
         match ask {

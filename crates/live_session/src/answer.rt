@@ -3,12 +3,14 @@ ghost use Rattle.std.specs.Prelude.{◌≡◌, List, ℕ, [], OnOk, IfOk};
 ghost use Rattle.run_model.specs.Replies.{Legal};
 ghost use Rattle.hall_turn.specs.Answers.{IsSamePass};
 ghost use Rattle.hall_script.specs.Devices.{used};
+ghost use Rattle.live_session.specs.Hearing.{Tells};
 ghost use Rattle.live_session.specs.Lines.{said};
 ghost use Rattle.live_session.specs.Sessions.{Stood};
 ghost use Rattle.live_session.specs.Steps.{Holds, CameNamesKnown, line_to, next_after, PutsAnswer};
-ghost use Rattle.live_session.specs.Steps.{AnswersLine};
+ghost use Rattle.live_session.specs.Steps.{AnswersLine, IsUnread, showing, shown_next};
 
 use crate::acting::Came;
+use crate::desk::Desk;
 use crate::ending::SessionEnd;
 use crate::line::{Lines, bad_line, give_back};
 use crate::seat::Seat;
@@ -23,7 +25,9 @@ use wall_policy::Policy;
 /// How a session goes on after a line.
 #[derive(Clone, Copy)]
 pub(crate) enum Next {
-    /// It acts on the next line.
+    /// It acts on the next line. This one made a call, and its reply is told.
+    Replied,
+    /// It acts on the next line. This one asked for nothing.
     GoesOn,
     /// It ends: the line said `leave`.
     Left,
@@ -42,7 +46,7 @@ fn put_came(policy: &Policy, came: &Came, text: &mut Vec<u8>) -> Result<Next, No
 {
     match came {
         Came::Reply(reply) => match write_reply(policy, reply, text) {
-            Ok(()) => Ok(Next::GoesOn),
+            Ok(()) => Ok(Next::Replied),
             Err(_) => Err(NoMemory),
         },
         Came::Left => match put(text, "left\n") {
@@ -60,6 +64,29 @@ fn put_came(policy: &Policy, came: &Came, text: &mut Vec<u8>) -> Result<Next, No
     }
 }
 
+// Where a reply comes next, the desk is shown the receipt of its call.
+fn show_receipt<M: Machine, S: Desk<O, M::Receipt>, O: Sink>(
+    pass: &PassTo<M>,
+    next: Next,
+    source: &mut S,
+    sink: &O,
+)
+    ensures unread { IsUnread S.failures S.remaining S.heard source.old source.new }
+    ensures shows { Tells (S.heard source.old).shows (S.heard source.new).shows
+        (shown_next next pass.now.booked (O.contents sink.now)) }
+{
+    match next {
+        Next::Replied => match pass.receipt() {
+            Some(receipt) => source.show(sink, receipt),
+            None => {}
+        },
+        Next::GoesOn => {}
+        Next::Left => {}
+        Next::Exhausted => {}
+        Next::Unbooked => {}
+    }
+}
+
 impl<'s, R: Wait, M: Machine> Setting<'s, R, M> {
     // Acts on a finished line, and puts its answer.
     fn put_answer(
@@ -74,7 +101,7 @@ impl<'s, R: Wait, M: Machine> Setting<'s, R, M> {
         ensures same { IsSamePass pass.old pass.new }
         ensures legal { Legal self.now.policy.now pass.new.seen }
         ensures puts { (bytes : List ℕ) → Holds lines.old.line bytes →
-            PutsAnswer (Stood M.stands M.is_booked) self.now.policy.now pass.old
+            PutsAnswer (Stood M.stands M.booked) self.now.policy.now pass.old
             (said self.now.policy.now.dataset_names bytes) lines.new.text.items pass.new result }
     {
         match lines.line.read(self.alloc, self.policy) {
@@ -90,12 +117,14 @@ impl<'s, R: Wait, M: Machine> Setting<'s, R, M> {
         }
     }
 
-    /// Acts on a finished line, and writes its answer.
-    pub(crate) fn answer_line<O: Sink>(
+    /// Acts on a finished line, and writes its answer. The desk is shown the receipt of its last
+    /// call before a reply is written.
+    pub(crate) fn answer_line<S: Desk<O, M::Receipt>, O: Sink>(
         &self,
         pass: &mut PassTo<M>,
         seat: &mut Seat,
         lines: &mut Lines,
+        source: &mut S,
         sink: &mut O,
     ) -> Result<(), SessionEnd>
         requires door { pass.old.door ≡ self.now.door.now }
@@ -104,19 +133,23 @@ impl<'s, R: Wait, M: Machine> Setting<'s, R, M> {
         ensures none { OnOk result (lines.new.text.items ≡ []) }
         ensures same { IsSamePass pass.old pass.new }
         ensures legal { Legal self.now.policy.now pass.new.seen }
+        ensures unread { IsUnread S.failures S.remaining S.heard source.old source.new }
         ensures answers { (bytes : List ℕ) → Holds lines.old.line bytes →
-            AnswersLine (Stood M.stands M.is_booked) self.now.policy.now pass.old
+            AnswersLine (Stood M.stands M.booked) self.now.policy.now pass.old
             (said self.now.policy.now.dataset_names bytes)
+            (showing S.heard source.old source.new)
             (used O.failures O.contents sink.old sink.new) pass.new result }
     {
         let next = match self.put_answer(pass, seat, lines) {
             Ok(next) => next,
             Err(_) => return Err(SessionEnd::NoMemory),
         };
+        show_receipt(pass, next, source, sink);
         match send(&mut lines.text, sink) {
             Ok(()) => {
                 give_back(self.alloc, &mut lines.text);
                 match next {
+                    Next::Replied => Ok(()),
                     Next::GoesOn => Ok(()),
                     Next::Left => Err(SessionEnd::Left),
                     Next::Exhausted => Err(SessionEnd::Exhausted),

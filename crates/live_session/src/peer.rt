@@ -45,11 +45,11 @@ pub(crate) struct Played<M: Machine, S, O> {
 #[derive(Drop)]
 pub(crate) struct Serving<M: Machine, S, O>(pub(crate) Snapshot<Job<M, S, O>>);
 
-impl<M: Machine, S: Desk<O> + Drop, O: Sink + Drop> Promise<Played<M, S, O>> for Serving<M, S, O> {
+impl<M: Machine, S: Desk<O, M::Receipt> + Drop, O: Sink + Drop> Promise<Played<M, S, O>> for Serving<M, S, O> {
     ghost use Rattle.live_session.specs.Sessions.{Stood};
     ghost use Rattle.live_session.specs.Joining.{HasServed};
 
     ghost kept_by = { λ p r.
-        HasServed (Stood M.stands M.is_booked) S.failures S.remaining S.heard O.failures O.contents
+        HasServed (Stood M.stands M.booked) S.failures S.remaining S.heard O.failures O.contents
         p.0.value r };
 }

@@ -24,12 +24,12 @@ use wall_labels::Sink;
 use wall_policy::Policy;
 
 // A session from its start to its end; or nothing of it, where the run is given up.
-fn play<R: Wait, M: Machine, S: Desk<O> + Drop, O: Sink + Drop>(
+fn play<R: Wait, M: Machine, S: Desk<O, M::Receipt> + Drop, O: Sink + Drop>(
     setting: &Setting<R, M>,
     job: Job<M, S, O>,
 ) -> Played<M, S, O>
     requires { IsFresh setting.now.door.now job }
-    ensures { HasServed (Stood M.stands M.is_booked) S.failures S.remaining S.heard O.failures
+    ensures { HasServed (Stood M.stands M.booked) S.failures S.remaining S.heard O.failures
         O.contents job result }
 {
     let Job {
@@ -58,11 +58,12 @@ fn end_all<R, M, S, O>(
 where
     R: Threads,
     M: Machine + Send + Drop,
-    S: Desk<O> + Send + Drop,
+    M::Receipt: Send,
+    S: Desk<O, M::Receipt> + Send + Drop,
     O: Sink + Send + Drop,
     requires { (ended.items ≡ []) × (vec_len handles ≤ vec_capacity ended) }
     ensures served { IfOk result (λ all.
-        AllServed (Stood M.stands M.is_booked) S.failures S.remaining S.heard O.failures O.contents
+        AllServed (Stood M.stands M.booked) S.failures S.remaining S.heard O.failures O.contents
         (handed handles.items) all.items) }
     ensures begun { IfOk result (λ _. IsOk told) }
 {
@@ -138,12 +139,13 @@ fn run_jobs<R, M, S, O>(
 where
     R: Threads + Wait + Sync,
     M: Machine + Send + Drop,
-    S: Desk<O> + Send + Drop,
+    M::Receipt: Send,
+    S: Desk<O, M::Receipt> + Send + Drop,
     O: Sink + Send + Drop,
     requires fresh { All (IsFresh setting.now.door.now) jobs.items }
     requires room { HasRoomFor (vec_len jobs) room }
     ensures { IfSome result
-        (HaveEnded (Stood M.stands M.is_booked) S.failures S.remaining S.heard O.failures O.contents
+        (HaveEnded (Stood M.stands M.booked) S.failures S.remaining S.heard O.failures O.contents
         jobs.items) }
 {
     let Setting {
@@ -169,7 +171,7 @@ where
             requires handles { (handles.items ≡ []) × (vec_len jobs ≤ vec_capacity handles) }
             requires ended { (ended.items ≡ []) × (vec_len jobs ≤ vec_capacity ended) }
             ensures { IfOk result
-                (λ all. AllServed (Stood M.stands M.is_booked) S.failures S.remaining S.heard
+                (λ all. AllServed (Stood M.stands M.booked) S.failures S.remaining S.heard
                 O.failures O.contents jobs.items all.items) }
         {
             for job in jobs {
@@ -179,7 +181,7 @@ where
                     move || -> Played<M, S, O>
                         requires policy { policy.now ≡ door.now.policy }
                         requires fresh { IsFresh door.now job }
-                        ensures { HasServed (Stood M.stands M.is_booked) S.failures S.remaining
+                        ensures { HasServed (Stood M.stands M.booked) S.failures S.remaining
                             S.heard O.failures O.contents job result }
                     {
                         let setting = Setting {
@@ -240,11 +242,12 @@ pub fn serve_all<R, M, S, O>(
 where
     R: Threads + Wait + Sync,
     M: Machine + Send + Drop,
-    S: Desk<O> + Send + Drop,
+    M::Receipt: Send,
+    S: Desk<O, M::Receipt> + Send + Drop,
     O: Sink + Send + Drop,
     requires stands { M.stands policy.now machine [] }
     ensures served { IfOk result (λ served.
-        ServedAll S.failures S.remaining S.heard O.failures O.contents M.stands M.is_booked
+        ServedAll S.failures S.remaining S.heard O.failures O.contents M.stands M.booked
         policy.now peers.items served.sessions.items served.machine) }
     ensures bad_peers { IfErr result (λ fault.
         (fault ≡ ServeFault.BadPeers) ↔ (vec_len peers ≢ processes policy.now)) }

@@ -133,7 +133,7 @@ pub(crate) struct Client<'a> {
     pub(crate) heard: &'a Heard,
 }
 
-impl<'a> Desk<Answers<'a>> for Client<'a> {
+impl<'a> Desk<Answers<'a>, ()> for Client<'a> {
     ghost use Rattle.wall_labels.specs.Fuses.{failures_of};
 
     ghost failures = { λ s. failures_of s.lines.fuse };
@@ -150,6 +150,8 @@ impl<'a> Desk<Answers<'a>> for Client<'a> {
         let count = self.piece.min(buffer.len());
         self.lines.read(&mut buffer[..count])
     }
+
+    fn show(&mut self, _sink: &Answers<'a>, _receipt: &()) {}
 
     fn close(&self, end: SessionEnd, calls: u64) {
         let heard = self.heard;

@@ -132,7 +132,7 @@ struct Late<'a, R> {
     delay: Duration,
 }
 
-impl<'a, R: Clock> Desk<Answers<'a>> for Late<'a, R> {
+impl<'a, R: Clock> Desk<Answers<'a>, ()> for Late<'a, R> {
     ghost use Rattle.wall_labels.specs.Fuses.{failures_of};
 
     ghost failures = { λ s. failures_of s.client.lines.fuse };
@@ -146,6 +146,8 @@ impl<'a, R: Clock> Desk<Answers<'a>> for Late<'a, R> {
         self.delay = Duration::from_millis(0);
         self.client.hear(sink, buffer)
     }
+
+    fn show(&mut self, _sink: &Answers<'a>, _receipt: &()) {}
 
     fn close(&self, end: SessionEnd, calls: u64) {
         self.client.close(end, calls);

@@ -38,11 +38,14 @@ impl Lapsing {
 }
 
 impl Machine for Lapsing {
+    type Receipt = ();
+
+    ghost use Rattle.std.specs.Prelude.{None, Some, if◌then◌else◌};
     ghost use Rattle.hall_turn.specs.Machines.{Stands};
 
     ghost stands = { λ wall machine run. Stands wall machine.hall run };
 
-    ghost is_booked = { λ machine. machine.is_booked };
+    ghost booked = { λ machine. if machine.is_booked then Some None else None };
 
     fn apply(&mut self, call: Call) -> Applied {
         let applied = Machine::apply(&mut self.hall, call);
@@ -56,8 +59,8 @@ impl Machine for Lapsing {
         claim
     }
 
-    fn is_booked(&self) -> bool {
-        self.is_booked
+    fn receipt(&self) -> Option<()> {
+        if self.is_booked { Some(()) } else { None }
     }
 }
 

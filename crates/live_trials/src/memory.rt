@@ -30,7 +30,7 @@ struct Measured<'a, R> {
     pages: Option<u64>,
 }
 
-impl<'a, R: Files + AllocGlobal> Desk<ExpectingSink<'a>> for Measured<'a, R> {
+impl<'a, R: Files + AllocGlobal> Desk<ExpectingSink<'a>, ()> for Measured<'a, R> {
     ghost use Rattle.wall_labels.specs.Fuses.{failures_of};
 
     ghost failures = { λ s. failures_of s.lines.fuse };
@@ -43,6 +43,8 @@ impl<'a, R: Files + AllocGlobal> Desk<ExpectingSink<'a>> for Measured<'a, R> {
         }
         self.lines.read(buffer)
     }
+
+    fn show(&mut self, _sink: &ExpectingSink<'a>, _receipt: &()) {}
 
     fn close(&self, _end: SessionEnd, _calls: u64) {}
 }

@@ -8,7 +8,7 @@ use Rattle.live_session.specs.declared.run.ServeFault.{ServeFault}
 use Rattle.live_session.specs.declared.run.ServeFault.TheVariants as serves
 use Rattle.program_commands.specs.declared.ending.Ending.{Ending}
 use Rattle.live_session.specs.declared.peer.Session.{Session}
-use Rattle.live_session.specs.Hearing.{Heard}
+use Rattle.live_session.specs.Hearing.{DeskLog}
 use Rattle.program_commands.specs.declared.ending.Ending.TheVariants.{BadArguments}
 use Rattle.program_commands.specs.Serving.{serve_ending, IsUnserved, ServeEnds}
 
@@ -31,7 +31,7 @@ module _ {S O B : Type 0} (spoilt : B → ℕ) (kept : B → Option (List ℕ)) 
       rw so (rw none (gone book fault (sym long ∙ same) is'))
 
 module _ {S O B : Type 0} (fails : S → ℕ) (left : S → Option (List ℕ))
-    (heard : S → Option (List Heard)) (failures : O → ℕ) (contents : O → Option (List ℕ))
+    (heard : S → DeskLog) (failures : O → ℕ) (contents : O → Option (List ℕ))
     (spoilt : B → ℕ) (kept lasting : B → Option (List ℕ)) (wall : ChineseWall)
     (peers : List (Peer S O)) where
   -- there are not devices for each process, and no others

@@ -76,7 +76,7 @@ fn unserved<S, O, E: Sink, B>(
 }
 
 // A hall that keeps no book.
-fn bookless_hall(alloc: Global, policy: &Policy) -> Result<BooklessHall, NoMemory>
+fn bookless_hall<T>(alloc: Global, policy: &Policy) -> Result<BooklessHall<T>, NoMemory>
     ensures { IfOk result (λ hall. Stands policy.now hall []) }
 {
     let policy = policy.copy(alloc)?;
@@ -93,8 +93,9 @@ fn serve_bookless<R, S, O, E: Sink, B: BookSink>(
 ) -> ServeEnd<S, O, B>
 where
     R: Threads + Wait + Sync,
-    S: Desk<O> + Send + Drop,
+    S: Desk<O, Option<B::Receipt>> + Send + Drop,
     O: Sink + Send + Drop,
+    B::Receipt: Send,
     requires { vec_len peers ≡ processes policy.now }
     ensures { EndsSo
         (ServeEnds S.failures S.remaining S.heard O.failures O.contents B.failures B.contents
@@ -102,7 +103,7 @@ where
         (used E.failures E.contents err.old err.new)
         result.status }
 {
-    let Ok(hall) = bookless_hall(alloc, policy) else {
+    let Ok(hall) = bookless_hall::<B::Receipt>(alloc, policy) else {
         return unserved(alloc, err, Ending::NoMemory, None);
     };
     match serve_all(rt, alloc, policy, hall, peers) {
@@ -166,9 +167,10 @@ fn serve_booked<R, S, O, E: Sink, B, K: Begun + Send>(
 ) -> ServeEnd<S, O, B>
 where
     R: Threads + Wait + Sync,
-    S: Desk<O> + Send + Drop,
+    S: Desk<O, Option<B::Receipt>> + Send + Drop,
     O: Sink + Send + Drop,
     B: BookSink + Send + Drop,
+    B::Receipt: Send,
     requires begun { K.begun ≡ sink_value B.contents B.lasting B.failures book }
     requires peers { vec_len peers ≡ processes policy.now }
     ensures { EndsSo
@@ -221,9 +223,10 @@ pub fn serve_on<R, S, O, E: Sink, B>(
 ) -> ServeEnd<S, O, B>
 where
     R: Threads + Wait + Sync,
-    S: Desk<O> + Send + Drop,
+    S: Desk<O, Option<B::Receipt>> + Send + Drop,
     O: Sink + Send + Drop,
     B: BookSink + Send + Drop,
+    B::Receipt: Send,
     ensures { EndsSo
         (ServeEnds S.failures S.remaining S.heard O.failures O.contents B.failures B.contents
         B.lasting policy.now peers.items book result.sessions.items result.book)

@@ -2,7 +2,7 @@
 //! is written while they are, and how it ends.
 use crate::endings::{sink, source};
 use crate::runs::ALONE;
-use live_book::BookSink;
+use live_book::{BookSink, Receipt};
 use live_session::{Desk, Peer, Session, SessionEnd};
 use program_commands::{Ending, ServeEnd, Unready, read_wall, refuse, serve_on};
 use std::alloc::{AllocError, Global};
@@ -33,7 +33,7 @@ struct Lines<'a> {
     lines: MemorySource<'a>,
 }
 
-impl<'a> Desk<ExpectingSink<'a>> for Lines<'a> {
+impl<'a, T: Receipt> Desk<ExpectingSink<'a>, T> for Lines<'a> {
     ghost use Rattle.wall_labels.specs.Fuses.{failures_of};
 
     ghost failures = { λ s. failures_of s.lines.fuse };
@@ -43,6 +43,8 @@ impl<'a> Desk<ExpectingSink<'a>> for Lines<'a> {
     fn hear(&mut self, _sink: &ExpectingSink<'a>, buffer: &mut [u8]) -> Result<usize, Failed> {
         self.lines.read(buffer)
     }
+
+    fn show(&mut self, _sink: &ExpectingSink<'a>, _receipt: &T) {}
 
     fn close(&self, _end: SessionEnd, _calls: u64) {}
 }
@@ -65,9 +67,13 @@ impl Sink for Keeping {
 }
 
 impl BookSink for Keeping {
+    type Receipt = ();
+
     fn settled(&mut self) -> Result<(), Failed> {
         Ok(())
     }
+
+    fn receipt(&self) {}
 }
 
 // A book that is to come. It fails at one of its writes, or never.
@@ -93,9 +99,13 @@ impl<'a> Sink for Due<'a> {
 }
 
 impl<'a> BookSink for Due<'a> {
+    type Receipt = ();
+
     fn settled(&mut self) -> Result<(), Failed> {
         Ok(())
     }
+
+    fn receipt(&self) {}
 }
 
 fn expecting<'a>(book: &'a str, fuse: Fuse) -> Due<'a> {

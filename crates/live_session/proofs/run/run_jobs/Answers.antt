@@ -48,7 +48,7 @@ pub sort_out-requires-clause-passes : goal.sort_out-requires-clause-passes
 sort_out-requires-clause-passes g c =
     let o = c.in-Ok.all.ok in
     let j = c.args.jobs.ok in
-    let l = served_long (Stood g.M.Machine.stands g.M.Machine.is_booked)
+    let l = served_long (Stood g.M.Machine.stands g.M.Machine.booked)
     g.S.Desk.failures g.S.Desk.remaining g.S.Desk.heard g.O.Sink.failures
     g.O.Sink.contents
     c.args.jobs.items c.in-Ok.all.items c.in-Ok.ensures.1 in
@@ -59,7 +59,7 @@ pub sort_out-requires-clause-sessions : goal.sort_out-requires-clause-sessions
 sort_out-requires-clause-sessions g c =
     let o = c.in-Ok.all.ok in
     let j = c.args.jobs.ok in
-    let l = served_long (Stood g.M.Machine.stands g.M.Machine.is_booked)
+    let l = served_long (Stood g.M.Machine.stands g.M.Machine.booked)
     g.S.Desk.failures g.S.Desk.remaining g.S.Desk.heard g.O.Sink.failures
     g.O.Sink.contents
     c.args.jobs.items c.in-Ok.all.items c.in-Ok.ensures.1 in

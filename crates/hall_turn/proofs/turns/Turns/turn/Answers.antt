@@ -1,4 +1,5 @@
 use Rattle.std.proofs.Common.{◌∙◌, sym, ap, subst, refl, List, ℕ, Option}
+use Rattle.std.specs.Prelude.{option_map}
 use Rattle.hall_turn.specs.Machines.{Carries}
 use Rattle.hall_turn.specs.Views.{drawn}
 use Rattle.hall_turn.proofs.TurnLemmas.{ready, may_apply, holds_one, stood_after}
@@ -50,7 +51,7 @@ returns-clause-stood g c =
     c.await_turn.new.seat.me
     _ c.declare.new.seat.me c.serve.new.seat.me c.slot_mut-slot.result.now
     c.carry_out_in-told.new.slot (g.D.Deed.call c.of-asked.result.value) reply
-    g.M.Machine.is_booked c.carry_out_in-told.new.booked
+    g.M.Machine.booked (option_map g.M.Receipt.Receipt.covers c.carry_out_in-told.new.receipt)
     (ap (λ m. m.0.policy) c.draw-ticket.ensures.draws) c.await_turn.ensures.holds
     c.slot_mut-slot.ensures.value refl c.declare.ensures.declares c.serve.ensures.serves (
       k.0,

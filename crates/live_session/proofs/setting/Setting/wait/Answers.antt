@@ -15,7 +15,7 @@ returns-in_default g c =
     record {
       same = e.same;
       legal = e.legal;
-      waited = waited_once g.M.Machine.stands g.M.Machine.is_booked pass new c.args.request
+      waited = waited_once g.M.Machine.stands g.M.Machine.booked pass new c.args.request
           (Replied _) e.same
           (at_door door pass new.seen c.requires.door e.legal) e.answered e.stood;
       named = e.named;
@@ -27,13 +27,13 @@ loop-init g c =
     let pass = c.args.pass.now in
     let new = c.take.new.pass in
     let e = c.in-Reply-Pending.ensures in
-    let stood = Stood g.M.Machine.stands g.M.Machine.is_booked in
+    let stood = Stood g.M.Machine.stands g.M.Machine.booked in
     record {
       same = e.same;
       legal = e.legal;
       waited = subst (λ (r : Reply). Waited stood pass c.args.request (Replied r) new)
           c.in-Reply-Pending.field-0-is
-          (waited_once g.M.Machine.stands g.M.Machine.is_booked pass new c.args.request
+          (waited_once g.M.Machine.stands g.M.Machine.booked pass new c.args.request
           (Replied c.in-Reply-Pending.field-0) e.same
           (at_door door pass new.seen c.requires.door e.legal) e.answered e.stood);
     }
@@ -49,7 +49,7 @@ returns-in_default-take g c =
     record {
       same = (e.same.0 ∙ i.same.0, e.same.1 ∙ i.same.1);
       legal = e.legal;
-      waited = waited_more g.M.Machine.stands g.M.Machine.is_booked pass mid new c.args.request _
+      waited = waited_more g.M.Machine.stands g.M.Machine.booked pass mid new c.args.request _
           i.waited e.same
           (at_door door mid new.seen (i.same.0 ∙ c.requires.door) e.legal) e.answered
           e.stood;
@@ -63,7 +63,7 @@ returns-in-Exhausted-clause-waited g c =
     let new = c.take-in-loop.new.pass in
     let i = c.loop.invariant in
     let e = c.in-Exhausted.ensures in
-    waited_still g.M.Machine.stands g.M.Machine.is_booked c.args.pass.now mid new c.args.request
+    waited_still g.M.Machine.stands g.M.Machine.booked c.args.pass.now mid new c.args.request
     i.waited e.same
     (at_door door mid new.seen (i.same.0 ∙ c.requires.door) e.legal) e.answered e.stood
 
@@ -75,13 +75,13 @@ loop-preserved-else-not-sleeps_on-2 g c =
     let new = c.take-in-loop.new.pass in
     let i = c.loop.invariant in
     let e = c.in-Reply-Pending-take.ensures in
-    let stood = Stood g.M.Machine.stands g.M.Machine.is_booked in
+    let stood = Stood g.M.Machine.stands g.M.Machine.booked in
     record {
       same = (e.same.0 ∙ i.same.0, e.same.1 ∙ i.same.1);
       legal = e.legal;
       waited = subst (λ (r : Reply). Waited stood pass c.args.request (Replied r) new)
           c.in-Reply-Pending-take.field-0-is
-          (waited_more g.M.Machine.stands g.M.Machine.is_booked pass mid new c.args.request
+          (waited_more g.M.Machine.stands g.M.Machine.booked pass mid new c.args.request
           c.in-Reply-Pending-take.field-0 i.waited e.same
           (at_door door mid new.seen (i.same.0 ∙ c.requires.door) e.legal) e.answered
           e.stood);
@@ -95,9 +95,9 @@ returns-then-not-sleeps_on-clause-waited g c =
     let new = c.take-in-loop.new.pass in
     let i = c.loop.invariant in
     let e = c.in-Reply-Pending-take.ensures in
-    let stood = Stood g.M.Machine.stands g.M.Machine.is_booked in
+    let stood = Stood g.M.Machine.stands g.M.Machine.booked in
     subst (λ (r : Reply). Waited stood pass c.args.request (Replied r) new)
     c.in-Reply-Pending-take.field-0-is
-    (waited_more g.M.Machine.stands g.M.Machine.is_booked pass mid new c.args.request
+    (waited_more g.M.Machine.stands g.M.Machine.booked pass mid new c.args.request
     c.in-Reply-Pending-take.field-0 i.waited e.same
     (at_door door mid new.seen (i.same.0 ∙ c.requires.door) e.legal) e.answered e.stood)

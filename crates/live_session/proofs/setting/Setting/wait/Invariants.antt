@@ -11,6 +11,6 @@ abbrev pub invariant-loop : goal.invariant-loop
 invariant-loop g l = record {
   same : IsSamePass l.fn.pass l.pass;
   legal : Legal l.self.door.now.policy l.pass.seen;
-  waited : Waited (Stood g.M.Machine.stands g.M.Machine.is_booked) l.fn.pass l.request
+  waited : Waited (Stood g.M.Machine.stands g.M.Machine.booked) l.fn.pass l.request
       (Replied Pending) l.pass;
 }
