@@ -53,7 +53,7 @@ fn last<R: Abort>(rt: &R, door: &Door, passes: &mut Passes) -> Pass
 
 /// How the session ends of a process that is alone at a door under the policy, with these devices.
 /// None where it does not begin: `begins` says whether its stage is released or given up.
-pub(crate) fn end_alone<R: Abort + Wait, S: Desk<O>, O: Sink>(
+pub(crate) fn end_alone<R: Abort + Wait, S: Desk<O, ()>, O: Sink>(
     rt: &R,
     alloc: Global,
     policy: &Policy,
