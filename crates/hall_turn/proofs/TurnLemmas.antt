@@ -186,7 +186,7 @@ module _ {M : Type 0} (stands : ChineseWall → M → List Entry → Type 0) whe
       )
 
   -- a look of a seat between two calls
-  pub sees_on : (door d : Doorway) (p : ℕ) (b b' : Bool) (k k' : Option Covered) (r : ℕ) (st : Step (Option M))
+  pub sees_on : (door d : Doorway) (p : ℕ) (b b' k k' : Bool) (r : ℕ) (st : Step (Option M))
       (m m' : Me (Option M) SeatView) → IsIdle p m → Looks stands st m r m'
       →
       SeesOn (record { door = door; process = p; seen = m.0.seen; settled = b; booked = k })
@@ -200,7 +200,7 @@ module _ {M : Type 0} (stands : ChineseWall → M → List Entry → Type 0) whe
       }
 
   -- what a deed that was carried out does
-  pub carried : (door d : Doorway) (p : ℕ) (b b' : Bool) (k k' : Option Covered) (e : Entry)
+  pub carried : (door d : Doorway) (p : ℕ) (b b' k k' : Bool) (e : Entry)
       (Tells : ChineseWall → List Entry → Type 0) (r : ℕ) (st : Step (Option M))
       (m m1 m2 : Me (Option M) SeatView)
       → door.policy ≡ m.0.policy → e.call.process ≡ p

@@ -1,6 +1,6 @@
 -- What a call at a door does to the pass. (Own rules.)
-use Rattle.std.specs.Prelude.{◌≡◌, ◌↔◌, ℕ, ◌^◌, ◌≤◌, List, [], ◌∷◌, length, map, Bool, false, IsTrue}
-use Rattle.std.specs.Prelude.{Option, None}
+use Rattle.std.specs.Prelude.{◌≡◌, ◌↔◌, ℕ, ◌^◌, ◌≤◌, List, [], ◌∷◌, length, map, Bool, true, false}
+use Rattle.std.specs.Prelude.{IsTrue, Option, is_some}
 use Rattle.run_model.specs.declared.call.Act.{Act}
 use Rattle.mpi_cart.specs.Grids.{below}
 use Rattle.run_model.specs.Runs.{Entry, entry}
@@ -19,7 +19,7 @@ use Rattle.hall_turn.specs.Machines.{ClaimsAfter, Settles}
 -- the pass of a process at a new door
 abbrev pub new_pass : Doorway → (process : ℕ) → Known
 new_pass door process =
-    record { door = door; process = process; seen = []; settled = false; booked = None }
+    record { door = door; process = process; seen = []; settled = false; booked = true }
 
 -- the passes of so many processes, in order
 abbrev pub new_passes : Doorway → (processes : ℕ) → List Known
@@ -72,11 +72,22 @@ SaysOf before Exhausted after = after.settled ≡ before.settled
 module _ {M : Type 0} (stands : ChineseWall → M → List Entry → Type 0)
     (booked : M → Option Covered) where
   -- There is the machine as it was at the end of the turn that made the newest entry which the
-  -- pass has seen: it stands for exactly what the pass has seen, and the pass's receipt is one that
-  -- it gave then, if it was booked.
+  -- pass has seen: it stands for exactly what the pass has seen, and if it was booked, then it gave
+  -- a receipt which covers this. The pass says whether it was.
+  abbrev pub Gives : Known → (receipt : Option Covered) → Type 0
+  Gives after receipt = (machine : M) × stands after.door.policy machine after.seen
+      × (receipt ≡ booked machine) × (after.booked ≡ is_some receipt)
+
+  -- so it says where the call was made; where it was not, it says what it said before, and there is
+  -- the receipt that there was
+  abbrev pub GivesAt : (before : Known) → Answer → (after : Known) →
+      (old new : Option Covered) → Type 0
+  GivesAt before (Replied reply) after old new = Gives after new
+  GivesAt before Exhausted after old new = (after.booked ≡ before.booked) × (new ≡ old)
+
+  -- the pass says whether the machine was booked, whatever became of the receipt
   abbrev pub SaysBooked : Known → Type 0
-  SaysBooked after = (machine : M) × stands after.door.policy machine after.seen
-      × (after.booked ≡ booked machine)
+  SaysBooked after = (receipt : Option Covered) × Gives after receipt
 
   -- so it says where the call was made; where it was not, it says what it said before
   abbrev pub StoodAt : (before : Known) → Answer → (after : Known) → Type 0
@@ -106,9 +117,17 @@ SaysOfClaim before claimed.Exhausted after = after.settled ≡ before.settled
 -- and so of the machine
 abbrev pub ClaimStoodAt : {M : Type 0} → (ChineseWall → M → List Entry → Type 0)
     → (M → Option Covered) → (before : Known) → Claimed → (after : Known) → Type 0
-ClaimStoodAt stands booked before (claimed.Claim claim) after =
-    SaysBooked stands booked after
+ClaimStoodAt stands booked before (claimed.Claim claim) after = SaysBooked stands booked after
 ClaimStoodAt stands booked before claimed.Exhausted after = after.booked ≡ before.booked
+
+-- and of its receipt
+abbrev pub ClaimGivesAt : {M : Type 0} → (ChineseWall → M → List Entry → Type 0)
+    → (M → Option Covered) → (before : Known) → Claimed → (after : Known)
+    → (old new : Option Covered) → Type 0
+ClaimGivesAt stands booked before (claimed.Claim claim) after old new =
+    Gives stands booked after new
+ClaimGivesAt stands booked before claimed.Exhausted after old new =
+    (after.booked ≡ before.booked) × (new ≡ old)
 
 -- a claim that was made may be finished
 abbrev pub MayFinish : Claimed → Type 0

@@ -1,5 +1,6 @@
 //! The door, and the calls that take a turn there.
 ghost use Rattle.std.specs.Prelude.{◌≡◌, ◌<◌, ◌≤◌, [], IfOk, IfSome, IfNone, vec_capacity};
+ghost use Rattle.std.specs.Prelude.{option_map};
 ghost use Rattle.std.specs.List.{All};
 ghost use Rattle.run_model.specs.declared.call.Act.TheVariants.{Post as ToPost, Take as ToTake};
 ghost use Rattle.run_model.specs.declared.call.Act.TheVariants.{Info as ToInfo};
@@ -9,7 +10,8 @@ ghost use Rattle.run_model.specs.Runs.{entry};
 ghost use Rattle.run_model.specs.Known.{IsKnownLabel, HasKnownLabel, IsKnownReply};
 ghost use Rattle.hall_turn.specs.Answers.{Answered, ClaimAnswered, ClaimNamesKnown, EntersAnd};
 ghost use Rattle.hall_turn.specs.Answers.{MayFinish, IsSamePass, IsTooLate, NamesKnown, new_passes};
-ghost use Rattle.hall_turn.specs.Answers.{ClaimStoodAt, SaysBooked, SaysOf, SaysOfClaim, SaysWhether};
+ghost use Rattle.hall_turn.specs.Answers.{ClaimGivesAt, ClaimStoodAt, Gives, GivesAt, SaysOf};
+ghost use Rattle.hall_turn.specs.Answers.{SaysOfClaim, SaysWhether};
 ghost use Rattle.hall_turn.specs.Answers.{StoodAt};
 ghost use Rattle.hall_turn.specs.Views.{newcomer};
 
@@ -152,14 +154,14 @@ impl<M: Machine + Drop> DoorTo<M> {
                 seat,
                 process,
                 settled: false,
-                receipt: None,
+                booked: true,
             });
         }
         passes.push_reserved(PassTo {
             seat: maker,
             process: last,
             settled: false,
-            receipt: None,
+            booked: true,
         });
         passes
     }
@@ -220,11 +222,34 @@ impl<M: Machine> DoorTo<M> {
         ensures settled { SaysOfClaim pass.old result pass.new }
         ensures stood { ClaimStoodAt M.stands M.booked pass.old result pass.new }
     {
+        let mut receipt = None;
+        self.claim_with_receipt(rt, pass, request, &mut receipt)
+    }
+
+    /// The same, with the receipt that the machine gave at the end of the turn, if it was booked.
+    /// After `Exhausted` there is the receipt that there was.
+    pub fn claim_with_receipt<R: Wait>(
+        &self,
+        rt: &R,
+        pass: &mut PassTo<M>,
+        request: u64,
+        receipt: &mut Option<M::Receipt>,
+    ) -> Claimed
+        requires door { pass.old.door ≡ self.now }
+        ensures same { IsSamePass pass.old pass.new }
+        ensures legal { Legal self.now.policy pass.new.seen }
+        ensures answered { ClaimAnswered pass.old request result pass.new }
+        ensures may { MayFinish result }
+        ensures named { ClaimNamesKnown self.now.policy result }
+        ensures settled { SaysOfClaim pass.old result pass.new }
+        ensures gives { ClaimGivesAt M.stands M.booked pass.old result pass.new
+            (option_map M.Receipt.covers receipt.old) (option_map M.Receipt.covers receipt.new) }
+    {
         let claiming = Claiming {
             process: pass.process,
             request,
         };
-        match self.carry_out(rt, pass, claiming) {
+        match self.carry_out(rt, pass, claiming, receipt) {
             Some(claim) => Claimed::Claim(claim),
             None => Claimed::Exhausted,
         }
@@ -256,11 +281,35 @@ impl<M: Machine> DoorTo<M> {
         ensures settled { SaysOf pass.old result pass.new }
         ensures stood { StoodAt M.stands M.booked pass.old result pass.new }
     {
+        let mut receipt = None;
+        self.call_with_receipt(rt, pass, act, &mut receipt)
+    }
+
+    /// One call, at the pass's turn: what `post`, `take` and `info` do, with the receipt that the
+    /// machine gave at the end of the turn, if it was booked. After `Exhausted` there is the receipt
+    /// that there was.
+    pub fn call_with_receipt<R: Wait>(
+        &self,
+        rt: &R,
+        pass: &mut PassTo<M>,
+        act: Act,
+        receipt: &mut Option<M::Receipt>,
+    ) -> Answer
+        requires door { pass.old.door ≡ self.now }
+        requires label { HasKnownLabel self.now.policy act }
+        ensures same { IsSamePass pass.old pass.new }
+        ensures legal { Legal self.now.policy pass.new.seen }
+        ensures answered { Answered pass.old act result pass.new }
+        ensures named { NamesKnown self.now.policy result }
+        ensures settled { SaysOf pass.old result pass.new }
+        ensures gives { GivesAt M.stands M.booked pass.old result pass.new
+            (option_map M.Receipt.covers receipt.old) (option_map M.Receipt.covers receipt.new) }
+    {
         let call = Call {
             process: pass.process,
             act,
         };
-        match self.carry_out(rt, pass, call) {
+        match self.carry_out(rt, pass, call, receipt) {
             Some(reply) => Answer::Reply(reply),
             None => Answer::Exhausted,
         }
@@ -272,6 +321,7 @@ impl<M: Machine> DoorTo<M> {
         rt: &R,
         pass: &mut PassTo<M>,
         deed: D,
+        receipt: &mut Option<M::Receipt>,
     ) -> Option<D::Told>
         requires door { pass.old.door ≡ self.now }
         requires by { (D.call deed).process ≡ pass.old.process }
@@ -284,20 +334,18 @@ impl<M: Machine> DoorTo<M> {
         ensures named { IfSome result (λ told. IsKnownReply self.now.policy (D.reply told)) }
         ensures exhausted { IfNone result (IsTooLate pass.old pass.new) }
         ensures settled { IfSome result (λ _. SaysWhether pass.new) }
-        ensures stood { IfSome result (λ _. SaysBooked M.stands M.booked pass.new) }
+        ensures gives { IfSome result (λ _. Gives M.stands M.booked pass.new
+            (option_map M.Receipt.covers receipt.new)) }
         ensures kept { IfNone result ((pass.new.settled ≡ pass.old.settled)
-            × (pass.new.booked ≡ pass.old.booked)) }
+            × (pass.new.booked ≡ pass.old.booked) × (receipt.new ≡ receipt.old)) }
     {
         if self.turns.look(&mut pass.seat) >= LAST {
             return None;
         }
-        let told = self.turns.turn(
-            rt,
-            &mut pass.seat,
-            deed,
-            &mut pass.settled,
-            &mut pass.receipt,
-        );
+        let told = self
+            .turns
+            .turn(rt, &mut pass.seat, deed, &mut pass.settled, receipt);
+        pass.booked = receipt.is_some();
         Some(told)
     }
 }

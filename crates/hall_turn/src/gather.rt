@@ -24,14 +24,14 @@ impl<M: Machine> Turns<M> {
             mut seat,
             process: _,
             settled: _,
-            receipt: _,
+            booked: _,
         } = first;
         while let Some(pass) = passes.pop() {
             let PassTo {
                 seat: other,
                 process: _,
                 settled: _,
-                receipt: _,
+                booked: _,
             } = pass;
             self.table.shared.join_seat::<Gather>(&mut seat, other);
         }

@@ -1,5 +1,5 @@
 //! Passes, by which processes call at a door.
-ghost use Rattle.std.specs.Prelude.{◌≡◌, length, is_some, option_map};
+ghost use Rattle.std.specs.Prelude.{◌≡◌, length};
 ghost use Rattle.run_model.specs.Replies.{Legal};
 ghost use Rattle.hall_turn.specs.Answers.{IsSamePass, SeesOn};
 
@@ -11,20 +11,19 @@ use hall_core::Hall;
 use std::marker::Model;
 
 /// The right to call as one process. Contracts see its door, its process, the run that it has
-/// seen, the newest entry first, whether its last call settled an instance, and what the receipt
-/// covers that the machine gave at the end of that call's turn, if it was booked.
+/// seen, the newest entry first, whether its last call settled an instance, and whether the machine
+/// was booked at the end of that call's turn.
 #[derive(Drop)]
 pub struct PassTo<M: Machine> {
     pub(crate) seat: Seat<Option<M>, View>,
     pub(crate) process: u32,
     // Its last call settled an instance.
     pub(crate) settled: bool,
-    // What the machine gave at the end of its last turn.
-    pub(crate) receipt: Option<M::Receipt>,
+    // The machine was booked at the end of its last turn.
+    pub(crate) booked: bool,
 }
 
 impl<M: Machine> Model for PassTo<M> {
-    ghost use Rattle.std.specs.Prelude.{option_map};
     ghost use Rattle.hall_turn.specs.Known.{Known};
 
     ghost Value = { Known };
@@ -36,7 +35,7 @@ impl<M: Machine> Model for PassTo<M> {
       process = p.process;
       seen = p.seat.me.0.seen;
       settled = p.settled;
-      booked = option_map M.Receipt.covers p.receipt;
+      booked = p.booked;
     } };
 
     ghost invariant = { λ p. IsIdle p.process p.seat.me };
@@ -69,19 +68,12 @@ impl<M: Machine> PassTo<M> {
     }
 
     /// Whether all that the machine had to write down was written at the end of the turn of the
-    /// pass's last call that was made: then its reply may be told. Of a pass that made no call yet
-    /// nothing was; an exhausted call leaves it as it was.
+    /// pass's last call that was made: then its reply may be told. A pass that made no call yet is
+    /// booked; an exhausted call leaves it as it was.
     pub fn is_booked(&self) -> bool
-        ensures { result ≡ is_some self.now.booked }
+        ensures { result ≡ self.now.booked }
     {
-        self.receipt.is_some()
-    }
-
-    /// The receipt that the machine gave at the end of that turn, if it was booked.
-    pub fn receipt(&self) -> Option<&M::Receipt>
-        ensures { option_map (λ receipt. M.Receipt.covers receipt.now) result ≡ self.now.booked }
-    {
-        self.receipt.as_ref()
+        self.booked
     }
 }
 

@@ -1,7 +1,8 @@
 -- What sessions come to, line by line.
 use Rattle.std.proofs.Common.{◌≡◌, inl, inr, ℕ, zero, suc, ◌+◌, List, [], ◌∷◌, ◌++◌, map}
 use Rattle.std.proofs.Common.{reverse, Option, Some, None, Result, Ok, Err, refl, sym, ap, subst}
-use Rattle.std.proofs.Common.{◌≢◌}
+use Rattle.std.proofs.Common.{◌≢◌, Bool}
+use Rattle.std.specs.Prelude.{is_some, option_map}
 use Rattle.std.proofs.Common.{◌∙◌, append_assoc, append-nil, IfOk, replicate, take, arith}
 use Rattle.wall_labels.specs.declared.no_memory.NoMemory.{NoMemory as OutOfMemory}
 use Rattle.wall_labels.specs.Known.{AppendsPrefix}
@@ -28,7 +29,7 @@ use Rattle.hall_turn.specs.declared.answer.Answer.TheVariants.{Reply as Replied,
 use Rattle.hall_turn.specs.Runs.{Continues, calls_of}
 use Rattle.hall_turn.specs.Receipts.{Covered}
 use Rattle.hall_turn.specs.Known.{Known, Doorway}
-use Rattle.hall_turn.specs.Answers.{IsSamePass, SeesOn, Answered, SaysBooked, StoodAt}
+use Rattle.hall_turn.specs.Answers.{IsSamePass, SeesOn, Answered, Gives, GivesAt}
 use Rattle.hall_turn.proofs.HallTurnLemmas.{continues_self, continues_more, continues_trans}
 use Rattle.live_session.specs.declared.line.BadLine.{BadLine}
 use Rattle.live_session.specs.declared.acting.Came.{Came}
@@ -47,7 +48,7 @@ use Rattle.live_session.specs.Steps.{CameTo, Waited}
 use Rattle.live_session.specs.Steps.{came_of, line_to, next_after, AnswersSo, WritesAnswer}
 use Rattle.live_session.specs.Steps.{PutsAnswer, AnswersLine, SoFar, Stops, StopsSo, Holds}
 use Rattle.live_session.specs.Steps.{behind, ComesBooked, IsUnread, Showing, showing, shown_next}
-use Rattle.live_session.specs.Steps.{ShowsNext}
+use Rattle.live_session.specs.Steps.{AnswersBehind}
 use Rattle.live_session.specs.declared.line.Unfinished.{Unfinished}
 use Rattle.live_session.proofs.CutLemmas.{parts_behind}
 use Rattle.live_session.proofs.PromptLemmas.{prompt_none, prompt_more, prompt_still, prompt_unread}
@@ -342,28 +343,35 @@ no_leave ask act e f = cc
 no_wait : (ask : Ask) (request : ℕ) → ask ≡ Wait request → ask ≡ Leave → ⊥
 no_wait ask request e f = cc
 
+-- there is a receipt that covers something, exactly if there is one
+pub still_some : {A B : Type 0} (covers : A → B) (receipt : Option A) (b : Bool) →
+    b ≡ is_some receipt → b ≡ is_some (option_map covers receipt)
+still_some covers None b is = is
+still_some covers (Some receipt) b is = is
+
 -- what came of a call is told where the machine was booked
 told_or_not : (stood : ChineseWall → List Entry → Option Covered → Type 0) (before after : Known) (ask : Ask)
-    (told : Told) (reply : Reply) (booked : Option Covered) → after.booked ≡ booked →
+    (told : Told) (reply : Reply) (receipt : Option Covered) →
     last_call before.process told ≢ None → reply_to told ≡ Some reply →
-    ComesTo stood before (Ok ask) told booked after →
-    CameTo stood before ask (came_of (Replied reply) booked) after
-told_or_not stood before after ask told reply (Some covers) at calls is comes =
-    (told, (covers, comes, at, calls), is)
-told_or_not stood before after ask told reply None at calls is comes = (told, comes, calls)
+    ComesTo stood before (Ok ask) told receipt after →
+    CameTo stood before ask (came_of (Replied reply) receipt) receipt after
+told_or_not stood before after ask told reply (Some covers) calls is comes =
+    (told, (covers, comes, refl, calls), is)
+told_or_not stood before after ask told reply None calls is comes = (told, comes, calls)
 
 module _ {M : Type 0} (stands : ChineseWall → M → List Entry → Type 0)
     (booked : M → Option Covered) where
   -- the call was made, and its pass says of the machine what it was at the end of its turn
-  behind_call : (before after : Known) (act : Act) (reply : Reply) → IsSamePass before after →
-      Answered before act (Replied reply) after → SaysBooked stands booked after →
-      (call : Entry) → Some (called before.process act reply) ≡ Some call →
-      StoodBehind (Stood stands booked) before (called before.process act reply ∷ []) call
-      after.booked after
-  behind_call before after act reply same a says call is =
+  behind_call : (before after : Known) (act : Act) (reply : Reply) (receipt : Option Covered) →
+      IsSamePass before after → Answered before act (Replied reply) after →
+      Gives stands booked after receipt → (call : Entry) →
+      Some (called before.process act reply) ≡ Some call →
+      StoodBehind (Stood stands booked) before (called before.process act reply ∷ []) call receipt
+      after
+  behind_call before after act reply receipt same a says call is =
       let this : called before.process act reply ≡ call = cc in
       subst (λ (e : Entry). StoodBehind (Stood stands booked) before
-      (called before.process act reply ∷ []) e after.booked after) this
+      (called before.process act reply ∷ []) e receipt after) this
       (record {
         front = a.front;
         begins = subst (λ (run : List Entry). Continues after.seen run) a.ends
@@ -378,28 +386,29 @@ module _ {M : Type 0} (stands : ChineseWall → M → List Entry → Type 0)
       })
 
   -- a wait of one take
-  pub waited_once : (before after : Known) (request : ℕ) (a : Answer) → IsSamePass before after →
-      Legal before.door.policy after.seen → Answered before (Take request) a after →
-      StoodAt stands booked before a after →
-      Waited (Stood stands booked) before request a after
-  waited_once before after request (Replied reply) same legal a says = (
+  pub waited_once : (before after : Known) (request : ℕ) (a : Answer) (old new : Option Covered) →
+      IsSamePass before after → Legal before.door.policy after.seen →
+      Answered before (Take request) a after → GivesAt stands booked before a after old new →
+      Waited (Stood stands booked) before request a new after
+  waited_once before after request (Replied reply) old new same legal a says = (
     0,
     record {
       says = refl;
       sees = sees_call before after (Take request) reply same legal a;
-      so = λ call is. behind_call before after (Take request) reply same a says call is;
+      so = λ call is. behind_call before after (Take request) reply new same a says call is;
     },
   )
-  waited_once before after request Late same legal a says =
+  waited_once before after request Late old new same legal a says =
       (sees_late before after (Take request) same legal a, a.1)
 
   -- a wait of one take more
-  pub waited_more : (before mid after : Known) (request : ℕ) (reply : Reply) →
-      Waited (Stood stands booked) before request (Replied Pending) mid → IsSamePass mid after →
-      Legal mid.door.policy after.seen → Answered mid (Take request) (Replied reply) after →
-      SaysBooked stands booked after →
-      Waited (Stood stands booked) before request (Replied reply) after
-  waited_more before mid after request reply (again, w) same legal a says =
+  pub waited_more : (before mid after : Known) (request : ℕ) (reply : Reply)
+      (old new : Option Covered) →
+      Waited (Stood stands booked) before request (Replied Pending) old mid →
+      IsSamePass mid after → Legal mid.door.policy after.seen →
+      Answered mid (Take request) (Replied reply) after → Gives stands booked after new →
+      Waited (Stood stands booked) before request (Replied reply) new after
+  waited_more before mid after request reply old new (again, w) same legal a says =
       let first = calls_for before.process (waited request again Pending) in
       let number : mid.process ≡ before.process = w.sees.same.1 in (
         suc again,
@@ -411,21 +420,21 @@ module _ {M : Type 0} (stands : ChineseWall → M → List Entry → Type 0)
               (sees_call mid after (Take request) reply same legal a));
           so = λ call is.
               subst (λ (p : ℕ). StoodBehind (Stood stands booked) before
-              (called p (Take request) reply ∷ first) call after.booked after) number
+              (called p (Take request) reply ∷ first) call new after) number
               (behind_then (Stood stands booked) before mid after first
-              (called mid.process (Take request) reply ∷ []) call after.booked w.sees
-              (behind_call mid after (Take request) reply same a says call
+              (called mid.process (Take request) reply ∷ []) call new w.sees
+              (behind_call mid after (Take request) reply new same a says call
               (ap (λ (p : ℕ). Some (called p (Take request) reply)) number ∙ is)));
         },
       )
 
   -- a wait whose next take came too late
-  pub waited_still : (before mid after : Known) (request : ℕ) →
-      Waited (Stood stands booked) before request (Replied Pending) mid → IsSamePass mid after →
-      Legal mid.door.policy after.seen → Answered mid (Take request) Late after →
-      after.booked ≡ mid.booked →
-      Waited (Stood stands booked) before request (Replied Pending) after
-  waited_still before mid after request (again, w) same legal a keeps =
+  pub waited_still : (before mid after : Known) (request : ℕ) (old new : Option Covered) →
+      Waited (Stood stands booked) before request (Replied Pending) old mid →
+      IsSamePass mid after → Legal mid.door.policy after.seen →
+      Answered mid (Take request) Late after → (after.booked ≡ mid.booked) × (new ≡ old) →
+      Waited (Stood stands booked) before request (Replied Pending) new after
+  waited_still before mid after request old new (again, w) same legal a keeps =
       let first = calls_for before.process (waited request again Pending) in (
         again,
         record {
@@ -433,25 +442,25 @@ module _ {M : Type 0} (stands : ChineseWall → M → List Entry → Type 0)
           sees = sees_then before mid after first [] w.sees
               (sees_late mid after (Take request) same legal a);
           so = subst (λ (b : Option Covered). StoodFor (Stood stands booked) before
-              (waited request again Pending) first b after) (sym keeps)
+              (waited request again Pending) first b after) (sym keeps.1)
               (for_on (Stood stands booked) before mid after (waited request again Pending) first
-              mid.booked a.0.begins w.so);
+              old a.0.begins w.so);
         },
       )
 
-  pub act_came : (before after : Known) (act : Act) (a : Answer) → IsSamePass before after →
-      Legal before.door.policy after.seen → Answered before act a after →
-      StoodAt stands booked before a after →
-      CameTo (Stood stands booked) before (ToAct act) (came_of a after.booked) after
-  act_came before after act (Replied reply) same legal a says =
+  pub act_came : (before after : Known) (act : Act) (a : Answer) (old new : Option Covered) →
+      IsSamePass before after → Legal before.door.policy after.seen →
+      Answered before act a after → GivesAt stands booked before a after old new →
+      CameTo (Stood stands booked) before (ToAct act) (came_of a new) new after
+  act_came before after act (Replied reply) old new same legal a says =
       told_or_not (Stood stands booked) before after (ToAct act) (done act reply) reply
-      after.booked refl (λ e. absurd cc) refl
+      new (λ e. absurd cc) refl
       (record {
         says = refl;
         sees = sees_call before after act reply same legal a;
-        so = λ call is. behind_call before after act reply same a says call is;
+        so = λ call is. behind_call before after act reply new same a says call is;
       })
-  act_came before after act Late same legal a says = record {
+  act_came before after act Late old new same legal a says = record {
     ask = ToAct act;
     says = refl;
     calls = no_leave (ToAct act) act refl;
@@ -460,12 +469,13 @@ module _ {M : Type 0} (stands : ChineseWall → M → List Entry → Type 0)
   }
 
 pub wait_came : (stood : ChineseWall → List Entry → Option Covered → Type 0) (before after : Known)
-    (request : ℕ) (a : Answer) → Waited stood before request a after →
-    CameTo stood before (Wait request) (came_of a after.booked) after
-wait_came stood before after request (Replied reply) (again, comes) =
-    told_or_not stood before after (Wait request) (waited request again reply) reply after.booked
-    refl (λ e. absurd cc) refl comes
-wait_came stood before after request Late (sees, late) = record {
+    (request : ℕ) (a : Answer) (receipt : Option Covered) →
+    Waited stood before request a receipt after →
+    CameTo stood before (Wait request) (came_of a receipt) receipt after
+wait_came stood before after request (Replied reply) receipt (again, comes) =
+    told_or_not stood before after (Wait request) (waited request again reply) reply receipt
+    (λ e. absurd cc) refl comes
+wait_came stood before after request Late receipt (sees, late) = record {
   ask = Wait request;
   says = refl;
   calls = no_wait (Wait request) request refl;
@@ -493,36 +503,41 @@ module _ (stood : ChineseWall → List Entry → Option Covered → Type 0) wher
   comes_bad wall before line bad is legal says =
       (says, sees_none before (subst (λ (w : ChineseWall). Legal w before.seen) is legal))
 
-  came_answers : (wall : ChineseWall) (before after : Known) (ask : Ask) (it : Came) →
-      CameTo stood before ask it after →
-      AnswersSo stood wall before (Ok ask) (line_to wall it) after (next_after it)
-  came_answers wall before after ask (cames.Reply reply) (told, comes, is) =
+  came_answers : (wall : ChineseWall) (before after : Known) (ask : Ask) (it : Came)
+      (receipt : Option Covered) → CameTo stood before ask it receipt after →
+      AnswersSo stood wall before (Ok ask) (line_to wall it) receipt after (next_after it)
+  came_answers wall before after ask (cames.Reply reply) receipt (told, comes, is) =
       (told, comes, replied wall told reply is)
-  came_answers wall before after ask cames.Left (is, sees) = (ap Ok is, sees, refl)
-  came_answers wall before after ask cames.Exhausted late = (late, refl)
-  came_answers wall before after ask cames.Unbooked comes = (comes, refl)
+  came_answers wall before after ask cames.Left receipt (is, sees) = (ap Ok is, sees, refl)
+  came_answers wall before after ask cames.Exhausted receipt late = (late, refl)
+  came_answers wall before after ask cames.Unbooked receipt comes = (comes, refl)
 
-  may_have : (before after : Known) (ask : Ask) (it : Came) → CameTo stood before ask it after →
+  may_have : (before after : Known) (ask : Ask) (it : Came) (receipt : Option Covered) →
+      CameTo stood before ask it receipt after →
       MayHaveCome stood before (Ok ask) after
-  may_have before after ask (cames.Reply reply) (told, (covers, comes, at), is) =
+  may_have before after ask (cames.Reply reply) receipt (told, (covers, comes, at), is) =
       inr (told, Some covers, comes)
-  may_have before after ask cames.Left (is, sees) = inl sees
-  may_have before after ask cames.Exhausted late = inl late.sees
-  may_have before after ask cames.Unbooked (told, comes, calls) = inr (told, None, comes)
+  may_have before after ask cames.Left receipt (is, sees) = inl sees
+  may_have before after ask cames.Exhausted receipt late = inl late.sees
+  may_have before after ask cames.Unbooked receipt (told, comes, calls) = inr (told, None, comes)
 
   -- what came of a line was put, or memory ran out
   pub puts_came : (wall : ChineseWall) (before after : Known) (line : Result Ask BadLine)
-      (ask : Ask) (it : Came) (text : List ℕ) (r : Result Next OutOfMemory) → line ≡ Ok ask →
-      CameTo stood before ask it after → IfOk r (λ next. text ≡ line_to wall it) →
-      IfOk r (λ next. next ≡ next_after it) → PutsAnswer stood wall before line text after r
-  puts_came wall before after line ask it text (Ok nx) is came put goes =
-      subst (λ (l : Result Ask BadLine). AnswersSo stood wall before l text after nx) (sym is)
-      (subst (AnswersSo stood wall before (Ok ask) text after) (sym goes)
-      (subst (λ (t : List ℕ). AnswersSo stood wall before (Ok ask) t after (next_after it))
-      (sym put) (came_answers wall before after ask it came)))
-  puts_came wall before after line ask it text (Err e) is came put goes =
+      (ask : Ask) (it : Came) (text : List ℕ) (receipt : Option Covered)
+      (r : Result Next OutOfMemory) → line ≡ Ok ask →
+      CameTo stood before ask it receipt after → IfOk r (λ next. text ≡ line_to wall it) →
+      IfOk r (λ next. next ≡ next_after it) →
+      PutsAnswer stood wall before line text receipt after r
+  puts_came wall before after line ask it text receipt (Ok nx) is came put goes =
+      subst (λ (l : Result Ask BadLine). AnswersSo stood wall before l text receipt after nx)
+      (sym is)
+      (subst (AnswersSo stood wall before (Ok ask) text receipt after) (sym goes)
+      (subst
+      (λ (t : List ℕ). AnswersSo stood wall before (Ok ask) t receipt after (next_after it))
+      (sym put) (came_answers wall before after ask it receipt came)))
+  puts_came wall before after line ask it text receipt (Err e) is came put goes =
       subst (λ (l : Result Ask BadLine). MayHaveCome stood before l after) (sym is)
-      (may_have before after ask it came)
+      (may_have before after ask it receipt came)
 
 -- ---- the desk
 
@@ -568,19 +583,20 @@ module _ (stood : ChineseWall → List Entry → Option Covered → Type 0) {O :
 
   -- a line's answer is this text, and it is told as the session goes on
   record Telling (wall : ChineseWall) (written : Option (List ℕ)) (before : Known)
-      (line : Result Ask BadLine) (text : List ℕ) (after : Known) (next : Next) : Type 0 where
+      (line : Result Ask BadLine) (text : List ℕ) (receipt : Option Covered) (after : Known)
+      (next : Next) : Type 0 where
     told : Told
     says : line ≡ said_by told
     sees : SeesMore before (calls_for before.process told) after
     booked : AreBooked stood wall written before (told ∷ [])
-        (shown_next next after.booked written) after
+        (shown_next next receipt written) after
     is : text ≡ answer wall told
 
   telling : (wall : ChineseWall) (written : Option (List ℕ)) (b d : Known)
-      (line : Result Ask BadLine) (text : List ℕ) →
-      AnswersSo stood wall b line text d nexts.Replied →
-      Telling wall written b line text d nexts.Replied
-  telling wall written b d line text (told, (covers, comes, at, calls), is) =
+      (line : Result Ask BadLine) (text : List ℕ) (receipt : Option Covered) →
+      AnswersSo stood wall b line text receipt d nexts.Replied →
+      Telling wall written b line text receipt d nexts.Replied
+  telling wall written b d line text receipt (told, (covers, comes, at, calls), is) =
       let show : Shown = record { covers = covers; written = written } in record {
         told = told;
         says = comes.says;
@@ -597,10 +613,10 @@ module _ (stood : ChineseWall → List Entry → Option Covered → Type 0) {O :
       }
 
   telling_bad : (wall : ChineseWall) (written : Option (List ℕ)) (b d : Known)
-      (line : Result Ask BadLine) (text : List ℕ) →
-      AnswersSo stood wall b line text d nexts.GoesOn →
-      Telling wall written b line text d nexts.GoesOn
-  telling_bad wall written b d line text (bad, says, sees, is) = record {
+      (line : Result Ask BadLine) (text : List ℕ) (receipt : Option Covered) →
+      AnswersSo stood wall b line text receipt d nexts.GoesOn →
+      Telling wall written b line text receipt d nexts.GoesOn
+  telling_bad wall written b d line text receipt (bad, says, sees, is) = record {
     told = asked_nothing bad;
     says = says;
     sees = sees;
@@ -610,29 +626,31 @@ module _ (stood : ChineseWall → List Entry → Option Covered → Type 0) {O :
 
   -- one line more was told
   told_more : (wall : ChineseWall) (a b d : Known) (text later : List Word) (line : Word)
-      (p q r : Option (List Shown)) (old mid : O) (words : List ℕ) (nx : Next) →
+      (p q r : Option (List Shown)) (old mid : O) (words : List ℕ) (receipt : Option Covered)
+      (nx : Next) →
       (s : SoFar stood wall a text (line ∷ later) (Since p q) (Between old mid) b) →
-      (t : Telling wall (contents mid) b (said wall.dataset_names line) words d nx) →
+      (t : Telling wall (contents mid) b (said wall.dataset_names line) words receipt d nx) →
       AreBooked stood wall (contents old) a (t.told ∷ s.told)
-      (shown_next nx d.booked (contents mid) ++ s.shows) d
-  told_more wall a b d text later line p q r old mid words nx s t =
+      (shown_next nx receipt (contents mid) ++ s.shows) d
+  told_more wall a b d text later line p q r old mid words receipt nx s t =
       booked_then stood wall (contents old) (contents mid) a b d s.told (t.told ∷ []) s.shows
-      (shown_next nx d.booked (contents mid)) s.acted.sees s.written.1 s.booked t.booked
+      (shown_next nx receipt (contents mid)) s.acted.sees s.written.1 s.booked t.booked
       t.sees.begins
 
   goes_told : (wall : ChineseWall) (a b d : Known) (text later : List Word) (line : Word)
-      (p q r : Option (List Shown)) (old mid new : O) (words : List ℕ) (nx : Next) →
+      (p q r : Option (List Shown)) (old mid new : O) (words : List ℕ)
+      (receipt : Option Covered) (nx : Next) →
       SoFar stood wall a text (line ∷ later) (Since p q) (Between old mid) b →
-      Telling wall (contents mid) b (said wall.dataset_names line) words d nx →
-      ShowsNext (Since q r) (Between mid new) d nx → IsWritten (Between mid new) words →
+      Telling wall (contents mid) b (said wall.dataset_names line) words receipt d nx →
+      Tells q r (shown_next nx receipt (contents mid)) → IsWritten (Between mid new) words →
       SoFar stood wall a text later (Since p r) (Between old new) d
-  goes_told wall a b d text later line p q r old mid new words nx s t shows w = record {
+  goes_told wall a b d text later line p q r old mid new words receipt nx s t shows w = record {
     lines = line ∷ s.lines;
     told = t.told ∷ s.told;
     acted = acted_more wall a b d text s.lines later line s.told t.told s.acted t.says t.sees;
-    shows = shown_next nx d.booked (contents mid) ++ s.shows;
-    shown = tells_then p q r s.shows (shown_next nx d.booked (contents mid)) s.shown shows;
-    booked = told_more wall a b d text later line p q r old mid words nx s t;
+    shows = shown_next nx receipt (contents mid) ++ s.shows;
+    shown = tells_then p q r s.shows (shown_next nx receipt (contents mid)) s.shown shows;
+    booked = told_more wall a b d text later line p q r old mid words receipt nx s t;
     written = written_then old mid new (answers wall s.told) (answer wall t.told) s.written
         (subst (IsWritten (Between mid new)) t.is w);
   }
@@ -643,12 +661,14 @@ module _ (stood : ChineseWall → List Entry → Option Covered → Type 0) {O :
       SoFar stood wall a text (line ∷ later) (Since p q) (Between old mid) b →
       AnswersLine stood wall b (said wall.dataset_names line) (Since q r) (Between mid new) d
       (Ok x) → SoFar stood wall a text later (Since p r) (Between old new) d
-  goes_on x wall a b d text later line p q r old mid new s (inl (words, so, shows, w)) =
-      goes_told wall a b d text later line p q r old mid new words nexts.Replied s
-      (telling wall (contents mid) b d (said wall.dataset_names line) words so) shows w
-  goes_on x wall a b d text later line p q r old mid new s (inr (words, so, shows, w)) =
-      goes_told wall a b d text later line p q r old mid new words nexts.GoesOn s
-      (telling_bad wall (contents mid) b d (said wall.dataset_names line) words so) shows w
+  goes_on x wall a b d text later line p q r old mid new s
+      (inl (words, (receipt, so, shows), w)) =
+      goes_told wall a b d text later line p q r old mid new words receipt nexts.Replied s
+      (telling wall (contents mid) b d (said wall.dataset_names line) words receipt so) shows w
+  goes_on x wall a b d text later line p q r old mid new s
+      (inr (words, (receipt, so, shows), w)) =
+      goes_told wall a b d text later line p q r old mid new words receipt nexts.GoesOn s
+      (telling_bad wall (contents mid) b d (said wall.dataset_names line) words receipt so) shows w
 
   -- memory ran out before the next line
   pub stops_here : (wall : ChineseWall) (a b : Known) (text rest : List Word) (desk : Showing)
@@ -678,17 +698,18 @@ module _ (stood : ChineseWall → List Entry → Option Covered → Type 0) {O :
 
   -- the line at hand ends the session
   left_at : (wall : ChineseWall) (a before after : Known) (line next : Word) (later : List Word)
-      (told : List Told) (text : List ℕ) →
-      AnswersSo stood wall before (said wall.dataset_names line) text after nexts.Left →
+      (told : List Told) (text : List ℕ) (receipt : Option Covered) →
+      AnswersSo stood wall before (said wall.dataset_names line) text receipt after nexts.Left →
       EndsAt stood wall a (line ∷ next ∷ later) told None after Left text
-  left_at wall a before after line next later told text (says, sees, is) =
+  left_at wall a before after line next later told text receipt (says, sees, is) =
       ((line, next, later, Leave, refl, says, refl), is)
 
   late_at : (wall : ChineseWall) (a before after : Known) (line next : Word) (later : List Word)
-      (told : List Told) (text : List ℕ) →
-      AnswersSo stood wall before (said wall.dataset_names line) text after nexts.Exhausted →
+      (told : List Told) (text : List ℕ) (receipt : Option Covered) →
+      AnswersSo stood wall before (said wall.dataset_names line) text receipt after
+      nexts.Exhausted →
       EndsAt stood wall a (line ∷ next ∷ later) told None after Exhausted text
-  late_at wall a before after line next later told text (late, is) =
+  late_at wall a before after line next later told text receipt (late, is) =
       ((line, next, later, late.ask, refl, late.says, late.calls), late.late, is)
 
   -- what the line at hand came to is not told
@@ -717,21 +738,22 @@ module _ (stood : ChineseWall → List Entry → Option Covered → Type 0) {O :
 
   -- the answer to a line that is told was not written to its end
   breaks_told : (wall : ChineseWall) (a b d : Known) (text later : List Word) (line after : Word)
-      (p q r : Option (List Shown)) (old mid new : O) (nx : Next) (words : List ℕ) →
+      (p q r : Option (List Shown)) (old mid new : O) (receipt : Option Covered) (nx : Next)
+      (words : List ℕ) →
       SoFar stood wall a text (line ∷ after ∷ later) (Since p q) (Between old mid) b →
-      Telling wall (contents mid) b (said wall.dataset_names line) words d nx →
-      ShowsNext (Since q r) (Between mid new) d nx → BrokeOff (Between mid new) words →
+      Telling wall (contents mid) b (said wall.dataset_names line) words receipt d nx →
+      Tells q r (shown_next nx receipt (contents mid)) → BrokeOff (Between mid new) words →
       Stops stood wall a text (Since p r) (Between old new) d WriteFailed
-  breaks_told wall a b d text later line after p q r old mid new nx words s t shows f = record {
+  breaks_told wall a b d text later line after p q r old mid new receipt nx words s t shows f = record {
     lines = line ∷ s.lines;
     rest = after ∷ later;
     told = t.told ∷ s.told;
     untold = None;
     acted = acted_more wall a b d text s.lines (after ∷ later) line s.told t.told s.acted t.says
         t.sees;
-    shows = shown_next nx d.booked (contents mid) ++ s.shows;
-    shown = tells_then p q r s.shows (shown_next nx d.booked (contents mid)) s.shown shows;
-    booked = told_more wall a b d text (after ∷ later) line p q r old mid words nx s t;
+    shows = shown_next nx receipt (contents mid) ++ s.shows;
+    shown = tells_then p q r s.shows (shown_next nx receipt (contents mid)) s.shown shows;
+    booked = told_more wall a b d text (after ∷ later) line p q r old mid words receipt nx s t;
     stops = (
       f.0 ∙ ap (λ (n : ℕ). n + 1) s.written.0,
       inl (
@@ -748,16 +770,19 @@ module _ (stood : ChineseWall → List Entry → Option Covered → Type 0) {O :
   breaks_in : (wall : ChineseWall) (a b d : Known) (text later : List Word) (line after : Word)
       (p q r : Option (List Shown)) (old mid new : O) (nx : Next) (words : List ℕ) →
       SoFar stood wall a text (line ∷ after ∷ later) (Since p q) (Between old mid) b →
-      AnswersSo stood wall b (said wall.dataset_names line) words d nx →
-      ShowsNext (Since q r) (Between mid new) d nx → BrokeOff (Between mid new) words →
+      AnswersBehind stood wall b (said wall.dataset_names line) words (Since q r)
+      (Between mid new) d nx → BrokeOff (Between mid new) words →
       Stops stood wall a text (Since p r) (Between old new) d WriteFailed
-  breaks_in wall a b d text later line after p q r old mid new nexts.Replied words s so shows f =
-      breaks_told wall a b d text later line after p q r old mid new nexts.Replied words s
-      (telling wall (contents mid) b d (said wall.dataset_names line) words so) shows f
-  breaks_in wall a b d text later line after p q r old mid new nexts.GoesOn words s so shows f =
-      breaks_told wall a b d text later line after p q r old mid new nexts.GoesOn words s
-      (telling_bad wall (contents mid) b d (said wall.dataset_names line) words so) shows f
-  breaks_in wall a b d text later line after p q r old mid new nexts.Left words s so shows f = record {
+  breaks_in wall a b d text later line after p q r old mid new nexts.Replied words s
+      (receipt, so, shows) f =
+      breaks_told wall a b d text later line after p q r old mid new receipt nexts.Replied words s
+      (telling wall (contents mid) b d (said wall.dataset_names line) words receipt so) shows f
+  breaks_in wall a b d text later line after p q r old mid new nexts.GoesOn words s
+      (receipt, so, shows) f =
+      breaks_told wall a b d text later line after p q r old mid new receipt nexts.GoesOn words s
+      (telling_bad wall (contents mid) b d (said wall.dataset_names line) words receipt so) shows f
+  breaks_in wall a b d text later line after p q r old mid new nexts.Left words s
+      (receipt, so, shows) f = record {
     lines = s.lines;
     rest = line ∷ after ∷ later;
     told = s.told;
@@ -771,12 +796,13 @@ module _ (stood : ChineseWall → List Entry → Option Covered → Type 0) {O :
       inr (
         Left,
         words,
-        left_at wall a b d line after later s.told words so,
+        left_at wall a b d line after later s.told words receipt so,
         cut_more old mid new (answers wall s.told) words words s.written f.1 refl,
       ),
     );
   }
-  breaks_in wall a b d text later line after p q r old mid new nexts.Exhausted words s so shows f = record {
+  breaks_in wall a b d text later line after p q r old mid new nexts.Exhausted words s
+      (receipt, so, shows) f = record {
     lines = s.lines;
     rest = line ∷ after ∷ later;
     told = s.told;
@@ -790,13 +816,13 @@ module _ (stood : ChineseWall → List Entry → Option Covered → Type 0) {O :
       inr (
         Exhausted,
         words,
-        late_at wall a b d line after later s.told words so,
+        late_at wall a b d line after later s.told words receipt so,
         cut_more old mid new (answers wall s.told) words words s.written f.1 refl,
       ),
     );
   }
   breaks_in wall a b d text later line after p q r old mid new nexts.Unbooked words s
-      ((told, comes, calls), is) shows f = record {
+      (receipt, ((told, comes, calls), is), shows) f = record {
         lines = line ∷ s.lines;
         rest = after ∷ later;
         told = s.told;
@@ -828,9 +854,10 @@ module _ (stood : ChineseWall → List Entry → Option Covered → Type 0) {O :
       AnswersLine stood {X = Unit {0}} wall b (said wall.dataset_names line) (Since q r)
       (Between mid new) d (Err end) → Stops stood wall a text (Since p r) (Between old new) d end
   breaks_off wall a b d text later line after p q r old mid new WriteFailed s
-      (nx, words, so, shows, f) =
-      breaks_in wall a b d text later line after p q r old mid new nx words s so shows f
-  breaks_off wall a b d text later line after p q r old mid new Left s (words, so, shows, w) = record {
+      (nx, words, so, f) =
+      breaks_in wall a b d text later line after p q r old mid new nx words s so f
+  breaks_off wall a b d text later line after p q r old mid new Left s
+      (words, (receipt, so, shows), w) = record {
     lines = s.lines;
     rest = line ∷ after ∷ later;
     told = s.told;
@@ -841,11 +868,12 @@ module _ (stood : ChineseWall → List Entry → Option Covered → Type 0) {O :
     booked = booked_on stood wall (contents old) a b d s.told s.shows so.1.begins s.booked;
     stops = (
       words,
-      left_at wall a b d line after later s.told words so,
+      left_at wall a b d line after later s.told words receipt so,
       written_then old mid new (answers wall s.told) words s.written w,
     );
   }
-  breaks_off wall a b d text later line after p q r old mid new Exhausted s (words, so, shows, w) = record {
+  breaks_off wall a b d text later line after p q r old mid new Exhausted s
+      (words, (receipt, so, shows), w) = record {
     lines = s.lines;
     rest = line ∷ after ∷ later;
     told = s.told;
@@ -856,12 +884,12 @@ module _ (stood : ChineseWall → List Entry → Option Covered → Type 0) {O :
     booked = booked_on stood wall (contents old) a b d s.told s.shows so.0.sees.begins s.booked;
     stops = (
       words,
-      late_at wall a b d line after later s.told words so,
+      late_at wall a b d line after later s.told words receipt so,
       written_then old mid new (answers wall s.told) words s.written w,
     );
   }
   breaks_off wall a b d text later line after p q r old mid new Unbooked s
-      (words, ((told, comes, calls), is), shows, w) = record {
+      (words, (receipt, ((told, comes, calls), is), shows), w) = record {
         lines = line ∷ s.lines;
         rest = after ∷ later;
         told = s.told;

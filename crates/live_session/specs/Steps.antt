@@ -69,13 +69,13 @@ pub record IsUnread {S : Type 0} (fails : S → ℕ) (left : S → Option (List 
   pub reads_same : (heard new).reads ≡ (heard old).reads
 
 -- what is shown before the session goes on so: the receipt of the call to which a reply comes next
-abbrev pub shown_next : Next → (booked : Option Covered) → (written : Option (List ℕ)) → List Shown
+abbrev pub shown_next : Next → (receipt : Option Covered) → (written : Option (List ℕ)) → List Shown
 shown_next nexts.Replied (Some covers) written = record { covers = covers; written = written } ∷ []
 shown_next nexts.Replied None written = []
-shown_next nexts.GoesOn booked written = []
-shown_next nexts.Left booked written = []
-shown_next nexts.Exhausted booked written = []
-shown_next nexts.Unbooked booked written = []
+shown_next nexts.GoesOn receipt written = []
+shown_next nexts.Left receipt written = []
+shown_next nexts.Exhausted receipt written = []
+shown_next nexts.Unbooked receipt written = []
 
 -- ---- one line
 
@@ -137,59 +137,64 @@ module _ (stood : ChineseWall → List Entry → Option Covered → Type 0) wher
   ComesUnbooked before line after = (told : Told) × ComesTo before line told None after
       × (last_call before.process told ≢ None)
 
-  -- the line came to something that is told, with the receipt of its last call
-  abbrev pub ComesBooked : (before : Known) → Result Ask BadLine → Told → (after : Known) → Type 0
-  ComesBooked before line told after = (covers : Covered)
-      × ComesTo before line told (Some covers) after × (after.booked ≡ Some covers)
+  -- the line came to something that is told, with this receipt of its last call
+  abbrev pub ComesBooked : (before : Known) → Result Ask BadLine → Told →
+      (receipt : Option Covered) → (after : Known) → Type 0
+  ComesBooked before line told receipt after = (covers : Covered)
+      × ComesTo before line told (Some covers) after × (receipt ≡ Some covers)
       × (last_call before.process told ≢ None)
 
   -- what a line came to that asks for something
-  abbrev pub CameTo : (before : Known) → Ask → Came → (after : Known) → Type 0
-  CameTo before ask (cames.Reply reply) after =
-      (told : Told) × ComesBooked before (Ok ask) told after × (reply_to told ≡ Some reply)
-  CameTo before ask cames.Left after = (ask ≡ Leave) × SeesMore before [] after
-  CameTo before ask cames.Exhausted after = ComesTooLate before (Ok ask) after
-  CameTo before ask cames.Unbooked after = ComesUnbooked before (Ok ask) after
+  abbrev pub CameTo : (before : Known) → Ask → Came → (receipt : Option Covered) →
+      (after : Known) → Type 0
+  CameTo before ask (cames.Reply reply) receipt after = (told : Told)
+      × ComesBooked before (Ok ask) told receipt after × (reply_to told ≡ Some reply)
+  CameTo before ask cames.Left receipt after = (ask ≡ Leave) × SeesMore before [] after
+  CameTo before ask cames.Exhausted receipt after = ComesTooLate before (Ok ask) after
+  CameTo before ask cames.Unbooked receipt after = ComesUnbooked before (Ok ask) after
 
   -- the request was taken again and again, all takes but the last answered Pending, and this is the
-  -- answer to the last, behind which the machine was as the pass says; the door was too late at the
-  -- first take alone
-  abbrev pub Waited : (before : Known) → (request : ℕ) → Answer → (after : Known) → Type 0
-  Waited before request (Replied reply) after = (again : ℕ)
-      × ComesTo before (Ok (Wait request)) (waited request again reply) after.booked after
-  Waited before request Late after = SeesMore before [] after × (2 ^ 62 ≤ length after.seen)
+  -- answer to the last, behind which the machine gave this receipt, if it was booked; the door was
+  -- too late at the first take alone
+  abbrev pub Waited : (before : Known) → (request : ℕ) → Answer → (receipt : Option Covered) →
+      (after : Known) → Type 0
+  Waited before request (Replied reply) receipt after = (again : ℕ)
+      × ComesTo before (Ok (Wait request)) (waited request again reply) receipt after
+  Waited before request Late receipt after = SeesMore before [] after × (2 ^ 62 ≤ length after.seen)
 
   -- the text answers the line, and the session goes on so
   abbrev pub AnswersSo : ChineseWall → (before : Known) → Result Ask BadLine → (text : List ℕ) →
-      (after : Known) → Next → Type 0
-  AnswersSo wall before line text after nexts.Replied =
-      (told : Told) × ComesBooked before line told after × (text ≡ answer wall told)
-  AnswersSo wall before line text after nexts.GoesOn = (bad : BadLine) × (line ≡ Err bad)
+      (receipt : Option Covered) → (after : Known) → Next → Type 0
+  AnswersSo wall before line text receipt after nexts.Replied =
+      (told : Told) × ComesBooked before line told receipt after × (text ≡ answer wall told)
+  AnswersSo wall before line text receipt after nexts.GoesOn = (bad : BadLine) × (line ≡ Err bad)
       × SeesMore before [] after × (text ≡ answer wall (asked_nothing bad))
-  AnswersSo wall before line text after nexts.Left =
+  AnswersSo wall before line text receipt after nexts.Left =
       (line ≡ Ok Leave) × SeesMore before [] after × (text ≡ left_line)
-  AnswersSo wall before line text after nexts.Exhausted =
+  AnswersSo wall before line text receipt after nexts.Exhausted =
       ComesTooLate before line after × (text ≡ exhausted_line)
-  AnswersSo wall before line text after nexts.Unbooked =
+  AnswersSo wall before line text receipt after nexts.Unbooked =
       ComesUnbooked before line after × (text ≡ unbooked_line)
 
   -- the line was acted on and its answer is the text; or memory ran out
   abbrev pub PutsAnswer : ChineseWall → (before : Known) → Result Ask BadLine → (text : List ℕ) →
-      (after : Known) → Result Next OutOfMemory → Type 0
-  PutsAnswer wall before line text after (Ok next) = AnswersSo wall before line text after next
-  PutsAnswer wall before line text after (Err error) = MayHaveCome before line after
+      (receipt : Option Covered) → (after : Known) → Result Next OutOfMemory → Type 0
+  PutsAnswer wall before line text receipt after (Ok next) =
+      AnswersSo wall before line text receipt after next
+  PutsAnswer wall before line text receipt after (Err error) = MayHaveCome before line after
 
-  -- the desk was shown what is due before this answer
-  abbrev pub ShowsNext : {O : Type 0} → (desk : Showing) → Used O → (after : Known) → Next → Type 0
-  ShowsNext desk sink after next =
-      Tells desk.before desk.since (shown_next next after.booked (bytes_before sink))
+  -- the text answers the line, and the desk was shown what is due before
+  abbrev pub AnswersBehind : {O : Type 0} → ChineseWall → (before : Known) → Result Ask BadLine →
+      (text : List ℕ) → (desk : Showing) → Used O → (after : Known) → Next → Type 0
+  AnswersBehind wall before line text desk sink after next = (receipt : Option Covered)
+      × AnswersSo wall before line text receipt after next
+      × Tells desk.before desk.since (shown_next next receipt (bytes_before sink))
 
   -- the line's answer was written, after which the session goes on so
   abbrev pub WritesAnswer : {O : Type 0} → ChineseWall → (before : Known) → Result Ask BadLine →
       (desk : Showing) → Used O → (after : Known) → Next → Type 0
   WritesAnswer wall before line desk sink after next = (text : List ℕ)
-      × AnswersSo wall before line text after next × ShowsNext desk sink after next
-      × IsWritten sink text
+      × AnswersBehind wall before line text desk sink after next × IsWritten sink text
 
   -- the line was acted on and its answer was written; or why the session ends
   abbrev pub AnswersLine : {X O : Type 0} → ChineseWall → (before : Known) →
@@ -205,8 +210,8 @@ module _ (stood : ChineseWall → List Entry → Option Covered → Type 0) wher
   AnswersLine wall before line desk sink after (Err Unbooked) =
       WritesAnswer wall before line desk sink after nexts.Unbooked
   AnswersLine wall before line desk sink after (Err WriteFailed) = (next : Next)
-      × (text : List ℕ) × AnswersSo wall before line text after next
-      × ShowsNext desk sink after next × BrokeOff sink text
+      × (text : List ℕ) × AnswersBehind wall before line text desk sink after next
+      × BrokeOff sink text
   AnswersLine wall before line desk sink after (Err NoMemory) = IsUntouched sink
       × (desk.since ≡ desk.before) × MayHaveCome before line after
   AnswersLine wall before line desk sink after (Err ReadFailed) = ⊥

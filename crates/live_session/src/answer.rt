@@ -1,5 +1,5 @@
 //! Acts on one line, and answers it.
-ghost use Rattle.std.specs.Prelude.{◌≡◌, List, ℕ, [], OnOk, IfOk};
+ghost use Rattle.std.specs.Prelude.{◌≡◌, List, ℕ, [], OnOk, IfOk, option_map};
 ghost use Rattle.run_model.specs.Replies.{Legal};
 ghost use Rattle.hall_turn.specs.Answers.{IsSamePass};
 ghost use Rattle.hall_script.specs.Devices.{used};
@@ -17,7 +17,7 @@ use crate::seat::Seat;
 use crate::setting::Setting;
 use coll_text::{put, send};
 use hall_script::write_reply;
-use hall_turn::{Machine, PassTo};
+use hall_turn::{Machine, PassTo, Receipt};
 use std::sync::Wait;
 use wall_labels::{NoMemory, Sink};
 use wall_policy::Policy;
@@ -65,18 +65,18 @@ fn put_came(policy: &Policy, came: &Came, text: &mut Vec<u8>) -> Result<Next, No
 }
 
 // Where a reply comes next, the desk is shown the receipt of its call.
-fn show_receipt<M: Machine, S: Desk<O, M::Receipt>, O: Sink>(
-    pass: &PassTo<M>,
+fn show_receipt<T: Receipt, S: Desk<O, T>, O: Sink>(
+    receipt: &Option<T>,
     next: Next,
     source: &mut S,
     sink: &O,
 )
     ensures unread { IsUnread S.failures S.remaining S.heard source.old source.new }
     ensures shows { Tells (S.heard source.old).shows (S.heard source.new).shows
-        (shown_next next pass.now.booked (O.contents sink.now)) }
+        (shown_next next (option_map T.covers receipt.now) (O.contents sink.now)) }
 {
     match next {
-        Next::Replied => match pass.receipt() {
+        Next::Replied => match receipt {
             Some(receipt) => source.show(sink, receipt),
             None => {}
         },
@@ -94,6 +94,7 @@ impl<'s, R: Wait, M: Machine> Setting<'s, R, M> {
         pass: &mut PassTo<M>,
         seat: &mut Seat,
         lines: &mut Lines,
+        receipt: &mut Option<M::Receipt>,
     ) -> Result<Next, NoMemory>
         requires door { pass.old.door ≡ self.now.door.now }
         requires legal { Legal self.now.policy.now pass.old.seen }
@@ -102,11 +103,12 @@ impl<'s, R: Wait, M: Machine> Setting<'s, R, M> {
         ensures legal { Legal self.now.policy.now pass.new.seen }
         ensures puts { (bytes : List ℕ) → Holds lines.old.line bytes →
             PutsAnswer (Stood M.stands M.booked) self.now.policy.now pass.old
-            (said self.now.policy.now.dataset_names bytes) lines.new.text.items pass.new result }
+            (said self.now.policy.now.dataset_names bytes) lines.new.text.items
+            (option_map M.Receipt.covers receipt.new) pass.new result }
     {
         match lines.line.read(self.alloc, self.policy) {
             Ok(Ok(ask)) => {
-                let came = self.act_on(pass, seat, ask);
+                let came = self.act_on(pass, seat, ask, receipt);
                 put_came(self.policy, &came, &mut lines.text)
             }
             Ok(Err(bad)) => match put(&mut lines.text, bad_line(bad)) {
@@ -140,11 +142,12 @@ impl<'s, R: Wait, M: Machine> Setting<'s, R, M> {
             (showing S.heard source.old source.new)
             (used O.failures O.contents sink.old sink.new) pass.new result }
     {
-        let next = match self.put_answer(pass, seat, lines) {
+        let mut receipt = None;
+        let next = match self.put_answer(pass, seat, lines, &mut receipt) {
             Ok(next) => next,
             Err(_) => return Err(SessionEnd::NoMemory),
         };
-        show_receipt(pass, next, source, sink);
+        show_receipt(&receipt, next, source, sink);
         match send(&mut lines.text, sink) {
             Ok(()) => {
                 give_back(self.alloc, &mut lines.text);

@@ -58,7 +58,6 @@ fn end_all<R, M, S, O>(
 where
     R: Threads,
     M: Machine + Send + Drop,
-    M::Receipt: Send,
     S: Desk<O, M::Receipt> + Send + Drop,
     O: Sink + Send + Drop,
     requires { (ended.items ≡ []) × (vec_len handles ≤ vec_capacity ended) }
@@ -139,7 +138,6 @@ fn run_jobs<R, M, S, O>(
 where
     R: Threads + Wait + Sync,
     M: Machine + Send + Drop,
-    M::Receipt: Send,
     S: Desk<O, M::Receipt> + Send + Drop,
     O: Sink + Send + Drop,
     requires fresh { All (IsFresh setting.now.door.now) jobs.items }
@@ -242,7 +240,6 @@ pub fn serve_all<R, M, S, O>(
 where
     R: Threads + Wait + Sync,
     M: Machine + Send + Drop,
-    M::Receipt: Send,
     S: Desk<O, M::Receipt> + Send + Drop,
     O: Sink + Send + Drop,
     requires stands { M.stands policy.now machine [] }

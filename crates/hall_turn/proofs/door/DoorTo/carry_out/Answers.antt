@@ -1,6 +1,5 @@
 use Rattle.std.proofs.Common.{◌≡◌, List, ap, sym, subst, refl, ◌∙◌}
 use mathlib.Core.Option.{none}
-use Rattle.std.specs.Prelude.{option_map}
 use Rattle.atomic_table.specs.Table.{step}
 use Rattle.wall_policy.specs.Policy.{ChineseWall}
 use Rattle.run_model.specs.Runs.{Entry, entry}
@@ -22,20 +21,19 @@ returns-clause-enters g c =
     let new_door : Doorway = record { name = t.table_id; policy = t.me.0.policy } in
     let old = c.pass.inside in
     let new = c.turn-told.new in
-    let covers = g.M.Receipt.Receipt.covers in
     let after : Known = record {
       door = new_door;
       process = p;
       seen = t.me.0.seen;
       settled = new.settled;
-      booked = option_map covers new.receipt;
+      booked = c.is_some-pass-inside.result;
     } in
     let by : e.call.process ≡ p =
     c.requires.by ∙ ap (λ (k : Known). k.process) (sym c.pass.view_is) in
     subst (λ (d : Doorway). EntersAnd c.args.pass.now e (Tells d.policy) after) c.requires.door
     (subst (λ (k : Known). EntersAnd k e (Tells k.door.policy) after) c.pass.view_is
-    (carried g.M.Machine.stands door new_door p old.settled new.settled (option_map covers old.receipt)
-    (option_map covers new.receipt) e Tells c.look.result (step 1 0 0 0 none) s.me c.look.new.seat.me t.me refl by c.pass.invariant
+    (carried g.M.Machine.stands door new_door p old.settled new.settled old.booked c.is_some-pass-inside.result e
+    Tells c.look.result (step 1 0 0 0 none) s.me c.look.new.seat.me t.me refl by c.pass.invariant
     c.look.ensures.looks c.turn-told.ensures.turned c.turn-told.ensures.tells))
 
 pub returns-clause-settled : goal.returns-clause-settled

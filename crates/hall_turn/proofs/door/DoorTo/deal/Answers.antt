@@ -1,5 +1,4 @@
-use Rattle.std.proofs.Common.{◌≡◌, ◌∙◌, ◌+◌, ◌-◌, [], false, ap, sym, arith}
-use Rattle.std.specs.Prelude.{None}
+use Rattle.std.proofs.Common.{◌≡◌, ◌∙◌, ◌+◌, ◌-◌, [], true, false, ap, sym, arith}
 use Rattle.run_model.specs.Comms.{processes}
 use Rattle.hall_turn.specs.Known.{Doorway, Known}
 use Rattle.hall_turn.specs.Views.{SeatView, maker_left, next_pass}
@@ -33,7 +32,7 @@ loop-process-preserved g c =
       process = n;
       seen = made.me.0.seen;
       settled = false;
-      booked = None;
+      booked = true;
     } in
     let is : k ≡ new_pass door n = (λ j. record {
       door =
@@ -41,7 +40,7 @@ loop-process-preserved g c =
       process = n;
       seen = (pass j).0.seen;
       settled = false;
-      booked = None;
+      booked = true;
     }) in record {
       at = m.at.0.0 ∙ i.at;
       maker = m.maker ∙ (λ j. (maker_left (i.maker j).0, (i.maker j).1))
@@ -80,7 +79,7 @@ returns g c =
       process = c.self.inside.count - 1;
       seen = left.me.0.seen;
       settled = false;
-      booked = None;
+      booked = true;
     } in
     let is : k ≡ new_pass door n = (λ j. record {
       door =
@@ -88,7 +87,7 @@ returns g c =
       process = sym here j;
       seen = (i.maker j).0.seen;
       settled = false;
-      booked = None;
+      booked = true;
     }) in
     let passes = push.items ∙ more_passes door n c.loop-process.passes.items k i.passes is ∙ ap
     (new_passes door) all in
