@@ -100,7 +100,7 @@ pub enum ServeFault {
 
 // What the threads gave back, sorted.
 #[derive(Drop)]
-pub(crate) struct Ended<M: Machine, S, O> {
+pub(crate) struct Ended<M, S, O> {
     passes: PassesTo<M>,
     sessions: Vec<Session<S, O>>,
 }
