@@ -9,7 +9,7 @@ ghost use Rattle.std.specs.Prelude.{◌≡◌, ◌+◌, ◌<◌, ◌≤◌, leng
 use crate::events::{Event, Events, Why};
 use crate::pipes::{Pipes, Shut};
 use live_book::Receipt;
-use live_session::{Desk, Peer, SessionEnd};
+use live_session::{Desk, Peer, SessionEnd, ShowDesk};
 use program_files::{read_again, write_again};
 use std::alloc::{AllocError, Global};
 use std::fs::{File, OpenOptions};
@@ -134,9 +134,7 @@ pub(crate) struct PipeSource<'d, 'a, 'n, R: Wait> {
     failures: u64,
 }
 
-impl<'d, 'a, 'n, R: Wait, T: Receipt> Desk<PipeSink<'d, 'a, 'n, R>, T>
-    for PipeSource<'d, 'a, 'n, R>
-{
+impl<'d, 'a, 'n, R: Wait> Desk<PipeSink<'d, 'a, 'n, R>> for PipeSource<'d, 'a, 'n, R> {
     ghost failures = { λ s. s.failures };
 
     // Where a pipe cannot be opened any more, the first read fails.
@@ -164,15 +162,19 @@ impl<'d, 'a, 'n, R: Wait, T: Receipt> Desk<PipeSink<'d, 'a, 'n, R>, T>
         }
     }
 
-    // The process itself is shown nothing but its reply.
-    fn show(&mut self, _sink: &PipeSink<'d, 'a, 'n, R>, _receipt: &T) {}
-
     fn close(&self, end: SessionEnd, calls: u64) {
         let why = self.desk.why(end);
         self.desk.keep(Opened::none(None));
         self.desk
             .tell(Event::Left(self.desk.pipes.name, calls, why));
     }
+}
+
+impl<'d, 'a, 'n, R: Wait, T: Receipt> ShowDesk<PipeSink<'d, 'a, 'n, R>, T>
+    for PipeSource<'d, 'a, 'n, R>
+{
+    // The process itself is shown nothing but its reply.
+    fn show(&mut self, _sink: &PipeSink<'d, 'a, 'n, R>, _receipt: &T) {}
 }
 
 /// The replies to a process.

@@ -72,22 +72,33 @@ SaysOf before Exhausted after = after.settled ≡ before.settled
 module _ {M : Type 0} (stands : ChineseWall → M → List Entry → Type 0)
     (booked : M → Option Covered) where
   -- There is the machine as it was at the end of the turn that made the newest entry which the
-  -- pass has seen: it stands for exactly what the pass has seen, and if it was booked, then it gave
-  -- a receipt which covers this. The pass says whether it was.
-  abbrev pub Gives : Known → (receipt : Option Covered) → Type 0
-  Gives after receipt = (machine : M) × stands after.door.policy machine after.seen
-      × (receipt ≡ booked machine) × (after.booked ≡ is_some receipt)
+  -- pass has seen: it stands for exactly what the pass has seen, the pass says whether it was
+  -- booked, and this is so of what a receipt of it covered then, if it was.
+  abbrev pub GivesNoted : Known → (IsNoted : Option Covered → Type 0) → Type 0
+  GivesNoted after IsNoted = (machine : M) × stands after.door.policy machine after.seen
+      × (after.booked ≡ is_some (booked machine)) × IsNoted (booked machine)
 
-  -- so it says where the call was made; where it was not, it says what it said before, and there is
-  -- the receipt that there was
+  -- it gave a receipt that covers this then, if it was booked
+  abbrev pub Gives : Known → (receipt : Option Covered) → Type 0
+  Gives after receipt = GivesNoted after (λ covered. receipt ≡ covered)
+
+  -- so it was where the call was made; where it was not, the pass says what it said before, and
+  -- there is the receipt that there was
   abbrev pub GivesAt : (before : Known) → Answer → (after : Known) →
       (old new : Option Covered) → Type 0
   GivesAt before (Replied reply) after old new = Gives after new
   GivesAt before Exhausted after old new = (after.booked ≡ before.booked) × (new ≡ old)
 
-  -- the pass says whether the machine was booked, whatever became of the receipt
+  -- the same of whatever is noted
+  abbrev pub NotesAt : {N : Type 0} → (N → Option Covered → Type 0) → (before : Known) → Answer →
+      (after : Known) → (old new : N) → Type 0
+  NotesAt notes before (Replied reply) after old new = GivesNoted after (notes new)
+  NotesAt notes before Exhausted after old new = (after.booked ≡ before.booked) × (new ≡ old)
+
+  -- the pass says whether the machine was booked
   abbrev pub SaysBooked : Known → Type 0
-  SaysBooked after = (receipt : Option Covered) × Gives after receipt
+  SaysBooked after = (machine : M) × stands after.door.policy machine after.seen
+      × (after.booked ≡ is_some (booked machine))
 
   -- so it says where the call was made; where it was not, it says what it said before
   abbrev pub StoodAt : (before : Known) → Answer → (after : Known) → Type 0
@@ -120,7 +131,15 @@ abbrev pub ClaimStoodAt : {M : Type 0} → (ChineseWall → M → List Entry →
 ClaimStoodAt stands booked before (claimed.Claim claim) after = SaysBooked stands booked after
 ClaimStoodAt stands booked before claimed.Exhausted after = after.booked ≡ before.booked
 
--- and of its receipt
+-- and of its receipt, or whatever is noted
+abbrev pub ClaimNotesAt : {M N : Type 0} → (ChineseWall → M → List Entry → Type 0)
+    → (M → Option Covered) → (N → Option Covered → Type 0) → (before : Known) → Claimed
+    → (after : Known) → (old new : N) → Type 0
+ClaimNotesAt stands booked notes before (claimed.Claim claim) after old new =
+    GivesNoted stands booked after (notes new)
+ClaimNotesAt stands booked notes before claimed.Exhausted after old new =
+    (after.booked ≡ before.booked) × (new ≡ old)
+
 abbrev pub ClaimGivesAt : {M : Type 0} → (ChineseWall → M → List Entry → Type 0)
     → (M → Option Covered) → (before : Known) → Claimed → (after : Known)
     → (old new : Option Covered) → Type 0

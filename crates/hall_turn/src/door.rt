@@ -10,7 +10,8 @@ ghost use Rattle.run_model.specs.Runs.{entry};
 ghost use Rattle.run_model.specs.Known.{IsKnownLabel, HasKnownLabel, IsKnownReply};
 ghost use Rattle.hall_turn.specs.Answers.{Answered, ClaimAnswered, ClaimNamesKnown, EntersAnd};
 ghost use Rattle.hall_turn.specs.Answers.{MayFinish, IsSamePass, IsTooLate, NamesKnown, new_passes};
-ghost use Rattle.hall_turn.specs.Answers.{ClaimGivesAt, ClaimStoodAt, Gives, GivesAt, SaysOf};
+ghost use Rattle.hall_turn.specs.Answers.{ClaimGivesAt, ClaimNotesAt, ClaimStoodAt, GivesAt};
+ghost use Rattle.hall_turn.specs.Answers.{GivesNoted, NotesAt, SaysOf};
 ghost use Rattle.hall_turn.specs.Answers.{SaysOfClaim, SaysWhether};
 ghost use Rattle.hall_turn.specs.Answers.{StoodAt};
 ghost use Rattle.hall_turn.specs.Views.{newcomer};
@@ -18,7 +19,9 @@ ghost use Rattle.hall_turn.specs.Views.{newcomer};
 use crate::answer::{Answer, Claimed};
 use crate::deed::{Claiming, Deed};
 use crate::machine::Machine;
+use crate::noting::Noting;
 use crate::pass::{PassTo, Passes, PassesTo};
+use crate::receipt::{Receipt, Receipts};
 use crate::rule::View;
 use crate::turns::Turns;
 use atomic_table::{Seat, Table};
@@ -222,18 +225,16 @@ impl<M: Machine> DoorTo<M> {
         ensures settled { SaysOfClaim pass.old result pass.new }
         ensures stood { ClaimStoodAt M.stands M.booked pass.old result pass.new }
     {
-        let mut receipt = None;
-        self.claim_with_receipt(rt, pass, request, &mut receipt)
+        self.claim_noting(rt, pass, request, &mut ())
     }
 
-    /// The same, with the receipt that the machine gave at the end of the turn, if it was booked.
-    /// After `Exhausted` there is the receipt that there was.
-    pub fn claim_with_receipt<R: Wait>(
+    // A claim, by which something is noted of the machine.
+    fn claim_noting<R: Wait, N: Noting<M>>(
         &self,
         rt: &R,
         pass: &mut PassTo<M>,
         request: u64,
-        receipt: &mut Option<M::Receipt>,
+        noted: &mut N,
     ) -> Claimed
         requires door { pass.old.door ≡ self.now }
         ensures same { IsSamePass pass.old pass.new }
@@ -242,14 +243,14 @@ impl<M: Machine> DoorTo<M> {
         ensures may { MayFinish result }
         ensures named { ClaimNamesKnown self.now.policy result }
         ensures settled { SaysOfClaim pass.old result pass.new }
-        ensures gives { ClaimGivesAt M.stands M.booked pass.old result pass.new
-            (option_map M.Receipt.covers receipt.old) (option_map M.Receipt.covers receipt.new) }
+        ensures gives { ClaimNotesAt M.stands M.booked N.notes pass.old result pass.new
+            noted.old noted.new }
     {
         let claiming = Claiming {
             process: pass.process,
             request,
         };
-        match self.carry_out(rt, pass, claiming, receipt) {
+        match self.carry_out(rt, pass, claiming, noted) {
             Some(claim) => Claimed::Claim(claim),
             None => Claimed::Exhausted,
         }
@@ -281,19 +282,16 @@ impl<M: Machine> DoorTo<M> {
         ensures settled { SaysOf pass.old result pass.new }
         ensures stood { StoodAt M.stands M.booked pass.old result pass.new }
     {
-        let mut receipt = None;
-        self.call_with_receipt(rt, pass, act, &mut receipt)
+        self.call_noting(rt, pass, act, &mut ())
     }
 
-    /// One call, at the pass's turn: what `post`, `take` and `info` do, with the receipt that the
-    /// machine gave at the end of the turn, if it was booked. After `Exhausted` there is the receipt
-    /// that there was.
-    pub fn call_with_receipt<R: Wait>(
+    // One call, by which something is noted of the machine.
+    fn call_noting<R: Wait, N: Noting<M>>(
         &self,
         rt: &R,
         pass: &mut PassTo<M>,
         act: Act,
-        receipt: &mut Option<M::Receipt>,
+        noted: &mut N,
     ) -> Answer
         requires door { pass.old.door ≡ self.now }
         requires label { HasKnownLabel self.now.policy act }
@@ -302,26 +300,26 @@ impl<M: Machine> DoorTo<M> {
         ensures answered { Answered pass.old act result pass.new }
         ensures named { NamesKnown self.now.policy result }
         ensures settled { SaysOf pass.old result pass.new }
-        ensures gives { GivesAt M.stands M.booked pass.old result pass.new
-            (option_map M.Receipt.covers receipt.old) (option_map M.Receipt.covers receipt.new) }
+        ensures gives { NotesAt M.stands M.booked N.notes pass.old result pass.new noted.old
+            noted.new }
     {
         let call = Call {
             process: pass.process,
             act,
         };
-        match self.carry_out(rt, pass, call, receipt) {
+        match self.carry_out(rt, pass, call, noted) {
             Some(reply) => Answer::Reply(reply),
             None => Answer::Exhausted,
         }
     }
 
     // One deed, at the pass's turn; none where the door is exhausted, which the first look decides.
-    fn carry_out<R: Wait, D: Deed + Drop>(
+    fn carry_out<R: Wait, D: Deed + Drop, N: Noting<M>>(
         &self,
         rt: &R,
         pass: &mut PassTo<M>,
         deed: D,
-        receipt: &mut Option<M::Receipt>,
+        noted: &mut N,
     ) -> Option<D::Told>
         requires door { pass.old.door ≡ self.now }
         requires by { (D.call deed).process ≡ pass.old.process }
@@ -334,18 +332,68 @@ impl<M: Machine> DoorTo<M> {
         ensures named { IfSome result (λ told. IsKnownReply self.now.policy (D.reply told)) }
         ensures exhausted { IfNone result (IsTooLate pass.old pass.new) }
         ensures settled { IfSome result (λ _. SaysWhether pass.new) }
-        ensures gives { IfSome result (λ _. Gives M.stands M.booked pass.new
-            (option_map M.Receipt.covers receipt.new)) }
+        ensures gives { IfSome result (λ _. GivesNoted M.stands M.booked pass.new
+            (N.notes noted.new)) }
         ensures kept { IfNone result ((pass.new.settled ≡ pass.old.settled)
-            × (pass.new.booked ≡ pass.old.booked) × (receipt.new ≡ receipt.old)) }
+            × (pass.new.booked ≡ pass.old.booked) × (noted.new ≡ noted.old)) }
     {
         if self.turns.look(&mut pass.seat) >= LAST {
             return None;
         }
-        let told = self
-            .turns
-            .turn(rt, &mut pass.seat, deed, &mut pass.settled, receipt);
-        pass.booked = receipt.is_some();
+        let told = self.turns.turn(
+            rt,
+            &mut pass.seat,
+            deed,
+            &mut pass.settled,
+            &mut pass.booked,
+            noted,
+        );
         Some(told)
     }
+}
+
+/// All of a take that needs the hall, at the pass's turn, as by `claim`, with the receipt that the
+/// machine gave at the end of the turn, if it was booked. After `Exhausted` there is the receipt
+/// that there was.
+pub fn claim_with_receipt<R: Wait, M: Receipts<T>, T: Receipt + Drop>(
+    rt: &R,
+    door: &DoorTo<M>,
+    pass: &mut PassTo<M>,
+    request: u64,
+    receipt: &mut Option<T>,
+) -> Claimed
+    requires door { pass.old.door ≡ door.now }
+    ensures same { IsSamePass pass.old pass.new }
+    ensures legal { Legal door.now.policy pass.new.seen }
+    ensures answered { ClaimAnswered pass.old request result pass.new }
+    ensures may { MayFinish result }
+    ensures named { ClaimNamesKnown door.now.policy result }
+    ensures settled { SaysOfClaim pass.old result pass.new }
+    ensures gives { ClaimGivesAt M.stands M.booked pass.old result pass.new
+        (option_map T.covers receipt.old) (option_map T.covers receipt.new) }
+{
+    door.claim_noting(rt, pass, request, receipt)
+}
+
+/// One call, at the pass's turn, as by `post`, `take` and `info`, with the receipt that the machine
+/// gave at the end of the turn, if it was booked. After `Exhausted` there is the receipt that there
+/// was.
+pub fn call_with_receipt<R: Wait, M: Receipts<T>, T: Receipt + Drop>(
+    rt: &R,
+    door: &DoorTo<M>,
+    pass: &mut PassTo<M>,
+    act: Act,
+    receipt: &mut Option<T>,
+) -> Answer
+    requires door { pass.old.door ≡ door.now }
+    requires label { HasKnownLabel door.now.policy act }
+    ensures same { IsSamePass pass.old pass.new }
+    ensures legal { Legal door.now.policy pass.new.seen }
+    ensures answered { Answered pass.old act result pass.new }
+    ensures named { NamesKnown door.now.policy result }
+    ensures settled { SaysOf pass.old result pass.new }
+    ensures gives { GivesAt M.stands M.booked pass.old result pass.new
+        (option_map T.covers receipt.old) (option_map T.covers receipt.new) }
+{
+    door.call_noting(rt, pass, act, receipt)
 }

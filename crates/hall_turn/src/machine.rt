@@ -1,5 +1,5 @@
 //! What a door needs of the machine behind it, and the hall as that machine.
-ghost use Rattle.std.specs.Prelude.{◌≡◌, List, Option, option_map};
+ghost use Rattle.std.specs.Prelude.{◌≡◌, List, Option, is_some};
 ghost use Rattle.wall_policy.specs.Policy.{ChineseWall};
 ghost use Rattle.run_model.specs.Runs.{Entry, entry};
 ghost use Rattle.run_model.specs.Replies.{Legal};
@@ -9,7 +9,6 @@ ghost use Rattle.hall_turn.specs.Receipts.{Covered};
 ghost use Rattle.hall_turn.specs.Machines.{Carries, ClaimsAfter, ForEachRun, Stands, TellsWhether};
 ghost use Rattle.hall_turn.specs.Machines.{always_booked, entries_of};
 
-use crate::receipt::Receipt;
 use hall_core::{Call, Claim, Hall, Reply};
 
 /// What came of a call.
@@ -22,16 +21,13 @@ pub struct Applied {
 }
 
 /// A machine stands for runs of calls and replies under a policy. A call makes each of them one
-/// entry longer. It may write down what it does; it is booked as long as it could, and gives
-/// receipts of it.
+/// entry longer. It may write down what it does; it is booked as long as it could.
 pub trait Machine {
-    /// What shows how far it had written.
-    type Receipt: Receipt + Drop;
-
     /// It was opened with the policy, and stands for the run.
     ghost stands: { ChineseWall → Self → List Entry → Type 0 };
 
-    /// What a receipt covers that it gives now; none where it is not booked.
+    /// What a receipt covers that it gives now; none where it is not booked, since not all that it
+    /// had to write down was written.
     ghost booked: { Self → Option Covered };
 
     /// Applies one call. The caller sees to it that a posting's label is public or a dataset of the
@@ -51,15 +47,13 @@ pub trait Machine {
         ensures claims { ForEachRun stands self.old (λ wall run.
             ClaimsAfter wall run process request result) };
 
-    /// A receipt of all that it had to write down so far, if that was written.
-    fn receipt(&self) -> Option<Self::Receipt>
-        ensures { option_map Self.Receipt.covers result ≡ booked self.now };
+    /// Whether all that it had to write down was written.
+    fn is_booked(&self) -> bool
+        ensures { result ≡ is_some (booked self.now) };
 }
 
 /// A hall writes nothing down, and so is always booked.
 impl Machine for Hall {
-    type Receipt = ();
-
     ghost stands = { Stands };
 
     ghost booked = { always_booked };
@@ -75,8 +69,8 @@ impl Machine for Hall {
         Hall::claim(self, process, request)
     }
 
-    fn receipt(&self) -> Option<()> {
-        Some(())
+    fn is_booked(&self) -> bool {
+        true
     }
 }
 

@@ -14,7 +14,7 @@ use std::marker::Model;
 /// seen, the newest entry first, whether its last call settled an instance, and whether the machine
 /// was booked at the end of that call's turn.
 #[derive(Drop)]
-pub struct PassTo<M> {
+pub struct PassTo<M: Machine> {
     pub(crate) seat: Seat<Option<M>, View>,
     pub(crate) process: u32,
     // Its last call settled an instance.
@@ -23,7 +23,7 @@ pub struct PassTo<M> {
     pub(crate) booked: bool,
 }
 
-impl<M> Model for PassTo<M> {
+impl<M: Machine> Model for PassTo<M> {
     ghost use Rattle.hall_turn.specs.Known.{Known};
 
     ghost Value = { Known };

@@ -1,10 +1,13 @@
 //! What shows that a machine had written down what it has to.
+ghost use Rattle.std.specs.Prelude.{◌≡◌, option_map};
+ghost use Rattle.hall_turn.specs.Receipts.{Covered};
 
-/// What a machine gives out to show how far it had written by then. Whoever has one that covers a
-/// text knows that the text was written before: where a receipt's type is one that only a device
-/// can make, nobody else can show it.
+use crate::machine::Machine;
+use hall_core::Hall;
+
+/// What shows how far something was written. Whoever has one that covers a text knows that the text
+/// was written before: where its type is one that only a device can make, nobody else can show it.
 pub trait Receipt {
-    ghost use Rattle.hall_turn.specs.Receipts.{Covered};
     ghost use Rattle.std.specs.Prelude.{None};
 
     /// The bytes that had been written when it was made, where they are known.
@@ -19,4 +22,17 @@ impl<T: Receipt> Receipt for Option<T> {
     ghost use Rattle.std.specs.Prelude.{None, Some};
 
     ghost covers = { elim [ None ↦ None | (Some receipt) ↦ T.covers receipt ] };
+}
+
+/// A machine that gives receipts of what it has written down.
+pub trait Receipts<T: Receipt>: Machine {
+    /// A receipt of all that it had to write down so far, if that was written.
+    fn receipt(&self) -> Option<T>
+        ensures { option_map T.covers result ≡ Self.booked self.now };
+}
+
+impl Receipts<()> for Hall {
+    fn receipt(&self) -> Option<()> {
+        Some(())
+    }
 }

@@ -4,26 +4,24 @@ ghost use Rattle.std.specs.Prelude.{◌≡◌, [], IfOk};
 use hall_core::{BriefHall, Call, Claim, NoMemory};
 use hall_turn::Applied;
 use std::alloc::Global;
-use std::marker::{Model, PhantomData};
+use std::marker::Model;
 use wall_policy::Policy;
 
 /// A hall for a server that keeps no book: it forgets the entries of each call. Contracts see what
-/// a hall keeps that has its whole book. Where a book were kept there would be receipts of type T:
-/// so its sessions stand at the same desks.
-pub struct BooklessHall<T> {
+/// a hall keeps that has its whole book.
+pub struct BooklessHall {
     hall: BriefHall,
-    of: PhantomData<T>,
 }
 
 // By hand: a derived one is proved anew in each crate that drops one.
-impl<T> Drop for BooklessHall<T> {
+impl Drop for BooklessHall {
     fn drop(self) {
-        let BooklessHall { hall, of: _ } = self;
+        let BooklessHall { hall } = self;
         drop(hall);
     }
 }
 
-impl<T> Model for BooklessHall<T> {
+impl Model for BooklessHall {
     ghost use Rattle.std.specs.Prelude.{◌≡◌, []};
     ghost use Rattle.std.specs.Coded.{codes};
     ghost use Rattle.wall_rules.specs.Histories.{accesses_code};
@@ -38,7 +36,7 @@ impl<T> Model for BooklessHall<T> {
     ghost invariant = { λ b. b.hall.news ≡ [] };
 }
 
-impl<T> BooklessHall<T> {
+impl BooklessHall {
     ghost use Rattle.run_model.specs.Runs.{effects, entry};
     ghost use Rattle.run_model.specs.Known.{HasKnownLabel};
     ghost use Rattle.hall_core.specs.Claims.{CanFinish, Claims, claim_entry, claim_reply, to_take};
@@ -49,15 +47,12 @@ impl<T> BooklessHall<T> {
 
     /// A hall that stands for the empty run. `NoMemory` is answered only where a growth was
     /// refused.
-    pub fn open(alloc: Global, policy: Policy) -> Result<BooklessHall<T>, NoMemory>
+    pub fn open(alloc: Global, policy: Policy) -> Result<BooklessHall, NoMemory>
         ensures stands { IfOk result (λ hall. StandsFor hall []) }
         ensures policy { IfOk result (λ hall. hall.policy ≡ policy) }
     {
         match BriefHall::open(alloc, policy) {
-            Ok(hall) => Ok(BooklessHall {
-                hall,
-                of: PhantomData,
-            }),
+            Ok(hall) => Ok(BooklessHall { hall }),
             Err(_) => Err(NoMemory),
         }
     }

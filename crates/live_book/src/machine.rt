@@ -8,11 +8,9 @@ use crate::booked::BookedHall;
 use crate::bookless::BooklessHall;
 use crate::sink::BookSink;
 use hall_core::{Call, Claim};
-use hall_turn::{Applied, Machine, Receipt};
+use hall_turn::{Applied, Machine, Receipt, Receipts};
 
 impl<B: BookSink, K: Begun> Machine for BookedHall<B, K> {
-    type Receipt = Option<B::Receipt>;
-
     ghost stands = { StandsBehind K.begun };
 
     ghost booked = { covered };
@@ -25,6 +23,12 @@ impl<B: BookSink, K: Begun> Machine for BookedHall<B, K> {
         BookedHall::claim(self, process, request)
     }
 
+    fn is_booked(&self) -> bool {
+        BookedHall::is_booked(self)
+    }
+}
+
+impl<B: BookSink, K: Begun> Receipts<Option<B::Receipt>> for BookedHall<B, K> {
     fn receipt(&self) -> Option<Option<B::Receipt>> {
         match BookedHall::receipt(self) {
             Some(receipt) => Some(Some(receipt)),
@@ -33,10 +37,8 @@ impl<B: BookSink, K: Begun> Machine for BookedHall<B, K> {
     }
 }
 
-/// It has nothing to write, and so is always booked, without a receipt of any book.
-impl<T: Receipt + Drop> Machine for BooklessHall<T> {
-    type Receipt = Option<T>;
-
+/// It has nothing to write, and so is always booked.
+impl Machine for BooklessHall {
     ghost stands = { Stands };
 
     ghost booked = { has_no_book };
@@ -49,6 +51,13 @@ impl<T: Receipt + Drop> Machine for BooklessHall<T> {
         BooklessHall::claim(self, process, request)
     }
 
+    fn is_booked(&self) -> bool {
+        true
+    }
+}
+
+/// There is no book of which it could give a receipt.
+impl<T: Receipt> Receipts<Option<T>> for BooklessHall {
     fn receipt(&self) -> Option<Option<T>> {
         Some(None)
     }

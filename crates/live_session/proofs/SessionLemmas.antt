@@ -1,5 +1,5 @@
 -- What sessions come to, line by line.
-use Rattle.std.proofs.Common.{◌≡◌, inl, inr, ℕ, zero, suc, ◌+◌, List, [], ◌∷◌, ◌++◌, map}
+use Rattle.std.proofs.Common.{◌≡◌, ◌⊎◌, inl, inr, ℕ, zero, suc, ◌+◌, List, [], ◌∷◌, ◌++◌, map}
 use Rattle.std.proofs.Common.{reverse, Option, Some, None, Result, Ok, Err, refl, sym, ap, subst}
 use Rattle.std.proofs.Common.{◌≢◌, Bool}
 use Rattle.std.specs.Prelude.{is_some, option_map}
@@ -326,7 +326,7 @@ module _ (stood : ChineseWall → List Entry → Option Covered → Type 0) wher
     later = t.later;
     finished = t.finished;
     calls = λ none. t.calls (ap (λ (p : ℕ). last_call p newest) s.same.1 ∙ none);
-    unbooked = for_lines a b d first (newest ∷ later) newest false s t.unbooked;
+    unbooked = for_lines a b d first (newest ∷ later) newest None s t.unbooked;
   }
 
 -- ---- one line
@@ -515,7 +515,7 @@ module _ (stood : ChineseWall → List Entry → Option Covered → Type 0) wher
   may_have : (before after : Known) (ask : Ask) (it : Came) (receipt : Option Covered) →
       CameTo stood before ask it receipt after →
       MayHaveCome stood before (Ok ask) after
-  may_have before after ask (cames.Reply reply) receipt (told, (covers, comes, at), is) =
+  may_have before after ask (cames.Reply reply) receipt (told, (covers, comes, at, calls), is) =
       inr (told, Some covers, comes)
   may_have before after ask cames.Left receipt (is, sees) = inl sees
   may_have before after ask cames.Exhausted receipt late = inl late.sees
@@ -656,16 +656,18 @@ module _ (stood : ChineseWall → List Entry → Option Covered → Type 0) {O :
   }
 
   -- one line more was answered
-  pub goes_on : {X : Type 0} (x : X) (wall : ChineseWall) (a b d : Known)
-      (text later : List Word) (line : Word) (p q r : Option (List Shown)) (old mid new : O) →
+  pub goes_on : (wall : ChineseWall) (a b d : Known) (text later : List Word) (line : Word)
+      (p q r : Option (List Shown)) (old mid new : O) →
       SoFar stood wall a text (line ∷ later) (Since p q) (Between old mid) b →
-      AnswersLine stood wall b (said wall.dataset_names line) (Since q r) (Between mid new) d
-      (Ok x) → SoFar stood wall a text later (Since p r) (Between old new) d
-  goes_on x wall a b d text later line p q r old mid new s
+      WritesAnswer stood wall b (said wall.dataset_names line) (Since q r) (Between mid new) d
+      nexts.Replied
+      ⊎ WritesAnswer stood wall b (said wall.dataset_names line) (Since q r) (Between mid new) d
+      nexts.GoesOn → SoFar stood wall a text later (Since p r) (Between old new) d
+  goes_on wall a b d text later line p q r old mid new s
       (inl (words, (receipt, so, shows), w)) =
       goes_told wall a b d text later line p q r old mid new words receipt nexts.Replied s
       (telling wall (contents mid) b d (said wall.dataset_names line) words receipt so) shows w
-  goes_on x wall a b d text later line p q r old mid new s
+  goes_on wall a b d text later line p q r old mid new s
       (inr (words, (receipt, so, shows), w)) =
       goes_told wall a b d text later line p q r old mid new words receipt nexts.GoesOn s
       (telling_bad wall (contents mid) b d (said wall.dataset_names line) words receipt so) shows w
@@ -1133,7 +1135,7 @@ module _ (stood : ChineseWall → List Entry → Option Covered → Type 0)
   }
 
   -- what was shown, where more was read since and nothing shown
-  still_shown : (wall : ChineseWall) (a b : Known) (text rest : List Word) (first mid last : S)
+  unfoldable still_shown : (wall : ChineseWall) (a b : Known) (text rest : List Word) (first mid last : S)
       (sink : Used O) → (heard last).shows ≡ (heard mid).shows →
       SoFar stood wall a text rest (showing heard first mid) sink b →
       SoFar stood wall a text rest (showing heard first last) sink b
@@ -1160,7 +1162,7 @@ module _ (stood : ChineseWall → List Entry → Option Covered → Type 0)
       SoFar stood wall b (behind g.line (parts 10 more)) (line ∷ []) (showing heard last far)
       (Writing out new) d →
       Going stood heard wall (Reading first far) (Writing old new) a now d
-  unfolding so_far_then
+  unfolding so_far_then still_shown
   going_on wall a b d kept now first mid last far old out new more g went read tells same unread
       line h s = record {
         bytes = g.bytes ++ more;
@@ -1188,6 +1190,7 @@ module _ (stood : ChineseWall → List Entry → Option Covered → Type 0)
       (record { bytes = more; written = contents new } ∷ []) →
       (heard last).shows ≡ (heard mid).shows →
       Serves stood heard wall (Reading first last) (Writing old new) a b EndOfStream
+  unfolding still_shown
   served_to_end wall a b kept first mid last old new more none g went read end tells same =
       let all = ap (λ l. g.bytes ++ l) none ∙ append-nil g.bytes in
       let s = still_shown wall a b (parts 10 g.bytes) (g.line ∷ []) first mid last
@@ -1216,6 +1219,7 @@ module _ (stood : ChineseWall → List Entry → Option Covered → Type 0)
       fails last ≡ fails mid + 1 → Keeps (left mid) (left last) →
       Tells (heard mid).reads (heard last).reads [] → (heard last).shows ≡ (heard mid).shows →
       Serves stood heard wall (Reading first last) (Writing old new) a b ReadFailed
+  unfolding still_shown
   served_till_fault wall a b kept first mid last old new g once keeps tells same = record {
     bytes = g.bytes;
     read = Consumes-kept (left first) (left mid) (left last) g.bytes g.read keeps;
@@ -1257,7 +1261,7 @@ module _ (stood : ChineseWall → List Entry → Option Covered → Type 0)
       Stops stood wall b (behind g.line (parts 10 more)) (showing heard last far)
       (Writing out new) d end →
       Serves stood heard wall (Reading first far) (Writing old new) a d end
-  unfolding stops_then
+  unfolding stops_then still_shown
   served_till_stop wall a b d kept first mid last far old out new more end g went read tells same
       unread stops =
       let s = stops_then stood failures contents wall a b d g.bytes more g.line (heard first).shows

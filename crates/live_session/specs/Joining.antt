@@ -63,7 +63,7 @@ module _ {M S O : Type 0} where
     pub peers_are : peers_of jobs ≡ peers
 
   -- there is room for what so many sessions come to
-  pub record HasRoomFor {T : Type 0} (count : ℕ) (room : Room M S O T) : Type 0 where
+  pub record HasRoomFor (count : ℕ) (room : Room M S O) : Type 0 where
     pub passes : (room.passes.items ≡ []) × (count ≤ vec_capacity room.passes)
     pub sessions : (room.sessions.items ≡ []) × (count ≤ vec_capacity room.sessions)
     pub ended : (room.ended.items ≡ []) × (count ≤ vec_capacity room.ended)

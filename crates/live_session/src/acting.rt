@@ -14,7 +14,8 @@ use crate::seat::Seat;
 use crate::setting::Setting;
 use hall_core::{Reply, finish};
 use hall_script::Ask;
-use hall_turn::{Answer, Claimed, Machine, PassTo};
+use hall_turn::{Answer, Claimed, PassTo, Receipt, Receipts};
+use hall_turn::{call_with_receipt, claim_with_receipt};
 use run_model::Act;
 use std::sync::Wait;
 
@@ -52,27 +53,25 @@ fn came_of<R: Wait>(rt: &R, seat: &mut Seat, answer: Answer, is_booked: bool) ->
     }
 }
 
-impl<'s, R: Wait, M: Machine> Setting<'s, R, M> {
+impl<'s, R: Wait, M: Receipts<T>, T: Receipt + Drop> Setting<'s, R, M, T> {
     // All of a take that needs the hall, at the pass's turn, while no other session calls.
     fn claim(
         &self,
         pass: &mut PassTo<M>,
         request: u64,
-        receipt: &mut Option<M::Receipt>,
+        receipt: &mut Option<T>,
     ) -> Claimed
         requires door { pass.old.door ≡ self.now.door.now }
         ensures same { IsSamePass pass.old pass.new }
         ensures legal { Legal self.now.door.now.policy pass.new.seen }
         ensures answered { ClaimAnswered pass.old request result pass.new }
         ensures gives { ClaimGivesAt M.stands M.booked pass.old result pass.new
-            (option_map M.Receipt.covers receipt.old) (option_map M.Receipt.covers receipt.new) }
+            (option_map T.covers receipt.old) (option_map T.covers receipt.new) }
         ensures may { MayFinish result }
         ensures named { ClaimNamesKnown self.now.door.now.policy result }
     {
         let turn = self.turn.lock(self.rt);
-        let claimed = self
-            .door
-            .claim_with_receipt(self.rt, pass, request, receipt);
+        let claimed = claim_with_receipt(self.rt, self.door, pass, request, receipt);
         drop(turn);
         claimed
     }
@@ -83,14 +82,14 @@ impl<'s, R: Wait, M: Machine> Setting<'s, R, M> {
         pass: &mut PassTo<M>,
         seat: &mut Seat,
         request: u64,
-        receipt: &mut Option<M::Receipt>,
+        receipt: &mut Option<T>,
     ) -> Answer
         requires door { pass.old.door ≡ self.now.door.now }
         ensures same { IsSamePass pass.old pass.new }
         ensures legal { Legal self.now.door.now.policy pass.new.seen }
         ensures answered { Answered pass.old (Take request) result pass.new }
         ensures gives { GivesAt M.stands M.booked pass.old result pass.new
-            (option_map M.Receipt.covers receipt.old) (option_map M.Receipt.covers receipt.new) }
+            (option_map T.covers receipt.old) (option_map T.covers receipt.new) }
         ensures named { NamesKnown self.now.door.now.policy result }
     {
         match self.claim(pass, request, receipt) {
@@ -111,13 +110,13 @@ impl<'s, R: Wait, M: Machine> Setting<'s, R, M> {
         pass: &mut PassTo<M>,
         seat: &mut Seat,
         request: u64,
-        receipt: &mut Option<M::Receipt>,
+        receipt: &mut Option<T>,
     ) -> Answer
         requires door { pass.old.door ≡ self.now.door.now }
         ensures same { IsSamePass pass.old pass.new }
         ensures legal { Legal self.now.door.now.policy pass.new.seen }
         ensures waited { Waited (Stood M.stands M.booked) pass.old request result
-            (option_map M.Receipt.covers receipt.new) pass.new }
+            (option_map T.covers receipt.new) pass.new }
         ensures named { NamesKnown self.now.door.now.policy result }
     {
         match self.take(pass, seat, request, receipt) {
@@ -145,7 +144,7 @@ impl<'s, R: Wait, M: Machine> Setting<'s, R, M> {
         pass: &mut PassTo<M>,
         seat: &mut Seat,
         act: Act,
-        receipt: &mut Option<M::Receipt>,
+        receipt: &mut Option<T>,
     ) -> Answer
         requires door { pass.old.door ≡ self.now.door.now }
         requires label { HasKnownLabel self.now.door.now.policy act }
@@ -153,7 +152,7 @@ impl<'s, R: Wait, M: Machine> Setting<'s, R, M> {
         ensures legal { Legal self.now.door.now.policy pass.new.seen }
         ensures answered { Answered pass.old act result pass.new }
         ensures gives { GivesAt M.stands M.booked pass.old result pass.new
-            (option_map M.Receipt.covers receipt.old) (option_map M.Receipt.covers receipt.new) }
+            (option_map T.covers receipt.old) (option_map T.covers receipt.new) }
         ensures named { NamesKnown self.now.door.now.policy result }
     {
         match act {
@@ -161,9 +160,7 @@ impl<'s, R: Wait, M: Machine> Setting<'s, R, M> {
                 let comm = posting.comm;
                 let turn = self.turn.lock(self.rt);
                 let act = Act::Post(posting);
-                let answer = self
-                    .door
-                    .call_with_receipt(self.rt, pass, act, receipt);
+                let answer = call_with_receipt(self.rt, self.door, pass, act, receipt);
                 drop(turn);
                 if let Answer::Reply(reply) = &answer {
                     seat.posted(comm, reply);
@@ -177,9 +174,7 @@ impl<'s, R: Wait, M: Machine> Setting<'s, R, M> {
             Act::Info(comm) => {
                 let turn = self.turn.lock(self.rt);
                 let act = Act::Info(comm);
-                let answer = self
-                    .door
-                    .call_with_receipt(self.rt, pass, act, receipt);
+                let answer = call_with_receipt(self.rt, self.door, pass, act, receipt);
                 drop(turn);
                 answer
             }
@@ -193,7 +188,7 @@ impl<'s, R: Wait, M: Machine> Setting<'s, R, M> {
         pass: &mut PassTo<M>,
         seat: &mut Seat,
         ask: Ask,
-        receipt: &mut Option<M::Receipt>,
+        receipt: &mut Option<T>,
     ) -> Came
         requires door { pass.old.door ≡ self.now.door.now }
         requires legal { Legal self.now.door.now.policy pass.old.seen }
@@ -201,7 +196,7 @@ impl<'s, R: Wait, M: Machine> Setting<'s, R, M> {
         ensures same { IsSamePass pass.old pass.new }
         ensures legal { Legal self.now.door.now.policy pass.new.seen }
         ensures came { CameTo (Stood M.stands M.booked) pass.old ask result
-            (option_map M.Receipt.covers receipt.new) pass.new }
+            (option_map T.covers receipt.new) pass.new }
         ensures named { CameNamesKnown self.now.door.now.policy result }
     {
         match ask {

@@ -10,14 +10,14 @@ ghost use Rattle.live_session.specs.Steps.{Holds, CameNamesKnown, line_to, next_
 ghost use Rattle.live_session.specs.Steps.{AnswersLine, IsUnread, showing, shown_next};
 
 use crate::acting::Came;
-use crate::desk::Desk;
+use crate::desk::ShowDesk;
 use crate::ending::SessionEnd;
 use crate::line::{Lines, bad_line, give_back};
 use crate::seat::Seat;
 use crate::setting::Setting;
 use coll_text::{put, send};
 use hall_script::write_reply;
-use hall_turn::{Machine, PassTo, Receipt};
+use hall_turn::{PassTo, Receipt, Receipts};
 use std::sync::Wait;
 use wall_labels::{NoMemory, Sink};
 use wall_policy::Policy;
@@ -65,7 +65,7 @@ fn put_came(policy: &Policy, came: &Came, text: &mut Vec<u8>) -> Result<Next, No
 }
 
 // Where a reply comes next, the desk is shown the receipt of its call.
-fn show_receipt<T: Receipt, S: Desk<O, T>, O: Sink>(
+fn show_receipt<T: Receipt, S: ShowDesk<O, T>, O: Sink>(
     receipt: &Option<T>,
     next: Next,
     source: &mut S,
@@ -87,14 +87,14 @@ fn show_receipt<T: Receipt, S: Desk<O, T>, O: Sink>(
     }
 }
 
-impl<'s, R: Wait, M: Machine> Setting<'s, R, M> {
+impl<'s, R: Wait, M: Receipts<T>, T: Receipt + Drop> Setting<'s, R, M, T> {
     // Acts on a finished line, and puts its answer.
     fn put_answer(
         &self,
         pass: &mut PassTo<M>,
         seat: &mut Seat,
         lines: &mut Lines,
-        receipt: &mut Option<M::Receipt>,
+        receipt: &mut Option<T>,
     ) -> Result<Next, NoMemory>
         requires door { pass.old.door ≡ self.now.door.now }
         requires legal { Legal self.now.policy.now pass.old.seen }
@@ -104,7 +104,7 @@ impl<'s, R: Wait, M: Machine> Setting<'s, R, M> {
         ensures puts { (bytes : List ℕ) → Holds lines.old.line bytes →
             PutsAnswer (Stood M.stands M.booked) self.now.policy.now pass.old
             (said self.now.policy.now.dataset_names bytes) lines.new.text.items
-            (option_map M.Receipt.covers receipt.new) pass.new result }
+            (option_map T.covers receipt.new) pass.new result }
     {
         match lines.line.read(self.alloc, self.policy) {
             Ok(Ok(ask)) => {
@@ -121,7 +121,7 @@ impl<'s, R: Wait, M: Machine> Setting<'s, R, M> {
 
     /// Acts on a finished line, and writes its answer. The desk is shown the receipt of its last
     /// call before a reply is written.
-    pub(crate) fn answer_line<S: Desk<O, M::Receipt>, O: Sink>(
+    pub(crate) fn answer_line<S: ShowDesk<O, T>, O: Sink>(
         &self,
         pass: &mut PassTo<M>,
         seat: &mut Seat,

@@ -10,9 +10,8 @@ use wall_labels::{Failed, Sink};
 
 /// Where a process is served: what its lines are read from, beside the sink of their answers. It is
 /// told when its session begins and when it has ended, so that devices may be opened as late as
-/// that, and closed at once. Before a reply is told it is shown a receipt, which only what is behind
-/// the door can make.
-pub trait Desk<O: Sink, T: Receipt> {
+/// that, and closed at once.
+pub trait Desk<O: Sink> {
     /// How many reads answered `Failed`.
     ghost failures: { Self → ℕ };
 
@@ -36,16 +35,19 @@ pub trait Desk<O: Sink, T: Receipt> {
             (read_into result buffer.new (O.contents sink.now)) }
         ensures shows { (heard self.new).shows ≡ (heard self.old).shows };
 
-    /// The reply to a call comes next, and nothing of it was written yet. The receipt is the one
-    /// that what is behind the door gave at the end of the call's turn. It reads nothing.
-    fn show(&mut self, sink: &O, receipt: &T)
-        ensures failures { failures self.new ≡ failures self.old }
-        ensures remaining { remaining self.new ≡ remaining self.old }
-        ensures reads { (heard self.new).reads ≡ (heard self.old).reads }
-        ensures shows { Tells (heard self.old).shows (heard self.new).shows
-            (record { covers = T.covers receipt.now; written = O.contents sink.now } ∷ []) };
-
     /// The session has ended so, after so many calls: nothing is read or written behind it. Each
     /// call that was made counts, and each wait as one, however often it took the request.
     fn close(&self, end: SessionEnd, calls: u64);
+}
+
+/// A desk that is shown a receipt before each reply, which only what is behind the door can make.
+pub trait ShowDesk<O: Sink, T: Receipt>: Desk<O> {
+    /// The reply to a call comes next, and nothing of it was written yet. The receipt is the one
+    /// that what is behind the door gave at the end of the call's turn. It reads nothing.
+    fn show(&mut self, sink: &O, receipt: &T)
+        ensures failures { Self.failures self.new ≡ Self.failures self.old }
+        ensures remaining { Self.remaining self.new ≡ Self.remaining self.old }
+        ensures reads { (Self.heard self.new).reads ≡ (Self.heard self.old).reads }
+        ensures shows { Tells (Self.heard self.old).shows (Self.heard self.new).shows
+            (record { covers = T.covers receipt.now; written = O.contents sink.now } ∷ []) };
 }

@@ -27,14 +27,14 @@ pub struct Session<S, O> {
 
 /// What a thread is given.
 #[derive(Drop)]
-pub(crate) struct Job<M, S, O> {
+pub(crate) struct Job<M: Machine, S, O> {
     pub(crate) pass: PassTo<M>,
     pub(crate) peer: Peer<S, O>,
 }
 
 /// What a thread gives back.
 #[derive(Drop)]
-pub(crate) struct Played<M, S, O> {
+pub(crate) struct Played<M: Machine, S, O> {
     pub(crate) pass: PassTo<M>,
     pub(crate) peer: Peer<S, O>,
     /// How the session ended; none where it did not begin.
@@ -43,9 +43,9 @@ pub(crate) struct Played<M, S, O> {
 
 /// The thread of a job serves its process.
 #[derive(Drop)]
-pub(crate) struct Serving<M, S, O>(pub(crate) Snapshot<Job<M, S, O>>);
+pub(crate) struct Serving<M: Machine, S, O>(pub(crate) Snapshot<Job<M, S, O>>);
 
-impl<M: Machine, S: Desk<O, M::Receipt> + Drop, O: Sink + Drop> Promise<Played<M, S, O>> for Serving<M, S, O> {
+impl<M: Machine, S: Desk<O> + Drop, O: Sink + Drop> Promise<Played<M, S, O>> for Serving<M, S, O> {
     ghost use Rattle.live_session.specs.Sessions.{Stood};
     ghost use Rattle.live_session.specs.Joining.{HasServed};
 

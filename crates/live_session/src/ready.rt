@@ -16,7 +16,7 @@ use wall_policy::Policy;
 
 /// Room for what the threads of the sessions give back.
 #[derive(Drop)]
-pub(crate) struct Room<M: Machine, S: Desk<O, M::Receipt> + Drop, O: Sink + Drop> {
+pub(crate) struct Room<M: Machine, S: Desk<O> + Drop, O: Sink + Drop> {
     pub(crate) passes: PassesTo<M>,
     pub(crate) sessions: Vec<Session<S, O>>,
     pub(crate) ended: Vec<Played<M, S, O>>,
@@ -25,7 +25,7 @@ pub(crate) struct Room<M: Machine, S: Desk<O, M::Receipt> + Drop, O: Sink + Drop
 
 /// A door, a stage, a job for each process there, and room for all of them.
 #[derive(Drop)]
-pub(crate) struct Ready<M: Machine + Drop, S: Desk<O, M::Receipt> + Drop, O: Sink + Drop> {
+pub(crate) struct Ready<M: Machine + Drop, S: Desk<O> + Drop, O: Sink + Drop> {
     pub(crate) door: DoorTo<M>,
     pub(crate) stage: Stage,
     pub(crate) jobs: Vec<Job<M, S, O>>,
@@ -54,7 +54,7 @@ fn share_out<M: Machine, S: Drop, O: Drop>(
 }
 
 // A stage and room for so many sessions.
-fn make_room<M: Machine, S: Desk<O, M::Receipt> + Drop, O: Sink + Drop>(
+fn make_room<M: Machine, S: Desk<O> + Drop, O: Sink + Drop>(
     alloc: Global,
     count: usize,
 ) -> Result<(Stage, Room<M, S, O>), AllocError>
@@ -75,7 +75,7 @@ fn make_room<M: Machine, S: Desk<O, M::Receipt> + Drop, O: Sink + Drop>(
 }
 
 /// A door to the machine, a stage, a job for each process there, and room for all of them.
-pub(crate) fn prepare<M: Machine + Drop, S: Desk<O, M::Receipt> + Drop, O: Sink + Drop>(
+pub(crate) fn prepare<M: Machine + Drop, S: Desk<O> + Drop, O: Sink + Drop>(
     alloc: Global,
     policy: &Policy,
     machine: M,

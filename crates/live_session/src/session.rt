@@ -7,20 +7,20 @@ ghost use Rattle.hall_turn.specs.Answers.{IsSamePass};
 ghost use Rattle.live_session.specs.Sessions.{Stood, Serves, ServesIfBegun};
 ghost use Rattle.live_session.specs.Steps.{Holds, IsUnread, TakesIn, behind, showing};
 
-use crate::desk::Desk;
+use crate::desk::ShowDesk;
 use crate::ending::SessionEnd;
 use crate::line::{Lines, Unfinished};
 use crate::requests::Requests;
 use crate::seat::Seat;
 use crate::setting::Setting;
 use coll_text::Parts;
-use hall_turn::{Machine, PassTo};
+use hall_turn::{PassTo, Receipt, Receipts};
 use std::sync::Wait;
 use wall_labels::Sink;
 
-impl<'s, R: Wait, M: Machine> Setting<'s, R, M> {
+impl<'s, R: Wait, M: Receipts<T>, T: Receipt + Drop> Setting<'s, R, M, T> {
     // Acts on the lines that these bytes finish, and keeps the rest.
-    fn take_in<S: Desk<O, M::Receipt>, O: Sink>(
+    fn take_in<S: ShowDesk<O, T>, O: Sink>(
         &self,
         pass: &mut PassTo<M>,
         seat: &mut Seat,
@@ -64,7 +64,7 @@ impl<'s, R: Wait, M: Machine> Setting<'s, R, M> {
     }
 
     // A session from its first line to its end.
-    fn hold<S: Desk<O, M::Receipt>, O: Sink>(
+    fn hold<S: ShowDesk<O, T>, O: Sink>(
         &self,
         pass: &mut PassTo<M>,
         seat: &mut Seat,
@@ -118,7 +118,7 @@ impl<'s, R: Wait, M: Machine> Setting<'s, R, M> {
     /// the turn of its call. No turn is held while it reads, works out a delivery, shows, writes or
     /// sleeps. The source is told when the session begins, before its first line is read, and when
     /// it has ended; no turn and no place of the stage is held meanwhile.
-    pub fn serve<S: Desk<O, M::Receipt>, O: Sink>(
+    pub fn serve<S: ShowDesk<O, T>, O: Sink>(
         &self,
         pass: &mut PassTo<M>,
         source: &mut S,

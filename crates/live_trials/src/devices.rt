@@ -1,7 +1,7 @@
 //! The devices of these tests: lines and answers in memory, and desks that listen. A device can be
 //! told to wait at one of its calls until another has come far enough.
 
-use live_session::{Desk, SessionEnd};
+use live_session::{Desk, SessionEnd, ShowDesk};
 use std::alloc::{AllocError, Global};
 use std::sync::atomic::{AtomicU64, Ordering};
 use std::thread;
@@ -133,7 +133,7 @@ pub(crate) struct Client<'a> {
     pub(crate) heard: &'a Heard,
 }
 
-impl<'a> Desk<Answers<'a>, ()> for Client<'a> {
+impl<'a> Desk<Answers<'a>> for Client<'a> {
     ghost use Rattle.wall_labels.specs.Fuses.{failures_of};
 
     ghost failures = { λ s. failures_of s.lines.fuse };
@@ -151,13 +151,15 @@ impl<'a> Desk<Answers<'a>, ()> for Client<'a> {
         self.lines.read(&mut buffer[..count])
     }
 
-    fn show(&mut self, _sink: &Answers<'a>, _receipt: &()) {}
-
     fn close(&self, end: SessionEnd, calls: u64) {
         let heard = self.heard;
         heard.expect(raise(&heard.closed) == 0 && is_at(&heard.opened, 1));
         heard.expect(end == self.due.end && calls == self.due.calls);
     }
+}
+
+impl<'a> ShowDesk<Answers<'a>, ()> for Client<'a> {
+    fn show(&mut self, _sink: &Answers<'a>, _receipt: &()) {}
 }
 
 /// The answers that are to come.

@@ -3,7 +3,7 @@ ghost use Rattle.std.specs.Prelude.{◌≡◌, []};
 ghost use Rattle.hall_turn.specs.Machines.{Stands};
 
 use hall_core::{Call, Claim, Hall};
-use hall_turn::{Applied, Machine};
+use hall_turn::{Applied, Machine, Receipts};
 use std::alloc::Global;
 use std::process::Abort;
 use wall_policy::Policy;
@@ -38,8 +38,6 @@ impl Lapsing {
 }
 
 impl Machine for Lapsing {
-    type Receipt = ();
-
     ghost use Rattle.std.specs.Prelude.{None, Some, if◌then◌else◌};
     ghost use Rattle.hall_turn.specs.Machines.{Stands};
 
@@ -59,6 +57,12 @@ impl Machine for Lapsing {
         claim
     }
 
+    fn is_booked(&self) -> bool {
+        self.is_booked
+    }
+}
+
+impl Receipts<()> for Lapsing {
     fn receipt(&self) -> Option<()> {
         if self.is_booked { Some(()) } else { None }
     }

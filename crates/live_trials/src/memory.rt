@@ -2,7 +2,7 @@
 
 use crate::alone::end_alone;
 use crate::parties::wall;
-use live_session::{Desk, SessionEnd};
+use live_session::{Desk, SessionEnd, ShowDesk};
 use std::fs;
 use std::process::Abort;
 use std::rt::Files;
@@ -30,7 +30,7 @@ struct Measured<'a, R> {
     pages: Option<u64>,
 }
 
-impl<'a, R: Files + AllocGlobal> Desk<ExpectingSink<'a>, ()> for Measured<'a, R> {
+impl<'a, R: Files + AllocGlobal> Desk<ExpectingSink<'a>> for Measured<'a, R> {
     ghost use Rattle.wall_labels.specs.Fuses.{failures_of};
 
     ghost failures = { λ s. failures_of s.lines.fuse };
@@ -44,9 +44,11 @@ impl<'a, R: Files + AllocGlobal> Desk<ExpectingSink<'a>, ()> for Measured<'a, R>
         self.lines.read(buffer)
     }
 
-    fn show(&mut self, _sink: &ExpectingSink<'a>, _receipt: &()) {}
-
     fn close(&self, _end: SessionEnd, _calls: u64) {}
+}
+
+impl<'a, R: Files + AllocGlobal> ShowDesk<ExpectingSink<'a>, ()> for Measured<'a, R> {
+    fn show(&mut self, _sink: &ExpectingSink<'a>, _receipt: &()) {}
 }
 
 // How many pages more are resident at the end of these lines than before there was a door.

@@ -4,7 +4,7 @@ ghost use Rattle.std.specs.Prelude.{◌≡◌, map, None, Some};
 
 use crate::alone::{ANSWERS, LINES, end_alone};
 use crate::parties::wall;
-use live_session::{Desk, SessionEnd};
+use live_session::{Desk, SessionEnd, ShowDesk};
 use std::alloc::Global;
 use std::collections::VecDeque;
 use std::process::Abort;
@@ -62,7 +62,7 @@ fn copy<R: Abort>(rt: &R, alloc: Global, bytes: &[u8]) -> Vec<u8>
     copy
 }
 
-impl<'a, R: Abort> Desk<Kept<'a, R>, ()> for Watched<'a, R> {
+impl<'a, R: Abort> Desk<Kept<'a, R>> for Watched<'a, R> {
     ghost use Rattle.wall_labels.specs.Fuses.{failures_of};
 
     ghost failures = { λ s. failures_of s.lines.fuse };
@@ -85,13 +85,15 @@ impl<'a, R: Abort> Desk<Kept<'a, R>, ()> for Watched<'a, R> {
         Ok(n)
     }
 
+    fn close(&self, _end: SessionEnd, _calls: u64) {}
+}
+
+impl<'a, R: Abort> ShowDesk<Kept<'a, R>, ()> for Watched<'a, R> {
     fn show(&mut self, sink: &Kept<'a, R>, _receipt: &()) {
         let written = copy(self.rt, self.alloc, sink.bytes.as_slice());
         let is_kept = self.shows.push_front(written).is_ok();
         assert!(self.rt; is_kept);
     }
-
-    fn close(&self, _end: SessionEnd, _calls: u64) {}
 }
 
 // How many lines end in these bytes.

@@ -14,7 +14,7 @@ ghost use Rattle.program_commands.specs.Serving.{serve_ending};
 
 use crate::ending::{Ending, end};
 use live_book::{Begun, BookSink, BookedHall, BooklessHall, Finished, Unbooked, Unopened};
-use live_session::{Desk, Peer, ServeFault, Served, Session, serve_all};
+use live_session::{Peer, ServeFault, Served, Session, ShowDesk, serve_all};
 use std::alloc::Global;
 use std::marker::Brand;
 use std::sync::Wait;
@@ -76,7 +76,7 @@ fn unserved<S, O, E: Sink, B>(
 }
 
 // A hall that keeps no book.
-fn bookless_hall<T>(alloc: Global, policy: &Policy) -> Result<BooklessHall<T>, NoMemory>
+fn bookless_hall(alloc: Global, policy: &Policy) -> Result<BooklessHall, NoMemory>
     ensures { IfOk result (λ hall. Stands policy.now hall []) }
 {
     let policy = policy.copy(alloc)?;
@@ -93,7 +93,7 @@ fn serve_bookless<R, S, O, E: Sink, B: BookSink>(
 ) -> ServeEnd<S, O, B>
 where
     R: Threads + Wait + Sync,
-    S: Desk<O, Option<B::Receipt>> + Send + Drop,
+    S: ShowDesk<O, Option<B::Receipt>> + Send + Drop,
     O: Sink + Send + Drop,
     B::Receipt: Send,
     requires { vec_len peers ≡ processes policy.now }
@@ -103,10 +103,10 @@ where
         (used E.failures E.contents err.old err.new)
         result.status }
 {
-    let Ok(hall) = bookless_hall::<B::Receipt>(alloc, policy) else {
+    let Ok(hall) = bookless_hall(alloc, policy) else {
         return unserved(alloc, err, Ending::NoMemory, None);
     };
-    match serve_all(rt, alloc, policy, hall, peers) {
+    match serve_all::<_, _, _, _, Option<B::Receipt>>(rt, alloc, policy, hall, peers) {
         Ok(served) => {
             let Served { sessions, machine } = served;
             drop(machine);
@@ -167,7 +167,7 @@ fn serve_booked<R, S, O, E: Sink, B, K: Begun + Send>(
 ) -> ServeEnd<S, O, B>
 where
     R: Threads + Wait + Sync,
-    S: Desk<O, Option<B::Receipt>> + Send + Drop,
+    S: ShowDesk<O, Option<B::Receipt>> + Send + Drop,
     O: Sink + Send + Drop,
     B: BookSink + Send + Drop,
     B::Receipt: Send,
@@ -186,7 +186,7 @@ where
             return unserved(alloc, err, book_ending(fault), Some(sink));
         }
     };
-    match serve_all(rt, alloc, policy, machine, peers) {
+    match serve_all::<_, _, _, _, Option<B::Receipt>>(rt, alloc, policy, machine, peers) {
         Ok(served) => {
             let Served { sessions, machine } = served;
             let (sink, ending) = finish(machine);
@@ -205,8 +205,10 @@ where
 /// devices, until the session of each has ended; `peers` has their devices, in order. Where there
 /// is a `book`, the audit book of that run is written to it while it runs: its first line before
 /// any session begins, the entries of each call before the call's reply is told, and its last line
-/// when all sessions have ended. It writes the line of a fault to `err`, and gives the status, with
-/// the devices and the book's writer as they have come back.
+/// when all sessions have ended. Before each reply the desk is shown a receipt, which the book's
+/// writer gave at the end of the call's turn, and none where no book is kept. It writes the line of
+/// a fault to `err`, and gives the status, with the devices and the book's writer as they have come
+/// back.
 ///
 /// A session whose devices fail has ended, and no more: the others go on, and the status is that of
 /// the book. Where the book can't be written any more, who calls from then on is told `unbooked`.
@@ -223,7 +225,7 @@ pub fn serve_on<R, S, O, E: Sink, B>(
 ) -> ServeEnd<S, O, B>
 where
     R: Threads + Wait + Sync,
-    S: Desk<O, Option<B::Receipt>> + Send + Drop,
+    S: ShowDesk<O, Option<B::Receipt>> + Send + Drop,
     O: Sink + Send + Drop,
     B: BookSink + Send + Drop,
     B::Receipt: Send,

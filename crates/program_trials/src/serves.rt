@@ -3,7 +3,7 @@
 use crate::endings::{sink, source};
 use crate::runs::ALONE;
 use live_book::{BookSink, Receipt};
-use live_session::{Desk, Peer, Session, SessionEnd};
+use live_session::{Desk, Peer, Session, SessionEnd, ShowDesk};
 use program_commands::{Ending, ServeEnd, Unready, read_wall, refuse, serve_on};
 use std::alloc::{AllocError, Global};
 use std::process::Abort;
@@ -33,7 +33,7 @@ struct Lines<'a> {
     lines: MemorySource<'a>,
 }
 
-impl<'a, T: Receipt> Desk<ExpectingSink<'a>, T> for Lines<'a> {
+impl<'a> Desk<ExpectingSink<'a>> for Lines<'a> {
     ghost use Rattle.wall_labels.specs.Fuses.{failures_of};
 
     ghost failures = { λ s. failures_of s.lines.fuse };
@@ -44,9 +44,11 @@ impl<'a, T: Receipt> Desk<ExpectingSink<'a>, T> for Lines<'a> {
         self.lines.read(buffer)
     }
 
-    fn show(&mut self, _sink: &ExpectingSink<'a>, _receipt: &T) {}
-
     fn close(&self, _end: SessionEnd, _calls: u64) {}
+}
+
+impl<'a, T: Receipt> ShowDesk<ExpectingSink<'a>, T> for Lines<'a> {
+    fn show(&mut self, _sink: &ExpectingSink<'a>, _receipt: &T) {}
 }
 
 // A writer that keeps what it is given, as long as there is memory.
@@ -301,7 +303,7 @@ struct Looking<'a> {
     is_due: bool,
 }
 
-impl<'a> Desk<ExpectingSink<'a>, Option<Length>> for Looking<'a> {
+impl<'a> Desk<ExpectingSink<'a>> for Looking<'a> {
     ghost use Rattle.wall_labels.specs.Fuses.{failures_of};
 
     ghost failures = { λ s. failures_of s.lines.fuse };
@@ -312,6 +314,10 @@ impl<'a> Desk<ExpectingSink<'a>, Option<Length>> for Looking<'a> {
         self.lines.read(buffer)
     }
 
+    fn close(&self, _end: SessionEnd, _calls: u64) {}
+}
+
+impl<'a> ShowDesk<ExpectingSink<'a>, Option<Length>> for Looking<'a> {
     fn show(&mut self, _sink: &ExpectingSink<'a>, receipt: &Option<Length>) {
         let Some((due, later)) = self.due.split_first() else {
             self.is_due = false;
@@ -323,8 +329,6 @@ impl<'a> Desk<ExpectingSink<'a>, Option<Length>> for Looking<'a> {
         }
         self.due = later;
     }
-
-    fn close(&self, _end: SessionEnd, _calls: u64) {}
 }
 
 // The book of `ALONE_BOOK`, before each of these replies: its first line, and then all but the last.

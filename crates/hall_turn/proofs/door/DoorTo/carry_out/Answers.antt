@@ -26,13 +26,13 @@ returns-clause-enters g c =
       process = p;
       seen = t.me.0.seen;
       settled = new.settled;
-      booked = c.is_some-pass-inside.result;
+      booked = new.booked;
     } in
     let by : e.call.process ≡ p =
     c.requires.by ∙ ap (λ (k : Known). k.process) (sym c.pass.view_is) in
     subst (λ (d : Doorway). EntersAnd c.args.pass.now e (Tells d.policy) after) c.requires.door
     (subst (λ (k : Known). EntersAnd k e (Tells k.door.policy) after) c.pass.view_is
-    (carried g.M.Machine.stands door new_door p old.settled new.settled old.booked c.is_some-pass-inside.result e
+    (carried g.M.Machine.stands door new_door p old.settled new.settled old.booked new.booked e
     Tells c.look.result (step 1 0 0 0 none) s.me c.look.new.seat.me t.me refl by c.pass.invariant
     c.look.ensures.looks c.turn-told.ensures.turned c.turn-told.ensures.tells))
 

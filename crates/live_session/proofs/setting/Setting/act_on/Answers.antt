@@ -14,12 +14,12 @@ returns-in-Act-clause-came g c =
     let pass = c.args.pass.now in
     let new = c.make-answer.new.pass in
     let answer = c.make-answer.result in
-    let were = option_map g.M.Receipt.Receipt.covers c.args.receipt.now in
-    let are = option_map g.M.Receipt.Receipt.covers c.make-answer.new.receipt in
+    let were = option_map g.T.Receipt.covers c.args.receipt.now in
+    let are = option_map g.T.Receipt.covers c.make-answer.new.receipt in
     let e = c.make-answer.ensures in
     subst (λ (a : Ask). CameTo stood pass a c.came_of.result are new) (sym c.in-Act.is)
     (subst (λ (it : Came). CameTo stood pass (ToAct c.in-Act.act) it are new)
-    (sym (c.came_of.ensures are (still_some g.M.Receipt.Receipt.covers
+    (sym (c.came_of.ensures are (still_some g.T.Receipt.covers
     c.make-answer.new.receipt c.is_some.result c.is_some.ensures)))
     (act_came g.M.Machine.stands g.M.Machine.booked pass new c.in-Act.act answer were are e.same
     (at_door c.args.self.now.door.now pass new.seen c.requires.door e.legal) e.answered e.gives))
@@ -30,10 +30,10 @@ returns-in-Wait-clause-came g c =
     let pass = c.args.pass.now in
     let new = c.wait-answer.new.pass in
     let answer = c.wait-answer.result in
-    let are = option_map g.M.Receipt.Receipt.covers c.wait-answer.new.receipt in
+    let are = option_map g.T.Receipt.covers c.wait-answer.new.receipt in
     subst (λ (a : Ask). CameTo stood pass a c.came_of-in-Wait.result are new) (sym c.in-Wait.is)
     (subst (λ (it : Came). CameTo stood pass (Wait c.in-Wait.request) it are new)
     (sym (c.came_of-in-Wait.ensures are (still_some
-    g.M.Receipt.Receipt.covers c.wait-answer.new.receipt c.is_some-in-Wait.result
+    g.T.Receipt.covers c.wait-answer.new.receipt c.is_some-in-Wait.result
     c.is_some-in-Wait.ensures)))
     (wait_came stood pass new c.in-Wait.request answer are c.wait-answer.ensures.waited))

@@ -100,7 +100,7 @@ later_so_far g c =
           let a = e.answers s.0 s.1 in (
             c.in-Some-next_long.part.now,
             c.in-Ok-begin.ensures,
-            goes_on stood fails holds tt wall pass c.loop-part.pass c.answer_line.new.pass text
+            goes_on stood fails holds wall pass c.loop-part.pass c.answer_line.new.pass text
                 (c.in-Some-next_long.part.now ∷ c.next_long-in-loop-part.new.self) s.0
                 (log source).shows (log c.loop-part.source).shows
                 (log c.answer_line.new.source).shows c.args.sink.now c.loop-part.sink c.answer_line.new.sink
@@ -130,7 +130,7 @@ returns-in-Err-begin-clause-takes g c =
     stops_here stood fails holds wall pass c.answer_line.new.pass text rest
     (showing log source c.answer_line.new.source)
     (used fails holds c.args.sink.now c.answer_line.new.sink)
-    (goes_on stood fails holds tt wall pass c.loop-part.pass c.answer_line.new.pass text rest s.0
+    (goes_on stood fails holds wall pass c.loop-part.pass c.answer_line.new.pass text rest s.0
     (log source).shows (log c.loop-part.source).shows (log c.answer_line.new.source).shows
     c.args.sink.now c.loop-part.sink c.answer_line.new.sink
     (subst (λ (l : List Word). SoFar stood wall pass text (s.0 ∷ l)

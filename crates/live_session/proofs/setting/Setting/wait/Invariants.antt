@@ -13,5 +13,5 @@ invariant-loop g l = record {
   same : IsSamePass l.fn.pass l.pass;
   legal : Legal l.self.door.now.policy l.pass.seen;
   waited : Waited (Stood g.M.Machine.stands g.M.Machine.booked) l.fn.pass l.request
-      (Replied Pending) (option_map g.M.Receipt.Receipt.covers l.receipt) l.pass;
+      (Replied Pending) (option_map g.T.Receipt.covers l.receipt) l.pass;
 }
