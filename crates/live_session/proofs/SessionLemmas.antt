@@ -30,6 +30,7 @@ use Rattle.hall_turn.specs.Runs.{Continues, calls_of}
 use Rattle.hall_turn.specs.Receipts.{Covered}
 use Rattle.hall_turn.specs.Known.{Known, Doorway}
 use Rattle.hall_turn.specs.Answers.{IsSamePass, SeesOn, Answered, Gives, GivesAt}
+use Rattle.hall_turn.specs.Answers.{NamesKnown}
 use Rattle.hall_turn.proofs.HallTurnLemmas.{continues_self, continues_more, continues_trans}
 use Rattle.live_session.specs.declared.line.BadLine.{BadLine}
 use Rattle.live_session.specs.declared.acting.Came.{Came}
@@ -48,7 +49,7 @@ use Rattle.live_session.specs.Steps.{CameTo, Waited}
 use Rattle.live_session.specs.Steps.{came_of, line_to, next_after, AnswersSo, WritesAnswer}
 use Rattle.live_session.specs.Steps.{PutsAnswer, AnswersLine, SoFar, Stops, StopsSo, Holds}
 use Rattle.live_session.specs.Steps.{behind, ComesBooked, IsUnread, Showing, showing, shown_next}
-use Rattle.live_session.specs.Steps.{AnswersBehind}
+use Rattle.live_session.specs.Steps.{AnswersBehind, CameNamesKnown}
 use Rattle.live_session.specs.declared.line.Unfinished.{Unfinished}
 use Rattle.live_session.proofs.CutLemmas.{parts_behind}
 use Rattle.live_session.proofs.PromptLemmas.{prompt_none, prompt_more, prompt_still, prompt_unread}
@@ -349,6 +350,13 @@ pub still_some : {A B : Type 0} (covers : A → B) (receipt : Option A) (b : Boo
 still_some covers None b is = is
 still_some covers (Some receipt) b is = is
 
+-- what came of a call names what its answer names
+pub came_known : (wall : ChineseWall) (answer : Answer) (receipt : Option Covered) →
+    NamesKnown wall answer → CameNamesKnown wall (came_of answer receipt)
+came_known wall (Replied reply) (Some covers) named = named
+came_known wall (Replied reply) None named = tt
+came_known wall Late receipt named = tt
+
 -- what came of a call is told where the machine was booked
 told_or_not : (stood : ChineseWall → List Entry → Option Covered → Type 0) (before after : Known) (ask : Ask)
     (told : Told) (reply : Reply) (receipt : Option Covered) →
@@ -381,7 +389,7 @@ module _ {M : Type 0} (stands : ChineseWall → M → List Entry → Type 0)
           says.0,
           subst (λ (run : List Entry). stands before.door.policy says.0 run) a.ends
               (subst (λ (w : Doorway). stands w.policy says.0 after.seen) same.0 says.1),
-          says.2,
+          says.3,
         );
       })
 

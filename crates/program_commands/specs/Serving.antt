@@ -1,6 +1,7 @@
 -- How serving ends, each process at devices of its own.
 use Rattle.std.specs.Prelude.{◌≡◌, ◌≢◌, ◌⊎◌, ℕ, List, [], ◌++◌, length, codes, Option, Some}
 use Rattle.std.specs.Prelude.{None}
+use Rattle.std.specs.Io.KnownBytes.{Appends}
 use Rattle.wall_policy.specs.Policy.{ChineseWall}
 use Rattle.run_model.specs.Comms.{processes}
 use Rattle.run_model.specs.Runs.{Entry}
@@ -10,7 +11,7 @@ use Rattle.hall_turn.specs.Machines.{Stands}
 use Rattle.hall_turn.specs.Receipts.{Covered}
 use Rattle.live_book.specs.declared.unbooked.Unbooked.{Unbooked}
 use Rattle.live_book.specs.declared.unbooked.Unbooked.TheVariants as unbookeds
-use Rattle.live_book.specs.Books.{StandsBehind, covered}
+use Rattle.live_book.specs.Books.{SinkValue, StandsBehind, book_of, covered, text_so_far}
 use Rattle.live_book.specs.Machines.{has_no_book}
 use Rattle.live_book.specs.Writing.{sink_value}
 use Rattle.live_session.specs.declared.peer.Peer.{Peer}
@@ -18,6 +19,7 @@ use Rattle.live_session.specs.declared.peer.Session.{Session}
 use Rattle.live_session.specs.declared.run.ServeFault.{ServeFault}
 use Rattle.live_session.specs.declared.run.ServeFault.TheVariants as serves
 use Rattle.live_session.specs.Hearing.{DeskLog}
+use Rattle.live_session.specs.Sessions.{Stood}
 use Rattle.live_session.specs.Served.{ServedAll}
 use Rattle.program_commands.specs.declared.ending.Ending.{Ending}
 use Rattle.program_commands.specs.declared.ending.Ending.TheVariants.{Done, WriteFault, NoThread}
@@ -101,3 +103,13 @@ module _ {S O : Type 0} (fails : S → ℕ) (left : S → Option (List ℕ))
         ⊎ HaveEndedIn (StandsBehind (sink_value kept lasting spoilt old)) covered wall peers
         sessions (λ run. (new : B) × (back ≡ Some new)
         × Writes (used spoilt kept old new) (text_of wall run) ending)
+
+-- ---- receipts
+
+-- What a receipt says that was shown before a reply: behind what the writer had at first, it had,
+-- when it gave the receipt, the text of the book of the run up to the reply's call, but for the
+-- last line.
+abbrev pub ReceiptsCoverTheBook : Type 0
+ReceiptsCoverTheBook = (begun : SinkValue) (wall : ChineseWall) (run : List Entry)
+    (bytes : Covered) → Stood (StandsBehind begun) covered wall run (Some bytes) →
+    Appends begun.contents bytes (text_so_far wall (book_of wall run))

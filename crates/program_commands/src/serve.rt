@@ -10,7 +10,7 @@ ghost use Rattle.live_book.specs.Writing.{sink_value};
 ghost use Rattle.program_commands.specs.Endings.{EndsSo, IsTold, Writes, error_line, status_of};
 ghost use Rattle.program_commands.specs.Replaying.{text_of};
 ghost use Rattle.program_commands.specs.Serving.{ServeEnds, book_ending, first_line};
-ghost use Rattle.program_commands.specs.Serving.{serve_ending};
+ghost use Rattle.program_commands.specs.Serving.{ReceiptsCoverTheBook, serve_ending};
 
 use crate::ending::{Ending, end};
 use live_book::{Begun, BookSink, BookedHall, BooklessHall, Finished, Unbooked, Unopened};
@@ -243,3 +243,10 @@ where
         None => serve_bookless(rt, alloc, policy, peers, err),
     }
 }
+
+/// What a receipt says that a desk was shown before a reply, where there is a book: what the book's
+/// writer had when it gave the receipt, which was at the end of the turn of the reply's call.
+#[tactic(auto, using(crate::proofs::ServeLemmas::receipts_cover))]
+pub fn receipts_cover_the_book()
+    ensures { ReceiptsCoverTheBook }
+{}

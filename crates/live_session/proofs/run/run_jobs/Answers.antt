@@ -13,6 +13,7 @@ scoped-served-requires g c =
     let m = c.type_bounds.send-M in
     let s = c.type_bounds.send-S in
     let o = c.type_bounds.send-O in
+    let t = c.type_bounds.send-T in
     let y = c.type_bounds.sync-R in
     record {
       at = λ a. (
@@ -35,6 +36,10 @@ scoped-served-requires g c =
                 record {
                   owned = o.owned;
                   leaving = λ k. Quiet-if (k (of_param 3)) unseen unseen (λ x w. tt) (λ x w. tt);
+                },
+                record {
+                  owned = t.owned;
+                  leaving = λ k. Quiet-if (k (of_param 4)) unseen unseen (λ x w. tt) (λ x w. tt);
                 },
                 record { shared = y.shared },
               ),

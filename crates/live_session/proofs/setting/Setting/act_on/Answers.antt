@@ -4,8 +4,9 @@ use Rattle.hall_script.specs.declared.ask.Ask.{Ask}
 use Rattle.hall_script.specs.declared.ask.Ask.TheVariants.{Act as ToAct, Wait}
 use Rattle.live_session.specs.declared.acting.Came.{Came}
 use Rattle.live_session.specs.Sessions.{Stood}
-use Rattle.live_session.specs.Steps.{CameTo}
+use Rattle.live_session.specs.Steps.{CameNamesKnown, CameTo}
 use Rattle.live_session.proofs.SessionLemmas.{at_door, act_came, wait_came, still_some}
+use Rattle.live_session.proofs.SessionLemmas.{came_known}
 use Rattle.live_session.proofs.setting.Setting.act_on.Goals as goal
 
 pub returns-in-Act-clause-came : goal.returns-in-Act-clause-came
@@ -37,3 +38,21 @@ returns-in-Wait-clause-came g c =
     g.T.Receipt.covers c.wait-answer.new.receipt c.is_some-in-Wait.result
     c.is_some-in-Wait.ensures)))
     (wait_came stood pass new c.in-Wait.request answer are c.wait-answer.ensures.waited))
+
+pub returns-in-Act-clause-named : goal.returns-in-Act-clause-named
+returns-in-Act-clause-named g c =
+    let wall = c.args.self.now.door.now.policy in
+    let are = option_map g.T.Receipt.covers c.make-answer.new.receipt in
+    subst (CameNamesKnown wall)
+    (sym (c.came_of.ensures are (still_some g.T.Receipt.covers c.make-answer.new.receipt
+    c.is_some.result c.is_some.ensures)))
+    (came_known wall c.make-answer.result are c.make-answer.ensures.named)
+
+pub returns-in-Wait-clause-named : goal.returns-in-Wait-clause-named
+returns-in-Wait-clause-named g c =
+    let wall = c.args.self.now.door.now.policy in
+    let are = option_map g.T.Receipt.covers c.wait-answer.new.receipt in
+    subst (CameNamesKnown wall)
+    (sym (c.came_of-in-Wait.ensures are (still_some g.T.Receipt.covers c.wait-answer.new.receipt
+    c.is_some-in-Wait.result c.is_some-in-Wait.ensures)))
+    (came_known wall c.wait-answer.result are c.wait-answer.ensures.named)
