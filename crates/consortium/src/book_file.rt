@@ -5,7 +5,7 @@
 //! contract can say. `tests/live` looks at all but the last, with the built program.
 ghost use Rattle.program_line.specs.Kinds.{Opens};
 
-use live_book::BookSink;
+use live_book::{BookSink, Receipt};
 use program_commands::{Ending, Unready, end, refuse};
 use program_files::{Count, FileSink, only_new};
 use std::fs;
@@ -84,13 +84,28 @@ impl<'a, L: Ledger> Sink for BookFile<'a, L> {
     }
 }
 
+/// That the file had, when this was made, all that was written to it by then. Only a book's file
+/// makes one.
+#[derive(Drop)]
+pub(crate) struct FileReceipt {
+    of: (),
+}
+
+impl Receipt for FileReceipt {}
+
 impl<'a, L: Ledger> BookSink for BookFile<'a, L> {
+    type Receipt = FileReceipt;
+
     fn settled(&mut self) -> Result<(), Failed> {
         if !self.is_synced || self.is_on_disk() {
             return Ok(());
         }
         self.sink.failures.rise();
         Err(Failed)
+    }
+
+    fn receipt(&self) -> FileReceipt {
+        FileReceipt { of: () }
     }
 }
 

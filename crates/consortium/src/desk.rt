@@ -8,7 +8,8 @@ ghost use Rattle.std.specs.Prelude.{◌≡◌, ◌+◌, ◌<◌, ◌≤◌, leng
 
 use crate::events::{Event, Events, Why};
 use crate::pipes::{Pipes, Shut};
-use live_session::{Desk, Peer, SessionEnd};
+use live_book::Receipt;
+use live_session::{Desk, Peer, SessionEnd, ShowDesk};
 use program_files::{read_again, write_again};
 use std::alloc::{AllocError, Global};
 use std::fs::{File, OpenOptions};
@@ -167,6 +168,13 @@ impl<'d, 'a, 'n, R: Wait> Desk<PipeSink<'d, 'a, 'n, R>> for PipeSource<'d, 'a, '
         self.desk
             .tell(Event::Left(self.desk.pipes.name, calls, why));
     }
+}
+
+impl<'d, 'a, 'n, R: Wait, T: Receipt> ShowDesk<PipeSink<'d, 'a, 'n, R>, T>
+    for PipeSource<'d, 'a, 'n, R>
+{
+    // The process itself is shown nothing but its reply.
+    fn show(&mut self, _sink: &PipeSink<'d, 'a, 'n, R>, _receipt: &T) {}
 }
 
 /// The replies to a process.

@@ -3,13 +3,13 @@
 //! What the sessions come to says the contract of `serve_on`; the pipes, and so this, have none.
 ghost use Rattle.program_line.specs.Kinds.{Opens};
 
-use crate::book_file::{BookFile, CountedBook, NewBook, new_book, take_away};
+use crate::book_file::{BookFile, CountedBook, FileReceipt, NewBook, new_book, take_away};
 use crate::desk::{desks_at, peers_at};
 use crate::ended::{Ended, let_go, status_of};
 use crate::events::{Event, EventLines, Events};
 use crate::folder::Folder;
 use crate::pipes::{Pipes, first_fault, pipes_in};
-use live_session::{Desk, Peer};
+use live_session::{Peer, ShowDesk};
 use program_commands::{Ending, end, refuse, serve_on};
 use program_files::{Count, StreamSink};
 use program_line::{LivePaths, served_policy};
@@ -164,14 +164,18 @@ impl<'a, R: AllocGlobal + Threads + Wait + Sync> PipeServer<'a, R> {
     }
 
     // Serves, between the first event and the last.
-    fn serve_while_told<S: Desk<O> + Send + Drop, O: Sink + Send + Drop, E: Sink>(
+    fn serve_while_told<S, O, E: Sink>(
         &self,
         policy: &Policy,
         peers: Vec<Peer<S, O>>,
         book: Option<NewBook>,
         events: &Events,
         err: &mut E,
-    ) -> Ended {
+    ) -> Ended
+    where
+        S: ShowDesk<O, Option<FileReceipt>> + Send + Drop,
+        O: Sink + Send + Drop,
+    {
         let rt = self.rt;
         events.tell(rt, Event::Serving(policy.processes()));
         let ended = match book {
@@ -197,7 +201,7 @@ fn serve_keeping<R, S, O, E: Sink, B: Ledger + Send>(
 ) -> Ended
 where
     R: AllocGlobal + Threads + Wait + Sync,
-    S: Desk<O> + Send + Drop,
+    S: ShowDesk<O, Option<FileReceipt>> + Send + Drop,
     O: Sink + Send + Drop,
     requires { Opens book.blank B.name B.parts }
 {
@@ -214,7 +218,7 @@ fn serve_bookless<R, S, O, E: Sink>(
 ) -> Ended
 where
     R: AllocGlobal + Threads + Wait + Sync,
-    S: Desk<O> + Send + Drop,
+    S: ShowDesk<O, Option<FileReceipt>> + Send + Drop,
     O: Sink + Send + Drop,
 {
     let_go(serve_on::<_, _, _, _, BookFile<Brand>>(rt, rt.alloc(), policy, peers, err, None))

@@ -155,16 +155,16 @@ module _ {M : Type 0} (stands : ChineseWall → M → List Entry → Type 0) whe
 
   -- the machine that carried it out, at the end of the turn
   pub stood_after : (v : SeatView) (m1 m2 m3 m4 m5 : Me (Option M) SeatView)
-      (in_slot after : Option M) (call : Call) (reply : Reply) (is_booked : M → Bool) (b : Bool)
+      (in_slot after : Option M) (call : Call) (reply : Reply) (IsNoted : M → Type 0)
       → m1.0.policy ≡ v.policy → HoldsMachine stands m1.0 m2 → m2.1 ≡ (0, in_slot) ∷ rest m2.1
       → m3 ≡ (m2.0, (0, after) ∷ rest m2.1)
       → m4 ≡ (declared m3.0 (entry call reply), m3.1)
       → (e : Entry) × (m4.0.said ≡ Some e) × (m5 ≡ (served m4.0 e, []))
       → (old : M) × (new : M) × (in_slot ≡ Some old) × (after ≡ Some new)
       × Carries stands old new call reply
-      → ((new : M) → after ≡ Some new → b ≡ is_booked new)
-      → (machine : M) × stands v.policy machine m5.0.seen × (b ≡ is_booked machine)
-  stood_after v m1 m2 m3 m4 m5 in_slot after call reply is_booked b policy holds slot writes
+      → ((new : M) → after ≡ Some new → IsNoted new)
+      → (machine : M) × stands v.policy machine m5.0.seen × IsNoted machine
+  stood_after v m1 m2 m3 m4 m5 in_slot after call reply IsNoted policy holds slot writes
       declares serves carries books =
       let same : holds.machine ≡ carries.0 = cc (was_machine m1.0 m2 in_slot holds slot, carries.2)
       in

@@ -1,6 +1,6 @@
 -- What a call at a door does to the pass. (Own rules.)
 use Rattle.std.specs.Prelude.{◌≡◌, ◌↔◌, ℕ, ◌^◌, ◌≤◌, List, [], ◌∷◌, length, map, Bool, true, false}
-use Rattle.std.specs.Prelude.{IsTrue}
+use Rattle.std.specs.Prelude.{IsTrue, Option, is_some}
 use Rattle.run_model.specs.declared.call.Act.{Act}
 use Rattle.mpi_cart.specs.Grids.{below}
 use Rattle.run_model.specs.Runs.{Entry, entry}
@@ -12,6 +12,7 @@ use Rattle.hall_turn.specs.declared.answer.Claimed.TheVariants as claimed
 use Rattle.hall_turn.specs.declared.answer.Answer.{Answer}
 use Rattle.hall_turn.specs.declared.answer.Answer.TheVariants.{Reply as Replied, Exhausted}
 use Rattle.hall_turn.specs.Runs.{Continues, calls_of}
+use Rattle.hall_turn.specs.Receipts.{Covered}
 use Rattle.hall_turn.specs.Known.{Doorway, Known}
 use Rattle.hall_turn.specs.Machines.{ClaimsAfter, Settles}
 
@@ -68,13 +69,36 @@ abbrev pub SaysOf : (before : Known) → Answer → (after : Known) → Type 0
 SaysOf before (Replied reply) after = SaysWhether after
 SaysOf before Exhausted after = after.settled ≡ before.settled
 
-module _ {M : Type 0} (stands : ChineseWall → M → List Entry → Type 0) (is_booked : M → Bool) where
+module _ {M : Type 0} (stands : ChineseWall → M → List Entry → Type 0)
+    (booked : M → Option Covered) where
   -- There is the machine as it was at the end of the turn that made the newest entry which the
-  -- pass has seen: it stands for exactly what the pass has seen, and the pass says whether it was
-  -- booked.
+  -- pass has seen: it stands for exactly what the pass has seen, the pass says whether it was
+  -- booked, and this is so of what a receipt of it covered then, if it was.
+  abbrev pub GivesNoted : Known → (IsNoted : Option Covered → Type 0) → Type 0
+  GivesNoted after IsNoted = (machine : M) × stands after.door.policy machine after.seen
+      × (after.booked ≡ is_some (booked machine)) × IsNoted (booked machine)
+
+  -- it gave a receipt that covers this then, if it was booked
+  abbrev pub Gives : Known → (receipt : Option Covered) → Type 0
+  Gives after receipt = GivesNoted after (λ covered. receipt ≡ covered)
+
+  -- so it was where the call was made; where it was not, the pass says what it said before, and
+  -- there is the receipt that there was
+  abbrev pub GivesAt : (before : Known) → Answer → (after : Known) →
+      (old new : Option Covered) → Type 0
+  GivesAt before (Replied reply) after old new = Gives after new
+  GivesAt before Exhausted after old new = (after.booked ≡ before.booked) × (new ≡ old)
+
+  -- the same of whatever is noted
+  abbrev pub NotesAt : {N : Type 0} → (N → Option Covered → Type 0) → (before : Known) → Answer →
+      (after : Known) → (old new : N) → Type 0
+  NotesAt notes before (Replied reply) after old new = GivesNoted after (notes new)
+  NotesAt notes before Exhausted after old new = (after.booked ≡ before.booked) × (new ≡ old)
+
+  -- the pass says whether the machine was booked
   abbrev pub SaysBooked : Known → Type 0
   SaysBooked after = (machine : M) × stands after.door.policy machine after.seen
-      × (after.booked ≡ is_booked machine)
+      × (after.booked ≡ is_some (booked machine))
 
   -- so it says where the call was made; where it was not, it says what it said before
   abbrev pub StoodAt : (before : Known) → Answer → (after : Known) → Type 0
@@ -102,11 +126,27 @@ SaysOfClaim before (claimed.Claim claim) after = SaysWhether after
 SaysOfClaim before claimed.Exhausted after = after.settled ≡ before.settled
 
 -- and so of the machine
-abbrev pub ClaimStoodAt : {M : Type 0} → (ChineseWall → M → List Entry → Type 0) → (M → Bool)
-    → (before : Known) → Claimed → (after : Known) → Type 0
-ClaimStoodAt stands is_booked before (claimed.Claim claim) after =
-    SaysBooked stands is_booked after
-ClaimStoodAt stands is_booked before claimed.Exhausted after = after.booked ≡ before.booked
+abbrev pub ClaimStoodAt : {M : Type 0} → (ChineseWall → M → List Entry → Type 0)
+    → (M → Option Covered) → (before : Known) → Claimed → (after : Known) → Type 0
+ClaimStoodAt stands booked before (claimed.Claim claim) after = SaysBooked stands booked after
+ClaimStoodAt stands booked before claimed.Exhausted after = after.booked ≡ before.booked
+
+-- and of its receipt, or whatever is noted
+abbrev pub ClaimNotesAt : {M N : Type 0} → (ChineseWall → M → List Entry → Type 0)
+    → (M → Option Covered) → (N → Option Covered → Type 0) → (before : Known) → Claimed
+    → (after : Known) → (old new : N) → Type 0
+ClaimNotesAt stands booked notes before (claimed.Claim claim) after old new =
+    GivesNoted stands booked after (notes new)
+ClaimNotesAt stands booked notes before claimed.Exhausted after old new =
+    (after.booked ≡ before.booked) × (new ≡ old)
+
+abbrev pub ClaimGivesAt : {M : Type 0} → (ChineseWall → M → List Entry → Type 0)
+    → (M → Option Covered) → (before : Known) → Claimed → (after : Known)
+    → (old new : Option Covered) → Type 0
+ClaimGivesAt stands booked before (claimed.Claim claim) after old new =
+    Gives stands booked after new
+ClaimGivesAt stands booked before claimed.Exhausted after old new =
+    (after.booked ≡ before.booked) × (new ≡ old)
 
 -- a claim that was made may be finished
 abbrev pub MayFinish : Claimed → Type 0

@@ -1,4 +1,5 @@
 pub mod Runs
+pub mod Receipts
 pub mod Known
 pub mod Machines
 pub mod Answers

@@ -1,5 +1,6 @@
 //! The door, and the calls that take a turn there.
 ghost use Rattle.std.specs.Prelude.{◌≡◌, ◌<◌, ◌≤◌, [], IfOk, IfSome, IfNone, vec_capacity};
+ghost use Rattle.std.specs.Prelude.{option_map};
 ghost use Rattle.std.specs.List.{All};
 ghost use Rattle.run_model.specs.declared.call.Act.TheVariants.{Post as ToPost, Take as ToTake};
 ghost use Rattle.run_model.specs.declared.call.Act.TheVariants.{Info as ToInfo};
@@ -9,14 +10,18 @@ ghost use Rattle.run_model.specs.Runs.{entry};
 ghost use Rattle.run_model.specs.Known.{IsKnownLabel, HasKnownLabel, IsKnownReply};
 ghost use Rattle.hall_turn.specs.Answers.{Answered, ClaimAnswered, ClaimNamesKnown, EntersAnd};
 ghost use Rattle.hall_turn.specs.Answers.{MayFinish, IsSamePass, IsTooLate, NamesKnown, new_passes};
-ghost use Rattle.hall_turn.specs.Answers.{ClaimStoodAt, SaysBooked, SaysOf, SaysOfClaim, SaysWhether};
+ghost use Rattle.hall_turn.specs.Answers.{ClaimGivesAt, ClaimNotesAt, ClaimStoodAt, GivesAt};
+ghost use Rattle.hall_turn.specs.Answers.{GivesNoted, NotesAt, SaysOf};
+ghost use Rattle.hall_turn.specs.Answers.{SaysOfClaim, SaysWhether};
 ghost use Rattle.hall_turn.specs.Answers.{StoodAt};
 ghost use Rattle.hall_turn.specs.Views.{newcomer};
 
 use crate::answer::{Answer, Claimed};
 use crate::deed::{Claiming, Deed};
 use crate::machine::Machine;
+use crate::noting::Noting;
 use crate::pass::{PassTo, Passes, PassesTo};
+use crate::receipt::{Receipt, Receipts};
 use crate::rule::View;
 use crate::turns::Turns;
 use atomic_table::{Seat, Table};
@@ -180,7 +185,7 @@ impl<M: Machine> DoorTo<M> {
         ensures answered { Answered pass.old (ToPost posting) result pass.new }
         ensures named { NamesKnown self.now.policy result }
         ensures settled { SaysOf pass.old result pass.new }
-        ensures stood { StoodAt M.stands M.is_booked pass.old result pass.new }
+        ensures stood { StoodAt M.stands M.booked pass.old result pass.new }
     {
         self.call(rt, pass, Act::Post(posting))
     }
@@ -197,7 +202,7 @@ impl<M: Machine> DoorTo<M> {
         ensures answered { Answered pass.old (ToTake request) result pass.new }
         ensures named { NamesKnown self.now.policy result }
         ensures settled { SaysOf pass.old result pass.new }
-        ensures stood { StoodAt M.stands M.is_booked pass.old result pass.new }
+        ensures stood { StoodAt M.stands M.booked pass.old result pass.new }
     {
         match self.claim(rt, pass, request) {
             Claimed::Claim(claim) => Answer::Reply(finish(claim)),
@@ -218,13 +223,34 @@ impl<M: Machine> DoorTo<M> {
         ensures may { MayFinish result }
         ensures named { ClaimNamesKnown self.now.policy result }
         ensures settled { SaysOfClaim pass.old result pass.new }
-        ensures stood { ClaimStoodAt M.stands M.is_booked pass.old result pass.new }
+        ensures stood { ClaimStoodAt M.stands M.booked pass.old result pass.new }
+    {
+        self.claim_noting(rt, pass, request, &mut ())
+    }
+
+    // A claim, by which something is noted of the machine.
+    fn claim_noting<R: Wait, N: Noting<M>>(
+        &self,
+        rt: &R,
+        pass: &mut PassTo<M>,
+        request: u64,
+        noted: &mut N,
+    ) -> Claimed
+        requires door { pass.old.door ≡ self.now }
+        ensures same { IsSamePass pass.old pass.new }
+        ensures legal { Legal self.now.policy pass.new.seen }
+        ensures answered { ClaimAnswered pass.old request result pass.new }
+        ensures may { MayFinish result }
+        ensures named { ClaimNamesKnown self.now.policy result }
+        ensures settled { SaysOfClaim pass.old result pass.new }
+        ensures gives { ClaimNotesAt M.stands M.booked N.notes pass.old result pass.new
+            noted.old noted.new }
     {
         let claiming = Claiming {
             process: pass.process,
             request,
         };
-        match self.carry_out(rt, pass, claiming) {
+        match self.carry_out(rt, pass, claiming, noted) {
             Some(claim) => Claimed::Claim(claim),
             None => Claimed::Exhausted,
         }
@@ -240,7 +266,7 @@ impl<M: Machine> DoorTo<M> {
         ensures answered { Answered pass.old (ToInfo comm) result pass.new }
         ensures named { NamesKnown self.now.policy result }
         ensures settled { SaysOf pass.old result pass.new }
-        ensures stood { StoodAt M.stands M.is_booked pass.old result pass.new }
+        ensures stood { StoodAt M.stands M.booked pass.old result pass.new }
     {
         self.call(rt, pass, Act::Info(comm))
     }
@@ -254,24 +280,46 @@ impl<M: Machine> DoorTo<M> {
         ensures answered { Answered pass.old act result pass.new }
         ensures named { NamesKnown self.now.policy result }
         ensures settled { SaysOf pass.old result pass.new }
-        ensures stood { StoodAt M.stands M.is_booked pass.old result pass.new }
+        ensures stood { StoodAt M.stands M.booked pass.old result pass.new }
+    {
+        self.call_noting(rt, pass, act, &mut ())
+    }
+
+    // One call, by which something is noted of the machine.
+    fn call_noting<R: Wait, N: Noting<M>>(
+        &self,
+        rt: &R,
+        pass: &mut PassTo<M>,
+        act: Act,
+        noted: &mut N,
+    ) -> Answer
+        requires door { pass.old.door ≡ self.now }
+        requires label { HasKnownLabel self.now.policy act }
+        ensures same { IsSamePass pass.old pass.new }
+        ensures legal { Legal self.now.policy pass.new.seen }
+        ensures answered { Answered pass.old act result pass.new }
+        ensures named { NamesKnown self.now.policy result }
+        ensures settled { SaysOf pass.old result pass.new }
+        ensures gives { NotesAt M.stands M.booked N.notes pass.old result pass.new noted.old
+            noted.new }
     {
         let call = Call {
             process: pass.process,
             act,
         };
-        match self.carry_out(rt, pass, call) {
+        match self.carry_out(rt, pass, call, noted) {
             Some(reply) => Answer::Reply(reply),
             None => Answer::Exhausted,
         }
     }
 
     // One deed, at the pass's turn; none where the door is exhausted, which the first look decides.
-    fn carry_out<R: Wait, D: Deed + Drop>(
+    fn carry_out<R: Wait, D: Deed + Drop, N: Noting<M>>(
         &self,
         rt: &R,
         pass: &mut PassTo<M>,
         deed: D,
+        noted: &mut N,
     ) -> Option<D::Told>
         requires door { pass.old.door ≡ self.now }
         requires by { (D.call deed).process ≡ pass.old.process }
@@ -284,9 +332,10 @@ impl<M: Machine> DoorTo<M> {
         ensures named { IfSome result (λ told. IsKnownReply self.now.policy (D.reply told)) }
         ensures exhausted { IfNone result (IsTooLate pass.old pass.new) }
         ensures settled { IfSome result (λ _. SaysWhether pass.new) }
-        ensures stood { IfSome result (λ _. SaysBooked M.stands M.is_booked pass.new) }
+        ensures gives { IfSome result (λ _. GivesNoted M.stands M.booked pass.new
+            (N.notes noted.new)) }
         ensures kept { IfNone result ((pass.new.settled ≡ pass.old.settled)
-            × (pass.new.booked ≡ pass.old.booked)) }
+            × (pass.new.booked ≡ pass.old.booked) × (noted.new ≡ noted.old)) }
     {
         if self.turns.look(&mut pass.seat) >= LAST {
             return None;
@@ -297,7 +346,54 @@ impl<M: Machine> DoorTo<M> {
             deed,
             &mut pass.settled,
             &mut pass.booked,
+            noted,
         );
         Some(told)
     }
+}
+
+/// All of a take that needs the hall, at the pass's turn, as by `claim`, with the receipt that the
+/// machine gave at the end of the turn, if it was booked. After `Exhausted` there is the receipt
+/// that there was.
+pub fn claim_with_receipt<R: Wait, M: Receipts<T>, T: Receipt + Drop>(
+    rt: &R,
+    door: &DoorTo<M>,
+    pass: &mut PassTo<M>,
+    request: u64,
+    receipt: &mut Option<T>,
+) -> Claimed
+    requires door { pass.old.door ≡ door.now }
+    ensures same { IsSamePass pass.old pass.new }
+    ensures legal { Legal door.now.policy pass.new.seen }
+    ensures answered { ClaimAnswered pass.old request result pass.new }
+    ensures may { MayFinish result }
+    ensures named { ClaimNamesKnown door.now.policy result }
+    ensures settled { SaysOfClaim pass.old result pass.new }
+    ensures gives { ClaimGivesAt M.stands M.booked pass.old result pass.new
+        (option_map T.covers receipt.old) (option_map T.covers receipt.new) }
+{
+    door.claim_noting(rt, pass, request, receipt)
+}
+
+/// One call, at the pass's turn, as by `post`, `take` and `info`, with the receipt that the machine
+/// gave at the end of the turn, if it was booked. After `Exhausted` there is the receipt that there
+/// was.
+pub fn call_with_receipt<R: Wait, M: Receipts<T>, T: Receipt + Drop>(
+    rt: &R,
+    door: &DoorTo<M>,
+    pass: &mut PassTo<M>,
+    act: Act,
+    receipt: &mut Option<T>,
+) -> Answer
+    requires door { pass.old.door ≡ door.now }
+    requires label { HasKnownLabel door.now.policy act }
+    ensures same { IsSamePass pass.old pass.new }
+    ensures legal { Legal door.now.policy pass.new.seen }
+    ensures answered { Answered pass.old act result pass.new }
+    ensures named { NamesKnown door.now.policy result }
+    ensures settled { SaysOf pass.old result pass.new }
+    ensures gives { GivesAt M.stands M.booked pass.old result pass.new
+        (option_map T.covers receipt.old) (option_map T.covers receipt.new) }
+{
+    door.call_noting(rt, pass, act, receipt)
 }

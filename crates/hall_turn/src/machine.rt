@@ -1,12 +1,13 @@
 //! What a door needs of the machine behind it, and the hall as that machine.
-ghost use Rattle.std.specs.Prelude.{◌≡◌, Bool, List};
+ghost use Rattle.std.specs.Prelude.{◌≡◌, List, Option, is_some};
 ghost use Rattle.wall_policy.specs.Policy.{ChineseWall};
 ghost use Rattle.run_model.specs.Runs.{Entry, entry};
 ghost use Rattle.run_model.specs.Replies.{Legal};
 ghost use Rattle.hall_core.specs.Claims.{to_take, claim_reply};
 ghost use Rattle.run_model.specs.Known.{HasKnownLabel};
+ghost use Rattle.hall_turn.specs.Receipts.{Covered};
 ghost use Rattle.hall_turn.specs.Machines.{Carries, ClaimsAfter, ForEachRun, Stands, TellsWhether};
-ghost use Rattle.hall_turn.specs.Machines.{entries_of, is_always_booked};
+ghost use Rattle.hall_turn.specs.Machines.{always_booked, entries_of};
 
 use hall_core::{Call, Claim, Hall, Reply};
 
@@ -25,8 +26,9 @@ pub trait Machine {
     /// It was opened with the policy, and stands for the run.
     ghost stands: { ChineseWall → Self → List Entry → Type 0 };
 
-    /// Whether all that it had to write down was written.
-    ghost is_booked: { Self → Bool };
+    /// What a receipt covers that it gives now; none where it is not booked, since not all that it
+    /// had to write down was written.
+    ghost booked: { Self → Option Covered };
 
     /// Applies one call. The caller sees to it that a posting's label is public or a dataset of the
     /// policy.
@@ -47,14 +49,14 @@ pub trait Machine {
 
     /// Whether all that it had to write down was written.
     fn is_booked(&self) -> bool
-        ensures { result ≡ is_booked self.now };
+        ensures { result ≡ is_some (booked self.now) };
 }
 
 /// A hall writes nothing down, and so is always booked.
 impl Machine for Hall {
     ghost stands = { Stands };
 
-    ghost is_booked = { is_always_booked };
+    ghost booked = { always_booked };
 
     fn apply(&mut self, call: Call) -> Applied {
         let before = entries(self);

@@ -8,6 +8,7 @@ use Rattle.run_model.specs.Books.{book}
 use Rattle.run_model.specs.Runs.{Entry, posts}
 use Rattle.audit_book.specs.Text.{entry_lines, header_words, line_of}
 use Rattle.hall_core.specs.Halls.{HallValue, StandsFor}
+use Rattle.hall_turn.specs.Receipts.{Covered}
 use Rattle.live_book.specs.declared.unbooked.Unbooked.{Unbooked}
 use Rattle.live_book.specs.declared.unbooked.Unbooked.TheVariants.{Write, NoMemory, TooLong}
 
@@ -35,6 +36,15 @@ pub record BookedHallValue : Type 0 where
 -- whether all was written
 abbrev pub is_all_booked : BookedHallValue → Bool
 is_all_booked m = is_none m.fault
+
+-- these bytes, if nothing went wrong
+abbrev pub unless_cut : (fault : Option Unbooked) → Covered → Option Covered
+unless_cut None bytes = Some bytes
+unless_cut (Some fault) bytes = None
+
+-- what a receipt covers that it gives now: all that the sink has, as long as all was written
+abbrev pub covered : BookedHallValue → Option Covered
+covered m = unless_cut m.fault m.sink.contents
 
 -- the book of a run
 abbrev pub book_of : ChineseWall → List Entry → List BookEntry

@@ -1,7 +1,8 @@
 -- Halls as machines that keep no book.
-use Rattle.std.specs.Prelude.{Bool, true}
+use Rattle.std.specs.Prelude.{Option, Some, None}
 use Rattle.hall_core.specs.Halls.{HallValue}
+use Rattle.hall_turn.specs.Receipts.{Covered}
 
--- it has nothing to write down, so it never lacks anything that it had to write
-abbrev pub has_no_book : HallValue → Bool
-has_no_book hall = true
+-- it has nothing to write down, so it never lacks anything that it had to write; no bytes are known
+abbrev pub has_no_book : HallValue → Option Covered
+has_no_book hall = Some None

@@ -1,5 +1,6 @@
 //! A hall whose book is written while it runs.
 ghost use Rattle.std.specs.Prelude.{◌≡◌, List, [], None, IfErr, IfOk, IfSome, IsTrue};
+ghost use Rattle.std.specs.Prelude.{option_map};
 ghost use Rattle.std.specs.Io.KnownBytes.{Keeps};
 ghost use Rattle.audit_book.specs.Text.{book_text, header_words, line_of};
 ghost use Rattle.live_book.specs.Writing.{TellsWritten, WritesPrefix, sink_value};
@@ -77,7 +78,7 @@ impl<B: BookSink, K: Begun> BookedHall<B, K> {
     ghost use Rattle.hall_core.specs.Claims.{CanFinish, Claims, claim_entry, claim_reply, to_take};
     ghost use Rattle.hall_core.specs.Machines.{Carries, ForEachRun, KeepsApart, RepliesWith};
     ghost use Rattle.hall_turn.specs.Machines.{TellsWhether};
-    ghost use Rattle.live_book.specs.Books.{StandsWithBook, book_of, is_all_booked};
+    ghost use Rattle.live_book.specs.Books.{StandsWithBook, book_of, covered, is_all_booked};
 
     /// A hall that stands for the empty run, with the first line of its book written. Else the sink
     /// comes back, with a prefix of that line, and why: `NoMemory` only where a growth was refused.
@@ -170,6 +171,16 @@ impl<B: BookSink, K: Begun> BookedHall<B, K> {
         ensures { result ≡ is_all_booked self.now }
     {
         self.writer.fault.is_none()
+    }
+
+    /// A receipt of the sink, which covers all that it has, as long as all was written.
+    pub fn receipt(&self) -> Option<B::Receipt>
+        ensures { option_map B.Receipt.covers result ≡ covered self.now }
+    {
+        match self.writer.fault {
+            None => Some(self.writer.sink.receipt()),
+            Some(_) => None,
+        }
     }
 
     /// Writes the last line of the book, and gives the sink back. The whole text of the run's book

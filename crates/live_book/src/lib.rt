@@ -21,6 +21,6 @@ pub use begun::Begun;
 pub use booked::BookedHall;
 pub use bookless::BooklessHall;
 pub use finished::{Finished, Unopened};
-pub use hall_turn::{Applied, Machine};
+pub use hall_turn::{Applied, Machine, Receipt, Receipts};
 pub use sink::BookSink;
 pub use unbooked::Unbooked;

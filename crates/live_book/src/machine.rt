@@ -1,6 +1,6 @@
 //! Halls as machines behind a door.
 ghost use Rattle.hall_turn.specs.Machines.{Stands};
-ghost use Rattle.live_book.specs.Books.{StandsBehind, is_all_booked};
+ghost use Rattle.live_book.specs.Books.{StandsBehind, covered};
 ghost use Rattle.live_book.specs.Machines.{has_no_book};
 
 use crate::begun::Begun;
@@ -8,12 +8,12 @@ use crate::booked::BookedHall;
 use crate::bookless::BooklessHall;
 use crate::sink::BookSink;
 use hall_core::{Call, Claim};
-use hall_turn::{Applied, Machine};
+use hall_turn::{Applied, Machine, Receipt, Receipts};
 
 impl<B: BookSink, K: Begun> Machine for BookedHall<B, K> {
     ghost stands = { StandsBehind K.begun };
 
-    ghost is_booked = { is_all_booked };
+    ghost booked = { covered };
 
     fn apply(&mut self, call: Call) -> Applied {
         BookedHall::apply(self, call)
@@ -28,11 +28,20 @@ impl<B: BookSink, K: Begun> Machine for BookedHall<B, K> {
     }
 }
 
+impl<B: BookSink, K: Begun> Receipts<Option<B::Receipt>> for BookedHall<B, K> {
+    fn receipt(&self) -> Option<Option<B::Receipt>> {
+        match BookedHall::receipt(self) {
+            Some(receipt) => Some(Some(receipt)),
+            None => None,
+        }
+    }
+}
+
 /// It has nothing to write, and so is always booked.
 impl Machine for BooklessHall {
     ghost stands = { Stands };
 
-    ghost is_booked = { has_no_book };
+    ghost booked = { has_no_book };
 
     fn apply(&mut self, call: Call) -> Applied {
         BooklessHall::apply(self, call)
@@ -44,5 +53,12 @@ impl Machine for BooklessHall {
 
     fn is_booked(&self) -> bool {
         true
+    }
+}
+
+/// There is no book of which it could give a receipt.
+impl<T: Receipt> Receipts<Option<T>> for BooklessHall {
+    fn receipt(&self) -> Option<Option<T>> {
+        Some(None)
     }
 }

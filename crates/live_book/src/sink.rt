@@ -2,10 +2,15 @@
 ghost use Rattle.std.specs.Prelude.{◌≡◌, ℕ, ◌+◌, List, Option, None, OnOk, OnErr};
 ghost use Rattle.std.specs.Io.KnownBytes.{Keeps};
 
+use hall_turn::Receipt;
 use wall_labels::{Failed, Sink};
 
-/// A writer that is told of each instance that settles, so that a device may make it last.
+/// A writer that is told of each instance that settles, so that a device may make it last, and that
+/// gives receipts of what it has. The type of these is its own, so that they come from nowhere else.
 pub trait BookSink: Sink {
+    /// What shows how far was written.
+    type Receipt: Receipt + Drop;
+
     /// The bytes that it was told to make last, where they are known.
     ghost lasting: { Self → Option (List ℕ) } = { λ _. None };
 
@@ -16,4 +21,8 @@ pub trait BookSink: Sink {
         ensures failed { OnErr result (Self.failures self.new ≡ Self.failures self.old + 1) }
         ensures same { Keeps (Self.contents self.old) (Self.contents self.new) }
         ensures lasts { OnOk result (Keeps (lasting self.new) (Self.contents self.new)) };
+
+    /// A receipt of all that was written so far.
+    fn receipt(&self) -> Self::Receipt
+        ensures covers { Self.Receipt.covers result ≡ Self.contents self.now };
 }

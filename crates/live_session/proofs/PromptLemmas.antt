@@ -3,31 +3,31 @@ use Rattle.std.proofs.Common.{◌≡◌, ◌∙◌, ℕ, ◌+◌, List, [], ◌�
 use Rattle.std.proofs.Common.{reverse, Option, Some, None, refl, sym, ap, subst, append_assoc}
 use Rattle.std.proofs.Common.{arith}
 use Rattle.std.proofs.lemmas.List.{length-map, length-reverse}
-use Rattle.std.proofs.Common.{Bool}
 use Rattle.wall_policy.specs.Policy.{ChineseWall}
 use Rattle.run_model.specs.Runs.{Entry}
 use Rattle.coll_text.specs.Numbers.{Word}
 use Rattle.coll_text.specs.Reading.{parts}
 use Rattle.hall_script.specs.Devices.{used}
+use Rattle.hall_turn.specs.Receipts.{Covered}
 use Rattle.hall_turn.specs.Known.{Known}
 use Rattle.live_session.specs.Lines.{said}
-use Rattle.live_session.specs.Hearing.{Heard, Tells, text_of}
+use Rattle.live_session.specs.Hearing.{DeskLog, Heard, Tells, text_of}
 use Rattle.live_session.specs.Sessions.{Told, said_by, answers, Acted, HadAnswered, IsPrompt}
-use Rattle.live_session.specs.Steps.{SoFar}
+use Rattle.live_session.specs.Steps.{Showing, SoFar}
 
--- ---- known reads
+-- ---- what is known
 
-pub tells_none : (known : Option (List Heard)) → Tells known known []
+pub tells_none : {X : Type 0} (known : Option (List X)) → Tells known known []
 tells_none None = tt
 tells_none (Some past) = refl
 
-pub tells_then : (a b c : Option (List Heard)) (past reads : List Heard) → Tells a b past →
-    Tells b c reads → Tells a c (reads ++ past)
-tells_then None b c past reads p q = tt
-tells_then (Some x) None c past reads p q = absurd p
-tells_then (Some x) (Some y) None past reads p q = absurd q
-tells_then (Some x) (Some y) (Some z) past reads p q =
-    q ∙ ap (λ l. reads ++ l) p ∙ sym (append_assoc reads past x)
+pub tells_then : {X : Type 0} (a b c : Option (List X)) (past more : List X) → Tells a b past →
+    Tells b c more → Tells a c (more ++ past)
+tells_then None b c past more p q = tt
+tells_then (Some x) None c past more p q = absurd p
+tells_then (Some x) (Some y) None past more p q = absurd q
+tells_then (Some x) (Some y) (Some z) past more p q =
+    q ∙ ap (λ l. more ++ l) p ∙ sym (append_assoc more past x)
 
 -- ---- answers by then
 
@@ -77,7 +77,7 @@ answered_more wall before read reads told more now earlier (x ∷ later) this pa
     later_lines wall before this.written (text_of past) told more (earlier later this past rest)
 
 module _ {S O : Type 0} (fails : S → ℕ) (left : S → Option (List ℕ))
-    (heard : S → Option (List Heard)) (failures : O → ℕ) (contents : O → Option (List ℕ)) where
+    (heard : S → DeskLog) (failures : O → ℕ) (contents : O → Option (List ℕ)) where
   abbrev Prompt : ChineseWall → (first last : S) → (old new : O) → List ℕ → List Told → Type 0
   Prompt wall first last old new bytes told =
       IsPrompt heard wall (used fails left first last) (used failures contents old new) bytes told
@@ -86,7 +86,7 @@ module _ {S O : Type 0} (fails : S → ℕ) (left : S → Option (List ℕ))
       Prompt wall source source sink sink [] []
   prompt_none wall source sink = record {
     reads = [];
-    tells = tells_none (heard source);
+    tells = tells_none (heard source).reads;
     gave = refl;
     answered = λ later read past e. absurd (none_read later read past e);
   }
@@ -94,27 +94,42 @@ module _ {S O : Type 0} (fails : S → ℕ) (left : S → Option (List ℕ))
   -- a read that failed is not told
   pub prompt_still : (wall : ChineseWall) (first mid last : S) (old new : O) (bytes : List ℕ)
       (told : List Told) → Prompt wall first mid old new bytes told →
-      Tells (heard mid) (heard last) [] → Prompt wall first last old new bytes told
+      Tells (heard mid).reads (heard last).reads [] → Prompt wall first last old new bytes told
   prompt_still wall first mid last old new bytes told p tells = record {
     reads = p.reads;
-    tells = tells_then (heard first) (heard mid) (heard last) p.reads [] p.tells tells;
+    tells = tells_then (heard first).reads (heard mid).reads (heard last).reads p.reads [] p.tells
+        tells;
     gave = p.gave;
     answered = p.answered;
   }
 
-module _ (stood : ChineseWall → List Entry → Bool → Type 0)
+  -- nothing was read since
+  pub prompt_unread : (wall : ChineseWall) (first last far : S) (old new : O) (bytes : List ℕ)
+      (told : List Told) → (heard far).reads ≡ (heard last).reads →
+      Prompt wall first last old new bytes told → Prompt wall first far old new bytes told
+  prompt_unread wall first last far old new bytes told same p = record {
+    reads = p.reads;
+    tells = subst (λ (k : Option (List Heard)). Tells (heard first).reads k p.reads) (sym same)
+        p.tells;
+    gave = p.gave;
+    answered = p.answered;
+  }
+
+module _ (stood : ChineseWall → List Entry → Option Covered → Type 0)
     {S O : Type 0} (fails : S → ℕ) (left : S → Option (List ℕ))
-    (heard : S → Option (List Heard)) (failures : O → ℕ) (contents : O → Option (List ℕ)) where
+    (heard : S → DeskLog) (failures : O → ℕ) (contents : O → Option (List ℕ)) where
   -- all finished lines were answered, and then came a read
   pub prompt_more : (wall : ChineseWall) (a b : Known) (first mid last : S) (old out new : O)
       (bytes more : List ℕ) (line : Word)
-      (s : SoFar stood wall a (parts 10 bytes) (line ∷ []) (used failures contents old out) b) →
+      (desk : Showing)
+      (s : SoFar stood wall a (parts 10 bytes) (line ∷ []) desk (used failures contents old out) b) →
       IsPrompt heard wall (used fails left first mid) (used failures contents old out) bytes
       s.told →
-      Tells (heard mid) (heard last) (record { bytes = more; written = contents out } ∷ []) →
+      Tells (heard mid).reads (heard last).reads
+      (record { bytes = more; written = contents out } ∷ []) →
       (told : List Told) → IsPrompt heard wall (used fails left first last)
       (used failures contents old new) (bytes ++ more) (told ++ s.told)
-  prompt_more wall a b first mid last old out new bytes more line s p tells told =
+  prompt_more wall a b first mid last old out new bytes more line desk s p tells told =
       let read : Heard = record { bytes = more; written = contents out } in
       let now : HadAnswered wall (contents old) (contents out) (text_of p.reads) s.told = record {
         since = [];
@@ -126,7 +141,8 @@ module _ (stood : ChineseWall → List Entry → Bool → Type 0)
       } in
       record {
         reads = read ∷ p.reads;
-        tells = tells_then (heard first) (heard mid) (heard last) p.reads (read ∷ []) p.tells tells;
+        tells = tells_then (heard first).reads (heard mid).reads (heard last).reads p.reads
+            (read ∷ []) p.tells tells;
         gave = ap (λ l. l ++ more) p.gave;
         answered =
             answered_more wall (contents old) read p.reads s.told told now p.answered;

@@ -1,7 +1,7 @@
 -- Jobs that are handed out and served.
 use Rattle.std.proofs.Common.{◌≡◌, ◌∙◌, ℕ, zero, suc, ◌<◌, ◌≤◌, get_or, true, false, List, []}
 use Rattle.std.proofs.Common.{◌∷◌, ◌++◌, length, Option, Some}
-use Rattle.std.proofs.Common.{Bool, Result, Ok, Err, IfOk, refl, sym, ap, subst, subst₂}
+use Rattle.std.proofs.Common.{Result, Ok, Err, IfOk, refl, sym, ap, subst, subst₂}
 use Rattle.std.proofs.Common.{append-nil, append_assoc, arith}
 use Rattle.std.specs.Prelude.{IsOk}
 use Rattle.std.proofs.lemmas.Bool.{false≢true}
@@ -16,7 +16,7 @@ use Rattle.live_session.specs.declared.peer.Serving.{Serving}
 use Rattle.live_session.specs.Joining.{HasServed, AllServed, handed, passes_of, peers_of}
 use Rattle.live_session.specs.Joining.{passes_in, end_of, ends_of, end_in, ends_in, IsFresh}
 use Rattle.live_session.specs.Joining.{ArePrepared, HaveEnded}
-use Rattle.live_session.specs.Hearing.{Heard}
+use Rattle.live_session.specs.Hearing.{DeskLog}
 use Rattle.live_session.specs.Sessions.{Stood, Serves, ServesIfBegun}
 use Rattle.live_session.specs.declared.ending.SessionEnd.{SessionEnd}
 use Rattle.live_session.specs.Served.{SessionOf, ServedAll}
@@ -29,6 +29,7 @@ use Rattle.run_model.specs.Comms.{processes}
 use Rattle.run_model.specs.Replies.{Legal}
 use Rattle.run_model.specs.Runs.{Entry}
 use Rattle.hall_turn.specs.Runs.{calls_of}
+use Rattle.hall_turn.specs.Receipts.{Covered}
 use Rattle.hall_turn.specs.Known.{Known, Doorway}
 use Rattle.hall_turn.specs.Answers.{new_pass, new_passes}
 use Rattle.hall_turn.specs.Ending.{HasMade, ClosedTo}
@@ -44,9 +45,9 @@ pub all_yielded : {A : Type 0} (done rest all : List A) → done ++ rest ≡ all
 all_yielded done rest all whole none = sym (append-nil done)
     ∙ ap (λ l. done ++ l) (sym (none_left rest none)) ∙ whole
 
-module _ (stood : ChineseWall → List Entry → Bool → Type 0)
+module _ (stood : ChineseWall → List Entry → Option Covered → Type 0)
     {M S O : Type 0} (fails : S → ℕ) (left : S → Option (List ℕ))
-    (heard : S → Option (List Heard)) (failures : O → ℕ) (contents : O → Option (List ℕ)) where
+    (heard : S → DeskLog) (failures : O → ℕ) (contents : O → Option (List ℕ)) where
   abbrev Served : Job M S O → Played M S O → Type 0
   Served job played = HasServed stood fails left heard failures contents job played
 
@@ -157,9 +158,9 @@ module _ {M S O : Type 0} where
         unseen = ap (λ (x : Known). x.seen) pass;
       }
 
-module _ (stood : ChineseWall → List Entry → Bool → Type 0)
+module _ (stood : ChineseWall → List Entry → Option Covered → Type 0)
     {M S O : Type 0} (fails : S → ℕ) (left : S → Option (List ℕ))
-    (heard : S → Option (List Heard)) (failures : O → ℕ) (contents : O → Option (List ℕ)) where
+    (heard : S → DeskLog) (failures : O → ℕ) (contents : O → Option (List ℕ)) where
   -- the job at a place, with what became of it
   record ServedAt (jobs : List (Job M S O)) (all : List (Played M S O)) (i : ℕ) : Type 0 where
     pub job : Job M S O
@@ -290,14 +291,14 @@ module _ (stood : ChineseWall → List Entry → Bool → Type 0)
               at.has.so)));
         }
 
-module _ {M : Type 0} (stands : ChineseWall → M → List Entry → Type 0) (is_booked : M → Bool)
+module _ {M : Type 0} (stands : ChineseWall → M → List Entry → Type 0) (booked : M → Option Covered)
     {S O : Type 0} (fails : S → ℕ) (left : S → Option (List ℕ))
-    (heard : S → Option (List Heard)) (failures : O → ℕ) (contents : O → Option (List ℕ))
+    (heard : S → DeskLog) (failures : O → ℕ) (contents : O → Option (List ℕ))
     (wall : ChineseWall) (peers : List (Peer S O)) (door : Doorway) (jobs : List (Job M S O))
     (ended : Ended M S O) (p : ArePrepared wall peers door jobs)
-    (h : HaveEnded (Stood stands is_booked) fails left heard failures contents jobs ended) where
+    (h : HaveEnded (Stood stands booked) fails left heard failures contents jobs ended) where
   pub served_all : (machine : M) → ClosedTo stands door.policy machine ended.passes.items →
-      ServedAll fails left heard failures contents stands is_booked wall peers
+      ServedAll fails left heard failures contents stands booked wall peers
       ended.sessions.items machine
   served_all machine closed = record {
     door = door;
@@ -305,9 +306,9 @@ module _ {M : Type 0} (stands : ChineseWall → M → List Entry → Type 0) (is
     door_is = p.policy;
     legal = subst (λ (w : ChineseWall). Legal w closed.run) p.policy closed.legal;
     stood = subst (λ (w : ChineseWall). stands w machine closed.run) p.policy closed.stood;
-    count = many_sessions (Stood stands is_booked) fails left heard failures contents wall peers
+    count = many_sessions (Stood stands booked) fails left heard failures contents wall peers
         door jobs ended p h;
-    each = λ i d e lt. session_of (Stood stands is_booked) fails left heard failures contents wall
+    each = λ i d e lt. session_of (Stood stands booked) fails left heard failures contents wall
         peers door jobs ended p h closed.run closed.each i d e lt;
     others = λ i le. closed.others i
         (subst (λ (w : ChineseWall). processes w ≤ i) (sym p.policy) le);

@@ -1,7 +1,8 @@
 -- What sessions come to, line by line.
-use Rattle.std.proofs.Common.{◌≡◌, inl, inr, ℕ, zero, suc, ◌+◌, List, [], ◌∷◌, ◌++◌, map}
+use Rattle.std.proofs.Common.{◌≡◌, ◌⊎◌, inl, inr, ℕ, zero, suc, ◌+◌, List, [], ◌∷◌, ◌++◌, map}
 use Rattle.std.proofs.Common.{reverse, Option, Some, None, Result, Ok, Err, refl, sym, ap, subst}
-use Rattle.std.proofs.Common.{◌≢◌, Bool, true, false}
+use Rattle.std.proofs.Common.{◌≢◌, Bool}
+use Rattle.std.specs.Prelude.{is_some, option_map}
 use Rattle.std.proofs.Common.{◌∙◌, append_assoc, append-nil, IfOk, replicate, take, arith}
 use Rattle.wall_labels.specs.declared.no_memory.NoMemory.{NoMemory as OutOfMemory}
 use Rattle.wall_labels.specs.Known.{AppendsPrefix}
@@ -26,8 +27,10 @@ use Rattle.hall_script.specs.Replies.{reply_line}
 use Rattle.hall_turn.specs.declared.answer.Answer.{Answer}
 use Rattle.hall_turn.specs.declared.answer.Answer.TheVariants.{Reply as Replied, Exhausted as Late}
 use Rattle.hall_turn.specs.Runs.{Continues, calls_of}
+use Rattle.hall_turn.specs.Receipts.{Covered}
 use Rattle.hall_turn.specs.Known.{Known, Doorway}
-use Rattle.hall_turn.specs.Answers.{IsSamePass, SeesOn, Answered, SaysBooked, StoodAt}
+use Rattle.hall_turn.specs.Answers.{IsSamePass, SeesOn, Answered, Gives, GivesAt}
+use Rattle.hall_turn.specs.Answers.{NamesKnown}
 use Rattle.hall_turn.proofs.HallTurnLemmas.{continues_self, continues_more, continues_trans}
 use Rattle.live_session.specs.declared.line.BadLine.{BadLine}
 use Rattle.live_session.specs.declared.acting.Came.{Came}
@@ -39,16 +42,18 @@ use Rattle.live_session.specs.Sessions.{Told, done, waited, asked_nothing, said_
 use Rattle.live_session.specs.Sessions.{calls_for, made, answer, answers, SeesMore, Acted, EndsAt}
 use Rattle.live_session.specs.Sessions.{SaysLast, IsCutIn, BreaksOff, EndsSo, and_untold, Stood}
 use Rattle.live_session.specs.Sessions.{last_call, StoodBehind, StoodFor, AreBooked, EndsUnbooked}
-use Rattle.live_session.specs.Sessions.{Serves, IsPrompt}
-use Rattle.live_session.specs.Hearing.{Heard, Tells}
+use Rattle.live_session.specs.Sessions.{Serves, IsPrompt, IsShown}
+use Rattle.live_session.specs.Hearing.{DeskLog, Heard, Shown, Tells}
 use Rattle.live_session.specs.Steps.{ComesTo, MayHaveCome, ComesTooLate, ComesUnbooked, reply_to}
 use Rattle.live_session.specs.Steps.{CameTo, Waited}
 use Rattle.live_session.specs.Steps.{came_of, line_to, next_after, AnswersSo, WritesAnswer}
 use Rattle.live_session.specs.Steps.{PutsAnswer, AnswersLine, SoFar, Stops, StopsSo, Holds}
-use Rattle.live_session.specs.Steps.{behind}
+use Rattle.live_session.specs.Steps.{behind, ComesBooked, IsUnread, Showing, showing, shown_next}
+use Rattle.live_session.specs.Steps.{AnswersBehind, CameNamesKnown}
 use Rattle.live_session.specs.declared.line.Unfinished.{Unfinished}
 use Rattle.live_session.proofs.CutLemmas.{parts_behind}
-use Rattle.live_session.proofs.PromptLemmas.{prompt_none, prompt_more, prompt_still}
+use Rattle.live_session.proofs.PromptLemmas.{prompt_none, prompt_more, prompt_still, prompt_unread}
+use Rattle.live_session.proofs.PromptLemmas.{tells_none, tells_then}
 use Rattle.live_session.specs.declared.ending.SessionEnd.{SessionEnd}
 use Rattle.live_session.specs.declared.ending.SessionEnd.TheVariants.{EndOfStream, Left}
 use Rattle.live_session.specs.declared.ending.SessionEnd.TheVariants.{ReadFailed, WriteFailed}
@@ -159,9 +164,9 @@ acted_more wall a b c text lines later line past told s says sees =
 
 -- ---- the machine
 
-module _ (stood : ChineseWall → List Entry → Bool → Type 0) where
+module _ (stood : ChineseWall → List Entry → Option Covered → Type 0) where
   -- more was seen since
-  behind_on : (a b d : Known) (calls : List Entry) (call : Entry) (booked : Bool) →
+  behind_on : (a b d : Known) (calls : List Entry) (call : Entry) (booked : Option Covered) →
       Continues d.seen b.seen → StoodBehind stood a calls call booked b →
       StoodBehind stood a calls call booked d
   behind_on a b d calls call booked more s = record {
@@ -172,7 +177,7 @@ module _ (stood : ChineseWall → List Entry → Bool → Type 0) where
   }
 
   -- other calls were made before
-  behind_then : (a b d : Known) (past calls : List Entry) (call : Entry) (booked : Bool) →
+  behind_then : (a b d : Known) (past calls : List Entry) (call : Entry) (booked : Option Covered) →
       SeesMore a past b → StoodBehind stood b calls call booked d →
       StoodBehind stood a (calls ++ past) call booked d
   behind_then a b d past calls call booked s t = record {
@@ -184,13 +189,13 @@ module _ (stood : ChineseWall → List Entry → Bool → Type 0) where
     so = subst (λ (w : Doorway). stood w.policy (call ∷ t.front) booked) s.same.0 t.so;
   }
 
-  for_on : (a b d : Known) (told : Told) (calls : List Entry) (booked : Bool) →
+  for_on : (a b d : Known) (told : Told) (calls : List Entry) (booked : Option Covered) →
       Continues d.seen b.seen → StoodFor stood a told calls booked b →
       StoodFor stood a told calls booked d
   for_on a b d told calls booked more s =
       λ call is. behind_on a b d calls call booked more (s call is)
 
-  for_then : (a b d : Known) (past calls : List Entry) (told : Told) (booked : Bool) →
+  for_then : (a b d : Known) (past calls : List Entry) (told : Told) (booked : Option Covered) →
       SeesMore a past b → StoodFor stood b told calls booked d →
       StoodFor stood a told (calls ++ past) booked d
   for_then a b d past calls told booked s t = λ call is.
@@ -198,7 +203,7 @@ module _ (stood : ChineseWall → List Entry → Bool → Type 0) where
       (t call (ap (λ (p : ℕ). last_call p told) s.same.1 ∙ is))
 
   -- the calls of some lines were made after those of others
-  for_lines : (a b d : Known) (first later : List Told) (told : Told) (booked : Bool) →
+  for_lines : (a b d : Known) (first later : List Told) (told : Told) (booked : Option Covered) →
       SeesMore a (made a.process first) b →
       StoodFor stood b told (made b.process later) booked d →
       StoodFor stood a told (made a.process (later ++ first)) booked d
@@ -209,7 +214,7 @@ module _ (stood : ChineseWall → List Entry → Bool → Type 0) where
       (for_then a b d (made a.process first) (made b.process later) told booked s t)
 
   -- the calls of one line were made after those of others
-  for_line : (a b d : Known) (first : List Told) (told : Told) (booked : Bool) →
+  for_line : (a b d : Known) (first : List Told) (told : Told) (booked : Option Covered) →
       SeesMore a (made a.process first) b →
       StoodFor stood b told (calls_for b.process told) booked d →
       StoodFor stood a told (made a.process (told ∷ first)) booked d
@@ -217,28 +222,101 @@ module _ (stood : ChineseWall → List Entry → Bool → Type 0) where
       (subst (λ l. StoodFor stood b told l booked d)
       (sym (append-nil (calls_for b.process told))) t)
 
-  booked_on : (a b d : Known) (told : List Told) → Continues d.seen b.seen →
-      AreBooked stood a told b → AreBooked stood a told d
-  booked_on a b d [] more h = tt
-  booked_on a b d (told ∷ past) more h = (
-    booked_on a b d past more h.0,
-    for_on a b d told (made a.process (told ∷ past)) true more h.1,
+  shown_on : (wall : ChineseWall) (written : Option (List ℕ)) (a b d : Known)
+      (call : Option Entry) (calls : List Entry) (past : List Told) (shows : List Shown) →
+      Continues d.seen b.seen → IsShown stood wall written a call calls past shows b →
+      IsShown stood wall written a call calls past shows d
+  shown_on wall written a b d None calls past shows more h = h
+  shown_on wall written a b d (Some call) calls past shows more (show, is, behind, first) =
+      (show, is, behind_on a b d calls call (Some show.covers) more behind, first)
+
+  -- lines were told before
+  shown_behind : (wall : ChineseWall) (old mid : Option (List ℕ)) (a b d : Known)
+      (before calls : List Entry) (first later : List Told) (call : Option Entry)
+      (shows : List Shown) → SeesMore a before b → Appends old mid (answers wall first) →
+      IsShown stood wall mid b call calls later shows d →
+      IsShown stood wall old a call (calls ++ before) (later ++ first) shows d
+  shown_behind wall old mid a b d before calls first later None shows s w h = h
+  shown_behind wall old mid a b d before calls first later (Some call) shows s w
+      (show, is, behind, next) = (
+        show,
+        is,
+        behind_then a b d before calls call (Some show.covers) s behind,
+        subst (Appends old show.written) (sym (answers-append wall later first))
+            (Appends-trans old mid show.written (answers wall first) (answers wall later) w next),
+      )
+
+  shown_then : (wall : ChineseWall) (old mid : Option (List ℕ)) (a b d : Known)
+      (first later : List Told) (told : Told) (shows : List Shown) →
+      SeesMore a (made a.process first) b → Appends old mid (answers wall first) →
+      IsShown stood wall mid b (last_call b.process told) (made b.process (told ∷ later)) later
+      shows d →
+      IsShown stood wall old a (last_call a.process told) (made a.process (told ∷ later ++ first))
+      (later ++ first) shows d
+  shown_then wall old mid a b d first later told shows s w h =
+      let calls : made b.process (told ∷ later) ++ made a.process first
+          ≡ made a.process (told ∷ later ++ first) =
+      ap (λ (p : ℕ). made p (told ∷ later) ++ made a.process first) s.same.1
+      ∙ sym (made-append a.process (told ∷ later) first) in
+      subst (λ (c : Option Entry). IsShown stood wall old a c
+      (made a.process (told ∷ later ++ first)) (later ++ first) shows d)
+      (ap (λ (p : ℕ). last_call p told) s.same.1)
+      (subst (λ (l : List Entry). IsShown stood wall old a (last_call b.process told) l
+      (later ++ first) shows d) calls
+      (shown_behind wall old mid a b d (made a.process first) (made b.process (told ∷ later)) first
+      later (last_call b.process told) shows s w h))
+
+  booked_on : (wall : ChineseWall) (written : Option (List ℕ)) (a b d : Known)
+      (told : List Told) (shows : List Shown) → Continues d.seen b.seen →
+      AreBooked stood wall written a told shows b → AreBooked stood wall written a told shows d
+  booked_on wall written a b d [] shows more h = h
+  booked_on wall written a b d (told ∷ past) shows more (newest, earlier, is, h, now) = (
+    newest,
+    earlier,
+    is,
+    booked_on wall written a b d past earlier more h,
+    shown_on wall written a b d (last_call a.process told) (made a.process (told ∷ past)) past
+        newest more now,
   )
 
-  pub booked_more : (a b d : Known) (past : List Told) (line : Result Ask BadLine) (told : Told) →
-      SeesMore a (made a.process past) b → AreBooked stood a past b →
-      ComesTo stood b line told true d → AreBooked stood a (told ∷ past) d
-  booked_more a b d past line told s h comes =
-      (booked_on a b d past comes.sees.begins h, for_line a b d past told true s comes.so)
+  pub booked_then : (wall : ChineseWall) (old mid : Option (List ℕ)) (a b d : Known)
+      (first later : List Told) (shows more : List Shown) → SeesMore a (made a.process first) b →
+      Appends old mid (answers wall first) → AreBooked stood wall old a first shows b →
+      AreBooked stood wall mid b later more d → Continues d.seen b.seen →
+      AreBooked stood wall old a (later ++ first) (more ++ shows) d
+  booked_then wall old mid a b d first [] shows more s w h none on =
+      subst (λ (l : List Shown). AreBooked stood wall old a first l d)
+      (ap (λ (l : List Shown). l ++ shows) (sym none)) (booked_on wall old a b d first shows on h)
+  booked_then wall old mid a b d first (told ∷ later) shows more s w h
+      (newest, earlier, is, t, now) on = (
+        newest,
+        earlier ++ shows,
+        ap (λ (l : List Shown). l ++ shows) is ∙ append_assoc newest earlier shows,
+        booked_then wall old mid a b d first later shows earlier s w h t on,
+        shown_then wall old mid a b d first later told newest s w now,
+      )
 
-  pub booked_then : (a b d : Known) (first later : List Told) →
-      SeesMore a (made a.process first) b → AreBooked stood a first b →
-      AreBooked stood b later d → Continues d.seen b.seen → AreBooked stood a (later ++ first) d
-  booked_then a b d first [] s h t more = booked_on a b d first more h
-  booked_then a b d first (told ∷ later) s h t more = (
-    booked_then a b d first later s h t.0 more,
-    for_lines a b d first (told ∷ later) told true s t.1,
+  -- the receipt of a line's last call was shown before its answer
+  is_shown : (wall : ChineseWall) (written : Option (List ℕ)) (b d : Known) (told : Told)
+      (covers : Covered) → (last_call b.process told ≢ None) →
+      StoodFor stood b told (calls_for b.process told) (Some covers) d →
+      IsShown stood wall written b (last_call b.process told) (made b.process (told ∷ [])) []
+      (record { covers = covers; written = written } ∷ []) d
+  is_shown wall written b d (done act reply) covers calls so = (
+    record { covers = covers; written = written },
+    refl,
+    so (called b.process act reply) refl,
+    Appends-nil written,
   )
+  is_shown wall written b d (waited request again reply) covers calls so = (
+    record { covers = covers; written = written },
+    refl,
+    subst (λ (l : List Entry). StoodBehind stood b l (called b.process (Take request) reply)
+        (Some covers) d) (sym (append-nil (calls_for b.process (waited request again reply))))
+        (so (called b.process (Take request) reply) refl),
+    Appends-nil written,
+  )
+  is_shown wall written b d (asked_nothing bad) covers calls so = absurd (calls refl)
 
   -- the newest line of later ones
   unbooked_then : (a b d : Known) (rest : List Word) (first later : List Told) (newest : Told) →
@@ -249,7 +327,7 @@ module _ (stood : ChineseWall → List Entry → Bool → Type 0) where
     later = t.later;
     finished = t.finished;
     calls = λ none. t.calls (ap (λ (p : ℕ). last_call p newest) s.same.1 ∙ none);
-    unbooked = for_lines a b d first (newest ∷ later) newest false s t.unbooked;
+    unbooked = for_lines a b d first (newest ∷ later) newest None s t.unbooked;
   }
 
 -- ---- one line
@@ -266,25 +344,42 @@ no_leave ask act e f = cc
 no_wait : (ask : Ask) (request : ℕ) → ask ≡ Wait request → ask ≡ Leave → ⊥
 no_wait ask request e f = cc
 
--- what came of a call is told where the machine was booked
-told_or_not : (stood : ChineseWall → List Entry → Bool → Type 0) (before after : Known) (ask : Ask)
-    (told : Told) (reply : Reply) (booked : Bool) → last_call before.process told ≢ None →
-    reply_to told ≡ Some reply → ComesTo stood before (Ok ask) told booked after →
-    CameTo stood before ask (came_of (Replied reply) booked) after
-told_or_not stood before after ask told reply true calls is comes = (told, comes, is)
-told_or_not stood before after ask told reply false calls is comes = (told, comes, calls)
+-- there is a receipt that covers something, exactly if there is one
+pub still_some : {A B : Type 0} (covers : A → B) (receipt : Option A) (b : Bool) →
+    b ≡ is_some receipt → b ≡ is_some (option_map covers receipt)
+still_some covers None b is = is
+still_some covers (Some receipt) b is = is
 
-module _ {M : Type 0} (stands : ChineseWall → M → List Entry → Type 0) (is_booked : M → Bool) where
+-- what came of a call names what its answer names
+pub came_known : (wall : ChineseWall) (answer : Answer) (receipt : Option Covered) →
+    NamesKnown wall answer → CameNamesKnown wall (came_of answer receipt)
+came_known wall (Replied reply) (Some covers) named = named
+came_known wall (Replied reply) None named = tt
+came_known wall Late receipt named = tt
+
+-- what came of a call is told where the machine was booked
+told_or_not : (stood : ChineseWall → List Entry → Option Covered → Type 0) (before after : Known) (ask : Ask)
+    (told : Told) (reply : Reply) (receipt : Option Covered) →
+    last_call before.process told ≢ None → reply_to told ≡ Some reply →
+    ComesTo stood before (Ok ask) told receipt after →
+    CameTo stood before ask (came_of (Replied reply) receipt) receipt after
+told_or_not stood before after ask told reply (Some covers) calls is comes =
+    (told, (covers, comes, refl, calls), is)
+told_or_not stood before after ask told reply None calls is comes = (told, comes, calls)
+
+module _ {M : Type 0} (stands : ChineseWall → M → List Entry → Type 0)
+    (booked : M → Option Covered) where
   -- the call was made, and its pass says of the machine what it was at the end of its turn
-  behind_call : (before after : Known) (act : Act) (reply : Reply) → IsSamePass before after →
-      Answered before act (Replied reply) after → SaysBooked stands is_booked after →
-      (call : Entry) → Some (called before.process act reply) ≡ Some call →
-      StoodBehind (Stood stands is_booked) before (called before.process act reply ∷ []) call
-      after.booked after
-  behind_call before after act reply same a says call is =
+  behind_call : (before after : Known) (act : Act) (reply : Reply) (receipt : Option Covered) →
+      IsSamePass before after → Answered before act (Replied reply) after →
+      Gives stands booked after receipt → (call : Entry) →
+      Some (called before.process act reply) ≡ Some call →
+      StoodBehind (Stood stands booked) before (called before.process act reply ∷ []) call receipt
+      after
+  behind_call before after act reply receipt same a says call is =
       let this : called before.process act reply ≡ call = cc in
-      subst (λ (e : Entry). StoodBehind (Stood stands is_booked) before
-      (called before.process act reply ∷ []) e after.booked after) this
+      subst (λ (e : Entry). StoodBehind (Stood stands booked) before
+      (called before.process act reply ∷ []) e receipt after) this
       (record {
         front = a.front;
         begins = subst (λ (run : List Entry). Continues after.seen run) a.ends
@@ -294,33 +389,34 @@ module _ {M : Type 0} (stands : ChineseWall → M → List Entry → Type 0) (is
           says.0,
           subst (λ (run : List Entry). stands before.door.policy says.0 run) a.ends
               (subst (λ (w : Doorway). stands w.policy says.0 after.seen) same.0 says.1),
-          says.2,
+          says.3,
         );
       })
 
   -- a wait of one take
-  pub waited_once : (before after : Known) (request : ℕ) (a : Answer) → IsSamePass before after →
-      Legal before.door.policy after.seen → Answered before (Take request) a after →
-      StoodAt stands is_booked before a after →
-      Waited (Stood stands is_booked) before request a after
-  waited_once before after request (Replied reply) same legal a says = (
+  pub waited_once : (before after : Known) (request : ℕ) (a : Answer) (old new : Option Covered) →
+      IsSamePass before after → Legal before.door.policy after.seen →
+      Answered before (Take request) a after → GivesAt stands booked before a after old new →
+      Waited (Stood stands booked) before request a new after
+  waited_once before after request (Replied reply) old new same legal a says = (
     0,
     record {
       says = refl;
       sees = sees_call before after (Take request) reply same legal a;
-      so = λ call is. behind_call before after (Take request) reply same a says call is;
+      so = λ call is. behind_call before after (Take request) reply new same a says call is;
     },
   )
-  waited_once before after request Late same legal a says =
+  waited_once before after request Late old new same legal a says =
       (sees_late before after (Take request) same legal a, a.1)
 
   -- a wait of one take more
-  pub waited_more : (before mid after : Known) (request : ℕ) (reply : Reply) →
-      Waited (Stood stands is_booked) before request (Replied Pending) mid → IsSamePass mid after →
-      Legal mid.door.policy after.seen → Answered mid (Take request) (Replied reply) after →
-      SaysBooked stands is_booked after →
-      Waited (Stood stands is_booked) before request (Replied reply) after
-  waited_more before mid after request reply (again, w) same legal a says =
+  pub waited_more : (before mid after : Known) (request : ℕ) (reply : Reply)
+      (old new : Option Covered) →
+      Waited (Stood stands booked) before request (Replied Pending) old mid →
+      IsSamePass mid after → Legal mid.door.policy after.seen →
+      Answered mid (Take request) (Replied reply) after → Gives stands booked after new →
+      Waited (Stood stands booked) before request (Replied reply) new after
+  waited_more before mid after request reply old new (again, w) same legal a says =
       let first = calls_for before.process (waited request again Pending) in
       let number : mid.process ≡ before.process = w.sees.same.1 in (
         suc again,
@@ -331,48 +427,48 @@ module _ {M : Type 0} (stands : ChineseWall → M → List Entry → Type 0) (is
               (called mid.process (Take request) reply ∷ []) w.sees
               (sees_call mid after (Take request) reply same legal a));
           so = λ call is.
-              subst (λ (p : ℕ). StoodBehind (Stood stands is_booked) before
-              (called p (Take request) reply ∷ first) call after.booked after) number
-              (behind_then (Stood stands is_booked) before mid after first
-              (called mid.process (Take request) reply ∷ []) call after.booked w.sees
-              (behind_call mid after (Take request) reply same a says call
+              subst (λ (p : ℕ). StoodBehind (Stood stands booked) before
+              (called p (Take request) reply ∷ first) call new after) number
+              (behind_then (Stood stands booked) before mid after first
+              (called mid.process (Take request) reply ∷ []) call new w.sees
+              (behind_call mid after (Take request) reply new same a says call
               (ap (λ (p : ℕ). Some (called p (Take request) reply)) number ∙ is)));
         },
       )
 
   -- a wait whose next take came too late
-  pub waited_still : (before mid after : Known) (request : ℕ) →
-      Waited (Stood stands is_booked) before request (Replied Pending) mid → IsSamePass mid after →
-      Legal mid.door.policy after.seen → Answered mid (Take request) Late after →
-      after.booked ≡ mid.booked →
-      Waited (Stood stands is_booked) before request (Replied Pending) after
-  waited_still before mid after request (again, w) same legal a keeps =
+  pub waited_still : (before mid after : Known) (request : ℕ) (old new : Option Covered) →
+      Waited (Stood stands booked) before request (Replied Pending) old mid →
+      IsSamePass mid after → Legal mid.door.policy after.seen →
+      Answered mid (Take request) Late after → (after.booked ≡ mid.booked) × (new ≡ old) →
+      Waited (Stood stands booked) before request (Replied Pending) new after
+  waited_still before mid after request old new (again, w) same legal a keeps =
       let first = calls_for before.process (waited request again Pending) in (
         again,
         record {
           says = refl;
           sees = sees_then before mid after first [] w.sees
               (sees_late mid after (Take request) same legal a);
-          so = subst (λ (b : Bool). StoodFor (Stood stands is_booked) before
-              (waited request again Pending) first b after) (sym keeps)
-              (for_on (Stood stands is_booked) before mid after (waited request again Pending) first
-              mid.booked a.0.begins w.so);
+          so = subst (λ (b : Option Covered). StoodFor (Stood stands booked) before
+              (waited request again Pending) first b after) (sym keeps.1)
+              (for_on (Stood stands booked) before mid after (waited request again Pending) first
+              old a.0.begins w.so);
         },
       )
 
-  pub act_came : (before after : Known) (act : Act) (a : Answer) → IsSamePass before after →
-      Legal before.door.policy after.seen → Answered before act a after →
-      StoodAt stands is_booked before a after →
-      CameTo (Stood stands is_booked) before (ToAct act) (came_of a after.booked) after
-  act_came before after act (Replied reply) same legal a says =
-      told_or_not (Stood stands is_booked) before after (ToAct act) (done act reply) reply
-      after.booked (λ e. absurd cc) refl
+  pub act_came : (before after : Known) (act : Act) (a : Answer) (old new : Option Covered) →
+      IsSamePass before after → Legal before.door.policy after.seen →
+      Answered before act a after → GivesAt stands booked before a after old new →
+      CameTo (Stood stands booked) before (ToAct act) (came_of a new) new after
+  act_came before after act (Replied reply) old new same legal a says =
+      told_or_not (Stood stands booked) before after (ToAct act) (done act reply) reply
+      new (λ e. absurd cc) refl
       (record {
         says = refl;
         sees = sees_call before after act reply same legal a;
-        so = λ call is. behind_call before after act reply same a says call is;
+        so = λ call is. behind_call before after act reply new same a says call is;
       })
-  act_came before after act Late same legal a says = record {
+  act_came before after act Late old new same legal a says = record {
     ask = ToAct act;
     says = refl;
     calls = no_leave (ToAct act) act refl;
@@ -380,13 +476,14 @@ module _ {M : Type 0} (stands : ChineseWall → M → List Entry → Type 0) (is
     late = a.1;
   }
 
-pub wait_came : (stood : ChineseWall → List Entry → Bool → Type 0) (before after : Known)
-    (request : ℕ) (a : Answer) → Waited stood before request a after →
-    CameTo stood before (Wait request) (came_of a after.booked) after
-wait_came stood before after request (Replied reply) (again, comes) =
-    told_or_not stood before after (Wait request) (waited request again reply) reply after.booked
+pub wait_came : (stood : ChineseWall → List Entry → Option Covered → Type 0) (before after : Known)
+    (request : ℕ) (a : Answer) (receipt : Option Covered) →
+    Waited stood before request a receipt after →
+    CameTo stood before (Wait request) (came_of a receipt) receipt after
+wait_came stood before after request (Replied reply) receipt (again, comes) =
+    told_or_not stood before after (Wait request) (waited request again reply) reply receipt
     (λ e. absurd cc) refl comes
-wait_came stood before after request Late (sees, late) = record {
+wait_came stood before after request Late receipt (sees, late) = record {
   ask = Wait request;
   says = refl;
   calls = no_wait (Wait request) request refl;
@@ -406,54 +503,65 @@ replied wall (waited request again r) reply e =
     let k : r ≡ reply = cc in ap (reply_line wall) (sym k)
 replied wall (asked_nothing bad) reply e = absurd cc
 
-none_made : (process : ℕ) (bad : BadLine) (call : Entry) →
-    last_call process (asked_nothing bad) ≡ Some call → ⊥
-none_made process bad call e = absurd cc
-
-module _ (stood : ChineseWall → List Entry → Bool → Type 0) where
+module _ (stood : ChineseWall → List Entry → Option Covered → Type 0) where
   -- a line that asks for nothing: nothing was made
   pub comes_bad : (wall : ChineseWall) (before : Known) (line : Result Ask BadLine)
       (bad : BadLine) → wall ≡ before.door.policy → Legal wall before.seen → line ≡ Err bad →
-      ComesTo stood before line (asked_nothing bad) true before
-  comes_bad wall before line bad is legal says = record {
-    says = says;
-    sees = sees_none before (subst (λ (w : ChineseWall). Legal w before.seen) is legal);
-    so = λ call e. absurd (none_made before.process bad call e);
-  }
+      (line ≡ Err bad) × SeesMore before [] before
+  comes_bad wall before line bad is legal says =
+      (says, sees_none before (subst (λ (w : ChineseWall). Legal w before.seen) is legal))
 
-  came_answers : (wall : ChineseWall) (before after : Known) (ask : Ask) (it : Came) →
-      CameTo stood before ask it after →
-      AnswersSo stood wall before (Ok ask) (line_to wall it) after (next_after it)
-  came_answers wall before after ask (cames.Reply reply) (told, comes, is) =
+  came_answers : (wall : ChineseWall) (before after : Known) (ask : Ask) (it : Came)
+      (receipt : Option Covered) → CameTo stood before ask it receipt after →
+      AnswersSo stood wall before (Ok ask) (line_to wall it) receipt after (next_after it)
+  came_answers wall before after ask (cames.Reply reply) receipt (told, comes, is) =
       (told, comes, replied wall told reply is)
-  came_answers wall before after ask cames.Left (is, sees) = (ap Ok is, sees, refl)
-  came_answers wall before after ask cames.Exhausted late = (late, refl)
-  came_answers wall before after ask cames.Unbooked comes = (comes, refl)
+  came_answers wall before after ask cames.Left receipt (is, sees) = (ap Ok is, sees, refl)
+  came_answers wall before after ask cames.Exhausted receipt late = (late, refl)
+  came_answers wall before after ask cames.Unbooked receipt comes = (comes, refl)
 
-  may_have : (before after : Known) (ask : Ask) (it : Came) → CameTo stood before ask it after →
+  may_have : (before after : Known) (ask : Ask) (it : Came) (receipt : Option Covered) →
+      CameTo stood before ask it receipt after →
       MayHaveCome stood before (Ok ask) after
-  may_have before after ask (cames.Reply reply) (told, comes, is) = inr (told, true, comes)
-  may_have before after ask cames.Left (is, sees) = inl sees
-  may_have before after ask cames.Exhausted late = inl late.sees
-  may_have before after ask cames.Unbooked (told, comes, calls) = inr (told, false, comes)
+  may_have before after ask (cames.Reply reply) receipt (told, (covers, comes, at, calls), is) =
+      inr (told, Some covers, comes)
+  may_have before after ask cames.Left receipt (is, sees) = inl sees
+  may_have before after ask cames.Exhausted receipt late = inl late.sees
+  may_have before after ask cames.Unbooked receipt (told, comes, calls) = inr (told, None, comes)
 
   -- what came of a line was put, or memory ran out
   pub puts_came : (wall : ChineseWall) (before after : Known) (line : Result Ask BadLine)
-      (ask : Ask) (it : Came) (text : List ℕ) (r : Result Next OutOfMemory) → line ≡ Ok ask →
-      CameTo stood before ask it after → IfOk r (λ next. text ≡ line_to wall it) →
-      IfOk r (λ next. next ≡ next_after it) → PutsAnswer stood wall before line text after r
-  puts_came wall before after line ask it text (Ok nx) is came put goes =
-      subst (λ (l : Result Ask BadLine). AnswersSo stood wall before l text after nx) (sym is)
-      (subst (AnswersSo stood wall before (Ok ask) text after) (sym goes)
-      (subst (λ (t : List ℕ). AnswersSo stood wall before (Ok ask) t after (next_after it))
-      (sym put) (came_answers wall before after ask it came)))
-  puts_came wall before after line ask it text (Err e) is came put goes =
+      (ask : Ask) (it : Came) (text : List ℕ) (receipt : Option Covered)
+      (r : Result Next OutOfMemory) → line ≡ Ok ask →
+      CameTo stood before ask it receipt after → IfOk r (λ next. text ≡ line_to wall it) →
+      IfOk r (λ next. next ≡ next_after it) →
+      PutsAnswer stood wall before line text receipt after r
+  puts_came wall before after line ask it text receipt (Ok nx) is came put goes =
+      subst (λ (l : Result Ask BadLine). AnswersSo stood wall before l text receipt after nx)
+      (sym is)
+      (subst (AnswersSo stood wall before (Ok ask) text receipt after) (sym goes)
+      (subst
+      (λ (t : List ℕ). AnswersSo stood wall before (Ok ask) t receipt after (next_after it))
+      (sym put) (came_answers wall before after ask it receipt came)))
+  puts_came wall before after line ask it text receipt (Err e) is came put goes =
       subst (λ (l : Result Ask BadLine). MayHaveCome stood before l after) (sym is)
-      (may_have before after ask it came)
+      (may_have before after ask it receipt came)
+
+-- ---- the desk
+
+-- nothing was read, and then nothing
+pub unread_then : {S : Type 0} (fails : S → ℕ) (left : S → Option (List ℕ)) (heard : S → DeskLog)
+    (a b d : S) → IsUnread fails left heard a b → IsUnread fails left heard b d →
+    IsUnread fails left heard a d
+unread_then fails left heard a b d p q = record {
+  fails_same = q.fails_same ∙ p.fails_same;
+  left_same = q.left_same ∙ p.left_same;
+  reads_same = q.reads_same ∙ p.reads_same;
+}
 
 -- ---- lines so far
 
-module _ (stood : ChineseWall → List Entry → Bool → Type 0) {O : Type 0} (failures : O → ℕ)
+module _ (stood : ChineseWall → List Entry → Option Covered → Type 0) {O : Type 0} (failures : O → ℕ)
     (contents : O → Option (List ℕ)) where
   abbrev Between : O → O → Used O
   Between old new = used failures contents old new
@@ -463,42 +571,127 @@ module _ (stood : ChineseWall → List Entry → Bool → Type 0) {O : Type 0} (
   written_then a b c xs ys p q =
       (q.0 ∙ p.0, Appends-trans (contents a) (contents b) (contents c) xs ys p.1 q.1)
 
-  unfoldable pub so_far_none : (wall : ChineseWall) (before : Known) (text : List Word) (sink : O) →
-      wall ≡ before.door.policy → Legal wall before.seen →
-      SoFar stood wall before text text (Between sink sink) before
-  so_far_none wall before text sink is legal = record {
+  abbrev Since : (before since : Option (List Shown)) → Showing
+  Since before since = record { before = before; since = since }
+
+  unfoldable pub so_far_none : (wall : ChineseWall) (before : Known) (text : List Word)
+      (known : Option (List Shown)) (sink : O) → wall ≡ before.door.policy →
+      Legal wall before.seen →
+      SoFar stood wall before text text (Since known known) (Between sink sink) before
+  so_far_none wall before text known sink is legal = record {
     lines = [];
     told = [];
     acted = acted_none wall before text
         (subst (λ (w : ChineseWall). Legal w before.seen) is legal);
-    booked = tt;
+    shows = [];
+    shown = tells_none known;
+    booked = refl;
     written = (refl, Appends-nil (contents sink));
+  }
+
+  -- a line's answer is this text, and it is told as the session goes on
+  record Telling (wall : ChineseWall) (written : Option (List ℕ)) (before : Known)
+      (line : Result Ask BadLine) (text : List ℕ) (receipt : Option Covered) (after : Known)
+      (next : Next) : Type 0 where
+    told : Told
+    says : line ≡ said_by told
+    sees : SeesMore before (calls_for before.process told) after
+    booked : AreBooked stood wall written before (told ∷ [])
+        (shown_next next receipt written) after
+    is : text ≡ answer wall told
+
+  telling : (wall : ChineseWall) (written : Option (List ℕ)) (b d : Known)
+      (line : Result Ask BadLine) (text : List ℕ) (receipt : Option Covered) →
+      AnswersSo stood wall b line text receipt d nexts.Replied →
+      Telling wall written b line text receipt d nexts.Replied
+  telling wall written b d line text receipt (told, (covers, comes, at, calls), is) =
+      let show : Shown = record { covers = covers; written = written } in record {
+        told = told;
+        says = comes.says;
+        sees = comes.sees;
+        booked = subst (λ (k : Option Covered). AreBooked stood wall written b (told ∷ [])
+            (shown_next nexts.Replied k written) d) (sym at) (
+              show ∷ [],
+              [],
+              refl,
+              refl,
+              is_shown stood wall written b d told covers calls comes.so,
+            );
+        is = is;
+      }
+
+  telling_bad : (wall : ChineseWall) (written : Option (List ℕ)) (b d : Known)
+      (line : Result Ask BadLine) (text : List ℕ) (receipt : Option Covered) →
+      AnswersSo stood wall b line text receipt d nexts.GoesOn →
+      Telling wall written b line text receipt d nexts.GoesOn
+  telling_bad wall written b d line text receipt (bad, says, sees, is) = record {
+    told = asked_nothing bad;
+    says = says;
+    sees = sees;
+    booked = ([], [], refl, refl, refl);
+    is = is;
+  }
+
+  -- one line more was told
+  told_more : (wall : ChineseWall) (a b d : Known) (text later : List Word) (line : Word)
+      (p q r : Option (List Shown)) (old mid : O) (words : List ℕ) (receipt : Option Covered)
+      (nx : Next) →
+      (s : SoFar stood wall a text (line ∷ later) (Since p q) (Between old mid) b) →
+      (t : Telling wall (contents mid) b (said wall.dataset_names line) words receipt d nx) →
+      AreBooked stood wall (contents old) a (t.told ∷ s.told)
+      (shown_next nx receipt (contents mid) ++ s.shows) d
+  told_more wall a b d text later line p q r old mid words receipt nx s t =
+      booked_then stood wall (contents old) (contents mid) a b d s.told (t.told ∷ []) s.shows
+      (shown_next nx receipt (contents mid)) s.acted.sees s.written.1 s.booked t.booked
+      t.sees.begins
+
+  goes_told : (wall : ChineseWall) (a b d : Known) (text later : List Word) (line : Word)
+      (p q r : Option (List Shown)) (old mid new : O) (words : List ℕ)
+      (receipt : Option Covered) (nx : Next) →
+      SoFar stood wall a text (line ∷ later) (Since p q) (Between old mid) b →
+      Telling wall (contents mid) b (said wall.dataset_names line) words receipt d nx →
+      Tells q r (shown_next nx receipt (contents mid)) → IsWritten (Between mid new) words →
+      SoFar stood wall a text later (Since p r) (Between old new) d
+  goes_told wall a b d text later line p q r old mid new words receipt nx s t shows w = record {
+    lines = line ∷ s.lines;
+    told = t.told ∷ s.told;
+    acted = acted_more wall a b d text s.lines later line s.told t.told s.acted t.says t.sees;
+    shows = shown_next nx receipt (contents mid) ++ s.shows;
+    shown = tells_then p q r s.shows (shown_next nx receipt (contents mid)) s.shown shows;
+    booked = told_more wall a b d text later line p q r old mid words receipt nx s t;
+    written = written_then old mid new (answers wall s.told) (answer wall t.told) s.written
+        (subst (IsWritten (Between mid new)) t.is w);
   }
 
   -- one line more was answered
   pub goes_on : (wall : ChineseWall) (a b d : Known) (text later : List Word) (line : Word)
-      (old mid new : O) → SoFar stood wall a text (line ∷ later) (Between old mid) b →
-      WritesAnswer stood wall b (said wall.dataset_names line) (Between mid new) d nexts.GoesOn →
-      SoFar stood wall a text later (Between old new) d
-  goes_on wall a b d text later line old mid new s (answered, (told, comes, is), w) = record {
-    lines = line ∷ s.lines;
-    told = told ∷ s.told;
-    acted = acted_more wall a b d text s.lines later line s.told told s.acted comes.says comes.sees;
-    booked = booked_more stood a b d s.told (said wall.dataset_names line) told s.acted.sees
-        s.booked comes;
-    written = written_then old mid new (answers wall s.told) (answer wall told) s.written
-        (subst (IsWritten (Between mid new)) is w);
-  }
+      (p q r : Option (List Shown)) (old mid new : O) →
+      SoFar stood wall a text (line ∷ later) (Since p q) (Between old mid) b →
+      WritesAnswer stood wall b (said wall.dataset_names line) (Since q r) (Between mid new) d
+      nexts.Replied
+      ⊎ WritesAnswer stood wall b (said wall.dataset_names line) (Since q r) (Between mid new) d
+      nexts.GoesOn → SoFar stood wall a text later (Since p r) (Between old new) d
+  goes_on wall a b d text later line p q r old mid new s
+      (inl (words, (receipt, so, shows), w)) =
+      goes_told wall a b d text later line p q r old mid new words receipt nexts.Replied s
+      (telling wall (contents mid) b d (said wall.dataset_names line) words receipt so) shows w
+  goes_on wall a b d text later line p q r old mid new s
+      (inr (words, (receipt, so, shows), w)) =
+      goes_told wall a b d text later line p q r old mid new words receipt nexts.GoesOn s
+      (telling_bad wall (contents mid) b d (said wall.dataset_names line) words receipt so) shows w
 
   -- memory ran out before the next line
-  pub stops_here : (wall : ChineseWall) (a b : Known) (text rest : List Word) (sink : Used O) →
-      SoFar stood wall a text rest sink b → Stops stood wall a text sink b NoMemory
-  stops_here wall a b text rest sink s = record {
+  pub stops_here : (wall : ChineseWall) (a b : Known) (text rest : List Word) (desk : Showing)
+      (sink : Used O) → SoFar stood wall a text rest desk sink b →
+      Stops stood wall a text desk sink b NoMemory
+  stops_here wall a b text rest desk sink s = record {
     lines = s.lines;
     rest = rest;
     told = s.told;
     untold = None;
     acted = s.acted;
+    shows = s.shows;
+    shown = s.shown;
     booked = s.booked;
     stops = s.written;
   }
@@ -515,30 +708,31 @@ module _ (stood : ChineseWall → List Entry → Bool → Type 0) {O : Type 0} (
 
   -- the line at hand ends the session
   left_at : (wall : ChineseWall) (a before after : Known) (line next : Word) (later : List Word)
-      (told : List Told) (text : List ℕ) →
-      AnswersSo stood wall before (said wall.dataset_names line) text after nexts.Left →
+      (told : List Told) (text : List ℕ) (receipt : Option Covered) →
+      AnswersSo stood wall before (said wall.dataset_names line) text receipt after nexts.Left →
       EndsAt stood wall a (line ∷ next ∷ later) told None after Left text
-  left_at wall a before after line next later told text (says, sees, is) =
+  left_at wall a before after line next later told text receipt (says, sees, is) =
       ((line, next, later, Leave, refl, says, refl), is)
 
   late_at : (wall : ChineseWall) (a before after : Known) (line next : Word) (later : List Word)
-      (told : List Told) (text : List ℕ) →
-      AnswersSo stood wall before (said wall.dataset_names line) text after nexts.Exhausted →
+      (told : List Told) (text : List ℕ) (receipt : Option Covered) →
+      AnswersSo stood wall before (said wall.dataset_names line) text receipt after
+      nexts.Exhausted →
       EndsAt stood wall a (line ∷ next ∷ later) told None after Exhausted text
-  late_at wall a before after line next later told text (late, is) =
+  late_at wall a before after line next later told text receipt (late, is) =
       ((line, next, later, late.ask, refl, late.says, late.calls), late.late, is)
 
   -- what the line at hand came to is not told
   unbooked_at : (a b d : Known) (line : Result Ask BadLine) (next : Word) (later : List Word)
       (past : List Told) (told : Told) → SeesMore a (made a.process past) b →
-      ComesTo stood b line told false d → last_call b.process told ≢ None →
+      ComesTo stood b line told None d → last_call b.process told ≢ None →
       EndsUnbooked stood a (next ∷ later) past told d
   unbooked_at a b d line next later past told s comes calls = record {
     next = next;
     later = later;
     finished = refl;
     calls = λ none. calls (ap (λ (p : ℕ). last_call p told) s.same.1 ∙ none);
-    unbooked = for_line stood a b d past told false s comes.so;
+    unbooked = for_line stood a b d past told None s comes.so;
   }
 
   -- all answers were written, and a prefix of the next
@@ -552,76 +746,102 @@ module _ (stood : ChineseWall → List Entry → Bool → Type 0) {O : Type 0} (
     Appends-trans (contents old) (contents mid) (contents new) whole f.0 w.1 f.3,
   )
 
+  -- the answer to a line that is told was not written to its end
+  breaks_told : (wall : ChineseWall) (a b d : Known) (text later : List Word) (line after : Word)
+      (p q r : Option (List Shown)) (old mid new : O) (receipt : Option Covered) (nx : Next)
+      (words : List ℕ) →
+      SoFar stood wall a text (line ∷ after ∷ later) (Since p q) (Between old mid) b →
+      Telling wall (contents mid) b (said wall.dataset_names line) words receipt d nx →
+      Tells q r (shown_next nx receipt (contents mid)) → BrokeOff (Between mid new) words →
+      Stops stood wall a text (Since p r) (Between old new) d WriteFailed
+  breaks_told wall a b d text later line after p q r old mid new receipt nx words s t shows f = record {
+    lines = line ∷ s.lines;
+    rest = after ∷ later;
+    told = t.told ∷ s.told;
+    untold = None;
+    acted = acted_more wall a b d text s.lines (after ∷ later) line s.told t.told s.acted t.says
+        t.sees;
+    shows = shown_next nx receipt (contents mid) ++ s.shows;
+    shown = tells_then p q r s.shows (shown_next nx receipt (contents mid)) s.shown shows;
+    booked = told_more wall a b d text (after ∷ later) line p q r old mid words receipt nx s t;
+    stops = (
+      f.0 ∙ ap (λ (n : ℕ). n + 1) s.written.0,
+      inl (
+        t.told,
+        s.told,
+        refl,
+        refl,
+        cut_more old mid new (answers wall s.told) words (answer wall t.told) s.written f.1 t.is,
+      ),
+    );
+  }
+
   -- the answer to the line at hand was not written to its end
   breaks_in : (wall : ChineseWall) (a b d : Known) (text later : List Word) (line after : Word)
-      (old mid new : O) (nx : Next) (words : List ℕ) →
-      SoFar stood wall a text (line ∷ after ∷ later) (Between old mid) b →
-      AnswersSo stood wall b (said wall.dataset_names line) words d nx →
-      BrokeOff (Between mid new) words → Stops stood wall a text (Between old new) d WriteFailed
-  breaks_in wall a b d text later line after old mid new nexts.GoesOn words s (told, comes, is) f =
-      record {
-        lines = line ∷ s.lines;
-        rest = after ∷ later;
-        told = told ∷ s.told;
-        untold = None;
-        acted = acted_more wall a b d text s.lines (after ∷ later) line s.told told s.acted
-            comes.says comes.sees;
-        booked = booked_more stood a b d s.told (said wall.dataset_names line) told s.acted.sees
-            s.booked comes;
-        stops = (
-          f.0 ∙ ap (λ (n : ℕ). n + 1) s.written.0,
-          inl (
-            told,
-            s.told,
-            refl,
-            refl,
-            cut_more old mid new (answers wall s.told) words (answer wall told) s.written f.1 is,
-          ),
-        );
-      }
-  breaks_in wall a b d text later line after old mid new nexts.Left words s so f = record {
+      (p q r : Option (List Shown)) (old mid new : O) (nx : Next) (words : List ℕ) →
+      SoFar stood wall a text (line ∷ after ∷ later) (Since p q) (Between old mid) b →
+      AnswersBehind stood wall b (said wall.dataset_names line) words (Since q r)
+      (Between mid new) d nx → BrokeOff (Between mid new) words →
+      Stops stood wall a text (Since p r) (Between old new) d WriteFailed
+  breaks_in wall a b d text later line after p q r old mid new nexts.Replied words s
+      (receipt, so, shows) f =
+      breaks_told wall a b d text later line after p q r old mid new receipt nexts.Replied words s
+      (telling wall (contents mid) b d (said wall.dataset_names line) words receipt so) shows f
+  breaks_in wall a b d text later line after p q r old mid new nexts.GoesOn words s
+      (receipt, so, shows) f =
+      breaks_told wall a b d text later line after p q r old mid new receipt nexts.GoesOn words s
+      (telling_bad wall (contents mid) b d (said wall.dataset_names line) words receipt so) shows f
+  breaks_in wall a b d text later line after p q r old mid new nexts.Left words s
+      (receipt, so, shows) f = record {
     lines = s.lines;
     rest = line ∷ after ∷ later;
     told = s.told;
     untold = None;
     acted = acted_still wall a b d text s.lines (line ∷ after ∷ later) s.told s.acted so.1;
-    booked = booked_on stood a b d s.told so.1.begins s.booked;
+    shows = s.shows;
+    shown = tells_then p q r s.shows [] s.shown shows;
+    booked = booked_on stood wall (contents old) a b d s.told s.shows so.1.begins s.booked;
     stops = (
       f.0 ∙ ap (λ (n : ℕ). n + 1) s.written.0,
       inr (
         Left,
         words,
-        left_at wall a b d line after later s.told words so,
+        left_at wall a b d line after later s.told words receipt so,
         cut_more old mid new (answers wall s.told) words words s.written f.1 refl,
       ),
     );
   }
-  breaks_in wall a b d text later line after old mid new nexts.Exhausted words s so f = record {
+  breaks_in wall a b d text later line after p q r old mid new nexts.Exhausted words s
+      (receipt, so, shows) f = record {
     lines = s.lines;
     rest = line ∷ after ∷ later;
     told = s.told;
     untold = None;
     acted = acted_still wall a b d text s.lines (line ∷ after ∷ later) s.told s.acted so.0.sees;
-    booked = booked_on stood a b d s.told so.0.sees.begins s.booked;
+    shows = s.shows;
+    shown = tells_then p q r s.shows [] s.shown shows;
+    booked = booked_on stood wall (contents old) a b d s.told s.shows so.0.sees.begins s.booked;
     stops = (
       f.0 ∙ ap (λ (n : ℕ). n + 1) s.written.0,
       inr (
         Exhausted,
         words,
-        late_at wall a b d line after later s.told words so,
+        late_at wall a b d line after later s.told words receipt so,
         cut_more old mid new (answers wall s.told) words words s.written f.1 refl,
       ),
     );
   }
-  breaks_in wall a b d text later line after old mid new nexts.Unbooked words s
-      ((told, comes, calls), is) f = record {
+  breaks_in wall a b d text later line after p q r old mid new nexts.Unbooked words s
+      (receipt, ((told, comes, calls), is), shows) f = record {
         lines = line ∷ s.lines;
         rest = after ∷ later;
         told = s.told;
         untold = Some told;
         acted = acted_more wall a b d text s.lines (after ∷ later) line s.told told s.acted
             comes.says comes.sees;
-        booked = booked_on stood a b d s.told comes.sees.begins s.booked;
+        shows = s.shows;
+        shown = tells_then p q r s.shows [] s.shown shows;
+        booked = booked_on stood wall (contents old) a b d s.told s.shows comes.sees.begins s.booked;
         stops = (
           f.0 ∙ ap (λ (n : ℕ). n + 1) s.written.0,
           inr (
@@ -639,47 +859,56 @@ module _ (stood : ChineseWall → List Entry → Bool → Type 0) {O : Type 0} (
 
   -- the session ends at the line at hand
   pub breaks_off : (wall : ChineseWall) (a b d : Known) (text later : List Word) (line after : Word)
-      (old mid new : O) (end : SessionEnd) →
-      SoFar stood wall a text (line ∷ after ∷ later) (Between old mid) b →
-      AnswersLine stood {X = Unit {0}} wall b (said wall.dataset_names line) (Between mid new) d
-      (Err end) → Stops stood wall a text (Between old new) d end
-  breaks_off wall a b d text later line after old mid new WriteFailed s (nx, words, so, f) =
-      breaks_in wall a b d text later line after old mid new nx words s so f
-  breaks_off wall a b d text later line after old mid new Left s (words, so, w) = record {
+      (p q r : Option (List Shown)) (old mid new : O) (end : SessionEnd) →
+      SoFar stood wall a text (line ∷ after ∷ later) (Since p q) (Between old mid) b →
+      AnswersLine stood {X = Unit {0}} wall b (said wall.dataset_names line) (Since q r)
+      (Between mid new) d (Err end) → Stops stood wall a text (Since p r) (Between old new) d end
+  breaks_off wall a b d text later line after p q r old mid new WriteFailed s
+      (nx, words, so, f) =
+      breaks_in wall a b d text later line after p q r old mid new nx words s so f
+  breaks_off wall a b d text later line after p q r old mid new Left s
+      (words, (receipt, so, shows), w) = record {
     lines = s.lines;
     rest = line ∷ after ∷ later;
     told = s.told;
     untold = None;
     acted = acted_still wall a b d text s.lines (line ∷ after ∷ later) s.told s.acted so.1;
-    booked = booked_on stood a b d s.told so.1.begins s.booked;
+    shows = s.shows;
+    shown = tells_then p q r s.shows [] s.shown shows;
+    booked = booked_on stood wall (contents old) a b d s.told s.shows so.1.begins s.booked;
     stops = (
       words,
-      left_at wall a b d line after later s.told words so,
+      left_at wall a b d line after later s.told words receipt so,
       written_then old mid new (answers wall s.told) words s.written w,
     );
   }
-  breaks_off wall a b d text later line after old mid new Exhausted s (words, so, w) = record {
+  breaks_off wall a b d text later line after p q r old mid new Exhausted s
+      (words, (receipt, so, shows), w) = record {
     lines = s.lines;
     rest = line ∷ after ∷ later;
     told = s.told;
     untold = None;
     acted = acted_still wall a b d text s.lines (line ∷ after ∷ later) s.told s.acted so.0.sees;
-    booked = booked_on stood a b d s.told so.0.sees.begins s.booked;
+    shows = s.shows;
+    shown = tells_then p q r s.shows [] s.shown shows;
+    booked = booked_on stood wall (contents old) a b d s.told s.shows so.0.sees.begins s.booked;
     stops = (
       words,
-      late_at wall a b d line after later s.told words so,
+      late_at wall a b d line after later s.told words receipt so,
       written_then old mid new (answers wall s.told) words s.written w,
     );
   }
-  breaks_off wall a b d text later line after old mid new Unbooked s
-      (words, ((told, comes, calls), is), w) = record {
+  breaks_off wall a b d text later line after p q r old mid new Unbooked s
+      (words, (receipt, ((told, comes, calls), is), shows), w) = record {
         lines = line ∷ s.lines;
         rest = after ∷ later;
         told = s.told;
         untold = Some told;
         acted = acted_more wall a b d text s.lines (after ∷ later) line s.told told s.acted
             comes.says comes.sees;
-        booked = booked_on stood a b d s.told comes.sees.begins s.booked;
+        shows = s.shows;
+        shown = tells_then p q r s.shows [] s.shown shows;
+        booked = booked_on stood wall (contents old) a b d s.told s.shows comes.sees.begins s.booked;
         stops = (
           words,
           (
@@ -690,46 +919,52 @@ module _ (stood : ChineseWall → List Entry → Bool → Type 0) {O : Type 0} (
           written_then old mid new (answers wall s.told) words s.written w,
         );
       }
-  breaks_off wall a b d text later line after old mid new NoMemory s (same, inl sees) = record {
+  breaks_off wall a b d text later line after p q r old mid new NoMemory s (same, none, inl sees) = record {
     lines = s.lines;
     rest = line ∷ after ∷ later;
     told = s.told;
     untold = None;
     acted = acted_still wall a b d text s.lines (line ∷ after ∷ later) s.told s.acted sees;
-    booked = booked_on stood a b d s.told sees.begins s.booked;
+    shows = s.shows;
+    shown = subst (λ (k : Option (List Shown)). Tells p k s.shows) (sym none) s.shown;
+    booked = booked_on stood wall (contents old) a b d s.told s.shows sees.begins s.booked;
     stops = subst (λ (o : O). IsWritten (Between old o) (answers wall s.told)) (sym same) s.written;
   }
-  breaks_off wall a b d text later line after old mid new NoMemory s
-      (same, inr (told, booked, comes)) = record {
+  breaks_off wall a b d text later line after p q r old mid new NoMemory s
+      (same, none, inr (told, booked, comes)) = record {
         lines = line ∷ s.lines;
         rest = after ∷ later;
         told = s.told;
         untold = Some told;
         acted = acted_more wall a b d text s.lines (after ∷ later) line s.told told s.acted
             comes.says comes.sees;
-        booked = booked_on stood a b d s.told comes.sees.begins s.booked;
+        shows = s.shows;
+        shown = subst (λ (k : Option (List Shown)). Tells p k s.shows) (sym none) s.shown;
+        booked = booked_on stood wall (contents old) a b d s.told s.shows comes.sees.begins s.booked;
         stops = subst (λ (o : O). IsWritten (Between old o) (answers wall s.told)) (sym same)
             s.written;
       }
-  breaks_off wall a b d text later line after old mid new ReadFailed s h = absurd h
-  breaks_off wall a b d text later line after old mid new EndOfStream s h = absurd h
+  breaks_off wall a b d text later line after p q r old mid new ReadFailed s h = absurd h
+  breaks_off wall a b d text later line after p q r old mid new EndOfStream s h = absurd h
 
   -- ---- text by text
 
   -- a text was acted on, and then what it goes on with
   unfoldable pub so_far_then : (wall : ChineseWall) (a b d : Known) (bytes more : List ℕ)
-      (line : Word) (rest : List Word) (old mid new : O) →
-      SoFar stood wall a (parts 10 bytes) (line ∷ []) (Between old mid) b →
-      SoFar stood wall b (behind line (parts 10 more)) rest (Between mid new) d →
-      SoFar stood wall a (parts 10 (bytes ++ more)) rest (Between old new) d
-  so_far_then wall a b d bytes more line rest old mid new s t = record {
+      (line : Word) (rest : List Word) (p q r : Option (List Shown)) (old mid new : O) →
+      SoFar stood wall a (parts 10 bytes) (line ∷ []) (Since p q) (Between old mid) b →
+      SoFar stood wall b (behind line (parts 10 more)) rest (Since q r) (Between mid new) d →
+      SoFar stood wall a (parts 10 (bytes ++ more)) rest (Since p r) (Between old new) d
+  so_far_then wall a b d bytes more line rest p q r old mid new s t = record {
     lines = t.lines ++ s.lines;
     told = t.told ++ s.told;
     acted = acted_then wall a b d (behind line (parts 10 more)) (parts 10 bytes) s.lines t.lines
         (line ∷ []) rest s.told t.told s.acted t.acted (parts 10 (bytes ++ more))
         (parts_behind bytes more (reverse s.lines) line s.acted.cut);
-    booked = booked_then stood a b d s.told t.told s.acted.sees s.booked t.booked
-        t.acted.sees.begins;
+    shows = t.shows ++ s.shows;
+    shown = tells_then p q r s.shows t.shows s.shown t.shown;
+    booked = booked_then stood wall (contents old) (contents mid) a b d s.told t.told s.shows
+        t.shows s.acted.sees s.written.1 s.booked t.booked t.acted.sees.begins;
     written = subst (IsWritten (Between old new)) (sym (answers-append wall t.told s.told))
         (written_then old mid new (answers wall s.told) (answers wall t.told) s.written t.written);
   }
@@ -839,11 +1074,11 @@ module _ (stood : ChineseWall → List Entry → Bool → Type 0) {O : Type 0} (
 
   -- the text that it goes on with was not acted on to its end
   unfoldable pub stops_then : (wall : ChineseWall) (a b d : Known) (bytes more : List ℕ)
-      (line : Word) (old mid new : O) (end : SessionEnd) →
-      SoFar stood wall a (parts 10 bytes) (line ∷ []) (Between old mid) b →
-      Stops stood wall b (behind line (parts 10 more)) (Between mid new) d end →
-      Stops stood wall a (parts 10 (bytes ++ more)) (Between old new) d end
-  stops_then wall a b d bytes more line old mid new end s t = record {
+      (line : Word) (p q r : Option (List Shown)) (old mid new : O) (end : SessionEnd) →
+      SoFar stood wall a (parts 10 bytes) (line ∷ []) (Since p q) (Between old mid) b →
+      Stops stood wall b (behind line (parts 10 more)) (Since q r) (Between mid new) d end →
+      Stops stood wall a (parts 10 (bytes ++ more)) (Since p r) (Between old new) d end
+  stops_then wall a b d bytes more line p q r old mid new end s t = record {
     lines = t.lines ++ s.lines;
     rest = t.rest;
     told = t.told ++ s.told;
@@ -853,8 +1088,10 @@ module _ (stood : ChineseWall → List Entry → Bool → Type 0) {O : Type 0} (
         (acted_then wall a b d (behind line (parts 10 more)) (parts 10 bytes) s.lines t.lines
         (line ∷ []) t.rest s.told (and_untold t.untold t.told) s.acted t.acted
         (parts 10 (bytes ++ more)) (parts_behind bytes more (reverse s.lines) line s.acted.cut));
-    booked = booked_then stood a b d s.told t.told s.acted.sees s.booked t.booked
-        t.acted.sees.begins;
+    shows = t.shows ++ s.shows;
+    shown = tells_then p q r s.shows t.shows s.shown t.shown;
+    booked = booked_then stood wall (contents old) (contents mid) a b d s.told t.told s.shows
+        t.shows s.acted.sees s.written.1 s.booked t.booked t.acted.sees.begins;
     stops = stops_so_then wall a b d old mid new t.rest s.told t.told t.untold end s.acted.sees
         s.written t.stops;
   }
@@ -867,9 +1104,9 @@ took_none zero [] e = refl
 took_none zero (x ∷ buffer) e = refl
 took_none (suc n) buffer e = absurd (omega arith)
 
-module _ (stood : ChineseWall → List Entry → Bool → Type 0) where
+module _ (stood : ChineseWall → List Entry → Option Covered → Type 0) where
   -- the session goes on: all finished lines of what was read were answered
-  pub record Going {S O : Type 0} (heard : S → Option (List Heard)) (wall : ChineseWall)
+  pub record Going {S O : Type 0} (heard : S → DeskLog) (wall : ChineseWall)
       (source : Used S) (sink : Used O) (before : Known) (kept : Unfinished) (now : Known)
       : Type 0 where
     pub bytes : List ℕ
@@ -877,12 +1114,13 @@ module _ (stood : ChineseWall → List Entry → Bool → Type 0) where
     pub went : NeverFailed source
     pub line : Word
     pub holds : Holds kept line
-    pub so_far : SoFar stood wall before (parts 10 bytes) (line ∷ []) sink now
+    pub so_far : SoFar stood wall before (parts 10 bytes) (line ∷ [])
+        (showing heard source.old source.new) sink now
     pub prompt : IsPrompt heard wall source sink bytes so_far.told
 
-module _ (stood : ChineseWall → List Entry → Bool → Type 0)
+module _ (stood : ChineseWall → List Entry → Option Covered → Type 0)
     {S O : Type 0} (fails : S → ℕ) (left : S → Option (List ℕ))
-    (heard : S → Option (List Heard)) (failures : O → ℕ) (contents : O → Option (List ℕ)) where
+    (heard : S → DeskLog) (failures : O → ℕ) (contents : O → Option (List ℕ)) where
   abbrev Reading : S → S → Used S
   Reading old new = used fails left old new
 
@@ -899,40 +1137,72 @@ module _ (stood : ChineseWall → List Entry → Bool → Type 0)
     went = refl;
     line = [];
     holds = h;
-    so_far = so_far_none stood failures contents wall before ([] ∷ []) sink is legal;
+    so_far = so_far_none stood failures contents wall before ([] ∷ []) (heard source).shows sink is
+        legal;
     prompt = prompt_none fails left heard failures contents wall source sink;
   }
 
+  -- what was shown, where more was read since and nothing shown
+  unfoldable still_shown : (wall : ChineseWall) (a b : Known) (text rest : List Word) (first mid last : S)
+      (sink : Used O) → (heard last).shows ≡ (heard mid).shows →
+      SoFar stood wall a text rest (showing heard first mid) sink b →
+      SoFar stood wall a text rest (showing heard first last) sink b
+  still_shown wall a b text rest first mid last sink same s = record {
+    lines = s.lines;
+    told = s.told;
+    acted = s.acted;
+    shows = s.shows;
+    shown = subst (λ (k : Option (List Shown)). Tells (heard first).shows k s.shows) (sym same)
+        s.shown;
+    booked = s.booked;
+    written = s.written;
+  }
+
   -- more was read and acted on
-  pub going_on : (wall : ChineseWall) (a b d : Known) (kept now : Unfinished) (first mid last : S)
-      (old out new : O) (more : List ℕ) →
+  pub going_on : (wall : ChineseWall) (a b d : Known) (kept now : Unfinished)
+      (first mid last far : S) (old out new : O) (more : List ℕ) →
       (g : Going stood heard wall (Reading first mid) (Writing old out) a kept b) →
       fails last ≡ fails mid → Consumes (left mid) (left last) more →
-      Tells (heard mid) (heard last) (record { bytes = more; written = contents out } ∷ []) →
+      Tells (heard mid).reads (heard last).reads
+      (record { bytes = more; written = contents out } ∷ []) →
+      (heard last).shows ≡ (heard mid).shows → IsUnread fails left heard last far →
       (line : Word) → Holds now line →
-      SoFar stood wall b (behind g.line (parts 10 more)) (line ∷ []) (Writing out new) d →
-      Going stood heard wall (Reading first last) (Writing old new) a now d
-  unfolding so_far_then
-  going_on wall a b d kept now first mid last old out new more g went read tells line h s = record {
-    bytes = g.bytes ++ more;
-    read = Consumes-trans (left first) (left mid) (left last) g.bytes more g.read read;
-    went = went ∙ g.went;
-    line = line;
-    holds = h;
-    so_far = so_far_then stood failures contents wall a b d g.bytes more g.line (line ∷ []) old out
-        new g.so_far s;
-    prompt = prompt_more stood fails left heard failures contents wall a b first mid last old out
-        new g.bytes more g.line g.so_far g.prompt tells s.told;
-  }
+      SoFar stood wall b (behind g.line (parts 10 more)) (line ∷ []) (showing heard last far)
+      (Writing out new) d →
+      Going stood heard wall (Reading first far) (Writing old new) a now d
+  unfolding so_far_then still_shown
+  going_on wall a b d kept now first mid last far old out new more g went read tells same unread
+      line h s = record {
+        bytes = g.bytes ++ more;
+        read = subst (λ (k : Option (List ℕ)). Consumes (left first) k (g.bytes ++ more))
+            (sym unread.left_same)
+            (Consumes-trans (left first) (left mid) (left last) g.bytes more g.read read);
+        went = unread.fails_same ∙ went ∙ g.went;
+        line = line;
+        holds = h;
+        so_far = so_far_then stood failures contents wall a b d g.bytes more g.line (line ∷ [])
+            (heard first).shows (heard last).shows (heard far).shows old out new
+            (still_shown wall a b (parts 10 g.bytes) (g.line ∷ []) first mid last (Writing old out)
+            same g.so_far) s;
+        prompt = prompt_unread fails left heard failures contents wall first last far old new
+            (g.bytes ++ more) (s.told ++ g.so_far.told) unread.reads_same
+            (prompt_more stood fails left heard failures contents wall a b first mid last old out
+            new g.bytes more g.line (showing heard first mid) g.so_far g.prompt tells s.told);
+      }
 
   pub served_to_end : (wall : ChineseWall) (a b : Known) (kept : Unfinished) (first mid last : S)
       (old new : O) (more : List ℕ) → more ≡ [] →
       Going stood heard wall (Reading first mid) (Writing old new) a kept b →
       fails last ≡ fails mid → Consumes (left mid) (left last) more → IsAtEnd (left last) →
-      Tells (heard mid) (heard last) (record { bytes = more; written = contents new } ∷ []) →
+      Tells (heard mid).reads (heard last).reads
+      (record { bytes = more; written = contents new } ∷ []) →
+      (heard last).shows ≡ (heard mid).shows →
       Serves stood heard wall (Reading first last) (Writing old new) a b EndOfStream
-  served_to_end wall a b kept first mid last old new more none g went read end tells =
-      let all = ap (λ l. g.bytes ++ l) none ∙ append-nil g.bytes in record {
+  unfolding still_shown
+  served_to_end wall a b kept first mid last old new more none g went read end tells same =
+      let all = ap (λ l. g.bytes ++ l) none ∙ append-nil g.bytes in
+      let s = still_shown wall a b (parts 10 g.bytes) (g.line ∷ []) first mid last
+      (Writing old new) same g.so_far in record {
         bytes = g.bytes;
         read = subst (Consumes (left first) (left last)) all
             (Consumes-trans (left first) (left mid) (left last) g.bytes more g.read read);
@@ -941,11 +1211,13 @@ module _ (stood : ChineseWall → List Entry → Bool → Type 0)
         told = g.so_far.told;
         untold = None;
         acted = g.so_far.acted;
-        booked = g.so_far.booked;
+        shows = s.shows;
+        shown = s.shown;
+        booked = s.booked;
         prompt = subst (λ (l : List ℕ). IsPrompt heard wall (Reading first last) (Writing old new) l
             g.so_far.told) all
             (prompt_more stood fails left heard failures contents wall a b first mid last old new
-            new g.bytes more g.line g.so_far g.prompt tells []);
+            new g.bytes more g.line (showing heard first mid) g.so_far g.prompt tells []);
         ends = (went ∙ g.went, end, refl, refl, g.so_far.written);
       }
 
@@ -953,9 +1225,10 @@ module _ (stood : ChineseWall → List Entry → Bool → Type 0)
       (first mid last : S) (old new : O) →
       Going stood heard wall (Reading first mid) (Writing old new) a kept b →
       fails last ≡ fails mid + 1 → Keeps (left mid) (left last) →
-      Tells (heard mid) (heard last) [] →
+      Tells (heard mid).reads (heard last).reads [] → (heard last).shows ≡ (heard mid).shows →
       Serves stood heard wall (Reading first last) (Writing old new) a b ReadFailed
-  served_till_fault wall a b kept first mid last old new g once keeps tells = record {
+  unfolding still_shown
+  served_till_fault wall a b kept first mid last old new g once keeps tells same = record {
     bytes = g.bytes;
     read = Consumes-kept (left first) (left mid) (left last) g.bytes g.read keeps;
     lines = g.so_far.lines;
@@ -963,6 +1236,9 @@ module _ (stood : ChineseWall → List Entry → Bool → Type 0)
     told = g.so_far.told;
     untold = None;
     acted = g.so_far.acted;
+    shows = g.so_far.shows;
+    shown = (still_shown wall a b (parts 10 g.bytes) (g.line ∷ []) first mid last
+        (Writing old new) same g.so_far).shown;
     booked = g.so_far.booked;
     prompt = prompt_still fails left heard failures contents wall first mid last old new g.bytes
         g.so_far.told g.prompt tells;
@@ -984,28 +1260,40 @@ module _ (stood : ChineseWall → List Entry → Bool → Type 0)
   ends_so wall first last old new before rest told untold after EndOfStream went h = absurd h
 
   pub served_till_stop : (wall : ChineseWall) (a b d : Known) (kept : Unfinished)
-      (first mid last : S) (old out new : O) (more : List ℕ) (end : SessionEnd) →
+      (first mid last far : S) (old out new : O) (more : List ℕ) (end : SessionEnd) →
       (g : Going stood heard wall (Reading first mid) (Writing old out) a kept b) →
       fails last ≡ fails mid → Consumes (left mid) (left last) more →
-      Tells (heard mid) (heard last) (record { bytes = more; written = contents out } ∷ []) →
-      Stops stood wall b (behind g.line (parts 10 more)) (Writing out new) d end →
-      Serves stood heard wall (Reading first last) (Writing old new) a d end
-  unfolding stops_then
-  served_till_stop wall a b d kept first mid last old out new more end g went read tells stops =
-      let s = stops_then stood failures contents wall a b d g.bytes more g.line old out new end
-      g.so_far stops in record {
+      Tells (heard mid).reads (heard last).reads
+      (record { bytes = more; written = contents out } ∷ []) →
+      (heard last).shows ≡ (heard mid).shows → IsUnread fails left heard last far →
+      Stops stood wall b (behind g.line (parts 10 more)) (showing heard last far)
+      (Writing out new) d end →
+      Serves stood heard wall (Reading first far) (Writing old new) a d end
+  unfolding stops_then still_shown
+  served_till_stop wall a b d kept first mid last far old out new more end g went read tells same
+      unread stops =
+      let s = stops_then stood failures contents wall a b d g.bytes more g.line (heard first).shows
+      (heard last).shows (heard far).shows old out new end
+      (still_shown wall a b (parts 10 g.bytes) (g.line ∷ []) first mid last (Writing old out) same
+      g.so_far) stops in record {
         bytes = g.bytes ++ more;
-        read = Consumes-trans (left first) (left mid) (left last) g.bytes more g.read read;
+        read = subst (λ (k : Option (List ℕ)). Consumes (left first) k (g.bytes ++ more))
+            (sym unread.left_same)
+            (Consumes-trans (left first) (left mid) (left last) g.bytes more g.read read);
         lines = s.lines;
         rest = s.rest;
         told = s.told;
         untold = s.untold;
         acted = s.acted;
+        shows = s.shows;
+        shown = s.shown;
         booked = s.booked;
-        prompt = prompt_more stood fails left heard failures contents wall a b first mid last old
-            out new g.bytes more g.line g.so_far g.prompt tells stops.told;
-        ends = ends_so wall first last old new a s.rest s.told s.untold d end (went ∙ g.went)
-            s.stops;
+        prompt = prompt_unread fails left heard failures contents wall first last far old new
+            (g.bytes ++ more) s.told unread.reads_same
+            (prompt_more stood fails left heard failures contents wall a b first mid last old
+            out new g.bytes more g.line (showing heard first mid) g.so_far g.prompt tells stops.told);
+        ends = ends_so wall first far old new a s.rest s.told s.untold d end
+            (unread.fails_same ∙ went ∙ g.went) s.stops;
       }
 
   -- memory ran out before the first read
@@ -1021,7 +1309,9 @@ module _ (stood : ChineseWall → List Entry → Bool → Type 0)
     untold = None;
     acted = acted_none wall before ([] ∷ [])
         (subst (λ (w : ChineseWall). Legal w before.seen) is legal);
-    booked = tt;
+    shows = [];
+    shown = tells_none (heard source).shows;
+    booked = refl;
     prompt = prompt_none fails left heard failures contents wall source sink;
     ends = (refl, (refl, Appends-nil (contents sink)));
   }

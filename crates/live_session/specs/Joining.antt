@@ -1,5 +1,5 @@
 -- Sessions that are handed to threads and come back: words of private contracts.
-use Rattle.std.specs.Prelude.{◌≡◌, ℕ, ◌≤◌, Bool, List, [], map, Option, Some}
+use Rattle.std.specs.Prelude.{◌≡◌, ℕ, ◌≤◌, List, [], map, Option, Some}
 use Rattle.std.specs.Prelude.{vec_capacity}
 use Rattle.std.specs.List.{AllZip}
 use Rattle.std.specs.declared.thread.PromisedHandle.{PromisedHandle}
@@ -7,6 +7,7 @@ use Rattle.wall_policy.specs.Policy.{ChineseWall}
 use Rattle.run_model.specs.Comms.{processes}
 use Rattle.run_model.specs.Runs.{Entry}
 use Rattle.hall_script.specs.Devices.{used}
+use Rattle.hall_turn.specs.Receipts.{Covered}
 use Rattle.hall_turn.specs.Known.{Doorway, Known}
 use Rattle.hall_turn.specs.Answers.{new_passes, IsSamePass}
 use Rattle.live_session.specs.declared.peer.Peer.{Peer}
@@ -17,7 +18,7 @@ use Rattle.live_session.specs.declared.peer.Serving.{Serving}
 use Rattle.live_session.specs.declared.ready.Room.{Room}
 use Rattle.live_session.specs.declared.run.Ended.{Ended}
 use Rattle.live_session.specs.declared.ending.SessionEnd.{SessionEnd}
-use Rattle.live_session.specs.Hearing.{Heard}
+use Rattle.live_session.specs.Hearing.{DeskLog}
 use Rattle.live_session.specs.Sessions.{ServesIfBegun}
 
 module _ {S O : Type 0} where
@@ -68,9 +69,9 @@ module _ {M S O : Type 0} where
     pub ended : (room.ended.items ≡ []) × (count ≤ vec_capacity room.ended)
     pub handles : (room.handles.items ≡ []) × (count ≤ vec_capacity room.handles)
 
-module _ (stood : ChineseWall → List Entry → Bool → Type 0)
+module _ (stood : ChineseWall → List Entry → Option Covered → Type 0)
     {M S O : Type 0} (fails : S → ℕ) (left : S → Option (List ℕ))
-    (heard : S → Option (List Heard)) (failures : O → ℕ) (contents : O → Option (List ℕ)) where
+    (heard : S → DeskLog) (failures : O → ℕ) (contents : O → Option (List ℕ)) where
   -- what became of a job
   pub record HasServed (job : Job M S O) (played : Played M S O) : Type 0 where
     pub so : ServesIfBegun stood heard job.pass.door.policy

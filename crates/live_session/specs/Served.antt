@@ -1,5 +1,5 @@
 -- What all sessions at one door come to. (Own rules.)
-use Rattle.std.specs.Prelude.{◌≡◌, ℕ, ◌<◌, ◌≤◌, Bool, List, [], length, Option}
+use Rattle.std.specs.Prelude.{◌≡◌, ℕ, ◌<◌, ◌≤◌, List, [], length, Option}
 use Rattle.std.specs.Prelude.{slice_index_or}
 use Rattle.wall_policy.specs.Policy.{ChineseWall}
 use Rattle.run_model.specs.Comms.{processes}
@@ -7,19 +7,20 @@ use Rattle.run_model.specs.Runs.{Entry}
 use Rattle.run_model.specs.Replies.{Legal}
 use Rattle.hall_script.specs.Devices.{used}
 use Rattle.hall_turn.specs.Runs.{Continues, calls_of}
+use Rattle.hall_turn.specs.Receipts.{Covered}
 use Rattle.hall_turn.specs.Known.{Doorway, Known}
 use Rattle.hall_turn.specs.Answers.{new_pass}
 use Rattle.live_session.specs.declared.peer.Peer.{Peer}
 use Rattle.live_session.specs.declared.peer.Session.{Session}
-use Rattle.live_session.specs.Hearing.{Heard}
+use Rattle.live_session.specs.Hearing.{DeskLog}
 use Rattle.live_session.specs.Sessions.{Stood, Serves}
 
 module _ {S O : Type 0} (fails : S → ℕ) (left : S → Option (List ℕ))
-    (heard : S → Option (List Heard)) (failures : O → ℕ) (contents : O → Option (List ℕ)) where
+    (heard : S → DeskLog) (failures : O → ℕ) (contents : O → Option (List ℕ)) where
   -- What became of the session of process p, where this is the run of all calls: its pass has seen
   -- a beginning of the run, with all calls of p.
-  pub record SessionOf (stood : ChineseWall → List Entry → Bool → Type 0) (wall : ChineseWall)
-      (run : List Entry) (door : Doorway) (p : ℕ) (old : Peer S O) (new : Session S O)
+  pub record SessionOf (stood : ChineseWall → List Entry → Option Covered → Type 0)
+      (wall : ChineseWall) (run : List Entry) (door : Doorway) (p : ℕ) (old : Peer S O) (new : Session S O)
       : Type 0 where
     pub pass : Known
     pub begins : Continues run pass.seen
@@ -28,10 +29,10 @@ module _ {S O : Type 0} (fails : S → ℕ) (left : S → Option (List ℕ))
         (used failures contents old.sink new.peer.sink) (new_pass door p) pass new.end
 
   -- There is a legal run for which the machine stands. The calls of each process in it are those of
-  -- its session, which was told no reply before the machine was booked; what is no process has
-  -- none.
+  -- its session, which was told no reply before its desk was shown a receipt of the machine; what is
+  -- no process has none.
   pub record ServedAll {M : Type 0} (stands : ChineseWall → M → List Entry → Type 0)
-      (is_booked : M → Bool) (wall : ChineseWall) (peers : List (Peer S O))
+      (booked : M → Option Covered) (wall : ChineseWall) (peers : List (Peer S O))
       (sessions : List (Session S O)) (machine : M) : Type 0 where
     pub door : Doorway
     pub run : List Entry
@@ -40,6 +41,6 @@ module _ {S O : Type 0} (fails : S → ℕ) (left : S → Option (List ℕ))
     pub stood : stands wall machine run
     pub count : length sessions ≡ processes wall
     pub each : (p : ℕ) (d : Peer S O) (e : Session S O) → p < processes wall →
-        SessionOf (Stood stands is_booked) wall run door p (slice_index_or peers p d)
+        SessionOf (Stood stands booked) wall run door p (slice_index_or peers p d)
         (slice_index_or sessions p e)
     pub others : (p : ℕ) → processes wall ≤ p → calls_of p run ≡ []

@@ -1,7 +1,7 @@
 -- What a session of a process comes to. (Own rules.) Lines, what they came to, and runs have the
 -- newest first.
 use Rattle.std.specs.Prelude.{◌≡◌, ◌≢◌, ◌⊎◌, ℕ, ◌^◌, ◌≤◌, List, [], ◌∷◌, ◌++◌, ◌+◌, length, map}
-use Rattle.std.specs.Prelude.{reverse, replicate, Bool, true, false, Option, Some, None, Result, Ok}
+use Rattle.std.specs.Prelude.{reverse, replicate, Option, Some, None, Result, Ok}
 use Rattle.std.specs.Prelude.{Err}
 use Rattle.std.specs.Io.KnownBytes.{Appends, Consumes, IsAtEnd}
 use Rattle.wall_policy.specs.Policy.{ChineseWall}
@@ -19,6 +19,7 @@ use Rattle.hall_script.specs.Devices.{Used, bytes_before, bytes_after, NeverFail
 use Rattle.hall_script.specs.Devices.{IsUntouched, IsWritten}
 use Rattle.hall_script.specs.Replies.{reply_line}
 use Rattle.hall_turn.specs.Runs.{Continues, calls_of}
+use Rattle.hall_turn.specs.Receipts.{Covered}
 use Rattle.hall_turn.specs.Known.{Known}
 use Rattle.hall_turn.specs.Answers.{IsSamePass}
 use Rattle.live_session.specs.declared.line.BadLine.{BadLine}
@@ -28,7 +29,7 @@ use Rattle.live_session.specs.declared.ending.SessionEnd.TheVariants.{ReadFailed
 use Rattle.live_session.specs.declared.ending.SessionEnd.TheVariants.{Exhausted, Unbooked}
 use Rattle.live_session.specs.declared.ending.SessionEnd.TheVariants.{NoMemory}
 use Rattle.live_session.specs.Lines.{said, bad_line, left_line, exhausted_line, unbooked_line}
-use Rattle.live_session.specs.Hearing.{Heard, Tells, text_of}
+use Rattle.live_session.specs.Hearing.{DeskLog, Heard, Shown, Tells, text_of}
 
 -- ---- lines and their answers
 
@@ -111,11 +112,12 @@ IsCutIn sink whole newest = (front : List ℕ) × (back : List ℕ) × (front ++
 
 -- ---- the machine
 
--- the machine, as it was at the end of a turn: it stood for this run, and was booked or not
-abbrev pub Stood : {M : Type 0} → (ChineseWall → M → List Entry → Type 0) → (M → Bool) →
-    ChineseWall → List Entry → Bool → Type 0
-Stood {M = M} stands is_booked wall run booked =
-    (machine : M) × stands wall machine run × (booked ≡ is_booked machine)
+-- the machine, as it was at the end of a turn: it stood for this run, and its receipt covered this,
+-- if it was booked
+abbrev pub Stood : {M : Type 0} → (ChineseWall → M → List Entry → Type 0) →
+    (M → Option Covered) → ChineseWall → List Entry → Option Covered → Type 0
+Stood {M = M} stands booked_by wall run booked =
+    (machine : M) × stands wall machine run × (booked ≡ booked_by machine)
 
 -- the last call that was made for the line, if it asks for any
 abbrev pub last_call : (process : ℕ) → Told → Option Entry
@@ -123,12 +125,12 @@ last_call process (done act reply) = Some (called process act reply)
 last_call process (waited request again reply) = Some (called process (Take request) reply)
 last_call process (asked_nothing bad) = None
 
-module _ (stood : ChineseWall → List Entry → Bool → Type 0) where
-  -- At the end of this call's turn the machine stood for the run that ends with the call, and was
-  -- booked or not. What was seen after begins with that run, in which these are the calls of the
+module _ (stood : ChineseWall → List Entry → Option Covered → Type 0) where
+  -- At the end of this call's turn the machine stood for the run that ends with the call, and its
+  -- receipt covered this, if it was booked. What was seen after begins with that run, in which these are the calls of the
   -- process since.
-  pub record StoodBehind (before : Known) (calls : List Entry) (call : Entry) (booked : Bool)
-      (after : Known) : Type 0 where
+  pub record StoodBehind (before : Known) (calls : List Entry) (call : Entry)
+      (booked : Option Covered) (after : Known) : Type 0 where
     pub front : List Entry
     pub begins : Continues after.seen (call ∷ front)
     pub own : calls_of before.process (call ∷ front) ≡ calls ++ calls_of before.process before.seen
@@ -136,17 +138,32 @@ module _ (stood : ChineseWall → List Entry → Bool → Type 0) where
 
   -- the machine was booked, or not, behind the last call of the line that came to this; the calls
   -- of its process so far are these
-  abbrev pub StoodFor : (before : Known) → Told → (calls : List Entry) → (booked : Bool) →
-      (after : Known) → Type 0
+  abbrev pub StoodFor : (before : Known) → Told → (calls : List Entry) →
+      (booked : Option Covered) → (after : Known) → Type 0
   StoodFor before told calls booked after = (call : Entry) →
       last_call before.process told ≡ Some call → StoodBehind before calls call booked after
 
-  -- No reply is told before the book has its entries: behind the last call of each of these lines
-  -- the machine was booked.
-  abbrev pub AreBooked : (before : Known) → List Told → (after : Known) → Type 0
-  AreBooked before [] after = Unit {0}
-  AreBooked before (told ∷ past) after = AreBooked before past after
-      × StoodFor before told (made before.process (told ∷ past)) true after
+  -- Before the answer to a line whose last call is this, the desk was shown one receipt, that of the
+  -- machine behind this call, which was booked; the answers to the lines before it had been written
+  -- then, and nothing more. For a line that makes no call nothing was shown.
+  abbrev pub IsShown : ChineseWall → (written : Option (List ℕ)) → (before : Known) →
+      Option Entry → (calls : List Entry) → (past : List Told) → List Shown → (after : Known) →
+      Type 0
+  IsShown wall written before None calls past shows after = shows ≡ []
+  IsShown wall written before (Some call) calls past shows after = (show : Shown)
+      × (shows ≡ show ∷ []) × StoodBehind before calls call (Some show.covers) after
+      × Appends written show.written (answers wall past)
+
+  -- No reply is told before the book has its entries: of each of these lines the desk was shown the
+  -- receipt first, by which it has.
+  abbrev pub AreBooked : ChineseWall → (written : Option (List ℕ)) → (before : Known) →
+      List Told → List Shown → (after : Known) → Type 0
+  AreBooked wall written before [] shows after = shows ≡ []
+  AreBooked wall written before (told ∷ past) shows after = (newest : List Shown)
+      × (earlier : List Shown) × (shows ≡ newest ++ earlier)
+      × AreBooked wall written before past earlier after
+      × IsShown wall written before (last_call before.process told)
+      (made before.process (told ∷ past)) past newest after
 
   -- The newest line was acted on, and is not told what it came to: behind its last call the machine
   -- was not booked.
@@ -156,7 +173,7 @@ module _ (stood : ChineseWall → List Entry → Bool → Type 0) where
     pub later : List Word
     pub finished : rest ≡ next ∷ later
     pub calls : last_call before.process newest ≢ None
-    pub unbooked : StoodFor before newest (made before.process (newest ∷ told)) false after
+    pub unbooked : StoodFor before newest (made before.process (newest ∷ told)) None after
 
   -- ---- how it ends
 
@@ -226,10 +243,10 @@ pub record HadAnswered (wall : ChineseWall) (before now : Option (List ℕ)) (te
 
 -- No read comes between a line and its answer: these are the bytes that were read, and at each read
 -- the lines which earlier ones had finished were answered, all of them.
-pub record IsPrompt {S O : Type 0} (heard : S → Option (List Heard)) (wall : ChineseWall)
+pub record IsPrompt {S O : Type 0} (heard : S → DeskLog) (wall : ChineseWall)
     (source : Used S) (sink : Used O) (bytes : List ℕ) (told : List Told) : Type 0 where
   pub reads : List Heard
-  pub tells : Tells (heard source.old) (heard source.new) reads
+  pub tells : Tells (heard source.old).reads (heard source.new).reads reads
   pub gave : text_of reads ≡ bytes
   pub answered : (later : List Heard) (read : Heard) (past : List Heard) →
       reads ≡ later ++ read ∷ past →
@@ -237,12 +254,12 @@ pub record IsPrompt {S O : Type 0} (heard : S → Option (List Heard)) (wall : C
 
 -- ---- a session
 
-module _ (stood : ChineseWall → List Entry → Bool → Type 0) where
+module _ (stood : ChineseWall → List Entry → Option Covered → Type 0) where
   -- What a session came to: the bytes that it was handed, cut at each LF, are the lines that it
   -- acted on and a rest; what was written are the answers to these lines, in order, each before the
-  -- next read, and no reply before the book has its entries. Of the lines that were acted on the
-  -- newest may not be told.
-  pub record Serves {S O : Type 0} (heard : S → Option (List Heard)) (wall : ChineseWall)
+  -- next read, and no reply before the desk was shown by a receipt that the book has its entries. Of
+  -- the lines that were acted on the newest may not be told.
+  pub record Serves {S O : Type 0} (heard : S → DeskLog) (wall : ChineseWall)
       (source : Used S) (sink : Used O) (before after : Known) (end : SessionEnd) : Type 0 where
     pub bytes : List ℕ
     pub read : Consumes (bytes_before source) (bytes_after source) bytes
@@ -251,12 +268,14 @@ module _ (stood : ChineseWall → List Entry → Bool → Type 0) where
     pub told : List Told
     pub untold : Option Told
     pub acted : Acted wall before (parts 10 bytes) lines rest (and_untold untold told) after
-    pub booked : AreBooked stood before told after
+    pub shows : List Shown
+    pub shown : Tells (heard source.old).shows (heard source.new).shows shows
+    pub booked : AreBooked stood wall (bytes_before sink) before told shows after
     pub prompt : IsPrompt heard wall source sink bytes told
     pub ends : EndsSo stood wall source sink before rest told untold after end
 
   -- The session ended so, or it did not begin, and nothing was done.
-  abbrev pub ServesIfBegun : {S O : Type 0} → (heard : S → Option (List Heard)) → ChineseWall →
+  abbrev pub ServesIfBegun : {S O : Type 0} → (heard : S → DeskLog) → ChineseWall →
       Used S → Used O → (before after : Known) → Option SessionEnd → Type 0
   ServesIfBegun heard wall source sink before after (Some end) =
       Serves heard wall source sink before after end

@@ -1,5 +1,5 @@
 -- How a session goes on line by line: words of private contracts.
-use Rattle.std.specs.Prelude.{◌≡◌, ◌≢◌, ◌⊎◌, ℕ, ◌^◌, ◌<◌, ◌≤◌, Bool, true, false, List, [], ◌∷◌}
+use Rattle.std.specs.Prelude.{◌≡◌, ◌≢◌, ◌⊎◌, ℕ, ◌^◌, ◌<◌, ◌≤◌, true, false, List, [], ◌∷◌}
 use Rattle.std.specs.Prelude.{◌++◌, length, Option, Some, None, Result, Ok, Err, IsOk}
 use Rattle.run_model.specs.Runs.{Entry}
 use Rattle.wall_labels.specs.declared.no_memory.NoMemory.{NoMemory as OutOfMemory}
@@ -9,10 +9,12 @@ use Rattle.run_model.specs.declared.reply.Reply.{Reply}
 use Rattle.run_model.specs.Known.{IsKnownReply}
 use Rattle.hall_script.specs.declared.ask.Ask.{Ask}
 use Rattle.hall_script.specs.declared.ask.Ask.TheVariants.{Wait, Leave}
-use Rattle.hall_script.specs.Devices.{Used, IsUntouched, FailedOnce, IsWritten, BrokeOff}
+use Rattle.hall_script.specs.Devices.{Used, bytes_before, IsUntouched, FailedOnce, IsWritten}
+use Rattle.hall_script.specs.Devices.{BrokeOff}
 use Rattle.hall_script.specs.Replies.{reply_line}
 use Rattle.hall_turn.specs.declared.answer.Answer.{Answer}
 use Rattle.hall_turn.specs.declared.answer.Answer.TheVariants.{Reply as Replied, Exhausted as Late}
+use Rattle.hall_turn.specs.Receipts.{Covered}
 use Rattle.hall_turn.specs.Known.{Known}
 use Rattle.live_session.specs.declared.line.BadLine.{BadLine}
 use Rattle.live_session.specs.declared.line.Unfinished.{Unfinished}
@@ -28,7 +30,8 @@ use Rattle.live_session.specs.declared.answer.Next.TheVariants as nexts
 use Rattle.live_session.specs.Lines.{line_limit, left_line, exhausted_line, unbooked_line}
 use Rattle.live_session.specs.Sessions.{Told, done, waited, asked_nothing, said_by, calls_for}
 use Rattle.live_session.specs.Sessions.{answer, answers, SeesMore, Acted, and_untold, last_call}
-use Rattle.live_session.specs.Sessions.{StoodFor, AreBooked, SaysLast, BreaksOff}
+use Rattle.live_session.specs.Hearing.{DeskLog, Shown, Tells}
+use Rattle.live_session.specs.Sessions.{StoodFor, IsShown, AreBooked, SaysLast, BreaksOff, made}
 
 -- ---- the line that is not finished
 
@@ -47,6 +50,33 @@ abbrev pub Reads : Result Ask BadLine → Result (Result Ask BadLine) OutOfMemor
 Reads line (Ok read) = line ≡ read
 Reads line (Err error) = IsOk line
 
+-- ---- the desk
+
+-- the receipts that a desk was shown before, and those since
+pub record Showing : Type 0 where
+  pub before : Option (List Shown)
+  pub since : Option (List Shown)
+
+-- those of this desk, as it was and as it is
+abbrev pub showing : {S : Type 0} → (S → DeskLog) → (old new : S) → Showing
+showing heard old new = record { before = (heard old).shows; since = (heard new).shows }
+
+-- nothing was read
+pub record IsUnread {S : Type 0} (fails : S → ℕ) (left : S → Option (List ℕ))
+    (heard : S → DeskLog) (old new : S) : Type 0 where
+  pub fails_same : fails new ≡ fails old
+  pub left_same : left new ≡ left old
+  pub reads_same : (heard new).reads ≡ (heard old).reads
+
+-- what is shown before the session goes on so: the receipt of the call to which a reply comes next
+abbrev pub shown_next : Next → (receipt : Option Covered) → (written : Option (List ℕ)) → List Shown
+shown_next nexts.Replied (Some covers) written = record { covers = covers; written = written } ∷ []
+shown_next nexts.Replied None written = []
+shown_next nexts.GoesOn receipt written = []
+shown_next nexts.Left receipt written = []
+shown_next nexts.Exhausted receipt written = []
+shown_next nexts.Unbooked receipt written = []
+
 -- ---- one line
 
 -- the line asks for a call, which the door was too late for
@@ -64,9 +94,9 @@ reply_to (waited request again reply) = Some reply
 reply_to (asked_nothing bad) = None
 
 -- what a line came to whose last call was answered so, with the machine booked or not
-abbrev pub came_of : Answer → (booked : Bool) → Came
-came_of (Replied reply) true = cames.Reply reply
-came_of (Replied reply) false = cames.Unbooked
+abbrev pub came_of : Answer → (booked : Option Covered) → Came
+came_of (Replied reply) (Some covers) = cames.Reply reply
+came_of (Replied reply) None = cames.Unbooked
 came_of Late booked = cames.Exhausted
 
 abbrev pub CameNamesKnown : ChineseWall → Came → Type 0
@@ -84,15 +114,15 @@ line_to wall cames.Unbooked = unbooked_line
 
 -- how the session goes on after that
 abbrev pub next_after : Came → Next
-next_after (cames.Reply reply) = nexts.GoesOn
+next_after (cames.Reply reply) = nexts.Replied
 next_after cames.Left = nexts.Left
 next_after cames.Exhausted = nexts.Exhausted
 next_after cames.Unbooked = nexts.Unbooked
 
-module _ (stood : ChineseWall → List Entry → Bool → Type 0) where
+module _ (stood : ChineseWall → List Entry → Option Covered → Type 0) where
   -- the line was acted on, and came to this, behind which the machine was booked or not
-  pub record ComesTo (before : Known) (line : Result Ask BadLine) (told : Told) (booked : Bool)
-      (after : Known) : Type 0 where
+  pub record ComesTo (before : Known) (line : Result Ask BadLine) (told : Told)
+      (booked : Option Covered) (after : Known) : Type 0 where
     pub says : line ≡ said_by told
     pub sees : SeesMore before (calls_for before.process told) after
     pub so : StoodFor stood before told (calls_for before.process told) booked after
@@ -100,80 +130,104 @@ module _ (stood : ChineseWall → List Entry → Bool → Type 0) where
   -- nothing was made of the line, or it came to something
   abbrev pub MayHaveCome : (before : Known) → Result Ask BadLine → (after : Known) → Type 0
   MayHaveCome before line after = SeesMore before [] after
-      ⊎ ((told : Told) × (booked : Bool) × ComesTo before line told booked after)
+      ⊎ ((told : Told) × (booked : Option Covered) × ComesTo before line told booked after)
 
   -- the line came to something that is not told
   abbrev pub ComesUnbooked : (before : Known) → Result Ask BadLine → (after : Known) → Type 0
-  ComesUnbooked before line after = (told : Told) × ComesTo before line told false after
+  ComesUnbooked before line after = (told : Told) × ComesTo before line told None after
+      × (last_call before.process told ≢ None)
+
+  -- the line came to something that is told, with this receipt of its last call
+  abbrev pub ComesBooked : (before : Known) → Result Ask BadLine → Told →
+      (receipt : Option Covered) → (after : Known) → Type 0
+  ComesBooked before line told receipt after = (covers : Covered)
+      × ComesTo before line told (Some covers) after × (receipt ≡ Some covers)
       × (last_call before.process told ≢ None)
 
   -- what a line came to that asks for something
-  abbrev pub CameTo : (before : Known) → Ask → Came → (after : Known) → Type 0
-  CameTo before ask (cames.Reply reply) after =
-      (told : Told) × ComesTo before (Ok ask) told true after × (reply_to told ≡ Some reply)
-  CameTo before ask cames.Left after = (ask ≡ Leave) × SeesMore before [] after
-  CameTo before ask cames.Exhausted after = ComesTooLate before (Ok ask) after
-  CameTo before ask cames.Unbooked after = ComesUnbooked before (Ok ask) after
+  abbrev pub CameTo : (before : Known) → Ask → Came → (receipt : Option Covered) →
+      (after : Known) → Type 0
+  CameTo before ask (cames.Reply reply) receipt after = (told : Told)
+      × ComesBooked before (Ok ask) told receipt after × (reply_to told ≡ Some reply)
+  CameTo before ask cames.Left receipt after = (ask ≡ Leave) × SeesMore before [] after
+  CameTo before ask cames.Exhausted receipt after = ComesTooLate before (Ok ask) after
+  CameTo before ask cames.Unbooked receipt after = ComesUnbooked before (Ok ask) after
 
   -- the request was taken again and again, all takes but the last answered Pending, and this is the
-  -- answer to the last, behind which the machine was as the pass says; the door was too late at the
-  -- first take alone
-  abbrev pub Waited : (before : Known) → (request : ℕ) → Answer → (after : Known) → Type 0
-  Waited before request (Replied reply) after = (again : ℕ)
-      × ComesTo before (Ok (Wait request)) (waited request again reply) after.booked after
-  Waited before request Late after = SeesMore before [] after × (2 ^ 62 ≤ length after.seen)
+  -- answer to the last, behind which the machine gave this receipt, if it was booked; the door was
+  -- too late at the first take alone
+  abbrev pub Waited : (before : Known) → (request : ℕ) → Answer → (receipt : Option Covered) →
+      (after : Known) → Type 0
+  Waited before request (Replied reply) receipt after = (again : ℕ)
+      × ComesTo before (Ok (Wait request)) (waited request again reply) receipt after
+  Waited before request Late receipt after = SeesMore before [] after × (2 ^ 62 ≤ length after.seen)
 
   -- the text answers the line, and the session goes on so
   abbrev pub AnswersSo : ChineseWall → (before : Known) → Result Ask BadLine → (text : List ℕ) →
-      (after : Known) → Next → Type 0
-  AnswersSo wall before line text after nexts.GoesOn =
-      (told : Told) × ComesTo before line told true after × (text ≡ answer wall told)
-  AnswersSo wall before line text after nexts.Left =
+      (receipt : Option Covered) → (after : Known) → Next → Type 0
+  AnswersSo wall before line text receipt after nexts.Replied =
+      (told : Told) × ComesBooked before line told receipt after × (text ≡ answer wall told)
+  AnswersSo wall before line text receipt after nexts.GoesOn = (bad : BadLine) × (line ≡ Err bad)
+      × SeesMore before [] after × (text ≡ answer wall (asked_nothing bad))
+  AnswersSo wall before line text receipt after nexts.Left =
       (line ≡ Ok Leave) × SeesMore before [] after × (text ≡ left_line)
-  AnswersSo wall before line text after nexts.Exhausted =
+  AnswersSo wall before line text receipt after nexts.Exhausted =
       ComesTooLate before line after × (text ≡ exhausted_line)
-  AnswersSo wall before line text after nexts.Unbooked =
+  AnswersSo wall before line text receipt after nexts.Unbooked =
       ComesUnbooked before line after × (text ≡ unbooked_line)
 
   -- the line was acted on and its answer is the text; or memory ran out
   abbrev pub PutsAnswer : ChineseWall → (before : Known) → Result Ask BadLine → (text : List ℕ) →
-      (after : Known) → Result Next OutOfMemory → Type 0
-  PutsAnswer wall before line text after (Ok next) = AnswersSo wall before line text after next
-  PutsAnswer wall before line text after (Err error) = MayHaveCome before line after
+      (receipt : Option Covered) → (after : Known) → Result Next OutOfMemory → Type 0
+  PutsAnswer wall before line text receipt after (Ok next) =
+      AnswersSo wall before line text receipt after next
+  PutsAnswer wall before line text receipt after (Err error) = MayHaveCome before line after
+
+  -- the text answers the line, and the desk was shown what is due before
+  abbrev pub AnswersBehind : {O : Type 0} → ChineseWall → (before : Known) → Result Ask BadLine →
+      (text : List ℕ) → (desk : Showing) → Used O → (after : Known) → Next → Type 0
+  AnswersBehind wall before line text desk sink after next = (receipt : Option Covered)
+      × AnswersSo wall before line text receipt after next
+      × Tells desk.before desk.since (shown_next next receipt (bytes_before sink))
 
   -- the line's answer was written, after which the session goes on so
   abbrev pub WritesAnswer : {O : Type 0} → ChineseWall → (before : Known) → Result Ask BadLine →
-      Used O → (after : Known) → Next → Type 0
-  WritesAnswer wall before line sink after next =
-      (text : List ℕ) × AnswersSo wall before line text after next × IsWritten sink text
+      (desk : Showing) → Used O → (after : Known) → Next → Type 0
+  WritesAnswer wall before line desk sink after next = (text : List ℕ)
+      × AnswersBehind wall before line text desk sink after next × IsWritten sink text
 
   -- the line was acted on and its answer was written; or why the session ends
   abbrev pub AnswersLine : {X O : Type 0} → ChineseWall → (before : Known) →
-      Result Ask BadLine → Used O → (after : Known) → Result X SessionEnd → Type 0
-  AnswersLine wall before line sink after (Ok x) =
-      WritesAnswer wall before line sink after nexts.GoesOn
-  AnswersLine wall before line sink after (Err Left) =
-      WritesAnswer wall before line sink after nexts.Left
-  AnswersLine wall before line sink after (Err Exhausted) =
-      WritesAnswer wall before line sink after nexts.Exhausted
-  AnswersLine wall before line sink after (Err Unbooked) =
-      WritesAnswer wall before line sink after nexts.Unbooked
-  AnswersLine wall before line sink after (Err WriteFailed) = (next : Next) × (text : List ℕ)
-      × AnswersSo wall before line text after next × BrokeOff sink text
-  AnswersLine wall before line sink after (Err NoMemory) =
-      IsUntouched sink × MayHaveCome before line after
-  AnswersLine wall before line sink after (Err ReadFailed) = ⊥
-  AnswersLine wall before line sink after (Err EndOfStream) = ⊥
+      Result Ask BadLine → (desk : Showing) → Used O → (after : Known) → Result X SessionEnd →
+      Type 0
+  AnswersLine wall before line desk sink after (Ok x) =
+      WritesAnswer wall before line desk sink after nexts.Replied
+      ⊎ WritesAnswer wall before line desk sink after nexts.GoesOn
+  AnswersLine wall before line desk sink after (Err Left) =
+      WritesAnswer wall before line desk sink after nexts.Left
+  AnswersLine wall before line desk sink after (Err Exhausted) =
+      WritesAnswer wall before line desk sink after nexts.Exhausted
+  AnswersLine wall before line desk sink after (Err Unbooked) =
+      WritesAnswer wall before line desk sink after nexts.Unbooked
+  AnswersLine wall before line desk sink after (Err WriteFailed) = (next : Next)
+      × (text : List ℕ) × AnswersBehind wall before line text desk sink after next
+      × BrokeOff sink text
+  AnswersLine wall before line desk sink after (Err NoMemory) = IsUntouched sink
+      × (desk.since ≡ desk.before) × MayHaveCome before line after
+  AnswersLine wall before line desk sink after (Err ReadFailed) = ⊥
+  AnswersLine wall before line desk sink after (Err EndOfStream) = ⊥
 
   -- ---- lines so far
 
   -- the lines of the text so far were acted on, and all answers written
   pub record SoFar {O : Type 0} (wall : ChineseWall) (before : Known) (text rest : List Word)
-      (sink : Used O) (now : Known) : Type 0 where
+      (desk : Showing) (sink : Used O) (now : Known) : Type 0 where
     pub lines : List Word
     pub told : List Told
     pub acted : Acted wall before text lines rest told now
-    pub booked : AreBooked stood before told now
+    pub shows : List Shown
+    pub shown : Tells desk.before desk.since shows
+    pub booked : AreBooked stood wall (bytes_before sink) before told shows now
     pub written : IsWritten sink (answers wall told)
 
   -- why no further line is acted on
@@ -193,18 +247,22 @@ module _ (stood : ChineseWall → List Entry → Bool → Type 0) where
   StopsSo wall sink before rest told untold after EndOfStream = ⊥
 
   pub record Stops {O : Type 0} (wall : ChineseWall) (before : Known) (text : List Word)
-      (sink : Used O) (after : Known) (end : SessionEnd) : Type 0 where
+      (desk : Showing) (sink : Used O) (after : Known) (end : SessionEnd) : Type 0 where
     pub lines : List Word
     pub rest : List Word
     pub told : List Told
     pub untold : Option Told
     pub acted : Acted wall before text lines rest (and_untold untold told) after
-    pub booked : AreBooked stood before told after
+    pub shows : List Shown
+    pub shown : Tells desk.before desk.since shows
+    pub booked : AreBooked stood wall (bytes_before sink) before told shows after
     pub stops : StopsSo wall sink before rest told untold after end
 
   -- all finished lines of the text were acted on, and the rest is kept; or why not
   abbrev pub TakesIn : {X O : Type 0} → ChineseWall → (before : Known) → (text : List Word) →
-      (kept : Unfinished) → Used O → (after : Known) → Result X SessionEnd → Type 0
-  TakesIn wall before text kept sink after (Ok x) =
-      (line : Word) × Holds kept line × SoFar wall before text (line ∷ []) sink after
-  TakesIn wall before text kept sink after (Err end) = Stops wall before text sink after end
+      (kept : Unfinished) → (desk : Showing) → Used O → (after : Known) →
+      Result X SessionEnd → Type 0
+  TakesIn wall before text kept desk sink after (Ok x) =
+      (line : Word) × Holds kept line × SoFar wall before text (line ∷ []) desk sink after
+  TakesIn wall before text kept desk sink after (Err end) =
+      Stops wall before text desk sink after end

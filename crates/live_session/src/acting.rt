@@ -1,11 +1,12 @@
 //! Does what a line asks for.
-ghost use Rattle.std.specs.Prelude.{◌≡◌, Ok};
+ghost use Rattle.std.specs.Prelude.{◌≡◌, Ok, Option, is_some, option_map};
 ghost use Rattle.run_model.specs.declared.call.Act.TheVariants.{Take};
 ghost use Rattle.run_model.specs.Known.{HasKnownLabel};
 ghost use Rattle.run_model.specs.Replies.{Legal};
 ghost use Rattle.hall_script.specs.Asks.{AsksWithKnownLabel};
+ghost use Rattle.hall_turn.specs.Receipts.{Covered};
 ghost use Rattle.hall_turn.specs.Answers.{Answered, IsSamePass, NamesKnown, ClaimAnswered};
-ghost use Rattle.hall_turn.specs.Answers.{ClaimNamesKnown, MayFinish, StoodAt, ClaimStoodAt};
+ghost use Rattle.hall_turn.specs.Answers.{ClaimNamesKnown, MayFinish, GivesAt, ClaimGivesAt};
 ghost use Rattle.live_session.specs.Sessions.{Stood};
 ghost use Rattle.live_session.specs.Steps.{Waited, CameTo, CameNamesKnown, came_of};
 
@@ -13,7 +14,8 @@ use crate::seat::Seat;
 use crate::setting::Setting;
 use hall_core::{Reply, finish};
 use hall_script::Ask;
-use hall_turn::{Answer, Claimed, Machine, PassTo};
+use hall_turn::{Answer, Claimed, PassTo, Receipt, Receipts};
+use hall_turn::{call_with_receipt, claim_with_receipt};
 use run_model::Act;
 use std::sync::Wait;
 
@@ -34,17 +36,16 @@ pub(crate) enum Came {
 // its turn. It counts as one call, if it was made. Whoever waits is told of a machine that is not
 // booked.
 fn came_of<R: Wait>(rt: &R, seat: &mut Seat, answer: Answer, is_booked: bool) -> Came
-    ensures { result ≡ came_of answer is_booked }
+    ensures { (booked : Option Covered) → is_booked ≡ is_some booked →
+        result ≡ came_of answer booked }
 {
-    if !is_booked {
-        seat.tell_unbooked(rt);
-    }
     match answer {
         Answer::Reply(reply) => {
             seat.called();
             if is_booked {
                 Came::Reply(reply)
             } else {
+                seat.tell_unbooked(rt);
                 Came::Unbooked
             }
         }
@@ -52,33 +53,46 @@ fn came_of<R: Wait>(rt: &R, seat: &mut Seat, answer: Answer, is_booked: bool) ->
     }
 }
 
-impl<'s, R: Wait, M: Machine> Setting<'s, R, M> {
+impl<'s, R: Wait, M: Receipts<T>, T: Receipt + Drop> Setting<'s, R, M, T> {
     // All of a take that needs the hall, at the pass's turn, while no other session calls.
-    fn claim(&self, pass: &mut PassTo<M>, request: u64) -> Claimed
+    fn claim(
+        &self,
+        pass: &mut PassTo<M>,
+        request: u64,
+        receipt: &mut Option<T>,
+    ) -> Claimed
         requires door { pass.old.door ≡ self.now.door.now }
         ensures same { IsSamePass pass.old pass.new }
         ensures legal { Legal self.now.door.now.policy pass.new.seen }
         ensures answered { ClaimAnswered pass.old request result pass.new }
-        ensures stood { ClaimStoodAt M.stands M.is_booked pass.old result pass.new }
+        ensures gives { ClaimGivesAt M.stands M.booked pass.old result pass.new
+            (option_map T.covers receipt.old) (option_map T.covers receipt.new) }
         ensures may { MayFinish result }
         ensures named { ClaimNamesKnown self.now.door.now.policy result }
     {
         let turn = self.turn.lock(self.rt);
-        let claimed = self.door.claim(self.rt, pass, request);
+        let claimed = claim_with_receipt(self.rt, self.door, pass, request, receipt);
         drop(turn);
         claimed
     }
 
     // A take. What is left of it behind its turn holds up nobody.
-    fn take(&self, pass: &mut PassTo<M>, seat: &mut Seat, request: u64) -> Answer
+    fn take(
+        &self,
+        pass: &mut PassTo<M>,
+        seat: &mut Seat,
+        request: u64,
+        receipt: &mut Option<T>,
+    ) -> Answer
         requires door { pass.old.door ≡ self.now.door.now }
         ensures same { IsSamePass pass.old pass.new }
         ensures legal { Legal self.now.door.now.policy pass.new.seen }
         ensures answered { Answered pass.old (Take request) result pass.new }
-        ensures stood { StoodAt M.stands M.is_booked pass.old result pass.new }
+        ensures gives { GivesAt M.stands M.booked pass.old result pass.new
+            (option_map T.covers receipt.old) (option_map T.covers receipt.new) }
         ensures named { NamesKnown self.now.door.now.policy result }
     {
-        match self.claim(pass, request) {
+        match self.claim(pass, request, receipt) {
             Claimed::Claim(claim) => {
                 let reply = finish(claim);
                 seat.taken(request, &reply);
@@ -91,20 +105,27 @@ impl<'s, R: Wait, M: Machine> Setting<'s, R, M> {
     // Takes the outcome of a request as soon as its instance has settled, and sleeps before that.
     // Where nothing can settle it any more, or the machine is not booked any more, one last take
     // has the answer, which may be `Pending`.
-    fn wait(&self, pass: &mut PassTo<M>, seat: &mut Seat, request: u64) -> Answer
+    fn wait(
+        &self,
+        pass: &mut PassTo<M>,
+        seat: &mut Seat,
+        request: u64,
+        receipt: &mut Option<T>,
+    ) -> Answer
         requires door { pass.old.door ≡ self.now.door.now }
         ensures same { IsSamePass pass.old pass.new }
         ensures legal { Legal self.now.door.now.policy pass.new.seen }
-        ensures waited { Waited (Stood M.stands M.is_booked) pass.old request result pass.new }
+        ensures waited { Waited (Stood M.stands M.booked) pass.old request result
+            (option_map T.covers receipt.new) pass.new }
         ensures named { NamesKnown self.now.door.now.policy result }
     {
-        match self.take(pass, seat, request) {
+        match self.take(pass, seat, request, receipt) {
             Answer::Reply(Reply::Pending) => {}
             answer => return answer,
         }
         for _ in self.rt.forever() {
             let sleeps_on = seat.sleep(self.rt, request);
-            match self.take(pass, seat, request) {
+            match self.take(pass, seat, request, receipt) {
                 Answer::Reply(Reply::Pending) => {
                     if !sleeps_on {
                         return Answer::Reply(Reply::Pending);
@@ -118,20 +139,28 @@ impl<'s, R: Wait, M: Machine> Setting<'s, R, M> {
     }
 
     // The call of an act, at the pass's turn.
-    fn make(&self, pass: &mut PassTo<M>, seat: &mut Seat, act: Act) -> Answer
+    fn make(
+        &self,
+        pass: &mut PassTo<M>,
+        seat: &mut Seat,
+        act: Act,
+        receipt: &mut Option<T>,
+    ) -> Answer
         requires door { pass.old.door ≡ self.now.door.now }
         requires label { HasKnownLabel self.now.door.now.policy act }
         ensures same { IsSamePass pass.old pass.new }
         ensures legal { Legal self.now.door.now.policy pass.new.seen }
         ensures answered { Answered pass.old act result pass.new }
-        ensures stood { StoodAt M.stands M.is_booked pass.old result pass.new }
+        ensures gives { GivesAt M.stands M.booked pass.old result pass.new
+            (option_map T.covers receipt.old) (option_map T.covers receipt.new) }
         ensures named { NamesKnown self.now.door.now.policy result }
     {
         match act {
             Act::Post(posting) => {
                 let comm = posting.comm;
                 let turn = self.turn.lock(self.rt);
-                let answer = self.door.post(self.rt, pass, posting);
+                let act = Act::Post(posting);
+                let answer = call_with_receipt(self.rt, self.door, pass, act, receipt);
                 drop(turn);
                 if let Answer::Reply(reply) = &answer {
                     seat.posted(comm, reply);
@@ -141,34 +170,43 @@ impl<'s, R: Wait, M: Machine> Setting<'s, R, M> {
                 }
                 answer
             }
-            Act::Take(request) => self.take(pass, seat, request),
+            Act::Take(request) => self.take(pass, seat, request, receipt),
             Act::Info(comm) => {
                 let turn = self.turn.lock(self.rt);
-                let answer = self.door.info(self.rt, pass, comm);
+                let act = Act::Info(comm);
+                let answer = call_with_receipt(self.rt, self.door, pass, act, receipt);
                 drop(turn);
                 answer
             }
         }
     }
 
-    /// Does what a line asks for.
-    pub(crate) fn act_on(&self, pass: &mut PassTo<M>, seat: &mut Seat, ask: Ask) -> Came
+    /// Does what a line asks for. Where a call was made there is the receipt that the machine gave
+    /// at the end of the turn of the last one, if it was booked.
+    pub(crate) fn act_on(
+        &self,
+        pass: &mut PassTo<M>,
+        seat: &mut Seat,
+        ask: Ask,
+        receipt: &mut Option<T>,
+    ) -> Came
         requires door { pass.old.door ≡ self.now.door.now }
         requires legal { Legal self.now.door.now.policy pass.old.seen }
         requires label { AsksWithKnownLabel self.now.door.now.policy ask }
         ensures same { IsSamePass pass.old pass.new }
         ensures legal { Legal self.now.door.now.policy pass.new.seen }
-        ensures came { CameTo (Stood M.stands M.is_booked) pass.old ask result pass.new }
+        ensures came { CameTo (Stood M.stands M.booked) pass.old ask result
+            (option_map T.covers receipt.new) pass.new }
         ensures named { CameNamesKnown self.now.door.now.policy result }
     {
         match ask {
             Ask::Act(act) => {
-                let answer = self.make(pass, seat, act);
-                came_of(self.rt, seat, answer, pass.is_booked())
+                let answer = self.make(pass, seat, act, receipt);
+                came_of(self.rt, seat, answer, receipt.is_some())
             }
             Ask::Wait(request) => {
-                let answer = self.wait(pass, seat, request);
-                came_of(self.rt, seat, answer, pass.is_booked())
+                let answer = self.wait(pass, seat, request, receipt);
+                came_of(self.rt, seat, answer, receipt.is_some())
             }
             Ask::Leave => Came::Left,
         }

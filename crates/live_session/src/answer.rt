@@ -1,21 +1,23 @@
 //! Acts on one line, and answers it.
-ghost use Rattle.std.specs.Prelude.{◌≡◌, List, ℕ, [], OnOk, IfOk};
+ghost use Rattle.std.specs.Prelude.{◌≡◌, List, ℕ, [], OnOk, IfOk, option_map};
 ghost use Rattle.run_model.specs.Replies.{Legal};
 ghost use Rattle.hall_turn.specs.Answers.{IsSamePass};
 ghost use Rattle.hall_script.specs.Devices.{used};
+ghost use Rattle.live_session.specs.Hearing.{Tells};
 ghost use Rattle.live_session.specs.Lines.{said};
 ghost use Rattle.live_session.specs.Sessions.{Stood};
 ghost use Rattle.live_session.specs.Steps.{Holds, CameNamesKnown, line_to, next_after, PutsAnswer};
-ghost use Rattle.live_session.specs.Steps.{AnswersLine};
+ghost use Rattle.live_session.specs.Steps.{AnswersLine, IsUnread, showing, shown_next};
 
 use crate::acting::Came;
+use crate::desk::ShowDesk;
 use crate::ending::SessionEnd;
 use crate::line::{Lines, bad_line, give_back};
 use crate::seat::Seat;
 use crate::setting::Setting;
 use coll_text::{put, send};
 use hall_script::write_reply;
-use hall_turn::{Machine, PassTo};
+use hall_turn::{PassTo, Receipt, Receipts};
 use std::sync::Wait;
 use wall_labels::{NoMemory, Sink};
 use wall_policy::Policy;
@@ -23,7 +25,9 @@ use wall_policy::Policy;
 /// How a session goes on after a line.
 #[derive(Clone, Copy)]
 pub(crate) enum Next {
-    /// It acts on the next line.
+    /// It acts on the next line. This one made a call, and its reply is told.
+    Replied,
+    /// It acts on the next line. This one asked for nothing.
     GoesOn,
     /// It ends: the line said `leave`.
     Left,
@@ -42,7 +46,7 @@ fn put_came(policy: &Policy, came: &Came, text: &mut Vec<u8>) -> Result<Next, No
 {
     match came {
         Came::Reply(reply) => match write_reply(policy, reply, text) {
-            Ok(()) => Ok(Next::GoesOn),
+            Ok(()) => Ok(Next::Replied),
             Err(_) => Err(NoMemory),
         },
         Came::Left => match put(text, "left\n") {
@@ -60,13 +64,37 @@ fn put_came(policy: &Policy, came: &Came, text: &mut Vec<u8>) -> Result<Next, No
     }
 }
 
-impl<'s, R: Wait, M: Machine> Setting<'s, R, M> {
+// Where a reply comes next, the desk is shown the receipt of its call.
+fn show_receipt<T: Receipt, S: ShowDesk<O, T>, O: Sink>(
+    receipt: &Option<T>,
+    next: Next,
+    source: &mut S,
+    sink: &O,
+)
+    ensures unread { IsUnread S.failures S.remaining S.heard source.old source.new }
+    ensures shows { Tells (S.heard source.old).shows (S.heard source.new).shows
+        (shown_next next (option_map T.covers receipt.now) (O.contents sink.now)) }
+{
+    match next {
+        Next::Replied => match receipt {
+            Some(receipt) => source.show(sink, receipt),
+            None => {}
+        },
+        Next::GoesOn => {}
+        Next::Left => {}
+        Next::Exhausted => {}
+        Next::Unbooked => {}
+    }
+}
+
+impl<'s, R: Wait, M: Receipts<T>, T: Receipt + Drop> Setting<'s, R, M, T> {
     // Acts on a finished line, and puts its answer.
     fn put_answer(
         &self,
         pass: &mut PassTo<M>,
         seat: &mut Seat,
         lines: &mut Lines,
+        receipt: &mut Option<T>,
     ) -> Result<Next, NoMemory>
         requires door { pass.old.door ≡ self.now.door.now }
         requires legal { Legal self.now.policy.now pass.old.seen }
@@ -74,12 +102,13 @@ impl<'s, R: Wait, M: Machine> Setting<'s, R, M> {
         ensures same { IsSamePass pass.old pass.new }
         ensures legal { Legal self.now.policy.now pass.new.seen }
         ensures puts { (bytes : List ℕ) → Holds lines.old.line bytes →
-            PutsAnswer (Stood M.stands M.is_booked) self.now.policy.now pass.old
-            (said self.now.policy.now.dataset_names bytes) lines.new.text.items pass.new result }
+            PutsAnswer (Stood M.stands M.booked) self.now.policy.now pass.old
+            (said self.now.policy.now.dataset_names bytes) lines.new.text.items
+            (option_map T.covers receipt.new) pass.new result }
     {
         match lines.line.read(self.alloc, self.policy) {
             Ok(Ok(ask)) => {
-                let came = self.act_on(pass, seat, ask);
+                let came = self.act_on(pass, seat, ask, receipt);
                 put_came(self.policy, &came, &mut lines.text)
             }
             Ok(Err(bad)) => match put(&mut lines.text, bad_line(bad)) {
@@ -90,12 +119,14 @@ impl<'s, R: Wait, M: Machine> Setting<'s, R, M> {
         }
     }
 
-    /// Acts on a finished line, and writes its answer.
-    pub(crate) fn answer_line<O: Sink>(
+    /// Acts on a finished line, and writes its answer. The desk is shown the receipt of its last
+    /// call before a reply is written.
+    pub(crate) fn answer_line<S: ShowDesk<O, T>, O: Sink>(
         &self,
         pass: &mut PassTo<M>,
         seat: &mut Seat,
         lines: &mut Lines,
+        source: &mut S,
         sink: &mut O,
     ) -> Result<(), SessionEnd>
         requires door { pass.old.door ≡ self.now.door.now }
@@ -104,19 +135,24 @@ impl<'s, R: Wait, M: Machine> Setting<'s, R, M> {
         ensures none { OnOk result (lines.new.text.items ≡ []) }
         ensures same { IsSamePass pass.old pass.new }
         ensures legal { Legal self.now.policy.now pass.new.seen }
+        ensures unread { IsUnread S.failures S.remaining S.heard source.old source.new }
         ensures answers { (bytes : List ℕ) → Holds lines.old.line bytes →
-            AnswersLine (Stood M.stands M.is_booked) self.now.policy.now pass.old
+            AnswersLine (Stood M.stands M.booked) self.now.policy.now pass.old
             (said self.now.policy.now.dataset_names bytes)
+            (showing S.heard source.old source.new)
             (used O.failures O.contents sink.old sink.new) pass.new result }
     {
-        let next = match self.put_answer(pass, seat, lines) {
+        let mut receipt = None;
+        let next = match self.put_answer(pass, seat, lines, &mut receipt) {
             Ok(next) => next,
             Err(_) => return Err(SessionEnd::NoMemory),
         };
+        show_receipt(&receipt, next, source, sink);
         match send(&mut lines.text, sink) {
             Ok(()) => {
                 give_back(self.alloc, &mut lines.text);
                 match next {
+                    Next::Replied => Ok(()),
                     Next::GoesOn => Ok(()),
                     Next::Left => Err(SessionEnd::Left),
                     Next::Exhausted => Err(SessionEnd::Exhausted),

@@ -15,7 +15,7 @@ mod seat;
 mod session;
 mod setting;
 
-pub use desk::Desk;
+pub use desk::{Desk, ShowDesk};
 pub use ending::SessionEnd;
 pub use line::{BadLine, LINE_LIMIT};
 pub use peer::{Peer, Session};

@@ -50,6 +50,6 @@ impl<M: Machine, S: Desk<O> + Drop, O: Sink + Drop> Promise<Played<M, S, O>> for
     ghost use Rattle.live_session.specs.Joining.{HasServed};
 
     ghost kept_by = { λ p r.
-        HasServed (Stood M.stands M.is_booked) S.failures S.remaining S.heard O.failures O.contents
+        HasServed (Stood M.stands M.booked) S.failures S.remaining S.heard O.failures O.contents
         p.0.value r };
 }

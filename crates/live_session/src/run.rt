@@ -9,13 +9,14 @@ ghost use Rattle.live_session.specs.Served.{ServedAll};
 ghost use Rattle.live_session.specs.Joining.{IsFresh, HasServed, AllServed, handed};
 ghost use Rattle.live_session.specs.Joining.{passes_in, ends_of, ends_in, HaveEnded, HasRoomFor};
 
-use crate::desk::Desk;
+use crate::desk::{Desk, ShowDesk};
 use crate::peer::{Job, Peer, Played, Serving, Session};
 use crate::ready::{Ready, Room, prepare};
 use crate::setting::Setting;
-use hall_turn::{DoorTo, Machine, PassesTo};
+use hall_turn::{DoorTo, Machine, PassesTo, Receipt, Receipts};
 use rank_stage::{Begun, GivenUp};
 use std::alloc::Global;
+use std::marker::PhantomData;
 use std::snapshot::Snapshot;
 use std::sync::{Mutex, Wait};
 use std::thread;
@@ -24,12 +25,18 @@ use wall_labels::Sink;
 use wall_policy::Policy;
 
 // A session from its start to its end; or nothing of it, where the run is given up.
-fn play<R: Wait, M: Machine, S: Desk<O> + Drop, O: Sink + Drop>(
-    setting: &Setting<R, M>,
+fn play<R, M, S, O, T>(
+    setting: &Setting<R, M, T>,
     job: Job<M, S, O>,
 ) -> Played<M, S, O>
+where
+    R: Wait,
+    M: Receipts<T>,
+    S: ShowDesk<O, T> + Drop,
+    O: Sink + Drop,
+    T: Receipt + Drop,
     requires { IsFresh setting.now.door.now job }
-    ensures { HasServed (Stood M.stands M.is_booked) S.failures S.remaining S.heard O.failures
+    ensures { HasServed (Stood M.stands M.booked) S.failures S.remaining S.heard O.failures
         O.contents job result }
 {
     let Job {
@@ -62,7 +69,7 @@ where
     O: Sink + Send + Drop,
     requires { (ended.items ≡ []) × (vec_len handles ≤ vec_capacity ended) }
     ensures served { IfOk result (λ all.
-        AllServed (Stood M.stands M.is_booked) S.failures S.remaining S.heard O.failures O.contents
+        AllServed (Stood M.stands M.booked) S.failures S.remaining S.heard O.failures O.contents
         (handed handles.items) all.items) }
     ensures begun { IfOk result (λ _. IsOk told) }
 {
@@ -130,20 +137,21 @@ fn sort_out<M: Machine, S: Drop, O: Drop>(
 
 // A thread for each job, as far as none is refused, in the room that was made for them. None where
 // no session began.
-fn run_jobs<R, M, S, O>(
-    setting: &Setting<R, M>,
+fn run_jobs<R, M, S, O, T>(
+    setting: &Setting<R, M, T>,
     jobs: Vec<Job<M, S, O>>,
     room: Room<M, S, O>,
 ) -> Option<Ended<M, S, O>>
 where
     R: Threads + Wait + Sync,
-    M: Machine + Send + Drop,
-    S: Desk<O> + Send + Drop,
+    M: Receipts<T> + Send + Drop,
+    S: ShowDesk<O, T> + Send + Drop,
     O: Sink + Send + Drop,
+    T: Receipt + Send + Drop,
     requires fresh { All (IsFresh setting.now.door.now) jobs.items }
     requires room { HasRoomFor (vec_len jobs) room }
     ensures { IfSome result
-        (HaveEnded (Stood M.stands M.is_booked) S.failures S.remaining S.heard O.failures O.contents
+        (HaveEnded (Stood M.stands M.booked) S.failures S.remaining S.heard O.failures O.contents
         jobs.items) }
 {
     let Setting {
@@ -153,6 +161,7 @@ where
         policy,
         stage,
         turn,
+        receipts,
     } = *setting;
     let Room {
         passes,
@@ -169,7 +178,7 @@ where
             requires handles { (handles.items ≡ []) × (vec_len jobs ≤ vec_capacity handles) }
             requires ended { (ended.items ≡ []) × (vec_len jobs ≤ vec_capacity ended) }
             ensures { IfOk result
-                (λ all. AllServed (Stood M.stands M.is_booked) S.failures S.remaining S.heard
+                (λ all. AllServed (Stood M.stands M.booked) S.failures S.remaining S.heard
                 O.failures O.contents jobs.items all.items) }
         {
             for job in jobs {
@@ -179,7 +188,7 @@ where
                     move || -> Played<M, S, O>
                         requires policy { policy.now ≡ door.now.policy }
                         requires fresh { IsFresh door.now job }
-                        ensures { HasServed (Stood M.stands M.is_booked) S.failures S.remaining
+                        ensures { HasServed (Stood M.stands M.booked) S.failures S.remaining
                             S.heard O.failures O.contents job result }
                     {
                         let setting = Setting {
@@ -189,6 +198,7 @@ where
                             policy,
                             stage,
                             turn,
+                            receipts,
                         };
                         play(&setting, job)
                     },
@@ -225,12 +235,13 @@ fn close_up<M: Machine + Drop, S: Drop, O: Drop>(
 
 /// Serves all processes at a door to this machine, each in a thread of its own, until every session
 /// has ended. The machine stands for the empty run under the policy. `peers` has the devices of
-/// each process, in order; they come back with how its session ended. No session begins before all
-/// threads have started, and every thread has ended when it returns.
+/// each process, in order; they come back with how its session ended. Before each reply to a call
+/// the desk is shown the receipt that the machine gave at the end of the call's turn. No session
+/// begins before all threads have started, and every thread has ended when it returns.
 ///
 /// `BadPeers` is answered exactly where there are not devices for each process, and no others.
 /// After a fault no call was made, and the machine was let go.
-pub fn serve_all<R, M, S, O>(
+pub fn serve_all<R, M, S, O, T>(
     rt: &R,
     alloc: Global,
     policy: &Policy,
@@ -239,12 +250,13 @@ pub fn serve_all<R, M, S, O>(
 ) -> Result<Served<M, S, O>, ServeFault>
 where
     R: Threads + Wait + Sync,
-    M: Machine + Send + Drop,
-    S: Desk<O> + Send + Drop,
+    M: Receipts<T> + Send + Drop,
+    S: ShowDesk<O, T> + Send + Drop,
     O: Sink + Send + Drop,
+    T: Receipt + Send + Drop,
     requires stands { M.stands policy.now machine [] }
     ensures served { IfOk result (λ served.
-        ServedAll S.failures S.remaining S.heard O.failures O.contents M.stands M.is_booked
+        ServedAll S.failures S.remaining S.heard O.failures O.contents M.stands M.booked
         policy.now peers.items served.sessions.items served.machine) }
     ensures bad_peers { IfErr result (λ fault.
         (fault ≡ ServeFault.BadPeers) ↔ (vec_len peers ≢ processes policy.now)) }
@@ -269,6 +281,7 @@ where
         policy,
         stage: &stage,
         turn: &turn,
+        receipts: PhantomData,
     };
     let Some(ended) = run_jobs(&setting, jobs, room) else {
         drop(door);

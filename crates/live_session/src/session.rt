@@ -5,27 +5,28 @@ ghost use Rattle.coll_text.specs.Reading.{parts};
 ghost use Rattle.hall_script.specs.Devices.{used};
 ghost use Rattle.hall_turn.specs.Answers.{IsSamePass};
 ghost use Rattle.live_session.specs.Sessions.{Stood, Serves, ServesIfBegun};
-ghost use Rattle.live_session.specs.Steps.{Holds, TakesIn, behind};
+ghost use Rattle.live_session.specs.Steps.{Holds, IsUnread, TakesIn, behind, showing};
 
-use crate::desk::Desk;
+use crate::desk::ShowDesk;
 use crate::ending::SessionEnd;
 use crate::line::{Lines, Unfinished};
 use crate::requests::Requests;
 use crate::seat::Seat;
 use crate::setting::Setting;
 use coll_text::Parts;
-use hall_turn::{Machine, PassTo};
+use hall_turn::{PassTo, Receipt, Receipts};
 use std::sync::Wait;
 use wall_labels::Sink;
 
-impl<'s, R: Wait, M: Machine> Setting<'s, R, M> {
+impl<'s, R: Wait, M: Receipts<T>, T: Receipt + Drop> Setting<'s, R, M, T> {
     // Acts on the lines that these bytes finish, and keeps the rest.
-    fn take_in<O: Sink>(
+    fn take_in<S: ShowDesk<O, T>, O: Sink>(
         &self,
         pass: &mut PassTo<M>,
         seat: &mut Seat,
         lines: &mut Lines,
         bytes: &[u8],
+        source: &mut S,
         sink: &mut O,
     ) -> Result<(), SessionEnd>
         requires door { pass.old.door ≡ self.now.door.now }
@@ -34,9 +35,11 @@ impl<'s, R: Wait, M: Machine> Setting<'s, R, M> {
         ensures none { OnOk result (lines.new.text.items ≡ []) }
         ensures same { IsSamePass pass.old pass.new }
         ensures legal { Legal self.now.policy.now pass.new.seen }
+        ensures unread { IsUnread S.failures S.remaining S.heard source.old source.new }
         ensures takes { (start : List ℕ) → Holds lines.old.line start →
-            TakesIn (Stood M.stands M.is_booked) self.now.policy.now pass.old
+            TakesIn (Stood M.stands M.booked) self.now.policy.now pass.old
             (behind start (parts 10 bytes.now)) lines.new.line
+            (showing S.heard source.old source.new)
             (used O.failures O.contents sink.old sink.new) pass.new result }
     {
         let mut parts = Parts::new(bytes, b'\n');
@@ -48,7 +51,7 @@ impl<'s, R: Wait, M: Machine> Setting<'s, R, M> {
             Err(_) => return Err(SessionEnd::NoMemory),
         }
         while let Some(part) = parts.next_long() {
-            match self.answer_line(pass, seat, lines, sink) {
+            match self.answer_line(pass, seat, lines, source, sink) {
                 Ok(()) => {}
                 Err(end) => return Err(end),
             }
@@ -61,7 +64,7 @@ impl<'s, R: Wait, M: Machine> Setting<'s, R, M> {
     }
 
     // A session from its first line to its end.
-    fn hold<S: Desk<O>, O: Sink>(
+    fn hold<S: ShowDesk<O, T>, O: Sink>(
         &self,
         pass: &mut PassTo<M>,
         seat: &mut Seat,
@@ -71,7 +74,7 @@ impl<'s, R: Wait, M: Machine> Setting<'s, R, M> {
         requires door { pass.old.door ≡ self.now.door.now }
         requires legal { Legal self.now.policy.now pass.old.seen }
         ensures same { IsSamePass pass.old pass.new }
-        ensures serves { Serves (Stood M.stands M.is_booked) S.heard self.now.policy.now
+        ensures serves { Serves (Stood M.stands M.booked) S.heard self.now.policy.now
             (used S.failures S.remaining source.old source.new)
             (used O.failures O.contents sink.old sink.new)
             pass.old pass.new result }
@@ -88,7 +91,7 @@ impl<'s, R: Wait, M: Machine> Setting<'s, R, M> {
             if n == 0 {
                 return SessionEnd::EndOfStream;
             }
-            match self.take_in(pass, seat, &mut lines, &buffer[..n], sink) {
+            match self.take_in(pass, seat, &mut lines, &buffer[..n], source, sink) {
                 Ok(()) => {}
                 Err(end) => return end,
             }
@@ -111,10 +114,11 @@ impl<'s, R: Wait, M: Machine> Setting<'s, R, M> {
     /// waits is told so too. Any other line is answered by `bad NAME`: then nothing was done, and
     /// the session goes on.
     ///
-    /// No turn is held while it reads, works out a delivery, writes or sleeps. The source is told
-    /// when the session begins, before its first line is read, and when it has ended; no turn and
-    /// no place of the stage is held meanwhile.
-    pub fn serve<S: Desk<O>, O: Sink>(
+    /// Before a reply is written the source is shown the receipt that the machine gave at the end of
+    /// the turn of its call. No turn is held while it reads, works out a delivery, shows, writes or
+    /// sleeps. The source is told when the session begins, before its first line is read, and when
+    /// it has ended; no turn and no place of the stage is held meanwhile.
+    pub fn serve<S: ShowDesk<O, T>, O: Sink>(
         &self,
         pass: &mut PassTo<M>,
         source: &mut S,
@@ -122,7 +126,7 @@ impl<'s, R: Wait, M: Machine> Setting<'s, R, M> {
     ) -> Option<SessionEnd>
         requires door { pass.old.door ≡ self.now.door.now }
         ensures same { IsSamePass pass.old pass.new }
-        ensures serves { ServesIfBegun (Stood M.stands M.is_booked) S.heard self.now.policy.now
+        ensures serves { ServesIfBegun (Stood M.stands M.booked) S.heard self.now.policy.now
             (used S.failures S.remaining source.old source.new)
             (used O.failures O.contents sink.old sink.new)
             pass.old pass.new result }

@@ -5,9 +5,10 @@ ghost use Rattle.std.specs.List.{All};
 use crate::devices::{Due, Heard, new_answers, new_client, nothing_heard};
 use crate::parties::wall;
 use hall_turn::{Door, Pass, Passes};
-use live_session::{Desk, SessionEnd, Setting};
+use live_session::{SessionEnd, Setting, ShowDesk};
 use rank_stage::Stage;
 use std::alloc::Global;
+use std::marker::PhantomData;
 use std::process::Abort;
 use std::sync::{Mutex, Wait};
 use std::test::Fail;
@@ -53,7 +54,7 @@ fn last<R: Abort>(rt: &R, door: &Door, passes: &mut Passes) -> Pass
 
 /// How the session ends of a process that is alone at a door under the policy, with these devices.
 /// None where it does not begin: `begins` says whether its stage is released or given up.
-pub(crate) fn end_alone<R: Abort + Wait, S: Desk<O>, O: Sink>(
+pub(crate) fn end_alone<R: Abort + Wait, S: ShowDesk<O, ()>, O: Sink>(
     rt: &R,
     alloc: Global,
     policy: &Policy,
@@ -72,6 +73,7 @@ pub(crate) fn end_alone<R: Abort + Wait, S: Desk<O>, O: Sink>(
         policy,
         stage: &stage,
         turn: &turn,
+        receipts: PhantomData,
     };
     let end = setting.serve(&mut pass, source, sink);
     drop(stage);

@@ -1,7 +1,7 @@
 //! The devices of these tests: lines and answers in memory, and desks that listen. A device can be
 //! told to wait at one of its calls until another has come far enough.
 
-use live_session::{Desk, SessionEnd};
+use live_session::{Desk, SessionEnd, ShowDesk};
 use std::alloc::{AllocError, Global};
 use std::sync::atomic::{AtomicU64, Ordering};
 use std::thread;
@@ -156,6 +156,10 @@ impl<'a> Desk<Answers<'a>> for Client<'a> {
         heard.expect(raise(&heard.closed) == 0 && is_at(&heard.opened, 1));
         heard.expect(end == self.due.end && calls == self.due.calls);
     }
+}
+
+impl<'a> ShowDesk<Answers<'a>, ()> for Client<'a> {
+    fn show(&mut self, _sink: &Answers<'a>, _receipt: &()) {}
 }
 
 /// The answers that are to come.

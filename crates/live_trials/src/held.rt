@@ -4,7 +4,7 @@
 use crate::devices::{Answers, Client, Due, Hold, hearers, new_answers, new_client, nothing_heard};
 use crate::machines::hall;
 use crate::parties::{many, wall};
-use live_session::{Desk, Peer, SessionEnd, serve_all};
+use live_session::{Desk, Peer, SessionEnd, ShowDesk, serve_all};
 use std::alloc::Global;
 use std::process::Abort;
 use std::sync::Wait;
@@ -150,6 +150,10 @@ impl<'a, R: Clock> Desk<Answers<'a>> for Late<'a, R> {
     fn close(&self, end: SessionEnd, calls: u64) {
         self.client.close(end, calls);
     }
+}
+
+impl<'a, R: Clock> ShowDesk<Answers<'a>, ()> for Late<'a, R> {
+    fn show(&mut self, _sink: &Answers<'a>, _receipt: &()) {}
 }
 
 /// Sessions that wait take no processor: 31 wait for one that comes a second late, and all together

@@ -3,7 +3,7 @@ ghost use Rattle.std.specs.Prelude.{◌≡◌, []};
 ghost use Rattle.hall_turn.specs.Machines.{Stands};
 
 use hall_core::{Call, Claim, Hall};
-use hall_turn::{Applied, Machine};
+use hall_turn::{Applied, Machine, Receipts};
 use std::alloc::Global;
 use std::process::Abort;
 use wall_policy::Policy;
@@ -38,11 +38,12 @@ impl Lapsing {
 }
 
 impl Machine for Lapsing {
+    ghost use Rattle.std.specs.Prelude.{None, Some, if◌then◌else◌};
     ghost use Rattle.hall_turn.specs.Machines.{Stands};
 
     ghost stands = { λ wall machine run. Stands wall machine.hall run };
 
-    ghost is_booked = { λ machine. machine.is_booked };
+    ghost booked = { λ machine. if machine.is_booked then Some None else None };
 
     fn apply(&mut self, call: Call) -> Applied {
         let applied = Machine::apply(&mut self.hall, call);
@@ -58,6 +59,12 @@ impl Machine for Lapsing {
 
     fn is_booked(&self) -> bool {
         self.is_booked
+    }
+}
+
+impl Receipts<()> for Lapsing {
+    fn receipt(&self) -> Option<()> {
+        if self.is_booked { Some(()) } else { None }
     }
 }
 

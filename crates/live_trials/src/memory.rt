@@ -2,7 +2,7 @@
 
 use crate::alone::end_alone;
 use crate::parties::wall;
-use live_session::{Desk, SessionEnd};
+use live_session::{Desk, SessionEnd, ShowDesk};
 use std::fs;
 use std::process::Abort;
 use std::rt::Files;
@@ -45,6 +45,10 @@ impl<'a, R: Files + AllocGlobal> Desk<ExpectingSink<'a>> for Measured<'a, R> {
     }
 
     fn close(&self, _end: SessionEnd, _calls: u64) {}
+}
+
+impl<'a, R: Files + AllocGlobal> ShowDesk<ExpectingSink<'a>, ()> for Measured<'a, R> {
+    fn show(&mut self, _sink: &ExpectingSink<'a>, _receipt: &()) {}
 }
 
 // How many pages more are resident at the end of these lines than before there was a door.

@@ -1,10 +1,10 @@
-//! No read comes between a line and its answer: seen by a desk that writes down, at each read, what
-//! had been written to the sink beside it.
-ghost use Rattle.std.specs.Prelude.{◌≡◌, map, Some};
+//! No read comes between a line and its answer, and a receipt is shown before each reply: seen by a
+//! desk that writes down, at each read and each receipt, what had been written to the sink beside it.
+ghost use Rattle.std.specs.Prelude.{◌≡◌, map, None, Some};
 
 use crate::alone::{ANSWERS, LINES, end_alone};
 use crate::parties::wall;
-use live_session::{Desk, SessionEnd};
+use live_session::{Desk, SessionEnd, ShowDesk};
 use std::alloc::Global;
 use std::collections::VecDeque;
 use std::process::Abort;
@@ -39,7 +39,8 @@ struct Read {
     written: Vec<u8>,
 }
 
-/// Lines that come in pieces, at a desk that writes down its reads, the newest first.
+/// Lines that come in pieces, at a desk that writes down its reads and what it was shown, the newest
+/// first.
 #[derive(Drop)]
 struct Watched<'a, R> {
     rt: &'a R,
@@ -47,6 +48,8 @@ struct Watched<'a, R> {
     lines: MemorySource<'a>,
     piece: usize,
     reads: VecDeque<Read>,
+    /// What had been written by each receipt.
+    shows: VecDeque<Vec<u8>>,
 }
 
 // These bytes once more.
@@ -64,8 +67,11 @@ impl<'a, R: Abort> Desk<Kept<'a, R>> for Watched<'a, R> {
 
     ghost failures = { λ s. failures_of s.lines.fuse };
 
-    ghost heard = { λ s. Some (map
-        (λ r. record { bytes = r.bytes.items; written = Some r.written.items }) s.reads.items) };
+    ghost heard = { λ s. record {
+      reads = Some (map (λ r. record { bytes = r.bytes.items; written = Some r.written.items })
+          s.reads.items);
+      shows = Some (map (λ w. record { covers = None; written = Some w.items }) s.shows.items);
+    } };
 
     fn open(&self) {}
 
@@ -80,6 +86,14 @@ impl<'a, R: Abort> Desk<Kept<'a, R>> for Watched<'a, R> {
     }
 
     fn close(&self, _end: SessionEnd, _calls: u64) {}
+}
+
+impl<'a, R: Abort> ShowDesk<Kept<'a, R>, ()> for Watched<'a, R> {
+    fn show(&mut self, sink: &Kept<'a, R>, _receipt: &()) {
+        let written = copy(self.rt, self.alloc, sink.bytes.as_slice());
+        let is_kept = self.shows.push_front(written).is_ok();
+        assert!(self.rt; is_kept);
+    }
 }
 
 // How many lines end in these bytes.
@@ -105,6 +119,24 @@ fn is_prompt(reads: &VecDeque<Read>, answers: &[u8]) -> bool {
     true
 }
 
+// How many bytes are written before each answer that is a reply to a call.
+const SHOWN_AT: &[usize] = &[0, 56, 78, 87, 101];
+
+// Whether a receipt was shown before each reply, with nothing of it written yet, and no other.
+fn are_shown(shows: &VecDeque<Vec<u8>>, answers: &[u8]) -> bool {
+    let mut due = SHOWN_AT;
+    for written in shows.iter().rev() {
+        let Some((at, later)) = due.split_first() else {
+            return false;
+        };
+        if answers.get(..*at) != Some(written.as_slice()) {
+            return false;
+        }
+        due = later;
+    }
+    due.is_empty()
+}
+
 // A desk with these lines, of which so many bytes come at a time.
 fn make_watched<'a, R: Abort>(rt: &'a R, alloc: Global, piece: usize) -> Watched<'a, R> {
     let lines = MemorySource {
@@ -112,12 +144,14 @@ fn make_watched<'a, R: Abort>(rt: &'a R, alloc: Global, piece: usize) -> Watched
         fuse: Fuse::Whole,
     };
     let reads = VecDeque::new(alloc);
+    let shows = VecDeque::new(alloc);
     Watched {
         rt,
         alloc,
         lines,
         piece,
         reads,
+        shows,
     }
 }
 
@@ -130,11 +164,11 @@ fn is_served_promptly<R: Abort + Wait>(rt: &R, alloc: Global, piece: usize) -> b
     let end = end_alone(rt, alloc, &policy, true, &mut source, &mut sink);
     let answers = ANSWERS.as_bytes();
     let is_whole = end == Some(SessionEnd::EndOfStream) && sink.bytes.as_slice() == answers;
-    is_whole && is_prompt(&source.reads, answers)
+    is_whole && is_prompt(&source.reads, answers) && are_shown(&source.shows, answers)
 }
 
 #[test]
-fn lines_are_answered_before_the_next_read(rt: HostRuntime) {
+fn receipts_and_answers_come_before_the_next_read(rt: HostRuntime) {
     for piece in [1, 2, 3, 7, 30, 64, usize::MAX] {
         let is = is_served_promptly(&rt, rt.alloc(), piece);
         assert!(&rt; is, "{piece} bytes at a time");
@@ -159,4 +193,31 @@ fn early_reads_are_noticed(rt: HostRuntime) {
     let early = source.hear(&sink, &mut buffer);
     assert!(&rt; third.is_ok() && half.is_ok() && early.is_ok());
     assert!(&rt; !is_prompt(&source.reads, answers));
+}
+
+/// Receipts that are shown late, twice or not at all are noticed.
+#[test]
+fn late_receipts_are_noticed(rt: HostRuntime) {
+    let answers = ANSWERS.as_bytes();
+    let mut source = make_watched(&rt, rt.alloc(), 10);
+    let bytes = Vec::new(rt.alloc());
+    let mut sink = Kept { rt: &rt, bytes };
+    assert!(&rt; !are_shown(&source.shows, answers));
+    for at in SHOWN_AT {
+        sink.bytes.clear();
+        let put = sink.write(answers.get(..*at).unwrap_or(&[]));
+        source.show(&sink, &());
+        assert!(&rt; put.is_ok());
+    }
+    assert!(&rt; are_shown(&source.shows, answers));
+    source.show(&sink, &());
+    assert!(&rt; !are_shown(&source.shows, answers));
+    source.shows.clear();
+    for at in SHOWN_AT {
+        sink.bytes.clear();
+        let put = sink.write(answers.get(..*at + 1).unwrap_or(&[]));
+        source.show(&sink, &());
+        assert!(&rt; put.is_ok());
+    }
+    assert!(&rt; !are_shown(&source.shows, answers));
 }

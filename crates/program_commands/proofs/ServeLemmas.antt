@@ -1,16 +1,22 @@
 -- Serving that began, and serving that did not.
 use Rattle.std.proofs.Common.{◌≡◌, ◌≢◌, ◌↔◌, ◌∙◌, inl, ℕ, List, [], length, Option, Some, None}
 use Rattle.std.proofs.Common.{refl, sym, subst}
+use Rattle.std.specs.Io.KnownBytes.{Appends}
 use Rattle.wall_policy.specs.Policy.{ChineseWall}
 use Rattle.run_model.specs.Comms.{processes}
+use Rattle.run_model.specs.Runs.{Entry}
+use Rattle.hall_turn.specs.Receipts.{Covered}
+use Rattle.live_book.specs.declared.unbooked.Unbooked.{Unbooked}
+use Rattle.live_book.specs.Books.{IsWritten, SinkValue, book_of, text_so_far, unless_cut}
 use Rattle.live_session.specs.declared.peer.Peer.{Peer}
 use Rattle.live_session.specs.declared.run.ServeFault.{ServeFault}
 use Rattle.live_session.specs.declared.run.ServeFault.TheVariants as serves
 use Rattle.program_commands.specs.declared.ending.Ending.{Ending}
 use Rattle.live_session.specs.declared.peer.Session.{Session}
-use Rattle.live_session.specs.Hearing.{Heard}
+use Rattle.live_session.specs.Hearing.{DeskLog}
 use Rattle.program_commands.specs.declared.ending.Ending.TheVariants.{BadArguments}
 use Rattle.program_commands.specs.Serving.{serve_ending, IsUnserved, ServeEnds}
+use Rattle.program_commands.specs.Serving.{ReceiptsCoverTheBook}
 
 module _ {S O B : Type 0} (spoilt : B → ℕ) (kept : B → Option (List ℕ)) (wall : ChineseWall)
     (peers : List (Peer S O)) where
@@ -31,7 +37,7 @@ module _ {S O B : Type 0} (spoilt : B → ℕ) (kept : B → Option (List ℕ)) 
       rw so (rw none (gone book fault (sym long ∙ same) is'))
 
 module _ {S O B : Type 0} (fails : S → ℕ) (left : S → Option (List ℕ))
-    (heard : S → Option (List Heard)) (failures : O → ℕ) (contents : O → Option (List ℕ))
+    (heard : S → DeskLog) (failures : O → ℕ) (contents : O → Option (List ℕ))
     (spoilt : B → ℕ) (kept lasting : B → Option (List ℕ)) (wall : ChineseWall)
     (peers : List (Peer S O)) where
   -- there are not devices for each process, and no others
@@ -41,3 +47,19 @@ module _ {S O B : Type 0} (fails : S → ℕ) (left : S → Option (List ℕ))
       BadArguments
   misfit None back sessions other same none = inl ((other, same), none)
   misfit (Some old) back sessions other same none = inl ((other, same), none)
+
+-- what a writer has that has the book so far
+covers_by : (wall : ChineseWall) (begun sink : SinkValue) (fault : Option Unbooked)
+    (run : List Entry) (bytes : Covered) → IsWritten wall begun sink fault run →
+    Some bytes ≡ unless_cut fault sink.contents →
+    Appends begun.contents bytes (text_so_far wall (book_of wall run))
+covers_by wall begun sink None run bytes w is =
+    let same : bytes ≡ sink.contents = cc in
+    subst (λ (k : Covered). Appends begun.contents k (text_so_far wall (book_of wall run)))
+    (sym same) w.written
+covers_by wall begun sink (Some fault) run bytes w is = absurd cc
+
+pub receipts_cover : ReceiptsCoverTheBook
+receipts_cover begun wall run bytes (machine, (stands, same), is) =
+    subst (λ (v : SinkValue). Appends v.contents bytes (text_so_far wall (book_of wall run))) same
+    (covers_by wall machine.begun machine.sink machine.fault run bytes stands.book is)

@@ -1,22 +1,25 @@
 -- How serving ends, each process at devices of its own.
-use Rattle.std.specs.Prelude.{◌≡◌, ◌≢◌, ◌⊎◌, ℕ, Bool, List, [], ◌++◌, length, codes, Option, Some}
+use Rattle.std.specs.Prelude.{◌≡◌, ◌≢◌, ◌⊎◌, ℕ, List, [], ◌++◌, length, codes, Option, Some}
 use Rattle.std.specs.Prelude.{None}
+use Rattle.std.specs.Io.KnownBytes.{Appends}
 use Rattle.wall_policy.specs.Policy.{ChineseWall}
 use Rattle.run_model.specs.Comms.{processes}
 use Rattle.run_model.specs.Runs.{Entry}
 use Rattle.audit_book.specs.Text.{header_words, line_of}
 use Rattle.hall_script.specs.Devices.{used}
 use Rattle.hall_turn.specs.Machines.{Stands}
+use Rattle.hall_turn.specs.Receipts.{Covered}
 use Rattle.live_book.specs.declared.unbooked.Unbooked.{Unbooked}
 use Rattle.live_book.specs.declared.unbooked.Unbooked.TheVariants as unbookeds
-use Rattle.live_book.specs.Books.{StandsBehind, is_all_booked}
+use Rattle.live_book.specs.Books.{SinkValue, StandsBehind, book_of, covered, text_so_far}
 use Rattle.live_book.specs.Machines.{has_no_book}
 use Rattle.live_book.specs.Writing.{sink_value}
 use Rattle.live_session.specs.declared.peer.Peer.{Peer}
 use Rattle.live_session.specs.declared.peer.Session.{Session}
 use Rattle.live_session.specs.declared.run.ServeFault.{ServeFault}
 use Rattle.live_session.specs.declared.run.ServeFault.TheVariants as serves
-use Rattle.live_session.specs.Hearing.{Heard}
+use Rattle.live_session.specs.Hearing.{DeskLog}
+use Rattle.live_session.specs.Sessions.{Stood}
 use Rattle.live_session.specs.Served.{ServedAll}
 use Rattle.program_commands.specs.declared.ending.Ending.{Ending}
 use Rattle.program_commands.specs.declared.ending.Ending.TheVariants.{Done, WriteFault, NoThread}
@@ -75,19 +78,20 @@ module _ {B : Type 0} (spoilt : B → ℕ) (kept : B → Option (List ℕ)) wher
 -- ---- all sessions
 
 module _ {S O : Type 0} (fails : S → ℕ) (left : S → Option (List ℕ))
-    (heard : S → Option (List Heard)) (failures : O → ℕ) (contents : O → Option (List ℕ)) where
+    (heard : S → DeskLog) (failures : O → ℕ) (contents : O → Option (List ℕ)) where
   -- All sessions have ended, at such a machine, in a legal run in which the calls of each process
   -- are those of its session; and this is so of that very run.
-  abbrev pub HaveEndedIn : {M : Type 0} → (ChineseWall → M → List Entry → Type 0) → (M → Bool) →
-      ChineseWall → List (Peer S O) → List (Session S O) → (List Entry → Type 0) → Type 0
-  HaveEndedIn {M = M} stands is_booked wall peers sessions IsSoOf = (machine : M)
-      × (served : ServedAll fails left heard failures contents stands is_booked wall peers sessions
+  abbrev pub HaveEndedIn : {M : Type 0} → (ChineseWall → M → List Entry → Type 0) →
+      (M → Option Covered) → ChineseWall → List (Peer S O) → List (Session S O) → (List Entry → Type 0) → Type 0
+  HaveEndedIn {M = M} stands booked wall peers sessions IsSoOf = (machine : M)
+      × (served : ServedAll fails left heard failures contents stands booked wall peers sessions
       machine) × IsSoOf served.run
 
   module _ {B : Type 0} (spoilt : B → ℕ) (kept lasting : B → Option (List ℕ)) where
     -- How serving ends: no session began; or all have ended. Where there is a book, no reply was
-    -- told before its entries were written behind what the writer had at first, and the writer came
-    -- back with the whole text of the run's book, or with a beginning of it and why no more.
+    -- told before its desk was shown a receipt of the writer, which covers, behind what the writer
+    -- had at first, the text of the book of the run up to the reply's call; and the writer came back
+    -- with the whole text of the run's book, or with a beginning of it and why no more.
     abbrev pub ServeEnds : ChineseWall → List (Peer S O) → (book : Option B) → List (Session S O) →
         (back : Option B) → Ending → Type 0
     ServeEnds wall peers None sessions back ending =
@@ -96,6 +100,16 @@ module _ {S O : Type 0} (fails : S → ℕ) (left : S → Option (List ℕ))
         (λ run. (ending ≡ Done) × (back ≡ None))
     ServeEnds wall peers (Some old) sessions back ending =
         (IsUnserved spoilt kept wall peers (Some old) back ending × (sessions ≡ []))
-        ⊎ HaveEndedIn (StandsBehind (sink_value kept lasting spoilt old)) is_all_booked wall peers
+        ⊎ HaveEndedIn (StandsBehind (sink_value kept lasting spoilt old)) covered wall peers
         sessions (λ run. (new : B) × (back ≡ Some new)
         × Writes (used spoilt kept old new) (text_of wall run) ending)
+
+-- ---- receipts
+
+-- What a receipt says that was shown before a reply: behind what the writer had at first, it had,
+-- when it gave the receipt, the text of the book of the run up to the reply's call, but for the
+-- last line.
+abbrev pub ReceiptsCoverTheBook : Type 0
+ReceiptsCoverTheBook = (begun : SinkValue) (wall : ChineseWall) (run : List Entry)
+    (bytes : Covered) → Stood (StandsBehind begun) covered wall run (Some bytes) →
+    Appends begun.contents bytes (text_so_far wall (book_of wall run))

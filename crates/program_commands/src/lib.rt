@@ -27,7 +27,7 @@ pub use replay::{replay_after, replay_on};
 pub use report::{ReportFiles, report_on};
 pub use run::{run_after, run_on};
 pub use seal::seal_on;
-pub use serve::{ServeEnd, serve_on};
+pub use serve::{ServeEnd, receipts_cover_the_book, serve_on};
 pub use text::text_on;
 pub use unready::{Unready, refuse};
 pub use wall::read_wall;

@@ -10,11 +10,11 @@ ghost use Rattle.live_book.specs.Writing.{sink_value};
 ghost use Rattle.program_commands.specs.Endings.{EndsSo, IsTold, Writes, error_line, status_of};
 ghost use Rattle.program_commands.specs.Replaying.{text_of};
 ghost use Rattle.program_commands.specs.Serving.{ServeEnds, book_ending, first_line};
-ghost use Rattle.program_commands.specs.Serving.{serve_ending};
+ghost use Rattle.program_commands.specs.Serving.{ReceiptsCoverTheBook, serve_ending};
 
 use crate::ending::{Ending, end};
 use live_book::{Begun, BookSink, BookedHall, BooklessHall, Finished, Unbooked, Unopened};
-use live_session::{Desk, Peer, ServeFault, Served, Session, serve_all};
+use live_session::{Peer, ServeFault, Served, Session, ShowDesk, serve_all};
 use std::alloc::Global;
 use std::marker::Brand;
 use std::sync::Wait;
@@ -93,8 +93,9 @@ fn serve_bookless<R, S, O, E: Sink, B: BookSink>(
 ) -> ServeEnd<S, O, B>
 where
     R: Threads + Wait + Sync,
-    S: Desk<O> + Send + Drop,
+    S: ShowDesk<O, Option<B::Receipt>> + Send + Drop,
     O: Sink + Send + Drop,
+    B::Receipt: Send,
     requires { vec_len peers ≡ processes policy.now }
     ensures { EndsSo
         (ServeEnds S.failures S.remaining S.heard O.failures O.contents B.failures B.contents
@@ -105,7 +106,7 @@ where
     let Ok(hall) = bookless_hall(alloc, policy) else {
         return unserved(alloc, err, Ending::NoMemory, None);
     };
-    match serve_all(rt, alloc, policy, hall, peers) {
+    match serve_all::<_, _, _, _, Option<B::Receipt>>(rt, alloc, policy, hall, peers) {
         Ok(served) => {
             let Served { sessions, machine } = served;
             drop(machine);
@@ -166,9 +167,10 @@ fn serve_booked<R, S, O, E: Sink, B, K: Begun + Send>(
 ) -> ServeEnd<S, O, B>
 where
     R: Threads + Wait + Sync,
-    S: Desk<O> + Send + Drop,
+    S: ShowDesk<O, Option<B::Receipt>> + Send + Drop,
     O: Sink + Send + Drop,
     B: BookSink + Send + Drop,
+    B::Receipt: Send,
     requires begun { K.begun ≡ sink_value B.contents B.lasting B.failures book }
     requires peers { vec_len peers ≡ processes policy.now }
     ensures { EndsSo
@@ -184,7 +186,7 @@ where
             return unserved(alloc, err, book_ending(fault), Some(sink));
         }
     };
-    match serve_all(rt, alloc, policy, machine, peers) {
+    match serve_all::<_, _, _, _, Option<B::Receipt>>(rt, alloc, policy, machine, peers) {
         Ok(served) => {
             let Served { sessions, machine } = served;
             let (sink, ending) = finish(machine);
@@ -203,8 +205,10 @@ where
 /// devices, until the session of each has ended; `peers` has their devices, in order. Where there
 /// is a `book`, the audit book of that run is written to it while it runs: its first line before
 /// any session begins, the entries of each call before the call's reply is told, and its last line
-/// when all sessions have ended. It writes the line of a fault to `err`, and gives the status, with
-/// the devices and the book's writer as they have come back.
+/// when all sessions have ended. Before each reply the desk is shown a receipt, which the book's
+/// writer gave at the end of the call's turn, and none where no book is kept. It writes the line of
+/// a fault to `err`, and gives the status, with the devices and the book's writer as they have come
+/// back.
 ///
 /// A session whose devices fail has ended, and no more: the others go on, and the status is that of
 /// the book. Where the book can't be written any more, who calls from then on is told `unbooked`.
@@ -221,9 +225,10 @@ pub fn serve_on<R, S, O, E: Sink, B>(
 ) -> ServeEnd<S, O, B>
 where
     R: Threads + Wait + Sync,
-    S: Desk<O> + Send + Drop,
+    S: ShowDesk<O, Option<B::Receipt>> + Send + Drop,
     O: Sink + Send + Drop,
     B: BookSink + Send + Drop,
+    B::Receipt: Send,
     ensures { EndsSo
         (ServeEnds S.failures S.remaining S.heard O.failures O.contents B.failures B.contents
         B.lasting policy.now peers.items book result.sessions.items result.book)
@@ -238,3 +243,10 @@ where
         None => serve_bookless(rt, alloc, policy, peers, err),
     }
 }
+
+/// What a receipt says that a desk was shown before a reply, where there is a book: what the book's
+/// writer had when it gave the receipt, which was at the end of the turn of the reply's call.
+#[tactic(auto, using(crate::proofs::ServeLemmas::receipts_cover))]
+pub fn receipts_cover_the_book()
+    ensures { ReceiptsCoverTheBook }
+{}

@@ -2,8 +2,8 @@
 //! is written while they are, and how it ends.
 use crate::endings::{sink, source};
 use crate::runs::ALONE;
-use live_book::BookSink;
-use live_session::{Desk, Peer, Session, SessionEnd};
+use live_book::{BookSink, Receipt};
+use live_session::{Desk, Peer, Session, SessionEnd, ShowDesk};
 use program_commands::{Ending, ServeEnd, Unready, read_wall, refuse, serve_on};
 use std::alloc::{AllocError, Global};
 use std::process::Abort;
@@ -47,6 +47,10 @@ impl<'a> Desk<ExpectingSink<'a>> for Lines<'a> {
     fn close(&self, _end: SessionEnd, _calls: u64) {}
 }
 
+impl<'a, T: Receipt> ShowDesk<ExpectingSink<'a>, T> for Lines<'a> {
+    fn show(&mut self, _sink: &ExpectingSink<'a>, _receipt: &T) {}
+}
+
 // A writer that keeps what it is given, as long as there is memory.
 #[derive(Drop)]
 struct Keeping {
@@ -65,15 +69,26 @@ impl Sink for Keeping {
 }
 
 impl BookSink for Keeping {
+    type Receipt = ();
+
     fn settled(&mut self) -> Result<(), Failed> {
         Ok(())
     }
+
+    fn receipt(&self) {}
 }
+
+// How many bytes a book had.
+#[derive(Drop)]
+struct Length(usize);
+
+impl Receipt for Length {}
 
 // A book that is to come. It fails at one of its writes, or never.
 #[derive(Drop)]
 struct Due<'a> {
     book: ExpectingSink<'a>,
+    written: usize,
 }
 
 impl<'a> Due<'a> {
@@ -88,19 +103,28 @@ impl<'a> Sink for Due<'a> {
     ghost failures = { λ s. failures_of s.book.fuse };
 
     fn write(&mut self, bytes: &[u8]) -> Result<usize, Failed> {
-        self.book.write(bytes)
+        let n = self.book.write(bytes)?;
+        self.written = self.written.saturating_add(n);
+        Ok(n)
     }
 }
 
 impl<'a> BookSink for Due<'a> {
+    type Receipt = Length;
+
     fn settled(&mut self) -> Result<(), Failed> {
         Ok(())
+    }
+
+    fn receipt(&self) -> Length {
+        Length(self.written)
     }
 }
 
 fn expecting<'a>(book: &'a str, fuse: Fuse) -> Due<'a> {
     Due {
         book: sink(book.as_bytes(), fuse),
+        written: 0,
     }
 }
 
@@ -268,6 +292,87 @@ const SILENT: &[Talk] = &[Talk {
 fn books_of_sessions_are_kept(rt: HostRuntime) -> Result<(), Fail> {
     assert!(&rt; serves_so(&rt, ALONE, ALONE_TALKS, ALONE_BOOK, "", 0)?);
     assert!(&rt; serves_so(&rt, ALONE, SILENT, "book 1\nend 0\n", "", 0)?);
+    Ok(())
+}
+
+// The lines of a process, at a desk that looks how much of the book there is before each reply.
+#[derive(Drop)]
+struct Looking<'a> {
+    lines: MemorySource<'a>,
+    due: &'a [usize],
+    is_due: bool,
+}
+
+impl<'a> Desk<ExpectingSink<'a>> for Looking<'a> {
+    ghost use Rattle.wall_labels.specs.Fuses.{failures_of};
+
+    ghost failures = { λ s. failures_of s.lines.fuse };
+
+    fn open(&self) {}
+
+    fn hear(&mut self, _sink: &ExpectingSink<'a>, buffer: &mut [u8]) -> Result<usize, Failed> {
+        self.lines.read(buffer)
+    }
+
+    fn close(&self, _end: SessionEnd, _calls: u64) {}
+}
+
+impl<'a> ShowDesk<ExpectingSink<'a>, Option<Length>> for Looking<'a> {
+    fn show(&mut self, _sink: &ExpectingSink<'a>, receipt: &Option<Length>) {
+        let Some((due, later)) = self.due.split_first() else {
+            self.is_due = false;
+            return;
+        };
+        match receipt {
+            Some(length) => self.is_due = self.is_due && length.0 == *due,
+            None => self.is_due = false,
+        }
+        self.due = later;
+    }
+}
+
+// The book of `ALONE_BOOK`, before each of these replies: its first line, and then all but the last.
+const ALONE_LOOKS: &str =
+    "info 0\npost 0 bcast 0 int32 1 as alpha 5\nfoo\nwait 0\ntake 0\n";
+
+const ALONE_SEEN: &[usize] = &[7, 76, 76, 76];
+
+// Whether the book had these lengths as replies were told to a process alone.
+fn sees_so(rt: &HostRuntime, seen: &[usize]) -> Result<bool, Fail> {
+    let wall = wall(rt, ALONE).expect(rt, "the policy is refused");
+    let mut peers = Vec::new(rt.alloc());
+    let lines = source(ALONE_LOOKS.as_bytes(), Fuse::Whole);
+    let answers = "info size 1 rank 0\nposted 0\nbad BadVerb\ndelivered none\nrefused NoSuchRequest\n";
+    peers.push(Peer {
+        source: Looking {
+            lines,
+            due: seen,
+            is_due: true,
+        },
+        sink: sink(answers.as_bytes(), Fuse::Whole),
+    })?;
+    let mut err = sink(b"", Fuse::Whole);
+    let kept = Some(expecting(ALONE_BOOK, Fuse::Whole));
+    let ended = serve_on(rt, rt.alloc(), &wall, peers, &mut err, kept);
+    let ServeEnd {
+        status,
+        mut sessions,
+        book,
+    } = ended;
+    let session = sessions.pop().expect(rt, "no session");
+    let Looking { due, is_due, .. } = &session.peer.source;
+    let is_told = session.peer.sink.is_same && session.peer.sink.rest.is_empty();
+    assert!(rt; status == 0 && is_told && is_kept(&book));
+    Ok(*is_due && due.is_empty())
+}
+
+// Before each reply the desk is shown a receipt of the book's own writer, which had the entries of
+// all calls by then.
+#[test]
+fn entries_are_written_before_a_reply(rt: HostRuntime) -> Result<(), Fail> {
+    assert!(&rt; sees_so(&rt, ALONE_SEEN)?);
+    assert!(&rt; !sees_so(&rt, &[7, 7, 76, 76])?);
+    assert!(&rt; !sees_so(&rt, &[7, 76, 76])?);
     Ok(())
 }
 

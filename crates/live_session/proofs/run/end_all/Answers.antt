@@ -16,7 +16,7 @@ loop-handle-preserved g c =
     record {
       whole = append_assoc done (h ∷ []) (into_iter_items c.next.new.self)
           ∙ ap (λ l. done ++ l) (sym c.in-Some.ensures.steps.0) ∙ i.whole;
-      served = more_served (Stood g.M.Machine.stands g.M.Machine.is_booked)
+      served = more_served (Stood g.M.Machine.stands g.M.Machine.booked)
           g.S.Desk.failures g.S.Desk.remaining g.S.Desk.heard g.O.Sink.failures
           g.O.Sink.contents done h c.loop-handle.ended.items c.push_reserved.new.self.items
           c.join.result i.served c.join.ensures push.items;

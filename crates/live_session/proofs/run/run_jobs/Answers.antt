@@ -13,6 +13,7 @@ scoped-served-requires g c =
     let m = c.type_bounds.send-M in
     let s = c.type_bounds.send-S in
     let o = c.type_bounds.send-O in
+    let t = c.type_bounds.send-T in
     let y = c.type_bounds.sync-R in
     record {
       at = λ a. (
@@ -36,6 +37,10 @@ scoped-served-requires g c =
                   owned = o.owned;
                   leaving = λ k. Quiet-if (k (of_param 3)) unseen unseen (λ x w. tt) (λ x w. tt);
                 },
+                record {
+                  owned = t.owned;
+                  leaving = λ k. Quiet-if (k (of_param 4)) unseen unseen (λ x w. tt) (λ x w. tt);
+                },
                 record { shared = y.shared },
               ),
             ),
@@ -48,7 +53,7 @@ pub sort_out-requires-clause-passes : goal.sort_out-requires-clause-passes
 sort_out-requires-clause-passes g c =
     let o = c.in-Ok.all.ok in
     let j = c.args.jobs.ok in
-    let l = served_long (Stood g.M.Machine.stands g.M.Machine.is_booked)
+    let l = served_long (Stood g.M.Machine.stands g.M.Machine.booked)
     g.S.Desk.failures g.S.Desk.remaining g.S.Desk.heard g.O.Sink.failures
     g.O.Sink.contents
     c.args.jobs.items c.in-Ok.all.items c.in-Ok.ensures.1 in
@@ -59,7 +64,7 @@ pub sort_out-requires-clause-sessions : goal.sort_out-requires-clause-sessions
 sort_out-requires-clause-sessions g c =
     let o = c.in-Ok.all.ok in
     let j = c.args.jobs.ok in
-    let l = served_long (Stood g.M.Machine.stands g.M.Machine.is_booked)
+    let l = served_long (Stood g.M.Machine.stands g.M.Machine.booked)
     g.S.Desk.failures g.S.Desk.remaining g.S.Desk.heard g.O.Sink.failures
     g.O.Sink.contents
     c.args.jobs.items c.in-Ok.all.items c.in-Ok.ensures.1 in

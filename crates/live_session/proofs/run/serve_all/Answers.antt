@@ -12,7 +12,7 @@ run_jobs-requires-clause-fresh g c κs within =
 pub close_up-requires-clause-of : goal.close_up-requires-clause-of
 close_up-requires-clause-of g c =
     let r = c.in-Ok.ready in
-    come_back (Stood g.M.Machine.stands g.M.Machine.is_booked)
+    come_back (Stood g.M.Machine.stands g.M.Machine.booked)
     g.S.Desk.failures g.S.Desk.remaining g.S.Desk.heard g.O.Sink.failures
     g.O.Sink.contents
     c.args.policy.now c.args.peers.items r.door r.jobs.items c.in-Some.ended
@@ -21,7 +21,7 @@ close_up-requires-clause-of g c =
 pub close_up-requires-clause-all : goal.close_up-requires-clause-all
 close_up-requires-clause-all g c =
     let r = c.in-Ok.ready in
-    all_come (Stood g.M.Machine.stands g.M.Machine.is_booked)
+    all_come (Stood g.M.Machine.stands g.M.Machine.booked)
     g.S.Desk.failures g.S.Desk.remaining g.S.Desk.heard g.O.Sink.failures g.O.Sink.contents
     c.args.policy.now c.args.peers.items r.door r.jobs.items c.in-Some.ended
     c.in-Ok.ensures.prepared c.in-Some.ensures
@@ -30,10 +30,10 @@ pub returns-clause-served : goal.returns-clause-served
 returns-clause-served g c =
     let r = c.in-Ok.ready in
     subst (λ v. ServedAll g.S.Desk.failures g.S.Desk.remaining g.S.Desk.heard g.O.Sink.failures
-    g.O.Sink.contents g.M.Machine.stands g.M.Machine.is_booked c.args.policy.now c.args.peers.items
+    g.O.Sink.contents g.M.Machine.stands g.M.Machine.booked c.args.policy.now c.args.peers.items
     v.items c.close_up.result.machine)
     (sym c.close_up.ensures.sessions)
-    (served_all g.M.Machine.stands g.M.Machine.is_booked g.S.Desk.failures g.S.Desk.remaining
+    (served_all g.M.Machine.stands g.M.Machine.booked g.S.Desk.failures g.S.Desk.remaining
     g.S.Desk.heard g.O.Sink.failures g.O.Sink.contents c.args.policy.now c.args.peers.items r.door
     r.jobs.items c.in-Some.ended c.in-Ok.ensures.prepared c.in-Some.ensures
     c.close_up.result.machine c.close_up.ensures.machine)

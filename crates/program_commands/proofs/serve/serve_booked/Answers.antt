@@ -1,6 +1,6 @@
 use Rattle.std.proofs.Common.{◌≡◌, Some, inl, inr, refl, subst}
 use Rattle.hall_script.specs.Devices.{used}
-use Rattle.live_book.specs.Books.{SinkValue, StandsBehind, is_all_booked}
+use Rattle.live_book.specs.Books.{SinkValue, StandsBehind, covered}
 use Rattle.program_commands.specs.Endings.{Writes}
 use Rattle.program_commands.specs.Replaying.{text_of}
 use Rattle.program_commands.specs.Serving.{HaveEndedIn}
@@ -19,7 +19,7 @@ returns-in-Ok-serve_all g c =
     let all = c.in-Ok-serve_all.ensures.served in (
       ending,
       inr (subst (λ (v : SinkValue). HaveEndedIn g.S.Desk.failures g.S.Desk.remaining
-          g.S.Desk.heard g.O.Sink.failures g.O.Sink.contents (StandsBehind v) is_all_booked wall
+          g.S.Desk.heard g.O.Sink.failures g.O.Sink.contents (StandsBehind v) covered wall
           c.args.peers.items served.sessions.items
           (λ run. (back : _) × (Some new ≡ Some back)
           × Writes (used spoilt kept book back) (text_of wall run) ending)) c.requires.begun (

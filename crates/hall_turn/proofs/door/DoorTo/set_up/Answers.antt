@@ -1,4 +1,4 @@
-use Rattle.std.proofs.Common.{arith}
+use Rattle.std.proofs.Common.{◌∙◌, ◌++◌, ◌∷◌, [], Some, ap, arith}
 use Rattle.hall_turn.proofs.KeepLemmas.{opens}
 use Rattle.hall_turn.proofs.door.DoorTo.set_up.Goals as goal
 
@@ -8,5 +8,6 @@ new-requires g c =
     let count = r.count in
     let some = r.some in
     opens g.M.Machine.stands c.args.key.now.value c.args.machine c.push.new.self.items
-    (cc (c.in_ok-push.ensures.items, c.new-slots.ensures.items)) r.stands (omega arith)
+    (c.in_ok-push.ensures.items
+    ∙ ap (λ l. l ++ Some c.args.machine ∷ []) c.new-slots.ensures.items) r.stands (omega arith)
     (omega arith)

@@ -1,4 +1,5 @@
 use Rattle.std.proofs.Common.{◌∙◌, sym, ap, subst, refl, List, ℕ, Option}
+use Rattle.std.specs.Prelude.{◌≡◌, is_some}
 use Rattle.hall_turn.specs.Machines.{Carries}
 use Rattle.hall_turn.specs.Views.{drawn}
 use Rattle.hall_turn.proofs.TurnLemmas.{ready, may_apply, holds_one, stood_after}
@@ -46,11 +47,12 @@ pub returns-clause-stood : goal.returns-clause-stood
 returns-clause-stood g c =
     let reply = g.D.Deed.reply c.carry_out_in-told.result in
     let k = c.carry_out_in-told.ensures.carries in
-    stood_after g.M.Machine.stands c.args.seat.now.me.0 c.draw-ticket.new.seat.me
+    let stood = stood_after g.M.Machine.stands c.args.seat.now.me.0 c.draw-ticket.new.seat.me
     c.await_turn.new.seat.me
     _ c.declare.new.seat.me c.serve.new.seat.me c.slot_mut-slot.result.now
     c.carry_out_in-told.new.slot (g.D.Deed.call c.of-asked.result.value) reply
-    g.M.Machine.is_booked c.carry_out_in-told.new.booked
+    (λ machine. (c.carry_out_in-told.new.booked ≡ is_some (g.M.Machine.booked machine))
+    × g.N.Noting.notes c.carry_out_in-told.new.noted (g.M.Machine.booked machine))
     (ap (λ m. m.0.policy) c.draw-ticket.ensures.draws) c.await_turn.ensures.holds
     c.slot_mut-slot.ensures.value refl c.declare.ensures.declares c.serve.ensures.serves (
       k.0,
@@ -60,4 +62,7 @@ returns-clause-stood g c =
       subst (λ x. Carries g.M.Machine.stands k.0 k.1 (g.D.Deed.call x) reply)
           (sym c.of-asked.ensures) k.4,
     )
-    c.carry_out_in-told.ensures.booked
+    (λ new is. (
+      c.carry_out_in-told.ensures.booked new is,
+      c.carry_out_in-told.ensures.notes new is,
+    )) in (stood.0, stood.1, stood.2.0, stood.2.1)

@@ -17,7 +17,7 @@ loop-init g c =
       none = c.new-text.ensures.items;
       same = (refl, refl);
       legal = c.requires.legal;
-      going = going_none (Stood g.M.Machine.stands g.M.Machine.is_booked)
+      going = going_none (Stood g.M.Machine.stands g.M.Machine.booked)
           g.S.Desk.failures g.S.Desk.remaining g.S.Desk.heard g.O.Sink.failures
           g.O.Sink.contents wall pass c.new-line.result c.args.source.now c.args.sink.now is
           c.requires.legal c.new-line.ensures;
@@ -32,36 +32,39 @@ loop-preserved g c =
       none = e.none;
       same = (e.same.0 ∙ i.same.0, e.same.1 ∙ i.same.1);
       legal = e.legal;
-      going = going_on (Stood g.M.Machine.stands g.M.Machine.is_booked)
+      going = going_on (Stood g.M.Machine.stands g.M.Machine.booked)
           g.S.Desk.failures g.S.Desk.remaining g.S.Desk.heard g.O.Sink.failures
           g.O.Sink.contents
           c.args.self.now.policy.now c.args.pass.now c.loop.pass c.take_in.new.pass
           c.loop.lines.line c.take_in.new.lines.line c.args.source.now c.loop.source
-          c.hear.new.self c.args.sink.now c.loop.sink c.take_in.new.sink
+          c.hear.new.self c.take_in.new.source c.args.sink.now c.loop.sink c.take_in.new.sink
           (take c.in-Ok.n c.hear.new.buffer) i.going
-          c.in-Ok.ensures.went c.in-Ok.ensures.bytes.0 c.in-Ok.ensures.tells t.0 t.1 t.2;
+          c.in-Ok.ensures.went c.in-Ok.ensures.bytes.0 c.in-Ok.ensures.tells
+          c.hear.ensures.shows e.unread t.0 t.1 t.2;
     }
 
 pub returns-then-n-eq0-clause-serves : goal.returns-then-n-eq0-clause-serves
 returns-then-n-eq0-clause-serves g c =
     let zero : c.in-Ok.n ≡ 0 = search rules in
     let room : 0 < length c.hear.new.buffer = search rules in
-    served_to_end (Stood g.M.Machine.stands g.M.Machine.is_booked)
+    served_to_end (Stood g.M.Machine.stands g.M.Machine.booked)
     g.S.Desk.failures g.S.Desk.remaining g.S.Desk.heard g.O.Sink.failures
     g.O.Sink.contents c.args.self.now.policy.now c.args.pass.now c.loop.pass c.loop.lines.line
     c.args.source.now c.loop.source c.hear.new.self c.args.sink.now c.loop.sink
     (take c.in-Ok.n c.hear.new.buffer) (took_none c.in-Ok.n c.hear.new.buffer zero)
     c.loop.invariant.going c.in-Ok.ensures.went c.in-Ok.ensures.bytes.0
-    (c.in-Ok.ensures.bytes.1 zero room) c.in-Ok.ensures.tells
+    (c.in-Ok.ensures.bytes.1 zero room) c.in-Ok.ensures.tells c.hear.ensures.shows
 
 pub returns-in-Err-take_in-clause-serves : goal.returns-in-Err-take_in-clause-serves
 returns-in-Err-take_in-clause-serves g c =
     let i = c.loop.invariant in
-    served_till_stop (Stood g.M.Machine.stands g.M.Machine.is_booked)
+    served_till_stop (Stood g.M.Machine.stands g.M.Machine.booked)
     g.S.Desk.failures g.S.Desk.remaining g.S.Desk.heard g.O.Sink.failures
     g.O.Sink.contents
     c.args.self.now.policy.now c.args.pass.now c.loop.pass c.take_in.new.pass c.loop.lines.line
-    c.args.source.now c.loop.source c.hear.new.self c.args.sink.now c.loop.sink c.take_in.new.sink
+    c.args.source.now c.loop.source c.hear.new.self c.take_in.new.source c.args.sink.now
+    c.loop.sink c.take_in.new.sink
     (take c.in-Ok.n c.hear.new.buffer) c.in-Err-take_in.end i.going c.in-Ok.ensures.went
-    c.in-Ok.ensures.bytes.0 c.in-Ok.ensures.tells
+    c.in-Ok.ensures.bytes.0 c.in-Ok.ensures.tells c.hear.ensures.shows
+    c.in-Err-take_in.ensures.unread
     (c.in-Err-take_in.ensures.takes i.going.line i.going.holds)

@@ -11,7 +11,7 @@ invariant-loop g l = record {
   none : l.lines.text.items ≡ [];
   same : IsSamePass l.fn.pass l.pass;
   legal : Legal l.self.policy.now l.pass.seen;
-  going : Going (Stood g.M.Machine.stands g.M.Machine.is_booked) g.S.Desk.heard l.self.policy.now
+  going : Going (Stood g.M.Machine.stands g.M.Machine.booked) g.S.Desk.heard l.self.policy.now
       (used g.S.Desk.failures g.S.Desk.remaining l.fn.source l.source)
       (used g.O.Sink.failures g.O.Sink.contents l.fn.sink l.sink) l.fn.pass l.lines.line l.pass;
 }

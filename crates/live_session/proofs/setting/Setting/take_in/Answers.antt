@@ -5,8 +5,9 @@ use Rattle.coll_text.specs.Reading.{parts}
 use Rattle.hall_script.specs.Devices.{used}
 use Rattle.hall_turn.specs.Known.{Doorway}
 use Rattle.live_session.specs.Sessions.{Stood}
-use Rattle.live_session.specs.Steps.{SoFar, behind}
+use Rattle.live_session.specs.Steps.{SoFar, behind, showing}
 use Rattle.live_session.proofs.SessionLemmas.{so_far_none, goes_on, breaks_off, stops_here}
+use Rattle.live_session.proofs.SessionLemmas.{unread_then}
 use Rattle.live_session.proofs.setting.Setting.take_in.Goals as goal
 
 pub unreachable-requires : goal.unreachable-requires
@@ -19,12 +20,14 @@ returns-in-Err-clause-takes g c =
     let wall = c.args.self.now.policy.now in
     let pass = c.args.pass.now in
     let sink = c.args.sink.now in
-    let stood = Stood g.M.Machine.stands g.M.Machine.is_booked in
+    let stood = Stood g.M.Machine.stands g.M.Machine.booked in
     let fails = g.O.Sink.failures in
     let holds = g.O.Sink.contents in
+    let log = g.S.Desk.heard in
+    let source = c.args.source.now in
     λ start h. let text = behind start (parts 10 c.args.bytes.now) in
-    stops_here stood fails holds wall pass pass text text (used fails holds sink sink)
-    (so_far_none stood fails holds wall pass text sink
+    stops_here stood fails holds wall pass pass text text (showing log source source) (used fails holds sink sink)
+    (so_far_none stood fails holds wall pass text (log source).shows sink
     (c.args.self.now.its ∙ ap (λ (d : Doorway). d.policy) (sym c.requires.door)) c.requires.legal)
 
 pub loop-part-init : goal.loop-part-init
@@ -32,19 +35,23 @@ loop-part-init g c =
     let wall = c.args.self.now.policy.now in
     let pass = c.args.pass.now in
     let sink = c.args.sink.now in
-    let stood = Stood g.M.Machine.stands g.M.Machine.is_booked in
+    let stood = Stood g.M.Machine.stands g.M.Machine.booked in
     let fails = g.O.Sink.failures in
     let holds = g.O.Sink.contents in
+    let log = g.S.Desk.heard in
+    let source = c.args.source.now in
     record {
       none = c.requires.none;
       same = (refl, refl);
       legal = c.requires.legal;
+      unread = record { fails_same = refl; left_same = refl; reads_same = refl };
       so_far = λ start h. let text = behind start (parts 10 c.args.bytes.now) in (
         start ++ c.in-Some.first.now,
         c.in-Ok.ensures start h,
-        subst (λ (l : List Word). SoFar stood wall pass text l (used fails holds sink sink) pass)
+        subst (λ (l : List Word). SoFar stood wall pass text l (showing log source source)
+            (used fails holds sink sink) pass)
             (ap (behind start) (sym c.new-parts.ensures ∙ c.in-Some.ensures))
-            (so_far_none stood fails holds wall pass text sink
+            (so_far_none stood fails holds wall pass text (log source).shows sink
             (c.args.self.now.its ∙ ap (λ (d : Doorway). d.policy) (sym c.requires.door))
             c.requires.legal),
       );
@@ -54,16 +61,19 @@ pub returns-in-Err-answer_line-clause-takes : goal.returns-in-Err-answer_line-cl
 returns-in-Err-answer_line-clause-takes g c =
     let wall = c.args.self.now.policy.now in
     let pass = c.args.pass.now in
-    let stood = Stood g.M.Machine.stands g.M.Machine.is_booked in
+    let stood = Stood g.M.Machine.stands g.M.Machine.booked in
     let fails = g.O.Sink.failures in
     let holds = g.O.Sink.contents in
+    let log = g.S.Desk.heard in
+    let source = c.args.source.now in
     λ start h. let text = behind start (parts 10 c.args.bytes.now) in
     let s = c.loop-part.invariant.so_far start h in
     breaks_off stood fails holds wall pass c.loop-part.pass c.answer_line.new.pass text
-    c.next_long-in-loop-part.new.self s.0 c.in-Some-next_long.part.now c.args.sink.now
-    c.loop-part.sink c.answer_line.new.sink c.in-Err-answer_line.end
+    c.next_long-in-loop-part.new.self s.0 c.in-Some-next_long.part.now
+    (log source).shows (log c.loop-part.source).shows (log c.answer_line.new.source).shows
+    c.args.sink.now c.loop-part.sink c.answer_line.new.sink c.in-Err-answer_line.end
     (subst (λ (l : List Word). SoFar stood wall pass text (s.0 ∷ l)
-    (used fails holds c.args.sink.now c.loop-part.sink) c.loop-part.pass)
+    (showing log source c.loop-part.source) (used fails holds c.args.sink.now c.loop-part.sink) c.loop-part.pass)
     c.in-Some-next_long.ensures s.2)
     (c.in-Err-answer_line.ensures.answers s.0 s.1)
 
@@ -72,15 +82,19 @@ later_so_far : goal.loop-part-preserved
 later_so_far g c =
     let wall = c.args.self.now.policy.now in
     let pass = c.args.pass.now in
-    let stood = Stood g.M.Machine.stands g.M.Machine.is_booked in
+    let stood = Stood g.M.Machine.stands g.M.Machine.booked in
     let fails = g.O.Sink.failures in
     let holds = g.O.Sink.contents in
+    let log = g.S.Desk.heard in
+    let source = c.args.source.now in
     let i = c.loop-part.invariant in
     let e = c.in-Ok-answer_line.ensures in
     record {
       none = e.none;
       same = (e.same.0 ∙ i.same.0, e.same.1 ∙ i.same.1);
       legal = e.legal;
+      unread = unread_then g.S.Desk.failures g.S.Desk.remaining log source c.loop-part.source
+          c.answer_line.new.source i.unread e.unread;
       so_far = λ start h. let text = behind start (parts 10 c.args.bytes.now) in
           let s = i.so_far start h in
           let a = e.answers s.0 s.1 in (
@@ -88,9 +102,10 @@ later_so_far g c =
             c.in-Ok-begin.ensures,
             goes_on stood fails holds wall pass c.loop-part.pass c.answer_line.new.pass text
                 (c.in-Some-next_long.part.now ∷ c.next_long-in-loop-part.new.self) s.0
-                c.args.sink.now c.loop-part.sink c.answer_line.new.sink
+                (log source).shows (log c.loop-part.source).shows
+                (log c.answer_line.new.source).shows c.args.sink.now c.loop-part.sink c.answer_line.new.sink
                 (subst (λ (l : List Word). SoFar stood wall pass text (s.0 ∷ l)
-                (used fails holds c.args.sink.now c.loop-part.sink) c.loop-part.pass)
+                (showing log source c.loop-part.source) (used fails holds c.args.sink.now c.loop-part.sink) c.loop-part.pass)
                 c.in-Some-next_long.ensures s.2) a,
           );
     }
@@ -102,18 +117,22 @@ pub returns-in-Err-begin-clause-takes : goal.returns-in-Err-begin-clause-takes
 returns-in-Err-begin-clause-takes g c =
     let wall = c.args.self.now.policy.now in
     let pass = c.args.pass.now in
-    let stood = Stood g.M.Machine.stands g.M.Machine.is_booked in
+    let stood = Stood g.M.Machine.stands g.M.Machine.booked in
     let fails = g.O.Sink.failures in
     let holds = g.O.Sink.contents in
+    let log = g.S.Desk.heard in
+    let source = c.args.source.now in
     let e = c.in-Ok-answer_line.ensures in
     λ start h. let text = behind start (parts 10 c.args.bytes.now) in
     let s = c.loop-part.invariant.so_far start h in
     let a = e.answers s.0 s.1 in
     let rest = c.in-Some-next_long.part.now ∷ c.next_long-in-loop-part.new.self in
     stops_here stood fails holds wall pass c.answer_line.new.pass text rest
+    (showing log source c.answer_line.new.source)
     (used fails holds c.args.sink.now c.answer_line.new.sink)
     (goes_on stood fails holds wall pass c.loop-part.pass c.answer_line.new.pass text rest s.0
+    (log source).shows (log c.loop-part.source).shows (log c.answer_line.new.source).shows
     c.args.sink.now c.loop-part.sink c.answer_line.new.sink
     (subst (λ (l : List Word). SoFar stood wall pass text (s.0 ∷ l)
-    (used fails holds c.args.sink.now c.loop-part.sink) c.loop-part.pass)
+    (showing log source c.loop-part.source) (used fails holds c.args.sink.now c.loop-part.sink) c.loop-part.pass)
     c.in-Some-next_long.ensures s.2) a)

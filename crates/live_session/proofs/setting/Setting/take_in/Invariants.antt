@@ -4,7 +4,7 @@ use Rattle.hall_turn.specs.Answers.{IsSamePass}
 use Rattle.hall_script.specs.Devices.{used}
 use Rattle.coll_text.specs.Reading.{parts}
 use Rattle.live_session.specs.Sessions.{Stood}
-use Rattle.live_session.specs.Steps.{Holds, SoFar, behind}
+use Rattle.live_session.specs.Steps.{Holds, IsUnread, SoFar, behind, showing}
 use Rattle.live_session.proofs.setting.Setting.take_in.Given as goal
 
 abbrev pub invariant-loop-part : goal.invariant-loop-part
@@ -12,9 +12,11 @@ invariant-loop-part g l = record {
   none : l.lines.text.items ≡ [];
   same : IsSamePass l.fn.pass l.pass;
   legal : Legal l.self.policy.now l.pass.seen;
+  unread : IsUnread g.S.Desk.failures g.S.Desk.remaining g.S.Desk.heard l.fn.source l.source;
   so_far : (start : List ℕ) → Holds l.fn.lines.line start → (line : List ℕ)
-      × Holds l.lines.line line × SoFar (Stood g.M.Machine.stands g.M.Machine.is_booked)
+      × Holds l.lines.line line × SoFar (Stood g.M.Machine.stands g.M.Machine.booked)
       l.self.policy.now l.fn.pass (behind start (parts 10 l.bytes)) (line ∷ l.parts)
+      (showing g.S.Desk.heard l.fn.source l.source)
       (used g.O.Sink.failures g.O.Sink.contents l.fn.sink l.sink) l.pass;
 }
 

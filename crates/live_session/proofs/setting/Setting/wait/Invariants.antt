@@ -1,4 +1,5 @@
 use Rattle.std.proofs.Common.{◌≡◌}
+use Rattle.std.specs.Prelude.{option_map}
 use Rattle.run_model.specs.declared.reply.Reply.TheVariants.{Pending}
 use Rattle.run_model.specs.Replies.{Legal}
 use Rattle.hall_turn.specs.declared.answer.Answer.TheVariants.{Reply as Replied}
@@ -11,6 +12,6 @@ abbrev pub invariant-loop : goal.invariant-loop
 invariant-loop g l = record {
   same : IsSamePass l.fn.pass l.pass;
   legal : Legal l.self.door.now.policy l.pass.seen;
-  waited : Waited (Stood g.M.Machine.stands g.M.Machine.is_booked) l.fn.pass l.request
-      (Replied Pending) l.pass;
+  waited : Waited (Stood g.M.Machine.stands g.M.Machine.booked) l.fn.pass l.request
+      (Replied Pending) (option_map g.T.Receipt.covers l.receipt) l.pass;
 }

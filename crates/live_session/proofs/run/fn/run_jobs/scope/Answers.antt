@@ -11,7 +11,7 @@ returns-in_default g c =
 pub returns : goal.returns
 returns g c =
     let i = c.loop-job.invariant in
-    all_handed (Stood g.M.Machine.stands g.M.Machine.is_booked)
+    all_handed (Stood g.M.Machine.stands g.M.Machine.booked)
     g.S.Desk.failures g.S.Desk.remaining g.S.Desk.heard g.O.Sink.failures
     g.O.Sink.contents
     c.end_all-2.result c.captures.jobs.items c.loop-job.yielded

@@ -3,7 +3,7 @@ use Rattle.hall_core.specs.Claims.{claim_entry}
 use Rattle.hall_turn.specs.Machines.{ClaimsAfter}
 use Rattle.hall_turn.specs.Known.{Doorway, Known}
 use Rattle.hall_turn.specs.Answers.{EntersAnd}
-use Rattle.hall_turn.proofs.door.DoorTo.claim.Goals as goal
+use Rattle.hall_turn.proofs.door.DoorTo.claim_noting.Goals as goal
 
 pub returns-in-Some-clause-answered : goal.returns-in-Some-clause-answered
 returns-in-Some-clause-answered g c =
