@@ -4,7 +4,7 @@ ghost use Rattle.std.specs.Prelude.{[]};
 use crate::devices::{Answers, Client, Due, Heard, Hold, hearers, new_answers, new_client};
 use crate::machines::hall;
 use crate::parties::{many, wall};
-use hall_turn::Machine;
+use hall_turn::Receipts;
 use live_session::{Peer, ServeFault, SessionEnd, serve_all};
 use std::alloc::{AllocError, Global};
 use std::process::Abort;
@@ -65,7 +65,7 @@ pub(crate) fn served_at<R, M>(
 ) -> usize
 where
     R: Abort + Threads + Wait + Sync,
-    M: Machine + Send + Drop,
+    M: Receipts<()> + Send + Drop,
     requires { M.stands policy.now machine [] }
 {
     let hearers = hearers(alloc, rows.len()).expect(rt, "no memory");
