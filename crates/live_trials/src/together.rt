@@ -4,7 +4,7 @@ ghost use Rattle.std.specs.Prelude.{[]};
 use crate::devices::{Answers, Client, Due, Heard, Hold, hearers, new_answers, new_client};
 use crate::machines::hall;
 use crate::parties::{many, wall};
-use hall_turn::Machine;
+use hall_turn::Receipts;
 use live_session::{Peer, ServeFault, SessionEnd, serve_all};
 use std::alloc::{AllocError, Global};
 use std::process::Abort;
@@ -65,12 +65,12 @@ pub(crate) fn served_at<R, M>(
 ) -> usize
 where
     R: Abort + Threads + Wait + Sync,
-    M: Machine + Send + Drop,
+    M: Receipts<()> + Send + Drop,
     requires { M.stands policy.now machine [] }
 {
     let hearers = hearers(alloc, rows.len()).expect(rt, "no memory");
     let peers = peers(alloc, rows, hearers.as_slice()).expect(rt, "no memory");
-    let served = serve_all(rt, alloc, policy, machine, peers).expect(rt, "not served");
+    let served = serve_all::<_, _, _, _, ()>(rt, alloc, policy, machine, peers).expect(rt, "not served");
     let mut count: usize = 0;
     for (session, row) in served.sessions.iter().zip(rows) {
         if session.end == row.due.end && session.peer.sink.are_all() {
@@ -186,7 +186,7 @@ fn all_that_wait_in_vain_are_told(rt: HostRuntime) {
     let hearers = hearers(alloc, 4).expect(&rt, "no memory");
     let peers = three_that_wait(alloc, hearers.as_slice()).expect(&rt, "no memory");
     let machine = hall(&rt, alloc, &policy);
-    let served = serve_all(&rt, alloc, &policy, machine, peers).expect(&rt, "not served");
+    let served = serve_all::<_, _, _, _, ()>(&rt, alloc, &policy, machine, peers).expect(&rt, "not served");
     for session in &served.sessions {
         assert!(&rt; session.peer.sink.are_all());
     }
@@ -261,7 +261,7 @@ fn fault_of<R: Threads + Wait + Sync + Abort>(
     let hearers = hearers(alloc, rows.len()).expect(rt, "no memory");
     let peers = peers(alloc, rows, hearers.as_slice()).expect(rt, "no memory");
     let machine = hall(rt, alloc, &policy);
-    let fault = match serve_all(rt, alloc, &policy, machine, peers) {
+    let fault = match serve_all::<_, _, _, _, ()>(rt, alloc, &policy, machine, peers) {
         Ok(served) => {
             drop(served);
             None
