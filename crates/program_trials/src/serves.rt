@@ -338,7 +338,10 @@ const ALONE_LOOKS: &str =
 const ALONE_SEEN: &[usize] = &[7, 76, 76, 76];
 
 // Whether the book had these lengths as replies were told to a process alone.
-fn sees_so(rt: &HostRuntime, seen: &[usize]) -> Result<bool, Fail> {
+fn sees_so<R: Abort + AllocGlobal + Threads + Wait + Sync>(
+    rt: &R,
+    seen: &[usize],
+) -> Result<bool, Fail> {
     let wall = wall(rt, ALONE).expect(rt, "the policy is refused");
     let mut peers = Vec::new(rt.alloc());
     let lines = source(ALONE_LOOKS.as_bytes(), Fuse::Whole);
