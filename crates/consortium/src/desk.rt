@@ -171,8 +171,7 @@ impl<'d, 'a, 'n, R: Wait> Desk<PipeSink<'d, 'a, 'n, R>> for PipeSource<'d, 'a, '
 }
 
 impl<'d, 'a, 'n, R: Wait, T: Receipt> ShowDesk<PipeSink<'d, 'a, 'n, R>, T>
-    for PipeSource<'d, 'a, 'n, R>
-{
+    for PipeSource<'d, 'a, 'n, R> {
     // The process itself is shown nothing but its reply.
     fn show(&mut self, _sink: &PipeSink<'d, 'a, 'n, R>, _receipt: &T) {}
 }

@@ -255,7 +255,7 @@ module _ (stood : ChineseWall → List Entry → Option Covered → Type 0) wher
       (later ++ first) shows d
   shown_then wall old mid a b d first later told shows s w h =
       let calls : made b.process (told ∷ later) ++ made a.process first
-          ≡ made a.process (told ∷ later ++ first) =
+      ≡ made a.process (told ∷ later ++ first) =
       ap (λ (p : ℕ). made p (told ∷ later) ++ made a.process first) s.same.1
       ∙ sym (made-append a.process (told ∷ later) first) in
       subst (λ (c : Option Entry). IsShown stood wall old a c
@@ -793,44 +793,44 @@ module _ (stood : ChineseWall → List Entry → Option Covered → Type 0) {O :
       (telling_bad wall (contents mid) b d (said wall.dataset_names line) words receipt so) shows f
   breaks_in wall a b d text later line after p q r old mid new nexts.Left words s
       (receipt, so, shows) f = record {
-    lines = s.lines;
-    rest = line ∷ after ∷ later;
-    told = s.told;
-    untold = None;
-    acted = acted_still wall a b d text s.lines (line ∷ after ∷ later) s.told s.acted so.1;
-    shows = s.shows;
-    shown = tells_then p q r s.shows [] s.shown shows;
-    booked = booked_on stood wall (contents old) a b d s.told s.shows so.1.begins s.booked;
-    stops = (
-      f.0 ∙ ap (λ (n : ℕ). n + 1) s.written.0,
-      inr (
-        Left,
-        words,
-        left_at wall a b d line after later s.told words receipt so,
-        cut_more old mid new (answers wall s.told) words words s.written f.1 refl,
-      ),
-    );
-  }
+        lines = s.lines;
+        rest = line ∷ after ∷ later;
+        told = s.told;
+        untold = None;
+        acted = acted_still wall a b d text s.lines (line ∷ after ∷ later) s.told s.acted so.1;
+        shows = s.shows;
+        shown = tells_then p q r s.shows [] s.shown shows;
+        booked = booked_on stood wall (contents old) a b d s.told s.shows so.1.begins s.booked;
+        stops = (
+          f.0 ∙ ap (λ (n : ℕ). n + 1) s.written.0,
+          inr (
+            Left,
+            words,
+            left_at wall a b d line after later s.told words receipt so,
+            cut_more old mid new (answers wall s.told) words words s.written f.1 refl,
+          ),
+        );
+      }
   breaks_in wall a b d text later line after p q r old mid new nexts.Exhausted words s
       (receipt, so, shows) f = record {
-    lines = s.lines;
-    rest = line ∷ after ∷ later;
-    told = s.told;
-    untold = None;
-    acted = acted_still wall a b d text s.lines (line ∷ after ∷ later) s.told s.acted so.0.sees;
-    shows = s.shows;
-    shown = tells_then p q r s.shows [] s.shown shows;
-    booked = booked_on stood wall (contents old) a b d s.told s.shows so.0.sees.begins s.booked;
-    stops = (
-      f.0 ∙ ap (λ (n : ℕ). n + 1) s.written.0,
-      inr (
-        Exhausted,
-        words,
-        late_at wall a b d line after later s.told words receipt so,
-        cut_more old mid new (answers wall s.told) words words s.written f.1 refl,
-      ),
-    );
-  }
+        lines = s.lines;
+        rest = line ∷ after ∷ later;
+        told = s.told;
+        untold = None;
+        acted = acted_still wall a b d text s.lines (line ∷ after ∷ later) s.told s.acted so.0.sees;
+        shows = s.shows;
+        shown = tells_then p q r s.shows [] s.shown shows;
+        booked = booked_on stood wall (contents old) a b d s.told s.shows so.0.sees.begins s.booked;
+        stops = (
+          f.0 ∙ ap (λ (n : ℕ). n + 1) s.written.0,
+          inr (
+            Exhausted,
+            words,
+            late_at wall a b d line after later s.told words receipt so,
+            cut_more old mid new (answers wall s.told) words words s.written f.1 refl,
+          ),
+        );
+      }
   breaks_in wall a b d text later line after p q r old mid new nexts.Unbooked words s
       (receipt, ((told, comes, calls), is), shows) f = record {
         lines = line ∷ s.lines;
@@ -868,36 +868,36 @@ module _ (stood : ChineseWall → List Entry → Option Covered → Type 0) {O :
       breaks_in wall a b d text later line after p q r old mid new nx words s so f
   breaks_off wall a b d text later line after p q r old mid new Left s
       (words, (receipt, so, shows), w) = record {
-    lines = s.lines;
-    rest = line ∷ after ∷ later;
-    told = s.told;
-    untold = None;
-    acted = acted_still wall a b d text s.lines (line ∷ after ∷ later) s.told s.acted so.1;
-    shows = s.shows;
-    shown = tells_then p q r s.shows [] s.shown shows;
-    booked = booked_on stood wall (contents old) a b d s.told s.shows so.1.begins s.booked;
-    stops = (
-      words,
-      left_at wall a b d line after later s.told words receipt so,
-      written_then old mid new (answers wall s.told) words s.written w,
-    );
-  }
+        lines = s.lines;
+        rest = line ∷ after ∷ later;
+        told = s.told;
+        untold = None;
+        acted = acted_still wall a b d text s.lines (line ∷ after ∷ later) s.told s.acted so.1;
+        shows = s.shows;
+        shown = tells_then p q r s.shows [] s.shown shows;
+        booked = booked_on stood wall (contents old) a b d s.told s.shows so.1.begins s.booked;
+        stops = (
+          words,
+          left_at wall a b d line after later s.told words receipt so,
+          written_then old mid new (answers wall s.told) words s.written w,
+        );
+      }
   breaks_off wall a b d text later line after p q r old mid new Exhausted s
       (words, (receipt, so, shows), w) = record {
-    lines = s.lines;
-    rest = line ∷ after ∷ later;
-    told = s.told;
-    untold = None;
-    acted = acted_still wall a b d text s.lines (line ∷ after ∷ later) s.told s.acted so.0.sees;
-    shows = s.shows;
-    shown = tells_then p q r s.shows [] s.shown shows;
-    booked = booked_on stood wall (contents old) a b d s.told s.shows so.0.sees.begins s.booked;
-    stops = (
-      words,
-      late_at wall a b d line after later s.told words receipt so,
-      written_then old mid new (answers wall s.told) words s.written w,
-    );
-  }
+        lines = s.lines;
+        rest = line ∷ after ∷ later;
+        told = s.told;
+        untold = None;
+        acted = acted_still wall a b d text s.lines (line ∷ after ∷ later) s.told s.acted so.0.sees;
+        shows = s.shows;
+        shown = tells_then p q r s.shows [] s.shown shows;
+        booked = booked_on stood wall (contents old) a b d s.told s.shows so.0.sees.begins s.booked;
+        stops = (
+          words,
+          late_at wall a b d line after later s.told words receipt so,
+          written_then old mid new (answers wall s.told) words s.written w,
+        );
+      }
   breaks_off wall a b d text later line after p q r old mid new Unbooked s
       (words, (receipt, ((told, comes, calls), is), shows), w) = record {
         lines = line ∷ s.lines;

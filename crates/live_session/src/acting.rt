@@ -14,8 +14,9 @@ use crate::seat::Seat;
 use crate::setting::Setting;
 use hall_core::{Reply, finish};
 use hall_script::Ask;
-use hall_turn::{Answer, Claimed, PassTo, Receipt, Receipts};
-use hall_turn::{call_with_receipt, claim_with_receipt};
+use hall_turn::{
+    Answer, Claimed, PassTo, Receipt, Receipts, call_with_receipt, claim_with_receipt,
+};
 use run_model::Act;
 use std::sync::Wait;
 
@@ -55,12 +56,7 @@ fn came_of<R: Wait>(rt: &R, seat: &mut Seat, answer: Answer, is_booked: bool) ->
 
 impl<'s, R: Wait, M: Receipts<T>, T: Receipt + Drop> Setting<'s, R, M, T> {
     // All of a take that needs the hall, at the pass's turn, while no other session calls.
-    fn claim(
-        &self,
-        pass: &mut PassTo<M>,
-        request: u64,
-        receipt: &mut Option<T>,
-    ) -> Claimed
+    fn claim(&self, pass: &mut PassTo<M>, request: u64, receipt: &mut Option<T>) -> Claimed
         requires door { pass.old.door ≡ self.now.door.now }
         ensures same { IsSamePass pass.old pass.new }
         ensures legal { Legal self.now.door.now.policy pass.new.seen }

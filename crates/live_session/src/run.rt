@@ -25,10 +25,7 @@ use wall_labels::Sink;
 use wall_policy::Policy;
 
 // A session from its start to its end; or nothing of it, where the run is given up.
-fn play<R, M, S, O, T>(
-    setting: &Setting<R, M, T>,
-    job: Job<M, S, O>,
-) -> Played<M, S, O>
+fn play<R, M, S, O, T>(setting: &Setting<R, M, T>, job: Job<M, S, O>) -> Played<M, S, O>
 where
     R: Wait,
     M: Receipts<T>,

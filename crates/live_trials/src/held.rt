@@ -41,7 +41,10 @@ fn both_end<'a, R: Abort + Threads + Wait + Sync>(
     let policy = wall(rt, alloc, FRIENDS);
     let peers = Vec::from_array(alloc, [one, other]).expect(rt, "no memory");
     let machine = hall(rt, alloc, &policy);
-    let served = serve_all::<_, _, _, _, ()>(rt, alloc, &policy, machine, peers).expect(rt, "not served");
+    let served = serve_all::<_, _, _, _, ()>(rt, alloc, &policy, machine, peers).expect(
+        rt,
+        "not served",
+    );
     let mut are_all = served.sessions.len() == 2;
     for session in &served.sessions {
         are_all = are_all && session.peer.sink.are_all();
@@ -177,7 +180,10 @@ fn sessions_that_wait_take_no_processor(rt: HostRuntime) -> Result<(), Fail> {
     }
     let machine = hall(&rt, rt.alloc(), &policy);
     let before = rt.process_cpu_time()?;
-    let served = serve_all::<_, _, _, _, ()>(&rt, rt.alloc(), &policy, machine, peers).expect(&rt, "not served");
+    let served = serve_all::<_, _, _, _, ()>(&rt, rt.alloc(), &policy, machine, peers).expect(
+        &rt,
+        "not served",
+    );
     for session in &served.sessions {
         assert!(&rt; session.peer.sink.are_all());
     }

@@ -70,7 +70,10 @@ where
 {
     let hearers = hearers(alloc, rows.len()).expect(rt, "no memory");
     let peers = peers(alloc, rows, hearers.as_slice()).expect(rt, "no memory");
-    let served = serve_all::<_, _, _, _, ()>(rt, alloc, policy, machine, peers).expect(rt, "not served");
+    let served = serve_all::<_, _, _, _, ()>(rt, alloc, policy, machine, peers).expect(
+        rt,
+        "not served",
+    );
     let mut count: usize = 0;
     for (session, row) in served.sessions.iter().zip(rows) {
         if session.end == row.due.end && session.peer.sink.are_all() {
@@ -186,7 +189,10 @@ fn all_that_wait_in_vain_are_told(rt: HostRuntime) {
     let hearers = hearers(alloc, 4).expect(&rt, "no memory");
     let peers = three_that_wait(alloc, hearers.as_slice()).expect(&rt, "no memory");
     let machine = hall(&rt, alloc, &policy);
-    let served = serve_all::<_, _, _, _, ()>(&rt, alloc, &policy, machine, peers).expect(&rt, "not served");
+    let served = serve_all::<_, _, _, _, ()>(&rt, alloc, &policy, machine, peers).expect(
+        &rt,
+        "not served",
+    );
     for session in &served.sessions {
         assert!(&rt; session.peer.sink.are_all());
     }

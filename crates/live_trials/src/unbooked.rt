@@ -128,7 +128,10 @@ fn who_sleeps_is_told_too(rt: HostRuntime) {
     let hearers = hearers(alloc, 4).expect(&rt, "no memory");
     let peers = in_turn(alloc, hearers.as_slice()).expect(&rt, "no memory");
     let machine = booked_till_it_settles(&rt, alloc, &policy);
-    let served = serve_all::<_, _, _, _, ()>(&rt, alloc, &policy, machine, peers).expect(&rt, "not served");
+    let served = serve_all::<_, _, _, _, ()>(&rt, alloc, &policy, machine, peers).expect(
+        &rt,
+        "not served",
+    );
     for session in &served.sessions {
         assert!(&rt; session.end == SessionEnd::Unbooked && session.peer.sink.are_all());
     }
@@ -169,7 +172,10 @@ fn who_sleeps_for_another_instance_is_told_too(rt: HostRuntime) {
     let hearers = hearers(alloc, 4).expect(&rt, "no memory");
     let peers = first_waits_on(alloc, hearers.as_slice()).expect(&rt, "no memory");
     let machine = booked_till_it_settles(&rt, alloc, &policy);
-    let served = serve_all::<_, _, _, _, ()>(&rt, alloc, &policy, machine, peers).expect(&rt, "not served");
+    let served = serve_all::<_, _, _, _, ()>(&rt, alloc, &policy, machine, peers).expect(
+        &rt,
+        "not served",
+    );
     for session in &served.sessions {
         assert!(&rt; session.end == SessionEnd::Unbooked && session.peer.sink.are_all());
     }

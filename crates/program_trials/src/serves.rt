@@ -332,8 +332,7 @@ impl<'a> ShowDesk<ExpectingSink<'a>, Option<Length>> for Looking<'a> {
 }
 
 // The book of `ALONE_BOOK`, before each of these replies: its first line, and then all but the last.
-const ALONE_LOOKS: &str =
-    "info 0\npost 0 bcast 0 int32 1 as alpha 5\nfoo\nwait 0\ntake 0\n";
+const ALONE_LOOKS: &str = "info 0\npost 0 bcast 0 int32 1 as alpha 5\nfoo\nwait 0\ntake 0\n";
 
 const ALONE_SEEN: &[usize] = &[7, 76, 76, 76];
 
@@ -345,7 +344,8 @@ fn sees_so<R: Abort + AllocGlobal + Threads + Wait + Sync>(
     let wall = wall(rt, ALONE).expect(rt, "the policy is refused");
     let mut peers = Vec::new(rt.alloc());
     let lines = source(ALONE_LOOKS.as_bytes(), Fuse::Whole);
-    let answers = "info size 1 rank 0\nposted 0\nbad BadVerb\ndelivered none\nrefused NoSuchRequest\n";
+    let answers =
+        "info size 1 rank 0\nposted 0\nbad BadVerb\ndelivered none\nrefused NoSuchRequest\n";
     peers.push(Peer {
         source: Looking {
             lines,
