@@ -337,7 +337,10 @@ const ALONE_LOOKS: &str = "info 0\npost 0 bcast 0 int32 1 as alpha 5\nfoo\nwait 
 const ALONE_SEEN: &[usize] = &[7, 76, 76, 76];
 
 // Whether the book had these lengths as replies were told to a process alone.
-fn sees_so(rt: &HostRuntime, seen: &[usize]) -> Result<bool, Fail> {
+fn sees_so<R: Abort + AllocGlobal + Threads + Wait + Sync>(
+    rt: &R,
+    seen: &[usize],
+) -> Result<bool, Fail> {
     let wall = wall(rt, ALONE).expect(rt, "the policy is refused");
     let mut peers = Vec::new(rt.alloc());
     let lines = source(ALONE_LOOKS.as_bytes(), Fuse::Whole);
