@@ -12,7 +12,7 @@ use Rattle.hall_turn.specs.Receipts.{Covered}
 use Rattle.hall_turn.specs.Known.{Known}
 use Rattle.live_session.specs.Lines.{said}
 use Rattle.live_session.specs.Hearing.{DeskLog, Heard, Tells, text_of}
-use Rattle.live_session.specs.Sessions.{Told, said_by, Acted, HadAnswered, IsPrompt}
+use Rattle.live_session.specs.Sessions.{Told, said_by, answers, Acted, HadAnswered, IsPrompt}
 use Rattle.live_session.specs.Steps.{Showing, SoFar}
 
 -- ---- what is known

@@ -3,7 +3,7 @@ use Rattle.std.proofs.Common.{◌≡◌, ◌⊎◌, inl, inr, ℕ, zero, suc, �
 use Rattle.std.proofs.Common.{reverse, Option, Some, None, Result, Ok, Err, refl, sym, ap, subst}
 use Rattle.std.proofs.Common.{◌≢◌, Bool}
 use Rattle.std.specs.Prelude.{is_some, option_map}
-use Rattle.std.proofs.Common.{◌∙◌, append_assoc, append-nil, IfOk, take, arith}
+use Rattle.std.proofs.Common.{◌∙◌, append_assoc, append-nil, IfOk, replicate, take, arith}
 use Rattle.wall_labels.specs.declared.no_memory.NoMemory.{NoMemory as OutOfMemory}
 use Rattle.wall_labels.specs.Known.{AppendsPrefix}
 use Rattle.std.specs.Io.KnownBytes.{Appends, Consumes, IsAtEnd, Keeps}
@@ -17,7 +17,7 @@ use Rattle.run_model.specs.declared.call.Act.{Act}
 use Rattle.run_model.specs.declared.call.Act.TheVariants.{Take}
 use Rattle.run_model.specs.declared.reply.Reply.{Reply}
 use Rattle.run_model.specs.declared.reply.Reply.TheVariants.{Pending}
-use Rattle.run_model.specs.Runs.{Entry}
+use Rattle.run_model.specs.Runs.{Entry, entry}
 use Rattle.run_model.specs.Replies.{Legal}
 use Rattle.hall_script.specs.declared.ask.Ask.{Ask}
 use Rattle.hall_script.specs.declared.ask.Ask.TheVariants.{Act as ToAct, Wait, Leave}
@@ -29,7 +29,7 @@ use Rattle.hall_turn.specs.declared.answer.Answer.TheVariants.{Reply as Replied,
 use Rattle.hall_turn.specs.Runs.{Continues, calls_of}
 use Rattle.hall_turn.specs.Receipts.{Covered}
 use Rattle.hall_turn.specs.Known.{Known, Doorway}
-use Rattle.hall_turn.specs.Answers.{IsSamePass, Answered, Gives, GivesAt}
+use Rattle.hall_turn.specs.Answers.{IsSamePass, SeesOn, Answered, Gives, GivesAt}
 use Rattle.hall_turn.specs.Answers.{NamesKnown}
 use Rattle.hall_turn.proofs.HallTurnLemmas.{continues_self, continues_more, continues_trans}
 use Rattle.live_session.specs.declared.line.BadLine.{BadLine}
@@ -37,18 +37,18 @@ use Rattle.live_session.specs.declared.acting.Came.{Came}
 use Rattle.live_session.specs.declared.acting.Came.TheVariants as cames
 use Rattle.live_session.specs.declared.answer.Next.{Next}
 use Rattle.live_session.specs.declared.answer.Next.TheVariants as nexts
-use Rattle.live_session.specs.Lines.{said}
+use Rattle.live_session.specs.Lines.{said, left_line, exhausted_line, unbooked_line}
 use Rattle.live_session.specs.Sessions.{Told, done, waited, asked_nothing, said_by, called}
 use Rattle.live_session.specs.Sessions.{calls_for, made, answer, answers, SeesMore, Acted, EndsAt}
 use Rattle.live_session.specs.Sessions.{SaysLast, IsCutIn, BreaksOff, EndsSo, and_untold, Stood}
 use Rattle.live_session.specs.Sessions.{last_call, StoodBehind, StoodFor, AreBooked, EndsUnbooked}
 use Rattle.live_session.specs.Sessions.{Serves, IsPrompt, IsShown}
-use Rattle.live_session.specs.Hearing.{DeskLog, Shown, Tells}
-use Rattle.live_session.specs.Steps.{ComesTo, MayHaveCome, reply_to}
+use Rattle.live_session.specs.Hearing.{DeskLog, Heard, Shown, Tells}
+use Rattle.live_session.specs.Steps.{ComesTo, MayHaveCome, ComesTooLate, ComesUnbooked, reply_to}
 use Rattle.live_session.specs.Steps.{CameTo, Waited}
 use Rattle.live_session.specs.Steps.{came_of, line_to, next_after, AnswersSo, WritesAnswer}
 use Rattle.live_session.specs.Steps.{PutsAnswer, AnswersLine, SoFar, Stops, StopsSo, Holds}
-use Rattle.live_session.specs.Steps.{behind, IsUnread, Showing, showing, shown_next}
+use Rattle.live_session.specs.Steps.{behind, ComesBooked, IsUnread, Showing, showing, shown_next}
 use Rattle.live_session.specs.Steps.{AnswersBehind, CameNamesKnown}
 use Rattle.live_session.specs.declared.line.Unfinished.{Unfinished}
 use Rattle.live_session.proofs.CutLemmas.{parts_behind}
@@ -358,8 +358,8 @@ came_known wall (Replied reply) None named = tt
 came_known wall Late receipt named = tt
 
 -- what came of a call is told where the machine was booked
-told_or_not : (stood : ChineseWall → List Entry → Option Covered → Type 0)
-    (before after : Known) (ask : Ask) (told : Told) (reply : Reply) (receipt : Option Covered) →
+told_or_not : (stood : ChineseWall → List Entry → Option Covered → Type 0) (before after : Known) (ask : Ask)
+    (told : Told) (reply : Reply) (receipt : Option Covered) →
     last_call before.process told ≢ None → reply_to told ≡ Some reply →
     ComesTo stood before (Ok ask) told receipt after →
     CameTo stood before ask (came_of (Replied reply) receipt) receipt after
@@ -754,28 +754,27 @@ module _ (stood : ChineseWall → List Entry → Option Covered → Type 0) {O :
       Telling wall (contents mid) b (said wall.dataset_names line) words receipt d nx →
       Tells q r (shown_next nx receipt (contents mid)) → BrokeOff (Between mid new) words →
       Stops stood wall a text (Since p r) (Between old new) d WriteFailed
-  breaks_told wall a b d text later line after p q r old mid new receipt nx words s t shows
-      f = record {
-        lines = line ∷ s.lines;
-        rest = after ∷ later;
-        told = t.told ∷ s.told;
-        untold = None;
-        acted = acted_more wall a b d text s.lines (after ∷ later) line s.told t.told s.acted t.says
-            t.sees;
-        shows = shown_next nx receipt (contents mid) ++ s.shows;
-        shown = tells_then p q r s.shows (shown_next nx receipt (contents mid)) s.shown shows;
-        booked = told_more wall a b d text (after ∷ later) line p q r old mid words receipt nx s t;
-        stops = (
-          f.0 ∙ ap (λ (n : ℕ). n + 1) s.written.0,
-          inl (
-            t.told,
-            s.told,
-            refl,
-            refl,
-            cut_more old mid new (answers wall s.told) words (answer wall t.told) s.written f.1 t.is,
-          ),
-        );
-      }
+  breaks_told wall a b d text later line after p q r old mid new receipt nx words s t shows f = record {
+    lines = line ∷ s.lines;
+    rest = after ∷ later;
+    told = t.told ∷ s.told;
+    untold = None;
+    acted = acted_more wall a b d text s.lines (after ∷ later) line s.told t.told s.acted t.says
+        t.sees;
+    shows = shown_next nx receipt (contents mid) ++ s.shows;
+    shown = tells_then p q r s.shows (shown_next nx receipt (contents mid)) s.shown shows;
+    booked = told_more wall a b d text (after ∷ later) line p q r old mid words receipt nx s t;
+    stops = (
+      f.0 ∙ ap (λ (n : ℕ). n + 1) s.written.0,
+      inl (
+        t.told,
+        s.told,
+        refl,
+        refl,
+        cut_more old mid new (answers wall s.told) words (answer wall t.told) s.written f.1 t.is,
+      ),
+    );
+  }
 
   -- the answer to the line at hand was not written to its end
   breaks_in : (wall : ChineseWall) (a b d : Known) (text later : List Word) (line after : Word)
@@ -920,18 +919,17 @@ module _ (stood : ChineseWall → List Entry → Option Covered → Type 0) {O :
           written_then old mid new (answers wall s.told) words s.written w,
         );
       }
-  breaks_off wall a b d text later line after p q r old mid new NoMemory s
-      (same, none, inl sees) = record {
-        lines = s.lines;
-        rest = line ∷ after ∷ later;
-        told = s.told;
-        untold = None;
-        acted = acted_still wall a b d text s.lines (line ∷ after ∷ later) s.told s.acted sees;
-        shows = s.shows;
-        shown = subst (λ (k : Option (List Shown)). Tells p k s.shows) (sym none) s.shown;
-        booked = booked_on stood wall (contents old) a b d s.told s.shows sees.begins s.booked;
-        stops = subst (λ (o : O). IsWritten (Between old o) (answers wall s.told)) (sym same) s.written;
-      }
+  breaks_off wall a b d text later line after p q r old mid new NoMemory s (same, none, inl sees) = record {
+    lines = s.lines;
+    rest = line ∷ after ∷ later;
+    told = s.told;
+    untold = None;
+    acted = acted_still wall a b d text s.lines (line ∷ after ∷ later) s.told s.acted sees;
+    shows = s.shows;
+    shown = subst (λ (k : Option (List Shown)). Tells p k s.shows) (sym none) s.shown;
+    booked = booked_on stood wall (contents old) a b d s.told s.shows sees.begins s.booked;
+    stops = subst (λ (o : O). IsWritten (Between old o) (answers wall s.told)) (sym same) s.written;
+  }
   breaks_off wall a b d text later line after p q r old mid new NoMemory s
       (same, none, inr (told, booked, comes)) = record {
         lines = line ∷ s.lines;
@@ -1145,8 +1143,8 @@ module _ (stood : ChineseWall → List Entry → Option Covered → Type 0)
   }
 
   -- what was shown, where more was read since and nothing shown
-  unfoldable still_shown : (wall : ChineseWall) (a b : Known) (text rest : List Word)
-      (first mid last : S) (sink : Used O) → (heard last).shows ≡ (heard mid).shows →
+  unfoldable still_shown : (wall : ChineseWall) (a b : Known) (text rest : List Word) (first mid last : S)
+      (sink : Used O) → (heard last).shows ≡ (heard mid).shows →
       SoFar stood wall a text rest (showing heard first mid) sink b →
       SoFar stood wall a text rest (showing heard first last) sink b
   still_shown wall a b text rest first mid last sink same s = record {
@@ -1293,8 +1291,7 @@ module _ (stood : ChineseWall → List Entry → Option Covered → Type 0)
         prompt = prompt_unread fails left heard failures contents wall first last far old new
             (g.bytes ++ more) s.told unread.reads_same
             (prompt_more stood fails left heard failures contents wall a b first mid last old
-            out new g.bytes more g.line (showing heard first mid) g.so_far g.prompt tells
-            stops.told);
+            out new g.bytes more g.line (showing heard first mid) g.so_far g.prompt tells stops.told);
         ends = ends_so wall first far old new a s.rest s.told s.untold d end
             (unread.fails_same ∙ went ∙ g.went) s.stops;
       }

@@ -20,8 +20,8 @@ module _ {S O : Type 0} (fails : S → ℕ) (left : S → Option (List ℕ))
   -- What became of the session of process p, where this is the run of all calls: its pass has seen
   -- a beginning of the run, with all calls of p.
   pub record SessionOf (stood : ChineseWall → List Entry → Option Covered → Type 0)
-      (wall : ChineseWall) (run : List Entry) (door : Doorway) (p : ℕ) (old : Peer S O)
-      (new : Session S O) : Type 0 where
+      (wall : ChineseWall) (run : List Entry) (door : Doorway) (p : ℕ) (old : Peer S O) (new : Session S O)
+      : Type 0 where
     pub pass : Known
     pub begins : Continues run pass.seen
     pub own : calls_of p run ≡ calls_of p pass.seen

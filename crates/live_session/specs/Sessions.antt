@@ -127,8 +127,8 @@ last_call process (asked_nothing bad) = None
 
 module _ (stood : ChineseWall → List Entry → Option Covered → Type 0) where
   -- At the end of this call's turn the machine stood for the run that ends with the call, and its
-  -- receipt covered this, if it was booked. What was seen after begins with that run, in which
-  -- these are the calls of the process since.
+  -- receipt covered this, if it was booked. What was seen after begins with that run, in which these are the calls of the
+  -- process since.
   pub record StoodBehind (before : Known) (calls : List Entry) (call : Entry)
       (booked : Option Covered) (after : Known) : Type 0 where
     pub front : List Entry
@@ -143,8 +143,8 @@ module _ (stood : ChineseWall → List Entry → Option Covered → Type 0) wher
   StoodFor before told calls booked after = (call : Entry) →
       last_call before.process told ≡ Some call → StoodBehind before calls call booked after
 
-  -- Before the answer to a line whose last call is this, the desk was shown one receipt, that of
-  -- the machine behind this call, which was booked; the answers to the lines before it had been written
+  -- Before the answer to a line whose last call is this, the desk was shown one receipt, that of the
+  -- machine behind this call, which was booked; the answers to the lines before it had been written
   -- then, and nothing more. For a line that makes no call nothing was shown.
   abbrev pub IsShown : ChineseWall → (written : Option (List ℕ)) → (before : Known) →
       Option Entry → (calls : List Entry) → (past : List Told) → List Shown → (after : Known) →

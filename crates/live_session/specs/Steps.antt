@@ -31,7 +31,7 @@ use Rattle.live_session.specs.Lines.{line_limit, left_line, exhausted_line, unbo
 use Rattle.live_session.specs.Sessions.{Told, done, waited, asked_nothing, said_by, calls_for}
 use Rattle.live_session.specs.Sessions.{answer, answers, SeesMore, Acted, and_untold, last_call}
 use Rattle.live_session.specs.Hearing.{DeskLog, Shown, Tells}
-use Rattle.live_session.specs.Sessions.{StoodFor, AreBooked, SaysLast, BreaksOff}
+use Rattle.live_session.specs.Sessions.{StoodFor, IsShown, AreBooked, SaysLast, BreaksOff, made}
 
 -- ---- the line that is not finished
 

@@ -82,8 +82,7 @@ module _ {S O : Type 0} (fails : S → ℕ) (left : S → Option (List ℕ))
   -- All sessions have ended, at such a machine, in a legal run in which the calls of each process
   -- are those of its session; and this is so of that very run.
   abbrev pub HaveEndedIn : {M : Type 0} → (ChineseWall → M → List Entry → Type 0) →
-      (M → Option Covered) → ChineseWall → List (Peer S O) → List (Session S O) →
-      (List Entry → Type 0) → Type 0
+      (M → Option Covered) → ChineseWall → List (Peer S O) → List (Session S O) → (List Entry → Type 0) → Type 0
   HaveEndedIn {M = M} stands booked wall peers sessions IsSoOf = (machine : M)
       × (served : ServedAll fails left heard failures contents stands booked wall peers sessions
       machine) × IsSoOf served.run

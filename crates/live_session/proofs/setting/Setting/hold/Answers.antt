@@ -1,4 +1,6 @@
-use Rattle.std.proofs.Common.{rules, ◌≡◌, ◌<◌, ◌∙◌, length, take, refl, ap, sym}
+use Rattle.std.proofs.Common.{rules, ◌≡◌, ◌<◌, ◌∙◌, length, take, refl, ap, sym, subst}
+use Rattle.wall_policy.specs.Policy.{ChineseWall}
+use Rattle.run_model.specs.Replies.{Legal}
 use Rattle.hall_turn.specs.Known.{Doorway}
 use Rattle.live_session.proofs.SessionLemmas.{going_none, going_on, served_till_stop, served_to_end}
 use Rattle.live_session.specs.Sessions.{Stood}

@@ -26,8 +26,7 @@ returns-in-Err-clause-takes g c =
     let log = g.S.Desk.heard in
     let source = c.args.source.now in
     λ start h. let text = behind start (parts 10 c.args.bytes.now) in
-    stops_here stood fails holds wall pass pass text text (showing log source source)
-    (used fails holds sink sink)
+    stops_here stood fails holds wall pass pass text text (showing log source source) (used fails holds sink sink)
     (so_far_none stood fails holds wall pass text (log source).shows sink
     (c.args.self.now.its ∙ ap (λ (d : Doorway). d.policy) (sym c.requires.door)) c.requires.legal)
 
@@ -74,8 +73,7 @@ returns-in-Err-answer_line-clause-takes g c =
     (log source).shows (log c.loop-part.source).shows (log c.answer_line.new.source).shows
     c.args.sink.now c.loop-part.sink c.answer_line.new.sink c.in-Err-answer_line.end
     (subst (λ (l : List Word). SoFar stood wall pass text (s.0 ∷ l)
-    (showing log source c.loop-part.source)
-    (used fails holds c.args.sink.now c.loop-part.sink) c.loop-part.pass)
+    (showing log source c.loop-part.source) (used fails holds c.args.sink.now c.loop-part.sink) c.loop-part.pass)
     c.in-Some-next_long.ensures s.2)
     (c.in-Err-answer_line.ensures.answers s.0 s.1)
 
@@ -105,11 +103,9 @@ later_so_far g c =
             goes_on stood fails holds wall pass c.loop-part.pass c.answer_line.new.pass text
                 (c.in-Some-next_long.part.now ∷ c.next_long-in-loop-part.new.self) s.0
                 (log source).shows (log c.loop-part.source).shows
-                (log c.answer_line.new.source).shows c.args.sink.now c.loop-part.sink
-                c.answer_line.new.sink
+                (log c.answer_line.new.source).shows c.args.sink.now c.loop-part.sink c.answer_line.new.sink
                 (subst (λ (l : List Word). SoFar stood wall pass text (s.0 ∷ l)
-                (showing log source c.loop-part.source)
-                (used fails holds c.args.sink.now c.loop-part.sink) c.loop-part.pass)
+                (showing log source c.loop-part.source) (used fails holds c.args.sink.now c.loop-part.sink) c.loop-part.pass)
                 c.in-Some-next_long.ensures s.2) a,
           );
     }
@@ -138,6 +134,5 @@ returns-in-Err-begin-clause-takes g c =
     (log source).shows (log c.loop-part.source).shows (log c.answer_line.new.source).shows
     c.args.sink.now c.loop-part.sink c.answer_line.new.sink
     (subst (λ (l : List Word). SoFar stood wall pass text (s.0 ∷ l)
-    (showing log source c.loop-part.source)
-    (used fails holds c.args.sink.now c.loop-part.sink) c.loop-part.pass)
+    (showing log source c.loop-part.source) (used fails holds c.args.sink.now c.loop-part.sink) c.loop-part.pass)
     c.in-Some-next_long.ensures s.2) a)
