@@ -1,5 +1,5 @@
 -- Why a run of a chain does not stand: the first thing that is wrong.
-use Rattle.std.specs.Prelude.{◌≡◌, ◌≢◌, ℕ, List, Option, Some, None, Err}
+use Rattle.std.specs.Prelude.{◌≡◌, ◌≢◌, ℕ, List, Option, Some, None, Ok, Err}
 use Rattle.sha2.specs.Sha256.{sha256}
 use Rattle.wall_policy.specs.declared.growth.GrowthFault.{GrowthFault}
 use Rattle.wall_policy.specs.declared.growth.GrowthFault.TheVariants as growths
@@ -17,15 +17,19 @@ use Rattle.chain_runs.specs.declared.fault.RunFault.{RunFault}
 use Rattle.chain_runs.specs.declared.fault.RunFault.TheVariants.{UnreadPolicy, OtherPolicy}
 use Rattle.chain_runs.specs.declared.fault.RunFault.TheVariants.{BadPolicy, NotGrown, BadBook}
 use Rattle.chain_runs.specs.declared.fault.RunFault.TheVariants.{OtherBook, NoMemory}
-use Rattle.chain_runs.specs.Runs.{IsFileOf, SaysPolicy, IsUnder, SaysBook}
+use Rattle.chain_runs.specs.Runs.{IsFileOf, SaysPolicy, SaysBook, IsBegunUnder}
+
+-- the file was not read
+abbrev pub IsNoBytes : {P : Type 0} → Used P → RunFault → Type 0
+IsNoBytes policy UnreadPolicy = IsUnreadable policy script_limit
+IsNoBytes policy NoMemory = NeverFailed policy
+IsNoBytes policy fault = ⊥
 
 -- the file was not read, or has another digest
 abbrev pub IsNoFile : {P : Type 0} → Used P → (digest : List ℕ) → RunFault → Type 0
-IsNoFile policy digest UnreadPolicy = IsUnreadable policy script_limit
 IsNoFile policy digest OtherPolicy =
     (bytes : List ℕ) × IsRead policy script_limit bytes × (sha256 bytes ≢ digest)
-IsNoFile policy digest NoMemory = NeverFailed policy
-IsNoFile policy digest fault = ⊥
+IsNoFile policy digest fault = IsNoBytes policy fault
 
 -- or it says no policy
 abbrev pub IsNoPolicy : {P : Type 0} → Used P → Begun → RunFault → Type 0
@@ -44,12 +48,22 @@ IsNotUnder after file (NotGrown fault) = HasNotGrown after file fault
 IsNotUnder after file NoMemory = HasNotGrown after file growths.NoMemory
 IsNotUnder after file fault = ⊥
 
--- this is the policy of the run
-pub record IsRunUnder {P : Type 0} (after : Option ChineseWall) (run : Run) (policy : Used P)
-    (wall : ChineseWall) : Type 0 where
-  pub file : ChineseWall
-  pub says : SaysPolicy policy run.begun file
-  pub under : IsUnder after file wall
+-- There is no policy of a run that began: its file says none, or has not grown. Out of memory says
+-- that the reader did not fail.
+abbrev pub IsNotBegun : {P : Type 0} → (after : Option ChineseWall) → Begun → Used P → RunFault →
+    Type 0
+IsNotBegun after begun policy (NotGrown fault) =
+    (file : ChineseWall) × SaysPolicy policy begun file × HasNotGrown after file fault
+IsNotBegun after begun policy NoMemory = NeverFailed policy
+IsNotBegun after begun policy fault = IsNoPolicy policy begun fault
+
+-- There is none of the run that comes next, of whose file the chain has no digest.
+abbrev pub IsNoNext : {P : Type 0} → (after : Option ChineseWall) → Used P → RunFault → Type 0
+IsNoNext after policy (NotGrown fault) = (bytes : List ℕ) × IsRead policy script_limit bytes
+    × ((file : ChineseWall) × (answer_to bytes ≡ Ok file) × HasNotGrown after file fault)
+IsNoNext after policy (BadPolicy fault) =
+    (bytes : List ℕ) × IsRead policy script_limit bytes × (answer_to bytes ≡ Err fault)
+IsNoNext after policy fault = IsNoBytes policy fault
 
 -- it is a sound book of another digest
 abbrev pub IsOther : {B : Type 0} → ChineseWall → Used B → (digest : List ℕ) → Type 0
@@ -63,8 +77,16 @@ abbrev pub IsRunFault : {P B : Type 0} → (after : Option ChineseWall) → Run 
 IsRunFault after run policy book (NotGrown fault) = ((file : ChineseWall)
     × SaysPolicy policy run.begun file × HasNotGrown after file fault) × IsUntouched book
 IsRunFault after run policy book (BadBook fault) = (wall : ChineseWall)
-    × IsRunUnder after run policy wall × AuditsTo wall book (Err fault)
+    × IsBegunUnder after run.begun policy wall × AuditsTo wall book (Err fault)
 IsRunFault after run policy book OtherBook = (wall : ChineseWall)
-    × IsRunUnder after run policy wall × IsOther wall book run.book_digest
+    × IsBegunUnder after run.begun policy wall × IsOther wall book run.book_digest
 IsRunFault after run policy book NoMemory = NeverFailed policy × NeverFailed book
 IsRunFault after run policy book fault = IsNoPolicy policy run.begun fault × IsUntouched book
+
+-- ---- words of private contracts
+
+-- these bytes say no policy; memory ran out only where they say one
+abbrev pub SaysNone : (bytes : List ℕ) → RunFault → Type 0
+SaysNone bytes (BadPolicy fault) = answer_to bytes ≡ Err fault
+SaysNone bytes NoMemory = Unit {0}
+SaysNone bytes fault = ⊥

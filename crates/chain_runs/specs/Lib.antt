@@ -4,5 +4,7 @@ pub mod Runs
 pub mod Faults
 -- all of them
 pub mod Chains
+-- the end of the one that is under way
+pub mod Ends
 -- words of private contracts
 pub mod Steps

@@ -33,6 +33,22 @@ abbrev pub IsUnder : (after : Option ChineseWall) → (file wall : ChineseWall) 
 IsUnder None file wall = wall ≡ file
 IsUnder (Some after) file wall = IsNextPolicy after file wall
 
+-- this is the policy of a run that began
+pub record IsBegunUnder {P : Type 0} (after : Option ChineseWall) (begun : Begun) (policy : Used P)
+    (wall : ChineseWall) : Type 0 where
+  pub file : ChineseWall
+  pub says : SaysPolicy policy begun file
+  pub under : IsUnder after file wall
+
+-- this is the policy of the run that comes next, whose file has this digest
+pub record IsNext {P : Type 0} (after : Option ChineseWall) (policy : Used P) (digest : List ℕ)
+    (wall : ChineseWall) : Type 0 where
+  pub bytes : List ℕ
+  pub file : IsFileOf policy digest bytes
+  pub said : ChineseWall
+  pub says : answer_to bytes ≡ Ok said
+  pub under : IsUnder after said wall
+
 -- ---- its book
 
 -- the book is the one of the chain: the text of a book of these entries

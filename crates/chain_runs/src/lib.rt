@@ -5,12 +5,16 @@
 //! before the next, whatever the next one's file says of least numbers.
 #![tactic(auto)]
 
+mod end;
 mod fault;
 mod files;
+mod policy;
 mod run;
 mod runs;
 
+pub use end::{EndFault, end_run};
 pub use fault::RunFault;
 pub use files::FileSystem;
+pub use policy::{Next, read_begun, read_next};
 pub use run::{Behind, read_run};
 pub use runs::{Broken, Past, read_runs};

@@ -4,73 +4,17 @@ ghost use Rattle.std.specs.Prelude.{length};
 ghost use Rattle.std.specs.Option.{option_copied};
 ghost use Rattle.run_model.specs.Chains.{Link, IsChain};
 ghost use Rattle.hall_script.specs.Devices.{used};
-ghost use Rattle.chain_runs.specs.Runs.{IsUnder, IsFileOf, SaysPolicy, Stands, IsChainAfter};
-ghost use Rattle.chain_runs.specs.Faults.{IsNoFile, IsNoPolicy, IsNotUnder, IsRunFault};
+ghost use Rattle.chain_runs.specs.Runs.{Stands, IsChainAfter};
+ghost use Rattle.chain_runs.specs.Faults.{IsRunFault};
 ghost use Rattle.chain_runs.specs.Steps.{HasJoined, IsNotJoined};
 
 use crate::fault::RunFault;
-use book_chain::{GrowthFault, next_policy};
+use crate::policy::read_begun;
 use book_stream::{AuditFault, Passed, pass_source};
-use chain_file::{Begun, Run};
-use hall_script::{DeviceFault, SCRIPT_LIMIT, read_device};
-use sha2::{Digest, Sha256};
+use chain_file::Run;
 use std::alloc::Global;
 use wall_labels::Source;
-use wall_policy::{Policy, PolicyFault, read_policy};
-
-// Reads the policy file of a run whole. It is the one of which the chain has the digest.
-fn read_file<P: Source>(alloc: Global, begun: &Begun, source: &mut P) -> Result<Vec<u8>, RunFault>
-    ensures file { let device = used P.failures P.remaining source.old source.new in
-        IfOk result (λ bytes. IsFileOf device begun.now.policy_digest bytes.items) }
-    ensures fault { let device = used P.failures P.remaining source.old source.new in
-        IfErr result (IsNoFile device begun.now.policy_digest) }
-{
-    let bytes = match read_device(alloc, source, SCRIPT_LIMIT) {
-        Ok(bytes) => bytes,
-        Err(DeviceFault::Read) => return Err(RunFault::UnreadPolicy),
-        Err(DeviceFault::NoMemory) => return Err(RunFault::NoMemory),
-    };
-    let digest = Sha256::digest(bytes.as_slice());
-    if digest != begun.policy_digest {
-        return Err(RunFault::OtherPolicy);
-    }
-    Ok(bytes)
-}
-
-// The policy that the file of a run says.
-fn read_said<P: Source>(alloc: Global, begun: &Begun, source: &mut P) -> Result<Policy, RunFault>
-    ensures said { let device = used P.failures P.remaining source.old source.new in
-        IfOk result (SaysPolicy device begun.now) }
-    ensures fault { let device = used P.failures P.remaining source.old source.new in
-        IfErr result (IsNoPolicy device begun.now) }
-{
-    let bytes = match read_file(alloc, begun, source) {
-        Ok(bytes) => bytes,
-        Err(fault) => return Err(fault),
-    };
-    match read_policy(alloc, &bytes) {
-        Ok(file) => Ok(file),
-        Err(PolicyFault::NoMemory) => Err(RunFault::NoMemory),
-        Err(fault) => Err(RunFault::BadPolicy(fault)),
-    }
-}
-
-// The policy of a run whose file says this one.
-fn under(alloc: Global, after: Option<&Policy>, file: Policy) -> Result<Policy, RunFault>
-    ensures under { IfOk result (IsUnder (option_copied after.entry) file) }
-    ensures chain { IfOk result (λ wall. (links : List Link) →
-        IsChainAfter (option_copied after.entry) links → IsChain links wall) }
-    ensures fault { IfErr result (IsNotUnder (option_copied after.entry) file) }
-{
-    let Some(after) = after else {
-        return Ok(file);
-    };
-    match next_policy(alloc, after, &file) {
-        Ok(wall) => Ok(wall),
-        Err(GrowthFault::NoMemory) => Err(RunFault::NoMemory),
-        Err(fault) => Err(RunFault::NotGrown(fault)),
-    }
-}
+use wall_policy::Policy;
 
 // Reads the book of a run, which is the one of which the chain has the digest.
 fn pass<B: Source>(
@@ -134,11 +78,7 @@ pub fn read_run<P: Source, B: Source>(
         let books = used B.failures B.remaining book.old book.new in
         IfErr result (IsRunFault (option_copied after.entry) run.now policies books) }
 {
-    let file = match read_said(alloc, &run.begun, policy) {
-        Ok(file) => file,
-        Err(fault) => return Err(fault),
-    };
-    let wall = match under(alloc, after, file) {
+    let wall = match read_begun(alloc, after, &run.begun, policy) {
         Ok(wall) => wall,
         Err(fault) => return Err(fault),
     };

@@ -8,7 +8,7 @@ use Rattle.chain_runs.proofs.run.read_run.Goals as goal
 
 pub after-requires : goal.after-requires
 after-requires g c =
-    let wall = c.in-Ok-under.wall in
+    let wall = c.in-Ok.wall in
     let p = c.in-Ok-pass.ensures.passed.0 in
     can_be_held wall (posts_in p.entries) c.in-Ok-pass.passed.held.items p.sound.posts p.held
     c.processes.ensures.policy
@@ -16,7 +16,7 @@ after-requires g c =
 
 pub returns-clause-stands : goal.returns-clause-stands
 returns-clause-stands g c =
-    let wall = c.in-Ok-under.wall in
+    let wall = c.in-Ok.wall in
     let p = c.in-Ok-pass.ensures.passed.0 in
     let behind = subst (λ (w : ChineseWall). IsPolicyAfter wall (posts_in p.entries) w)
     (sym c.after.ensures)
@@ -24,13 +24,13 @@ returns-clause-stands g c =
     p.held) in (
       record { wall = wall; book = p.entries },
       record {
-        file = c.in-Ok.file;
-        says = c.in-Ok.ensures.said;
-        under = c.in-Ok-under.ensures.under;
+        file = c.in-Ok.ensures.under.file;
+        says = c.in-Ok.ensures.under.says;
+        under = c.in-Ok.ensures.under.under;
         read = (p.text, p.gave, p.says, sym p.digest ∙ c.in-Ok-pass.ensures.passed.1);
         sound = p.sound;
         behind = behind;
       },
       p.number,
-      λ older chain. (c.in-Ok-under.ensures.chain older chain, p.sound, behind),
+      λ older chain. (c.in-Ok.ensures.chain older chain, p.sound, behind),
     )
