@@ -13,6 +13,8 @@ mod days;
 #[cfg(test)]
 mod grown;
 #[cfg(test)]
+mod pieces;
+#[cfg(test)]
 mod refused;
 #[cfg(test)]
 mod runs;

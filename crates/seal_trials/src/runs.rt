@@ -1,13 +1,15 @@
 //! The runs of a chain, read again from the files at their paths.
 use crate::days::{ALPHA_TO_N0, BETA_NOT_TO_N0, DAY_ONE, DAY_TWO};
 use book_stream::AuditFault;
-use chain_file::{ChainFile, Path};
-use chain_runs::{Broken, FileSystem, Past, RunFault, read_runs};
+use chain_file::{ChainFile, EnterFault, Path};
+use chain_runs::{
+    Broken, EndFault, FileSystem, Past, RunFault, end_run, read_begun, read_next, read_runs,
+};
 use sha2::{Digest, Sha256};
 use std::process::Abort;
 use wall_labels::memory::{Fuse, MemorySource};
 use wall_labels::{DatasetId, ProcessId};
-use wall_policy::GrowthFault;
+use wall_policy::{GrowthFault, Policy};
 
 // Files in memory: those of the first day and those of the second.
 #[derive(Drop)]
@@ -126,6 +128,76 @@ fn runs_stand_behind_one_another(rt: HostRuntime) {
             .iter()
             .any(|held| (Some(held.0), Some(held.1)) == pair)
     );
+}
+
+// How the run that is under way ends by this book, if not well.
+fn ending(
+    rt: &(impl AllocGlobal + Abort),
+    policy: &Policy,
+    book: &str,
+    file: &mut ChainFile,
+) -> Option<EndFault> {
+    match end_run(rt.alloc(), policy, &mut whole(book.as_bytes()), file) {
+        Ok(line) => {
+            assert!(rt; line.ends_with(b"\n"));
+            None
+        }
+        Err(fault) => Some(fault),
+    }
+}
+
+/// The run that comes next begins under the policy of its own file, and ends by its book: the chain is
+/// then the one that was written at once. A book that is cut ends nothing, and none is ended twice.
+#[test]
+fn a_run_begins_and_ends(rt: HostRuntime) {
+    let alloc = rt.alloc();
+    let mut file = ChainFile::new(alloc);
+    enter(
+        &rt,
+        &mut file,
+        [b"1.toml", b"1.book"],
+        [DAY_ONE, ALPHA_TO_N0],
+    );
+    let shelf = both_days();
+    let past = match read_runs(alloc, &shelf, file.ended()) {
+        Ok(past) => past,
+        Err(_) => panic!(&rt; "the first run does not stand"),
+    };
+    let next = match read_next(alloc, past.policy.as_ref(), &mut whole(DAY_TWO.as_bytes())) {
+        Ok(next) => next,
+        Err(_) => panic!(&rt; "the next run has no policy"),
+    };
+    assert!(&rt; next.digest == Sha256::digest(DAY_TWO.as_bytes()));
+    let order = Some(EndFault::Refused(EnterFault::OutOfOrder));
+    assert!(&rt; ending(&rt, &next.policy, BETA_NOT_TO_N0, &mut file) == order);
+    let begun = file.begin_run(
+        alloc,
+        path(&rt, b"2.toml"),
+        next.digest,
+        path(&rt, b"2.book"),
+    );
+    assert!(&rt; begun.is_ok());
+    let cut = &BETA_NOT_TO_N0[..BETA_NOT_TO_N0.len() - 1];
+    let fault = Some(EndFault::BadBook(AuditFault::Cut));
+    assert!(&rt; ending(&rt, &next.policy, cut, &mut file) == fault);
+    let begun = file.under_way().expect(&rt, "it has not ended");
+    let policy = read_begun(
+        alloc,
+        past.policy.as_ref(),
+        begun,
+        &mut whole(DAY_TWO.as_bytes()),
+    );
+    assert!(&rt; policy.is_ok());
+    let other = read_begun(
+        alloc,
+        past.policy.as_ref(),
+        begun,
+        &mut whole(DAY_ONE.as_bytes()),
+    );
+    assert!(&rt; other.err() == Some(RunFault::OtherPolicy));
+    assert!(&rt; ending(&rt, &next.policy, BETA_NOT_TO_N0, &mut file).is_none());
+    assert!(&rt; file.head() == two_runs(&rt).head());
+    assert!(&rt; ending(&rt, &next.policy, BETA_NOT_TO_N0, &mut file) == order);
 }
 
 /// A byte of a file of either day, where it is another, is told at its run.

@@ -1,0 +1,9 @@
+pub mod LineLemmas
+pub mod JudgeLemmas
+pub mod ReadingLemmas
+pub mod TextLemmas
+pub mod FaultLemmas
+pub mod SealLemmas
+pub mod WriterLemmas
+pub mod SourceLemmas
+pub mod EndLemmas
