@@ -12,8 +12,8 @@ use Rattle.hall_turn.specs.Receipts.{Covered}
 use Rattle.hall_turn.specs.Known.{Known}
 use Rattle.live_session.specs.Lines.{said}
 use Rattle.live_session.specs.Hearing.{DeskLog, Heard, Tells, text_of}
-use Rattle.live_session.specs.Sessions.{Told, said_by, answers, Acted, HadAnswered, IsPrompt}
-use Rattle.live_session.specs.Steps.{Showing, SoFar}
+use Rattle.live_session.specs.Sessions.{Told, said_by, Acted, HadAnswered, IsPrompt}
+use Rattle.live_session.specs.Steps.{Counting, Showing, SoFar}
 
 -- ---- what is known
 
@@ -115,21 +115,22 @@ module _ {S O : Type 0} (fails : S → ℕ) (left : S → Option (List ℕ))
     answered = p.answered;
   }
 
-module _ (stood : ChineseWall → List Entry → Option Covered → Type 0)
+module _ (stood : ChineseWall → List Entry → Option Covered → Type 0) (most : Option ℕ)
     {S O : Type 0} (fails : S → ℕ) (left : S → Option (List ℕ))
     (heard : S → DeskLog) (failures : O → ℕ) (contents : O → Option (List ℕ)) where
   -- all finished lines were answered, and then came a read
   pub prompt_more : (wall : ChineseWall) (a b : Known) (first mid last : S) (old out new : O)
       (bytes more : List ℕ) (line : Word)
-      (desk : Showing)
-      (s : SoFar stood wall a (parts 10 bytes) (line ∷ []) desk (used failures contents old out) b) →
+      (desk : Showing) (count : Counting)
+      (s : SoFar stood most wall a (parts 10 bytes) (line ∷ []) desk
+      (used failures contents old out) count b) →
       IsPrompt heard wall (used fails left first mid) (used failures contents old out) bytes
       s.told →
       Tells (heard mid).reads (heard last).reads
       (record { bytes = more; written = contents out } ∷ []) →
       (told : List Told) → IsPrompt heard wall (used fails left first last)
       (used failures contents old new) (bytes ++ more) (told ++ s.told)
-  prompt_more wall a b first mid last old out new bytes more line desk s p tells told =
+  prompt_more wall a b first mid last old out new bytes more line desk count s p tells told =
       let read : Heard = record { bytes = more; written = contents out } in
       let now : HadAnswered wall (contents old) (contents out) (text_of p.reads) s.told = record {
         since = [];

@@ -17,17 +17,18 @@ use Rattle.live_session.specs.Joining.{HasServed, AllServed, handed, passes_of, 
 use Rattle.live_session.specs.Joining.{passes_in, end_of, ends_of, end_in, ends_in, IsFresh}
 use Rattle.live_session.specs.Joining.{ArePrepared, HaveEnded}
 use Rattle.live_session.specs.Hearing.{DeskLog}
-use Rattle.live_session.specs.Sessions.{Stood, Serves, ServesIfBegun}
-use Rattle.live_session.specs.declared.ending.SessionEnd.{SessionEnd}
+use Rattle.live_session.specs.Sessions.{Stood, Serves, ServesIfBegun, IsWithin, and_untold, made}
+use Rattle.live_session.specs.declared.ending.Closing.{Closing}
+use Rattle.live_session.proofs.SessionLemmas.{made_posts, within_fewer}
 use Rattle.live_session.specs.Served.{SessionOf, ServedAll}
-use Rattle.hall_script.specs.Devices.{used}
+use Rattle.hall_script.specs.Devices.{Used, used}
 use Rattle.live_session.specs.declared.peer.Peer.{Peer}
 use Rattle.live_session.specs.declared.peer.Session.{Session}
 use Rattle.live_session.specs.declared.run.Ended.{Ended}
 use Rattle.wall_policy.specs.Policy.{ChineseWall}
 use Rattle.run_model.specs.Comms.{processes}
 use Rattle.run_model.specs.Replies.{Legal}
-use Rattle.run_model.specs.Runs.{Entry}
+use Rattle.run_model.specs.Runs.{Entry, posts}
 use Rattle.hall_turn.specs.Runs.{calls_of}
 use Rattle.hall_turn.specs.Receipts.{Covered}
 use Rattle.hall_turn.specs.Known.{Known, Doorway}
@@ -97,6 +98,21 @@ refused (Ok x) (Ok begun) P none h = absurd cc
 refused (Ok x) (Err e) P none h = absurd (false≢true h)
 refused (Err e) told P none h = tt
 
+-- no more posts of a process count than its session made calls
+session_posts : {S O : Type 0} (stood : ChineseWall → List Entry → Option Covered → Type 0)
+    (most : Option ℕ) (heard : S → DeskLog) (wall : ChineseWall) (door : Doorway)
+    (run : List Entry) (p : ℕ) (pass : Known) (source : Used S) (sink : Used O)
+    (closing : Closing) → calls_of p run ≡ calls_of p pass.seen →
+    Serves stood most heard wall source sink (new_pass door p) pass closing →
+    IsWithin most (length (posts (calls_of p run)))
+session_posts stood most heard wall door run p pass source sink closing own s =
+    let all = and_untold s.untold s.told in
+    let few = made_posts p all in
+    let same : calls_of p run ≡ made p all = own ∙ s.acted.sees.own ∙ append-nil (made p all) in
+    let posted = ap (λ (l : List Entry). length (posts l)) same in
+    let counted = s.counted in
+    within_fewer most (length (posts (calls_of p run))) closing.calls (omega arith) s.within
+
 same_append : {A : Type 0} (xs ys : List A) (x y : A) → xs ≡ ys → x ≡ y →
     xs ++ x ∷ [] ≡ ys ++ y ∷ []
 same_append xs ys x y e f = cc
@@ -127,7 +143,7 @@ module _ {M S O : Type 0} where
   pub one_end_more : (done : List (Played M S O)) (played : Played M S O)
       (before after : List (Session S O)) (session : Session S O) → ends_of before ≡ ends_in done →
       after ≡ before ++ session ∷ [] → session.peer ≡ played.peer →
-      played.ended ≡ Some session.end → ends_of after ≡ ends_in (done ++ played ∷ [])
+      played.ended ≡ Some session.closing → ends_of after ≡ ends_in (done ++ played ∷ [])
   one_end_more done played before after session are pushed peer ended =
       ap (ends_of {S = S} {O = O}) pushed
       ∙ map-append (end_of {S = S} {O = O}) before (session ∷ [])
@@ -150,9 +166,10 @@ module _ {M S O : Type 0} where
       ∙ ap (λ (l : List Known). get_or l i d.pass) are
       ∙ get_or-map-range_with_len (new_pass door) 0 n i i d.pass (omega arith) (omega arith)
 
-  pub all_fresh : (wall : ChineseWall) (peers : List (Peer S O)) (door : Doorway)
-      (jobs : List (Job M S O)) → ArePrepared wall peers door jobs → All (IsFresh door) jobs
-  all_fresh wall peers door jobs p = λ k d lt.
+  pub all_fresh : (most : Option ℕ) (wall : ChineseWall) (peers : List (Peer S O))
+      (door : Doorway) (jobs : List (Job M S O)) → ArePrepared most wall peers door jobs →
+      All (IsFresh door) jobs
+  all_fresh most wall peers door jobs p = λ k d lt.
       let pass = pass_at door (processes wall) jobs k d p.passes lt in record {
         door_is = ap (λ (x : Known). x.door) pass;
         unseen = ap (λ (x : Known). x.seen) pass;
@@ -193,8 +210,8 @@ module _ (stood : ChineseWall → List Entry → Option Covered → Type 0)
   served_long [] (x ∷ all) h = absurd h
   served_long (j ∷ jobs) [] h = absurd h
 
-  module _ (wall : ChineseWall) (peers : List (Peer S O)) (door : Doorway)
-      (jobs : List (Job M S O)) (ended : Ended M S O) (p : ArePrepared wall peers door jobs)
+  module _ (most : Option ℕ) (wall : ChineseWall) (peers : List (Peer S O)) (door : Doorway)
+      (jobs : List (Job M S O)) (ended : Ended M S O) (p : ArePrepared most wall peers door jobs)
       (h : HaveEnded stood fails left heard failures contents jobs ended) where
     many_jobs : length jobs ≡ processes wall
     many_jobs = jobs_long door (processes wall) jobs p.passes
@@ -235,7 +252,7 @@ module _ (stood : ChineseWall → List Entry → Option Covered → Type 0)
 
     pub session_of : (run : List Entry) → All (HasMade run) ended.passes.items → (i : ℕ)
         (d : Peer S O) (e : Session S O) → i < processes wall →
-        SessionOf fails left heard failures contents stood wall run door i (get_or peers i d)
+        SessionOf fails left heard failures contents stood most wall run door i (get_or peers i d)
         (get_or ended.sessions.items i e)
     session_of run each i d e lt =
         let back = many_served in
@@ -264,41 +281,56 @@ module _ (stood : ChineseWall → List Entry → Option Covered → Type 0)
         let in_sessions = many_sessions in
         let told : end_of session ≡ end_in x =
         sym (get_or-map (end_of {S = S} {O = O}) ended.sessions.items i e none (omega arith))
-        ∙ ap (λ (l : List (Peer S O × Option SessionEnd)). get_or l i none) h.sessions
+        ∙ ap (λ (l : List (Peer S O × Option Closing)). get_or l i none) h.sessions
         ∙ get_or-map (end_in {M = M} {S = S} {O = O}) h.all i x none in_all
         ∙ ap (end_in {M = M} {S = S} {O = O}) (at.played_is x) in
         let wall_is : j.pass.door.policy ≡ wall =
         ap (λ (y : Known). y.door.policy) pass ∙ p.policy in
+        let bound_is : j.most ≡ most =
+        subst (λ (y : Job M S O). y.most ≡ most) (at.job_is j) (p.bounds i j low) in
+        let served : Serves stood most heard wall
+        (used fails left (get_or peers i d).source session.peer.source)
+        (used failures contents (get_or peers i d).sink session.peer.sink) (new_pass door i) k
+        session.closing =
+        subst (λ (y : Peer S O). Serves stood most heard wall
+        (used fails left y.source session.peer.source)
+        (used failures contents y.sink session.peer.sink) (new_pass door i) k session.closing)
+        (sym peer_is)
+        (subst (λ (y : Peer S O × Option Closing). ServesIfBegun stood most heard wall
+        (used fails left j.peer.source y.0.source)
+        (used failures contents j.peer.sink y.0.sink)
+        (new_pass door i) k y.1) (sym told)
+        (subst (λ (b : Known). ServesIfBegun stood most heard wall
+        (used fails left j.peer.source x.peer.source)
+        (used failures contents j.peer.sink x.peer.sink) b k x.ended) pass
+        (subst (λ (w : ChineseWall). ServesIfBegun stood most heard w
+        (used fails left j.peer.source x.peer.source)
+        (used failures contents j.peer.sink x.peer.sink) j.pass k x.ended) wall_is
+        (subst (λ (m : Option ℕ). ServesIfBegun stood m heard j.pass.door.policy
+        (used fails left j.peer.source x.peer.source)
+        (used failures contents j.peer.sink x.peer.sink) j.pass k x.ended) bound_is
+        at.has.so)))) in
+        let mine : calls_of i run ≡ calls_of i k.seen =
+        subst (λ (q : ℕ). calls_of q run ≡ calls_of q k.seen) number own.own in
         record {
           pass = k;
           begins = own.begins;
-          own = subst (λ (q : ℕ). calls_of q run ≡ calls_of q k.seen) number own.own;
-          served =
-              subst (λ (y : Peer S O). Serves stood heard wall
-              (used fails left y.source session.peer.source)
-              (used failures contents y.sink session.peer.sink) (new_pass door i) k session.end)
-              (sym peer_is)
-              (subst (λ (y : Peer S O × Option SessionEnd). ServesIfBegun stood heard wall
-              (used fails left j.peer.source y.0.source)
-              (used failures contents j.peer.sink y.0.sink)
-              (new_pass door i) k y.1) (sym told)
-              (subst (λ (b : Known). ServesIfBegun stood heard wall
-              (used fails left j.peer.source x.peer.source)
-              (used failures contents j.peer.sink x.peer.sink) b k x.ended) pass
-              (subst (λ (w : ChineseWall). ServesIfBegun stood heard w
-              (used fails left j.peer.source x.peer.source)
-              (used failures contents j.peer.sink x.peer.sink) j.pass k x.ended) wall_is
-              at.has.so)));
+          own = mine;
+          served = served;
+          posted = session_posts stood most heard wall door run i k
+              (used fails left (get_or peers i d).source session.peer.source)
+              (used failures contents (get_or peers i d).sink session.peer.sink) session.closing mine
+              served;
         }
 
 module _ {M : Type 0} (stands : ChineseWall → M → List Entry → Type 0) (booked : M → Option Covered)
     {S O : Type 0} (fails : S → ℕ) (left : S → Option (List ℕ))
     (heard : S → DeskLog) (failures : O → ℕ) (contents : O → Option (List ℕ))
-    (wall : ChineseWall) (peers : List (Peer S O)) (door : Doorway) (jobs : List (Job M S O))
-    (ended : Ended M S O) (p : ArePrepared wall peers door jobs)
+    (most : Option ℕ) (wall : ChineseWall) (peers : List (Peer S O)) (door : Doorway)
+    (jobs : List (Job M S O)) (ended : Ended M S O) (p : ArePrepared most wall peers door jobs)
     (h : HaveEnded (Stood stands booked) fails left heard failures contents jobs ended) where
   pub served_all : (machine : M) → ClosedTo stands door.policy machine ended.passes.items →
-      ServedAll fails left heard failures contents stands booked wall peers
+      ServedAll fails left heard failures contents stands booked most wall peers
       ended.sessions.items machine
   served_all machine closed = record {
     door = door;
@@ -306,10 +338,10 @@ module _ {M : Type 0} (stands : ChineseWall → M → List Entry → Type 0) (bo
     door_is = p.policy;
     legal = subst (λ (w : ChineseWall). Legal w closed.run) p.policy closed.legal;
     stood = subst (λ (w : ChineseWall). stands w machine closed.run) p.policy closed.stood;
-    count = many_sessions (Stood stands booked) fails left heard failures contents wall peers
+    count = many_sessions (Stood stands booked) fails left heard failures contents most wall peers
         door jobs ended p h;
-    each = λ i d e lt. session_of (Stood stands booked) fails left heard failures contents wall
-        peers door jobs ended p h closed.run closed.each i d e lt;
+    each = λ i d e lt. session_of (Stood stands booked) fails left heard failures contents most
+        wall peers door jobs ended p h closed.run closed.each i d e lt;
     others = λ i le. closed.others i
         (subst (λ (w : ChineseWall). processes w ≤ i) (sym p.policy) le);
   }

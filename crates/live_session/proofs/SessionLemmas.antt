@@ -2,12 +2,15 @@
 use Rattle.std.proofs.Common.{◌≡◌, ◌⊎◌, inl, inr, ℕ, zero, suc, ◌+◌, List, [], ◌∷◌, ◌++◌, map}
 use Rattle.std.proofs.Common.{reverse, Option, Some, None, Result, Ok, Err, refl, sym, ap, subst}
 use Rattle.std.proofs.Common.{◌≢◌, Bool}
-use Rattle.std.specs.Prelude.{is_some, option_map}
-use Rattle.std.proofs.Common.{◌∙◌, append_assoc, append-nil, IfOk, replicate, take, arith}
+use Rattle.std.specs.Prelude.{is_some, option_map, ◌==◌, ◌≤◌, length, not}
+use Rattle.std.proofs.Common.{◌∙◌, length-append, append_assoc, append-nil, IfOk, replicate, take, arith}
 use Rattle.wall_labels.specs.declared.no_memory.NoMemory.{NoMemory as OutOfMemory}
 use Rattle.wall_labels.specs.Known.{AppendsPrefix}
 use Rattle.std.specs.Io.KnownBytes.{Appends, Consumes, IsAtEnd, Keeps}
-use Rattle.std.proofs.lemmas.List.{reverse-append}
+use Rattle.std.proofs.lemmas.List.{reverse-append, length-map}
+use Rattle.std.proofs.lemmas.List.Elements.{filter_map-append}
+use Rattle.std.proofs.lemmas.List.Filters.{length-filter_both}
+use Rattle.std.specs.List.{cons_option, filter}
 use Rattle.wall_policy.specs.Policy.{ChineseWall}
 use Rattle.std.proofs.KnownBytes.{Appends-nil, Appends-trans, Consumes-nil, Consumes-trans}
 use Rattle.std.proofs.KnownBytes.{Consumes-kept}
@@ -17,7 +20,9 @@ use Rattle.run_model.specs.declared.call.Act.{Act}
 use Rattle.run_model.specs.declared.call.Act.TheVariants.{Take}
 use Rattle.run_model.specs.declared.reply.Reply.{Reply}
 use Rattle.run_model.specs.declared.reply.Reply.TheVariants.{Pending}
-use Rattle.run_model.specs.Runs.{Entry, entry}
+use Rattle.mpi_elems.specs.Contents.{Contents}
+use Rattle.run_model.specs.Contributions.{Contribution, posts_of}
+use Rattle.run_model.specs.Runs.{Entry, contributions, contribution_in, posts}
 use Rattle.run_model.specs.Replies.{Legal}
 use Rattle.hall_script.specs.declared.ask.Ask.{Ask}
 use Rattle.hall_script.specs.declared.ask.Ask.TheVariants.{Act as ToAct, Wait, Leave}
@@ -29,7 +34,7 @@ use Rattle.hall_turn.specs.declared.answer.Answer.TheVariants.{Reply as Replied,
 use Rattle.hall_turn.specs.Runs.{Continues, calls_of}
 use Rattle.hall_turn.specs.Receipts.{Covered}
 use Rattle.hall_turn.specs.Known.{Known, Doorway}
-use Rattle.hall_turn.specs.Answers.{IsSamePass, SeesOn, Answered, Gives, GivesAt}
+use Rattle.hall_turn.specs.Answers.{IsSamePass, Answered, Gives, GivesAt}
 use Rattle.hall_turn.specs.Answers.{NamesKnown}
 use Rattle.hall_turn.proofs.HallTurnLemmas.{continues_self, continues_more, continues_trans}
 use Rattle.live_session.specs.declared.line.BadLine.{BadLine}
@@ -37,19 +42,21 @@ use Rattle.live_session.specs.declared.acting.Came.{Came}
 use Rattle.live_session.specs.declared.acting.Came.TheVariants as cames
 use Rattle.live_session.specs.declared.answer.Next.{Next}
 use Rattle.live_session.specs.declared.answer.Next.TheVariants as nexts
-use Rattle.live_session.specs.Lines.{said, left_line, exhausted_line, unbooked_line}
+use Rattle.live_session.specs.Lines.{said}
 use Rattle.live_session.specs.Sessions.{Told, done, waited, asked_nothing, said_by, called}
 use Rattle.live_session.specs.Sessions.{calls_for, made, answer, answers, SeesMore, Acted, EndsAt}
 use Rattle.live_session.specs.Sessions.{SaysLast, IsCutIn, BreaksOff, EndsSo, and_untold, Stood}
 use Rattle.live_session.specs.Sessions.{last_call, StoodBehind, StoodFor, AreBooked, EndsUnbooked}
-use Rattle.live_session.specs.Sessions.{Serves, IsPrompt, IsShown}
-use Rattle.live_session.specs.Hearing.{DeskLog, Heard, Shown, Tells}
-use Rattle.live_session.specs.Steps.{ComesTo, MayHaveCome, ComesTooLate, ComesUnbooked, reply_to}
+use Rattle.live_session.specs.Sessions.{Serves, IsPrompt, IsShown, counts_as, calls_in}
+use Rattle.live_session.specs.Sessions.{IsWithin, IsSpent}
+use Rattle.live_session.specs.Hearing.{DeskLog, Shown, Tells}
+use Rattle.live_session.specs.Steps.{ComesTo, MayHaveCome, reply_to}
 use Rattle.live_session.specs.Steps.{CameTo, Waited}
 use Rattle.live_session.specs.Steps.{came_of, line_to, next_after, AnswersSo, WritesAnswer}
 use Rattle.live_session.specs.Steps.{PutsAnswer, AnswersLine, SoFar, Stops, StopsSo, Holds}
-use Rattle.live_session.specs.Steps.{behind, ComesBooked, IsUnread, Showing, showing, shown_next}
-use Rattle.live_session.specs.Steps.{AnswersBehind, CameNamesKnown}
+use Rattle.live_session.specs.Steps.{behind, IsUnread, Showing, showing, shown_next}
+use Rattle.live_session.specs.Steps.{AnswersBehind, CameNamesKnown, Counting, counting, Counted}
+use Rattle.live_session.specs.Steps.{IsUncounted, calls_after, Counts, IsOver}
 use Rattle.live_session.specs.declared.line.Unfinished.{Unfinished}
 use Rattle.live_session.proofs.CutLemmas.{parts_behind}
 use Rattle.live_session.proofs.PromptLemmas.{prompt_none, prompt_more, prompt_still, prompt_unread}
@@ -161,6 +168,122 @@ acted_more wall a b c text lines later line past told s says sees =
       says = ap (λ l. l ∷ []) says;
       sees = subst (λ l. SeesMore b l c) (sym (append-nil (calls_for b.process told))) sees;
     }) text s.cut
+
+-- ---- counts
+
+calls_in-append : (later first : List Told) →
+    calls_in (later ++ first) ≡ calls_in later + calls_in first
+calls_in-append [] first = omega arith
+calls_in-append (told ∷ later) first = let e = calls_in-append later first in omega arith
+
+-- no call is within any bound
+pub within_none : (most : Option ℕ) → IsWithin most 0
+within_none None = tt
+within_none (Some most) = omega arith
+
+pub none_counted : (k : ℕ) → Counted [] (counting k k)
+none_counted k = omega arith
+
+pub counted_then : (later first : List Told) (k l m : ℕ) → Counted first (counting k l) →
+    Counted later (counting l m) → Counted (later ++ first) (counting k m)
+counted_then later first k l m s t = let e = calls_in-append later first in omega arith
+
+-- one line more
+counted_more : (told : Told) (first : List Told) (k l m : ℕ) → Counted first (counting k l) →
+    Counted (told ∷ []) (counting l m) → Counted (told ∷ first) (counting k m)
+counted_more told first k l m s t = omega arith
+
+-- a line that makes no call
+counted_still : (told : List Told) (k l m : ℕ) → Counted told (counting k l) →
+    IsUncounted (counting l m) → Counted told (counting k m)
+counted_still told k l m s t = omega arith
+
+counted_bad : (bad : BadLine) (k l : ℕ) → IsUncounted (counting k l) →
+    Counted (asked_nothing bad ∷ []) (counting k l)
+counted_bad bad k l t = omega arith
+
+pub counted_untold : (untold : Option Told) (later first : List Told) (k l m : ℕ) →
+    Counted first (counting k l) → Counted (and_untold untold later) (counting l m) →
+    Counted (and_untold untold (later ++ first)) (counting k m)
+counted_untold untold later first k l m s t =
+    subst (λ (all : List Told). Counted all (counting k m)) (untold-append untold later first)
+    (counted_then (and_untold untold later) first k l m s t)
+
+counted_call : (act : Act) (reply : Reply) (k : ℕ) →
+    Counted (done act reply ∷ []) (counting k (suc k))
+counted_call act reply k = omega arith
+
+counted_wait : (request again : ℕ) (reply : Reply) (k : ℕ) →
+    Counted (waited request again reply ∷ []) (counting k (suc k))
+counted_wait request again reply k = omega arith
+
+-- from the first line on
+pub counted_all : (told : List Told) (calls : ℕ) → Counted told (counting 0 calls) →
+    calls ≡ calls_in told
+counted_all told calls s = omega arith
+
+-- of the calls for these lines no more are posts that count than the lines are
+one_if_any : (g : Option (Contribution Contents)) → length (posts_of (cons_option g [])) ≤ 1
+one_if_any None = omega arith
+one_if_any (Some g) = omega arith
+
+call_posts : (p : ℕ) (act : Act) (reply : Reply) →
+    length (posts (called p act reply ∷ [])) ≤ 1
+call_posts p act reply = one_if_any (contribution_in (called p act reply))
+
+no_posts : (p request again : ℕ) →
+    length (posts (replicate again (called p (Take request) Pending))) ≡ 0
+no_posts p request zero = refl
+no_posts p request (suc again) = no_posts p request again
+
+posts-append : (later first : List Entry) →
+    length (posts (later ++ first)) ≡ length (posts later) + length (posts first)
+posts-append later first =
+    let all = length-map (contributions (later ++ first)) (λ (g : Contribution Contents). g.post) in
+    let one = length-map (contributions later) (λ (g : Contribution Contents). g.post) in
+    let two = length-map (contributions first) (λ (g : Contribution Contents). g.post) in
+    let both = ap length (filter_map-append contribution_in later first) in
+    let sum = length-append (contributions later) (contributions first) in
+    omega arith
+
+line_posts : (p : ℕ) (told : Told) → length (posts (calls_for p told)) ≤ counts_as told
+line_posts p (done act reply) = call_posts p act reply
+line_posts p (waited request again reply) = let none = no_posts p request again in omega arith
+line_posts p (asked_nothing bad) = omega arith
+
+pub made_posts : (p : ℕ) (told : List Told) → length (posts (made p told)) ≤ calls_in told
+made_posts p [] = omega arith
+made_posts p (told ∷ past) =
+    let one = line_posts p told in
+    let rest = made_posts p past in
+    let both = posts-append (calls_for p told) (made p past) in
+    omega arith
+
+pub within_fewer : (most : Option ℕ) (fewer calls : ℕ) → fewer ≤ calls → IsWithin most calls →
+    IsWithin most fewer
+within_fewer None fewer calls le within = tt
+within_fewer (Some most) fewer calls le within = omega arith
+
+pub none_counts : (most : Option ℕ) (calls : ℕ) (pass : Known) → calls ≡ 0 →
+    Counts most calls pass
+none_counts most calls pass none = record {
+  within = subst (IsWithin most) (sym none) (within_none most);
+  seen = omega arith;
+}
+
+-- more calls were made
+counts_more : (most : Option ℕ) (k m : ℕ) (before after : Known) (calls : List Entry) →
+    IsWithin most m → m ≤ length calls + k → Counts most k before → SeesMore before calls after →
+    Counts most m after
+counts_more most k m before after calls within fits c sees =
+    let own = ap length sees.own in
+    let both = length-append calls (calls_of before.process before.seen) in
+    let seen = c.seen in
+    let low : m ≤ length (calls_of before.process after.seen) = omega arith in
+    record {
+      within = within;
+      seen = subst (λ (p : ℕ). m ≤ length (calls_of p after.seen)) (sym sees.same.1) low;
+    }
 
 -- ---- the machine
 
@@ -338,10 +461,10 @@ pub at_door : (door : Doorway) (pass : Known) (run : List Entry) → pass.door �
 at_door door pass run is legal =
     subst (λ (d : Doorway). Legal d.policy run) (sym is) legal
 
-no_leave : (ask : Ask) (act : Act) → ask ≡ ToAct act → ask ≡ Leave → ⊥
+pub no_leave : (ask : Ask) (act : Act) → ask ≡ ToAct act → ask ≡ Leave → ⊥
 no_leave ask act e f = cc
 
-no_wait : (ask : Ask) (request : ℕ) → ask ≡ Wait request → ask ≡ Leave → ⊥
+pub no_wait : (ask : Ask) (request : ℕ) → ask ≡ Wait request → ask ≡ Leave → ⊥
 no_wait ask request e f = cc
 
 -- there is a receipt that covers something, exactly if there is one
@@ -358,14 +481,42 @@ came_known wall (Replied reply) None named = tt
 came_known wall Late receipt named = tt
 
 -- what came of a call is told where the machine was booked
-told_or_not : (stood : ChineseWall → List Entry → Option Covered → Type 0) (before after : Known) (ask : Ask)
-    (told : Told) (reply : Reply) (receipt : Option Covered) →
-    last_call before.process told ≢ None → reply_to told ≡ Some reply →
-    ComesTo stood before (Ok ask) told receipt after →
-    CameTo stood before ask (came_of (Replied reply) receipt) receipt after
-told_or_not stood before after ask told reply (Some covers) calls is comes =
-    (told, (covers, comes, refl, calls), is)
-told_or_not stood before after ask told reply None calls is comes = (told, comes, calls)
+told_or_not : (stood : ChineseWall → List Entry → Option Covered → Type 0) (most : Option ℕ)
+    (before after : Known) (ask : Ask) (told : Told) (reply : Reply) (receipt : Option Covered)
+    (count : Counting) → last_call before.process told ≢ None → reply_to told ≡ Some reply →
+    Counted (told ∷ []) count → ComesTo stood before (Ok ask) told receipt after →
+    CameTo stood most before ask (came_of (Replied reply) receipt) receipt count after
+told_or_not stood most before after ask told reply (Some covers) count calls is counted comes =
+    (told, (covers, comes, refl, calls, counted), is)
+told_or_not stood most before after ask told reply None count calls is counted comes =
+    (told, comes, calls, counted)
+
+fewer_left : {X : Type 0} (p : X → Bool) (xs : List X) → length (filter p xs) ≤ length xs
+fewer_left p xs = let e = length-filter_both p (λ x. not (p x)) (λ x. refl) xs in omega arith
+
+-- as many calls as can be counted are more than the door has turns
+over_of : (most : Option ℕ) (k : ℕ) (before : Known) →
+    IsSpent most k ⊎ (18446744073709551615 ≤ k) →
+    k ≤ length (calls_of before.process before.seen) → IsOver most k before.seen
+over_of most k before (inl spent) seen = inl spent
+over_of most k before (inr many) seen =
+    let fewer = fewer_left (λ (e : Entry). e.call.process == before.process) before.seen in
+    inr (omega arith)
+
+-- the session may make no call more
+pub spent_came : (stood : ChineseWall → List Entry → Option Covered → Type 0) (most : Option ℕ)
+    (k : ℕ) (before : Known) (ask : Ask) (receipt : Option Covered) → ask ≢ Leave →
+    Legal before.door.policy before.seen → IsSpent most k ⊎ (18446744073709551615 ≤ k) →
+    Counts most k before →
+    CameTo stood most before ask cames.Exhausted receipt (counting k k) before
+spent_came stood most k before ask receipt calls legal spent c = record {
+  ask = ask;
+  says = refl;
+  calls = calls;
+  sees = sees_none before legal;
+  uncounted = refl;
+  over = over_of most k before spent c.seen;
+}
 
 module _ {M : Type 0} (stands : ChineseWall → M → List Entry → Type 0)
     (booked : M → Option Covered) where
@@ -456,40 +607,70 @@ module _ {M : Type 0} (stands : ChineseWall → M → List Entry → Type 0)
         },
       )
 
-  pub act_came : (before after : Known) (act : Act) (a : Answer) (old new : Option Covered) →
+  pub act_came : (most : Option ℕ) (k : ℕ) (before after : Known) (act : Act) (a : Answer)
+      (old new : Option Covered) →
       IsSamePass before after → Legal before.door.policy after.seen →
       Answered before act a after → GivesAt stands booked before a after old new →
-      CameTo (Stood stands booked) before (ToAct act) (came_of a new) new after
-  act_came before after act (Replied reply) old new same legal a says =
-      told_or_not (Stood stands booked) before after (ToAct act) (done act reply) reply
-      new (λ e. absurd cc) refl
+      CameTo (Stood stands booked) most before (ToAct act) (came_of a new) new
+      (counting k (calls_after a k)) after
+  act_came most k before after act (Replied reply) old new same legal a says =
+      told_or_not (Stood stands booked) most before after (ToAct act) (done act reply) reply
+      new (counting k (suc k)) (λ e. absurd cc) refl (counted_call act reply k)
       (record {
         says = refl;
         sees = sees_call before after act reply same legal a;
         so = λ call is. behind_call before after act reply new same a says call is;
       })
-  act_came before after act Late old new same legal a says = record {
+  act_came most k before after act Late old new same legal a says = record {
     ask = ToAct act;
     says = refl;
     calls = no_leave (ToAct act) act refl;
     sees = sees_late before after act same legal a;
-    late = a.1;
+    uncounted = refl;
+    over = inr a.1;
   }
 
-pub wait_came : (stood : ChineseWall → List Entry → Option Covered → Type 0) (before after : Known)
-    (request : ℕ) (a : Answer) (receipt : Option Covered) →
+pub wait_came : (stood : ChineseWall → List Entry → Option Covered → Type 0) (most : Option ℕ)
+    (k : ℕ) (before after : Known) (request : ℕ) (a : Answer) (receipt : Option Covered) →
     Waited stood before request a receipt after →
-    CameTo stood before (Wait request) (came_of a receipt) receipt after
-wait_came stood before after request (Replied reply) receipt (again, comes) =
-    told_or_not stood before after (Wait request) (waited request again reply) reply receipt
-    (λ e. absurd cc) refl comes
-wait_came stood before after request Late receipt (sees, late) = record {
+    CameTo stood most before (Wait request) (came_of a receipt) receipt
+    (counting k (calls_after a k)) after
+wait_came stood most k before after request (Replied reply) receipt (again, comes) =
+    told_or_not stood most before after (Wait request) (waited request again reply) reply receipt
+    (counting k (suc k)) (λ e. absurd cc) refl (counted_wait request again reply k) comes
+wait_came stood most k before after request Late receipt (sees, late) = record {
   ask = Wait request;
   says = refl;
   calls = no_wait (Wait request) request refl;
   sees = sees;
-  late = late;
+  uncounted = refl;
+  over = inr late;
 }
+
+-- the count behind a call
+pub act_counts : (most : Option ℕ) (k : ℕ) (before after : Known) (act : Act) (a : Answer) →
+    IsSamePass before after → Legal before.door.policy after.seen → Answered before act a after →
+    Counts most k before → IsWithin most (k + 1) → Counts most (calls_after a k) after
+act_counts most k before after act (Replied reply) same legal a c within =
+    let next : k + 1 ≡ suc k = omega arith in
+    counts_more most k (suc k) before after (called before.process act reply ∷ [])
+    (subst (IsWithin most) next within) (omega arith) c
+    (sees_call before after act reply same legal a)
+act_counts most k before after act Late same legal a c within =
+    counts_more most k k before after [] c.within (omega arith) c
+    (sees_late before after act same legal a)
+
+pub wait_counts : (stood : ChineseWall → List Entry → Option Covered → Type 0) (most : Option ℕ)
+    (k : ℕ) (before after : Known) (request : ℕ) (a : Answer) (receipt : Option Covered) →
+    Waited stood before request a receipt after → Counts most k before →
+    IsWithin most (k + 1) → Counts most (calls_after a k) after
+wait_counts stood most k before after request (Replied reply) receipt (again, comes) c within =
+    let next : k + 1 ≡ suc k = omega arith in
+    counts_more most k (suc k) before after
+    (calls_for before.process (waited request again reply))
+    (subst (IsWithin most) next within) (omega arith) c comes.sees
+wait_counts stood most k before after request Late receipt (sees, late) c within =
+    counts_more most k k before after [] c.within (omega arith) c sees
 
 -- the answer is all of the text
 pub put_alone : (old new more : List ℕ) → new ≡ old ++ more → old ≡ [] → (text : List ℕ) →
@@ -503,7 +684,7 @@ replied wall (waited request again r) reply e =
     let k : r ≡ reply = cc in ap (reply_line wall) (sym k)
 replied wall (asked_nothing bad) reply e = absurd cc
 
-module _ (stood : ChineseWall → List Entry → Option Covered → Type 0) where
+module _ (stood : ChineseWall → List Entry → Option Covered → Type 0) (most : Option ℕ) where
   -- a line that asks for nothing: nothing was made
   pub comes_bad : (wall : ChineseWall) (before : Known) (line : Result Ask BadLine)
       (bad : BadLine) → wall ≡ before.door.policy → Legal wall before.seen → line ≡ Err bad →
@@ -512,40 +693,47 @@ module _ (stood : ChineseWall → List Entry → Option Covered → Type 0) wher
       (says, sees_none before (subst (λ (w : ChineseWall). Legal w before.seen) is legal))
 
   came_answers : (wall : ChineseWall) (before after : Known) (ask : Ask) (it : Came)
-      (receipt : Option Covered) → CameTo stood before ask it receipt after →
-      AnswersSo stood wall before (Ok ask) (line_to wall it) receipt after (next_after it)
-  came_answers wall before after ask (cames.Reply reply) receipt (told, comes, is) =
+      (receipt : Option Covered) (count : Counting) →
+      CameTo stood most before ask it receipt count after →
+      AnswersSo stood most wall before (Ok ask) (line_to wall it) receipt count after
+      (next_after it)
+  came_answers wall before after ask (cames.Reply reply) receipt count (told, comes, is) =
       (told, comes, replied wall told reply is)
-  came_answers wall before after ask cames.Left receipt (is, sees) = (ap Ok is, sees, refl)
-  came_answers wall before after ask cames.Exhausted receipt late = (late, refl)
-  came_answers wall before after ask cames.Unbooked receipt comes = (comes, refl)
+  came_answers wall before after ask cames.Left receipt count (is, sees, none) =
+      (ap Ok is, sees, none, refl)
+  came_answers wall before after ask cames.Exhausted receipt count late = (late, refl)
+  came_answers wall before after ask cames.Unbooked receipt count comes = (comes, refl)
 
-  may_have : (before after : Known) (ask : Ask) (it : Came) (receipt : Option Covered) →
-      CameTo stood before ask it receipt after →
-      MayHaveCome stood before (Ok ask) after
-  may_have before after ask (cames.Reply reply) receipt (told, (covers, comes, at, calls), is) =
-      inr (told, Some covers, comes)
-  may_have before after ask cames.Left receipt (is, sees) = inl sees
-  may_have before after ask cames.Exhausted receipt late = inl late.sees
-  may_have before after ask cames.Unbooked receipt (told, comes, calls) = inr (told, None, comes)
+  may_have : (before after : Known) (ask : Ask) (it : Came) (receipt : Option Covered)
+      (count : Counting) → CameTo stood most before ask it receipt count after →
+      MayHaveCome stood before (Ok ask) count after
+  may_have before after ask (cames.Reply reply) receipt count
+      (told, (covers, comes, at, calls, counted), is) = inr (told, Some covers, comes, counted)
+  may_have before after ask cames.Left receipt count (is, sees, none) = inl (sees, none)
+  may_have before after ask cames.Exhausted receipt count late =
+      inl (late.sees, late.uncounted)
+  may_have before after ask cames.Unbooked receipt count (told, comes, calls, counted) =
+      inr (told, None, comes, counted)
 
   -- what came of a line was put, or memory ran out
   pub puts_came : (wall : ChineseWall) (before after : Known) (line : Result Ask BadLine)
-      (ask : Ask) (it : Came) (text : List ℕ) (receipt : Option Covered)
+      (ask : Ask) (it : Came) (text : List ℕ) (receipt : Option Covered) (count : Counting)
       (r : Result Next OutOfMemory) → line ≡ Ok ask →
-      CameTo stood before ask it receipt after → IfOk r (λ next. text ≡ line_to wall it) →
-      IfOk r (λ next. next ≡ next_after it) →
-      PutsAnswer stood wall before line text receipt after r
-  puts_came wall before after line ask it text receipt (Ok nx) is came put goes =
-      subst (λ (l : Result Ask BadLine). AnswersSo stood wall before l text receipt after nx)
+      CameTo stood most before ask it receipt count after →
+      IfOk r (λ next. text ≡ line_to wall it) → IfOk r (λ next. next ≡ next_after it) →
+      PutsAnswer stood most wall before line text receipt count after r
+  puts_came wall before after line ask it text receipt count (Ok nx) is came put goes =
+      subst (λ (l : Result Ask BadLine). AnswersSo stood most wall before l text receipt count
+      after nx)
       (sym is)
-      (subst (AnswersSo stood wall before (Ok ask) text receipt after) (sym goes)
+      (subst (AnswersSo stood most wall before (Ok ask) text receipt count after) (sym goes)
       (subst
-      (λ (t : List ℕ). AnswersSo stood wall before (Ok ask) t receipt after (next_after it))
-      (sym put) (came_answers wall before after ask it receipt came)))
-  puts_came wall before after line ask it text receipt (Err e) is came put goes =
-      subst (λ (l : Result Ask BadLine). MayHaveCome stood before l after) (sym is)
-      (may_have before after ask it receipt came)
+      (λ (t : List ℕ). AnswersSo stood most wall before (Ok ask) t receipt count after
+      (next_after it))
+      (sym put) (came_answers wall before after ask it receipt count came)))
+  puts_came wall before after line ask it text receipt count (Err e) is came put goes =
+      subst (λ (l : Result Ask BadLine). MayHaveCome stood before l count after) (sym is)
+      (may_have before after ask it receipt count came)
 
 -- ---- the desk
 
@@ -561,8 +749,8 @@ unread_then fails left heard a b d p q = record {
 
 -- ---- lines so far
 
-module _ (stood : ChineseWall → List Entry → Option Covered → Type 0) {O : Type 0} (failures : O → ℕ)
-    (contents : O → Option (List ℕ)) where
+module _ (stood : ChineseWall → List Entry → Option Covered → Type 0) (most : Option ℕ)
+    {O : Type 0} (failures : O → ℕ) (contents : O → Option (List ℕ)) where
   abbrev Between : O → O → Used O
   Between old new = used failures contents old new
 
@@ -575,10 +763,11 @@ module _ (stood : ChineseWall → List Entry → Option Covered → Type 0) {O :
   Since before since = record { before = before; since = since }
 
   unfoldable pub so_far_none : (wall : ChineseWall) (before : Known) (text : List Word)
-      (known : Option (List Shown)) (sink : O) → wall ≡ before.door.policy →
+      (known : Option (List Shown)) (sink : O) (k : ℕ) → wall ≡ before.door.policy →
       Legal wall before.seen →
-      SoFar stood wall before text text (Since known known) (Between sink sink) before
-  so_far_none wall before text known sink is legal = record {
+      SoFar stood most wall before text text (Since known known) (Between sink sink)
+      (counting k k) before
+  so_far_none wall before text known sink k is legal = record {
     lines = [];
     told = [];
     acted = acted_none wall before text
@@ -586,25 +775,28 @@ module _ (stood : ChineseWall → List Entry → Option Covered → Type 0) {O :
     shows = [];
     shown = tells_none known;
     booked = refl;
+    counted = none_counted k;
     written = (refl, Appends-nil (contents sink));
   }
 
   -- a line's answer is this text, and it is told as the session goes on
   record Telling (wall : ChineseWall) (written : Option (List ℕ)) (before : Known)
-      (line : Result Ask BadLine) (text : List ℕ) (receipt : Option Covered) (after : Known)
-      (next : Next) : Type 0 where
+      (line : Result Ask BadLine) (text : List ℕ) (receipt : Option Covered) (count : Counting)
+      (after : Known) (next : Next) : Type 0 where
     told : Told
     says : line ≡ said_by told
     sees : SeesMore before (calls_for before.process told) after
     booked : AreBooked stood wall written before (told ∷ [])
         (shown_next next receipt written) after
+    counted : Counted (told ∷ []) count
     is : text ≡ answer wall told
 
   telling : (wall : ChineseWall) (written : Option (List ℕ)) (b d : Known)
-      (line : Result Ask BadLine) (text : List ℕ) (receipt : Option Covered) →
-      AnswersSo stood wall b line text receipt d nexts.Replied →
-      Telling wall written b line text receipt d nexts.Replied
-  telling wall written b d line text receipt (told, (covers, comes, at, calls), is) =
+      (line : Result Ask BadLine) (text : List ℕ) (receipt : Option Covered) (count : Counting) →
+      AnswersSo stood most wall b line text receipt count d nexts.Replied →
+      Telling wall written b line text receipt count d nexts.Replied
+  telling wall written b d line text receipt count
+      (told, (covers, comes, at, calls, counted), is) =
       let show : Shown = record { covers = covers; written = written } in record {
         told = told;
         says = comes.says;
@@ -617,74 +809,82 @@ module _ (stood : ChineseWall → List Entry → Option Covered → Type 0) {O :
               refl,
               is_shown stood wall written b d told covers calls comes.so,
             );
+        counted = counted;
         is = is;
       }
 
   telling_bad : (wall : ChineseWall) (written : Option (List ℕ)) (b d : Known)
-      (line : Result Ask BadLine) (text : List ℕ) (receipt : Option Covered) →
-      AnswersSo stood wall b line text receipt d nexts.GoesOn →
-      Telling wall written b line text receipt d nexts.GoesOn
-  telling_bad wall written b d line text receipt (bad, says, sees, is) = record {
+      (line : Result Ask BadLine) (text : List ℕ) (receipt : Option Covered) (k l : ℕ) →
+      AnswersSo stood most wall b line text receipt (counting k l) d nexts.GoesOn →
+      Telling wall written b line text receipt (counting k l) d nexts.GoesOn
+  telling_bad wall written b d line text receipt k l (bad, says, sees, none, is) = record {
     told = asked_nothing bad;
     says = says;
     sees = sees;
     booked = ([], [], refl, refl, refl);
+    counted = counted_bad bad k l none;
     is = is;
   }
 
   -- one line more was told
   told_more : (wall : ChineseWall) (a b d : Known) (text later : List Word) (line : Word)
-      (p q r : Option (List Shown)) (old mid : O) (words : List ℕ) (receipt : Option Covered)
-      (nx : Next) →
-      (s : SoFar stood wall a text (line ∷ later) (Since p q) (Between old mid) b) →
-      (t : Telling wall (contents mid) b (said wall.dataset_names line) words receipt d nx) →
+      (p q r : Option (List Shown)) (old mid : O) (k l m : ℕ) (words : List ℕ)
+      (receipt : Option Covered) (nx : Next) →
+      (s : SoFar stood most wall a text (line ∷ later) (Since p q) (Between old mid)
+      (counting k l) b) →
+      (t : Telling wall (contents mid) b (said wall.dataset_names line) words receipt
+      (counting l m) d nx) →
       AreBooked stood wall (contents old) a (t.told ∷ s.told)
       (shown_next nx receipt (contents mid) ++ s.shows) d
-  told_more wall a b d text later line p q r old mid words receipt nx s t =
+  told_more wall a b d text later line p q r old mid k l m words receipt nx s t =
       booked_then stood wall (contents old) (contents mid) a b d s.told (t.told ∷ []) s.shows
       (shown_next nx receipt (contents mid)) s.acted.sees s.written.1 s.booked t.booked
       t.sees.begins
 
   goes_told : (wall : ChineseWall) (a b d : Known) (text later : List Word) (line : Word)
-      (p q r : Option (List Shown)) (old mid new : O) (words : List ℕ)
+      (p q r : Option (List Shown)) (old mid new : O) (k l m : ℕ) (words : List ℕ)
       (receipt : Option Covered) (nx : Next) →
-      SoFar stood wall a text (line ∷ later) (Since p q) (Between old mid) b →
-      Telling wall (contents mid) b (said wall.dataset_names line) words receipt d nx →
-      Tells q r (shown_next nx receipt (contents mid)) → IsWritten (Between mid new) words →
-      SoFar stood wall a text later (Since p r) (Between old new) d
-  goes_told wall a b d text later line p q r old mid new words receipt nx s t shows w = record {
+      SoFar stood most wall a text (line ∷ later) (Since p q) (Between old mid) (counting k l) b →
+      Telling wall (contents mid) b (said wall.dataset_names line) words receipt (counting l m) d
+      nx → Tells q r (shown_next nx receipt (contents mid)) → IsWritten (Between mid new) words →
+      SoFar stood most wall a text later (Since p r) (Between old new) (counting k m) d
+  goes_told wall a b d text later line p q r old mid new k l m words receipt nx s t shows w = record {
     lines = line ∷ s.lines;
     told = t.told ∷ s.told;
     acted = acted_more wall a b d text s.lines later line s.told t.told s.acted t.says t.sees;
     shows = shown_next nx receipt (contents mid) ++ s.shows;
     shown = tells_then p q r s.shows (shown_next nx receipt (contents mid)) s.shown shows;
-    booked = told_more wall a b d text later line p q r old mid words receipt nx s t;
+    booked = told_more wall a b d text later line p q r old mid k l m words receipt nx s t;
+    counted = counted_more t.told s.told k l m s.counted t.counted;
     written = written_then old mid new (answers wall s.told) (answer wall t.told) s.written
         (subst (IsWritten (Between mid new)) t.is w);
   }
 
   -- one line more was answered
   pub goes_on : (wall : ChineseWall) (a b d : Known) (text later : List Word) (line : Word)
-      (p q r : Option (List Shown)) (old mid new : O) →
-      SoFar stood wall a text (line ∷ later) (Since p q) (Between old mid) b →
-      WritesAnswer stood wall b (said wall.dataset_names line) (Since q r) (Between mid new) d
-      nexts.Replied
-      ⊎ WritesAnswer stood wall b (said wall.dataset_names line) (Since q r) (Between mid new) d
-      nexts.GoesOn → SoFar stood wall a text later (Since p r) (Between old new) d
-  goes_on wall a b d text later line p q r old mid new s
+      (p q r : Option (List Shown)) (old mid new : O) (k l m : ℕ) →
+      SoFar stood most wall a text (line ∷ later) (Since p q) (Between old mid) (counting k l) b →
+      WritesAnswer stood most wall b (said wall.dataset_names line) (Since q r) (Between mid new)
+      (counting l m) d nexts.Replied
+      ⊎ WritesAnswer stood most wall b (said wall.dataset_names line) (Since q r)
+      (Between mid new) (counting l m) d nexts.GoesOn →
+      SoFar stood most wall a text later (Since p r) (Between old new) (counting k m) d
+  goes_on wall a b d text later line p q r old mid new k l m s
       (inl (words, (receipt, so, shows), w)) =
-      goes_told wall a b d text later line p q r old mid new words receipt nexts.Replied s
-      (telling wall (contents mid) b d (said wall.dataset_names line) words receipt so) shows w
-  goes_on wall a b d text later line p q r old mid new s
+      goes_told wall a b d text later line p q r old mid new k l m words receipt nexts.Replied s
+      (telling wall (contents mid) b d (said wall.dataset_names line) words receipt
+      (counting l m) so) shows w
+  goes_on wall a b d text later line p q r old mid new k l m s
       (inr (words, (receipt, so, shows), w)) =
-      goes_told wall a b d text later line p q r old mid new words receipt nexts.GoesOn s
-      (telling_bad wall (contents mid) b d (said wall.dataset_names line) words receipt so) shows w
+      goes_told wall a b d text later line p q r old mid new k l m words receipt nexts.GoesOn s
+      (telling_bad wall (contents mid) b d (said wall.dataset_names line) words receipt l m so)
+      shows w
 
   -- memory ran out before the next line
   pub stops_here : (wall : ChineseWall) (a b : Known) (text rest : List Word) (desk : Showing)
-      (sink : Used O) → SoFar stood wall a text rest desk sink b →
-      Stops stood wall a text desk sink b NoMemory
-  stops_here wall a b text rest desk sink s = record {
+      (sink : Used O) (count : Counting) → SoFar stood most wall a text rest desk sink count b →
+      Stops stood most wall a text desk sink count b NoMemory
+  stops_here wall a b text rest desk sink count s = record {
     lines = s.lines;
     rest = rest;
     told = s.told;
@@ -693,6 +893,7 @@ module _ (stood : ChineseWall → List Entry → Option Covered → Type 0) {O :
     shows = s.shows;
     shown = s.shown;
     booked = s.booked;
+    counted = s.counted;
     stops = s.written;
   }
 
@@ -708,19 +909,21 @@ module _ (stood : ChineseWall → List Entry → Option Covered → Type 0) {O :
 
   -- the line at hand ends the session
   left_at : (wall : ChineseWall) (a before after : Known) (line next : Word) (later : List Word)
-      (told : List Told) (text : List ℕ) (receipt : Option Covered) →
-      AnswersSo stood wall before (said wall.dataset_names line) text receipt after nexts.Left →
-      EndsAt stood wall a (line ∷ next ∷ later) told None after Left text
-  left_at wall a before after line next later told text receipt (says, sees, is) =
+      (told : List Told) (text : List ℕ) (receipt : Option Covered) (count : Counting) →
+      AnswersSo stood most wall before (said wall.dataset_names line) text receipt count after
+      nexts.Left →
+      EndsAt stood (IsSpent most count.now) wall a (line ∷ next ∷ later) told None after Left text
+  left_at wall a before after line next later told text receipt count (says, sees, none, is) =
       ((line, next, later, Leave, refl, says, refl), is)
 
   late_at : (wall : ChineseWall) (a before after : Known) (line next : Word) (later : List Word)
-      (told : List Told) (text : List ℕ) (receipt : Option Covered) →
-      AnswersSo stood wall before (said wall.dataset_names line) text receipt after
+      (told : List Told) (text : List ℕ) (receipt : Option Covered) (count : Counting) →
+      AnswersSo stood most wall before (said wall.dataset_names line) text receipt count after
       nexts.Exhausted →
-      EndsAt stood wall a (line ∷ next ∷ later) told None after Exhausted text
-  late_at wall a before after line next later told text receipt (late, is) =
-      ((line, next, later, late.ask, refl, late.says, late.calls), late.late, is)
+      EndsAt stood (IsSpent most count.now) wall a (line ∷ next ∷ later) told None after Exhausted
+      text
+  late_at wall a before after line next later told text receipt count (late, is) =
+      ((line, next, later, late.ask, refl, late.says, late.calls), late.over, is)
 
   -- what the line at hand came to is not told
   unbooked_at : (a b d : Known) (line : Result Ask BadLine) (next : Word) (later : List Word)
@@ -748,50 +951,60 @@ module _ (stood : ChineseWall → List Entry → Option Covered → Type 0) {O :
 
   -- the answer to a line that is told was not written to its end
   breaks_told : (wall : ChineseWall) (a b d : Known) (text later : List Word) (line after : Word)
-      (p q r : Option (List Shown)) (old mid new : O) (receipt : Option Covered) (nx : Next)
-      (words : List ℕ) →
-      SoFar stood wall a text (line ∷ after ∷ later) (Since p q) (Between old mid) b →
-      Telling wall (contents mid) b (said wall.dataset_names line) words receipt d nx →
-      Tells q r (shown_next nx receipt (contents mid)) → BrokeOff (Between mid new) words →
-      Stops stood wall a text (Since p r) (Between old new) d WriteFailed
-  breaks_told wall a b d text later line after p q r old mid new receipt nx words s t shows f = record {
-    lines = line ∷ s.lines;
-    rest = after ∷ later;
-    told = t.told ∷ s.told;
-    untold = None;
-    acted = acted_more wall a b d text s.lines (after ∷ later) line s.told t.told s.acted t.says
-        t.sees;
-    shows = shown_next nx receipt (contents mid) ++ s.shows;
-    shown = tells_then p q r s.shows (shown_next nx receipt (contents mid)) s.shown shows;
-    booked = told_more wall a b d text (after ∷ later) line p q r old mid words receipt nx s t;
-    stops = (
-      f.0 ∙ ap (λ (n : ℕ). n + 1) s.written.0,
-      inl (
-        t.told,
-        s.told,
-        refl,
-        refl,
-        cut_more old mid new (answers wall s.told) words (answer wall t.told) s.written f.1 t.is,
-      ),
-    );
-  }
+      (p q r : Option (List Shown)) (old mid new : O) (k l m : ℕ) (receipt : Option Covered)
+      (nx : Next) (words : List ℕ) →
+      SoFar stood most wall a text (line ∷ after ∷ later) (Since p q) (Between old mid)
+      (counting k l) b →
+      Telling wall (contents mid) b (said wall.dataset_names line) words receipt (counting l m) d
+      nx → Tells q r (shown_next nx receipt (contents mid)) → BrokeOff (Between mid new) words →
+      Stops stood most wall a text (Since p r) (Between old new) (counting k m) d WriteFailed
+  breaks_told wall a b d text later line after p q r old mid new k l m receipt nx words s t shows
+      f = record {
+        lines = line ∷ s.lines;
+        rest = after ∷ later;
+        told = t.told ∷ s.told;
+        untold = None;
+        acted = acted_more wall a b d text s.lines (after ∷ later) line s.told t.told s.acted t.says
+            t.sees;
+        shows = shown_next nx receipt (contents mid) ++ s.shows;
+        shown = tells_then p q r s.shows (shown_next nx receipt (contents mid)) s.shown shows;
+        booked = told_more wall a b d text (after ∷ later) line p q r old mid k l m words receipt nx s
+            t;
+        counted = counted_more t.told s.told k l m s.counted t.counted;
+        stops = (
+          f.0 ∙ ap (λ (n : ℕ). n + 1) s.written.0,
+          inl (
+            t.told,
+            s.told,
+            refl,
+            refl,
+            cut_more old mid new (answers wall s.told) words (answer wall t.told) s.written f.1 t.is,
+          ),
+        );
+      }
 
   -- the answer to the line at hand was not written to its end
   breaks_in : (wall : ChineseWall) (a b d : Known) (text later : List Word) (line after : Word)
-      (p q r : Option (List Shown)) (old mid new : O) (nx : Next) (words : List ℕ) →
-      SoFar stood wall a text (line ∷ after ∷ later) (Since p q) (Between old mid) b →
-      AnswersBehind stood wall b (said wall.dataset_names line) words (Since q r)
-      (Between mid new) d nx → BrokeOff (Between mid new) words →
-      Stops stood wall a text (Since p r) (Between old new) d WriteFailed
-  breaks_in wall a b d text later line after p q r old mid new nexts.Replied words s
+      (p q r : Option (List Shown)) (old mid new : O) (k l m : ℕ) (nx : Next)
+      (words : List ℕ) →
+      SoFar stood most wall a text (line ∷ after ∷ later) (Since p q) (Between old mid)
+      (counting k l) b →
+      AnswersBehind stood most wall b (said wall.dataset_names line) words (Since q r)
+      (Between mid new) (counting l m) d nx → BrokeOff (Between mid new) words →
+      Stops stood most wall a text (Since p r) (Between old new) (counting k m) d WriteFailed
+  breaks_in wall a b d text later line after p q r old mid new k l m nexts.Replied words s
       (receipt, so, shows) f =
-      breaks_told wall a b d text later line after p q r old mid new receipt nexts.Replied words s
-      (telling wall (contents mid) b d (said wall.dataset_names line) words receipt so) shows f
-  breaks_in wall a b d text later line after p q r old mid new nexts.GoesOn words s
+      breaks_told wall a b d text later line after p q r old mid new k l m receipt nexts.Replied
+      words s
+      (telling wall (contents mid) b d (said wall.dataset_names line) words receipt
+      (counting l m) so) shows f
+  breaks_in wall a b d text later line after p q r old mid new k l m nexts.GoesOn words s
       (receipt, so, shows) f =
-      breaks_told wall a b d text later line after p q r old mid new receipt nexts.GoesOn words s
-      (telling_bad wall (contents mid) b d (said wall.dataset_names line) words receipt so) shows f
-  breaks_in wall a b d text later line after p q r old mid new nexts.Left words s
+      breaks_told wall a b d text later line after p q r old mid new k l m receipt nexts.GoesOn
+      words s
+      (telling_bad wall (contents mid) b d (said wall.dataset_names line) words receipt l m so)
+      shows f
+  breaks_in wall a b d text later line after p q r old mid new k l m nexts.Left words s
       (receipt, so, shows) f = record {
         lines = s.lines;
         rest = line ∷ after ∷ later;
@@ -801,17 +1014,18 @@ module _ (stood : ChineseWall → List Entry → Option Covered → Type 0) {O :
         shows = s.shows;
         shown = tells_then p q r s.shows [] s.shown shows;
         booked = booked_on stood wall (contents old) a b d s.told s.shows so.1.begins s.booked;
+        counted = counted_still s.told k l m s.counted so.2;
         stops = (
           f.0 ∙ ap (λ (n : ℕ). n + 1) s.written.0,
           inr (
             Left,
             words,
-            left_at wall a b d line after later s.told words receipt so,
+            left_at wall a b d line after later s.told words receipt (counting l m) so,
             cut_more old mid new (answers wall s.told) words words s.written f.1 refl,
           ),
         );
       }
-  breaks_in wall a b d text later line after p q r old mid new nexts.Exhausted words s
+  breaks_in wall a b d text later line after p q r old mid new k l m nexts.Exhausted words s
       (receipt, so, shows) f = record {
         lines = s.lines;
         rest = line ∷ after ∷ later;
@@ -821,18 +1035,19 @@ module _ (stood : ChineseWall → List Entry → Option Covered → Type 0) {O :
         shows = s.shows;
         shown = tells_then p q r s.shows [] s.shown shows;
         booked = booked_on stood wall (contents old) a b d s.told s.shows so.0.sees.begins s.booked;
+        counted = counted_still s.told k l m s.counted so.0.uncounted;
         stops = (
           f.0 ∙ ap (λ (n : ℕ). n + 1) s.written.0,
           inr (
             Exhausted,
             words,
-            late_at wall a b d line after later s.told words receipt so,
+            late_at wall a b d line after later s.told words receipt (counting l m) so,
             cut_more old mid new (answers wall s.told) words words s.written f.1 refl,
           ),
         );
       }
-  breaks_in wall a b d text later line after p q r old mid new nexts.Unbooked words s
-      (receipt, ((told, comes, calls), is), shows) f = record {
+  breaks_in wall a b d text later line after p q r old mid new k l m nexts.Unbooked words s
+      (receipt, ((told, comes, calls, counted), is), shows) f = record {
         lines = line ∷ s.lines;
         rest = after ∷ later;
         told = s.told;
@@ -842,6 +1057,7 @@ module _ (stood : ChineseWall → List Entry → Option Covered → Type 0) {O :
         shows = s.shows;
         shown = tells_then p q r s.shows [] s.shown shows;
         booked = booked_on stood wall (contents old) a b d s.told s.shows comes.sees.begins s.booked;
+        counted = counted_more told s.told k l m s.counted counted;
         stops = (
           f.0 ∙ ap (λ (n : ℕ). n + 1) s.written.0,
           inr (
@@ -859,14 +1075,16 @@ module _ (stood : ChineseWall → List Entry → Option Covered → Type 0) {O :
 
   -- the session ends at the line at hand
   pub breaks_off : (wall : ChineseWall) (a b d : Known) (text later : List Word) (line after : Word)
-      (p q r : Option (List Shown)) (old mid new : O) (end : SessionEnd) →
-      SoFar stood wall a text (line ∷ after ∷ later) (Since p q) (Between old mid) b →
-      AnswersLine stood {X = Unit {0}} wall b (said wall.dataset_names line) (Since q r)
-      (Between mid new) d (Err end) → Stops stood wall a text (Since p r) (Between old new) d end
-  breaks_off wall a b d text later line after p q r old mid new WriteFailed s
+      (p q r : Option (List Shown)) (old mid new : O) (k l m : ℕ) (end : SessionEnd) →
+      SoFar stood most wall a text (line ∷ after ∷ later) (Since p q) (Between old mid)
+      (counting k l) b →
+      AnswersLine stood most {X = Unit {0}} wall b (said wall.dataset_names line) (Since q r)
+      (Between mid new) (counting l m) d (Err end) →
+      Stops stood most wall a text (Since p r) (Between old new) (counting k m) d end
+  breaks_off wall a b d text later line after p q r old mid new k l m WriteFailed s
       (nx, words, so, f) =
-      breaks_in wall a b d text later line after p q r old mid new nx words s so f
-  breaks_off wall a b d text later line after p q r old mid new Left s
+      breaks_in wall a b d text later line after p q r old mid new k l m nx words s so f
+  breaks_off wall a b d text later line after p q r old mid new k l m Left s
       (words, (receipt, so, shows), w) = record {
         lines = s.lines;
         rest = line ∷ after ∷ later;
@@ -876,13 +1094,14 @@ module _ (stood : ChineseWall → List Entry → Option Covered → Type 0) {O :
         shows = s.shows;
         shown = tells_then p q r s.shows [] s.shown shows;
         booked = booked_on stood wall (contents old) a b d s.told s.shows so.1.begins s.booked;
+        counted = counted_still s.told k l m s.counted so.2;
         stops = (
           words,
-          left_at wall a b d line after later s.told words receipt so,
+          left_at wall a b d line after later s.told words receipt (counting l m) so,
           written_then old mid new (answers wall s.told) words s.written w,
         );
       }
-  breaks_off wall a b d text later line after p q r old mid new Exhausted s
+  breaks_off wall a b d text later line after p q r old mid new k l m Exhausted s
       (words, (receipt, so, shows), w) = record {
         lines = s.lines;
         rest = line ∷ after ∷ later;
@@ -892,14 +1111,15 @@ module _ (stood : ChineseWall → List Entry → Option Covered → Type 0) {O :
         shows = s.shows;
         shown = tells_then p q r s.shows [] s.shown shows;
         booked = booked_on stood wall (contents old) a b d s.told s.shows so.0.sees.begins s.booked;
+        counted = counted_still s.told k l m s.counted so.0.uncounted;
         stops = (
           words,
-          late_at wall a b d line after later s.told words receipt so,
+          late_at wall a b d line after later s.told words receipt (counting l m) so,
           written_then old mid new (answers wall s.told) words s.written w,
         );
       }
-  breaks_off wall a b d text later line after p q r old mid new Unbooked s
-      (words, (receipt, ((told, comes, calls), is), shows), w) = record {
+  breaks_off wall a b d text later line after p q r old mid new k l m Unbooked s
+      (words, (receipt, ((told, comes, calls, counted), is), shows), w) = record {
         lines = line ∷ s.lines;
         rest = after ∷ later;
         told = s.told;
@@ -909,6 +1129,7 @@ module _ (stood : ChineseWall → List Entry → Option Covered → Type 0) {O :
         shows = s.shows;
         shown = tells_then p q r s.shows [] s.shown shows;
         booked = booked_on stood wall (contents old) a b d s.told s.shows comes.sees.begins s.booked;
+        counted = counted_more told s.told k l m s.counted counted;
         stops = (
           words,
           (
@@ -919,19 +1140,21 @@ module _ (stood : ChineseWall → List Entry → Option Covered → Type 0) {O :
           written_then old mid new (answers wall s.told) words s.written w,
         );
       }
-  breaks_off wall a b d text later line after p q r old mid new NoMemory s (same, none, inl sees) = record {
-    lines = s.lines;
-    rest = line ∷ after ∷ later;
-    told = s.told;
-    untold = None;
-    acted = acted_still wall a b d text s.lines (line ∷ after ∷ later) s.told s.acted sees;
-    shows = s.shows;
-    shown = subst (λ (k : Option (List Shown)). Tells p k s.shows) (sym none) s.shown;
-    booked = booked_on stood wall (contents old) a b d s.told s.shows sees.begins s.booked;
-    stops = subst (λ (o : O). IsWritten (Between old o) (answers wall s.told)) (sym same) s.written;
-  }
-  breaks_off wall a b d text later line after p q r old mid new NoMemory s
-      (same, none, inr (told, booked, comes)) = record {
+  breaks_off wall a b d text later line after p q r old mid new k l m NoMemory s
+      (same, none, inl (sees, none_made)) = record {
+        lines = s.lines;
+        rest = line ∷ after ∷ later;
+        told = s.told;
+        untold = None;
+        acted = acted_still wall a b d text s.lines (line ∷ after ∷ later) s.told s.acted sees;
+        shows = s.shows;
+        shown = subst (λ (k : Option (List Shown)). Tells p k s.shows) (sym none) s.shown;
+        booked = booked_on stood wall (contents old) a b d s.told s.shows sees.begins s.booked;
+        counted = counted_still s.told k l m s.counted none_made;
+        stops = subst (λ (o : O). IsWritten (Between old o) (answers wall s.told)) (sym same) s.written;
+      }
+  breaks_off wall a b d text later line after p q r old mid new k l m NoMemory s
+      (same, none, inr (told, booked, comes, counted)) = record {
         lines = line ∷ s.lines;
         rest = after ∷ later;
         told = s.told;
@@ -941,21 +1164,26 @@ module _ (stood : ChineseWall → List Entry → Option Covered → Type 0) {O :
         shows = s.shows;
         shown = subst (λ (k : Option (List Shown)). Tells p k s.shows) (sym none) s.shown;
         booked = booked_on stood wall (contents old) a b d s.told s.shows comes.sees.begins s.booked;
+        counted = counted_more told s.told k l m s.counted counted;
         stops = subst (λ (o : O). IsWritten (Between old o) (answers wall s.told)) (sym same)
             s.written;
       }
-  breaks_off wall a b d text later line after p q r old mid new ReadFailed s h = absurd h
-  breaks_off wall a b d text later line after p q r old mid new EndOfStream s h = absurd h
+  breaks_off wall a b d text later line after p q r old mid new k l m ReadFailed s h = absurd h
+  breaks_off wall a b d text later line after p q r old mid new k l m EndOfStream s h = absurd h
 
   -- ---- text by text
 
   -- a text was acted on, and then what it goes on with
   unfoldable pub so_far_then : (wall : ChineseWall) (a b d : Known) (bytes more : List ℕ)
-      (line : Word) (rest : List Word) (p q r : Option (List Shown)) (old mid new : O) →
-      SoFar stood wall a (parts 10 bytes) (line ∷ []) (Since p q) (Between old mid) b →
-      SoFar stood wall b (behind line (parts 10 more)) rest (Since q r) (Between mid new) d →
-      SoFar stood wall a (parts 10 (bytes ++ more)) rest (Since p r) (Between old new) d
-  so_far_then wall a b d bytes more line rest p q r old mid new s t = record {
+      (line : Word) (rest : List Word) (p q r : Option (List Shown)) (old mid new : O)
+      (k l m : ℕ) →
+      SoFar stood most wall a (parts 10 bytes) (line ∷ []) (Since p q) (Between old mid)
+      (counting k l) b →
+      SoFar stood most wall b (behind line (parts 10 more)) rest (Since q r) (Between mid new)
+      (counting l m) d →
+      SoFar stood most wall a (parts 10 (bytes ++ more)) rest (Since p r) (Between old new)
+      (counting k m) d
+  so_far_then wall a b d bytes more line rest p q r old mid new k l m s t = record {
     lines = t.lines ++ s.lines;
     told = t.told ++ s.told;
     acted = acted_then wall a b d (behind line (parts 10 more)) (parts 10 bytes) s.lines t.lines
@@ -965,6 +1193,7 @@ module _ (stood : ChineseWall → List Entry → Option Covered → Type 0) {O :
     shown = tells_then p q r s.shows t.shows s.shown t.shown;
     booked = booked_then stood wall (contents old) (contents mid) a b d s.told t.told s.shows
         t.shows s.acted.sees s.written.1 s.booked t.booked t.acted.sees.begins;
+    counted = counted_then t.told s.told k l m s.counted t.counted;
     written = subst (IsWritten (Between old new)) (sym (answers-append wall t.told s.told))
         (written_then old mid new (answers wall s.told) (answers wall t.told) s.written t.written);
   }
@@ -985,35 +1214,35 @@ module _ (stood : ChineseWall → List Entry → Option Covered → Type 0) {O :
       ∙ ap (λ l. l ++ text) (sym (answers-append wall told past))
 
   -- lines were told before
-  ends_at_then : (wall : ChineseWall) (a b d : Known) (rest : List Word) (past told : List Told)
+  ends_at_then : (spent : Type 0) (wall : ChineseWall) (a b d : Known) (rest : List Word) (past told : List Told)
       (untold : Option Told) (end : SessionEnd) (text : List ℕ) →
       SeesMore a (made a.process past) b →
-      EndsAt stood wall b rest told untold d end text →
-      EndsAt stood wall a rest (told ++ past) untold d end text
-  ends_at_then wall a b d rest past told None Left text s at = at
-  ends_at_then wall a b d rest past told None Exhausted text s at = at
-  ends_at_then wall a b d rest past told None EndOfStream text s at = absurd at
-  ends_at_then wall a b d rest past told None ReadFailed text s at = absurd at
-  ends_at_then wall a b d rest past told None WriteFailed text s at = absurd at
-  ends_at_then wall a b d rest past told None Unbooked text s at = absurd at
-  ends_at_then wall a b d rest past told None NoMemory text s at = absurd at
-  ends_at_then wall a b d rest past told (Some newest) Unbooked text s at =
+      EndsAt stood spent wall b rest told untold d end text →
+      EndsAt stood spent wall a rest (told ++ past) untold d end text
+  ends_at_then spent wall a b d rest past told None Left text s at = at
+  ends_at_then spent wall a b d rest past told None Exhausted text s at = at
+  ends_at_then spent wall a b d rest past told None EndOfStream text s at = absurd at
+  ends_at_then spent wall a b d rest past told None ReadFailed text s at = absurd at
+  ends_at_then spent wall a b d rest past told None WriteFailed text s at = absurd at
+  ends_at_then spent wall a b d rest past told None Unbooked text s at = absurd at
+  ends_at_then spent wall a b d rest past told None NoMemory text s at = absurd at
+  ends_at_then spent wall a b d rest past told (Some newest) Unbooked text s at =
       (unbooked_then stood a b d rest past told newest s at.0, at.1)
-  ends_at_then wall a b d rest past told (Some newest) Left text s at = absurd at
-  ends_at_then wall a b d rest past told (Some newest) Exhausted text s at = absurd at
-  ends_at_then wall a b d rest past told (Some newest) EndOfStream text s at = absurd at
-  ends_at_then wall a b d rest past told (Some newest) ReadFailed text s at = absurd at
-  ends_at_then wall a b d rest past told (Some newest) WriteFailed text s at = absurd at
-  ends_at_then wall a b d rest past told (Some newest) NoMemory text s at = absurd at
+  ends_at_then spent wall a b d rest past told (Some newest) Left text s at = absurd at
+  ends_at_then spent wall a b d rest past told (Some newest) Exhausted text s at = absurd at
+  ends_at_then spent wall a b d rest past told (Some newest) EndOfStream text s at = absurd at
+  ends_at_then spent wall a b d rest past told (Some newest) ReadFailed text s at = absurd at
+  ends_at_then spent wall a b d rest past told (Some newest) WriteFailed text s at = absurd at
+  ends_at_then spent wall a b d rest past told (Some newest) NoMemory text s at = absurd at
 
-  says_last_then : (wall : ChineseWall) (a b d : Known) (old mid new : O) (rest : List Word)
+  says_last_then : (spent : Type 0) (wall : ChineseWall) (a b d : Known) (old mid new : O) (rest : List Word)
       (past told : List Told) (untold : Option Told) (end : SessionEnd) →
       SeesMore a (made a.process past) b → IsWritten (Between old mid) (answers wall past) →
-      SaysLast stood wall (Between mid new) b rest told untold d end →
-      SaysLast stood wall (Between old new) a rest (told ++ past) untold d end
-  says_last_then wall a b d old mid new rest past told untold end s w (text, at, v) = (
+      SaysLast stood spent wall (Between mid new) b rest told untold d end →
+      SaysLast stood spent wall (Between old new) a rest (told ++ past) untold d end
+  says_last_then spent wall a b d old mid new rest past told untold end s w (text, at, v) = (
     text,
-    ends_at_then wall a b d rest past told untold end text s at,
+    ends_at_then spent wall a b d rest past told untold end text s at,
     subst (IsWritten (Between old new)) (behind_answers wall past told text)
         (written_then old mid new (answers wall past) (answers wall told ++ text) w v),
   )
@@ -1031,12 +1260,12 @@ module _ (stood : ChineseWall → List Entry → Option Covered → Type 0) {O :
         (answers wall told ++ front) w.1 m),
   )
 
-  breaks_off_then : (wall : ChineseWall) (a b d : Known) (old mid new : O) (rest : List Word)
+  breaks_off_then : (spent : Type 0) (wall : ChineseWall) (a b d : Known) (old mid new : O) (rest : List Word)
       (past told : List Told) (untold : Option Told) → SeesMore a (made a.process past) b →
       IsWritten (Between old mid) (answers wall past) →
-      BreaksOff stood wall (Between mid new) b rest told untold d →
-      BreaksOff stood wall (Between old new) a rest (told ++ past) untold d
-  breaks_off_then wall a b d old mid new rest past told untold s w
+      BreaksOff stood spent wall (Between mid new) b rest told untold d →
+      BreaksOff stood spent wall (Between old new) a rest (told ++ past) untold d
+  breaks_off_then spent wall a b d old mid new rest past told untold s w
       (inl (newest, before, is, none, cut)) = inl (
         newest,
         before ++ past,
@@ -1044,41 +1273,45 @@ module _ (stood : ChineseWall → List Entry → Option Covered → Type 0) {O :
         none,
         cut_then wall old mid new past before (answer wall newest) w cut,
       )
-  breaks_off_then wall a b d old mid new rest past told untold s w (inr (end, text, at, cut)) =
+  breaks_off_then spent wall a b d old mid new rest past told untold s w (inr (end, text, at, cut)) =
       inr (
         end,
         text,
-        ends_at_then wall a b d rest past told untold end text s at,
+        ends_at_then spent wall a b d rest past told untold end text s at,
         cut_then wall old mid new past told text w cut,
       )
 
-  pub stops_so_then : (wall : ChineseWall) (a b d : Known) (old mid new : O) (rest : List Word)
+  pub stops_so_then : (spent : Type 0) (wall : ChineseWall) (a b d : Known) (old mid new : O) (rest : List Word)
       (past told : List Told) (untold : Option Told) (end : SessionEnd) →
       SeesMore a (made a.process past) b → IsWritten (Between old mid) (answers wall past) →
-      StopsSo stood wall (Between mid new) b rest told untold d end →
-      StopsSo stood wall (Between old new) a rest (told ++ past) untold d end
-  stops_so_then wall a b d old mid new rest past told untold WriteFailed s w (once, k) = (
+      StopsSo stood spent wall (Between mid new) b rest told untold d end →
+      StopsSo stood spent wall (Between old new) a rest (told ++ past) untold d end
+  stops_so_then spent wall a b d old mid new rest past told untold WriteFailed s w (once, k) = (
     once ∙ ap (λ (n : ℕ). n + 1) w.0,
-    breaks_off_then wall a b d old mid new rest past told untold s w k,
+    breaks_off_then spent wall a b d old mid new rest past told untold s w k,
   )
-  stops_so_then wall a b d old mid new rest past told untold Left s w l =
-      says_last_then wall a b d old mid new rest past told untold Left s w l
-  stops_so_then wall a b d old mid new rest past told untold Exhausted s w l =
-      says_last_then wall a b d old mid new rest past told untold Exhausted s w l
-  stops_so_then wall a b d old mid new rest past told untold Unbooked s w l =
-      says_last_then wall a b d old mid new rest past told untold Unbooked s w l
-  stops_so_then wall a b d old mid new rest past told untold NoMemory s w v =
+  stops_so_then spent wall a b d old mid new rest past told untold Left s w l =
+      says_last_then spent wall a b d old mid new rest past told untold Left s w l
+  stops_so_then spent wall a b d old mid new rest past told untold Exhausted s w l =
+      says_last_then spent wall a b d old mid new rest past told untold Exhausted s w l
+  stops_so_then spent wall a b d old mid new rest past told untold Unbooked s w l =
+      says_last_then spent wall a b d old mid new rest past told untold Unbooked s w l
+  stops_so_then spent wall a b d old mid new rest past told untold NoMemory s w v =
       answers_then wall old mid new past told w v
-  stops_so_then wall a b d old mid new rest past told untold ReadFailed s w h = absurd h
-  stops_so_then wall a b d old mid new rest past told untold EndOfStream s w h = absurd h
+  stops_so_then spent wall a b d old mid new rest past told untold ReadFailed s w h = absurd h
+  stops_so_then spent wall a b d old mid new rest past told untold EndOfStream s w h = absurd h
 
   -- the text that it goes on with was not acted on to its end
   unfoldable pub stops_then : (wall : ChineseWall) (a b d : Known) (bytes more : List ℕ)
-      (line : Word) (p q r : Option (List Shown)) (old mid new : O) (end : SessionEnd) →
-      SoFar stood wall a (parts 10 bytes) (line ∷ []) (Since p q) (Between old mid) b →
-      Stops stood wall b (behind line (parts 10 more)) (Since q r) (Between mid new) d end →
-      Stops stood wall a (parts 10 (bytes ++ more)) (Since p r) (Between old new) d end
-  stops_then wall a b d bytes more line p q r old mid new end s t = record {
+      (line : Word) (p q r : Option (List Shown)) (old mid new : O) (k l m : ℕ)
+      (end : SessionEnd) →
+      SoFar stood most wall a (parts 10 bytes) (line ∷ []) (Since p q) (Between old mid)
+      (counting k l) b →
+      Stops stood most wall b (behind line (parts 10 more)) (Since q r) (Between mid new)
+      (counting l m) d end →
+      Stops stood most wall a (parts 10 (bytes ++ more)) (Since p r) (Between old new)
+      (counting k m) d end
+  stops_then wall a b d bytes more line p q r old mid new k l m end s t = record {
     lines = t.lines ++ s.lines;
     rest = t.rest;
     told = t.told ++ s.told;
@@ -1092,7 +1325,8 @@ module _ (stood : ChineseWall → List Entry → Option Covered → Type 0) {O :
     shown = tells_then p q r s.shows t.shows s.shown t.shown;
     booked = booked_then stood wall (contents old) (contents mid) a b d s.told t.told s.shows
         t.shows s.acted.sees s.written.1 s.booked t.booked t.acted.sees.begins;
-    stops = stops_so_then wall a b d old mid new t.rest s.told t.told t.untold end s.acted.sees
+    counted = counted_untold t.untold t.told s.told k l m s.counted t.counted;
+    stops = stops_so_then (IsSpent most m) wall a b d old mid new t.rest s.told t.told t.untold end s.acted.sees
         s.written t.stops;
   }
 
@@ -1104,21 +1338,21 @@ took_none zero [] e = refl
 took_none zero (x ∷ buffer) e = refl
 took_none (suc n) buffer e = absurd (omega arith)
 
-module _ (stood : ChineseWall → List Entry → Option Covered → Type 0) where
+module _ (stood : ChineseWall → List Entry → Option Covered → Type 0) (most : Option ℕ) where
   -- the session goes on: all finished lines of what was read were answered
   pub record Going {S O : Type 0} (heard : S → DeskLog) (wall : ChineseWall)
-      (source : Used S) (sink : Used O) (before : Known) (kept : Unfinished) (now : Known)
-      : Type 0 where
+      (source : Used S) (sink : Used O) (before : Known) (kept : Unfinished) (calls : ℕ)
+      (now : Known) : Type 0 where
     pub bytes : List ℕ
     pub read : Consumes (bytes_before source) (bytes_after source) bytes
     pub went : NeverFailed source
     pub line : Word
     pub holds : Holds kept line
-    pub so_far : SoFar stood wall before (parts 10 bytes) (line ∷ [])
-        (showing heard source.old source.new) sink now
+    pub so_far : SoFar stood most wall before (parts 10 bytes) (line ∷ [])
+        (showing heard source.old source.new) sink (counting 0 calls) now
     pub prompt : IsPrompt heard wall source sink bytes so_far.told
 
-module _ (stood : ChineseWall → List Entry → Option Covered → Type 0)
+module _ (stood : ChineseWall → List Entry → Option Covered → Type 0) (most : Option ℕ)
     {S O : Type 0} (fails : S → ℕ) (left : S → Option (List ℕ))
     (heard : S → DeskLog) (failures : O → ℕ) (contents : O → Option (List ℕ)) where
   abbrev Reading : S → S → Used S
@@ -1129,7 +1363,7 @@ module _ (stood : ChineseWall → List Entry → Option Covered → Type 0)
 
   pub going_none : (wall : ChineseWall) (before : Known) (kept : Unfinished) (source : S)
       (sink : O) → wall ≡ before.door.policy → Legal wall before.seen → Holds kept [] →
-      Going stood heard wall (Reading source source) (Writing sink sink) before kept before
+      Going stood most heard wall (Reading source source) (Writing sink sink) before kept 0 before
   unfolding so_far_none
   going_none wall before kept source sink is legal h = record {
     bytes = [];
@@ -1137,17 +1371,17 @@ module _ (stood : ChineseWall → List Entry → Option Covered → Type 0)
     went = refl;
     line = [];
     holds = h;
-    so_far = so_far_none stood failures contents wall before ([] ∷ []) (heard source).shows sink is
-        legal;
+    so_far = so_far_none stood most failures contents wall before ([] ∷ []) (heard source).shows
+        sink 0 is legal;
     prompt = prompt_none fails left heard failures contents wall source sink;
   }
 
   -- what was shown, where more was read since and nothing shown
   unfoldable still_shown : (wall : ChineseWall) (a b : Known) (text rest : List Word) (first mid last : S)
-      (sink : Used O) → (heard last).shows ≡ (heard mid).shows →
-      SoFar stood wall a text rest (showing heard first mid) sink b →
-      SoFar stood wall a text rest (showing heard first last) sink b
-  still_shown wall a b text rest first mid last sink same s = record {
+      (sink : Used O) (count : Counting) → (heard last).shows ≡ (heard mid).shows →
+      SoFar stood most wall a text rest (showing heard first mid) sink count b →
+      SoFar stood most wall a text rest (showing heard first last) sink count b
+  still_shown wall a b text rest first mid last sink count same s = record {
     lines = s.lines;
     told = s.told;
     acted = s.acted;
@@ -1155,23 +1389,24 @@ module _ (stood : ChineseWall → List Entry → Option Covered → Type 0)
     shown = subst (λ (k : Option (List Shown)). Tells (heard first).shows k s.shows) (sym same)
         s.shown;
     booked = s.booked;
+    counted = s.counted;
     written = s.written;
   }
 
   -- more was read and acted on
   pub going_on : (wall : ChineseWall) (a b d : Known) (kept now : Unfinished)
-      (first mid last far : S) (old out new : O) (more : List ℕ) →
-      (g : Going stood heard wall (Reading first mid) (Writing old out) a kept b) →
+      (first mid last far : S) (old out new : O) (l m : ℕ) (more : List ℕ) →
+      (g : Going stood most heard wall (Reading first mid) (Writing old out) a kept l b) →
       fails last ≡ fails mid → Consumes (left mid) (left last) more →
       Tells (heard mid).reads (heard last).reads
       (record { bytes = more; written = contents out } ∷ []) →
       (heard last).shows ≡ (heard mid).shows → IsUnread fails left heard last far →
       (line : Word) → Holds now line →
-      SoFar stood wall b (behind g.line (parts 10 more)) (line ∷ []) (showing heard last far)
-      (Writing out new) d →
-      Going stood heard wall (Reading first far) (Writing old new) a now d
+      SoFar stood most wall b (behind g.line (parts 10 more)) (line ∷ []) (showing heard last far)
+      (Writing out new) (counting l m) d →
+      Going stood most heard wall (Reading first far) (Writing old new) a now m d
   unfolding so_far_then still_shown
-  going_on wall a b d kept now first mid last far old out new more g went read tells same unread
+  going_on wall a b d kept now first mid last far old out new l m more g went read tells same unread
       line h s = record {
         bytes = g.bytes ++ more;
         read = subst (λ (k : Option (List ℕ)). Consumes (left first) k (g.bytes ++ more))
@@ -1180,29 +1415,33 @@ module _ (stood : ChineseWall → List Entry → Option Covered → Type 0)
         went = unread.fails_same ∙ went ∙ g.went;
         line = line;
         holds = h;
-        so_far = so_far_then stood failures contents wall a b d g.bytes more g.line (line ∷ [])
-            (heard first).shows (heard last).shows (heard far).shows old out new
+        so_far = so_far_then stood most failures contents wall a b d g.bytes more g.line (line ∷ [])
+            (heard first).shows (heard last).shows (heard far).shows old out new 0 l m
             (still_shown wall a b (parts 10 g.bytes) (g.line ∷ []) first mid last (Writing old out)
-            same g.so_far) s;
+            (counting 0 l) same g.so_far) s;
         prompt = prompt_unread fails left heard failures contents wall first last far old new
             (g.bytes ++ more) (s.told ++ g.so_far.told) unread.reads_same
-            (prompt_more stood fails left heard failures contents wall a b first mid last old out
-            new g.bytes more g.line (showing heard first mid) g.so_far g.prompt tells s.told);
+            (prompt_more stood most fails left heard failures contents wall a b first mid last old out
+            new g.bytes more g.line (showing heard first mid) (counting 0 l) g.so_far g.prompt
+            tells s.told);
       }
 
   pub served_to_end : (wall : ChineseWall) (a b : Known) (kept : Unfinished) (first mid last : S)
-      (old new : O) (more : List ℕ) → more ≡ [] →
-      Going stood heard wall (Reading first mid) (Writing old new) a kept b →
+      (old new : O) (calls : ℕ) (more : List ℕ) → more ≡ [] →
+      Going stood most heard wall (Reading first mid) (Writing old new) a kept calls b →
+      IsWithin most calls →
       fails last ≡ fails mid → Consumes (left mid) (left last) more → IsAtEnd (left last) →
       Tells (heard mid).reads (heard last).reads
       (record { bytes = more; written = contents new } ∷ []) →
       (heard last).shows ≡ (heard mid).shows →
-      Serves stood heard wall (Reading first last) (Writing old new) a b EndOfStream
+      Serves stood most heard wall (Reading first last) (Writing old new) a b
+      (record { end = EndOfStream; calls = calls })
   unfolding still_shown
-  served_to_end wall a b kept first mid last old new more none g went read end tells same =
+  served_to_end wall a b kept first mid last old new calls more none g within went read end tells
+      same =
       let all = ap (λ l. g.bytes ++ l) none ∙ append-nil g.bytes in
       let s = still_shown wall a b (parts 10 g.bytes) (g.line ∷ []) first mid last
-      (Writing old new) same g.so_far in record {
+      (Writing old new) (counting 0 calls) same g.so_far in record {
         bytes = g.bytes;
         read = subst (Consumes (left first) (left last)) all
             (Consumes-trans (left first) (left mid) (left last) g.bytes more g.read read);
@@ -1216,19 +1455,24 @@ module _ (stood : ChineseWall → List Entry → Option Covered → Type 0)
         booked = s.booked;
         prompt = subst (λ (l : List ℕ). IsPrompt heard wall (Reading first last) (Writing old new) l
             g.so_far.told) all
-            (prompt_more stood fails left heard failures contents wall a b first mid last old new
-            new g.bytes more g.line (showing heard first mid) g.so_far g.prompt tells []);
+            (prompt_more stood most fails left heard failures contents wall a b first mid last old new
+            new g.bytes more g.line (showing heard first mid) (counting 0 calls) g.so_far g.prompt
+            tells []);
+        counted = counted_all g.so_far.told calls g.so_far.counted;
+        within = within;
         ends = (went ∙ g.went, end, refl, refl, g.so_far.written);
       }
 
   pub served_till_fault : (wall : ChineseWall) (a b : Known) (kept : Unfinished)
-      (first mid last : S) (old new : O) →
-      Going stood heard wall (Reading first mid) (Writing old new) a kept b →
+      (first mid last : S) (old new : O) (calls : ℕ) →
+      Going stood most heard wall (Reading first mid) (Writing old new) a kept calls b →
+      IsWithin most calls →
       fails last ≡ fails mid + 1 → Keeps (left mid) (left last) →
       Tells (heard mid).reads (heard last).reads [] → (heard last).shows ≡ (heard mid).shows →
-      Serves stood heard wall (Reading first last) (Writing old new) a b ReadFailed
+      Serves stood most heard wall (Reading first last) (Writing old new) a b
+      (record { end = ReadFailed; calls = calls })
   unfolding still_shown
-  served_till_fault wall a b kept first mid last old new g once keeps tells same = record {
+  served_till_fault wall a b kept first mid last old new calls g within once keeps tells same = record {
     bytes = g.bytes;
     read = Consumes-kept (left first) (left mid) (left last) g.bytes g.read keeps;
     lines = g.so_far.lines;
@@ -1238,44 +1482,48 @@ module _ (stood : ChineseWall → List Entry → Option Covered → Type 0)
     acted = g.so_far.acted;
     shows = g.so_far.shows;
     shown = (still_shown wall a b (parts 10 g.bytes) (g.line ∷ []) first mid last
-        (Writing old new) same g.so_far).shown;
+        (Writing old new) (counting 0 calls) same g.so_far).shown;
     booked = g.so_far.booked;
     prompt = prompt_still fails left heard failures contents wall first mid last old new g.bytes
         g.so_far.told g.prompt tells;
+    counted = counted_all g.so_far.told calls g.so_far.counted;
+    within = within;
     ends = (once ∙ ap (λ (n : ℕ). n + 1) g.went, refl, refl, g.so_far.written);
   }
 
-  ends_so : (wall : ChineseWall) (first last : S) (old new : O) (before : Known)
+  ends_so : (spent : Type 0) (wall : ChineseWall) (first last : S) (old new : O) (before : Known)
       (rest : List Word) (told : List Told) (untold : Option Told) (after : Known)
       (end : SessionEnd) → fails last ≡ fails first →
-      StopsSo stood wall (Writing old new) before rest told untold after end →
-      EndsSo stood wall (Reading first last) (Writing old new) before rest told untold after end
-  ends_so wall first last old new before rest told untold after WriteFailed went (once, b) =
+      StopsSo stood spent wall (Writing old new) before rest told untold after end →
+      EndsSo stood spent wall (Reading first last) (Writing old new) before rest told untold after end
+  ends_so spent wall first last old new before rest told untold after WriteFailed went (once, b) =
       (went, once, b)
-  ends_so wall first last old new before rest told untold after Left went l = (went, l)
-  ends_so wall first last old new before rest told untold after Exhausted went l = (went, l)
-  ends_so wall first last old new before rest told untold after Unbooked went l = (went, l)
-  ends_so wall first last old new before rest told untold after NoMemory went v = (went, v)
-  ends_so wall first last old new before rest told untold after ReadFailed went h = absurd h
-  ends_so wall first last old new before rest told untold after EndOfStream went h = absurd h
+  ends_so spent wall first last old new before rest told untold after Left went l = (went, l)
+  ends_so spent wall first last old new before rest told untold after Exhausted went l = (went, l)
+  ends_so spent wall first last old new before rest told untold after Unbooked went l = (went, l)
+  ends_so spent wall first last old new before rest told untold after NoMemory went v = (went, v)
+  ends_so spent wall first last old new before rest told untold after ReadFailed went h = absurd h
+  ends_so spent wall first last old new before rest told untold after EndOfStream went h = absurd h
 
   pub served_till_stop : (wall : ChineseWall) (a b d : Known) (kept : Unfinished)
-      (first mid last far : S) (old out new : O) (more : List ℕ) (end : SessionEnd) →
-      (g : Going stood heard wall (Reading first mid) (Writing old out) a kept b) →
+      (first mid last far : S) (old out new : O) (l m : ℕ) (more : List ℕ) (end : SessionEnd) →
+      (g : Going stood most heard wall (Reading first mid) (Writing old out) a kept l b) →
+      IsWithin most m →
       fails last ≡ fails mid → Consumes (left mid) (left last) more →
       Tells (heard mid).reads (heard last).reads
       (record { bytes = more; written = contents out } ∷ []) →
       (heard last).shows ≡ (heard mid).shows → IsUnread fails left heard last far →
-      Stops stood wall b (behind g.line (parts 10 more)) (showing heard last far)
-      (Writing out new) d end →
-      Serves stood heard wall (Reading first far) (Writing old new) a d end
+      Stops stood most wall b (behind g.line (parts 10 more)) (showing heard last far)
+      (Writing out new) (counting l m) d end →
+      Serves stood most heard wall (Reading first far) (Writing old new) a d
+      (record { end = end; calls = m })
   unfolding stops_then still_shown
-  served_till_stop wall a b d kept first mid last far old out new more end g went read tells same
-      unread stops =
-      let s = stops_then stood failures contents wall a b d g.bytes more g.line (heard first).shows
-      (heard last).shows (heard far).shows old out new end
-      (still_shown wall a b (parts 10 g.bytes) (g.line ∷ []) first mid last (Writing old out) same
-      g.so_far) stops in record {
+  served_till_stop wall a b d kept first mid last far old out new l m more end g within went read
+      tells same unread stops =
+      let s = stops_then stood most failures contents wall a b d g.bytes more g.line
+      (heard first).shows (heard last).shows (heard far).shows old out new 0 l m end
+      (still_shown wall a b (parts 10 g.bytes) (g.line ∷ []) first mid last (Writing old out)
+      (counting 0 l) same g.so_far) stops in record {
         bytes = g.bytes ++ more;
         read = subst (λ (k : Option (List ℕ)). Consumes (left first) k (g.bytes ++ more))
             (sym unread.left_same)
@@ -1290,16 +1538,20 @@ module _ (stood : ChineseWall → List Entry → Option Covered → Type 0)
         booked = s.booked;
         prompt = prompt_unread fails left heard failures contents wall first last far old new
             (g.bytes ++ more) s.told unread.reads_same
-            (prompt_more stood fails left heard failures contents wall a b first mid last old
-            out new g.bytes more g.line (showing heard first mid) g.so_far g.prompt tells stops.told);
-        ends = ends_so wall first far old new a s.rest s.told s.untold d end
+            (prompt_more stood most fails left heard failures contents wall a b first mid last old
+            out new g.bytes more g.line (showing heard first mid) (counting 0 l) g.so_far g.prompt
+            tells stops.told);
+        counted = counted_all (and_untold s.untold s.told) m s.counted;
+        within = within;
+        ends = ends_so (IsSpent most m) wall first far old new a s.rest s.told s.untold d end
             (unread.fails_same ∙ went ∙ g.went) s.stops;
       }
 
   -- memory ran out before the first read
   pub served_nothing : (wall : ChineseWall) (before : Known) (source : S) (sink : O) →
       wall ≡ before.door.policy → Legal wall before.seen →
-      Serves stood heard wall (Reading source source) (Writing sink sink) before before NoMemory
+      Serves stood most heard wall (Reading source source) (Writing sink sink) before before
+      (record { end = NoMemory; calls = 0 })
   served_nothing wall before source sink is legal = record {
     bytes = [];
     read = Consumes-nil (left source);
@@ -1313,5 +1565,7 @@ module _ (stood : ChineseWall → List Entry → Option Covered → Type 0)
     shown = tells_none (heard source).shows;
     booked = refl;
     prompt = prompt_none fails left heard failures contents wall source sink;
+    counted = refl;
+    within = within_none most;
     ends = (refl, (refl, Appends-nil (contents sink)));
   }

@@ -1,7 +1,7 @@
 -- Sessions that are handed to threads and come back: words of private contracts.
 use Rattle.std.specs.Prelude.{◌≡◌, ℕ, ◌≤◌, List, [], map, Option, Some}
 use Rattle.std.specs.Prelude.{vec_capacity}
-use Rattle.std.specs.List.{AllZip}
+use Rattle.std.specs.List.{All, AllZip}
 use Rattle.std.specs.declared.thread.PromisedHandle.{PromisedHandle}
 use Rattle.wall_policy.specs.Policy.{ChineseWall}
 use Rattle.run_model.specs.Comms.{processes}
@@ -17,16 +17,16 @@ use Rattle.live_session.specs.declared.peer.Played.{Played}
 use Rattle.live_session.specs.declared.peer.Serving.{Serving}
 use Rattle.live_session.specs.declared.ready.Room.{Room}
 use Rattle.live_session.specs.declared.run.Ended.{Ended}
-use Rattle.live_session.specs.declared.ending.SessionEnd.{SessionEnd}
+use Rattle.live_session.specs.declared.ending.Closing.{Closing}
 use Rattle.live_session.specs.Hearing.{DeskLog}
 use Rattle.live_session.specs.Sessions.{ServesIfBegun}
 
 module _ {S O : Type 0} where
   -- the devices of a session, and how it ended
-  abbrev pub end_of : Session S O → Peer S O × Option SessionEnd
-  end_of session = (session.peer, Some session.end)
+  abbrev pub end_of : Session S O → Peer S O × Option Closing
+  end_of session = (session.peer, Some session.closing)
 
-  abbrev pub ends_of : List (Session S O) → List (Peer S O × Option SessionEnd)
+  abbrev pub ends_of : List (Session S O) → List (Peer S O × Option Closing)
   ends_of sessions = map end_of sessions
 
 module _ {M S O : Type 0} where
@@ -49,18 +49,20 @@ module _ {M S O : Type 0} where
   passes_in all = map (λ played. played.pass) all
 
   -- the devices that came back, and how their session ended, if it began
-  abbrev pub end_in : Played M S O → Peer S O × Option SessionEnd
+  abbrev pub end_in : Played M S O → Peer S O × Option Closing
   end_in played = (played.peer, played.ended)
 
-  abbrev pub ends_in : List (Played M S O) → List (Peer S O × Option SessionEnd)
+  abbrev pub ends_in : List (Played M S O) → List (Peer S O × Option Closing)
   ends_in all = map end_in all
 
-  -- a door with the policy, and a job for each of its passes, with the devices, in order
-  pub record ArePrepared (wall : ChineseWall) (peers : List (Peer S O)) (door : Doorway)
-      (jobs : List (Job M S O)) : Type 0 where
+  -- a door with the policy, and a job for each of its passes, with the devices, in order, and the
+  -- bound of its calls
+  pub record ArePrepared (most : Option ℕ) (wall : ChineseWall) (peers : List (Peer S O))
+      (door : Doorway) (jobs : List (Job M S O)) : Type 0 where
     pub policy : door.policy ≡ wall
     pub passes : passes_of jobs ≡ new_passes door (processes wall)
     pub peers_are : peers_of jobs ≡ peers
+    pub bounds : All (λ job. job.most ≡ most) jobs
 
   -- there is room for what so many sessions come to
   pub record HasRoomFor (count : ℕ) (room : Room M S O) : Type 0 where
@@ -74,7 +76,7 @@ module _ (stood : ChineseWall → List Entry → Option Covered → Type 0)
     (heard : S → DeskLog) (failures : O → ℕ) (contents : O → Option (List ℕ)) where
   -- what became of a job
   pub record HasServed (job : Job M S O) (played : Played M S O) : Type 0 where
-    pub so : ServesIfBegun stood heard job.pass.door.policy
+    pub so : ServesIfBegun stood job.most heard job.pass.door.policy
         (used fails left job.peer.source played.peer.source)
         (used failures contents job.peer.sink played.peer.sink) job.pass played.pass played.ended
     pub same : IsSamePass job.pass played.pass

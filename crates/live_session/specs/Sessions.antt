@@ -23,6 +23,7 @@ use Rattle.hall_turn.specs.Receipts.{Covered}
 use Rattle.hall_turn.specs.Known.{Known}
 use Rattle.hall_turn.specs.Answers.{IsSamePass}
 use Rattle.live_session.specs.declared.line.BadLine.{BadLine}
+use Rattle.live_session.specs.declared.ending.Closing.{Closing}
 use Rattle.live_session.specs.declared.ending.SessionEnd.{SessionEnd}
 use Rattle.live_session.specs.declared.ending.SessionEnd.TheVariants.{EndOfStream, Left}
 use Rattle.live_session.specs.declared.ending.SessionEnd.TheVariants.{ReadFailed, WriteFailed}
@@ -72,6 +73,29 @@ answer wall (asked_nothing bad) = bad_line bad
 abbrev pub answers : ChineseWall → List Told → List ℕ
 answers wall [] = []
 answers wall (told ∷ past) = answers wall past ++ answer wall told
+
+-- ---- counts
+
+-- a line counts as one call, if it asks for one: a wait too, however often it took the request
+abbrev pub counts_as : Told → ℕ
+counts_as (done act reply) = 1
+counts_as (waited request again reply) = 1
+counts_as (asked_nothing bad) = 0
+
+-- how many calls these lines made
+abbrev pub calls_in : List Told → ℕ
+calls_in [] = 0
+calls_in (told ∷ past) = counts_as told + calls_in past
+
+-- a session with this bound may have made so many calls; none is no bound
+abbrev pub IsWithin : (most : Option ℕ) → (calls : ℕ) → Type 0
+IsWithin None calls = Unit {0}
+IsWithin (Some most) calls = calls ≤ most
+
+-- it has made as many as it may
+abbrev pub IsSpent : (most : Option ℕ) → (calls : ℕ) → Type 0
+IsSpent None calls = ⊥
+IsSpent (Some most) calls = calls ≡ most
 
 -- ---- the pass
 
@@ -175,20 +199,22 @@ module _ (stood : ChineseWall → List Entry → Option Covered → Type 0) wher
     pub calls : last_call before.process newest ≢ None
     pub unbooked : StoodFor before newest (made before.process (newest ∷ told)) None after
 
-  -- ---- how it ends
+-- ---- how it ends
 
+module _ (stood : ChineseWall → List Entry → Option Covered → Type 0) (spent : Type 0) where
   -- The session ends so, and this text is the answer to its newest line. The next line says
-  -- `leave`, or it asks for a call after 2^62 turns: then no call was made for it. Or the newest
-  -- line was acted on, and the machine was not booked.
+  -- `leave`; or it asks for a call, and the session has made as many as it may, or the door had 2^62
+  -- turns: then no call was made for it. Or the newest line was acted on, and the machine was not
+  -- booked.
   abbrev pub EndsAt : ChineseWall → (before : Known) → (rest : List Word) → List Told →
       (untold : Option Told) → (after : Known) → SessionEnd → (text : List ℕ) → Type 0
   EndsAt wall before rest told None after Left text =
       BeginsWith wall (λ ask. ask ≡ Leave) rest × (text ≡ left_line)
   EndsAt wall before rest told None after Exhausted text =
-      BeginsWith wall (λ ask. ask ≢ Leave) rest × (2 ^ 62 ≤ length after.seen)
+      BeginsWith wall (λ ask. ask ≢ Leave) rest × (spent ⊎ (2 ^ 62 ≤ length after.seen))
       × (text ≡ exhausted_line)
   EndsAt wall before rest told (Some newest) after Unbooked text =
-      EndsUnbooked before rest told newest after × (text ≡ unbooked_line)
+      EndsUnbooked stood before rest told newest after × (text ≡ unbooked_line)
   EndsAt wall before rest told untold after end text = ⊥
 
   -- all answers were written, and that to the line which ends the session so
@@ -254,13 +280,15 @@ pub record IsPrompt {S O : Type 0} (heard : S → DeskLog) (wall : ChineseWall)
 
 -- ---- a session
 
-module _ (stood : ChineseWall → List Entry → Option Covered → Type 0) where
+module _ (stood : ChineseWall → List Entry → Option Covered → Type 0) (most : Option ℕ) where
   -- What a session came to: the bytes that it was handed, cut at each LF, are the lines that it
   -- acted on and a rest; what was written are the answers to these lines, in order, each before the
   -- next read, and no reply before the desk was shown by a receipt that the book has its entries. Of
-  -- the lines that were acted on the newest may not be told.
+  -- the lines that were acted on the newest may not be told. The calls that it made were counted, and
+  -- are no more than it may make: where it has made so many, the next line that asks for a call is
+  -- not acted on.
   pub record Serves {S O : Type 0} (heard : S → DeskLog) (wall : ChineseWall)
-      (source : Used S) (sink : Used O) (before after : Known) (end : SessionEnd) : Type 0 where
+      (source : Used S) (sink : Used O) (before after : Known) (closing : Closing) : Type 0 where
     pub bytes : List ℕ
     pub read : Consumes (bytes_before source) (bytes_after source) bytes
     pub lines : List Word
@@ -272,12 +300,15 @@ module _ (stood : ChineseWall → List Entry → Option Covered → Type 0) wher
     pub shown : Tells (heard source.old).shows (heard source.new).shows shows
     pub booked : AreBooked stood wall (bytes_before sink) before told shows after
     pub prompt : IsPrompt heard wall source sink bytes told
-    pub ends : EndsSo stood wall source sink before rest told untold after end
+    pub counted : closing.calls ≡ calls_in (and_untold untold told)
+    pub within : IsWithin most closing.calls
+    pub ends : EndsSo stood (IsSpent most closing.calls) wall source sink before rest told untold after
+        closing.end
 
   -- The session ended so, or it did not begin, and nothing was done.
   abbrev pub ServesIfBegun : {S O : Type 0} → (heard : S → DeskLog) → ChineseWall →
-      Used S → Used O → (before after : Known) → Option SessionEnd → Type 0
-  ServesIfBegun heard wall source sink before after (Some end) =
-      Serves heard wall source sink before after end
+      Used S → Used O → (before after : Known) → Option Closing → Type 0
+  ServesIfBegun heard wall source sink before after (Some closing) =
+      Serves heard wall source sink before after closing
   ServesIfBegun heard wall source sink before after None =
       IsUntouched source × IsUntouched sink × (after ≡ before)

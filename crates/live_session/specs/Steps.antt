@@ -1,6 +1,6 @@
 -- How a session goes on line by line: words of private contracts.
 use Rattle.std.specs.Prelude.{◌≡◌, ◌≢◌, ◌⊎◌, ℕ, ◌^◌, ◌<◌, ◌≤◌, true, false, List, [], ◌∷◌}
-use Rattle.std.specs.Prelude.{◌++◌, length, Option, Some, None, Result, Ok, Err, IsOk}
+use Rattle.std.specs.Prelude.{◌++◌, ◌+◌, suc, length, Option, Some, None, Result, Ok, Err, IsOk}
 use Rattle.run_model.specs.Runs.{Entry}
 use Rattle.wall_labels.specs.declared.no_memory.NoMemory.{NoMemory as OutOfMemory}
 use Rattle.wall_policy.specs.Policy.{ChineseWall}
@@ -15,6 +15,7 @@ use Rattle.hall_script.specs.Replies.{reply_line}
 use Rattle.hall_turn.specs.declared.answer.Answer.{Answer}
 use Rattle.hall_turn.specs.declared.answer.Answer.TheVariants.{Reply as Replied, Exhausted as Late}
 use Rattle.hall_turn.specs.Receipts.{Covered}
+use Rattle.hall_turn.specs.Runs.{calls_of}
 use Rattle.hall_turn.specs.Known.{Known}
 use Rattle.live_session.specs.declared.line.BadLine.{BadLine}
 use Rattle.live_session.specs.declared.line.Unfinished.{Unfinished}
@@ -31,7 +32,8 @@ use Rattle.live_session.specs.Lines.{line_limit, left_line, exhausted_line, unbo
 use Rattle.live_session.specs.Sessions.{Told, done, waited, asked_nothing, said_by, calls_for}
 use Rattle.live_session.specs.Sessions.{answer, answers, SeesMore, Acted, and_untold, last_call}
 use Rattle.live_session.specs.Hearing.{DeskLog, Shown, Tells}
-use Rattle.live_session.specs.Sessions.{StoodFor, IsShown, AreBooked, SaysLast, BreaksOff, made}
+use Rattle.live_session.specs.Sessions.{StoodFor, AreBooked, SaysLast, BreaksOff}
+use Rattle.live_session.specs.Sessions.{calls_in, IsWithin, IsSpent}
 
 -- ---- the line that is not finished
 
@@ -77,15 +79,50 @@ shown_next nexts.Left receipt written = []
 shown_next nexts.Exhausted receipt written = []
 shown_next nexts.Unbooked receipt written = []
 
+-- ---- the count
+
+-- how many calls a session had made before, and how many by now
+pub record Counting : Type 0 where
+  pub before : ℕ
+  pub now : ℕ
+
+abbrev pub counting : (before now : ℕ) → Counting
+counting before now = record { before = before; now = now }
+
+-- the calls of these lines were counted
+abbrev pub Counted : List Told → Counting → Type 0
+Counted told count = count.now ≡ calls_in told + count.before
+
+-- no call was
+abbrev pub IsUncounted : Counting → Type 0
+IsUncounted count = count.now ≡ count.before
+
+-- the calls after one that was answered so
+abbrev pub calls_after : Answer → ℕ → ℕ
+calls_after (Replied reply) calls = suc calls
+calls_after Late calls = calls
+
+-- So many calls are no more than a session may make, and each of them is one of the process's in
+-- what its pass has seen.
+pub record Counts (most : Option ℕ) (calls : ℕ) (pass : Known) : Type 0 where
+  pub within : IsWithin most calls
+  pub seen : calls ≤ length (calls_of pass.process pass.seen)
+
+-- no call is made any more: the session has made as many as it may, or the door is too late
+abbrev pub IsOver : (most : Option ℕ) → (calls : ℕ) → (seen : List Entry) → Type 0
+IsOver most calls seen = IsSpent most calls ⊎ (2 ^ 62 ≤ length seen)
+
 -- ---- one line
 
--- the line asks for a call, which the door was too late for
-pub record ComesTooLate (before : Known) (line : Result Ask BadLine) (after : Known) : Type 0 where
+-- the line asks for a call, which is not made
+pub record ComesTooLate (most : Option ℕ) (before : Known) (line : Result Ask BadLine)
+    (count : Counting) (after : Known) : Type 0 where
   pub ask : Ask
   pub says : line ≡ Ok ask
   pub calls : ask ≢ Leave
   pub sees : SeesMore before [] after
-  pub late : 2 ^ 62 ≤ length after.seen
+  pub uncounted : IsUncounted count
+  pub over : IsOver most count.now after.seen
 
 -- the reply that the line got, if it asks for one
 abbrev pub reply_to : Told → Option Reply
@@ -128,30 +165,24 @@ module _ (stood : ChineseWall → List Entry → Option Covered → Type 0) wher
     pub so : StoodFor stood before told (calls_for before.process told) booked after
 
   -- nothing was made of the line, or it came to something
-  abbrev pub MayHaveCome : (before : Known) → Result Ask BadLine → (after : Known) → Type 0
-  MayHaveCome before line after = SeesMore before [] after
-      ⊎ ((told : Told) × (booked : Option Covered) × ComesTo before line told booked after)
+  abbrev pub MayHaveCome : (before : Known) → Result Ask BadLine → Counting → (after : Known) →
+      Type 0
+  MayHaveCome before line count after = (SeesMore before [] after × IsUncounted count)
+      ⊎ ((told : Told) × (booked : Option Covered) × ComesTo before line told booked after
+      × Counted (told ∷ []) count)
 
   -- the line came to something that is not told
-  abbrev pub ComesUnbooked : (before : Known) → Result Ask BadLine → (after : Known) → Type 0
-  ComesUnbooked before line after = (told : Told) × ComesTo before line told None after
-      × (last_call before.process told ≢ None)
+  abbrev pub ComesUnbooked : (before : Known) → Result Ask BadLine → Counting → (after : Known) →
+      Type 0
+  ComesUnbooked before line count after = (told : Told) × ComesTo before line told None after
+      × (last_call before.process told ≢ None) × Counted (told ∷ []) count
 
   -- the line came to something that is told, with this receipt of its last call
   abbrev pub ComesBooked : (before : Known) → Result Ask BadLine → Told →
-      (receipt : Option Covered) → (after : Known) → Type 0
-  ComesBooked before line told receipt after = (covers : Covered)
+      (receipt : Option Covered) → Counting → (after : Known) → Type 0
+  ComesBooked before line told receipt count after = (covers : Covered)
       × ComesTo before line told (Some covers) after × (receipt ≡ Some covers)
-      × (last_call before.process told ≢ None)
-
-  -- what a line came to that asks for something
-  abbrev pub CameTo : (before : Known) → Ask → Came → (receipt : Option Covered) →
-      (after : Known) → Type 0
-  CameTo before ask (cames.Reply reply) receipt after = (told : Told)
-      × ComesBooked before (Ok ask) told receipt after × (reply_to told ≡ Some reply)
-  CameTo before ask cames.Left receipt after = (ask ≡ Leave) × SeesMore before [] after
-  CameTo before ask cames.Exhausted receipt after = ComesTooLate before (Ok ask) after
-  CameTo before ask cames.Unbooked receipt after = ComesUnbooked before (Ok ask) after
+      × (last_call before.process told ≢ None) × Counted (told ∷ []) count
 
   -- the request was taken again and again, all takes but the last answered Pending, and this is the
   -- answer to the last, behind which the machine gave this receipt, if it was booked; the door was
@@ -162,92 +193,111 @@ module _ (stood : ChineseWall → List Entry → Option Covered → Type 0) wher
       × ComesTo before (Ok (Wait request)) (waited request again reply) receipt after
   Waited before request Late receipt after = SeesMore before [] after × (2 ^ 62 ≤ length after.seen)
 
+module _ (stood : ChineseWall → List Entry → Option Covered → Type 0) (most : Option ℕ) where
+  -- what a line came to that asks for something
+  abbrev pub CameTo : (before : Known) → Ask → Came → (receipt : Option Covered) → Counting →
+      (after : Known) → Type 0
+  CameTo before ask (cames.Reply reply) receipt count after = (told : Told)
+      × ComesBooked stood before (Ok ask) told receipt count after × (reply_to told ≡ Some reply)
+  CameTo before ask cames.Left receipt count after =
+      (ask ≡ Leave) × SeesMore before [] after × IsUncounted count
+  CameTo before ask cames.Exhausted receipt count after =
+      ComesTooLate most before (Ok ask) count after
+  CameTo before ask cames.Unbooked receipt count after =
+      ComesUnbooked stood before (Ok ask) count after
+
   -- the text answers the line, and the session goes on so
   abbrev pub AnswersSo : ChineseWall → (before : Known) → Result Ask BadLine → (text : List ℕ) →
-      (receipt : Option Covered) → (after : Known) → Next → Type 0
-  AnswersSo wall before line text receipt after nexts.Replied =
-      (told : Told) × ComesBooked before line told receipt after × (text ≡ answer wall told)
-  AnswersSo wall before line text receipt after nexts.GoesOn = (bad : BadLine) × (line ≡ Err bad)
-      × SeesMore before [] after × (text ≡ answer wall (asked_nothing bad))
-  AnswersSo wall before line text receipt after nexts.Left =
-      (line ≡ Ok Leave) × SeesMore before [] after × (text ≡ left_line)
-  AnswersSo wall before line text receipt after nexts.Exhausted =
-      ComesTooLate before line after × (text ≡ exhausted_line)
-  AnswersSo wall before line text receipt after nexts.Unbooked =
-      ComesUnbooked before line after × (text ≡ unbooked_line)
+      (receipt : Option Covered) → Counting → (after : Known) → Next → Type 0
+  AnswersSo wall before line text receipt count after nexts.Replied = (told : Told)
+      × ComesBooked stood before line told receipt count after × (text ≡ answer wall told)
+  AnswersSo wall before line text receipt count after nexts.GoesOn = (bad : BadLine)
+      × (line ≡ Err bad) × SeesMore before [] after × IsUncounted count
+      × (text ≡ answer wall (asked_nothing bad))
+  AnswersSo wall before line text receipt count after nexts.Left =
+      (line ≡ Ok Leave) × SeesMore before [] after × IsUncounted count × (text ≡ left_line)
+  AnswersSo wall before line text receipt count after nexts.Exhausted =
+      ComesTooLate most before line count after × (text ≡ exhausted_line)
+  AnswersSo wall before line text receipt count after nexts.Unbooked =
+      ComesUnbooked stood before line count after × (text ≡ unbooked_line)
 
   -- the line was acted on and its answer is the text; or memory ran out
   abbrev pub PutsAnswer : ChineseWall → (before : Known) → Result Ask BadLine → (text : List ℕ) →
-      (receipt : Option Covered) → (after : Known) → Result Next OutOfMemory → Type 0
-  PutsAnswer wall before line text receipt after (Ok next) =
-      AnswersSo wall before line text receipt after next
-  PutsAnswer wall before line text receipt after (Err error) = MayHaveCome before line after
+      (receipt : Option Covered) → Counting → (after : Known) → Result Next OutOfMemory → Type 0
+  PutsAnswer wall before line text receipt count after (Ok next) =
+      AnswersSo wall before line text receipt count after next
+  PutsAnswer wall before line text receipt count after (Err error) =
+      MayHaveCome stood before line count after
 
   -- the text answers the line, and the desk was shown what is due before
   abbrev pub AnswersBehind : {O : Type 0} → ChineseWall → (before : Known) → Result Ask BadLine →
-      (text : List ℕ) → (desk : Showing) → Used O → (after : Known) → Next → Type 0
-  AnswersBehind wall before line text desk sink after next = (receipt : Option Covered)
-      × AnswersSo wall before line text receipt after next
+      (text : List ℕ) → (desk : Showing) → Used O → Counting → (after : Known) → Next → Type 0
+  AnswersBehind wall before line text desk sink count after next = (receipt : Option Covered)
+      × AnswersSo wall before line text receipt count after next
       × Tells desk.before desk.since (shown_next next receipt (bytes_before sink))
 
   -- the line's answer was written, after which the session goes on so
   abbrev pub WritesAnswer : {O : Type 0} → ChineseWall → (before : Known) → Result Ask BadLine →
-      (desk : Showing) → Used O → (after : Known) → Next → Type 0
-  WritesAnswer wall before line desk sink after next = (text : List ℕ)
-      × AnswersBehind wall before line text desk sink after next × IsWritten sink text
+      (desk : Showing) → Used O → Counting → (after : Known) → Next → Type 0
+  WritesAnswer wall before line desk sink count after next = (text : List ℕ)
+      × AnswersBehind wall before line text desk sink count after next × IsWritten sink text
 
   -- the line was acted on and its answer was written; or why the session ends
   abbrev pub AnswersLine : {X O : Type 0} → ChineseWall → (before : Known) →
-      Result Ask BadLine → (desk : Showing) → Used O → (after : Known) → Result X SessionEnd →
-      Type 0
-  AnswersLine wall before line desk sink after (Ok x) =
-      WritesAnswer wall before line desk sink after nexts.Replied
-      ⊎ WritesAnswer wall before line desk sink after nexts.GoesOn
-  AnswersLine wall before line desk sink after (Err Left) =
-      WritesAnswer wall before line desk sink after nexts.Left
-  AnswersLine wall before line desk sink after (Err Exhausted) =
-      WritesAnswer wall before line desk sink after nexts.Exhausted
-  AnswersLine wall before line desk sink after (Err Unbooked) =
-      WritesAnswer wall before line desk sink after nexts.Unbooked
-  AnswersLine wall before line desk sink after (Err WriteFailed) = (next : Next)
-      × (text : List ℕ) × AnswersBehind wall before line text desk sink after next
+      Result Ask BadLine → (desk : Showing) → Used O → Counting → (after : Known) →
+      Result X SessionEnd → Type 0
+  AnswersLine wall before line desk sink count after (Ok x) =
+      WritesAnswer wall before line desk sink count after nexts.Replied
+      ⊎ WritesAnswer wall before line desk sink count after nexts.GoesOn
+  AnswersLine wall before line desk sink count after (Err Left) =
+      WritesAnswer wall before line desk sink count after nexts.Left
+  AnswersLine wall before line desk sink count after (Err Exhausted) =
+      WritesAnswer wall before line desk sink count after nexts.Exhausted
+  AnswersLine wall before line desk sink count after (Err Unbooked) =
+      WritesAnswer wall before line desk sink count after nexts.Unbooked
+  AnswersLine wall before line desk sink count after (Err WriteFailed) = (next : Next)
+      × (text : List ℕ) × AnswersBehind wall before line text desk sink count after next
       × BrokeOff sink text
-  AnswersLine wall before line desk sink after (Err NoMemory) = IsUntouched sink
-      × (desk.since ≡ desk.before) × MayHaveCome before line after
-  AnswersLine wall before line desk sink after (Err ReadFailed) = ⊥
-  AnswersLine wall before line desk sink after (Err EndOfStream) = ⊥
+  AnswersLine wall before line desk sink count after (Err NoMemory) = IsUntouched sink
+      × (desk.since ≡ desk.before) × MayHaveCome stood before line count after
+  AnswersLine wall before line desk sink count after (Err ReadFailed) = ⊥
+  AnswersLine wall before line desk sink count after (Err EndOfStream) = ⊥
 
   -- ---- lines so far
 
   -- the lines of the text so far were acted on, and all answers written
   pub record SoFar {O : Type 0} (wall : ChineseWall) (before : Known) (text rest : List Word)
-      (desk : Showing) (sink : Used O) (now : Known) : Type 0 where
+      (desk : Showing) (sink : Used O) (count : Counting) (now : Known) : Type 0 where
     pub lines : List Word
     pub told : List Told
     pub acted : Acted wall before text lines rest told now
     pub shows : List Shown
     pub shown : Tells desk.before desk.since shows
     pub booked : AreBooked stood wall (bytes_before sink) before told shows now
+    pub counted : Counted told count
     pub written : IsWritten sink (answers wall told)
 
-  -- why no further line is acted on
+-- why no further line is acted on
+module _ (stood : ChineseWall → List Entry → Option Covered → Type 0) (spent : Type 0) where
   abbrev pub StopsSo : {O : Type 0} → ChineseWall → Used O → (before : Known) →
       (rest : List Word) → List Told → (untold : Option Told) → (after : Known) → SessionEnd →
       Type 0
   StopsSo wall sink before rest told untold after Left =
-      SaysLast stood wall sink before rest told untold after Left
+      SaysLast stood spent wall sink before rest told untold after Left
   StopsSo wall sink before rest told untold after Exhausted =
-      SaysLast stood wall sink before rest told untold after Exhausted
+      SaysLast stood spent wall sink before rest told untold after Exhausted
   StopsSo wall sink before rest told untold after Unbooked =
-      SaysLast stood wall sink before rest told untold after Unbooked
+      SaysLast stood spent wall sink before rest told untold after Unbooked
   StopsSo wall sink before rest told untold after WriteFailed =
-      FailedOnce sink × BreaksOff stood wall sink before rest told untold after
+      FailedOnce sink × BreaksOff stood spent wall sink before rest told untold after
   StopsSo wall sink before rest told untold after NoMemory = IsWritten sink (answers wall told)
   StopsSo wall sink before rest told untold after ReadFailed = ⊥
   StopsSo wall sink before rest told untold after EndOfStream = ⊥
 
+module _ (stood : ChineseWall → List Entry → Option Covered → Type 0) (most : Option ℕ) where
   pub record Stops {O : Type 0} (wall : ChineseWall) (before : Known) (text : List Word)
-      (desk : Showing) (sink : Used O) (after : Known) (end : SessionEnd) : Type 0 where
+      (desk : Showing) (sink : Used O) (count : Counting) (after : Known) (end : SessionEnd)
+      : Type 0 where
     pub lines : List Word
     pub rest : List Word
     pub told : List Told
@@ -256,13 +306,14 @@ module _ (stood : ChineseWall → List Entry → Option Covered → Type 0) wher
     pub shows : List Shown
     pub shown : Tells desk.before desk.since shows
     pub booked : AreBooked stood wall (bytes_before sink) before told shows after
-    pub stops : StopsSo wall sink before rest told untold after end
+    pub counted : Counted (and_untold untold told) count
+    pub stops : StopsSo stood (IsSpent most count.now) wall sink before rest told untold after end
 
   -- all finished lines of the text were acted on, and the rest is kept; or why not
   abbrev pub TakesIn : {X O : Type 0} → ChineseWall → (before : Known) → (text : List Word) →
-      (kept : Unfinished) → (desk : Showing) → Used O → (after : Known) →
+      (kept : Unfinished) → (desk : Showing) → Used O → Counting → (after : Known) →
       Result X SessionEnd → Type 0
-  TakesIn wall before text kept desk sink after (Ok x) =
-      (line : Word) × Holds kept line × SoFar wall before text (line ∷ []) desk sink after
-  TakesIn wall before text kept desk sink after (Err end) =
-      Stops wall before text desk sink after end
+  TakesIn wall before text kept desk sink count after (Ok x) = (line : Word) × Holds kept line
+      × SoFar stood most wall before text (line ∷ []) desk sink count after
+  TakesIn wall before text kept desk sink count after (Err end) =
+      Stops wall before text desk sink count after end

@@ -1,15 +1,18 @@
 //! Does what a line asks for.
-ghost use Rattle.std.specs.Prelude.{◌≡◌, Ok, Option, is_some, option_map};
+ghost use Rattle.std.specs.Prelude.{◌≡◌, ◌<◌, Ok, Option, is_some, option_map};
 ghost use Rattle.run_model.specs.declared.call.Act.TheVariants.{Take};
 ghost use Rattle.run_model.specs.Known.{HasKnownLabel};
 ghost use Rattle.run_model.specs.Replies.{Legal};
+ghost use Rattle.hall_script.specs.declared.ask.Ask.TheVariants.{Act as ToAct, Wait as ToWait};
 ghost use Rattle.hall_script.specs.Asks.{AsksWithKnownLabel};
 ghost use Rattle.hall_turn.specs.Receipts.{Covered};
 ghost use Rattle.hall_turn.specs.Answers.{Answered, IsSamePass, NamesKnown, ClaimAnswered};
 ghost use Rattle.hall_turn.specs.Answers.{ClaimNamesKnown, MayFinish, GivesAt, ClaimGivesAt};
 ghost use Rattle.live_session.specs.Sessions.{Stood};
 ghost use Rattle.live_session.specs.Steps.{Waited, CameTo, CameNamesKnown, came_of};
+ghost use Rattle.live_session.specs.Steps.{Counts, calls_after, counting};
 
+use crate::caller::{Caller, may_call};
 use crate::seat::Seat;
 use crate::setting::Setting;
 use hall_core::{Reply, finish};
@@ -27,7 +30,7 @@ pub(crate) enum Came {
     Reply(Reply),
     /// It said `leave`.
     Left,
-    /// The door was too late for its call, which was not made.
+    /// Its call was not made: the session has made as many as it may, or the door was too late.
     Exhausted,
     /// Its call was made, and the machine is not booked: what came of it is not told.
     Unbooked,
@@ -36,17 +39,19 @@ pub(crate) enum Came {
 // What a line came to whose last call was answered so, with the machine booked or not at the end of
 // its turn. It counts as one call, if it was made. Whoever waits is told of a machine that is not
 // booked.
-fn came_of<R: Wait>(rt: &R, seat: &mut Seat, answer: Answer, is_booked: bool) -> Came
-    ensures { (booked : Option Covered) → is_booked ≡ is_some booked →
+fn came_of<R: Wait>(rt: &R, caller: &mut Caller, answer: Answer, is_booked: bool) -> Came
+    requires room { caller.old.calls < 18446744073709551615 }
+    ensures came { (booked : Option Covered) → is_booked ≡ is_some booked →
         result ≡ came_of answer booked }
+    ensures calls { caller.new.calls ≡ calls_after answer caller.old.calls }
 {
     match answer {
         Answer::Reply(reply) => {
-            seat.called();
+            caller.calls += 1;
             if is_booked {
                 Came::Reply(reply)
             } else {
-                seat.tell_unbooked(rt);
+                caller.seat.tell_unbooked(rt);
                 Came::Unbooked
             }
         }
@@ -177,33 +182,82 @@ impl<'s, R: Wait, M: Receipts<T>, T: Receipt + Drop> Setting<'s, R, M, T> {
         }
     }
 
-    /// Does what a line asks for. Where a call was made there is the receipt that the machine gave
-    /// at the end of the turn of the last one, if it was booked.
+    // An act, if the session may make one more call.
+    fn act(
+        &self,
+        pass: &mut PassTo<M>,
+        caller: &mut Caller,
+        act: Act,
+        receipt: &mut Option<T>,
+    ) -> Came
+        requires door { pass.old.door ≡ self.now.door.now }
+        requires legal { Legal self.now.door.now.policy pass.old.seen }
+        requires label { HasKnownLabel self.now.door.now.policy act }
+        requires counts { Counts self.now.most caller.old.calls pass.old }
+        ensures same { IsSamePass pass.old pass.new }
+        ensures legal { Legal self.now.door.now.policy pass.new.seen }
+        ensures came { CameTo (Stood M.stands M.booked) self.now.most pass.old (ToAct act) result
+            (option_map T.covers receipt.new) (counting caller.old.calls caller.new.calls) pass.new }
+        ensures counts { Counts self.now.most caller.new.calls pass.new }
+        ensures named { CameNamesKnown self.now.door.now.policy result }
+    {
+        if !may_call(caller.calls, self.most) {
+            return Came::Exhausted;
+        }
+        let answer = self.make(pass, &mut caller.seat, act, receipt);
+        came_of(self.rt, caller, answer, receipt.is_some())
+    }
+
+    // A wait, if the session may make one more call.
+    fn wait_for(
+        &self,
+        pass: &mut PassTo<M>,
+        caller: &mut Caller,
+        request: u64,
+        receipt: &mut Option<T>,
+    ) -> Came
+        requires door { pass.old.door ≡ self.now.door.now }
+        requires legal { Legal self.now.door.now.policy pass.old.seen }
+        requires counts { Counts self.now.most caller.old.calls pass.old }
+        ensures same { IsSamePass pass.old pass.new }
+        ensures legal { Legal self.now.door.now.policy pass.new.seen }
+        ensures came { CameTo (Stood M.stands M.booked) self.now.most pass.old (ToWait request)
+            result (option_map T.covers receipt.new)
+            (counting caller.old.calls caller.new.calls) pass.new }
+        ensures counts { Counts self.now.most caller.new.calls pass.new }
+        ensures named { CameNamesKnown self.now.door.now.policy result }
+    {
+        if !may_call(caller.calls, self.most) {
+            return Came::Exhausted;
+        }
+        let answer = self.wait(pass, &mut caller.seat, request, receipt);
+        came_of(self.rt, caller, answer, receipt.is_some())
+    }
+
+    /// Does what a line asks for. A call is made only if the session may make one more. Where one was
+    /// made there is the receipt that the machine gave at the end of the turn of the last one, if it
+    /// was booked.
     pub(crate) fn act_on(
         &self,
         pass: &mut PassTo<M>,
-        seat: &mut Seat,
+        caller: &mut Caller,
         ask: Ask,
         receipt: &mut Option<T>,
     ) -> Came
         requires door { pass.old.door ≡ self.now.door.now }
         requires legal { Legal self.now.door.now.policy pass.old.seen }
         requires label { AsksWithKnownLabel self.now.door.now.policy ask }
+        requires counts { Counts self.now.most caller.old.calls pass.old }
         ensures same { IsSamePass pass.old pass.new }
         ensures legal { Legal self.now.door.now.policy pass.new.seen }
-        ensures came { CameTo (Stood M.stands M.booked) pass.old ask result
-            (option_map T.covers receipt.new) pass.new }
+        ensures came { CameTo (Stood M.stands M.booked) self.now.most pass.old ask result
+            (option_map T.covers receipt.new) (counting caller.old.calls caller.new.calls) pass.new }
+        ensures counts { Counts self.now.most caller.new.calls pass.new }
         ensures named { CameNamesKnown self.now.door.now.policy result }
     {
         match ask {
-            Ask::Act(act) => {
-                let answer = self.make(pass, seat, act, receipt);
-                came_of(self.rt, seat, answer, receipt.is_some())
-            }
-            Ask::Wait(request) => {
-                let answer = self.wait(pass, seat, request, receipt);
-                came_of(self.rt, seat, answer, receipt.is_some())
-            }
+            Ask::Act(act) => self.act(pass, caller, act, receipt),
+            Ask::Wait(request) => self.wait_for(pass, caller, request, receipt),
             Ask::Leave => Came::Left,
         }
     }

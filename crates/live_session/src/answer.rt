@@ -8,12 +8,13 @@ ghost use Rattle.live_session.specs.Lines.{said};
 ghost use Rattle.live_session.specs.Sessions.{Stood};
 ghost use Rattle.live_session.specs.Steps.{Holds, CameNamesKnown, line_to, next_after, PutsAnswer};
 ghost use Rattle.live_session.specs.Steps.{AnswersLine, IsUnread, showing, shown_next};
+ghost use Rattle.live_session.specs.Steps.{Counts, counting};
 
 use crate::acting::Came;
+use crate::caller::Caller;
 use crate::desk::ShowDesk;
 use crate::ending::SessionEnd;
 use crate::line::{Lines, bad_line, give_back};
-use crate::seat::Seat;
 use crate::setting::Setting;
 use coll_text::{put, send};
 use hall_script::write_reply;
@@ -31,7 +32,7 @@ pub(crate) enum Next {
     GoesOn,
     /// It ends: the line said `leave`.
     Left,
-    /// It ends: the door was too late for the line's call.
+    /// It ends: the line's call was not made.
     Exhausted,
     /// It ends: what came of the line's call is not told.
     Unbooked,
@@ -92,23 +93,26 @@ impl<'s, R: Wait, M: Receipts<T>, T: Receipt + Drop> Setting<'s, R, M, T> {
     fn put_answer(
         &self,
         pass: &mut PassTo<M>,
-        seat: &mut Seat,
+        caller: &mut Caller,
         lines: &mut Lines,
         receipt: &mut Option<T>,
     ) -> Result<Next, NoMemory>
         requires door { pass.old.door ≡ self.now.door.now }
         requires legal { Legal self.now.policy.now pass.old.seen }
         requires none { lines.old.text.items ≡ [] }
+        requires counts { Counts self.now.most caller.old.calls pass.old }
         ensures same { IsSamePass pass.old pass.new }
         ensures legal { Legal self.now.policy.now pass.new.seen }
         ensures puts { (bytes : List ℕ) → Holds lines.old.line bytes →
-            PutsAnswer (Stood M.stands M.booked) self.now.policy.now pass.old
+            PutsAnswer (Stood M.stands M.booked) self.now.most self.now.policy.now pass.old
             (said self.now.policy.now.dataset_names bytes) lines.new.text.items
-            (option_map T.covers receipt.new) pass.new result }
+            (option_map T.covers receipt.new) (counting caller.old.calls caller.new.calls) pass.new
+            result }
+        ensures counts { Counts self.now.most caller.new.calls pass.new }
     {
         match lines.line.read(self.alloc, self.policy) {
             Ok(Ok(ask)) => {
-                let came = self.act_on(pass, seat, ask, receipt);
+                let came = self.act_on(pass, caller, ask, receipt);
                 put_came(self.policy, &came, &mut lines.text)
             }
             Ok(Err(bad)) => match put(&mut lines.text, bad_line(bad)) {
@@ -124,7 +128,7 @@ impl<'s, R: Wait, M: Receipts<T>, T: Receipt + Drop> Setting<'s, R, M, T> {
     pub(crate) fn answer_line<S: ShowDesk<O, T>, O: Sink>(
         &self,
         pass: &mut PassTo<M>,
-        seat: &mut Seat,
+        caller: &mut Caller,
         lines: &mut Lines,
         source: &mut S,
         sink: &mut O,
@@ -132,18 +136,21 @@ impl<'s, R: Wait, M: Receipts<T>, T: Receipt + Drop> Setting<'s, R, M, T> {
         requires door { pass.old.door ≡ self.now.door.now }
         requires legal { Legal self.now.policy.now pass.old.seen }
         requires none { lines.old.text.items ≡ [] }
+        requires counts { Counts self.now.most caller.old.calls pass.old }
         ensures none { OnOk result (lines.new.text.items ≡ []) }
         ensures same { IsSamePass pass.old pass.new }
         ensures legal { Legal self.now.policy.now pass.new.seen }
         ensures unread { IsUnread S.failures S.remaining S.heard source.old source.new }
         ensures answers { (bytes : List ℕ) → Holds lines.old.line bytes →
-            AnswersLine (Stood M.stands M.booked) self.now.policy.now pass.old
+            AnswersLine (Stood M.stands M.booked) self.now.most self.now.policy.now pass.old
             (said self.now.policy.now.dataset_names bytes)
             (showing S.heard source.old source.new)
-            (used O.failures O.contents sink.old sink.new) pass.new result }
+            (used O.failures O.contents sink.old sink.new)
+            (counting caller.old.calls caller.new.calls) pass.new result }
+        ensures counts { Counts self.now.most caller.new.calls pass.new }
     {
         let mut receipt = None;
-        let next = match self.put_answer(pass, seat, lines, &mut receipt) {
+        let next = match self.put_answer(pass, caller, lines, &mut receipt) {
             Ok(next) => next,
             Err(_) => return Err(SessionEnd::NoMemory),
         };

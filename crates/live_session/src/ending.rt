@@ -11,11 +11,21 @@ pub enum SessionEnd {
     ReadFailed,
     /// The writer failed: the newest answer may be written in part.
     WriteFailed,
-    /// The door had 2^62 turns. The call at hand was not made, and its line was answered so.
+    /// It had made as many calls as it may, or the door had 2^62 turns. The call at hand was not
+    /// made, and its line was answered so.
     Exhausted,
     /// At the end of the newest call's turn the machine was not booked. The call was made, and its
     /// line was answered so in place of its reply.
     Unbooked,
     /// A growth of memory was refused: for a line, before it was acted on, or for its answer.
     NoMemory,
+}
+
+/// How a session of a process ended, and after how many calls.
+#[derive(Clone, Copy, Debug, PartialEq, Eq)]
+pub struct Closing {
+    /// How it ended.
+    pub end: SessionEnd,
+    /// Each call that was made counts, and each wait as one, however often it took the request.
+    pub calls: u64,
 }

@@ -4,6 +4,7 @@
 
 mod acting;
 mod answer;
+mod caller;
 mod desk;
 mod ending;
 mod line;
@@ -16,7 +17,7 @@ mod session;
 mod setting;
 
 pub use desk::{Desk, ShowDesk};
-pub use ending::SessionEnd;
+pub use ending::{Closing, SessionEnd};
 pub use line::{BadLine, LINE_LIMIT};
 pub use peer::{Peer, Session};
 pub use run::{ServeFault, Served, serve_all};

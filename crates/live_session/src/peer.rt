@@ -1,7 +1,7 @@
 //! The devices of processes, and what their threads are given and give back.
 
 use crate::desk::Desk;
-use crate::ending::SessionEnd;
+use crate::ending::Closing;
 use hall_turn::{Machine, PassTo};
 use std::snapshot::Snapshot;
 use std::thread::Promise;
@@ -21,8 +21,8 @@ pub struct Peer<S, O> {
 pub struct Session<S, O> {
     /// Its devices.
     pub peer: Peer<S, O>,
-    /// How it ended.
-    pub end: SessionEnd,
+    /// How it ended, and after how many calls.
+    pub closing: Closing,
 }
 
 /// What a thread is given.
@@ -30,6 +30,8 @@ pub struct Session<S, O> {
 pub(crate) struct Job<M: Machine, S, O> {
     pub(crate) pass: PassTo<M>,
     pub(crate) peer: Peer<S, O>,
+    /// So many calls it may make at most.
+    pub(crate) most: Option<u64>,
 }
 
 /// What a thread gives back.
@@ -37,8 +39,8 @@ pub(crate) struct Job<M: Machine, S, O> {
 pub(crate) struct Played<M: Machine, S, O> {
     pub(crate) pass: PassTo<M>,
     pub(crate) peer: Peer<S, O>,
-    /// How the session ended; none where it did not begin.
-    pub(crate) ended: Option<SessionEnd>,
+    /// How the session ended, and after how many calls; none where it did not begin.
+    pub(crate) ended: Option<Closing>,
 }
 
 /// The thread of a job serves its process.

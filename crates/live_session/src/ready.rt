@@ -1,5 +1,6 @@
 //! What there is before any session begins.
 ghost use Rattle.std.specs.Prelude.{◌≡◌, [], IfOk, vec_len};
+ghost use Rattle.std.specs.List.{All};
 ghost use Rattle.run_model.specs.Comms.{processes};
 ghost use Rattle.live_session.specs.Joining.{passes_of, peers_of, ArePrepared, HasRoomFor};
 
@@ -32,13 +33,15 @@ pub(crate) struct Ready<M: Machine + Drop, S: Desk<O> + Drop, O: Sink + Drop> {
     pub(crate) room: Room<M, S, O>,
 }
 
-// A pass and its devices for each process.
+// A pass, its devices and its bound for each process.
 fn share_out<M: Machine, S: Drop, O: Drop>(
     alloc: Global,
     passes: PassesTo<M>,
     peers: Vec<Peer<S, O>>,
+    most: Option<u64>,
 ) -> Result<Vec<Job<M, S, O>>, NoMemory>
     requires { vec_len passes ≡ vec_len peers }
+    ensures bounds { IfOk result (λ jobs. All (λ job. job.most ≡ most) jobs.items) }
     ensures passes { IfOk result (λ jobs. passes_of jobs.items ≡ passes.items) }
     ensures peers { IfOk result (λ jobs. peers_of jobs.items ≡ peers.items) }
 {
@@ -48,7 +51,7 @@ fn share_out<M: Machine, S: Drop, O: Drop>(
         let Some(pass) = passes.next() else {
             unreachable!()
         };
-        jobs.push_reserved(Job { pass, peer });
+        jobs.push_reserved(Job { pass, peer, most });
     }
     Ok(jobs)
 }
@@ -80,15 +83,16 @@ pub(crate) fn prepare<M: Machine + Drop, S: Desk<O> + Drop, O: Sink + Drop>(
     policy: &Policy,
     machine: M,
     peers: Vec<Peer<S, O>>,
+    most: Option<u64>,
 ) -> Result<Ready<M, S, O>, NoMemory>
     requires stands { M.stands policy.now machine [] }
     requires peers { vec_len peers ≡ processes policy.now }
     ensures prepared { IfOk result
-        (λ ready. ArePrepared policy.now peers.items ready.door ready.jobs.items) }
+        (λ ready. ArePrepared most policy.now peers.items ready.door ready.jobs.items) }
     ensures room { IfOk result (λ ready. HasRoomFor (vec_len ready.jobs) ready.room) }
 {
     let (door, passes) = DoorTo::over(alloc, policy, machine)?;
-    let Ok(jobs) = share_out(alloc, passes, peers) else {
+    let Ok(jobs) = share_out(alloc, passes, peers, most) else {
         drop(door);
         return Err(NoMemory);
     };

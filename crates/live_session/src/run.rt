@@ -32,7 +32,8 @@ where
     S: ShowDesk<O, T> + Drop,
     O: Sink + Drop,
     T: Receipt + Drop,
-    requires { IsFresh setting.now.door.now job }
+    requires fresh { IsFresh setting.now.door.now job }
+    requires most { setting.now.most ≡ job.most }
     ensures { HasServed (Stood M.stands M.booked) S.failures S.remaining S.heard O.failures
         O.contents job result }
 {
@@ -42,6 +43,7 @@ where
             mut source,
             mut sink,
         },
+        most: _,
     } = job;
     let ended = setting.serve(&mut pass, &mut source, &mut sink);
     Played {
@@ -125,7 +127,7 @@ fn sort_out<M: Machine, S: Drop, O: Drop>(
         let Played { pass, peer, ended } = played;
         passes.push_reserved(pass);
         match ended {
-            Some(end) => sessions.push_reserved(Session { peer, end }),
+            Some(closing) => sessions.push_reserved(Session { peer, closing }),
             None => return None,
         }
     }
@@ -158,6 +160,7 @@ where
         policy,
         stage,
         turn,
+        most: _,
         receipts,
     } = *setting;
     let Room {
@@ -195,6 +198,7 @@ where
                             policy,
                             stage,
                             turn,
+                            most: job.most,
                             receipts,
                         };
                         play(&setting, job)
@@ -232,9 +236,10 @@ fn close_up<M: Machine + Drop, S: Drop, O: Drop>(
 
 /// Serves all processes at a door to this machine, each in a thread of its own, until every session
 /// has ended. The machine stands for the empty run under the policy. `peers` has the devices of
-/// each process, in order; they come back with how its session ended. Before each reply to a call
-/// the desk is shown the receipt that the machine gave at the end of the call's turn. No session
-/// begins before all threads have started, and every thread has ended when it returns.
+/// each process, in order; they come back with how its session ended, and after how many calls: after
+/// `most` at most, if there is such a bound. Before each reply to a call the desk is shown the
+/// receipt that the machine gave at the end of the call's turn. No session begins before all threads
+/// have started, and every thread has ended when it returns.
 ///
 /// `BadPeers` is answered exactly where there are not devices for each process, and no others.
 /// After a fault no call was made, and the machine was let go.
@@ -244,6 +249,7 @@ pub fn serve_all<R, M, S, O, T>(
     policy: &Policy,
     machine: M,
     peers: Vec<Peer<S, O>>,
+    most: Option<u64>,
 ) -> Result<Served<M, S, O>, ServeFault>
 where
     R: Threads + Wait + Sync,
@@ -253,7 +259,7 @@ where
     T: Receipt + Send + Drop,
     requires stands { M.stands policy.now machine [] }
     ensures served { IfOk result (λ served.
-        ServedAll S.failures S.remaining S.heard O.failures O.contents M.stands M.booked
+        ServedAll S.failures S.remaining S.heard O.failures O.contents M.stands M.booked most
         policy.now peers.items served.sessions.items served.machine) }
     ensures bad_peers { IfErr result (λ fault.
         (fault ≡ ServeFault.BadPeers) ↔ (vec_len peers ≢ processes policy.now)) }
@@ -261,7 +267,7 @@ where
     if peers.len() != policy.processes() as usize {
         return Err(ServeFault::BadPeers);
     }
-    let Ok(ready) = prepare(alloc, policy, machine, peers) else {
+    let Ok(ready) = prepare(alloc, policy, machine, peers, most) else {
         return Err(ServeFault::NoMemory);
     };
     let Ready {
@@ -278,6 +284,7 @@ where
         policy,
         stage: &stage,
         turn: &turn,
+        most,
         receipts: PhantomData,
     };
     let Some(ended) = run_jobs(&setting, jobs, room) else {

@@ -13,8 +13,6 @@ pub(crate) struct Seat<'s> {
     role: Role,
     aside: Option<Aside>,
     requests: Requests,
-    // How many calls were made.
-    calls: u64,
 }
 
 impl<'s> Seat<'s> {
@@ -31,13 +29,7 @@ impl<'s> Seat<'s> {
             role,
             aside,
             requests,
-            calls: 0,
         }
-    }
-
-    /// One more call was made.
-    pub(crate) fn called(&mut self) {
-        self.calls = self.calls.saturating_add(1);
     }
 
     /// After a post on a communicator that got this reply.
@@ -87,20 +79,18 @@ impl<'s> Seat<'s> {
         has_settled
     }
 
-    /// The session has ended, after so many calls.
-    pub(crate) fn end<R: Wait>(self, rt: &R) -> u64 {
+    /// The session has ended.
+    pub(crate) fn end<R: Wait>(self, rt: &R) {
         let Seat {
             stage,
             role,
             aside,
             requests,
-            calls,
         } = self;
         drop(requests);
         if let Some(aside) = aside {
             stage.step_back(rt, aside);
         }
         stage.leave(rt, role);
-        calls
     }
 }

@@ -5,10 +5,12 @@ ghost use Rattle.coll_text.specs.Reading.{parts};
 ghost use Rattle.hall_script.specs.Devices.{used};
 ghost use Rattle.hall_turn.specs.Answers.{IsSamePass};
 ghost use Rattle.live_session.specs.Sessions.{Stood, Serves, ServesIfBegun};
-ghost use Rattle.live_session.specs.Steps.{Holds, IsUnread, TakesIn, behind, showing};
+ghost use Rattle.live_session.specs.Steps.{Counts, Holds, IsUnread, TakesIn, behind, counting};
+ghost use Rattle.live_session.specs.Steps.{showing};
 
+use crate::caller::Caller;
 use crate::desk::ShowDesk;
-use crate::ending::SessionEnd;
+use crate::ending::{Closing, SessionEnd};
 use crate::line::{Lines, Unfinished};
 use crate::requests::Requests;
 use crate::seat::Seat;
@@ -23,7 +25,7 @@ impl<'s, R: Wait, M: Receipts<T>, T: Receipt + Drop> Setting<'s, R, M, T> {
     fn take_in<S: ShowDesk<O, T>, O: Sink>(
         &self,
         pass: &mut PassTo<M>,
-        seat: &mut Seat,
+        caller: &mut Caller,
         lines: &mut Lines,
         bytes: &[u8],
         source: &mut S,
@@ -32,15 +34,18 @@ impl<'s, R: Wait, M: Receipts<T>, T: Receipt + Drop> Setting<'s, R, M, T> {
         requires door { pass.old.door ≡ self.now.door.now }
         requires legal { Legal self.now.policy.now pass.old.seen }
         requires none { lines.old.text.items ≡ [] }
+        requires counts { Counts self.now.most caller.old.calls pass.old }
         ensures none { OnOk result (lines.new.text.items ≡ []) }
         ensures same { IsSamePass pass.old pass.new }
         ensures legal { Legal self.now.policy.now pass.new.seen }
         ensures unread { IsUnread S.failures S.remaining S.heard source.old source.new }
         ensures takes { (start : List ℕ) → Holds lines.old.line start →
-            TakesIn (Stood M.stands M.booked) self.now.policy.now pass.old
+            TakesIn (Stood M.stands M.booked) self.now.most self.now.policy.now pass.old
             (behind start (parts 10 bytes.now)) lines.new.line
             (showing S.heard source.old source.new)
-            (used O.failures O.contents sink.old sink.new) pass.new result }
+            (used O.failures O.contents sink.old sink.new)
+            (counting caller.old.calls caller.new.calls) pass.new result }
+        ensures counts { Counts self.now.most caller.new.calls pass.new }
     {
         let mut parts = Parts::new(bytes, b'\n');
         let Some(first) = parts.next_long() else {
@@ -51,7 +56,7 @@ impl<'s, R: Wait, M: Receipts<T>, T: Receipt + Drop> Setting<'s, R, M, T> {
             Err(_) => return Err(SessionEnd::NoMemory),
         }
         while let Some(part) = parts.next_long() {
-            match self.answer_line(pass, seat, lines, source, sink) {
+            match self.answer_line(pass, caller, lines, source, sink) {
                 Ok(()) => {}
                 Err(end) => return Err(end),
             }
@@ -63,21 +68,22 @@ impl<'s, R: Wait, M: Receipts<T>, T: Receipt + Drop> Setting<'s, R, M, T> {
         Ok(())
     }
 
-    // A session from its first line to its end.
+    // A session from its first line to its end. No call was counted before.
     fn hold<S: ShowDesk<O, T>, O: Sink>(
         &self,
         pass: &mut PassTo<M>,
-        seat: &mut Seat,
+        caller: &mut Caller,
         source: &mut S,
         sink: &mut O,
     ) -> SessionEnd
         requires door { pass.old.door ≡ self.now.door.now }
         requires legal { Legal self.now.policy.now pass.old.seen }
+        requires none { caller.old.calls ≡ 0 }
         ensures same { IsSamePass pass.old pass.new }
-        ensures serves { Serves (Stood M.stands M.booked) S.heard self.now.policy.now
+        ensures serves { Serves (Stood M.stands M.booked) self.now.most S.heard self.now.policy.now
             (used S.failures S.remaining source.old source.new)
             (used O.failures O.contents sink.old sink.new)
-            pass.old pass.new result }
+            pass.old pass.new (record { end = result; calls = caller.new.calls }) }
     {
         let line = Unfinished::new(self.alloc);
         let text = Vec::new(self.alloc);
@@ -91,7 +97,7 @@ impl<'s, R: Wait, M: Receipts<T>, T: Receipt + Drop> Setting<'s, R, M, T> {
             if n == 0 {
                 return SessionEnd::EndOfStream;
             }
-            match self.take_in(pass, seat, &mut lines, &buffer[..n], source, sink) {
+            match self.take_in(pass, caller, &mut lines, &buffer[..n], source, sink) {
                 Ok(()) => {}
                 Err(end) => return end,
             }
@@ -108,11 +114,11 @@ impl<'s, R: Wait, M: Receipts<T>, T: Receipt + Drop> Setting<'s, R, M, T> {
     /// call is answered by the line of its reply. A wait takes the request, and again when its
     /// instance has settled, and is answered as the last of these takes was: `pending` where every
     /// other session has ended or waits too, so that nobody is left who could settle it; all that
-    /// wait are told so then. `leave` is answered by `left`, and ends the session, as does a call
-    /// after 2^62 turns of the door, answered by `exhausted`. So does a call behind whose turn the
-    /// machine is not booked: it was made, and in place of its reply stands `unbooked`; whoever
-    /// waits is told so too. Any other line is answered by `bad NAME`: then nothing was done, and
-    /// the session goes on.
+    /// wait are told so then. `leave` is answered by `left`, and ends the session. So does a call
+    /// where `most` were made, or after 2^62 turns of the door: it is not made, and answered by
+    /// `exhausted`. So does a call behind whose turn the machine is not booked: it was made, and in
+    /// place of its reply stands `unbooked`; whoever waits is told so too. Any other line is answered
+    /// by `bad NAME`: then nothing was done, and the session goes on.
     ///
     /// Before a reply is written the source is shown the receipt that the machine gave at the end of
     /// the turn of its call. No turn is held while it reads, works out a delivery, shows, writes or
@@ -123,10 +129,11 @@ impl<'s, R: Wait, M: Receipts<T>, T: Receipt + Drop> Setting<'s, R, M, T> {
         pass: &mut PassTo<M>,
         source: &mut S,
         sink: &mut O,
-    ) -> Option<SessionEnd>
+    ) -> Option<Closing>
         requires door { pass.old.door ≡ self.now.door.now }
         ensures same { IsSamePass pass.old pass.new }
-        ensures serves { ServesIfBegun (Stood M.stands M.booked) S.heard self.now.policy.now
+        ensures serves { ServesIfBegun (Stood M.stands M.booked) self.now.most S.heard
+            self.now.policy.now
             (used S.failures S.remaining source.old source.new)
             (used O.failures O.contents sink.old sink.new)
             pass.old pass.new result }
@@ -142,14 +149,21 @@ impl<'s, R: Wait, M: Receipts<T>, T: Receipt + Drop> Setting<'s, R, M, T> {
                 self.stage.leave(self.rt, role);
                 source.open();
                 source.close(SessionEnd::NoMemory, 0);
-                return Some(SessionEnd::NoMemory);
+                return Some(Closing {
+                    end: SessionEnd::NoMemory,
+                    calls: 0,
+                });
             }
         };
-        let mut seat = Seat::new(self.rt, self.stage, role, requests);
+        let mut caller = Caller {
+            seat: Seat::new(self.rt, self.stage, role, requests),
+            calls: 0,
+        };
         source.open();
-        let end = self.hold(pass, &mut seat, source, sink);
-        let calls = seat.end(self.rt);
+        let end = self.hold(pass, &mut caller, source, sink);
+        let Caller { seat, calls } = caller;
+        seat.end(self.rt);
         source.close(end, calls);
-        Some(end)
+        Some(Closing { end, calls })
     }
 }

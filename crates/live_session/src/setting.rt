@@ -20,6 +20,8 @@ pub struct Setting<'s, R, M: Machine, T> {
     /// One for all sessions at the door, held by the one that calls there: there is one turn at a
     /// time, and who waits for it here sleeps, where at the door it would look again and again.
     pub turn: &'s Mutex<()>,
+    /// So many calls a session may make at most; none is no bound.
+    pub most: Option<u64>,
     /// What desks are shown.
     pub receipts: PhantomData<T>,
     ghost its: { policy.now ≡ door.now.policy },

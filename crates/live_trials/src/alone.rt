@@ -5,7 +5,7 @@ ghost use Rattle.std.specs.List.{All};
 use crate::devices::{Due, Heard, new_answers, new_client, nothing_heard};
 use crate::parties::wall;
 use hall_turn::{Door, Pass, Passes};
-use live_session::{SessionEnd, Setting, ShowDesk};
+use live_session::{Closing, SessionEnd, Setting, ShowDesk};
 use rank_stage::Stage;
 use std::alloc::Global;
 use std::marker::PhantomData;
@@ -61,7 +61,20 @@ pub(crate) fn end_alone<R: Abort + Wait, S: ShowDesk<O, ()>, O: Sink>(
     begins: bool,
     source: &mut S,
     sink: &mut O,
-) -> Option<SessionEnd> {
+) -> Option<Closing> {
+    end_within(rt, alloc, policy, begins, None, source, sink)
+}
+
+// The same of a session that may make so many calls.
+fn end_within<R: Abort + Wait, S: ShowDesk<O, ()>, O: Sink>(
+    rt: &R,
+    alloc: Global,
+    policy: &Policy,
+    begins: bool,
+    most: Option<u64>,
+    source: &mut S,
+    sink: &mut O,
+) -> Option<Closing> {
     let (door, mut pass) = door_alone(rt, alloc, policy);
     let stage = Stage::new(alloc, 1, 1024, false).expect(rt, "no stage");
     let _ = stage.release(rt, begins);
@@ -73,6 +86,7 @@ pub(crate) fn end_alone<R: Abort + Wait, S: ShowDesk<O, ()>, O: Sink>(
         policy,
         stage: &stage,
         turn: &turn,
+        most,
         receipts: PhantomData,
     };
     let end = setting.serve(&mut pass, source, sink);
@@ -94,7 +108,7 @@ fn is_served<R: Abort + Wait>(
 ) -> bool {
     let heard = nothing_heard();
     let end = serve_alone(rt, alloc, session, piece, (reads, writes), true, &heard);
-    end == Some(session.due.end) && heard.is_whole()
+    end == Some(session.due.closing()) && heard.is_whole()
 }
 
 // How the session ends. None where it does not begin, or its answers are not these.
@@ -106,7 +120,7 @@ fn serve_alone<R: Abort + Wait>(
     fuses: (Fuse, Fuse),
     begins: bool,
     heard: &Heard,
-) -> Option<SessionEnd> {
+) -> Option<Closing> {
     let (reads, writes) = fuses;
     let policy = wall(rt, alloc, ALONE);
     let mut source = new_client(session.lines, reads, piece, session.due, heard);
@@ -257,6 +271,88 @@ bad BadField
     };
     let is = is_served(&rt, rt.alloc(), session, WHOLE, Fuse::Whole, Fuse::Whole);
     assert!(&rt; is);
+}
+
+// How many calls a session may make, its lines, their answers, and how it is to end.
+const BOUNDED: [(u64, &[u8], &str, Due); 6] = [
+    (
+        2,
+        b"info 0\nfoo\npost 0 barrier\n#\nwait 0\ninfo 0\n",
+        "info size 1 rank 0\nbad BadVerb\nposted 0\nbad BadVerb\nexhausted\n",
+        Due {
+            end: SessionEnd::Exhausted,
+            calls: 2,
+        },
+    ),
+    (
+        3,
+        b"post 0 barrier\nwait 0\nwait 0\ntake 7\n",
+        "posted 0\ndelivered none\nrefused NoSuchRequest\nexhausted\n",
+        Due {
+            end: SessionEnd::Exhausted,
+            calls: 3,
+        },
+    ),
+    (
+        0,
+        b"foo\ninfo 0\ninfo 0\n",
+        "bad BadVerb\nexhausted\n",
+        Due {
+            end: SessionEnd::Exhausted,
+            calls: 0,
+        },
+    ),
+    (
+        2,
+        b"info 0\ninfo 0\nleave\n",
+        "info size 1 rank 0\ninfo size 1 rank 0\nleft\n",
+        Due {
+            end: SessionEnd::Left,
+            calls: 2,
+        },
+    ),
+    (
+        1,
+        b"info 0\n",
+        "info size 1 rank 0\n",
+        Due {
+            end: SessionEnd::EndOfStream,
+            calls: 1,
+        },
+    ),
+    (
+        u64::MAX,
+        b"info 0\n",
+        "info size 1 rank 0\n",
+        Due {
+            end: SessionEnd::EndOfStream,
+            calls: 1,
+        },
+    ),
+];
+
+/// The call behind the last one that a session may make is answered `exhausted` and not made,
+/// whatever it asks for; a line that asks for nothing, and `leave`, are answered as ever.
+#[test]
+fn a_session_makes_as_many_calls_as_it_may(rt: HostRuntime) {
+    for (most, lines, answers, due) in BOUNDED {
+        let heard = nothing_heard();
+        let policy = wall(&rt, rt.alloc(), ALONE);
+        let mut source = new_client(lines, Fuse::Whole, WHOLE, due, &heard);
+        let mut sink = new_answers(answers, Fuse::Whole, &heard);
+        let bound = Some(most);
+        let end = end_within(
+            &rt,
+            rt.alloc(),
+            &policy,
+            true,
+            bound,
+            &mut source,
+            &mut sink,
+        );
+        assert!(&rt; end == Some(due.closing()), "{most} calls");
+        assert!(&rt; sink.are_all() && heard.is_whole(), "{most} calls");
+    }
 }
 
 /// A session that is sent home does not begin: nothing is read or written, and its desk hears

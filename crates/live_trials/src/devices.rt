@@ -1,7 +1,7 @@
 //! The devices of these tests: lines and answers in memory, and desks that listen. A device can be
 //! told to wait at one of its calls until another has come far enough.
 
-use live_session::{Desk, SessionEnd, ShowDesk};
+use live_session::{Closing, Desk, SessionEnd, ShowDesk};
 use std::alloc::{AllocError, Global};
 use std::sync::atomic::{AtomicU64, Ordering};
 use std::thread;
@@ -120,6 +120,14 @@ fn may_go_on(hold: &Option<Hold>, call: u64) -> bool {
 pub(crate) struct Due {
     pub(crate) end: SessionEnd,
     pub(crate) calls: u64,
+}
+
+impl Due {
+    /// The same, as a session says it.
+    pub(crate) fn closing(self) -> Closing {
+        let Due { end, calls } = self;
+        Closing { end, calls }
+    }
 }
 
 /// Lines that come in pieces, at a desk that listens.

@@ -41,7 +41,7 @@ fn both_end<'a, R: Abort + Threads + Wait + Sync>(
     let policy = wall(rt, alloc, FRIENDS);
     let peers = Vec::from_array(alloc, [one, other]).expect(rt, "no memory");
     let machine = hall(rt, alloc, &policy);
-    let served = serve_all::<_, _, _, _, ()>(rt, alloc, &policy, machine, peers).expect(
+    let served = serve_all::<_, _, _, _, ()>(rt, alloc, &policy, machine, peers, None).expect(
         rt,
         "not served",
     );
@@ -180,7 +180,7 @@ fn sessions_that_wait_take_no_processor(rt: HostRuntime) -> Result<(), Fail> {
     }
     let machine = hall(&rt, rt.alloc(), &policy);
     let before = rt.process_cpu_time()?;
-    let served = serve_all::<_, _, _, _, ()>(&rt, rt.alloc(), &policy, machine, peers).expect(
+    let served = serve_all::<_, _, _, _, ()>(&rt, rt.alloc(), &policy, machine, peers, None).expect(
         &rt,
         "not served",
     );

@@ -73,7 +73,8 @@ where
         fuse: Fuse::Whole,
     };
     let end = end_alone(rt, alloc, &policy, true, &mut source, &mut sink);
-    assert!(rt; end == Some(SessionEnd::EndOfStream));
+    let closing = end.expect(rt, "no session began");
+    assert!(rt; closing.end == SessionEnd::EndOfStream);
     assert!(rt; sink.is_same && sink.rest.is_empty());
     let after = source.pages.expect(rt, "no pages are told");
     after.saturating_sub(before)

@@ -4,7 +4,7 @@ ghost use Rattle.std.specs.Prelude.{◌≡◌, map, None, Some};
 
 use crate::alone::{ANSWERS, LINES, end_alone};
 use crate::parties::wall;
-use live_session::{Desk, SessionEnd, ShowDesk};
+use live_session::{Closing, Desk, SessionEnd, ShowDesk};
 use std::alloc::Global;
 use std::collections::VecDeque;
 use std::process::Abort;
@@ -163,7 +163,11 @@ fn is_served_promptly<R: Abort + Wait>(rt: &R, alloc: Global, piece: usize) -> b
     let mut sink = Kept { rt, bytes };
     let end = end_alone(rt, alloc, &policy, true, &mut source, &mut sink);
     let answers = ANSWERS.as_bytes();
-    let is_whole = end == Some(SessionEnd::EndOfStream) && sink.bytes.as_slice() == answers;
+    let due = Closing {
+        end: SessionEnd::EndOfStream,
+        calls: 5,
+    };
+    let is_whole = end == Some(due) && sink.bytes.as_slice() == answers;
     is_whole && is_prompt(&source.reads, answers) && are_shown(&source.shows, answers)
 }
 

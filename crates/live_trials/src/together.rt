@@ -68,15 +68,32 @@ where
     M: Receipts<()> + Send + Drop,
     requires { M.stands policy.now machine [] }
 {
+    served_within(rt, alloc, policy, machine, rows, None)
+}
+
+// The same of sessions that may make so many calls.
+fn served_within<R, M>(
+    rt: &R,
+    alloc: Global,
+    policy: &Policy,
+    machine: M,
+    rows: &[Row],
+    most: Option<u64>,
+) -> usize
+where
+    R: Abort + Threads + Wait + Sync,
+    M: Receipts<()> + Send + Drop,
+    requires { M.stands policy.now machine [] }
+{
     let hearers = hearers(alloc, rows.len()).expect(rt, "no memory");
     let peers = peers(alloc, rows, hearers.as_slice()).expect(rt, "no memory");
-    let served = serve_all::<_, _, _, _, ()>(rt, alloc, policy, machine, peers).expect(
+    let served = serve_all::<_, _, _, _, ()>(rt, alloc, policy, machine, peers, most).expect(
         rt,
         "not served",
     );
     let mut count: usize = 0;
     for (session, row) in served.sessions.iter().zip(rows) {
-        if session.end == row.due.end && session.peer.sink.are_all() {
+        if session.closing == row.due.closing() && session.peer.sink.are_all() {
             count = count.saturating_add(1);
         }
     }
@@ -111,6 +128,20 @@ fn two_wait_for_each_other(rt: HostRuntime) {
         4,
     );
     assert!(&rt; served_so(&rt, rt.alloc(), FRIENDS, &[row, row]) == 2);
+}
+
+/// A wait is one call of those that a session may make, also where it sleeps and takes twice.
+#[test]
+fn a_wait_is_one_call_of_the_bound(rt: HostRuntime) {
+    let row = sound_row(
+        "post 0 allreduce sum int32 1 as alpha 7\nwait 0\ninfo 0\nleave\n",
+        "posted 0\ndelivered [14]\nexhausted\n",
+        SessionEnd::Exhausted,
+        2,
+    );
+    let policy = wall(&rt, rt.alloc(), FRIENDS);
+    let machine = hall(&rt, rt.alloc(), &policy);
+    assert!(&rt; served_within(&rt, rt.alloc(), &policy, machine, &[row, row], Some(2)) == 2);
 }
 
 /// Nobody waits for what cannot come: the others have left, or wait too.
@@ -189,7 +220,7 @@ fn all_that_wait_in_vain_are_told(rt: HostRuntime) {
     let hearers = hearers(alloc, 4).expect(&rt, "no memory");
     let peers = three_that_wait(alloc, hearers.as_slice()).expect(&rt, "no memory");
     let machine = hall(&rt, alloc, &policy);
-    let served = serve_all::<_, _, _, _, ()>(&rt, alloc, &policy, machine, peers).expect(
+    let served = serve_all::<_, _, _, _, ()>(&rt, alloc, &policy, machine, peers, None).expect(
         &rt,
         "not served",
     );
@@ -267,7 +298,7 @@ fn fault_of<R: Threads + Wait + Sync + Abort>(
     let hearers = hearers(alloc, rows.len()).expect(rt, "no memory");
     let peers = peers(alloc, rows, hearers.as_slice()).expect(rt, "no memory");
     let machine = hall(rt, alloc, &policy);
-    let fault = match serve_all::<_, _, _, _, ()>(rt, alloc, &policy, machine, peers) {
+    let fault = match serve_all::<_, _, _, _, ()>(rt, alloc, &policy, machine, peers, None) {
         Ok(served) => {
             drop(served);
             None

@@ -128,12 +128,12 @@ fn who_sleeps_is_told_too(rt: HostRuntime) {
     let hearers = hearers(alloc, 4).expect(&rt, "no memory");
     let peers = in_turn(alloc, hearers.as_slice()).expect(&rt, "no memory");
     let machine = booked_till_it_settles(&rt, alloc, &policy);
-    let served = serve_all::<_, _, _, _, ()>(&rt, alloc, &policy, machine, peers).expect(
+    let served = serve_all::<_, _, _, _, ()>(&rt, alloc, &policy, machine, peers, None).expect(
         &rt,
         "not served",
     );
     for session in &served.sessions {
-        assert!(&rt; session.end == SessionEnd::Unbooked && session.peer.sink.are_all());
+        assert!(&rt; session.closing.end == SessionEnd::Unbooked && session.peer.sink.are_all());
     }
     drop(served);
     for heard in &hearers {
@@ -172,12 +172,12 @@ fn who_sleeps_for_another_instance_is_told_too(rt: HostRuntime) {
     let hearers = hearers(alloc, 4).expect(&rt, "no memory");
     let peers = first_waits_on(alloc, hearers.as_slice()).expect(&rt, "no memory");
     let machine = booked_till_it_settles(&rt, alloc, &policy);
-    let served = serve_all::<_, _, _, _, ()>(&rt, alloc, &policy, machine, peers).expect(
+    let served = serve_all::<_, _, _, _, ()>(&rt, alloc, &policy, machine, peers, None).expect(
         &rt,
         "not served",
     );
     for session in &served.sessions {
-        assert!(&rt; session.end == SessionEnd::Unbooked && session.peer.sink.are_all());
+        assert!(&rt; session.closing.end == SessionEnd::Unbooked && session.peer.sink.are_all());
     }
     drop(served);
     for heard in &hearers {

@@ -21,7 +21,7 @@ loop-played-preserved g c =
           c.push_reserved.new.self.items i.passes one.items;
       sessions = one_end_more done played c.loop-played.sessions.items
           c.push_reserved-in-Some-ended.new.self.items
-          (record { peer = played.peer; end = c.in-Some-ended.end }) i.sessions two.items refl
+          (record { peer = played.peer; closing = c.in-Some-ended.closing }) i.sessions two.items refl
           c.in-Some-ended.is;
       count = omega (arith, two.len);
       passes_fit = omega (arith, one.capacity, i.passes_fit);

@@ -1,10 +1,9 @@
-use Rattle.std.proofs.Common.{rules, ◌≡◌, ◌<◌, ◌∙◌, length, take, refl, ap, sym, subst}
-use Rattle.wall_policy.specs.Policy.{ChineseWall}
-use Rattle.run_model.specs.Replies.{Legal}
+use Rattle.std.proofs.Common.{rules, ℕ, ◌≡◌, ◌<◌, ◌∙◌, length, take, refl, ap, sym, subst}
 use Rattle.hall_turn.specs.Known.{Doorway}
 use Rattle.live_session.proofs.SessionLemmas.{going_none, going_on, served_till_stop, served_to_end}
 use Rattle.live_session.specs.Sessions.{Stood}
-use Rattle.live_session.proofs.SessionLemmas.{took_none}
+use Rattle.live_session.proofs.SessionLemmas.{took_none, none_counts, Going}
+use Rattle.hall_script.specs.Devices.{used}
 use Rattle.live_session.proofs.setting.Setting.hold.Goals as goal
 
 pub loop-init : goal.loop-init
@@ -17,10 +16,16 @@ loop-init g c =
       none = c.new-text.ensures.items;
       same = (refl, refl);
       legal = c.requires.legal;
-      going = going_none (Stood g.M.Machine.stands g.M.Machine.booked)
+      counts = none_counts c.args.self.now.most c.args.caller.now.calls pass c.requires.none;
+      going = subst (λ (k : ℕ). Going (Stood g.M.Machine.stands g.M.Machine.booked)
+          c.args.self.now.most g.S.Desk.heard wall
+          (used g.S.Desk.failures g.S.Desk.remaining c.args.source.now c.args.source.now)
+          (used g.O.Sink.failures g.O.Sink.contents c.args.sink.now c.args.sink.now) pass
+          c.new-line.result k pass) (sym c.requires.none)
+          (going_none (Stood g.M.Machine.stands g.M.Machine.booked) c.args.self.now.most
           g.S.Desk.failures g.S.Desk.remaining g.S.Desk.heard g.O.Sink.failures
           g.O.Sink.contents wall pass c.new-line.result c.args.source.now c.args.sink.now is
-          c.requires.legal c.new-line.ensures;
+          c.requires.legal c.new-line.ensures);
     }
 
 pub loop-preserved : goal.loop-preserved
@@ -32,12 +37,14 @@ loop-preserved g c =
       none = e.none;
       same = (e.same.0 ∙ i.same.0, e.same.1 ∙ i.same.1);
       legal = e.legal;
-      going = going_on (Stood g.M.Machine.stands g.M.Machine.booked)
+      counts = e.counts;
+      going = going_on (Stood g.M.Machine.stands g.M.Machine.booked) c.args.self.now.most
           g.S.Desk.failures g.S.Desk.remaining g.S.Desk.heard g.O.Sink.failures
           g.O.Sink.contents
           c.args.self.now.policy.now c.args.pass.now c.loop.pass c.take_in.new.pass
           c.loop.lines.line c.take_in.new.lines.line c.args.source.now c.loop.source
           c.hear.new.self c.take_in.new.source c.args.sink.now c.loop.sink c.take_in.new.sink
+          c.loop.caller.calls c.take_in.new.caller.calls
           (take c.in-Ok.n c.hear.new.buffer) i.going
           c.in-Ok.ensures.went c.in-Ok.ensures.bytes.0 c.in-Ok.ensures.tells
           c.hear.ensures.shows e.unread t.0 t.1 t.2;
@@ -47,24 +54,26 @@ pub returns-then-n-eq0-clause-serves : goal.returns-then-n-eq0-clause-serves
 returns-then-n-eq0-clause-serves g c =
     let zero : c.in-Ok.n ≡ 0 = search rules in
     let room : 0 < length c.hear.new.buffer = search rules in
-    served_to_end (Stood g.M.Machine.stands g.M.Machine.booked)
+    served_to_end (Stood g.M.Machine.stands g.M.Machine.booked) c.args.self.now.most
     g.S.Desk.failures g.S.Desk.remaining g.S.Desk.heard g.O.Sink.failures
     g.O.Sink.contents c.args.self.now.policy.now c.args.pass.now c.loop.pass c.loop.lines.line
     c.args.source.now c.loop.source c.hear.new.self c.args.sink.now c.loop.sink
+    c.loop.caller.calls
     (take c.in-Ok.n c.hear.new.buffer) (took_none c.in-Ok.n c.hear.new.buffer zero)
-    c.loop.invariant.going c.in-Ok.ensures.went c.in-Ok.ensures.bytes.0
+    c.loop.invariant.going c.loop.invariant.counts.within c.in-Ok.ensures.went c.in-Ok.ensures.bytes.0
     (c.in-Ok.ensures.bytes.1 zero room) c.in-Ok.ensures.tells c.hear.ensures.shows
 
 pub returns-in-Err-take_in-clause-serves : goal.returns-in-Err-take_in-clause-serves
 returns-in-Err-take_in-clause-serves g c =
     let i = c.loop.invariant in
-    served_till_stop (Stood g.M.Machine.stands g.M.Machine.booked)
+    served_till_stop (Stood g.M.Machine.stands g.M.Machine.booked) c.args.self.now.most
     g.S.Desk.failures g.S.Desk.remaining g.S.Desk.heard g.O.Sink.failures
     g.O.Sink.contents
     c.args.self.now.policy.now c.args.pass.now c.loop.pass c.take_in.new.pass c.loop.lines.line
     c.args.source.now c.loop.source c.hear.new.self c.take_in.new.source c.args.sink.now
-    c.loop.sink c.take_in.new.sink
-    (take c.in-Ok.n c.hear.new.buffer) c.in-Err-take_in.end i.going c.in-Ok.ensures.went
+    c.loop.sink c.take_in.new.sink c.loop.caller.calls c.take_in.new.caller.calls
+    (take c.in-Ok.n c.hear.new.buffer) c.in-Err-take_in.end i.going
+    c.in-Err-take_in.ensures.counts.within c.in-Ok.ensures.went
     c.in-Ok.ensures.bytes.0 c.in-Ok.ensures.tells c.hear.ensures.shows
     c.in-Err-take_in.ensures.unread
     (c.in-Err-take_in.ensures.takes i.going.line i.going.holds)

@@ -3,6 +3,7 @@ use Rattle.run_model.specs.Replies.{Legal}
 use Rattle.hall_turn.specs.Answers.{IsSamePass}
 use Rattle.hall_script.specs.Devices.{used}
 use Rattle.live_session.specs.Sessions.{Stood}
+use Rattle.live_session.specs.Steps.{Counts}
 use Rattle.live_session.proofs.SessionLemmas.{Going}
 use Rattle.live_session.proofs.setting.Setting.hold.Given as goal
 
@@ -11,7 +12,10 @@ invariant-loop g l = record {
   none : l.lines.text.items ≡ [];
   same : IsSamePass l.fn.pass l.pass;
   legal : Legal l.self.policy.now l.pass.seen;
-  going : Going (Stood g.M.Machine.stands g.M.Machine.booked) g.S.Desk.heard l.self.policy.now
+  counts : Counts l.self.most l.caller.calls l.pass;
+  going : Going (Stood g.M.Machine.stands g.M.Machine.booked) l.self.most g.S.Desk.heard
+      l.self.policy.now
       (used g.S.Desk.failures g.S.Desk.remaining l.fn.source l.source)
-      (used g.O.Sink.failures g.O.Sink.contents l.fn.sink l.sink) l.fn.pass l.lines.line l.pass;
+      (used g.O.Sink.failures g.O.Sink.contents l.fn.sink l.sink) l.fn.pass l.lines.line
+      l.caller.calls l.pass;
 }

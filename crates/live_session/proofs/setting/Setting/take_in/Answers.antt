@@ -5,7 +5,7 @@ use Rattle.coll_text.specs.Reading.{parts}
 use Rattle.hall_script.specs.Devices.{used}
 use Rattle.hall_turn.specs.Known.{Doorway}
 use Rattle.live_session.specs.Sessions.{Stood}
-use Rattle.live_session.specs.Steps.{SoFar, behind, showing}
+use Rattle.live_session.specs.Steps.{SoFar, behind, counting, showing}
 use Rattle.live_session.proofs.SessionLemmas.{so_far_none, goes_on, breaks_off, stops_here}
 use Rattle.live_session.proofs.SessionLemmas.{unread_then}
 use Rattle.live_session.proofs.setting.Setting.take_in.Goals as goal
@@ -21,13 +21,16 @@ returns-in-Err-clause-takes g c =
     let pass = c.args.pass.now in
     let sink = c.args.sink.now in
     let stood = Stood g.M.Machine.stands g.M.Machine.booked in
+    let most = c.args.self.now.most in
+    let first = c.args.caller.now.calls in
     let fails = g.O.Sink.failures in
     let holds = g.O.Sink.contents in
     let log = g.S.Desk.heard in
     let source = c.args.source.now in
     λ start h. let text = behind start (parts 10 c.args.bytes.now) in
-    stops_here stood fails holds wall pass pass text text (showing log source source) (used fails holds sink sink)
-    (so_far_none stood fails holds wall pass text (log source).shows sink
+    stops_here stood most fails holds wall pass pass text text (showing log source source)
+    (used fails holds sink sink) (counting first first)
+    (so_far_none stood most fails holds wall pass text (log source).shows sink first
     (c.args.self.now.its ∙ ap (λ (d : Doorway). d.policy) (sym c.requires.door)) c.requires.legal)
 
 pub loop-part-init : goal.loop-part-init
@@ -36,6 +39,8 @@ loop-part-init g c =
     let pass = c.args.pass.now in
     let sink = c.args.sink.now in
     let stood = Stood g.M.Machine.stands g.M.Machine.booked in
+    let most = c.args.self.now.most in
+    let first = c.args.caller.now.calls in
     let fails = g.O.Sink.failures in
     let holds = g.O.Sink.contents in
     let log = g.S.Desk.heard in
@@ -48,13 +53,14 @@ loop-part-init g c =
       so_far = λ start h. let text = behind start (parts 10 c.args.bytes.now) in (
         start ++ c.in-Some.first.now,
         c.in-Ok.ensures start h,
-        subst (λ (l : List Word). SoFar stood wall pass text l (showing log source source)
-            (used fails holds sink sink) pass)
+        subst (λ (l : List Word). SoFar stood most wall pass text l (showing log source source)
+            (used fails holds sink sink) (counting first first) pass)
             (ap (behind start) (sym c.new-parts.ensures ∙ c.in-Some.ensures))
-            (so_far_none stood fails holds wall pass text (log source).shows sink
+            (so_far_none stood most fails holds wall pass text (log source).shows sink first
             (c.args.self.now.its ∙ ap (λ (d : Doorway). d.policy) (sym c.requires.door))
             c.requires.legal),
       );
+      counts = c.requires.counts;
     }
 
 pub returns-in-Err-answer_line-clause-takes : goal.returns-in-Err-answer_line-clause-takes
@@ -62,18 +68,22 @@ returns-in-Err-answer_line-clause-takes g c =
     let wall = c.args.self.now.policy.now in
     let pass = c.args.pass.now in
     let stood = Stood g.M.Machine.stands g.M.Machine.booked in
+    let most = c.args.self.now.most in
+    let first = c.args.caller.now.calls in
     let fails = g.O.Sink.failures in
     let holds = g.O.Sink.contents in
     let log = g.S.Desk.heard in
     let source = c.args.source.now in
     λ start h. let text = behind start (parts 10 c.args.bytes.now) in
     let s = c.loop-part.invariant.so_far start h in
-    breaks_off stood fails holds wall pass c.loop-part.pass c.answer_line.new.pass text
+    breaks_off stood most fails holds wall pass c.loop-part.pass c.answer_line.new.pass text
     c.next_long-in-loop-part.new.self s.0 c.in-Some-next_long.part.now
     (log source).shows (log c.loop-part.source).shows (log c.answer_line.new.source).shows
-    c.args.sink.now c.loop-part.sink c.answer_line.new.sink c.in-Err-answer_line.end
-    (subst (λ (l : List Word). SoFar stood wall pass text (s.0 ∷ l)
-    (showing log source c.loop-part.source) (used fails holds c.args.sink.now c.loop-part.sink) c.loop-part.pass)
+    c.args.sink.now c.loop-part.sink c.answer_line.new.sink first c.loop-part.caller.calls
+    c.answer_line.new.caller.calls c.in-Err-answer_line.end
+    (subst (λ (l : List Word). SoFar stood most wall pass text (s.0 ∷ l)
+    (showing log source c.loop-part.source) (used fails holds c.args.sink.now c.loop-part.sink)
+    (counting first c.loop-part.caller.calls) c.loop-part.pass)
     c.in-Some-next_long.ensures s.2)
     (c.in-Err-answer_line.ensures.answers s.0 s.1)
 
@@ -83,6 +93,8 @@ later_so_far g c =
     let wall = c.args.self.now.policy.now in
     let pass = c.args.pass.now in
     let stood = Stood g.M.Machine.stands g.M.Machine.booked in
+    let most = c.args.self.now.most in
+    let first = c.args.caller.now.calls in
     let fails = g.O.Sink.failures in
     let holds = g.O.Sink.contents in
     let log = g.S.Desk.heard in
@@ -100,14 +112,17 @@ later_so_far g c =
           let a = e.answers s.0 s.1 in (
             c.in-Some-next_long.part.now,
             c.in-Ok-begin.ensures,
-            goes_on stood fails holds wall pass c.loop-part.pass c.answer_line.new.pass text
+            goes_on stood most fails holds wall pass c.loop-part.pass c.answer_line.new.pass text
                 (c.in-Some-next_long.part.now ∷ c.next_long-in-loop-part.new.self) s.0
                 (log source).shows (log c.loop-part.source).shows
-                (log c.answer_line.new.source).shows c.args.sink.now c.loop-part.sink c.answer_line.new.sink
-                (subst (λ (l : List Word). SoFar stood wall pass text (s.0 ∷ l)
-                (showing log source c.loop-part.source) (used fails holds c.args.sink.now c.loop-part.sink) c.loop-part.pass)
+                (log c.answer_line.new.source).shows c.args.sink.now c.loop-part.sink
+                c.answer_line.new.sink first c.loop-part.caller.calls c.answer_line.new.caller.calls
+                (subst (λ (l : List Word). SoFar stood most wall pass text (s.0 ∷ l)
+                (showing log source c.loop-part.source) (used fails holds c.args.sink.now c.loop-part.sink)
+                (counting first c.loop-part.caller.calls) c.loop-part.pass)
                 c.in-Some-next_long.ensures s.2) a,
           );
+      counts = e.counts;
     }
 
 pub loop-part-preserved : goal.loop-part-preserved
@@ -118,6 +133,8 @@ returns-in-Err-begin-clause-takes g c =
     let wall = c.args.self.now.policy.now in
     let pass = c.args.pass.now in
     let stood = Stood g.M.Machine.stands g.M.Machine.booked in
+    let most = c.args.self.now.most in
+    let first = c.args.caller.now.calls in
     let fails = g.O.Sink.failures in
     let holds = g.O.Sink.contents in
     let log = g.S.Desk.heard in
@@ -127,12 +144,15 @@ returns-in-Err-begin-clause-takes g c =
     let s = c.loop-part.invariant.so_far start h in
     let a = e.answers s.0 s.1 in
     let rest = c.in-Some-next_long.part.now ∷ c.next_long-in-loop-part.new.self in
-    stops_here stood fails holds wall pass c.answer_line.new.pass text rest
+    stops_here stood most fails holds wall pass c.answer_line.new.pass text rest
     (showing log source c.answer_line.new.source)
     (used fails holds c.args.sink.now c.answer_line.new.sink)
-    (goes_on stood fails holds wall pass c.loop-part.pass c.answer_line.new.pass text rest s.0
+    (counting first c.answer_line.new.caller.calls)
+    (goes_on stood most fails holds wall pass c.loop-part.pass c.answer_line.new.pass text rest s.0
     (log source).shows (log c.loop-part.source).shows (log c.answer_line.new.source).shows
-    c.args.sink.now c.loop-part.sink c.answer_line.new.sink
-    (subst (λ (l : List Word). SoFar stood wall pass text (s.0 ∷ l)
-    (showing log source c.loop-part.source) (used fails holds c.args.sink.now c.loop-part.sink) c.loop-part.pass)
+    c.args.sink.now c.loop-part.sink c.answer_line.new.sink first c.loop-part.caller.calls
+    c.answer_line.new.caller.calls
+    (subst (λ (l : List Word). SoFar stood most wall pass text (s.0 ∷ l)
+    (showing log source c.loop-part.source) (used fails holds c.args.sink.now c.loop-part.sink)
+    (counting first c.loop-part.caller.calls) c.loop-part.pass)
     c.in-Some-next_long.ensures s.2) a)

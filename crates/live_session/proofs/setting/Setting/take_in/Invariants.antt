@@ -4,7 +4,7 @@ use Rattle.hall_turn.specs.Answers.{IsSamePass}
 use Rattle.hall_script.specs.Devices.{used}
 use Rattle.coll_text.specs.Reading.{parts}
 use Rattle.live_session.specs.Sessions.{Stood}
-use Rattle.live_session.specs.Steps.{Holds, IsUnread, SoFar, behind, showing}
+use Rattle.live_session.specs.Steps.{Counts, Holds, IsUnread, SoFar, behind, counting, showing}
 use Rattle.live_session.proofs.setting.Setting.take_in.Given as goal
 
 abbrev pub invariant-loop-part : goal.invariant-loop-part
@@ -15,9 +15,11 @@ invariant-loop-part g l = record {
   unread : IsUnread g.S.Desk.failures g.S.Desk.remaining g.S.Desk.heard l.fn.source l.source;
   so_far : (start : List ℕ) → Holds l.fn.lines.line start → (line : List ℕ)
       × Holds l.lines.line line × SoFar (Stood g.M.Machine.stands g.M.Machine.booked)
-      l.self.policy.now l.fn.pass (behind start (parts 10 l.bytes)) (line ∷ l.parts)
+      l.self.most l.self.policy.now l.fn.pass (behind start (parts 10 l.bytes)) (line ∷ l.parts)
       (showing g.S.Desk.heard l.fn.source l.source)
-      (used g.O.Sink.failures g.O.Sink.contents l.fn.sink l.sink) l.pass;
+      (used g.O.Sink.failures g.O.Sink.contents l.fn.sink l.sink)
+      (counting l.fn.caller.calls l.caller.calls) l.pass;
+  counts : Counts l.self.most l.caller.calls l.pass;
 }
 
 abbrev pub decreases-loop-part : goal.decreases-loop-part

@@ -1,4 +1,3 @@
-use Rattle.std.proofs.Common.{◌≡◌}
 use Rattle.std.specs.Prelude.{option_map}
 use Rattle.run_model.specs.declared.reply.Reply.TheVariants.{Pending}
 use Rattle.run_model.specs.Replies.{Legal}
