@@ -1,5 +1,5 @@
 -- The command line, as `clap` sees it. (Own format.)
-use Rattle.std.specs.Prelude.{◌≡◌, Bool, true, false, List, [], ◌∷◌, Option, Some, None, codes}
+use Rattle.std.specs.Prelude.{◌≡◌, ℕ, Bool, true, false, List, [], ◌∷◌, Option, Some, None, codes}
 use Rattle.std.specs.Prelude.{option_and_then}
 use Rattle.std.specs.Prelude.{option_map, unwrap_or, map, Result, Ok, Err, if◌then◌else◌}
 use Rattle.std.specs.Borrow.{Bor}
@@ -8,6 +8,7 @@ use Rattle.std.specs.Str.{bytes_eq}
 use Rattle.clap.specs.Words.{App, Row, Rule, Text, Kinds, fault_of, all_of, first_of, new_app}
 use Rattle.clap.specs.Words.{new_rule, subcommand_of, with_rule, with_subcommand}
 use Rattle.clap.specs.declared.builder.action.ArgAction.TheVariants.{Append, SetTrue}
+use Rattle.program_words.specs.Number.{bound_said}
 use Rattle.program_words.specs.declared.words.ReplayPaths.{ReplayPaths}
 use Rattle.program_words.specs.declared.words.RunPaths.{RunPaths}
 use Rattle.program_words.specs.declared.words.AuditPaths.{AuditPaths}
@@ -17,6 +18,7 @@ use Rattle.program_words.specs.declared.words.CheckPaths.{CheckPaths}
 use Rattle.program_words.specs.declared.words.ReportPaths.{ReportPaths}
 use Rattle.program_words.specs.declared.words.Command.{Command}
 use Rattle.program_words.specs.declared.words.Command.TheVariants.{Replay, Run, Audit, Serve, Seal}
+use Rattle.program_words.specs.declared.words.Command.TheVariants.{AuditChain, SealChain}
 use Rattle.program_words.specs.declared.words.Command.TheVariants.{Check, Report, Usage, Version}
 use Rattle.program_words.specs.declared.words.ArgFault.{ArgFault}
 use Rattle.program_words.specs.declared.words.ArgFault.TheVariants.{BadArguments, NoMemory}
@@ -50,20 +52,30 @@ files_app name file = with_rule (plain_app name file) (repeated_rule (codes "aft
 abbrev pub keeping_app : Text → Text → App
 keeping_app name path = with_rule (files_app name path) (optional_rule (codes "book"))
 
--- audit POLICY BOOK [--after BOOK]..
+-- audit POLICY BOOK [--after BOOK].., or audit --chain CHAIN
 abbrev pub audit_app : App
-audit_app = files_app (codes "audit") (codes "book")
+audit_app =
+    let with_policy = with_rule (new_app (codes "audit")) (new_rule (codes "policy")) in
+    let with_book = with_rule with_policy (new_rule (codes "book")) in
+    let with_after = with_rule with_book (repeated_rule (codes "after")) in
+    with_rule with_after (optional_rule (codes "chain"))
 
--- serve POLICY DIR [--after BOOK].. [--book FILE] [--sync]
+-- serve POLICY DIR [--after BOOK].. [--chain CHAIN] [--book FILE] [--sync] [--calls N]
 abbrev pub serve_app : App
-serve_app = with_rule (keeping_app (codes "serve") (codes "pipes")) (flag_rule (codes "sync"))
+serve_app =
+    let with_book = keeping_app (codes "serve") (codes "pipes") in
+    let with_chain = with_rule with_book (optional_rule (codes "chain")) in
+    let with_sync = with_rule with_chain (flag_rule (codes "sync")) in
+    with_rule with_sync (optional_rule (codes "calls"))
 
--- seal POLICY BOOK OUT [--after BOOK]..
+-- seal POLICY BOOK OUT [--after BOOK].., or seal --chain CHAIN
 abbrev pub seal_app : App
 seal_app =
-    let with_out = with_rule (plain_app (codes "seal") (codes "book")) (required_rule (codes "out"))
-    in
-    with_rule with_out (repeated_rule (codes "after"))
+    let with_policy = with_rule (new_app (codes "seal")) (new_rule (codes "policy")) in
+    let with_book = with_rule with_policy (new_rule (codes "book")) in
+    let with_out = with_rule with_book (new_rule (codes "out")) in
+    let with_after = with_rule with_out (repeated_rule (codes "after")) in
+    with_rule with_after (optional_rule (codes "chain"))
 
 -- check POLICY [SCRIPT] [--book BOOK] [--after BOOK]..
 abbrev pub check_app : App
@@ -125,10 +137,14 @@ pub record AuditFiles : Type 0 where
 pub record ServeFiles : Type 0 where
   pub policy : Text
   pub after : List Text
+  -- the chain of which it is the next run, if it is one of a chain
+  pub chain : Option Text
   pub pipes : Text
   pub book : Option Text
   -- whether the book's file is to be synced
   pub sync : Bool
+  -- how many calls a session may make, if there is such a bound
+  pub calls : Option ℕ
 
 -- the files of a seal, as text; the earlier books have the oldest first
 pub record SealFiles : Type 0 where
@@ -157,8 +173,12 @@ pub data Asked : Type 0 where
   to_replay : ReplayFiles → Asked
   to_run : RunFiles → Asked
   to_audit : AuditFiles → Asked
+  -- to audit all runs of the chain file at this path
+  to_audit_chain : Text → Asked
   to_serve : ServeFiles → Asked
   to_seal : SealFiles → Asked
+  -- to make the book whole of the run that the chain file at this path has last
+  to_seal_chain : Text → Asked
   to_check : CheckFiles → Asked
   to_report : ReportFiles → Asked
   -- how it is used, or one of its commands
@@ -181,6 +201,15 @@ is_one_of (Some path) paths = list_any (λ p. bytes_eq p path) paths
 -- these files, unless the book would be written over an earlier one
 abbrev pub unless_lost : {F : Type 0} → (book : Option Text) → (after : List Text) → F → Option F
 unless_lost book after files = if is_one_of book after then None else Some files
+
+-- whether earlier books are named, and no book that goes on after them
+abbrev pub are_idle : (book : Option Text) → (after : List Text) → Bool
+are_idle None (oldest ∷ newer) = true
+are_idle book after = false
+
+-- these files, unless earlier books are named and no book that goes on after them
+abbrev pub unless_idle : {F : Type 0} → (book : Option Text) → (after : List Text) → F → Option F
+unless_idle book after files = if are_idle book after then None else Some files
 
 abbrev pub replay_in : List Row → Option ReplayFiles
 replay_in rows =
@@ -208,16 +237,45 @@ audit_in rows =
     Some (record { policy = p; after = every_of (codes "after") rows; book = b }))
     (first_of (codes "book") rows)) (first_of (codes "policy") rows)
 
+-- an audit of a chain, unless a file is named that the chain has not
+abbrev pub chain_alone : (chain : Text) → (policy book : Option Text) → (after : List Text) →
+    Option Asked
+chain_alone chain None None after = unless_idle None after (to_audit_chain chain)
+chain_alone chain policy book after = None
+
+-- an audit of a chain where one is named, else of a book
+abbrev pub either_audit : (chain : Option Text) → List Row → Option Asked
+either_audit None rows = option_map to_audit (audit_in rows)
+either_audit (Some chain) rows = chain_alone chain (first_of (codes "policy") rows)
+    (first_of (codes "book") rows) (every_of (codes "after") rows)
+
+abbrev pub audit_asked : List Row → Option Asked
+audit_asked rows = either_audit (first_of (codes "chain") rows) rows
+
+-- Whether a chain is named, and no book that could go into it, or earlier books, which it has itself.
+abbrev pub is_astray : (chain : Option Text) → (after : List Text) → (book : Option Text) → Bool
+is_astray None after book = false
+is_astray (Some chain) [] (Some book) = false
+is_astray (Some chain) after book = true
+
+abbrev pub unless_astray : (chain : Option Text) → (after : List Text) → (book : Option Text) →
+    ServeFiles → Option ServeFiles
+unless_astray chain after book files = if is_astray chain after book then None else Some files
+
 abbrev pub serve_in : List Row → Option ServeFiles
 serve_in rows =
-    option_and_then (λ p. option_and_then (λ d.
-    Some (record {
+    option_and_then (λ p. option_and_then (λ d. option_and_then (λ n.
+    unless_astray (first_of (codes "chain") rows) (every_of (codes "after") rows)
+    (first_of (codes "book") rows) (record {
       policy = p;
       after = every_of (codes "after") rows;
+      chain = first_of (codes "chain") rows;
       pipes = d;
       book = first_of (codes "book") rows;
       sync = is_set (codes "sync") rows;
-    })) (first_of (codes "pipes") rows)) (first_of (codes "policy") rows)
+      calls = n;
+    })) (bound_said (first_of (codes "calls") rows))) (first_of (codes "pipes") rows))
+    (first_of (codes "policy") rows)
 
 abbrev pub seal_in : List Row → Option SealFiles
 seal_in rows =
@@ -225,14 +283,20 @@ seal_in rows =
     Some (record { policy = p; after = every_of (codes "after") rows; book = b; out = o }))
     (first_of (codes "out") rows)) (first_of (codes "book") rows)) (first_of (codes "policy") rows)
 
--- whether earlier books are named, and no book that goes on after them
-abbrev pub are_idle : (book : Option Text) → (after : List Text) → Bool
-are_idle None (oldest ∷ newer) = true
-are_idle book after = false
+-- a seal of a chain, unless a file is named that the chain has not
+abbrev pub seal_alone : (chain : Text) → (policy book out : Option Text) → (after : List Text) →
+    Option Asked
+seal_alone chain None None None after = unless_idle None after (to_seal_chain chain)
+seal_alone chain policy book out after = None
 
--- these files, unless earlier books are named and no book that goes on after them
-abbrev pub unless_idle : {F : Type 0} → (book : Option Text) → (after : List Text) → F → Option F
-unless_idle book after files = if are_idle book after then None else Some files
+-- a seal of the book of a chain's last run where a chain is named, else of a book
+abbrev pub either_seal : (chain : Option Text) → List Row → Option Asked
+either_seal None rows = option_map to_seal (seal_in rows)
+either_seal (Some chain) rows = seal_alone chain (first_of (codes "policy") rows)
+    (first_of (codes "book") rows) (first_of (codes "out") rows) (every_of (codes "after") rows)
+
+abbrev pub seal_asked : List Row → Option Asked
+seal_asked rows = either_seal (first_of (codes "chain") rows) rows
 
 abbrev pub check_in : List Row → Option CheckFiles
 check_in rows =
@@ -259,9 +323,9 @@ abbrev pub command_in : Text → List Row → Option Asked
 command_in name rows =
     if bytes_eq name (codes "replay") then option_map to_replay (replay_in rows)
     else if bytes_eq name (codes "run") then option_map to_run (run_in rows)
-    else if bytes_eq name (codes "audit") then option_map to_audit (audit_in rows)
+    else if bytes_eq name (codes "audit") then audit_asked rows
     else if bytes_eq name (codes "serve") then option_map to_serve (serve_in rows)
-    else if bytes_eq name (codes "seal") then option_map to_seal (seal_in rows)
+    else if bytes_eq name (codes "seal") then seal_asked rows
     else if bytes_eq name (codes "check") then option_map to_check (check_in rows)
     else if bytes_eq name (codes "report") then option_map to_report (report_in rows)
     else if bytes_eq name (codes "usage") then Some (to_usage (first_of (codes "command") rows))
@@ -308,9 +372,11 @@ abbrev pub serve_files : ServePaths → ServeFiles
 serve_files r = record {
   policy = r.policy.now;
   after = texts_of r.after.items;
+  chain = option_map (λ c. c.now) r.chain;
   pipes = r.pipes.now;
   book = option_map (λ b. b.now) r.book;
   sync = r.sync;
+  calls = r.calls;
 }
 
 abbrev pub seal_files : SealPaths → SealFiles
@@ -341,8 +407,10 @@ abbrev pub asked_by : Command → Asked
 asked_by (Replay r) = to_replay (replay_files r)
 asked_by (Run r) = to_run (run_files r)
 asked_by (Audit r) = to_audit (audit_files r)
+asked_by (AuditChain chain) = to_audit_chain chain.now
 asked_by (Serve r) = to_serve (serve_files r)
 asked_by (Seal r) = to_seal (seal_files r)
+asked_by (SealChain chain) = to_seal_chain chain.now
 asked_by (Check r) = to_check (check_files r)
 asked_by (Report r) = to_report (report_files r)
 asked_by (Usage command) = to_usage (option_map (λ c. c.now) command)

@@ -4,7 +4,7 @@ ghost use Rattle.clap.specs.Words.{app_of, new_app, rule_of, with_subcommand};
 ghost use Rattle.clap.specs.declared.builder.Command.TheViews.{out-Command as fields_of};
 ghost use Rattle.program_words.specs.Grammar.{required_rule, repeated_rule, files_app, keeping_app};
 ghost use Rattle.program_words.specs.Grammar.{plain_app, flag_rule, serve_app, seal_app, check_app};
-ghost use Rattle.program_words.specs.Grammar.{report_app, usage_app, program_app};
+ghost use Rattle.program_words.specs.Grammar.{report_app, usage_app, program_app, audit_app};
 
 use clap::{Arg, ArgAction};
 use std::alloc::{AllocError, Global};
@@ -78,7 +78,24 @@ fn keeping_command<'a>(
     command.arg(Arg::new(alloc, "book").long("book"))
 }
 
-// The command `serve POLICY DIR [--after BOOK].. [--book FILE] [--sync]`.
+// The command `audit POLICY BOOK [--after BOOK]..`, or `audit --chain CHAIN`.
+fn audit_command<'a>(alloc: Global) -> Result<clap::Command<'a>, AllocError>
+    ensures app { IfOk result (λ c. app_of c ≡ audit_app) }
+    ensures globals { IfOk result (λ c. (fields_of c).has_globals ≡ false) }
+{
+    let Ok(command) = clap::Command::new(alloc, "audit").arg(Arg::new(alloc, "policy")) else {
+        return Err(AllocError);
+    };
+    let Ok(command) = command.arg(Arg::new(alloc, "book")) else {
+        return Err(AllocError);
+    };
+    let Ok(command) = command.arg(repeated(alloc, "after")) else {
+        return Err(AllocError);
+    };
+    command.arg(Arg::new(alloc, "chain").long("chain"))
+}
+
+// The command `serve POLICY DIR [--after BOOK].. [--chain CHAIN] [--book FILE] [--sync] [--calls N]`.
 fn serve_command<'a>(alloc: Global) -> Result<clap::Command<'a>, AllocError>
     ensures app { IfOk result (λ c. app_of c ≡ serve_app) }
     ensures globals { IfOk result (λ c. (fields_of c).has_globals ≡ false) }
@@ -86,21 +103,33 @@ fn serve_command<'a>(alloc: Global) -> Result<clap::Command<'a>, AllocError>
     let Ok(command) = keeping_command(alloc, "serve", "pipes") else {
         return Err(AllocError);
     };
-    command.arg(flag(alloc, "sync"))
+    let Ok(command) = command.arg(Arg::new(alloc, "chain").long("chain")) else {
+        return Err(AllocError);
+    };
+    let Ok(command) = command.arg(flag(alloc, "sync")) else {
+        return Err(AllocError);
+    };
+    command.arg(Arg::new(alloc, "calls").long("calls"))
 }
 
-// The command `seal POLICY BOOK OUT [--after BOOK]..`.
+// The command `seal POLICY BOOK OUT [--after BOOK]..`, or `seal --chain CHAIN`.
 fn seal_command<'a>(alloc: Global) -> Result<clap::Command<'a>, AllocError>
     ensures app { IfOk result (λ c. app_of c ≡ seal_app) }
     ensures globals { IfOk result (λ c. (fields_of c).has_globals ≡ false) }
 {
-    let Ok(command) = plain_command(alloc, "seal", "book") else {
+    let Ok(command) = clap::Command::new(alloc, "seal").arg(Arg::new(alloc, "policy")) else {
         return Err(AllocError);
     };
-    let Ok(command) = command.arg(required(alloc, "out")) else {
+    let Ok(command) = command.arg(Arg::new(alloc, "book")) else {
         return Err(AllocError);
     };
-    command.arg(repeated(alloc, "after"))
+    let Ok(command) = command.arg(Arg::new(alloc, "out")) else {
+        return Err(AllocError);
+    };
+    let Ok(command) = command.arg(repeated(alloc, "after")) else {
+        return Err(AllocError);
+    };
+    command.arg(Arg::new(alloc, "chain").long("chain"))
 }
 
 // The command `check POLICY [SCRIPT] [--book BOOK] [--after BOOK]..`.
@@ -177,7 +206,7 @@ pub(crate) fn program_command<'a>(alloc: Global) -> Result<clap::Command<'a>, Al
     let Ok(program) = with_command(program, keeping_command(alloc, "run", "script")) else {
         return Err(AllocError);
     };
-    let Ok(program) = with_command(program, files_command(alloc, "audit", "book")) else {
+    let Ok(program) = with_command(program, audit_command(alloc)) else {
         return Err(AllocError);
     };
     let Ok(program) = with_command(program, serve_command(alloc)) else {

@@ -2,6 +2,7 @@
 #![tactic(auto)]
 
 mod grammar;
+mod number;
 mod refusal;
 mod usage;
 mod words;

@@ -8,7 +8,8 @@ pub const VERSION: &str = "consortium 2026-11-30\n";
 const PROGRAM: &str = "\
 usage: consortium COMMAND WORDS
 
-  serve POLICY DIR [--after BOOK].. [--book FILE] [--sync]
+  serve POLICY DIR [--after BOOK].. [--book FILE] [--sync] [--calls N]
+  serve POLICY DIR --chain CHAIN --book FILE [--sync] [--calls N]
       answers each process of a policy live, at its two named pipes in DIR
   replay POLICY SCRIPT [--after BOOK].. [--book FILE]
       makes the calls of a script in its order, and writes the replies
@@ -16,8 +17,12 @@ usage: consortium COMMAND WORDS
       the same with a thread for each process, whose takes wait
   audit POLICY BOOK [--after BOOK]..
       tells whether a book is what its posts give
+  audit --chain CHAIN
+      the same of all books of a chain, each under the policy of its own day
   seal POLICY BOOK OUT [--after BOOK]..
       makes a whole book of one that was cut, in a new file
+  seal --chain CHAIN
+      the same of the last run of a chain, in place of its book
   check POLICY [SCRIPT] [--book BOOK [--after BOOK]..]
       tells what a policy means, and where a policy, a script or a book is at fault
   report POLICY BOOK [--after BOOK].. [--html FILE]
@@ -76,15 +81,21 @@ status  0  all lines were answered, and the book was written if it was asked for
 
 const AUDIT: &str = "\
 usage: consortium audit POLICY BOOK [--after BOOK]..
+       consortium audit --chain CHAIN
 
 Tells whether BOOK is what its posts give under POLICY: `sound N`, or `unsound at entry N`. With
 --after, any number of times, the oldest first, the book is one that goes on after earlier ones.
+With --chain it reads all runs of the chain file CHAIN, each from its policy and its book, and tells
+of how many runs and entries they are, and the head of the chain.
 
 status  0  the book is sound                                 sound N, on standard output
+        0  all runs of the chain stand                       sound R runs, N entries, head HEX
         1  the policy is refused                             policy: NAME
         2  an earlier book is no book, or not sound          after PATH: ..
         2  the book is unsound                               unsound at entry N, there too
         2  the file is no book                               book: line N, book: cut
+        2  the file is no chain                              chain: line N: .., chain: cut
+        2  a run of the chain does not stand                 chain: run N: ..
         3  a file could not be read, or is too long          read fault
         3  the line could not be written                     write fault
         4  memory was refused                                out of memory
@@ -92,38 +103,50 @@ status  0  the book is sound                                 sound N, on standar
 ";
 
 const SERVE: &str = "\
-usage: consortium serve POLICY DIR [--after BOOK].. [--book FILE] [--sync]
+usage: consortium serve POLICY DIR [--after BOOK].. [--book FILE] [--sync] [--calls N]
+       consortium serve POLICY DIR --chain CHAIN --book FILE [--sync] [--calls N]
 
 Answers each process of POLICY live, at the two named pipes NAME.calls and NAME.replies in DIR,
 until all have left. With --book the audit book is written to FILE, a new file, while it runs; with
 --sync its data is on the disk before a post is answered that settled an instance. With --after, any
-number of times, the oldest first, it goes on after the books of earlier runs.
+number of times, the oldest first, it goes on after the books of earlier runs; with --chain it is
+the next run of the chain file CHAIN, which gets a line when it begins and one when it has ended.
+With --calls a session that has made N calls, from 1 to 2^62, is answered `exhausted` at the next,
+and ends.
 
 status  0  all have left, and the book was written if it was asked for
         1  the policy is refused                             policy: NAME
+        1  the policy has not grown from the chain's last    chain: next run: policy: ..
         2  an earlier book is no book, or not sound          after PATH: ..
+        2  CHAIN is no chain, or a run of it does not stand  chain: ..
         3  a pipe is missing, or open to others              no pipe: NAME, open to others: NAME
         3  a process's pipes could not be opened             not opened: NAME
+        3  another server is at DIR or CHAIN                 in use: DIR, in use: CHAIN
         3  there is a file at FILE already                   book exists: FILE
         3  a file could not be read, or is too long          read fault
         3  the events or the book could not be written       write fault
         4  memory was refused                                out of memory
         4  a thread was refused                              no thread
+        4  a session asked for more calls than it may make   exhausted
         5  the words are bad                                 bad arguments
 ";
 
 const SEAL: &str = "\
 usage: consortium seal POLICY BOOK OUT [--after BOOK]..
+       consortium seal --chain CHAIN
 
 Makes a whole book of BOOK, which was cut, in the new file OUT: a line that is not finished goes,
 the verdict that the last post settles is added if it is missing, and the end line. With --after,
-any number of times, the oldest first, the book is one that goes on after earlier ones.
+any number of times, the oldest first, the book is one that goes on after earlier ones. With --chain
+it does so for the last run of the chain file CHAIN, which has not ended: the whole book takes the
+place of the cut one, and the chain gets the line that the run has ended.
 
 status  0  the whole book stands in OUT                      sealed N, on standard output
         1  the policy is refused                             policy: NAME
         2  an earlier book is no book, or not sound          after PATH: ..
         2  a finished line is not in its form                book: line N
         2  no sound book begins with its entries             unsound at entry N, there too
+        2  CHAIN is no chain, or a run of it does not stand  chain: ..
         3  a file could not be read, or is too long          read fault
         3  OUT is there already, or could not be written     write fault
         4  memory was refused                                out of memory

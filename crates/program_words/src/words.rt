@@ -7,10 +7,12 @@ ghost use Rattle.program_words.specs.Grammar.{is_one_of, are_idle, texts_of};
 ghost use Rattle.program_words.specs.Grammar.{replay_in, run_in, audit_in, serve_in, seal_in};
 ghost use Rattle.program_words.specs.Grammar.{check_in, report_in, to_check, to_report};
 ghost use Rattle.program_words.specs.Grammar.{to_replay, to_run, to_audit, to_serve, to_seal};
-ghost use Rattle.program_words.specs.Grammar.{command_in, command_of, asked, asked_by};
+ghost use Rattle.program_words.specs.Grammar.{command_in, command_of, asked, asked_by, audit_asked};
+ghost use Rattle.program_words.specs.Grammar.{seal_asked, is_astray};
 ghost use Rattle.program_words.specs.Grammar.{SaysCommand};
 
 use crate::grammar::program_command;
+use crate::number::bound_said;
 use clap::ArgMatches;
 use clap::error::ErrorKind;
 use std::alloc::{AllocError, Global};
@@ -53,12 +55,16 @@ pub struct ServePaths<'a> {
     pub policy: &'a str,
     /// The earlier books, the oldest first.
     pub after: Vec<&'a str>,
+    /// The chain of which it is the next run, if it is one of a chain.
+    pub chain: Option<&'a str>,
     /// The folder with the pipes.
     pub pipes: &'a str,
     /// Where the book goes, if it is wanted.
     pub book: Option<&'a str>,
     /// Whether the book's file is to be synced behind each post that settles an instance.
     pub sync: bool,
+    /// How many calls a session may make, from 1 to 2^62; none is no bound.
+    pub calls: Option<u64>,
 }
 
 /// The files of a seal.
@@ -102,8 +108,12 @@ pub enum Command<'a> {
     Replay(ReplayPaths<'a>),
     Run(RunPaths<'a>),
     Audit(AuditPaths<'a>),
+    /// To audit all runs of the chain file at this path.
+    AuditChain(&'a str),
     Serve(ServePaths<'a>),
     Seal(SealPaths<'a>),
+    /// To make the book whole of the run that the chain file at this path has last.
+    SealChain(&'a str),
     Check(CheckPaths<'a>),
     Report(ReportPaths<'a>),
     /// To tell how it is used: one of its commands, where one is named.
@@ -175,6 +185,17 @@ fn are_idle(book: Option<&str>, after: &[&str]) -> bool
     }
 }
 
+// Whether a chain is named, and no book that could go into it, or earlier books, which it has itself.
+fn is_astray(chain: Option<&str>, after: &[&str], book: Option<&str>) -> bool
+    ensures { result ≡ is_astray (option_map (λ c. c.now) chain.entry) (texts_of after.now)
+        (option_map (λ b. b.now) book.entry) }
+{
+    match chain {
+        Some(_) => !after.is_empty() || book.is_none(),
+        None => false,
+    }
+}
+
 // A replay of the files that its arguments name.
 fn replay_asked<'a>(matches: &ArgMatches<'a>, after: Vec<&'a str>) -> Option<Command<'a>>
     requires { AreEarlier (rows_of (found_of matches.now)) after.items }
@@ -217,8 +238,8 @@ fn run_asked<'a>(matches: &ArgMatches<'a>, after: Vec<&'a str>) -> Option<Comman
     Some(Command::Run(paths))
 }
 
-// An audit of the files that its arguments name.
-fn audit_asked<'a>(matches: &ArgMatches<'a>, after: Vec<&'a str>) -> Option<Command<'a>>
+// An audit of the book that its arguments name.
+fn book_audit_asked<'a>(matches: &ArgMatches<'a>, after: Vec<&'a str>) -> Option<Command<'a>>
     requires { AreEarlier (rows_of (found_of matches.now)) after.items }
     ensures { option_map asked_by result
         ≡ option_map to_audit (audit_in (rows_of (found_of matches.now))) }
@@ -233,6 +254,27 @@ fn audit_asked<'a>(matches: &ArgMatches<'a>, after: Vec<&'a str>) -> Option<Comm
     Some(Command::Audit(paths))
 }
 
+// An audit of the chain that its arguments name, which has the policies and the books itself; or of a
+// book.
+fn audit_asked<'a>(matches: &ArgMatches<'a>, after: Vec<&'a str>) -> Option<Command<'a>>
+    requires { AreEarlier (rows_of (found_of matches.now)) after.items }
+    ensures { option_map asked_by result ≡ audit_asked (rows_of (found_of matches.now)) }
+{
+    let Some(chain) = value_of(matches, "chain") else {
+        return book_audit_asked(matches, after);
+    };
+    if value_of(matches, "policy").is_some() {
+        return None;
+    }
+    if value_of(matches, "book").is_some() {
+        return None;
+    }
+    if are_idle(None, &after) {
+        return None;
+    }
+    Some(Command::AuditChain(chain))
+}
+
 // Serving at the pipes that its arguments name.
 fn serve_asked<'a>(matches: &ArgMatches<'a>, after: Vec<&'a str>) -> Option<Command<'a>>
     requires { AreEarlier (rows_of (found_of matches.now)) after.items }
@@ -241,20 +283,27 @@ fn serve_asked<'a>(matches: &ArgMatches<'a>, after: Vec<&'a str>) -> Option<Comm
 {
     let policy = value_of(matches, "policy")?;
     let pipes = value_of(matches, "pipes")?;
+    let chain = value_of(matches, "chain");
     let file = value_of(matches, "book");
+    if is_astray(chain, &after, file) {
+        return None;
+    }
     let sync = is_set(matches, "sync");
+    let calls = bound_said(value_of(matches, "calls"))?;
     let paths = ServePaths {
         policy,
         after,
+        chain,
         pipes,
         book: file,
         sync,
+        calls,
     };
     Some(Command::Serve(paths))
 }
 
 // A seal of the book that its arguments name.
-fn seal_asked<'a>(matches: &ArgMatches<'a>, after: Vec<&'a str>) -> Option<Command<'a>>
+fn book_seal_asked<'a>(matches: &ArgMatches<'a>, after: Vec<&'a str>) -> Option<Command<'a>>
     requires { AreEarlier (rows_of (found_of matches.now)) after.items }
     ensures { option_map asked_by result
         ≡ option_map to_seal (seal_in (rows_of (found_of matches.now))) }
@@ -269,6 +318,29 @@ fn seal_asked<'a>(matches: &ArgMatches<'a>, after: Vec<&'a str>) -> Option<Comma
         out,
     };
     Some(Command::Seal(paths))
+}
+
+// A seal of the book of the last run of the chain that its arguments name; or of a book.
+fn seal_asked<'a>(matches: &ArgMatches<'a>, after: Vec<&'a str>) -> Option<Command<'a>>
+    requires { AreEarlier (rows_of (found_of matches.now)) after.items }
+    ensures { option_map asked_by result ≡ seal_asked (rows_of (found_of matches.now)) }
+{
+    let Some(chain) = value_of(matches, "chain") else {
+        return book_seal_asked(matches, after);
+    };
+    if value_of(matches, "policy").is_some() {
+        return None;
+    }
+    if value_of(matches, "book").is_some() {
+        return None;
+    }
+    if value_of(matches, "out").is_some() {
+        return None;
+    }
+    if are_idle(None, &after) {
+        return None;
+    }
+    Some(Command::SealChain(chain))
 }
 
 // A check of the files that its arguments name.
@@ -378,12 +450,15 @@ fn matches_of<'a>(alloc: Global, words: &'a [&'a str]) -> Result<ArgMatches<'a>,
 }
 
 /// What the words after the program's name ask for: `replay POLICY SCRIPT [--book FILE]`, `run
-/// POLICY SCRIPT [--book FILE]`, `audit POLICY BOOK`, `serve POLICY DIR [--book FILE] [--sync]`,
-/// `seal POLICY BOOK OUT` or `report POLICY BOOK [--html FILE]`, each with `--after BOOK` any
-/// number of times; `check POLICY [SCRIPT] [--book BOOK]`, with `--after BOOK` where it has a book;
+/// POLICY SCRIPT [--book FILE]`, `audit POLICY BOOK`, `serve POLICY DIR [--book FILE] [--sync]
+/// [--calls N]`, `seal POLICY BOOK OUT` or `report POLICY BOOK [--html FILE]`, each with `--after
+/// BOOK` any number of times, or `serve` with `--chain CHAIN` in place of them; `audit --chain CHAIN` or
+/// `seal --chain CHAIN`; `check POLICY [SCRIPT] [--book BOOK]`, with `--after BOOK` where it has a book;
 /// `usage [COMMAND]` or `version`. They are bad arguments exactly where `clap` refuses them for
 /// another cause than memory, where the book of a replay or a run would be written over an earlier
-/// one, or where a check has earlier books and no book.
+/// one, where a check has earlier books and no book, where a server of a chain has earlier books or
+/// no book, where N is no number from 1 to 2^62, or begins with 0, or where an audit or a seal has a
+/// chain and another file, or neither a chain nor all its files.
 #[tactic(auto, unfolding(crate::specs::Grammar::asked))]
 pub fn read_words<'a>(alloc: Global, words: &'a [&'a str]) -> Result<Command<'a>, ArgFault>
     ensures { SaysCommand result (asked (map (λ w. w.now) words.entry.now)) }

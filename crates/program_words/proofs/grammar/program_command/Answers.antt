@@ -31,9 +31,9 @@ returns c =
     (Ok c.in-Ok-with_command.program)
     _ (keeping_app (codes "run") (codes "script")) replay c.keeping_command-2.ensures.app
     c.keeping_command-2.ensures.globals c.in-Ok-with_command.ensures in
-    let audit = joined c.in-Ok-with_command.program c.files_command.result
+    let audit = joined c.in-Ok-with_command.program c.audit_command.result
     (Ok c.in-Ok-with_command-2.program)
-    _ audit_app run c.files_command.ensures.app c.files_command.ensures.globals
+    _ audit_app run c.audit_command.ensures.app c.audit_command.ensures.globals
     c.in-Ok-with_command-2.ensures in
     let serve = joined c.in-Ok-with_command-2.program c.serve_command.result
     (Ok c.in-Ok-with_command-3.program)
