@@ -5,5 +5,5 @@ pub mod ProgramCommandsLemmas
 pub mod AuditLemmas
 pub mod ServeLemmas
 pub mod EarlierLemmas
-pub mod SealLemmas
 pub mod ReportLemmas
+pub mod ChainLemmas

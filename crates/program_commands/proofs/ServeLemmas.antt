@@ -1,5 +1,5 @@
 -- Serving that began, and serving that did not.
-use Rattle.std.proofs.Common.{◌≡◌, ◌≢◌, ◌↔◌, ◌∙◌, inl, ℕ, List, [], length, Option, Some, None}
+use Rattle.std.proofs.Common.{◌≡◌, ◌≢◌, ◌↔◌, ◌∙◌, inl, inr, ℕ, List, [], length, Option, Some, None}
 use Rattle.std.proofs.Common.{refl, sym, subst}
 use Rattle.std.specs.Io.KnownBytes.{Appends}
 use Rattle.wall_policy.specs.Policy.{ChineseWall}
@@ -7,6 +7,9 @@ use Rattle.run_model.specs.Comms.{processes}
 use Rattle.run_model.specs.Runs.{Entry}
 use Rattle.hall_turn.specs.Receipts.{Covered}
 use Rattle.live_book.specs.declared.unbooked.Unbooked.{Unbooked}
+use Rattle.live_book.specs.declared.unbooked.Unbooked.TheVariants as unbookeds
+use Rattle.hall_script.specs.Devices.{used}
+use Rattle.program_commands.specs.Endings.{Writes}
 use Rattle.live_book.specs.Books.{IsWritten, SinkValue, book_of, text_so_far, unless_cut}
 use Rattle.live_session.specs.declared.peer.Peer.{Peer}
 use Rattle.live_session.specs.declared.run.ServeFault.{ServeFault}
@@ -15,7 +18,7 @@ use Rattle.program_commands.specs.declared.ending.Ending.{Ending}
 use Rattle.live_session.specs.declared.peer.Session.{Session}
 use Rattle.live_session.specs.Hearing.{DeskLog}
 use Rattle.program_commands.specs.declared.ending.Ending.TheVariants.{BadArguments}
-use Rattle.program_commands.specs.Serving.{serve_ending, IsUnserved, ServeEnds}
+use Rattle.program_commands.specs.Serving.{serve_ending, IsUnserved, ServeEnds, first_line, book_ending}
 use Rattle.program_commands.specs.Serving.{ReceiptsCoverTheBook}
 
 module _ {S O B : Type 0} (spoilt : B → ℕ) (kept : B → Option (List ℕ)) (wall : ChineseWall)
@@ -36,14 +39,24 @@ module _ {S O B : Type 0} (spoilt : B → ℕ) (kept : B → Option (List ℕ)) 
       let is' = subst (λ n. (fault ≡ serves.BadPeers) ↔ (n ≢ processes wall)) long is in
       rw so (rw none (gone book fault (sym long ∙ same) is'))
 
+  -- the first line of the book was not written
+  pub unopened : (old new : B) (back : Option B) (fault : Unbooked) →
+      length peers ≡ processes wall → back ≡ Some new →
+      Writes (used spoilt kept old new) (first_line wall) (book_ending fault) →
+      IsUnserved spoilt kept wall peers (Some old) back (book_ending fault)
+  unopened old new back unbookeds.Write same is w = (same, (old, new, refl, is, w))
+  unopened old new back unbookeds.NoMemory same is w = (same, inr (old, new, refl, is, w))
+  unopened old new back unbookeds.TooLong same is w = (same, inr (old, new, refl, is, w))
+
 module _ {S O B : Type 0} (fails : S → ℕ) (left : S → Option (List ℕ))
     (heard : S → DeskLog) (failures : O → ℕ) (contents : O → Option (List ℕ))
-    (spoilt : B → ℕ) (kept lasting : B → Option (List ℕ)) (wall : ChineseWall)
+    (spoilt : B → ℕ) (kept lasting : B → Option (List ℕ)) (most : Option ℕ) (wall : ChineseWall)
     (peers : List (Peer S O)) where
   -- there are not devices for each process, and no others
   pub misfit : (book back : Option B) (sessions : List (Session S O)) →
       length peers ≢ processes wall → back ≡ book → sessions ≡ [] →
-      ServeEnds fails left heard failures contents spoilt kept lasting wall peers book sessions back
+      ServeEnds fails left heard failures contents spoilt kept lasting most wall peers book sessions
+      back
       BadArguments
   misfit None back sessions other same none = inl ((other, same), none)
   misfit (Some old) back sessions other same none = inl ((other, same), none)

@@ -11,3 +11,7 @@ pub mod Continuing
 pub mod Sealing
 pub mod Reporting
 pub mod Checking
+pub mod ChainLines
+pub mod Chains
+-- the policy of a chain's next run, and of its last
+pub mod ChainWalls

@@ -82,25 +82,26 @@ module _ {S O : Type 0} (fails : S → ℕ) (left : S → Option (List ℕ))
   -- All sessions have ended, at such a machine, in a legal run in which the calls of each process
   -- are those of its session; and this is so of that very run.
   abbrev pub HaveEndedIn : {M : Type 0} → (ChineseWall → M → List Entry → Type 0) →
-      (M → Option Covered) → ChineseWall → List (Peer S O) → List (Session S O) → (List Entry → Type 0) → Type 0
-  HaveEndedIn {M = M} stands booked wall peers sessions IsSoOf = (machine : M)
-      × (served : ServedAll fails left heard failures contents stands booked wall peers sessions
-      machine) × IsSoOf served.run
+      (M → Option Covered) → (most : Option ℕ) → ChineseWall → List (Peer S O) →
+      List (Session S O) → (List Entry → Type 0) → Type 0
+  HaveEndedIn {M = M} stands booked most wall peers sessions IsSoOf = (machine : M)
+      × (served : ServedAll fails left heard failures contents stands booked most wall peers
+      sessions machine) × IsSoOf served.run
 
   module _ {B : Type 0} (spoilt : B → ℕ) (kept lasting : B → Option (List ℕ)) where
     -- How serving ends: no session began; or all have ended. Where there is a book, no reply was
     -- told before its desk was shown a receipt of the writer, which covers, behind what the writer
     -- had at first, the text of the book of the run up to the reply's call; and the writer came back
     -- with the whole text of the run's book, or with a beginning of it and why no more.
-    abbrev pub ServeEnds : ChineseWall → List (Peer S O) → (book : Option B) → List (Session S O) →
-        (back : Option B) → Ending → Type 0
-    ServeEnds wall peers None sessions back ending =
+    abbrev pub ServeEnds : (most : Option ℕ) → ChineseWall → List (Peer S O) → (book : Option B) →
+        List (Session S O) → (back : Option B) → Ending → Type 0
+    ServeEnds most wall peers None sessions back ending =
         (IsUnserved spoilt kept wall peers None back ending × (sessions ≡ []))
-        ⊎ HaveEndedIn Stands has_no_book wall peers sessions
+        ⊎ HaveEndedIn Stands has_no_book most wall peers sessions
         (λ run. (ending ≡ Done) × (back ≡ None))
-    ServeEnds wall peers (Some old) sessions back ending =
+    ServeEnds most wall peers (Some old) sessions back ending =
         (IsUnserved spoilt kept wall peers (Some old) back ending × (sessions ≡ []))
-        ⊎ HaveEndedIn (StandsBehind (sink_value kept lasting spoilt old)) covered wall peers
+        ⊎ HaveEndedIn (StandsBehind (sink_value kept lasting spoilt old)) covered most wall peers
         sessions (λ run. (new : B) × (back ≡ Some new)
         × Writes (used spoilt kept old new) (text_of wall run) ending)
 

@@ -83,7 +83,7 @@ fn status(ending: Ending) -> u8
 }
 
 // The fault's name, and the end of the line.
-fn policy_fault(fault: PolicyFault) -> &'static str
+pub(crate) fn policy_fault(fault: PolicyFault) -> &'static str
     ensures { result.now ≡ policy_fault_text fault }
 {
     match fault {

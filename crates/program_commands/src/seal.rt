@@ -1,20 +1,16 @@
 //! Makes a whole book of one that was cut, over any devices.
-ghost use Rattle.std.specs.Prelude.{All};
-ghost use Rattle.run_model.specs.Known.{IsKnownEntry};
 ghost use Rattle.hall_script.specs.Devices.{used};
 ghost use Rattle.program_commands.specs.Endings.{EndsSo};
 ghost use Rattle.program_commands.specs.Earlier.{earlier_books};
-ghost use Rattle.program_commands.specs.Sealing.{AnnouncesSeal, KeepsBook, TellsFault, SealsText};
-ghost use Rattle.program_commands.specs.Sealing.{Seals, SealEnds};
+ghost use Rattle.program_commands.specs.Sealing.{AnnouncesSeal, TellsStop, Seals, SealEnds};
 ghost use Rattle.program_commands.specs.Using.{policy_used, subject_used, out_used, err_used};
+ghost use Rattle.program_commands.specs.Using.{out_stream, err_stream};
 
-use crate::audit::{BOOK_LIMIT, Finding, tell};
-use crate::devices::Devices;
+use crate::audit::{Finding, tell};
+use crate::devices::{Devices, Streams};
 use crate::earlier::{Earlier, read_wall_after};
 use crate::ending::{Ending, end, write_numbered};
-use audit_book::{Book, WriteFault, write_book};
-use book_seal::{SealFault, seal_book};
-use hall_script::{DeviceFault, read_device};
+use seal_stream::{SealStop, seal_source};
 use std::alloc::Global;
 use wall_labels::{Sink, Source};
 use wall_policy::Policy;
@@ -29,88 +25,58 @@ fn tell_sealed<O: Sink>(out: &mut O, entries: u64) -> Ending<'static>
     }
 }
 
-// Where a whole book is written, and then told of.
-#[derive(Drop)]
-struct Outputs<'d, W, O> {
-    sealed: &'d mut W,
-    out: &'d mut O,
-}
-
-// Writes the whole book, and then tells of it.
-fn keep_sealed<W: Sink, O: Sink>(
-    alloc: Global,
-    wall: &Policy,
-    book: &Book,
-    outputs: Outputs<W, O>,
-) -> Ending<'static>
-    requires { All (IsKnownEntry wall.now) book.now.list }
-    ensures { KeepsBook wall.now book.now.list
-        (used W.failures W.contents outputs.entry.sealed.now outputs.exit.0.now)
-        (used O.failures O.contents outputs.entry.out.now outputs.exit.1.0.now)
-        result }
+// Tells why a book was not sealed, as its audit would.
+fn tell_stop<O: Sink>(out: &mut O, stop: SealStop) -> Ending<'static>
+    ensures { TellsStop stop (used O.failures O.contents out.old out.new) result }
 {
-    match write_book(alloc, wall, book, outputs.sealed) {
-        Ok(()) => tell_sealed(outputs.out, book.len() as u64),
-        Err(WriteFault::Write) => Ending::WriteFault,
-        Err(WriteFault::NoMemory) => Ending::NoMemory,
+    match stop {
+        SealStop::BadLine(number) => Ending::BadBookLine(number),
+        SealStop::LongLine(number) => Ending::BadBookLine(number),
+        SealStop::BadEntry(number) => tell(out, Finding::Unsound(number)),
+        SealStop::TooMany => Ending::Exhausted,
+        SealStop::Read => Ending::ReadFault,
+        SealStop::Write => Ending::WriteFault,
+        SealStop::NoMemory => Ending::NoMemory,
     }
 }
 
-// Tells of a text that has no seal as its audit would.
-fn tell_fault<O: Sink>(out: &mut O, fault: SealFault) -> Ending<'static>
-    ensures { TellsFault fault (used O.failures O.contents out.old out.new) result }
-{
-    match fault {
-        SealFault::BadLine(number) => Ending::BadBookLine(number),
-        SealFault::BadEntry(number) => tell(out, Finding::Unsound(number)),
-        SealFault::NoMemory => Ending::NoMemory,
-    }
-}
-
-// Seals the text of a book.
-fn seal_text<W: Sink, O: Sink>(
-    alloc: Global,
-    wall: &Policy,
-    text: &[u8],
-    outputs: Outputs<W, O>,
-) -> Ending<'static>
-    ensures { SealsText wall.now text.now
-        (used W.failures W.contents outputs.entry.sealed.now outputs.exit.0.now)
-        (used O.failures O.contents outputs.entry.out.now outputs.exit.1.0.now)
-        result }
-{
-    match seal_book(alloc, wall, text) {
-        Ok(book) => {
-            let ending = keep_sealed(alloc, wall, &book, outputs);
-            drop(book);
-            ending
-        }
-        Err(fault) => tell_fault(outputs.out, fault),
-    }
-}
-
-// Reads a book, and seals it.
+// Seals a book while it is read, and tells of it.
 fn seal_under<B: Source, W: Sink, O: Sink>(
     alloc: Global,
     wall: &Policy,
     book: &mut B,
-    outputs: Outputs<W, O>,
+    sealed: &mut W,
+    out: &mut O,
 ) -> Ending<'static>
     ensures { Seals wall.now
         (used B.failures B.remaining book.old book.new)
-        (used W.failures W.contents outputs.entry.sealed.now outputs.exit.0.now)
-        (used O.failures O.contents outputs.entry.out.now outputs.exit.1.0.now)
+        (used W.failures W.contents sealed.old sealed.new)
+        (used O.failures O.contents out.old out.new)
         result }
 {
-    match read_device(alloc, book, BOOK_LIMIT) {
-        Ok(text) => {
-            let ending = seal_text(alloc, wall, &text, outputs);
-            drop(text);
-            ending
-        }
-        Err(DeviceFault::Read) => Ending::ReadFault,
-        Err(DeviceFault::NoMemory) => Ending::NoMemory,
+    match seal_source(alloc, wall, book, sealed) {
+        Ok(entries) => tell_sealed(out, entries),
+        Err(stop) => tell_stop(out, stop),
     }
+}
+
+/// Makes a whole book of one that was cut under this policy, as `seal_on` does.
+pub fn seal_with<B: Source, W: Sink, O: Sink, E: Sink>(
+    alloc: Global,
+    wall: &Policy,
+    book: &mut B,
+    sealed: &mut W,
+    streams: Streams<O, E>,
+) -> u8
+    ensures { EndsSo (Seals wall.now
+        (used B.failures B.remaining book.old book.new)
+        (used W.failures W.contents sealed.old sealed.new)
+        (out_stream O.failures O.contents streams.entry streams.exit))
+        (err_stream E.failures E.contents streams.entry streams.exit) result }
+{
+    let Streams { out, err } = streams;
+    let ending = seal_under(alloc, wall, book, sealed, out);
+    end(err, ending)
 }
 
 /// Reads the policy, the earlier books and its book, which was cut, and writes the whole book to
@@ -119,9 +85,10 @@ fn seal_under<B: Source, W: Sink, O: Sink>(
 /// `out`, and the line of a fault to `err`, and gives the status: 0 exactly where the whole book
 /// and that line were written.
 ///
-/// A text whose finished lines are not the beginning of a sound book is told as `audit_on` would
-/// tell it, and nothing is written to `sealed`. A book of more than `BOOK_LIMIT` bytes is a read
-/// fault.
+/// The book is sealed while it is read, however long it is, in the memory of what is open, of one
+/// line and of what is written next. A text whose finished lines are not the beginning of a sound
+/// book is told as `audit_on` would tell it; `sealed` may then have some of the finished lines before
+/// the fault, and no more. More than 2^62 entries are told as `Ending::Exhausted`.
 pub fn seal_on<P: Source, D: Source + Drop, B: Source, W: Sink, O: Sink, E: Sink>(
     alloc: Global,
     devices: Devices<P, B, O, E>,
@@ -146,7 +113,7 @@ pub fn seal_on<P: Source, D: Source + Drop, B: Source, W: Sink, O: Sink, E: Sink
         Ok(wall) => wall,
         Err(ending) => return end(err, ending),
     };
-    let ending = seal_under(alloc, &wall, book, Outputs { sealed, out });
+    let ending = seal_under(alloc, &wall, book, sealed, out);
     drop(wall);
     end(err, ending)
 }

@@ -89,6 +89,7 @@ fn serve_bookless<R, S, O, E: Sink, B: BookSink>(
     alloc: Global,
     policy: &Policy,
     peers: Vec<Peer<S, O>>,
+    most: Option<u64>,
     err: &mut E,
 ) -> ServeEnd<S, O, B>
 where
@@ -99,14 +100,14 @@ where
     requires { vec_len peers ≡ processes policy.now }
     ensures { EndsSo
         (ServeEnds S.failures S.remaining S.heard O.failures O.contents B.failures B.contents
-        B.lasting policy.now peers.items None result.sessions.items result.book)
+        B.lasting most policy.now peers.items None result.sessions.items result.book)
         (used E.failures E.contents err.old err.new)
         result.status }
 {
     let Ok(hall) = bookless_hall(alloc, policy) else {
         return unserved(alloc, err, Ending::NoMemory, None);
     };
-    match serve_all::<_, _, _, _, Option<B::Receipt>>(rt, alloc, policy, hall, peers) {
+    match serve_all::<_, _, _, _, Option<B::Receipt>>(rt, alloc, policy, hall, peers, most) {
         Ok(served) => {
             let Served { sessions, machine } = served;
             drop(machine);
@@ -162,6 +163,7 @@ fn serve_booked<R, S, O, E: Sink, B, K: Begun + Send>(
     alloc: Global,
     policy: &Policy,
     peers: Vec<Peer<S, O>>,
+    most: Option<u64>,
     err: &mut E,
     book: B,
 ) -> ServeEnd<S, O, B>
@@ -175,7 +177,7 @@ where
     requires peers { vec_len peers ≡ processes policy.now }
     ensures { EndsSo
         (ServeEnds S.failures S.remaining S.heard O.failures O.contents B.failures B.contents
-        B.lasting policy.now peers.items (Some book) result.sessions.items result.book)
+        B.lasting most policy.now peers.items (Some book) result.sessions.items result.book)
         (used E.failures E.contents err.old err.new)
         result.status }
 {
@@ -186,7 +188,7 @@ where
             return unserved(alloc, err, book_ending(fault), Some(sink));
         }
     };
-    match serve_all::<_, _, _, _, Option<B::Receipt>>(rt, alloc, policy, machine, peers) {
+    match serve_all::<_, _, _, _, Option<B::Receipt>>(rt, alloc, policy, machine, peers, most) {
         Ok(served) => {
             let Served { sessions, machine } = served;
             let (sink, ending) = finish(machine);
@@ -202,7 +204,8 @@ where
 }
 
 /// Serves all processes of the policy at the same time, each in a thread of its own over its own
-/// devices, until the session of each has ended; `peers` has their devices, in order. Where there
+/// devices, until the session of each has ended; `peers` has their devices, in order. A session makes
+/// `most` calls at most, if there is such a bound: the next is answered `exhausted`. Where there
 /// is a `book`, the audit book of that run is written to it while it runs: its first line before
 /// any session begins, the entries of each call before the call's reply is told, and its last line
 /// when all sessions have ended. Before each reply the desk is shown a receipt, which the book's
@@ -220,6 +223,7 @@ pub fn serve_on<R, S, O, E: Sink, B>(
     alloc: Global,
     policy: &Policy,
     peers: Vec<Peer<S, O>>,
+    most: Option<u64>,
     err: &mut E,
     book: Option<B>,
 ) -> ServeEnd<S, O, B>
@@ -231,7 +235,7 @@ where
     B::Receipt: Send,
     ensures { EndsSo
         (ServeEnds S.failures S.remaining S.heard O.failures O.contents B.failures B.contents
-        B.lasting policy.now peers.items book result.sessions.items result.book)
+        B.lasting most policy.now peers.items book result.sessions.items result.book)
         (used E.failures E.contents err.old err.new)
         result.status }
 {
@@ -239,8 +243,10 @@ where
         return unserved(alloc, err, Ending::BadArguments, book);
     }
     match book {
-        Some(book) => serve_booked::<_, _, _, _, _, Brand>(rt, alloc, policy, peers, err, book),
-        None => serve_bookless(rt, alloc, policy, peers, err),
+        Some(book) => {
+            serve_booked::<_, _, _, _, _, Brand>(rt, alloc, policy, peers, most, err, book)
+        }
+        None => serve_bookless(rt, alloc, policy, peers, most, err),
     }
 }
 

@@ -178,7 +178,7 @@ fn wall<R: AllocGlobal>(rt: &R, text: &str) -> Result<Policy, Ending<'static>> {
 // Whether a session ended so, all its answers written.
 fn has_ended_so(session: &Session<Lines, ExpectingSink>, talk: &Talk) -> bool {
     let sink = &session.peer.sink;
-    session.end == talk.end && sink.is_same && sink.rest.is_empty()
+    session.closing.end == talk.end && sink.is_same && sink.rest.is_empty()
 }
 
 fn have_ended_so(sessions: &[Session<Lines, ExpectingSink>], talks: &[Talk]) -> bool {
@@ -209,7 +209,7 @@ fn serves_so<R: AllocGlobal + Threads + Wait + Sync>(
     let peers = peers(rt.alloc(), talks)?;
     let mut err = sink(line.as_bytes(), Fuse::Whole);
     let kept = Some(expecting(book, Fuse::Whole));
-    let ended = serve_on(rt, rt.alloc(), &wall, peers, &mut err, kept);
+    let ended = serve_on(rt, rt.alloc(), &wall, peers, None, &mut err, kept);
     let is_told = err.is_same && err.rest.is_empty();
     let is_so = have_ended_so(&ended.sessions, talks) && ended.status == status;
     Ok(is_told && is_kept(&ended.book) && is_so)
@@ -254,7 +254,7 @@ fn two_processes_talk(rt: HostRuntime) -> Result<(), Fail> {
         };
         let mut err = sink(b"", Fuse::Whole);
         let peers = peers(rt.alloc(), BROADCAST)?;
-        let ended = serve_on(&rt, rt.alloc(), &wall, peers, &mut err, Some(kept));
+        let ended = serve_on(&rt, rt.alloc(), &wall, peers, None, &mut err, Some(kept));
         let ServeEnd {
             status,
             sessions,
@@ -356,7 +356,7 @@ fn sees_so<R: Abort + AllocGlobal + Threads + Wait + Sync>(
     })?;
     let mut err = sink(b"", Fuse::Whole);
     let kept = Some(expecting(ALONE_BOOK, Fuse::Whole));
-    let ended = serve_on(rt, rt.alloc(), &wall, peers, &mut err, kept);
+    let ended = serve_on(rt, rt.alloc(), &wall, peers, None, &mut err, kept);
     let ServeEnd {
         status,
         mut sessions,
@@ -431,7 +431,7 @@ fn devices_are_those_of_each_process(rt: HostRuntime) -> Result<(), Fail> {
         }
         let mut err = sink(b"bad arguments\n", Fuse::Whole);
         let kept = Some(expecting("", Fuse::Whole));
-        let ended = serve_on(&rt, rt.alloc(), &wall, peers, &mut err, kept);
+        let ended = serve_on(&rt, rt.alloc(), &wall, peers, None, &mut err, kept);
         assert!(&rt; ended.status == 5 && ended.sessions.is_empty());
         assert!(&rt; err.is_same && err.rest.is_empty() && is_kept(&ended.book));
     }
@@ -467,7 +467,7 @@ fn devices_of_a_session_fail(rt: HostRuntime) -> Result<(), Fail> {
         let mut err = sink(b"", Fuse::Whole);
         let book = "book 1\npost 1 0 barrier gives 0 as none passed\nend 1\n";
         let kept = Some(expecting(book, Fuse::Whole));
-        let ended = serve_on(&rt, rt.alloc(), &wall, peers, &mut err, kept);
+        let ended = serve_on(&rt, rt.alloc(), &wall, peers, None, &mut err, kept);
         assert!(&rt; ended.status == 0 && err.is_same);
         assert!(&rt; is_kept(&ended.book));
         assert!(&rt; have_ended_so(&ended.sessions, &[talk, other]));
@@ -505,7 +505,7 @@ fn came_to<R: AllocGlobal + Threads + Wait + Sync>(
     let peers = peers(rt.alloc(), talks)?;
     let mut err = sink(b"write fault\n", Fuse::Whole);
     let kept = Some(expecting(ALONE_BOOK, Fuse::After(write)));
-    let ended = serve_on(rt, rt.alloc(), &wall, peers, &mut err, kept);
+    let ended = serve_on(rt, rt.alloc(), &wall, peers, None, &mut err, kept);
     let is_so = have_ended_so(&ended.sessions, talks);
     let is_told = err.is_same && err.rest.is_empty();
     if ended.status == 0 && is_so && is_kept(&ended.book) {
@@ -549,12 +549,20 @@ fn sessions_without_a_book_are_served(rt: HostRuntime) -> Result<(), Fail> {
     let wall = wall(&rt, FRIENDS).expect(&rt, "the policy is refused");
     let mut err = sink(b"", Fuse::Whole);
     let all = peers(rt.alloc(), BROADCAST)?;
-    let ended = serve_on::<_, _, _, _, Keeping>(&rt, rt.alloc(), &wall, all, &mut err, None);
+    let ended = serve_on::<_, _, _, _, Keeping>(&rt, rt.alloc(), &wall, all, None, &mut err, None);
     assert!(&rt; ended.status == 0 && err.is_same && ended.book.is_none());
     assert!(&rt; have_ended_so(&ended.sessions, BROADCAST));
     let mut broken = sink(b"bad arguments\n", Fuse::After(0));
     let none = peers(rt.alloc(), &[])?;
-    let ended = serve_on::<_, _, _, _, Keeping>(&rt, rt.alloc(), &wall, none, &mut broken, None);
+    let ended = serve_on::<_, _, _, _, Keeping>(
+        &rt,
+        rt.alloc(),
+        &wall,
+        none,
+        None,
+        &mut broken,
+        None,
+    );
     assert!(&rt; ended.status == 5 && ended.sessions.is_empty());
     Ok(())
 }

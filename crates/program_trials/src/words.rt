@@ -25,6 +25,8 @@ const ASKED: &[(&[&str], &str)] = &[
     (&["run", "w", "s", "--book", "b"], "run w s b"),
     (&["audit", "w", "b"], "audit w b"),
     (&["audit", "--", "-w", "-b"], "audit -w -b"),
+    (&["audit", "--chain", "c"], "audit-chain c"),
+    (&["audit", "--chain=-c"], "audit-chain -c"),
     (&["serve", "w", "d"], "serve w d none"),
     (&["serve", "w", "d", "--book", "b"], "serve w d b"),
     (&["serve", "--book=b", "w", "d"], "serve w d b"),
@@ -81,7 +83,16 @@ const ASKED: &[(&[&str], &str)] = &[
         "serve w d b synced",
     ),
     (&["serve", "w", "d", "--book=--sync"], "serve w d --sync"),
+    (
+        &["serve", "w", "d", "--chain", "c", "--book", "b"],
+        "serve w d b on c",
+    ),
+    (
+        &["serve", "--sync", "--book=b", "--chain=c", "w", "d"],
+        "serve w d b on c synced",
+    ),
     (&["seal", "w", "b", "o"], "seal w b o"),
+    (&["seal", "--chain", "c"], "seal-chain c"),
     (
         &["seal", "--after", "x", "w", "b", "--after=y", "o"],
         "seal w b o x y",
@@ -144,8 +155,24 @@ const BAD: &[&[&str]] = &[
     &["audit", "w"],
     &["audit", "w", "b", "c"],
     &["audit", "w", "b", "--book", "c"],
+    &["audit"],
+    &["audit", "--chain"],
+    &["audit", "--chain", "c", "w"],
+    &["audit", "w", "--chain", "c"],
+    &["audit", "w", "b", "--chain", "c"],
+    &["audit", "--chain", "c", "--after", "x"],
+    &["audit", "--chain", "c", "--chain", "c"],
     &["serve"],
     &["serve", "w"],
+    &["serve", "w", "d", "--chain", "c"],
+    &["serve", "w", "d", "--chain", "c", "--after", "x"],
+    &[
+        "serve", "w", "d", "--chain", "c", "--after", "x", "--book", "b",
+    ],
+    &["serve", "w", "d", "--book", "b", "--chain"],
+    &["serve", "w", "--chain", "c", "--book", "b"],
+    &["replay", "w", "s", "--chain", "c"],
+    &["report", "w", "b", "--chain", "c"],
     &["serve", "w", "d", "b"],
     &["serve", "w", "d", "--book"],
     &["serve", "w", "d", "--book", "b", "--book", "c"],
@@ -181,6 +208,12 @@ const BAD: &[&[&str]] = &[
     &["seal", "w", "b", "o", "--sync"],
     &["seal", "w", "b", "--out", "o"],
     &["Seal", "w", "b", "o"],
+    &["seal", "w"],
+    &["seal", "--chain"],
+    &["seal", "--chain", "c", "w"],
+    &["seal", "--chain", "c", "w", "b"],
+    &["seal", "w", "b", "o", "--chain", "c"],
+    &["seal", "--chain", "c", "--after", "x"],
     &["check"],
     &["check", "w", "s", "b"],
     &["check", "w", "s", "--book"],
@@ -223,6 +256,8 @@ fn tell_plain(text: &mut String, command: &Command) -> Result<(), Fail> {
             write!(text, "usage {command}")?;
         }
         Command::Version => text.push_str("version")?,
+        Command::AuditChain(chain) => write!(text, "audit-chain {chain}")?,
+        Command::SealChain(chain) => write!(text, "seal-chain {chain}")?,
         _ => text.push_str("another")?,
     }
     Ok(())
@@ -249,6 +284,9 @@ fn told(alloc: Global, words: &[&str]) -> Result<String, Fail> {
         Ok(Command::Serve(paths)) => {
             let book = paths.book.unwrap_or("none");
             write!(text, "serve {} {} {book}", paths.policy, paths.pipes)?;
+            if let Some(chain) = paths.chain {
+                write!(text, " on {chain}")?;
+            }
             if paths.sync {
                 write!(text, " synced")?;
             }

@@ -14,7 +14,7 @@ returns-then-len-processes g c =
       BadArguments,
       misfit g.S.Desk.failures g.S.Desk.remaining g.S.Desk.heard g.O.Sink.failures
           g.O.Sink.contents g.B.Sink.failures g.B.Sink.contents g.B.BookSink.lasting
-          c.args.policy.now c.args.peers.items c.args.book c.unserved.result.book
+          c.args.most c.args.policy.now c.args.peers.items c.args.book c.unserved.result.book
           c.unserved.result.sessions.items other c.unserved.ensures.book
           c.unserved.ensures.sessions,
       c.unserved.ensures.status,
