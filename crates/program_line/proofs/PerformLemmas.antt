@@ -1,23 +1,48 @@
 -- What a command does, by the files that its words name.
 use Rattle.std.proofs.Common.{◌≡◌, ◌∙◌, ℕ, ◌+◌, ◌<◌, ◌≤◌, List, [], ◌∷◌, ◌++◌, length, map, take}
-use Rattle.std.proofs.Common.{get_or, Option, Some, None, Bor, sym, ap, subst}
+use Rattle.std.proofs.Common.{get_or, Option, Some, None, Bor, sym, ap, subst, inl, inr}
 use Rattle.std.proofs.lemmas.List.{get_or_default, map_push, take_all, take_more}
 use Rattle.clap.specs.Words.{Text}
 use Rattle.hall_script.specs.Devices.{Used}
-use Rattle.program_words.specs.Grammar.{RunFiles, ReportFiles}
+use Rattle.program_words.specs.declared.words.ArgFault.{ArgFault}
+use Rattle.program_words.specs.declared.words.ArgFault.TheVariants.{BadArguments, NoMemory}
+use Rattle.program_words.specs.Grammar.{RunFiles, ReportFiles, Asked, to_replay, to_run, to_audit}
+use Rattle.program_words.specs.Grammar.{to_audit_chain, to_serve, to_seal, to_seal_chain, to_check}
+use Rattle.program_words.specs.Grammar.{to_report, to_usage, to_version, Refuses}
 use Rattle.program_commands.specs.Endings.{EndsSo}
 use Rattle.program_commands.specs.declared.earlier.Earlier.{Earlier}
 use Rattle.program_commands.specs.Continuing.{RunAfterEnds}
 use Rattle.program_commands.specs.Reporting.{ReportEnds}
 use Rattle.program_line.specs.Kinds.{FileKind, Kinds, path_unopened}
-use Rattle.program_line.specs.Performing.{FileUse, used_file, RunsFiles, AreListed, EarlierUse}
-use Rattle.program_line.specs.Performing.{used_earlier, Causes, ReportsFiles}
+use Rattle.program_line.specs.Kinds.{FileUse, used_file}
+use Rattle.program_line.specs.Performing.{RunsFiles, AreListed, EarlierUse}
+use Rattle.program_line.specs.Performing.{used_earlier, Causes, ReportsFiles, IsDone, Declines}
+use Rattle.program_line.specs.Performing.{refusal_ending}
 use Rattle.program_commands.proofs.ProgramCommandsLemmas.{kept_nowhere, unpaged}
 
 -- a device that is not opened has its path
 pub at_path : {F : Type 0} {file : Option F} {path want : Text}
     → file ≡ None → path ≡ want → path_unopened path file ≡ Some want
 at_path is same = rw is (ap Some same)
+
+-- where the words are refused nothing was done
+pub refused_words : {P D S B W O E : Type 0} (kinds : Kinds P D S B W) (said : Option Asked)
+    (fault : ArgFault) (out : Used O) (err : Used E) (status : ℕ) → Refuses fault said →
+    Declines (refusal_ending fault) out err status → IsDone kinds said out err status
+refused_words kinds said BadArguments out err status is done =
+    subst (λ (o : Option Asked). IsDone kinds o out err status) (sym is) (inl done)
+refused_words kinds None NoMemory out err status is done = inr done
+refused_words kinds (Some (to_replay files)) NoMemory out err status is done = inr done
+refused_words kinds (Some (to_run files)) NoMemory out err status is done = inr done
+refused_words kinds (Some (to_audit files)) NoMemory out err status is done = inr done
+refused_words kinds (Some (to_audit_chain path)) NoMemory out err status is done = inr done
+refused_words kinds (Some (to_serve files)) NoMemory out err status is done = done
+refused_words kinds (Some (to_seal files)) NoMemory out err status is done = inr done
+refused_words kinds (Some (to_seal_chain path)) NoMemory out err status is done = done
+refused_words kinds (Some (to_check files)) NoMemory out err status is done = inr done
+refused_words kinds (Some (to_report files)) NoMemory out err status is done = inr done
+refused_words kinds (Some (to_usage command)) NoMemory out err status is done = inr done
+refused_words kinds (Some to_version) NoMemory out err status is done = inr done
 
 -- one earlier book more
 pub one_listed : {D : Type 0} (kind : FileKind D) (paths : List Text) (books : List (Earlier D))

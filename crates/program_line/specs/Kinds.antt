@@ -2,6 +2,7 @@
 use Rattle.std.specs.Prelude.{◌≡◌, ℕ, List, Option, Some, None}
 use Rattle.std.specs.declared.sync.ledger.Blank.{Blank}
 use Rattle.clap.specs.Words.{Text}
+use Rattle.hall_script.specs.Devices.{Used, used}
 use Rattle.program_files.specs.Files.{bytes_of, failed_once}
 use Rattle.program_files.specs.declared.devices.FileSource.{FileSource}
 use Rattle.program_files.specs.declared.devices.ListedFile.{ListedFile}
@@ -76,6 +77,17 @@ kinds_of remaining contents files = record {
     before = files.kept;
   };
 }
+
+-- a device for the file at this path, before the file was opened and after its use
+pub record FileUse {D : Type 0} (kind : FileKind D) (path : Text) : Type 0 where
+  pub old : D
+  pub new : D
+  pub at : kind.unopened old ≡ Some path
+  pub begins : kind.failures old ≡ kind.before
+
+abbrev pub used_file : {D : Type 0} {path : Text}
+    → (kind : FileKind D) → FileUse kind path → Used D
+used_file kind file = used kind.failures kind.bytes file.old file.new
 
 -- it opens a ledger of this name, with all its parts in one share
 abbrev pub Opens : Blank → (name parts : ℕ) → Type 0

@@ -12,13 +12,14 @@ use Rattle.program_words.specs.declared.words.ArgFault.TheVariants as refusals
 use Rattle.program_words.specs.Grammar.{Asked, to_replay, to_run, to_audit, to_serve, ReplayFiles}
 use Rattle.program_words.specs.Grammar.{RunFiles, AuditFiles, ServeFiles, SealFiles, to_seal}
 use Rattle.program_words.specs.Grammar.{ReportFiles, CheckFiles, to_report, to_check, to_usage}
-use Rattle.program_words.specs.Grammar.{to_version}
+use Rattle.program_words.specs.Grammar.{to_version, to_audit_chain, to_seal_chain}
 use Rattle.program_words.specs.Usage.{usage_of}
 use Rattle.program_words.specs.declared.usage.TheConstants.{VERSION}
 use Rattle.program_line.specs.declared.commands.LivePaths.{LivePaths}
 use Rattle.program_line.specs.declared.commands.Performed.{Performed}
 use Rattle.program_line.specs.declared.commands.Performed.TheVariants as performs
-use Rattle.program_line.specs.Kinds.{FileKind, Kinds}
+use Rattle.program_line.specs.Kinds.{FileKind, Kinds, FileUse, used_file}
+use Rattle.program_line.specs.Chains.{AuditsChain}
 use Rattle.program_line.specs.declared.serving.Outcome.{Outcome}
 use Rattle.program_line.specs.declared.serving.Outcome.TheVariants as outcomes
 use Rattle.wall_policy.specs.Policy.{ChineseWall}
@@ -35,18 +36,7 @@ abbrev pub refusal_ending : ArgFault → Ending
 refusal_ending refusals.BadArguments = BadArguments
 refusal_ending refusals.NoMemory = NoMemory
 
--- a device for the file at this path, before the file was opened and after its use
-pub record FileUse {D : Type 0} (kind : FileKind D) (path : Text) : Type 0 where
-  pub old : D
-  pub new : D
-  pub at : kind.unopened old ≡ Some path
-  pub begins : kind.failures old ≡ kind.before
-
-abbrev pub used_file : {D : Type 0} {path : Text}
-    → (kind : FileKind D) → FileUse kind path → Used D
-used_file kind file = used kind.failures kind.bytes file.old file.new
-
--- the same of a book, which may not be asked for
+-- the use of the file of a book, which may not be asked for
 abbrev pub BookUse : {D : Type 0} → FileKind D → Option Text → Type 0
 BookUse kind None = Unit {0}
 BookUse kind (Some path) = FileUse kind path
@@ -181,9 +171,11 @@ abbrev pub live_files : LivePaths → ServeFiles
 live_files paths = record {
   policy = string_bytes paths.policy;
   after = map (λ p. string_bytes p) paths.after.items;
+  chain = option_map (λ c. string_bytes c) paths.chain;
   pipes = string_bytes paths.pipes;
   book = option_map (λ b. string_bytes b) paths.book;
   sync = paths.sync;
+  calls = paths.calls;
 }
 
 -- it was done with this status, or memory ran out before
@@ -192,8 +184,8 @@ abbrev pub OrNoMemory : {O E : Type 0} → (Used O → Used E → (status : ℕ)
 OrNoMemory done out err status = done out err status ⊎ Declines NoMemory out err status
 
 -- What was asked for was done, over a device for each file that it names, or memory ran out
--- before. Where nothing was asked for, the words are bad, or memory ran out. (To serve is not done
--- here.)
+-- before. Where nothing was asked for, the words are bad, or memory ran out. (To serve, and to seal
+-- a chain, is not done here.)
 abbrev pub IsDone : {P D S B W O E : Type 0} → Kinds P D S B W → Option Asked → Used O → Used E
     → (status : ℕ) → Type 0
 IsDone kinds None out err status = OrNoMemory (Declines BadArguments) out err status
@@ -203,6 +195,8 @@ IsDone kinds (Some (to_run files)) out err status =
     OrNoMemory (RunsFiles kinds files) out err status
 IsDone kinds (Some (to_audit files)) out err status =
     OrNoMemory (AuditsFiles kinds files) out err status
+IsDone kinds (Some (to_audit_chain path)) out err status =
+    OrNoMemory (AuditsChain kinds.listed path) out err status
 IsDone kinds (Some (to_seal files)) out err status =
     OrNoMemory (SealsFiles kinds files) out err status
 IsDone kinds (Some (to_report files)) out err status =
@@ -213,13 +207,17 @@ IsDone kinds (Some (to_usage command)) out err status =
     OrNoMemory (TellsUsage command) out err status
 IsDone kinds (Some to_version) out err status = OrNoMemory TellsVersion out err status
 IsDone kinds (Some (to_serve files)) out err status = Declines NoMemory out err status
+IsDone kinds (Some (to_seal_chain path)) out err status = Declines NoMemory out err status
 
--- It is done, with this status; or it is to serve live, by these files, and nothing is done yet.
+-- It is done, with this status; or it is to serve live, by these files, or to seal a chain, and nothing
+-- is done yet.
 abbrev pub Performs : {P D S B W O E : Type 0} → Kinds P D S B W → Option Asked → Used O → Used E
     → Performed → Type 0
 Performs kinds asked out err (performs.Ended status) = IsDone kinds asked out err status
 Performs kinds asked out err (performs.ToServe paths) =
     (asked ≡ Some (to_serve (live_files paths))) × IsUntouched out × IsUntouched err
+Performs kinds asked out err (performs.ToSealChain path) =
+    (asked ≡ Some (to_seal_chain (string_bytes path))) × IsUntouched out × IsUntouched err
 
 -- What was performed, or refused, becomes of the command line: the status is that of what was done,
 -- or of the fault, whose line was written; paths are handed on as they are.
@@ -228,6 +226,8 @@ Settles (Ok (performs.Ended status)) err (outcomes.Ended served) =
     (served ≡ status) × IsUntouched err
 Settles (Ok (performs.ToServe paths)) err (outcomes.ToServe kept) =
     (kept ≡ paths) × IsUntouched err
+Settles (Ok (performs.ToSealChain path)) err (outcomes.ToSealChain kept) =
+    (kept ≡ path) × IsUntouched err
 Settles (Err fault) err (outcomes.Ended served) =
     EndsSo (λ e. e ≡ refusal_ending fault) err served
 Settles outcome err settled = ⊥

@@ -7,6 +7,7 @@ ghost use Rattle.program_line.specs.Kinds.{kinds_of};
 ghost use Rattle.program_line.specs.Performing.{ReplaysFiles, RunsFiles, AuditsFiles, SealsFiles};
 ghost use Rattle.program_line.specs.Performing.{Performs, OrNoMemory, live_files, refusal_ending};
 
+use crate::chain::audit_chain_at;
 use crate::devices::{CountedFiles, listed, only_new, unmade, unopened};
 use crate::looking::{check_files, report_files, tell_usage, tell_version};
 use program_commands::{
@@ -28,12 +29,16 @@ pub struct LivePaths {
     pub policy: String,
     /// The earlier books, the oldest first.
     pub after: Vec<String>,
+    /// The chain of which it is the next run, if it is one of a chain.
+    pub chain: Option<String>,
     /// The folder with the pipes.
     pub pipes: String,
     /// Where the book goes, if it is wanted.
     pub book: Option<String>,
     /// Whether the book's file is to be synced behind each post that settles an instance.
     pub sync: bool,
+    /// How many calls a session may make; none is no bound.
+    pub calls: Option<u64>,
 }
 
 /// What became of what the words ask for.
@@ -43,11 +48,14 @@ pub enum Performed {
     Ended(u8),
     /// Nothing is done yet: the processes of a policy are to be served live.
     ToServe(LivePaths),
+    /// Nothing is done yet: the book is to be sealed of the run that the chain file at this path has
+    /// last.
+    ToSealChain(String),
 }
 
 /// Does what the words behind the program's name ask for, and gives the status. Each file is opened
 /// at its first use, and once. To serve live is left to the caller, whose system has pipes and
-/// threads that may wait for them.
+/// threads that may wait for them; and so is the seal of a chain, whose file is locked and grows.
 pub fn perform<'a, R, F: Files, P: Ledger, S: Ledger, B: Ledger, O: Sink, E: Sink>(
     rt: &R,
     files: CountedFiles<'a, F, P, S, B>,
@@ -69,6 +77,10 @@ where
         }
         Ok(Command::Run(paths)) => Performed::Ended(run_files(rt, files, paths, streams)),
         Ok(Command::Audit(paths)) => Performed::Ended(audit_files(alloc, files, paths, streams)),
+        Ok(Command::AuditChain(path)) => {
+            let CountedFiles { files, .. } = files;
+            Performed::Ended(audit_chain_at(alloc, files, path, streams))
+        }
         Ok(Command::Seal(paths)) => Performed::Ended(seal_files(alloc, files, paths, streams)),
         Ok(Command::Report(paths)) => {
             Performed::Ended(report_files(alloc, files, paths, streams))
@@ -76,6 +88,10 @@ where
         Ok(Command::Check(paths)) => Performed::Ended(check_files(alloc, files, paths, streams)),
         Ok(Command::Usage(command)) => Performed::Ended(tell_usage(command, streams)),
         Ok(Command::Version) => Performed::Ended(tell_version(streams)),
+        Ok(Command::SealChain(path)) => match String::from_str(alloc, path) {
+            Ok(path) => Performed::ToSealChain(path),
+            Err(_) => Performed::Ended(end(streams.err, Ending::NoMemory)),
+        },
         Ok(Command::Serve(paths)) => match kept_paths(alloc, paths) {
             Ok(paths) => Performed::ToServe(paths),
             Err(_) => Performed::Ended(end(streams.err, Ending::NoMemory)),
@@ -90,6 +106,10 @@ fn kept_paths(alloc: Global, paths: ServePaths) -> Result<LivePaths, AllocError>
 {
     let policy = String::from_str(alloc, paths.policy)?;
     let after = kept_texts(alloc, &paths.after)?;
+    let chain = match paths.chain {
+        Some(path) => Some(String::from_str(alloc, path)?),
+        None => None,
+    };
     let pipes = String::from_str(alloc, paths.pipes)?;
     let book = match paths.book {
         Some(path) => Some(String::from_str(alloc, path)?),
@@ -98,9 +118,11 @@ fn kept_paths(alloc: Global, paths: ServePaths) -> Result<LivePaths, AllocError>
     Ok(LivePaths {
         policy,
         after,
+        chain,
         pipes,
         book,
         sync: paths.sync,
+        calls: paths.calls,
     })
 }
 

@@ -165,11 +165,18 @@ where
     match outcome {
         Outcome::Ended(served) => served.report(rt),
         Outcome::ToServe(paths) => told_to_serve(disk, &paths),
+        Outcome::ToSealChain(path) => {
+            let _ = disk.note(path.as_str());
+            ExitCode::from(TO_SEAL)
+        }
     }
 }
 
 /// The status of a test where the program is to serve live, which no command gives.
 pub(crate) const TO_SERVE: u8 = 6;
+
+/// That of one where it is to seal a chain.
+pub(crate) const TO_SEAL: u8 = 7;
 
 // The paths at which it is to serve are noted, as files that were asked for.
 fn told_to_serve(disk: &Disk, paths: &LivePaths) -> ExitCode {
@@ -183,8 +190,23 @@ fn told_to_serve(disk: &Disk, paths: &LivePaths) -> ExitCode {
     for path in &paths.after {
         let _ = disk.note(path.as_str());
     }
+    if let Some(path) = &paths.chain {
+        let _ = disk.note(path.as_str());
+    }
     if paths.sync {
         let _ = disk.note("synced");
+    }
+    match paths.calls {
+        Some(12) => {
+            let _ = disk.note("12 calls");
+        }
+        Some(4611686018427387904) => {
+            let _ = disk.note("as many calls as there can be");
+        }
+        Some(_) => {
+            let _ = disk.note("others");
+        }
+        None => {}
     }
     ExitCode::from(TO_SERVE)
 }
@@ -322,19 +344,23 @@ const WAYS: &[(u64, usize, Refusal)] = &[
     (2500, usize::MAX, Refusal::Other),
 ];
 
-// The most bytes that one read asks for, also of a book that is audited, and the least that are
-// written before the last.
+// The most bytes that one read asks for, also of a book that goes through an audit while it is read,
+// and the least that are written before the last.
 const READ: usize = 1024;
 
 const AUDITED: usize = 4096;
 
 const WRITTEN: usize = 65536;
 
-// The most bytes that one read asks for of the last book that is opened. (An audit reads the books
-// before its own as any other command does.)
+fn is_seal(case: &Case) -> bool {
+    case.opened.contains(&b'n')
+}
+
+// The most bytes that one read asks for of the last book that is opened. (The books before it are
+// read as by any other command.)
 fn last_piece(case: &Case) -> usize {
     if let [_, command, ..] = case.words {
-        if *command == b"audit".as_slice() {
+        if *command == b"audit".as_slice() || is_seal(case) {
             return AUDITED;
         }
     }
@@ -364,6 +390,13 @@ fn most_calls(case: &Case, step: usize) -> u64 {
     most
 }
 
+// Whether no more is written than a command writes before it has read a file: a seal has written
+// lines of the whole book once they are long enough, any other nothing.
+fn is_written_while_read(ended: &Ended, case: &Case) -> bool {
+    let are_lines = ended.kept.len() >= WRITTEN && ended.kept.ends_with(b"\n");
+    ended.out.is_empty() && (ended.kept.is_empty() || (is_seal(case) && are_lines))
+}
+
 // Whether a use ended as one does whose call at this file failed: the line and the status are of
 // that file, and what is written is a prefix.
 fn is_broken_at(name: Name, ended: &Ended, case: &Case) -> bool {
@@ -375,8 +408,8 @@ fn is_broken_at(name: Name, ended: &Ended, case: &Case) -> bool {
         }
         Name::New => { ended.err.as_slice() == b"write fault\n".as_slice() && ended.out.is_empty() }
         _ => {
-            let is_none = ended.out.is_empty() && ended.kept.is_empty();
-            ended.err.as_slice() == b"read fault\n".as_slice() && is_none
+            let is_written = is_written_while_read(ended, case);
+            ended.err.as_slice() == b"read fault\n".as_slice() && is_written
         }
     };
     is_ended && is_prefix && is_told
@@ -426,7 +459,7 @@ fn each_call_at_a_file_fails(rt: HostRuntime) -> Result<(), Fail> {
 
 // What stands in the file that is written before anything goes to standard output.
 fn kept_before_output<'a>(case: &Case<'a>) -> &'a [u8] {
-    if case.opened.contains(&b'n') {
+    if is_seal(case) {
         return case.kept;
     }
     b""

@@ -3,17 +3,21 @@
 //! Where they ask to serve live processes, the files that they name are handed on.
 #![tactic(auto)]
 
+mod chain;
 mod commands;
 mod devices;
 mod looking;
 mod policy;
 mod serving;
 
+pub use chain::{Chained, chained_policy, last_policy};
 pub use commands::{LivePaths, Performed, perform};
 pub use devices::CountedFiles;
 pub use policy::served_policy;
 pub use serving::{Blanks, Complaints, Outcome, Output, Served, serve};
 
+#[cfg(test)]
+mod chain_tests;
 #[cfg(test)]
 mod cut_short_tests;
 #[cfg(test)]

@@ -88,6 +88,8 @@ pub enum Outcome {
     Ended(Served),
     /// The processes of a policy are to be served live.
     ToServe(LivePaths),
+    /// The book is to be sealed of the run that the chain file at this path has last.
+    ToSealChain(String),
 }
 
 /// Does what the command line asks for, and gives the status; or hands on that it is to serve live.
@@ -176,6 +178,7 @@ fn settle<E: Sink>(outcome: Result<Performed, ArgFault>, err: &mut E) -> Outcome
     match outcome {
         Ok(Performed::Ended(status)) => Outcome::Ended(Served::with(status)),
         Ok(Performed::ToServe(paths)) => Outcome::ToServe(paths),
+        Ok(Performed::ToSealChain(path)) => Outcome::ToSealChain(path),
         Err(fault) => {
             let status = end(err, fault_ending(fault));
             Outcome::Ended(Served::with(status))

@@ -257,6 +257,12 @@ const REFUSED: &[(&[&[u8]], &str, &str, u8)] = &[
         "",
         5,
     ),
+    (
+        &[b"consortium", b"serve", b"w", b"d", b"--calls", b"0"],
+        "bad arguments\n",
+        "",
+        5,
+    ),
     // letter for letter: a space is part of a word
     (
         &[b"consortium", b" replay", b"w", b"s"],
@@ -456,6 +462,31 @@ const SERVED_AT: &[(&[&[u8]], &str)] = &[
     (
         &[b"consortium", b"serve", b"w", b"--sync", b"d", b"--book=k"],
         "w\nd\nk\nsynced\n",
+    ),
+    (
+        &[
+            b"consortium",
+            b"serve",
+            b"w",
+            b"d",
+            b"--chain=c",
+            b"--book=k",
+        ],
+        "w\nd\nk\nc\n",
+    ),
+    (
+        &[
+            b"consortium",
+            b"serve",
+            b"w",
+            b"d",
+            b"--calls=4611686018427387904",
+        ],
+        "w\nd\nnone\nas many calls as there can be\n",
+    ),
+    (
+        &[b"consortium", b"serve", b"--calls", b"12", b"w", b"d"],
+        "w\nd\nnone\n12 calls\n",
     ),
 ];
 
