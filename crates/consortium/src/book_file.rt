@@ -114,6 +114,13 @@ pub(crate) fn take_away(files: &HostRuntime, path: &str) {
     let _ = fs::remove_file(files, path);
 }
 
+/// Makes an empty file at this path, for the user of the program alone, where there is none.
+pub(crate) fn make_if_missing(files: &HostRuntime, path: &str) {
+    let mut how = only_new();
+    how.mode(OWNER_ALONE);
+    let _ = how.open(files, path);
+}
+
 // The folder of a file.
 fn folder_of(path: &str) -> &str {
     match path.rfind('/') {
@@ -123,8 +130,8 @@ fn folder_of(path: &str) -> &str {
     }
 }
 
-// Whether the name of a file is on the disk, as far as the system says.
-fn is_named_on_disk(files: &HostRuntime, path: &str) -> bool {
+/// Whether the name of a file is on the disk, as far as the system says.
+pub(crate) fn is_named_on_disk(files: &HostRuntime, path: &str) -> bool {
     match File::open(files, folder_of(path)) {
         Ok(folder) => folder.sync_all().is_ok(),
         Err(_) => false,

@@ -20,7 +20,7 @@ pub(crate) struct Ended {
     pub(crate) sessions: usize,
     // Memory was refused to one of them.
     has_no_memory: bool,
-    // The door was too late for a call of one of them.
+    // A call of one of them was not made: it had made as many as it may, or the door was too late.
     is_exhausted: bool,
     // The file of the book is not on the disk, where it is to be.
     is_unsynced: bool,
@@ -56,9 +56,9 @@ impl Ended {
 // How all sessions have ended. Their devices are let go.
 fn count_all<S: Drop, O: Drop>(sessions: Vec<Session<S, O>>, ended: &mut Ended) {
     for session in sessions {
-        let Session { peer, end } = session;
+        let Session { peer, closing } = session;
         drop(peer);
-        ended.count(end);
+        ended.count(closing.end);
     }
 }
 

@@ -6,29 +6,33 @@
 //! `--sync` the file of its book is synced behind each post that settles an instance. `consortium
 //! seal POLICY BOOK OUT` makes a whole book of one that was cut, in a new file, and `consortium
 //! report POLICY BOOK` tells who came to hold what by a book, and how, with `--html FILE` also as a
-//! page. Each goes on after earlier
-//! books where it has `--after BOOK`, any number of times, the oldest first. `consortium check
-//! POLICY [SCRIPT] [--book BOOK [--after BOOK]..]` tells what a policy means, and what of a script
-//! and a book is at fault; `consortium usage [COMMAND]` how it is used, and `consortium version` its
-//! version.
+//! page. Each goes on after earlier books where it has `--after BOOK`, any number of times, the oldest
+//! first. `consortium serve POLICY DIR --chain CHAIN --book FILE` serves the next run of a chain file,
+//! `consortium audit --chain CHAIN` audits all of its runs, and `consortium seal --chain CHAIN` ends one
+//! that was cut. `consortium check POLICY [SCRIPT] [--book BOOK [--after BOOK]..]` tells what a policy
+//! means, and what of a script and a book is at fault; `consortium usage [COMMAND]` how it is used, and
+//! `consortium version` its version.
 #![tactic(auto)]
 
 mod book_file;
+mod chain;
 mod desk;
 mod ended;
 mod events;
 mod folder;
 mod pipes;
+mod sealing;
 mod server;
 mod standard;
 
 pub use program_commands::{
     audit_after, audit_on, check_on, read_wall_after, replay_after, replay_on, report_on,
-    run_after, run_on, seal_on, serve_on,
+    run_after, run_on, seal_on, seal_with, serve_on,
 };
 pub use program_line::{CountedFiles, LivePaths, Performed, perform};
 use program_line::{Blanks, Outcome, Served, serve};
 pub use program_words::read_words;
+use sealing::{SealBlanks, seal_chain};
 use server::{ServerBlanks, System, serve_live};
 use standard::{hold_streams, unheld};
 use std::io::{Stderr, Stdout};
@@ -71,6 +75,19 @@ fn main(rt: HostRuntime) -> Served {
                 err: Blank::new(1),
             };
             Served::with(serve_live::<HostRuntime, Brand, Brand>(&rt, system, &paths, blanks))
+        }
+        Outcome::ToSealChain(path) => {
+            let system = System {
+                files: &rt,
+                out: rt.stdout(),
+                err: rt.stderr(),
+            };
+            let blanks = SealBlanks {
+                out: Blank::new(1),
+                err: Blank::new(1),
+                sealed: Blank::new(1),
+            };
+            Served::with(seal_chain::<Brand, Brand, Brand>(rt.alloc(), system, &path, blanks))
         }
     }
 }

@@ -4,15 +4,17 @@
 ghost use Rattle.program_line.specs.Kinds.{Opens};
 
 use crate::book_file::{BookFile, CountedBook, FileReceipt, NewBook, new_book, take_away};
+use crate::chain::{HeldChain, HeldFile};
 use crate::desk::{desks_at, peers_at};
 use crate::ended::{Ended, let_go, status_of};
 use crate::events::{Event, EventLines, Events};
 use crate::folder::Folder;
 use crate::pipes::{Pipes, first_fault, pipes_in};
+use chain_runs::Next;
 use live_session::{Peer, ShowDesk};
 use program_commands::{Ending, end, refuse, serve_on};
 use program_files::{Count, StreamSink};
-use program_line::{LivePaths, served_policy};
+use program_line::{Chained, LivePaths, chained_policy, served_policy};
 use std::io::{Stderr, Stdout};
 use std::marker::Brand;
 use std::sync::Wait;
@@ -55,19 +57,16 @@ where
         failures: Count::<E>::new(told),
     };
     let failures = Count::<P>::new(policy);
-    let policy = match served_policy(rt.alloc(), files, paths, failures) {
-        Ok(policy) => policy,
-        Err(ending) => return end(&mut err, ending),
-    };
     let server = PipeServer {
         rt,
         files,
         out,
         paths,
     };
-    let status = server.serve_under(&policy, &mut err);
-    drop(policy);
-    status
+    match &paths.chain {
+        Some(chain) => server.serve_on_chain(chain, failures, &mut err),
+        None => server.serve_apart(failures, &mut err),
+    }
 }
 
 // The pipes of the system, and where events go.
@@ -79,9 +78,64 @@ struct PipeServer<'a, R> {
     paths: &'a LivePaths,
 }
 
+// The run of a chain that is to begin: its line is still to be written.
+#[derive(Drop)]
+struct NextRun<'a> {
+    chain: HeldChain<'a>,
+    // The digest of its policy file.
+    digest: [u8; 32],
+}
+
 impl<'a, R: AllocGlobal + Threads + Wait + Sync> PipeServer<'a, R> {
+    // Serves after the earlier books that the words name.
+    fn serve_apart<P: Ledger, E: Sink>(&self, failures: Count<P>, err: &mut E) -> u8 {
+        let policy = match served_policy(self.rt.alloc(), self.files, self.paths, failures) {
+            Ok(policy) => policy,
+            Err(ending) => return end(err, ending),
+        };
+        let status = self.serve_under(&policy, None, err);
+        drop(policy);
+        status
+    }
+
+    // Serves the next run of a chain, whose file it holds meanwhile.
+    fn serve_on_chain<P: Ledger, E: Sink>(
+        &self,
+        path: &'a str,
+        failures: Count<P>,
+        err: &mut E,
+    ) -> u8 {
+        let alloc = self.rt.alloc();
+        let mut held = match HeldFile::hold(self.files, path, err) {
+            Ok(held) => held,
+            Err(status) => return status,
+        };
+        let mut reader = held.reader();
+        let read = chained_policy(
+            alloc,
+            self.files,
+            &mut reader,
+            &self.paths.policy,
+            failures,
+            err,
+        );
+        drop(reader);
+        let Chained { file, next } = match read {
+            Ok(chained) => chained,
+            Err(status) => return status,
+        };
+        let Next { policy, digest } = next;
+        let run = NextRun {
+            chain: HeldChain { held, chain: file },
+            digest,
+        };
+        let status = self.serve_under(&policy, Some(run), err);
+        drop(policy);
+        status
+    }
+
     // Holds the folder, looks at the pipes, and serves at them if nothing is amiss.
-    fn serve_under<E: Sink>(&self, policy: &Policy, err: &mut E) -> u8 {
+    fn serve_under<E: Sink>(&self, policy: &Policy, run: Option<NextRun>, err: &mut E) -> u8 {
         let alloc = self.rt.alloc();
         let Ok(mut folder) = Folder::at(alloc, self.files, &self.paths.pipes) else {
             return end(err, Ending::NoMemory);
@@ -104,7 +158,7 @@ impl<'a, R: AllocGlobal + Threads + Wait + Sync> PipeServer<'a, R> {
         let Ok(lines) = EventLines::new(alloc, self.out) else {
             return end(err, Ending::NoMemory);
         };
-        self.serve_at(policy, &all, &folder, &events, lines, err)
+        self.serve_at(policy, &all, &folder, &events, lines, run, err)
     }
 
     // Makes the devices and the book, and serves, while another thread writes the events.
@@ -115,6 +169,7 @@ impl<'a, R: AllocGlobal + Threads + Wait + Sync> PipeServer<'a, R> {
         folder: &Folder,
         events: &Events<'n>,
         lines: EventLines<Stdout>,
+        mut run: Option<NextRun>,
         err: &mut E,
     ) -> u8 {
         let rt = self.rt;
@@ -133,6 +188,10 @@ impl<'a, R: AllocGlobal + Threads + Wait + Sync> PipeServer<'a, R> {
             self.take_back();
             return refuse(err, unready);
         }
+        if !self.begin(&mut run) {
+            self.take_back();
+            return end(err, Ending::WriteFault);
+        }
         let (is_told, ended) = thread::join(
             rt,
             || events.write_to(rt, lines),
@@ -142,7 +201,36 @@ impl<'a, R: AllocGlobal + Threads + Wait + Sync> PipeServer<'a, R> {
             self.take_back();
             return ended.status();
         }
-        status_of(rt, ended, events, is_told, err)
+        let status = status_of(rt, ended, events, is_told, err);
+        if !self.end(policy, &mut run) && status == 0 {
+            return end(err, Ending::WriteFault);
+        }
+        status
+    }
+
+    // Writes the line of a run that begins on a chain. False where that failed.
+    fn begin(&self, run: &mut Option<NextRun>) -> bool {
+        let Some(run) = run else {
+            return true;
+        };
+        let Some(book) = &self.paths.book else {
+            return false;
+        };
+        let digest = run.digest;
+        run.chain
+            .begin(self.rt.alloc(), &self.paths.policy, digest, book)
+    }
+
+    // Writes the line that it has ended. False where that failed, or its book is not whole: then a seal
+    // of the chain does it.
+    fn end(&self, policy: &Policy, run: &mut Option<NextRun>) -> bool {
+        let Some(run) = run else {
+            return true;
+        };
+        let Some(book) = &self.paths.book else {
+            return false;
+        };
+        run.chain.end(self.rt.alloc(), policy, book)
     }
 
     // Takes the file of the book away, where one was made and no session began.
@@ -177,14 +265,15 @@ impl<'a, R: AllocGlobal + Threads + Wait + Sync> PipeServer<'a, R> {
         O: Sink + Send + Drop,
     {
         let rt = self.rt;
+        let most = self.paths.calls;
         events.tell(rt, Event::Serving(policy.processes()));
         let ended = match book {
             Some(book) => {
                 let blank = Blank::new(1);
                 let book = CountedBook { book, blank };
-                serve_keeping::<_, _, _, _, Brand>(rt, policy, peers, err, book)
+                serve_keeping::<_, _, _, _, Brand>(rt, policy, peers, most, err, book)
             }
-            None => serve_bookless(rt, policy, peers, err),
+            None => serve_bookless(rt, policy, peers, most, err),
         };
         events.end(rt, ended.sessions == policy.processes() as usize);
         ended
@@ -196,6 +285,7 @@ fn serve_keeping<R, S, O, E: Sink, B: Ledger + Send>(
     rt: &R,
     policy: &Policy,
     peers: Vec<Peer<S, O>>,
+    most: Option<u64>,
     err: &mut E,
     book: CountedBook,
 ) -> Ended
@@ -206,7 +296,7 @@ where
     requires { Opens book.blank B.name B.parts }
 {
     let book = BookFile::<B>::new(book);
-    let_go(serve_on(rt, rt.alloc(), policy, peers, err, Some(book)))
+    let_go(serve_on(rt, rt.alloc(), policy, peers, most, err, Some(book)))
 }
 
 // Serves, and keeps no book.
@@ -214,6 +304,7 @@ fn serve_bookless<R, S, O, E: Sink>(
     rt: &R,
     policy: &Policy,
     peers: Vec<Peer<S, O>>,
+    most: Option<u64>,
     err: &mut E,
 ) -> Ended
 where
@@ -221,5 +312,5 @@ where
     S: ShowDesk<O, Option<FileReceipt>> + Send + Drop,
     O: Sink + Send + Drop,
 {
-    let_go(serve_on::<_, _, _, _, BookFile<Brand>>(rt, rt.alloc(), policy, peers, err, None))
+    let_go(serve_on::<_, _, _, _, BookFile<Brand>>(rt, rt.alloc(), policy, peers, most, err, None))
 }

@@ -21,3 +21,13 @@ ghosts-serve_live-P-Ledger g a =
 
 abbrev pub ghosts-serve_live-E-Ledger : goal.ghosts-serve_live-E-Ledger
 ghosts-serve_live-E-Ledger g a = record { name = a.blanks.err.name; parts = a.blanks.err.parts }
+
+abbrev pub ghosts-seal_chain-O-Ledger : goal.ghosts-seal_chain-O-Ledger
+ghosts-seal_chain-O-Ledger g a = record { name = a.blanks.out.name; parts = a.blanks.out.parts }
+
+abbrev pub ghosts-seal_chain-E-Ledger : goal.ghosts-seal_chain-E-Ledger
+ghosts-seal_chain-E-Ledger g a = record { name = a.blanks.err.name; parts = a.blanks.err.parts }
+
+abbrev pub ghosts-seal_chain-B-Ledger : goal.ghosts-seal_chain-B-Ledger
+ghosts-seal_chain-B-Ledger g a =
+    record { name = a.blanks.sealed.name; parts = a.blanks.sealed.parts }
