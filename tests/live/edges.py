@@ -316,7 +316,41 @@ def room_is_given_back(given):
     house.end()
 
 
+def calls_are_bounded(given):
+    """With --calls N the call behind the N-th of a session is answered `exhausted` and not made, and
+    its replies end; what asks for nothing, and a leave, are answered as ever, and others go on."""
+    house = House(given.program, neutral(3))
+    house.words += ["--calls", "4"]
+    server = started(house)
+    raws = [Raw(house, name) for name in house.names]
+    for raw in raws:
+        want(raw.ask("post 0 barrier"), "posted 0", "a post")
+    for raw in raws:
+        want(raw.ask("wait 0"), "delivered none", "a wait")
+    first, second, third = raws
+    want(first.ask("info 0"), "info size 3 rank 0", "the third call")
+    want(first.ask("foo"), "bad BadVerb", "no call")
+    want(first.ask("post 0 barrier"), "posted 1", "the fourth call")
+    want(first.ask("foo"), "bad BadVerb", "no call behind the last")
+    want(first.ask("post 0 barrier"), "exhausted", "a call more")
+    want(first.read(), b"", "the end of the replies")
+    for _ in range(2):
+        want(second.ask("info 0"), "info size 3 rank 1", "a call of another")
+    want(third.ask("info 0"), "info size 3 rank 2", "a call of a third")
+    for raw in (second, third):
+        want(raw.ask("leave"), "left", "a leave")
+    out, err = server.communicate(timeout=60)
+    want((server.returncode, err), (4, b"exhausted\n"), "the end")
+    events = out.decode("ascii").splitlines()
+    for event in ("p0 left after 4 calls: exhausted", "p1 left after 4 calls: left",
+                  "p2 left after 3 calls: left", "served 11 calls"):
+        want(event in events, True, event)
+    # three posts with their verdict, and the one that was made before the bound
+    want(len(house.book_lines()), 7, "the lines of the book")
+    house.audit()
+
+
 TESTS = [streams_that_are_closed, books_are_of_the_user_alone, starts_that_fail,
          syncs_are_asked_for, nobody_reads_the_events, calls_that_are_cut_short,
          memory_that_is_refused, files_that_may_not_grow, all_who_wait_are_told,
-         room_is_given_back]
+         room_is_given_back, calls_are_bounded]
