@@ -35,8 +35,8 @@ module _ {D : Type 0} (fails : D → ℕ) (left : D → Option (List ℕ))
     pub book : Reading run.begun.book
     pub stands : Stands after run (reading policy) (reading book) now r
 
-  -- Each of these runs, the newest first, was read behind those before it; the policy after them all
-  -- is this one, and before the first there is none.
+  -- Each of these runs, the newest first, was read behind those before it; the policy after them
+  -- all is this one, and before the first there is none.
   abbrev pub AreRead : List Run → List Link → Option ChineseWall → Type 0
   AreRead [] [] now = now ≡ None
   AreRead (run ∷ before) (r ∷ older) (Some now) =

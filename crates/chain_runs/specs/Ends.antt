@@ -12,8 +12,8 @@ use Rattle.chain_runs.specs.declared.end.EndFault.{EndFault}
 use Rattle.chain_runs.specs.declared.end.EndFault.TheVariants.{BadBook, Refused}
 use Rattle.chain_runs.specs.Runs.{SaysBook}
 
--- The run that was under way has ended, with the digest of its book, which was read and is sound; this
--- line makes the text of the chain longer.
+-- The run that was under way has ended, with the digest of its book, which was read and is sound;
+-- this line makes the text of the chain longer.
 pub record HasEnded {B : Type 0} (wall : ChineseWall) (book : Used B) (old new : Chain)
     (line : List ℕ) : Type 0 where
   pub begun : Begun

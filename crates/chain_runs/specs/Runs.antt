@@ -1,6 +1,6 @@
--- The runs of a chain, read again: each from its policy file and from its book, of which the chain has
--- the digests. (Own rule: what somebody once had access to stays, and each book is read under the
--- policy of its own day.)
+-- The runs of a chain, read again: each from its policy file and from its book, of which the chain
+-- has the digests. (Own rule: what somebody once had access to stays, and each book is read under
+-- the policy of its own day.)
 use Rattle.std.specs.Prelude.{◌≡◌, ℕ, List, [], Option, Some, None, Ok}
 use Rattle.sha2.specs.Sha256.{sha256}
 use Rattle.wall_policy.specs.Policy.{ChineseWall}

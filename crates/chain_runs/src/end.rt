@@ -21,11 +21,12 @@ pub enum EndFault {
     Refused(EnterFault),
 }
 
-/// Enters that the run which is under way has ended: reads its book, which is sound under this policy,
-/// and gives the line for the chain file, which is to be appended to its text. The book is judged while
-/// it is read, in the memory of what is open and of one line.
+/// Enters that the run which is under way has ended: reads its book, which is sound under this
+/// policy, and gives the line for the chain file, which is to be appended to its text. The book is
+/// judged while it is read, in the memory of what is open and of one line.
 ///
-/// Where it does not end, the chain is as it was. The book is not looked at where no run is under way.
+/// Where it does not end, the chain is as it was. The book is not looked at where no run is under
+/// way.
 pub fn end_run<B: Source>(
     alloc: Global,
     policy: &Policy,

@@ -97,9 +97,9 @@ fn under(alloc: Global, after: Option<&Policy>, file: Policy) -> Result<Policy, 
     }
 }
 
-/// Reads the policy of a run that began: that of its file, which has the digest that the chain has of
-/// it. `after` is the policy after the runs before it; none where it is the first. The file has grown
-/// from that, by names, and what was held before stays held.
+/// Reads the policy of a run that began: that of its file, which has the digest that the chain has
+/// of it. `after` is the policy after the runs before it; none where it is the first. The file has
+/// grown from that, by names, and what was held before stays held.
 pub fn read_begun<P: Source>(
     alloc: Global,
     after: Option<&Policy>,
@@ -128,11 +128,12 @@ pub struct Next {
     pub digest: [u8; 32],
 }
 
-/// Reads the policy file of the run that comes next, and gives the policy that it is under, with the
-/// digest of the file. `after` is the policy after the runs so far; none where there are none. The
-/// file has grown from that, by names, and what was held before stays held.
+/// Reads the policy file of the run that comes next, and gives the policy that it is under, with
+/// the digest of the file. `after` is the policy after the runs so far; none where there are none.
+/// The file has grown from that, by names, and what was held before stays held.
 ///
-/// The faults are those of a run's policy, but for `OtherPolicy`: the chain has no digest of it yet.
+/// The faults are those of a run's policy, but for `OtherPolicy`: the chain has no digest of it
+/// yet.
 pub fn read_next<P: Source>(
     alloc: Global,
     after: Option<&Policy>,

@@ -53,10 +53,11 @@ pub struct Behind {
 /// the first.
 ///
 /// Its policy file and its book are those of which the chain has the digests. Its policy is that of
-/// the file; where it is not the first, the file has grown from `after`, by names, and what was held
-/// before stays held. The book is sound under it, and is judged while it is read, in the memory of
-/// what is open and of one line. What each process held at its end is what was held before what comes
-/// after it: so over the runs, and any legal run behind them, nobody ever held two rivals.
+/// the file; where it is not the first, the file has grown from `after`, by names, and what was
+/// held before stays held. The book is sound under it, and is judged while it is read, in the
+/// memory of what is open and of one line. What each process held at its end is what was held
+/// before what comes after it: so over the runs, and any legal run behind them, nobody ever held
+/// two rivals.
 ///
 /// The book is looked at only where the policy stands. Of a book whose line is at fault no more is
 /// read; the digest of one that is sound is looked at when it was read to its end.

@@ -63,8 +63,8 @@ fn read_next<'p, F: FileSystem<'p>>(
     }
 }
 
-/// Reads the runs of a chain again, the oldest first, each behind those before it, as `read_run` does:
-/// gives the policy for what comes after them all. Each file is opened when its turn comes.
+/// Reads the runs of a chain again, the oldest first, each behind those before it, as `read_run`
+/// does: gives the policy for what comes after them all. Each file is opened when its turn comes.
 ///
 /// Where a run does not stand, it is the first, and those behind it are not looked at.
 pub fn read_runs<'p, F: FileSystem<'p>>(

@@ -42,8 +42,8 @@ impl<'a> HeldFile<'a> {
         }
     }
 
-    /// A reader of it, from its beginning: another handle of the file that is locked. One that can't
-    /// be had fails at its first read.
+    /// A reader of it, from its beginning: another handle of the file that is locked. One that
+    /// can't be had fails at its first read.
     pub(crate) fn reader(&mut self) -> ListedFile<'a, HostRuntime> {
         let is_at_start = self.file.seek(SeekFrom::Start(0)).is_ok();
         let file = match self.file.try_clone() {
@@ -124,8 +124,8 @@ impl<'a> HeldFile<'a> {
         None
     }
 
-    /// Cuts off what stands behind its last whole line, as a power cut may leave it: nothing was done
-    /// by it. False where that failed. A file without a whole line stays as it is.
+    /// Cuts off what stands behind its last whole line, as a power cut may leave it: nothing was
+    /// done by it. False where that failed. A file without a whole line stays as it is.
     pub(crate) fn cut_off(&mut self) -> bool {
         match (self.whole_lines(), self.len()) {
             (Some(0), Some(_)) => true,
@@ -160,8 +160,8 @@ fn path_of(alloc: Global, text: &str) -> Result<Option<Path>, AllocError> {
 }
 
 impl<'a> HeldChain<'a> {
-    /// Enters the run that begins, under the policy file of this digest. False where that failed: then
-    /// the file is as it was.
+    /// Enters the run that begins, under the policy file of this digest. False where that failed:
+    /// then the file is as it was.
     pub(crate) fn begin(
         &mut self,
         alloc: Global,
@@ -182,9 +182,9 @@ impl<'a> HeldChain<'a> {
         }
     }
 
-    /// Enters that the run has ended, whose book is at this path: it is read once more, and is sound
-    /// under the policy. False where it is not whole, or that failed: then the file is as it was, and
-    /// the run has not ended.
+    /// Enters that the run has ended, whose book is at this path: it is read once more, and is
+    /// sound under the policy. False where it is not whole, or that failed: then the file is as it
+    /// was, and the run has not ended.
     pub(crate) fn end(&mut self, alloc: Global, policy: &Policy, book: &str) -> bool {
         let mut book = file_at(self.held.files, book);
         match end_run(alloc, policy, &mut book, &mut self.chain) {

@@ -1,5 +1,5 @@
-//! The desk of a process: its two named pipes, opened as its session begins and closed as soon as it
-//! has ended, by the thread of that session.
+//! The desk of a process: its two named pipes, opened as its session begins and closed as soon as
+//! it has ended, by the thread of that session.
 //!
 //! No contract can say what a pipe gives or takes, so this is what the proof stands on: that the
 //! bytes which are read are those of the process's calls, and that those which are written go to

@@ -88,7 +88,8 @@ fn tell_shut_out<E: Sink>(err: &mut E, name: &str) -> u8 {
     FAULT_OF_FILES
 }
 
-/// The status with which all ends, where all sessions have ended, behind the line of what it is for.
+/// The status with which all ends, where all sessions have ended, behind the line of what it is
+/// for.
 pub(crate) fn status_of<R: Wait, E: Sink>(
     rt: &R,
     ended: Ended,

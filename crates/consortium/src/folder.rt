@@ -1,9 +1,9 @@
 //! The folder of the pipes: one server holds it, and its pipes serve one run.
 //!
 //! Two servers on one folder would share the bytes of each pipe, and a client of an earlier run
-//! would go on in the next with the numbers of the old one. So the folder is locked for the server's
-//! life, and `make_pipes` leaves a mark beside new pipes, which the server takes away when it
-//! begins. No contract can say what a file system tells; `tests/live` tries it.
+//! would go on in the next with the numbers of the old one. So the folder is locked for the
+//! server's life, and `make_pipes` leaves a mark beside new pipes, which the server takes away when
+//! it begins. No contract can say what a file system tells; `tests/live` tries it.
 
 use program_commands::Unready;
 use std::alloc::{AllocError, Global};

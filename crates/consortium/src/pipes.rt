@@ -1,4 +1,5 @@
-//! The pipes of the processes that are served: where they are, and whether they are as they must be.
+//! The pipes of the processes that are served: where they are, and whether they are as they must
+//! be.
 //!
 //! They are looked at before the server begins, by name, and each once more when it was opened. No
 //! contract can say what a file system tells; `tests/live` tries it.

@@ -1,10 +1,11 @@
-//! Ends the last run of a chain, which was cut: its book is made whole, and the chain gets the line that
-//! the run has ended.
+//! Ends the last run of a chain, which was cut: its book is made whole, and the chain gets the line
+//! that the run has ended.
 //!
-//! The whole book is written beside the cut one, and takes its place when it is on the disk; only then
-//! does the chain get its line. So a seal that was stopped at any point is made again from the start.
-//! What each step comes to say the contracts of `last_policy`, `seal_with` and `end_run`; that they go
-//! over these files in this order no contract can say. `tests/live` stops it at each step.
+//! The whole book is written beside the cut one, and takes its place when it is on the disk; only
+//! then does the chain get its line. So a seal that was stopped at any point is made again from the
+//! start. What each step comes to say the contracts of `last_policy`, `seal_with` and `end_run`;
+//! that they go over these files in this order no contract can say. `tests/live` stops it at each
+//! step.
 ghost use Rattle.program_line.specs.Kinds.{Opens};
 
 use crate::book_file::{
@@ -96,8 +97,8 @@ struct Sealing<'a> {
 }
 
 impl<'a> Sealing<'a> {
-    // The path of the book of the run that has not ended. None where it is no text, at which there is
-    // no file that this program has made.
+    // The path of the book of the run that has not ended. None where it is no text, at which there
+    // is no file that this program has made.
     fn book_path(&self) -> Result<Option<String>, AllocError> {
         let Some(begun) = self.chain.chain.under_way() else {
             return Ok(None);

@@ -221,8 +221,8 @@ impl<'a, R: AllocGlobal + Threads + Wait + Sync> PipeServer<'a, R> {
             .begin(self.rt.alloc(), &self.paths.policy, digest, book)
     }
 
-    // Writes the line that it has ended. False where that failed, or its book is not whole: then a seal
-    // of the chain does it.
+    // Writes the line that it has ended. False where that failed, or its book is not whole: then a
+    // seal of the chain does it.
     fn end(&self, policy: &Policy, run: &mut Option<NextRun>) -> bool {
         let Some(run) = run else {
             return true;

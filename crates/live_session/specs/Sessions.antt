@@ -151,8 +151,8 @@ last_call process (asked_nothing bad) = None
 
 module _ (stood : ChineseWall → List Entry → Option Covered → Type 0) where
   -- At the end of this call's turn the machine stood for the run that ends with the call, and its
-  -- receipt covered this, if it was booked. What was seen after begins with that run, in which these are the calls of the
-  -- process since.
+  -- receipt covered this, if it was booked. What was seen after begins with that run, in which
+  -- these are the calls of the process since.
   pub record StoodBehind (before : Known) (calls : List Entry) (call : Entry)
       (booked : Option Covered) (after : Known) : Type 0 where
     pub front : List Entry
@@ -167,9 +167,9 @@ module _ (stood : ChineseWall → List Entry → Option Covered → Type 0) wher
   StoodFor before told calls booked after = (call : Entry) →
       last_call before.process told ≡ Some call → StoodBehind before calls call booked after
 
-  -- Before the answer to a line whose last call is this, the desk was shown one receipt, that of the
-  -- machine behind this call, which was booked; the answers to the lines before it had been written
-  -- then, and nothing more. For a line that makes no call nothing was shown.
+  -- Before the answer to a line whose last call is this, the desk was shown one receipt, that of
+  -- the machine behind this call, which was booked; the answers to the lines before it had been
+  -- written then, and nothing more. For a line that makes no call nothing was shown.
   abbrev pub IsShown : ChineseWall → (written : Option (List ℕ)) → (before : Known) →
       Option Entry → (calls : List Entry) → (past : List Told) → List Shown → (after : Known) →
       Type 0
@@ -283,10 +283,10 @@ pub record IsPrompt {S O : Type 0} (heard : S → DeskLog) (wall : ChineseWall)
 module _ (stood : ChineseWall → List Entry → Option Covered → Type 0) (most : Option ℕ) where
   -- What a session came to: the bytes that it was handed, cut at each LF, are the lines that it
   -- acted on and a rest; what was written are the answers to these lines, in order, each before the
-  -- next read, and no reply before the desk was shown by a receipt that the book has its entries. Of
-  -- the lines that were acted on the newest may not be told. The calls that it made were counted, and
-  -- are no more than it may make: where it has made so many, the next line that asks for a call is
-  -- not acted on.
+  -- next read, and no reply before the desk was shown by a receipt that the book has its entries.
+  -- Of the lines that were acted on the newest may not be told. The calls that it made were
+  -- counted, and are no more than it may make: where it has made so many, the next line that asks
+  -- for a call is not acted on.
   pub record Serves {S O : Type 0} (heard : S → DeskLog) (wall : ChineseWall)
       (source : Used S) (sink : Used O) (before after : Known) (closing : Closing) : Type 0 where
     pub bytes : List ℕ

@@ -234,9 +234,9 @@ impl<'s, R: Wait, M: Receipts<T>, T: Receipt + Drop> Setting<'s, R, M, T> {
         came_of(self.rt, caller, answer, receipt.is_some())
     }
 
-    /// Does what a line asks for. A call is made only if the session may make one more. Where one was
-    /// made there is the receipt that the machine gave at the end of the turn of the last one, if it
-    /// was booked.
+    /// Does what a line asks for. A call is made only if the session may make one more. Where one
+    /// was made there is the receipt that the machine gave at the end of the turn of the last one,
+    /// if it was booked.
     pub(crate) fn act_on(
         &self,
         pass: &mut PassTo<M>,

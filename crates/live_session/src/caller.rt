@@ -11,8 +11,8 @@ pub(crate) struct Caller<'s> {
     pub(crate) calls: u64,
 }
 
-/// Whether a session that has made so many calls, and no more than it may, may make one more. As many
-/// as can be counted are never made: the door is too late long before.
+/// Whether a session that has made so many calls, and no more than it may, may make one more. As
+/// many as can be counted are never made: the door is too late long before.
 pub(crate) fn may_call(calls: u64, most: Option<u64>) -> bool
     requires { IsWithin most calls }
     ensures may { IsTrue result → (calls < 18446744073709551615) × IsWithin most (calls + 1) }

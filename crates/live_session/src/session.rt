@@ -120,10 +120,10 @@ impl<'s, R: Wait, M: Receipts<T>, T: Receipt + Drop> Setting<'s, R, M, T> {
     /// place of its reply stands `unbooked`; whoever waits is told so too. Any other line is answered
     /// by `bad NAME`: then nothing was done, and the session goes on.
     ///
-    /// Before a reply is written the source is shown the receipt that the machine gave at the end of
-    /// the turn of its call. No turn is held while it reads, works out a delivery, shows, writes or
-    /// sleeps. The source is told when the session begins, before its first line is read, and when
-    /// it has ended; no turn and no place of the stage is held meanwhile.
+    /// Before a reply is written the source is shown the receipt that the machine gave at the end
+    /// of the turn of its call. No turn is held while it reads, works out a delivery, shows, writes
+    /// or sleeps. The source is told when the session begins, before its first line is read, and
+    /// when it has ended; no turn and no place of the stage is held meanwhile.
     pub fn serve<S: ShowDesk<O, T>, O: Sink>(
         &self,
         pass: &mut PassTo<M>,

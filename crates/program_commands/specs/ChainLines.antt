@@ -108,8 +108,8 @@ broken_status fault = 2
 
 -- ---- the next run
 
--- What is told of the next run, whose policy is refused: as where there is no chain, but for a policy
--- that has not grown.
+-- What is told of the next run, whose policy is refused: as where there is no chain, but for a
+-- policy that has not grown.
 abbrev pub next_line : (after : Option ChineseWall) → RunFault → List ℕ
 next_line after runs.UnreadPolicy = error_line ReadFault
 next_line after (runs.BadPolicy fault) = error_line (BadPolicy fault)

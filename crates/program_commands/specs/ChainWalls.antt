@@ -18,7 +18,8 @@ use Rattle.program_commands.specs.ChainLines.{open_line, without_run}
 use Rattle.program_commands.specs.Chains.{TellsBroken}
 
 -- Behind these books, and under this policy after them, nobody will ever have held two rivals: over
--- the books and any legal run under it, under any of their policies. What is held before was had once.
+-- the books and any legal run under it, under any of their policies. What is held before was had
+-- once.
 pub record GoesOnAfter (links : List Link) (wall : ChineseWall) : Type 0 where
   pub chain : IsChain links wall
   pub runs_keep : RunsKeepTheWall links wall
@@ -33,7 +34,8 @@ module _ {D : Type 0} (fails : D → ℕ) (left : D → Option (List ℕ))
 
   -- ---- the next run
 
-  -- All runs have ended and stand, and this is the policy of the next one, by a file of this digest.
+  -- All runs have ended and stand, and this is the policy of the next one, by a file of this
+  -- digest.
   pub record IsNextOnChain {P : Type 0} (file : Chain) (policy : Used P) (digest : List ℕ)
       (wall : ChineseWall) : Type 0 where
     pub none : file.under_way ≡ None
@@ -53,8 +55,8 @@ module _ {D : Type 0} (fails : D → ℕ) (left : D → Option (List ℕ))
     pub is : status ≡ next_status fault
     pub told : IsTold err (next_line past.policy fault)
 
-  -- The last run has not ended; or one does not stand, and the policy file was not looked at; or that
-  -- gives no policy.
+  -- The last run has not ended; or one does not stand, and the policy file was not looked at; or
+  -- that gives no policy.
   abbrev pub HasNoNext : {P E : Type 0} → Chain → Used P → Used E → (status : ℕ) → Type 0
   HasNoNext file policy err status =
       (IsSome file.under_way × IsUntouched policy × (status ≡ 2)

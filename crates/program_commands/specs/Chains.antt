@@ -64,7 +64,8 @@ counts_text number entries =
 abbrev pub sound_line : (number entries : ℕ) → (head : Option (List ℕ)) → List ℕ
 sound_line number entries head = counts_text number entries ++ head_text head
 
--- the line was written, and the status is 0; or the writer failed behind a prefix of it, which is told
+-- the line was written, and the status is 0; or the writer failed behind a prefix of it, which is
+-- told
 abbrev pub TellsSound : {O E : Type 0} → (line : List ℕ) → Used O → Used E → (status : ℕ) → Type 0
 TellsSound line out err status =
     (IsWritten out line × IsUntouched err × (status ≡ 0))
@@ -81,9 +82,9 @@ TellsBroken fails left is_at file err status =
 
 module _ {D O E : Type 0} (fails : D → ℕ) (left : D → Option (List ℕ))
     (is_at : D → List ℕ → Type 0) where
-  -- All runs stand, each behind those before it. Over them and any legal run behind them nobody ever
-  -- held two who were rivals under any of their policies; what is held in the end was had once. The
-  -- number of runs, that of all entries, and the last head are told.
+  -- All runs stand, each behind those before it. Over them and any legal run behind them nobody
+  -- ever held two who were rivals under any of their policies; what is held in the end was had
+  -- once. The number of runs, that of all entries, and the last head are told.
   pub record HaveStood (file : Chain) (out : Used O) (err : Used E) (status : ℕ) : Type 0 where
     pub links : List Link
     pub past : Past

@@ -181,8 +181,8 @@ TellsLine line fault out ending =
     ⊎ (BrokeOff out line × (ending ≡ WriteFault))
     ⊎ ((ending ≡ NoMemory) × IsUntouched out)
 
--- the line of a fault was told, with what is named there; or, where it stands on none, what the file
--- lacks
+-- the line of a fault was told, with what is named there; or, where it stands on none, what the
+-- file lacks
 abbrev pub TellsPlace : {O : Type 0} → (path text : List ℕ) → PolicyFault → Option Found → Used O
     → Ending → Type 0
 TellsPlace path text fault None out ending = TellsLine (absent_line path fault) fault out ending

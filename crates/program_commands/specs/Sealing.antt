@@ -44,9 +44,9 @@ TellsStop stops.Read out ending = (ending ≡ ReadFault) × IsUntouched out
 TellsStop stops.Write out ending = (ending ≡ WriteFault) × IsUntouched out
 TellsStop stops.NoMemory out ending = (ending ≡ NoMemory) × IsUntouched out
 
--- No seal was made, and this is why: no sound book begins with the finished lines, or a device failed,
--- or memory ran out, or the book is too long. No more was written than a prefix of those finished
--- lines with which a sound book begins; or, where the writer failed, of the seal.
+-- No seal was made, and this is why: no sound book begins with the finished lines, or a device
+-- failed, or memory ran out, or the book is too long. No more was written than a prefix of those
+-- finished lines with which a sound book begins; or, where the writer failed, of the seal.
 pub record IsRefused {B W O : Type 0} (wall : ChineseWall) (book : Used B) (sealed : Used W)
     (out : Used O) (ending : Ending) : Type 0 where
   pub stop : SealStop

@@ -91,8 +91,8 @@ module _ {S O : Type 0} (fails : S → ℕ) (left : S → Option (List ℕ))
   module _ {B : Type 0} (spoilt : B → ℕ) (kept lasting : B → Option (List ℕ)) where
     -- How serving ends: no session began; or all have ended. Where there is a book, no reply was
     -- told before its desk was shown a receipt of the writer, which covers, behind what the writer
-    -- had at first, the text of the book of the run up to the reply's call; and the writer came back
-    -- with the whole text of the run's book, or with a beginning of it and why no more.
+    -- had at first, the text of the book of the run up to the reply's call; and the writer came
+    -- back with the whole text of the run's book, or with a beginning of it and why no more.
     abbrev pub ServeEnds : (most : Option ℕ) → ChineseWall → List (Peer S O) → (book : Option B) →
         List (Session S O) → (back : Option B) → Ending → Type 0
     ServeEnds most wall peers None sessions back ending =

@@ -147,9 +147,9 @@ fn audit_under<B: Source, O: Sink>(
 /// where the book is sound and the line was written.
 ///
 /// The policy is read and judged before the book is looked at. The book is judged while it is read,
-/// however long it is, in the memory of what is open and of one line. A line at fault is told as soon
-/// as it is read, before the reader can fail behind it; one of more than 134,217,728 bytes is at
-/// fault. More than 2^62 entries are told as `Ending::Exhausted`.
+/// however long it is, in the memory of what is open and of one line. A line at fault is told as
+/// soon as it is read, before the reader can fail behind it; one of more than 134,217,728 bytes is
+/// at fault. More than 2^62 entries are told as `Ending::Exhausted`.
 pub fn audit_on<P: Source, B: Source, O: Sink, E: Sink>(
     alloc: Global,
     policy: &mut P,

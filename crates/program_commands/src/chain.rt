@@ -176,12 +176,12 @@ fn audit_ended<'p, F: FileSystem<'p>, O: Sink, E: Sink>(
 
 /// Audits all runs of a chain, each from the files at its paths: its policy file and its book are
 /// those of which the chain has the digests, its policy has grown from the one before it, by names,
-/// and its book is sound under it, behind the books before. It writes `sound R runs, N entries, head
-/// HEX` to `out`, with the number of entries of all books and the last head of the chain file (`-`
-/// where it has no runs), or the line of the first fault to `err`, and gives the status.
+/// and its book is sound under it, behind the books before. It writes `sound R runs, N entries,
+/// head HEX` to `out`, with the number of entries of all books and the last head of the chain file
+/// (`-` where it has no runs), or the line of the first fault to `err`, and gives the status.
 ///
-/// A chain whose last run has not ended is refused before any file is looked at. Each book is judged
-/// while it is read, in the memory of what is open and of one line.
+/// A chain whose last run has not ended is refused before any file is looked at. Each book is
+/// judged while it is read, in the memory of what is open and of one line.
 pub fn audit_chain<'p, F: FileSystem<'p>, O: Sink, E: Sink>(
     alloc: Global,
     file: &'p ChainFile,

@@ -226,8 +226,8 @@ fn status_of_next(fault: RunFault) -> u8
     }
 }
 
-/// Writes the line of the next run, whose policy is refused, and gives the status. A writer that fails
-/// changes nothing of that.
+/// Writes the line of the next run, whose policy is refused, and gives the status. A writer that
+/// fails changes nothing of that.
 pub(crate) fn end_next<W: Sink>(err: &mut W, broken: &Broken) -> u8
     requires { CanBeTold broken.now }
     ensures status { result ≡ next_status broken.now.fault }

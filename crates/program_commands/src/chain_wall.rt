@@ -15,8 +15,8 @@ use std::alloc::Global;
 use wall_labels::{Sink, Source};
 use wall_policy::Policy;
 
-// What is known behind the runs that have ended; or the status, behind the line of the first that does
-// not stand.
+// What is known behind the runs that have ended; or the status, behind the line of the first that
+// does not stand.
 fn past_of<'p, F: FileSystem<'p>, E: Sink>(
     alloc: Global,
     file: &'p ChainFile,
@@ -49,9 +49,9 @@ fn see_wall(wall: &Policy)
 }
 
 /// The policy of the run that comes next on a chain, with the digest of its file: all runs so far
-/// have ended and stand, and the file has grown from the policy after them, by names. So over all of
-/// them and any legal run under it nobody ever held two who were rivals under any of their policies.
-/// Else the line of a fault is written to `err`, and the status comes back.
+/// have ended and stand, and the file has grown from the policy after them, by names. So over all
+/// of them and any legal run under it nobody ever held two who were rivals under any of their
+/// policies. Else the line of a fault is written to `err`, and the status comes back.
 ///
 /// A chain whose last run has not ended is refused before any file is looked at.
 pub fn next_on_chain<'p, F: FileSystem<'p>, P: Source, E: Sink>(
@@ -99,9 +99,9 @@ pub fn next_on_chain<'p, F: FileSystem<'p>, P: Source, E: Sink>(
     Err(status)
 }
 
-/// The policy of the run of a chain that has not ended: all runs before it stand, and its policy file,
-/// of the digest that the chain has, has grown from the policy after them, by names. Else the line of
-/// a fault is written to `err`, and the status comes back.
+/// The policy of the run of a chain that has not ended: all runs before it stand, and its policy
+/// file, of the digest that the chain has, has grown from the policy after them, by names. Else the
+/// line of a fault is written to `err`, and the status comes back.
 pub fn last_on_chain<'p, F: FileSystem<'p>, E: Sink>(
     alloc: Global,
     file: &'p ChainFile,

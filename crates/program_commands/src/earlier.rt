@@ -139,8 +139,8 @@ pub(crate) fn policy_after<'a, D: Source + Explains + Drop>(
 
 /// Reads a policy file and then the earlier books, the oldest first, and gives the policy for what
 /// comes after them: what each process held at their end is what it held before. So a run under it
-/// begins where they end, over all of them nobody ever held two rivals, and what somebody holds from
-/// before it had once, at a home or by an entry of one of the books.
+/// begins where they end, over all of them nobody ever held two rivals, and what somebody holds
+/// from before it had once, at a home or by an entry of one of the books.
 ///
 /// Each book is read and checked under the policy after those before it, and its reader is let go
 /// before the next one is looked at. Processes may have been added to the policy since: a book is

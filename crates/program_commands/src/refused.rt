@@ -94,8 +94,8 @@ fn tell_place<O: Sink>(
 }
 
 /// Tells of a policy that is refused on which line its fault stands, and what is wrong there, or
-/// what the file lacks. Of a text of more than `PLACE_LIMIT` bytes it is told that no line is looked
-/// for.
+/// what the file lacks. Of a text of more than `PLACE_LIMIT` bytes it is told that no line is
+/// looked for.
 pub(crate) fn tell_refused<O: Sink>(
     alloc: Global,
     policy: &PolicyText,

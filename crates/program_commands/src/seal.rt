@@ -87,8 +87,8 @@ pub fn seal_with<B: Source, W: Sink, O: Sink, E: Sink>(
 ///
 /// The book is sealed while it is read, however long it is, in the memory of what is open, of one
 /// line and of what is written next. A text whose finished lines are not the beginning of a sound
-/// book is told as `audit_on` would tell it; `sealed` may then have some of the finished lines before
-/// the fault, and no more. More than 2^62 entries are told as `Ending::Exhausted`.
+/// book is told as `audit_on` would tell it; `sealed` may then have some of the finished lines
+/// before the fault, and no more. More than 2^62 entries are told as `Ending::Exhausted`.
 pub fn seal_on<P: Source, D: Source + Drop, B: Source, W: Sink, O: Sink, E: Sink>(
     alloc: Global,
     devices: Devices<P, B, O, E>,

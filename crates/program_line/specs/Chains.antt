@@ -10,8 +10,8 @@ use Rattle.program_commands.specs.Chains.{IsChainOf, IsNoChain, TellsNoChain, Ch
 use Rattle.program_commands.specs.ChainWalls.{IsNextOnChain, HasNoNext}
 use Rattle.program_line.specs.Kinds.{FileKind, FileUse, used_file}
 
--- A device for the file at this path, which was not opened. For a path that is no text it is one for
--- the empty path, at which there is no file.
+-- A device for the file at this path, which was not opened. For a path that is no text it is one
+-- for the empty path, at which there is no file.
 abbrev pub IsAt : {D : Type 0} → FileKind D → (device : D) → (path : List ℕ) → Type 0
 IsAt kind device path = ((kind.unopened device ≡ Some path)
     ⊎ (¬ (IsUtf8 path) × (kind.unopened device ≡ Some [])))
@@ -22,8 +22,8 @@ abbrev pub HasNoChain : {D O E : Type 0} → Used D → Used O → Used E → (s
 HasNoChain chain out err status =
     (none : NoChain) × IsNoChain chain none × IsUntouched out × TellsNoChain none err status
 
--- The audit of the chain file at this path: it gave no chain, or its runs were read from the files at
--- the paths that it has.
+-- The audit of the chain file at this path: it gave no chain, or its runs were read from the files
+-- at the paths that it has.
 abbrev pub AuditsChain : {D O E : Type 0} → FileKind D → Text → Used O → Used E → (status : ℕ)
     → Type 0
 AuditsChain listed path out err status = (chain : FileUse listed path)
@@ -33,7 +33,8 @@ AuditsChain listed path out err status = (chain : FileUse listed path)
 
 -- ---- a server of a chain
 
--- the chain was read, and this is the policy of its next run, by the file at this path, of this digest
+-- the chain was read, and this is the policy of its next run, by the file at this path, of this
+-- digest
 abbrev pub IsChained : {P D C : Type 0} → FileKind P → FileKind D → Used C → (path : Text) →
     Chain → (digest : List ℕ) → ChineseWall → Type 0
 IsChained policies listed chain path file digest wall = IsChainOf chain file

@@ -42,8 +42,8 @@ listed_kind = record {
   before = 0;
 }
 
--- the kind of a file that is read, by what is known of the bytes that an opened file has to give: it
--- counts on from so many failures
+-- the kind of a file that is read, by what is known of the bytes that an opened file has to give:
+-- it counts on from so many failures
 abbrev pub source_kind : {F L File Dir : Type 0} → (remaining : File → Option (List ℕ))
     → (before : ℕ) → FileKind (FileSource F L File Dir)
 source_kind remaining before = record {

@@ -209,8 +209,8 @@ IsDone kinds (Some to_version) out err status = OrNoMemory TellsVersion out err 
 IsDone kinds (Some (to_serve files)) out err status = Declines NoMemory out err status
 IsDone kinds (Some (to_seal_chain path)) out err status = Declines NoMemory out err status
 
--- It is done, with this status; or it is to serve live, by these files, or to seal a chain, and nothing
--- is done yet.
+-- It is done, with this status; or it is to serve live, by these files, or to seal a chain, and
+-- nothing is done yet.
 abbrev pub Performs : {P D S B W O E : Type 0} → Kinds P D S B W → Option Asked → Used O → Used E
     → Performed → Type 0
 Performs kinds asked out err (performs.Ended status) = IsDone kinds asked out err status

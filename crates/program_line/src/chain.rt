@@ -119,9 +119,9 @@ pub fn chained_policy<'a, F: Files, C: Source, L: Ledger, E: Sink>(
     }
 }
 
-/// The policy of the run of a chain that has not ended, as `last_on_chain` reads it, from the files at
-/// the paths that the chain has. Else the line of a fault is written to `err`, and the status comes
-/// back.
+/// The policy of the run of a chain that has not ended, as `last_on_chain` reads it, from the files
+/// at the paths that the chain has. Else the line of a fault is written to `err`, and the status
+/// comes back.
 pub fn last_policy<F: Files, E: Sink>(
     alloc: Global,
     files: &F,

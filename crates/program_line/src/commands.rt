@@ -48,8 +48,8 @@ pub enum Performed {
     Ended(u8),
     /// Nothing is done yet: the processes of a policy are to be served live.
     ToServe(LivePaths),
-    /// Nothing is done yet: the book is to be sealed of the run that the chain file at this path has
-    /// last.
+    /// Nothing is done yet: the book is to be sealed of the run that the chain file at this path
+    /// has last.
     ToSealChain(String),
 }
 

@@ -344,8 +344,8 @@ const WAYS: &[(u64, usize, Refusal)] = &[
     (2500, usize::MAX, Refusal::Other),
 ];
 
-// The most bytes that one read asks for, also of a book that goes through an audit while it is read,
-// and the least that are written before the last.
+// The most bytes that one read asks for, also of a book that goes through an audit while it is
+// read, and the least that are written before the last.
 const READ: usize = 1024;
 
 const AUDITED: usize = 4096;

@@ -146,8 +146,8 @@ where
     settle(outcome, &mut err)
 }
 
-// Does what the words behind the program's name ask for, and gives the status. Where memory runs out
-// for them nothing is done.
+// Does what the words behind the program's name ask for, and gives the status. Where memory runs
+// out for them nothing is done.
 fn answered<'a, R, F: Files, P: Ledger, S: Ledger, B: Ledger, O: Sink, E: Sink>(
     rt: &R,
     files: CountedFiles<'a, F, P, S, B>,

@@ -331,7 +331,8 @@ impl<'a> ShowDesk<ExpectingSink<'a>, Option<Length>> for Looking<'a> {
     }
 }
 
-// The book of `ALONE_BOOK`, before each of these replies: its first line, and then all but the last.
+// The book of `ALONE_BOOK`, before each of these replies: its first line, and then all but the
+// last.
 const ALONE_LOOKS: &str = "info 0\npost 0 bcast 0 int32 1 as alpha 5\nfoo\nwait 0\ntake 0\n";
 
 const ALONE_SEEN: &[usize] = &[7, 76, 76, 76];

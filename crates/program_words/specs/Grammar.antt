@@ -252,7 +252,8 @@ either_audit (Some chain) rows = chain_alone chain (first_of (codes "policy") ro
 abbrev pub audit_asked : List Row → Option Asked
 audit_asked rows = either_audit (first_of (codes "chain") rows) rows
 
--- Whether a chain is named, and no book that could go into it, or earlier books, which it has itself.
+-- Whether a chain is named, and no book that could go into it, or earlier books, which it has
+-- itself.
 abbrev pub is_astray : (chain : Option Text) → (after : List Text) → (book : Option Text) → Bool
 is_astray None after book = false
 is_astray (Some chain) [] (Some book) = false

@@ -95,7 +95,8 @@ fn audit_command<'a>(alloc: Global) -> Result<clap::Command<'a>, AllocError>
     command.arg(Arg::new(alloc, "chain").long("chain"))
 }
 
-// The command `serve POLICY DIR [--after BOOK].. [--chain CHAIN] [--book FILE] [--sync] [--calls N]`.
+// The command `serve POLICY DIR [--after BOOK].. [--chain CHAIN] [--book FILE] [--sync] [--calls
+// N]`.
 fn serve_command<'a>(alloc: Global) -> Result<clap::Command<'a>, AllocError>
     ensures app { IfOk result (λ c. app_of c ≡ serve_app) }
     ensures globals { IfOk result (λ c. (fields_of c).has_globals ≡ false) }

@@ -185,7 +185,8 @@ fn are_idle(book: Option<&str>, after: &[&str]) -> bool
     }
 }
 
-// Whether a chain is named, and no book that could go into it, or earlier books, which it has itself.
+// Whether a chain is named, and no book that could go into it, or earlier books, which it has
+// itself.
 fn is_astray(chain: Option<&str>, after: &[&str], book: Option<&str>) -> bool
     ensures { result ≡ is_astray (option_map (λ c. c.now) chain.entry) (texts_of after.now)
         (option_map (λ b. b.now) book.entry) }
@@ -254,8 +255,8 @@ fn book_audit_asked<'a>(matches: &ArgMatches<'a>, after: Vec<&'a str>) -> Option
     Some(Command::Audit(paths))
 }
 
-// An audit of the chain that its arguments name, which has the policies and the books itself; or of a
-// book.
+// An audit of the chain that its arguments name, which has the policies and the books itself; or of
+// a book.
 fn audit_asked<'a>(matches: &ArgMatches<'a>, after: Vec<&'a str>) -> Option<Command<'a>>
     requires { AreEarlier (rows_of (found_of matches.now)) after.items }
     ensures { option_map asked_by result ≡ audit_asked (rows_of (found_of matches.now)) }

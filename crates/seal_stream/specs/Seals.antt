@@ -38,8 +38,8 @@ pub record IsSealedTo {B W : Type 0} (wall : ChineseWall) (book : Used B) (seale
 abbrev pub lines_text : List Word → List ℕ
 lines_text lines = flat_map (λ line. line ++ (10 ∷ [])) lines
 
--- its line of this number, finished or not, has more bytes than a line may have, and each line before
--- it may stand where it does
+-- its line of this number, finished or not, has more bytes than a line may have, and each line
+-- before it may stand where it does
 pub record HasLongLine (wall : ChineseWall) (text : List ℕ) (number : ℕ) : Type 0 where
   pub lines : List Word
   pub line : Word
@@ -66,8 +66,8 @@ IsReasonIn wall text book NoMemory = Gave book text
 
 -- ## what was written then
 
--- So much was written of the finished lines of the text: of the first of them, with which some sound
--- book begins, and without an end. Nothing else was.
+-- So much was written of the finished lines of the text: of the first of them, with which some
+-- sound book begins, and without an end. Nothing else was.
 pub record HasKept (wall : ChineseWall) (text : List ℕ) (wrote : List ℕ → Type 0) : Type 0 where
   pub lines : List Word
   pub more : List Word
@@ -85,8 +85,8 @@ pub record HasKeptSeal {B : Type 0} (wall : ChineseWall) (text : List ℕ) (book
   pub keeps : KeepsEachRun wall text whole
   pub kept : wrote whole
 
--- a prefix of lines was written without a failure; or the writer failed behind a prefix of lines, or
--- of the seal
+-- a prefix of lines was written without a failure; or the writer failed behind a prefix of lines,
+-- or of the seal
 abbrev pub IsKept : {B W : Type 0}
     → ChineseWall → (text : List ℕ) → Used B → Used W → SealStop → Type 0
 IsKept wall text book sealed Write =

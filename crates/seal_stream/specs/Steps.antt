@@ -65,7 +65,8 @@ lines_at stages.Header entries = 0
 lines_at stages.Entry entries = entries + 1
 lines_at stages.Ended entries = entries + 2
 
--- All lines are kept but the end, which the seal puts behind them at last; then the entries are sound.
+-- All lines are kept but the end, which the seal puts behind them at last; then the entries are
+-- sound.
 abbrev pub AreKeptAt : ChineseWall → Stage → (lines kept : List Word) → List Entry → Type 0
 AreKeptAt wall stages.Header lines kept entries = kept ≡ lines
 AreKeptAt wall stages.Entry lines kept entries = kept ≡ lines
@@ -271,7 +272,8 @@ pub record HasStopped {D : Type 0} (wall : ChineseWall) (d : Used D) (writer : W
 abbrev pub IsSealWith : ChineseWall → (text whole : List ℕ) → ℕ → Type 0
 IsSealWith wall text whole number = (seal : IsSealOf wall text whole) × (number ≡ length seal.entries)
 
--- With what was put behind them the lines that are kept are the seal of any text that has the lines.
+-- With what was put behind them the lines that are kept are the seal of any text that has the
+-- lines.
 abbrev pub Completes : ChineseWall → (lines kept : List Word) → (old new : List ℕ) → (number : ℕ) →
     Type 0
 Completes wall lines kept old new number = (tail : List ℕ) × (new ≡ old ++ tail)

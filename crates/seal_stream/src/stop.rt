@@ -14,8 +14,9 @@ pub enum SealStop {
     /// all before it are in their form. It is told as soon as so much of it was read.
     #[error("line {0} is too long")]
     LongLine(u64),
-    /// Each finished line may stand where it does, and the entry of this number is the first that the
-    /// posts don't give; it has the number after the last where a verdict is missing before the end.
+    /// Each finished line may stand where it does, and the entry of this number is the first that
+    /// the posts don't give; it has the number after the last where a verdict is missing before the
+    /// end.
     #[error("entry {0} is not what the posts give")]
     BadEntry(u64),
     /// There are more than 2^62 entries, or the source did not come to its end within 2^64 reads.

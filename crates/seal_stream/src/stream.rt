@@ -84,11 +84,12 @@ fn finish<W: Sink>(policy: &Policy, writer: &mut Writer, sealed: &mut W) -> Resu
 /// behind the last LF is left out; the verdict that the last post settles is added where it is missing,
 /// and the `end` line. A whole book is its own seal.
 ///
-/// A line at fault is told as soon as it is read, and the source is read no further; an entry at fault
-/// only at the end, since a line at fault behind it is told before it. Nothing is written from the
-/// first of both on; what was written before are finished lines, or a prefix of them. Where the
-/// source fails, no finished line that it gave is at fault. Memory is taken for one line, for what is
-/// to be written next, and for what is open behind the entries so far. `sealed` is not flushed.
+/// A line at fault is told as soon as it is read, and the source is read no further; an entry at
+/// fault only at the end, since a line at fault behind it is told before it. Nothing is written
+/// from the first of both on; what was written before are finished lines, or a prefix of them.
+/// Where the source fails, no finished line that it gave is at fault. Memory is taken for one line,
+/// for what is to be written next, and for what is open behind the entries so far. `sealed` is not
+/// flushed.
 pub fn seal_source<B: Source, W: Sink>(
     alloc: Global,
     policy: &Policy,

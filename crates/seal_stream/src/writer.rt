@@ -151,8 +151,8 @@ pub(crate) fn take_in<W: Sink>(
     Ok(())
 }
 
-/// Sees that the line which is not finished is not long already: of a source that gives no line feed
-/// no more is read than a line may have.
+/// Sees that the line which is not finished is not long already: of a source that gives no line
+/// feed no more is read than a line may have.
 pub(crate) fn see_long(policy: &Policy, writer: &Writer) -> Result<(), SealStop>
     requires { (before now : Option (List ℕ)) × (lines kept : List Word) × (line : Word)
         × StandsBehind policy.now writer.now before now lines kept line }

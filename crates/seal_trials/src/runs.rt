@@ -146,8 +146,9 @@ fn ending(
     }
 }
 
-/// The run that comes next begins under the policy of its own file, and ends by its book: the chain is
-/// then the one that was written at once. A book that is cut ends nothing, and none is ended twice.
+/// The run that comes next begins under the policy of its own file, and ends by its book: the chain
+/// is then the one that was written at once. A book that is cut ends nothing, and none is ended
+/// twice.
 #[test]
 fn a_run_begins_and_ends(rt: HostRuntime) {
     let alloc = rt.alloc();
