@@ -1,9 +1,10 @@
 -- The end of the run of a chain that is under way.
-use Rattle.std.specs.Prelude.{◌≡◌, ℕ, List, [], ◌∷◌, ◌++◌, Some, None, Err}
+use Rattle.std.specs.Prelude.{◌≡◌, ◌≢◌, ℕ, List, [], ◌∷◌, ◌++◌, Some, None, Err}
 use Rattle.wall_policy.specs.Policy.{ChineseWall}
 use Rattle.run_model.specs.declared.entry.Entry.{Entry}
 use Rattle.run_model.specs.Books.{IsSound}
 use Rattle.hall_script.specs.Devices.{Used, NeverFailed, IsUntouched}
+use Rattle.book_stream.specs.declared.fault.AuditFault.TheVariants as audits
 use Rattle.book_stream.specs.Audits.{AuditsTo}
 use Rattle.chain_file.specs.declared.fault.EnterFault.TheVariants as enters
 use Rattle.chain_file.specs.declared.run.Begun.{Begun}
@@ -28,9 +29,10 @@ pub record HasEnded {B : Type 0} (wall : ChineseWall) (book : Used B) (old new :
   }
   pub text : text_of new ≡ text_of old ++ line
 
--- it has not, and this is why
+-- it has not, and this is why; want of memory is no fault of the book
 abbrev pub IsNotEnded : {B : Type 0} → ChineseWall → Used B → (old : Chain) → EndFault → Type 0
-IsNotEnded wall book old (BadBook fault) = AuditsTo wall book (Err fault)
+IsNotEnded wall book old (BadBook fault) =
+    AuditsTo wall book (Err fault) × (fault ≢ audits.NoMemory)
 IsNotEnded wall book old (Refused enters.OutOfOrder) =
     (old.under_way ≡ None) × IsUntouched book
 IsNotEnded wall book old (Refused enters.NoMemory) = NeverFailed book

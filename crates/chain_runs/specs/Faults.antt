@@ -10,6 +10,7 @@ use Rattle.run_model.specs.declared.entry.Entry.{Entry}
 use Rattle.run_model.specs.Books.{IsSound}
 use Rattle.hall_script.specs.Devices.{Used, IsRead, IsUnreadable, IsUntouched, NeverFailed}
 use Rattle.hall_script.specs.Scripts.{script_limit}
+use Rattle.book_stream.specs.declared.fault.AuditFault.TheVariants as audits
 use Rattle.book_stream.specs.Audits.{AuditsTo}
 use Rattle.chain_file.specs.declared.run.Begun.{Begun}
 use Rattle.chain_file.specs.declared.run.Run.{Run}
@@ -37,15 +38,22 @@ IsNoPolicy policy begun (BadPolicy fault) = (bytes : List ℕ)
     × IsFileOf policy begun.policy_digest bytes × (answer_to bytes ≡ Err fault)
 IsNoPolicy policy begun fault = IsNoFile policy begun.policy_digest fault
 
--- what the file says has not grown from the policy after the runs before, and this is not kept
+-- What the file says has not grown from the policy after the runs before, and this is not kept.
+-- (Want of memory is told as what it is.)
 abbrev pub HasNotGrown : (after : Option ChineseWall) → (file : ChineseWall) → GrowthFault → Type 0
 HasNotGrown None file fault = ⊥
-HasNotGrown (Some after) file fault = IsGrowthFault after file fault
+HasNotGrown (Some after) file fault =
+    IsGrowthFault after file fault × (fault ≢ growths.NoMemory)
+
+-- it has grown, and memory ran out
+abbrev pub LacksMemory : (after : Option ChineseWall) → (file : ChineseWall) → Type 0
+LacksMemory None file = ⊥
+LacksMemory (Some after) file = IsGrowthFault after file growths.NoMemory
 
 -- out of memory is answered only where it has grown
 abbrev pub IsNotUnder : (after : Option ChineseWall) → (file : ChineseWall) → RunFault → Type 0
 IsNotUnder after file (NotGrown fault) = HasNotGrown after file fault
-IsNotUnder after file NoMemory = HasNotGrown after file growths.NoMemory
+IsNotUnder after file NoMemory = LacksMemory after file
 IsNotUnder after file fault = ⊥
 
 -- There is no policy of a run that began: its file says none, or has not grown. Out of memory says
@@ -77,7 +85,8 @@ abbrev pub IsRunFault : {P B : Type 0} → (after : Option ChineseWall) → Run 
 IsRunFault after run policy book (NotGrown fault) = ((file : ChineseWall)
     × SaysPolicy policy run.begun file × HasNotGrown after file fault) × IsUntouched book
 IsRunFault after run policy book (BadBook fault) = (wall : ChineseWall)
-    × IsBegunUnder after run.begun policy wall × AuditsTo wall book (Err fault)
+    × IsBegunUnder after run.begun policy wall
+    × (AuditsTo wall book (Err fault) × (fault ≢ audits.NoMemory))
 IsRunFault after run policy book OtherBook = (wall : ChineseWall)
     × IsBegunUnder after run.begun policy wall × IsOther wall book run.book_digest
 IsRunFault after run policy book NoMemory = NeverFailed policy × NeverFailed book

@@ -26,7 +26,8 @@ pub enum EndFault {
 /// judged while it is read, in the memory of what is open and of one line.
 ///
 /// Where it does not end, the chain is as it was. The book is not looked at where no run is under
-/// way.
+/// way. That the policy is the one of the run's file, and the book that at its path, is the caller's
+/// to see to.
 pub fn end_run<B: Source>(
     alloc: Global,
     policy: &Policy,
@@ -44,6 +45,7 @@ pub fn end_run<B: Source>(
     }
     let passed = match pass_source(alloc, policy, book) {
         Ok(passed) => passed,
+        Err(AuditFault::NoMemory) => return Err(EndFault::Refused(EnterFault::NoMemory)),
         Err(fault) => return Err(EndFault::BadBook(fault)),
     };
     let digest = passed.digest;

@@ -41,7 +41,7 @@ named_there after file growths.NoMemory h = tt
 named_if_any : (after : Option ChineseWall) (file : ChineseWall) (fault : GrowthFault) →
     HasNotGrown after file fault → (wall : ChineseWall) × (after ≡ Some wall) × IsNamed wall fault
 named_if_any None file fault h = absurd h
-named_if_any (Some after) file fault h = (after, refl, named_there after file fault h)
+named_if_any (Some after) file fault h = (after, refl, named_there after file fault h.0)
 
 -- so of the policy of the next run, and of one that began
 pub next_named : {P : Type 0} (after : Option ChineseWall) (policy : Used P) (fault : RunFault) →
