@@ -176,6 +176,7 @@ live_files paths = record {
   book = option_map (λ b. string_bytes b) paths.book;
   sync = paths.sync;
   calls = paths.calls;
+  times = paths.times;
 }
 
 -- it was done with this status, or memory ran out before

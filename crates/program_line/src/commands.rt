@@ -39,6 +39,8 @@ pub struct LivePaths {
     pub sync: bool,
     /// How many calls a session may make; none is no bound.
     pub calls: Option<u64>,
+    /// Whether the lines of its events begin with their times.
+    pub times: bool,
 }
 
 /// What became of what the words ask for.
@@ -123,6 +125,7 @@ fn kept_paths(alloc: Global, paths: ServePaths) -> Result<LivePaths, AllocError>
         book,
         sync: paths.sync,
         calls: paths.calls,
+        times: paths.times,
     })
 }
 

@@ -196,6 +196,9 @@ fn told_to_serve(disk: &Disk, paths: &LivePaths) -> ExitCode {
     if paths.sync {
         let _ = disk.note("synced");
     }
+    if paths.times {
+        let _ = disk.note("timed");
+    }
     match paths.calls {
         Some(12) => {
             let _ = disk.note("12 calls");
@@ -390,11 +393,12 @@ fn most_calls(case: &Case, step: usize) -> u64 {
     most
 }
 
-// Whether no more is written than a command writes before it has read a file: a seal has written
+// Whether no more is written than a command writes before it has read this file: a seal has written
 // lines of the whole book once they are long enough, any other nothing.
-fn is_written_while_read(ended: &Ended, case: &Case) -> bool {
+fn is_written_while_read(name: Name, ended: &Ended, case: &Case) -> bool {
     let are_lines = ended.kept.len() >= WRITTEN && ended.kept.ends_with(b"\n");
-    ended.out.is_empty() && (ended.kept.is_empty() || (is_seal(case) && are_lines))
+    let is_sealed = is_seal(case) && name == Name::Book;
+    ended.out.is_empty() && (ended.kept.is_empty() || (is_sealed && are_lines))
 }
 
 // Whether a use ended as one does whose call at this file failed: the line and the status are of
@@ -408,7 +412,7 @@ fn is_broken_at(name: Name, ended: &Ended, case: &Case) -> bool {
         }
         Name::New => { ended.err.as_slice() == b"write fault\n".as_slice() && ended.out.is_empty() }
         _ => {
-            let is_written = is_written_while_read(ended, case);
+            let is_written = is_written_while_read(name, ended, case);
             ended.err.as_slice() == b"read fault\n".as_slice() && is_written
         }
     };

@@ -464,6 +464,10 @@ const SERVED_AT: &[(&[&[u8]], &str)] = &[
         "w\nd\nk\nsynced\n",
     ),
     (
+        &[b"consortium", b"serve", b"w", b"--times", b"d", b"--book=k"],
+        "w\nd\nk\ntimed\n",
+    ),
+    (
         &[
             b"consortium",
             b"serve",

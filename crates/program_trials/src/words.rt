@@ -83,6 +83,12 @@ const ASKED: &[(&[&str], &str)] = &[
         "serve w d b synced",
     ),
     (&["serve", "w", "d", "--book=--sync"], "serve w d --sync"),
+    (&["serve", "w", "d", "--times"], "serve w d none timed"),
+    (
+        &["serve", "--times", "w", "--sync", "d"],
+        "serve w d none synced timed",
+    ),
+    (&["serve", "w", "d", "--book=--times"], "serve w d --times"),
     (
         &["serve", "w", "d", "--chain", "c", "--book", "b"],
         "serve w d b on c",
@@ -198,8 +204,11 @@ const BAD: &[&[&str]] = &[
     &["serve", "--after", "w", "d"],
     &["serve", "w", "d", "--sync=true"],
     &["serve", "w", "d", "--sync", "--sync"],
+    &["serve", "w", "d", "--times", "--times"],
+    &["serve", "w", "d", "--times=yes"],
     &["serve", "w", "d", "-s"],
     &["replay", "w", "s", "--sync"],
+    &["replay", "w", "s", "--times"],
     &["run", "w", "s", "--sync"],
     &["seal"],
     &["seal", "w", "b"],
@@ -289,6 +298,9 @@ fn told(alloc: Global, words: &[&str]) -> Result<String, Fail> {
             }
             if paths.sync {
                 write!(text, " synced")?;
+            }
+            if paths.times {
+                write!(text, " timed")?;
             }
             paths.after
         }

@@ -60,13 +60,14 @@ audit_app =
     let with_after = with_rule with_book (repeated_rule (codes "after")) in
     with_rule with_after (optional_rule (codes "chain"))
 
--- serve POLICY DIR [--after BOOK].. [--chain CHAIN] [--book FILE] [--sync] [--calls N]
+-- serve POLICY DIR [--after BOOK].. [--chain CHAIN] [--book FILE] [--sync] [--calls N] [--times]
 abbrev pub serve_app : App
 serve_app =
     let with_book = keeping_app (codes "serve") (codes "pipes") in
     let with_chain = with_rule with_book (optional_rule (codes "chain")) in
     let with_sync = with_rule with_chain (flag_rule (codes "sync")) in
-    with_rule with_sync (optional_rule (codes "calls"))
+    let with_calls = with_rule with_sync (optional_rule (codes "calls")) in
+    with_rule with_calls (flag_rule (codes "times"))
 
 -- seal POLICY BOOK OUT [--after BOOK].., or seal --chain CHAIN
 abbrev pub seal_app : App
@@ -145,6 +146,8 @@ pub record ServeFiles : Type 0 where
   pub sync : Bool
   -- how many calls a session may make, if there is such a bound
   pub calls : Option ℕ
+  -- whether the lines of its events begin with their times
+  pub times : Bool
 
 -- the files of a seal, as text; the earlier books have the oldest first
 pub record SealFiles : Type 0 where
@@ -275,6 +278,7 @@ serve_in rows =
       book = first_of (codes "book") rows;
       sync = is_set (codes "sync") rows;
       calls = n;
+      times = is_set (codes "times") rows;
     })) (bound_said (first_of (codes "calls") rows))) (first_of (codes "pipes") rows))
     (first_of (codes "policy") rows)
 
@@ -378,6 +382,7 @@ serve_files r = record {
   book = option_map (λ b. b.now) r.book;
   sync = r.sync;
   calls = r.calls;
+  times = r.times;
 }
 
 abbrev pub seal_files : SealPaths → SealFiles

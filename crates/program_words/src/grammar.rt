@@ -95,8 +95,8 @@ fn audit_command<'a>(alloc: Global) -> Result<clap::Command<'a>, AllocError>
     command.arg(Arg::new(alloc, "chain").long("chain"))
 }
 
-// The command `serve POLICY DIR [--after BOOK].. [--chain CHAIN] [--book FILE] [--sync] [--calls
-// N]`.
+// The command `serve POLICY DIR [--after BOOK].. [--chain CHAIN] [--book FILE] [--sync] [--calls N]
+// [--times]`.
 fn serve_command<'a>(alloc: Global) -> Result<clap::Command<'a>, AllocError>
     ensures app { IfOk result (λ c. app_of c ≡ serve_app) }
     ensures globals { IfOk result (λ c. (fields_of c).has_globals ≡ false) }
@@ -110,7 +110,10 @@ fn serve_command<'a>(alloc: Global) -> Result<clap::Command<'a>, AllocError>
     let Ok(command) = command.arg(flag(alloc, "sync")) else {
         return Err(AllocError);
     };
-    command.arg(Arg::new(alloc, "calls").long("calls"))
+    let Ok(command) = command.arg(Arg::new(alloc, "calls").long("calls")) else {
+        return Err(AllocError);
+    };
+    command.arg(flag(alloc, "times"))
 }
 
 // The command `seal POLICY BOOK OUT [--after BOOK]..`, or `seal --chain CHAIN`.

@@ -8,8 +8,8 @@ pub const VERSION: &str = "consortium 2026-11-30\n";
 const PROGRAM: &str = "\
 usage: consortium COMMAND WORDS
 
-  serve POLICY DIR [--after BOOK].. [--book FILE] [--sync] [--calls N]
-  serve POLICY DIR --chain CHAIN --book FILE [--sync] [--calls N]
+  serve POLICY DIR [--after BOOK].. [--book FILE] [--sync] [--calls N] [--times]
+  serve POLICY DIR --chain CHAIN --book FILE [--sync] [--calls N] [--times]
       answers each process of a policy live, at its two named pipes in DIR
   replay POLICY SCRIPT [--after BOOK].. [--book FILE]
       makes the calls of a script in its order, and writes the replies
@@ -96,6 +96,7 @@ status  0  the book is sound                                 sound N, on standar
         2  the file is no book                               book: line N, book: cut
         2  the file is no chain                              chain: line N: .., chain: cut
         2  a run of the chain does not stand                 chain: run N: ..
+        2  its last run has not ended                        chain: run N has not ended
         3  a file could not be read, or is too long          read fault
         3  the line could not be written                     write fault
         4  memory was refused                                out of memory
@@ -103,8 +104,8 @@ status  0  the book is sound                                 sound N, on standar
 ";
 
 const SERVE: &str = "\
-usage: consortium serve POLICY DIR [--after BOOK].. [--book FILE] [--sync] [--calls N]
-       consortium serve POLICY DIR --chain CHAIN --book FILE [--sync] [--calls N]
+usage: consortium serve POLICY DIR [--after BOOK].. [--book FILE] [--sync] [--calls N] [--times]
+       consortium serve POLICY DIR --chain CHAIN --book FILE [--sync] [--calls N] [--times]
 
 Answers each process of POLICY live, at the two named pipes NAME.calls and NAME.replies in DIR,
 until all have left. With --book the audit book is written to FILE, a new file, while it runs; with
@@ -112,7 +113,7 @@ until all have left. With --book the audit book is written to FILE, a new file, 
 number of times, the oldest first, it goes on after the books of earlier runs; with --chain it is
 the next run of the chain file CHAIN, which gets a line when it begins and one when it has ended.
 With --calls a session that has made N calls, from 1 to 2^62, is answered `exhausted` at the next,
-and ends.
+and ends. With --times the line of each event begins with its time, in UTC.
 
 status  0  all have left, and the book was written if it was asked for
         1  the policy is refused                             policy: NAME
@@ -122,6 +123,7 @@ status  0  all have left, and the book was written if it was asked for
         3  a pipe is missing, or open to others              no pipe: NAME, open to others: NAME
         3  a process's pipes could not be opened             not opened: NAME
         3  another server is at DIR or CHAIN                 in use: DIR, in use: CHAIN
+        3  the pipes have served a run already               pipes used: DIR
         3  there is a file at FILE already                   book exists: FILE
         3  a file could not be read, or is too long          read fault
         3  the events or the book could not be written       write fault
@@ -149,6 +151,7 @@ status  0  the whole book stands in OUT                      sealed N, on standa
         2  CHAIN is no chain, or a run of it does not stand  chain: ..
         3  a file could not be read, or is too long          read fault
         3  OUT is there already, or could not be written     write fault
+        3  a server or another seal is at CHAIN              in use: CHAIN
         4  memory was refused                                out of memory
         5  the words are bad                                 bad arguments
 ";

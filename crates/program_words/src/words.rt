@@ -65,6 +65,8 @@ pub struct ServePaths<'a> {
     pub sync: bool,
     /// How many calls a session may make, from 1 to 2^62; none is no bound.
     pub calls: Option<u64>,
+    /// Whether the lines of its events begin with their times.
+    pub times: bool,
 }
 
 /// The files of a seal.
@@ -291,6 +293,7 @@ fn serve_asked<'a>(matches: &ArgMatches<'a>, after: Vec<&'a str>) -> Option<Comm
     }
     let sync = is_set(matches, "sync");
     let calls = bound_said(value_of(matches, "calls"))?;
+    let times = is_set(matches, "times");
     let paths = ServePaths {
         policy,
         after,
@@ -299,6 +302,7 @@ fn serve_asked<'a>(matches: &ArgMatches<'a>, after: Vec<&'a str>) -> Option<Comm
         book: file,
         sync,
         calls,
+        times,
     };
     Some(Command::Serve(paths))
 }
@@ -452,7 +456,7 @@ fn matches_of<'a>(alloc: Global, words: &'a [&'a str]) -> Result<ArgMatches<'a>,
 
 /// What the words after the program's name ask for: `replay POLICY SCRIPT [--book FILE]`, `run
 /// POLICY SCRIPT [--book FILE]`, `audit POLICY BOOK`, `serve POLICY DIR [--book FILE] [--sync]
-/// [--calls N]`, `seal POLICY BOOK OUT` or `report POLICY BOOK [--html FILE]`, each with `--after
+/// [--calls N] [--times]`, `seal POLICY BOOK OUT` or `report POLICY BOOK [--html FILE]`, each with `--after
 /// BOOK` any number of times, or `serve` with `--chain CHAIN` in place of them; `audit --chain CHAIN` or
 /// `seal --chain CHAIN`; `check POLICY [SCRIPT] [--book BOOK]`, with `--after BOOK` where it has a book;
 /// `usage [COMMAND]` or `version`. They are bad arguments exactly where `clap` refuses them for
