@@ -5,9 +5,10 @@
 //! contract can say. `tests/live` looks at all but the last, with the built program.
 ghost use Rattle.program_line.specs.Kinds.{Opens};
 
+use crate::loss::{Lost, TellsLoss};
 use live_book::{BookSink, Receipt};
 use program_commands::{Ending, Unready, end, refuse};
-use program_files::{Count, FileSink, only_new};
+use program_files::{Count, only_new, write_again};
 use std::fs;
 use std::fs::File;
 use std::io::ErrorKind;
@@ -20,67 +21,65 @@ const OWNER_ALONE: u32 = 0o600;
 
 /// A file that was made for a book.
 #[derive(Drop)]
-pub(crate) struct NewBook<'a> {
-    pub(crate) files: &'a HostRuntime,
-    pub(crate) path: &'a str,
-    pub(crate) file: File,
-    /// Whether it is to be synced behind each post that settles an instance.
-    pub(crate) is_synced: bool,
+pub(crate) struct NewBook {
+    file: File,
+    // Whether it is to be synced behind each post that settles an instance.
+    is_synced: bool,
 }
 
-/// A file that was made for a book, with a new ledger for its failures.
-pub(crate) struct CountedBook<'a> {
-    pub(crate) book: NewBook<'a>,
+/// A file that was made for a book, with a new ledger for its failures, and who is told of one.
+pub(crate) struct CountedBook<T> {
+    pub(crate) book: NewBook,
     pub(crate) blank: Blank,
+    pub(crate) told: T,
 }
 
 /// The book's file, while a server writes to it.
 #[derive(Drop)]
-pub(crate) struct BookFile<'a, L: Ledger> {
-    sink: FileSink<'a, HostRuntime, L>,
+pub(crate) struct BookFile<L: Ledger, T: TellsLoss + Drop> {
+    file: File,
+    failures: Count<L>,
     is_synced: bool,
+    told: T,
 }
 
-impl<'a, L: Ledger> BookFile<'a, L> {
+impl<L: Ledger, T: TellsLoss + Drop> BookFile<L, T> {
     /// To be written to this file.
-    pub(crate) fn new(counted: CountedBook<'a>) -> BookFile<'a, L>
+    pub(crate) fn new(counted: CountedBook<T>) -> BookFile<L, T>
         requires { Opens counted.blank L.name L.parts }
     {
-        let CountedBook { book, blank } = counted;
-        let NewBook {
-            files,
-            path,
+        let CountedBook { book, blank, told } = counted;
+        let NewBook { file, is_synced } = book;
+        BookFile {
             file,
-            is_synced,
-        } = book;
-        let sink = FileSink {
-            rt: files,
-            path,
-            file: Some(file),
             failures: Count::<L>::new(blank),
-        };
-        BookFile { sink, is_synced }
+            is_synced,
+            told,
+        }
     }
 
     /// Whether all that was written is on the disk, as far as the system says, or need not be.
     pub(crate) fn is_kept(&self) -> bool {
-        !self.is_synced || self.is_on_disk()
-    }
-
-    // Whether what was written is on the disk, as far as the system says.
-    fn is_on_disk(&self) -> bool {
-        match &self.sink.file {
-            Some(file) => file.sync_data().is_ok(),
-            None => true,
-        }
+        !self.is_synced || self.file.sync_data().is_ok()
     }
 }
 
-impl<'a, L: Ledger> Sink for BookFile<'a, L> {
-    ghost failures = { λ s. s.sink.failures };
+impl<L: Ledger, T: TellsLoss + Drop> Sink for BookFile<L, T> {
+    ghost failures = { λ s. s.failures };
 
+    // (The file is there already. What the system says of it goes to the operator at once.)
     fn write(&mut self, bytes: &[u8]) -> Result<usize, Failed> {
-        self.sink.write(bytes)
+        if bytes.is_empty() {
+            return Ok(0);
+        }
+        let lost = match write_again(&mut self.file, bytes) {
+            Ok(0) => Lost::Untaken,
+            Ok(n) => return Ok(n),
+            Err(error) => Lost::by(&error),
+        };
+        self.failures.rise();
+        self.told.tell(lost);
+        Err(Failed)
     }
 }
 
@@ -93,14 +92,19 @@ pub(crate) struct FileReceipt {
 
 impl Receipt for FileReceipt {}
 
-impl<'a, L: Ledger> BookSink for BookFile<'a, L> {
+impl<L: Ledger, T: TellsLoss + Drop> BookSink for BookFile<L, T> {
     type Receipt = FileReceipt;
 
     fn settled(&mut self) -> Result<(), Failed> {
-        if !self.is_synced || self.is_on_disk() {
+        if !self.is_synced {
             return Ok(());
         }
-        self.sink.failures.rise();
+        let lost = match self.file.sync_data() {
+            Ok(()) => return Ok(()),
+            Err(error) => Lost::by(&error),
+        };
+        self.failures.rise();
+        self.told.tell(lost);
         Err(Failed)
     }
 
@@ -112,13 +116,6 @@ impl<'a, L: Ledger> BookSink for BookFile<'a, L> {
 /// Takes away the file of a book by which nothing was served.
 pub(crate) fn take_away(files: &HostRuntime, path: &str) {
     let _ = fs::remove_file(files, path);
-}
-
-/// Makes an empty file at this path, for the user of the program alone, where there is none.
-pub(crate) fn make_if_missing(files: &HostRuntime, path: &str) {
-    let mut how = only_new();
-    how.mode(OWNER_ALONE);
-    let _ = how.open(files, path);
 }
 
 // The folder of a file.
@@ -138,30 +135,43 @@ pub(crate) fn is_named_on_disk(files: &HostRuntime, path: &str) -> bool {
     }
 }
 
+/// Whether what a file has is on the disk, as far as the system says.
+pub(crate) fn is_on_disk(files: &HostRuntime, path: &str) -> bool {
+    match File::open(files, path) {
+        Ok(file) => file.sync_all().is_ok(),
+        Err(_) => false,
+    }
+}
+
+/// What of a book's file is to be on the disk, and when.
+#[derive(Clone, Copy)]
+pub(crate) struct Lasting {
+    /// Its name, before anything is written to it.
+    pub(crate) name: bool,
+    /// What was written to it, behind each post that settles an instance.
+    pub(crate) posts: bool,
+}
+
 // Whether the file is locked now, and where that is asked for its name on the disk.
-fn is_ready(files: &HostRuntime, path: &str, file: &File, is_synced: bool) -> bool {
-    file.try_lock().is_ok() && (!is_synced || is_named_on_disk(files, path))
+fn is_ready(files: &HostRuntime, path: &str, file: &File, lasting: Lasting) -> bool {
+    file.try_lock().is_ok() && (!lasting.name || is_named_on_disk(files, path))
 }
 
 /// Makes a file that is not there, for the user of the program alone, and locks it; or the status,
 /// behind the line of the fault.
-pub(crate) fn new_book<'a, E: Sink>(
-    files: &'a HostRuntime,
-    path: &'a str,
-    is_synced: bool,
+pub(crate) fn new_book<E: Sink>(
+    files: &HostRuntime,
+    path: &str,
+    lasting: Lasting,
     err: &mut E,
-) -> Result<NewBook<'a>, u8> {
+) -> Result<NewBook, u8> {
     let mut how = only_new();
     how.mode(OWNER_ALONE);
     match how.open(files, path) {
         Ok(file) => {
-            if is_ready(files, path, &file, is_synced) {
-                return Ok(NewBook {
-                    files,
-                    path,
-                    file,
-                    is_synced,
-                });
+            if is_ready(files, path, &file, lasting) {
+                let is_synced = lasting.posts;
+                return Ok(NewBook { file, is_synced });
             }
             take_away(files, path);
             Err(end(err, Ending::WriteFault))

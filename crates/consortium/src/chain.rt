@@ -1,11 +1,14 @@
 //! The file of a chain: one server, or one seal, holds it at a time, reads it by the file that it
-//! opened, and appends lines to it, each of which is on the disk before anything else is done.
+//! opened, and appends lines to it, each of which is on the disk before anything else is done. A run
+//! is entered as ended when its book is on the disk.
 //!
-//! That it is locked, that a line is on the disk, and that what could not be written whole is taken
-//! back, no contract can say. `tests/live` tries all but the disk.
+//! That it is locked, that a line or a book is on the disk, and that what could not be written whole
+//! is taken back, no contract can say. `tests/live` tries the first and the last.
 
-use chain_file::{ChainFile, Path};
-use chain_runs::end_run;
+use crate::book_file::{is_named_on_disk, is_on_disk};
+use book_stream::AuditFault;
+use chain_file::{ChainFile, EnterFault, Path};
+use chain_runs::{EndFault, end_run};
 use memchr::memrchr;
 use program_commands::{Ending, Unready, end, refuse};
 use program_files::{ListedFile, read_again, write_again};
@@ -159,37 +162,96 @@ fn path_of(alloc: Global, text: &str) -> Result<Option<Path>, AllocError> {
     Ok(Path::new(bytes))
 }
 
+// Why a line is not entered. (No run begins where one is under way, or ends where none is: both were
+// looked at.)
+fn not_entered(fault: EnterFault) -> Unentered {
+    match fault {
+        EnterFault::NoMemory => Unentered::For(Ending::NoMemory),
+        EnterFault::OutOfOrder => Unentered::For(Ending::WriteFault),
+    }
+}
+
+/// Why a line does not stand in the file of a chain: then the file is as it was, unless what was
+/// written of the line could not be taken back either.
+#[derive(Clone, Copy)]
+pub(crate) enum Unentered {
+    /// The program ends so for it.
+    For(Ending<'static>),
+    /// The book of the run is not whole: a seal ends the run.
+    NotWhole,
+}
+
+// Why a run does not end by its book.
+fn not_ended(fault: EndFault) -> Unentered {
+    match fault {
+        EndFault::BadBook(fault) => match fault {
+            AuditFault::Read => Unentered::For(Ending::ReadFault),
+            AuditFault::TooMany => Unentered::For(Ending::Exhausted),
+            _ => Unentered::NotWhole,
+        },
+        EndFault::Refused(fault) => not_entered(fault),
+    }
+}
+
 impl<'a> HeldChain<'a> {
-    /// Enters the run that begins, under the policy file of this digest. False where that failed:
-    /// then the file is as it was.
+    // Appends a line.
+    fn enter(&mut self, line: &[u8]) -> Result<(), Unentered> {
+        if self.held.append(line) {
+            Ok(())
+        } else {
+            Err(Unentered::For(Ending::WriteFault))
+        }
+    }
+
+    /// Enters the run that begins, under the policy file of this digest.
     pub(crate) fn begin(
         &mut self,
         alloc: Global,
         policy: &str,
         digest: [u8; 32],
         book: &str,
-    ) -> bool {
-        let Ok(Some(policy)) = path_of(alloc, policy) else {
-            return false;
+    ) -> Result<(), Unentered> {
+        let Ok(policy) = path_of(alloc, policy) else {
+            return Err(Unentered::For(Ending::NoMemory));
         };
-        let Ok(Some(book)) = path_of(alloc, book) else {
+        let Ok(book) = path_of(alloc, book) else {
             drop(policy);
-            return false;
+            return Err(Unentered::For(Ending::NoMemory));
+        };
+        // (A file at the empty path was neither read nor made.)
+        let (Some(policy), Some(book)) = (policy, book) else {
+            return Err(Unentered::For(Ending::WriteFault));
         };
         match self.chain.begin_run(alloc, policy, digest, book) {
-            Ok(line) => self.held.append(&line),
-            Err(_) => false,
+            Ok(line) => self.enter(&line),
+            Err(fault) => Err(not_entered(fault)),
         }
     }
 
-    /// Enters that the run has ended, whose book is at this path: it is read once more, and is
-    /// sound under the policy. False where it is not whole, or that failed: then the file is as it
-    /// was, and the run has not ended.
-    pub(crate) fn end(&mut self, alloc: Global, policy: &Policy, book: &str) -> bool {
-        let mut book = file_at(self.held.files, book);
-        match end_run(alloc, policy, &mut book, &mut self.chain) {
-            Ok(line) => self.held.append(&line),
-            Err(_) => false,
+    /// Enters that the run has ended, whose book is at this path: it is on the disk, as far as the
+    /// system says, is read once more, and is sound under the policy. Else the run has not ended.
+    pub(crate) fn end(
+        &mut self,
+        alloc: Global,
+        policy: &Policy,
+        book: &str,
+    ) -> Result<(), Unentered> {
+        let files = self.held.files;
+        if !is_on_disk(files, book) || !is_named_on_disk(files, book) {
+            return Err(Unentered::For(Ending::WriteFault));
         }
+        let mut book = file_at(files, book);
+        match end_run(alloc, policy, &mut book, &mut self.chain) {
+            Ok(line) => self.enter(&line),
+            Err(fault) => Err(not_ended(fault)),
+        }
+    }
+
+    /// Whether a run that has ended has its book at this path.
+    pub(crate) fn has_book(&self, path: &str) -> bool {
+        self.chain
+            .ended()
+            .iter()
+            .any(|run| run.begun.book.bytes() == path.as_bytes())
     }
 }

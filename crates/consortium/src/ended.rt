@@ -1,7 +1,9 @@
 //! What serving came to, and the status that the server ends with: the lowest that applies.
 
 use crate::book_file::BookFile;
+use crate::chain::Unentered;
 use crate::events::Events;
+use crate::loss::TellsLoss;
 use live_session::{Session, SessionEnd};
 use program_commands::{Ending, ServeEnd, end};
 use std::sync::Wait;
@@ -64,7 +66,9 @@ fn count_all<S: Drop, O: Drop>(sessions: Vec<Session<S, O>>, ended: &mut Ended) 
 
 /// Lets the devices of the sessions and the file of the book go, which is synced first where that
 /// is asked for.
-pub(crate) fn let_go<S: Drop, O: Drop, L: Ledger>(served: ServeEnd<S, O, BookFile<L>>) -> Ended {
+pub(crate) fn let_go<S: Drop, O: Drop, L: Ledger, T: TellsLoss + Drop>(
+    served: ServeEnd<S, O, BookFile<L, T>>,
+) -> Ended {
     let ServeEnd {
         status,
         sessions,
@@ -88,11 +92,28 @@ fn tell_shut_out<E: Sink>(err: &mut E, name: &str) -> u8 {
     FAULT_OF_FILES
 }
 
+// What a chain without the run's end makes of how all ends. A book that is not whole is told for
+// what it is not whole for; where that is nothing, it is another than was written.
+fn ending_of(ended: Ended, entered: Result<(), Unentered>) -> Option<Ending<'static>> {
+    match entered {
+        Ok(()) => None,
+        Err(Unentered::For(ending)) => Some(ending),
+        Err(Unentered::NotWhole) => {
+            if ended.status == 0 {
+                Some(Ending::WriteFault)
+            } else {
+                None
+            }
+        }
+    }
+}
+
 /// The status with which all ends, where all sessions have ended, behind the line of what it is
 /// for.
 pub(crate) fn status_of<R: Wait, E: Sink>(
     rt: &R,
     ended: Ended,
+    entered: Result<(), Unentered>,
     events: &Events,
     is_told: bool,
     err: &mut E,
@@ -102,6 +123,12 @@ pub(crate) fn status_of<R: Wait, E: Sink>(
     }
     if !is_told || ended.is_unsynced {
         return end(err, Ending::WriteFault);
+    }
+    let unended = ending_of(ended, entered);
+    match unended {
+        Some(Ending::WriteFault) => return end(err, Ending::WriteFault),
+        Some(Ending::ReadFault) => return end(err, Ending::ReadFault),
+        _ => {}
     }
     if let Some(name) = events.shut_out(rt) {
         return tell_shut_out(err, name);
@@ -115,7 +142,10 @@ pub(crate) fn status_of<R: Wait, E: Sink>(
     if ended.is_exhausted {
         return end(err, Ending::Exhausted);
     }
-    end(err, Ending::Done)
+    match unended {
+        Some(ending) => end(err, ending),
+        None => end(err, Ending::Done),
+    }
 }
 
 impl Ended {

@@ -1,16 +1,19 @@
 //! What the operator of a server sees: a line on standard output at each event, never a figure.
 //!
-//! The events are put into a list by whoever meets them, and written by a thread of their own: so
-//! a standard output that nobody reads holds up no session. That the lines come whole, in their
-//! order and at once is tested, with the built program.
+//! The events are put into a list by whoever meets them, with their times where these are asked for,
+//! and written by a thread of their own: so a standard output that nobody reads holds up no session.
+//! That the lines come whole, in their order and at once is tested, with the built program.
 
+use crate::loss::{Lost, TellsLoss};
 use crate::pipes::Shut;
+use jiff::Timestamp;
 use live_session::SessionEnd;
 use std::alloc::{AllocError, Global};
 use std::io::Write;
 use std::sync::{Condvar, Mutex, Wait};
+use std::time::SystemTime;
 
-/// The most bytes of an event's line: a process has a name of 32 bytes at most, and a count 20
+/// The most bytes of an event's line: a time has 20, a process a name of 32 at most, and a count 20
 /// digits.
 const LINE_ROOM: usize = 192;
 
@@ -49,14 +52,29 @@ pub(crate) enum Event<'a> {
     Came(&'a str),
     /// The session of a process has ended, after so many calls, and why.
     Left(&'a str, u64, Why),
+    /// The book is not gone on with, and why.
+    Unbooked(Lost),
     /// All have ended, after so many calls of all.
     Served(u64),
+}
+
+// An event, and when it was; no time where none is wanted.
+#[derive(Clone, Copy)]
+struct Entry<'a> {
+    event: Event<'a>,
+    time: Option<Time>,
+}
+
+// When an event was, by the system's clock; none where it told no time.
+#[derive(Clone, Copy)]
+struct Time {
+    now: Option<SystemTime>,
 }
 
 // The events so far.
 #[derive(Drop)]
 struct Log<'a> {
-    events: Vec<Event<'a>>,
+    events: Vec<Entry<'a>>,
     // How many of them were written.
     written: usize,
     calls: u64,
@@ -73,17 +91,45 @@ struct Log<'a> {
 pub(crate) struct Events<'a> {
     log: Mutex<Log<'a>>,
     bell: Condvar,
+    // Where the time is asked for, if the lines begin with it.
+    clock: Option<&'a HostRuntime>,
+}
+
+// The second of a time that the calendar has, which runs to the year 9999.
+fn second_of(time: Time) -> Option<Timestamp> {
+    let since = time.now?.duration_since(SystemTime::UNIX_EPOCH).ok()?;
+    let second = i64::try_from(since.as_secs()).ok()?;
+    Timestamp::from_second(second).ok()
+}
+
+// Puts a time before the line of its event, by RFC 3339 and in UTC; `-` where the clock told none.
+fn put_time(line: &mut String, time: Option<Time>) -> Result<(), AllocError> {
+    let Some(time) = time else {
+        return Ok(());
+    };
+    match second_of(time) {
+        Some(second) => write!(line, "{second} "),
+        None => line.push_str("- "),
+    }
 }
 
 // Puts the line of an event.
-fn put_line(line: &mut String, event: Event) -> Result<(), AllocError> {
-    match event {
+fn put_line(line: &mut String, entry: Entry) -> Result<(), AllocError> {
+    put_time(line, entry.time)?;
+    match entry.event {
         Event::Serving(processes) => write!(line, "serving {processes} processes\n"),
         Event::Came(name) => write!(line, "{name} came\n"),
         Event::Left(name, calls, why) => {
             let text = why.text();
             write!(line, "{name} left after {calls} calls: {text}\n")
         }
+        Event::Unbooked(lost) => match lost {
+            Lost::Unnamed(number) => write!(line, "unbooked: error {number} of the system\n"),
+            named => {
+                let text = named.text();
+                write!(line, "unbooked: {text}\n")
+            }
+        },
         Event::Served(calls) => write!(line, "served {calls} calls\n"),
     }
 }
@@ -103,9 +149,9 @@ impl<W: Write + Drop> EventLines<W> {
     }
 
     // Writes the line of an event at once, by one write where that takes it. False where it failed.
-    fn write(&mut self, event: Event) -> bool {
+    fn write(&mut self, entry: Entry) -> bool {
         self.line.clear();
-        if put_line(&mut self.line, event).is_err() {
+        if put_line(&mut self.line, entry).is_err() {
             return false;
         }
         self.out.write_all(self.line.as_bytes()).is_ok() && self.out.flush().is_ok()
@@ -113,30 +159,35 @@ impl<W: Write + Drop> EventLines<W> {
 }
 
 impl<'a> Log<'a> {
-    fn add(&mut self, event: Event<'a>) {
-        if let Event::Left(name, calls, why) = event {
+    fn add(&mut self, entry: Entry<'a>) {
+        if let Event::Left(name, calls, why) = entry.event {
             self.calls = self.calls.saturating_add(calls);
             if let (Why::Shut(_), None) = (why, self.shut_out) {
                 self.shut_out = Some(name);
             }
         }
-        if self.events.push(event).is_err() {
+        if self.events.push(entry).is_err() {
             self.is_lost = true;
         }
     }
 
     // The next event that is to be written; none where there is none any more.
-    fn next(&mut self) -> Option<Event<'a>> {
-        let event = self.events.get(self.written).copied()?;
+    fn next(&mut self) -> Option<Entry<'a>> {
+        let entry = self.events.get(self.written).copied()?;
         self.written = self.written.saturating_add(1);
-        Some(event)
+        Some(entry)
     }
 }
 
 impl<'a> Events<'a> {
-    /// None yet, with room for all of a server of so many processes.
-    pub(crate) fn new(alloc: Global, processes: usize) -> Result<Events<'a>, AllocError> {
-        let room = processes.saturating_mul(2).saturating_add(2);
+    /// None yet, with room for all of a server of so many processes. They have times where a clock
+    /// is given.
+    pub(crate) fn new(
+        alloc: Global,
+        processes: usize,
+        clock: Option<&'a HostRuntime>,
+    ) -> Result<Events<'a>, AllocError> {
+        let room = processes.saturating_mul(2).saturating_add(3);
         let events = Vec::with_capacity(alloc, room)?;
         let log = Log {
             events,
@@ -149,24 +200,38 @@ impl<'a> Events<'a> {
         Ok(Events {
             log: Mutex::new(log),
             bell: Condvar::new(),
+            clock,
         })
+    }
+
+    // The time, where it is wanted.
+    fn time(&self) -> Option<Time> {
+        match self.clock {
+            Some(clock) => {
+                let now = SystemTime::now(clock).ok();
+                Some(Time { now })
+            }
+            None => None,
+        }
     }
 
     /// An event, which is told as soon as those before it are. Nobody waits for that.
     pub(crate) fn tell<R: Wait>(&self, rt: &R, event: Event<'a>) {
+        let time = self.time();
         let mut guard = self.log.lock(rt);
-        (*guard).add(event);
+        (*guard).add(Entry { event, time });
         drop(guard);
         self.bell.notify_one();
     }
 
     /// No event comes any more, but, where all have ended, that.
     pub(crate) fn end<R: Wait>(&self, rt: &R, have_ended: bool) {
+        let time = self.time();
         let mut guard = self.log.lock(rt);
         let log = &mut *guard;
         if have_ended {
-            let calls = log.calls;
-            log.add(Event::Served(calls));
+            let event = Event::Served(log.calls);
+            log.add(Entry { event, time });
         }
         log.is_over = true;
         drop(guard);
@@ -179,7 +244,7 @@ impl<'a> Events<'a> {
     }
 
     // Waits for an event; none where none comes any more.
-    fn next<R: Wait>(&self, rt: &R) -> Option<Event<'a>> {
+    fn next<R: Wait>(&self, rt: &R) -> Option<Entry<'a>> {
         let guard = self.log.lock(rt);
         let mut guard = self.bell.wait_while(rt, guard, |log| {
             log.written >= log.events.len() && !log.is_over
@@ -196,8 +261,8 @@ impl<'a> Events<'a> {
         let mut is_well = true;
         for _ in rt.forever() {
             match self.next(rt) {
-                Some(event) => {
-                    if !lines.write(event) {
+                Some(entry) => {
+                    if !lines.write(entry) {
                         is_well = false;
                     }
                 }
@@ -205,5 +270,18 @@ impl<'a> Events<'a> {
             }
         }
         is_well && !self.log.lock(rt).is_lost
+    }
+}
+
+/// Where the loss of a book is told.
+#[derive(Drop)]
+pub(crate) struct BookEvents<'e, 'n, R> {
+    pub(crate) rt: &'e R,
+    pub(crate) events: &'e Events<'n>,
+}
+
+impl<'e, 'n, R: Wait> TellsLoss for BookEvents<'e, 'n, R> {
+    fn tell(&self, lost: Lost) {
+        self.events.tell(self.rt, Event::Unbooked(lost));
     }
 }

@@ -20,6 +20,7 @@ mod desk;
 mod ended;
 mod events;
 mod folder;
+mod loss;
 mod pipes;
 mod sealing;
 mod server;

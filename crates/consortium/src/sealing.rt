@@ -2,24 +2,25 @@
 //! that the run has ended.
 //!
 //! The whole book is written beside the cut one, and takes its place when it is on the disk; only
-//! then does the chain get its line. So a seal that was stopped at any point is made again from the
-//! start. What each step comes to say the contracts of `last_policy`, `seal_with` and `end_run`;
-//! that they go over these files in this order no contract can say. `tests/live` stops it at each
-//! step.
+//! then does the chain get its line, and only then is anything told. So a seal that was stopped at
+//! any point is made again from the start. A book that is missing is never made: a server makes its
+//! book before its run begins, and what it told would be forgotten. What each step comes to say the
+//! contracts of `last_policy`, `seal_with` and `end_run`; that they go over these files in this
+//! order no contract can say. `tests/live` stops it at each step.
 ghost use Rattle.program_line.specs.Kinds.{Opens};
 
-use crate::book_file::{
-    BookFile, CountedBook, is_named_on_disk, make_if_missing, new_book, take_away,
-};
-use crate::chain::{HeldChain, HeldFile, file_at};
+use crate::book_file::{BookFile, CountedBook, Lasting, is_named_on_disk, new_book, take_away};
+use crate::chain::{HeldChain, HeldFile, Unentered, file_at};
+use crate::loss::Silent;
 use crate::server::System;
-use program_commands::{Ending, Streams, end, read_chain_file, seal_with, tell_no_chain};
+use chain_file::{ChainFault, ChainFile};
+use program_commands::{Ending, NoChain, Streams, end, read_chain_file, seal_with, tell_no_chain};
 use program_files::{Count, StreamSink};
 use program_line::last_policy;
 use std::alloc::{AllocError, Global};
 use std::fs;
 use std::sync::ledger::{Blank, Ledger};
-use wall_labels::Sink;
+use wall_labels::{Failed, Sink, write_all};
 use wall_policy::Policy;
 
 /// A new ledger for the failures of each device of a seal.
@@ -59,13 +60,7 @@ pub(crate) fn seal_chain<O: Ledger, E: Ledger, B: Ledger>(
         Ok(held) => held,
         Err(status) => return status,
     };
-    if !held.cut_off() {
-        return end(&mut err, Ending::WriteFault);
-    }
-    let mut reader = held.reader();
-    let read = read_chain_file(alloc, &mut reader);
-    drop(reader);
-    let chain = match read {
+    let chain = match chain_of(alloc, &mut held) {
         Ok(chain) => chain,
         Err(none) => return tell_no_chain(&mut err, none),
     };
@@ -86,6 +81,50 @@ pub(crate) fn seal_chain<O: Ledger, E: Ledger, B: Ledger>(
     drop(sealing);
     drop(policy);
     status
+}
+
+// Reads the chain of a file, as it is.
+fn read_held(alloc: Global, held: &mut HeldFile) -> Result<ChainFile, NoChain> {
+    let mut reader = held.reader();
+    let read = read_chain_file(alloc, &mut reader);
+    drop(reader);
+    read
+}
+
+// Reads the chain of a file. A line that is not finished, behind lines that are all in order, is cut
+// off first.
+fn chain_of(alloc: Global, held: &mut HeldFile) -> Result<ChainFile, NoChain> {
+    match read_held(alloc, held) {
+        Err(NoChain::BadFile(ChainFault::Cut)) => {
+            if held.cut_off() {
+                read_held(alloc, held)
+            } else {
+                Err(NoChain::BadFile(ChainFault::Cut))
+            }
+        }
+        read => read,
+    }
+}
+
+// The line of a seal, until all is done.
+#[derive(Drop)]
+struct Kept {
+    line: Vec<u8>,
+    failures: u64,
+}
+
+impl Sink for Kept {
+    ghost failures = { λ s. s.failures };
+
+    fn write(&mut self, bytes: &[u8]) -> Result<usize, Failed> {
+        match self.line.extend_from_slice(bytes) {
+            Ok(()) => Ok(bytes.len()),
+            Err(_) => {
+                self.failures += 1;
+                Err(Failed)
+            }
+        }
+    }
 }
 
 // What a seal of a chain goes over.
@@ -126,22 +165,26 @@ impl<'a> Sealing<'a> {
         let Ok(beside) = format!(in self.alloc; "{book}.sealed") else {
             return end(err, Ending::NoMemory);
         };
-        // A run whose server was stopped before it made the file of its book has an empty one.
-        make_if_missing(self.files, &book);
-        // What an earlier seal left that was stopped.
-        take_away(self.files, &beside);
-        let status = self.write_beside::<B, _, _>(
-            policy,
-            blank,
-            &book,
-            &beside,
-            Streams { out, err },
-        );
-        if status != 0 {
+        // What an earlier seal left that was stopped; it is no book of the chain.
+        if !self.chain.has_book(&beside) {
             take_away(self.files, &beside);
-            return status;
         }
-        self.take_place(policy, &book, &beside, err)
+        let mut told = Kept {
+            line: Vec::new(self.alloc),
+            failures: 0,
+        };
+        let streams = Streams {
+            out: &mut told,
+            err,
+        };
+        let status = self.write_beside::<B, _, _>(policy, blank, &book, &beside, streams);
+        if status != 0 {
+            return tell_unsealed(out, &told, status);
+        }
+        match self.take_place(policy, &book, &beside) {
+            Ok(()) => tell_sealed(&told, Streams { out, err }),
+            Err(ending) => end(err, ending),
+        }
     }
 
     // Writes the whole book beside the cut one.
@@ -156,11 +199,19 @@ impl<'a> Sealing<'a> {
         requires { Opens blank B.name B.parts }
     {
         let Streams { out, err } = streams;
-        let made = match new_book(self.files, beside, true, err) {
+        let lasting = Lasting {
+            name: true,
+            posts: true,
+        };
+        let made = match new_book(self.files, beside, lasting, err) {
             Ok(made) => made,
             Err(status) => return status,
         };
-        let mut whole = BookFile::<B>::new(CountedBook { book: made, blank });
+        let mut whole = BookFile::<B, Silent>::new(CountedBook {
+            book: made,
+            blank,
+            told: Silent {},
+        });
         let mut cut = file_at(self.files, book);
         let status = seal_with(
             self.alloc,
@@ -172,27 +223,47 @@ impl<'a> Sealing<'a> {
         drop(cut);
         let is_kept = whole.is_kept();
         drop(whole);
-        if status == 0 && !is_kept {
-            return end(err, Ending::WriteFault);
+        let status = if status == 0 && !is_kept {
+            end(err, Ending::WriteFault)
+        } else {
+            status
+        };
+        if status != 0 {
+            take_away(self.files, beside);
         }
         status
     }
 
     // Puts the whole book in the place of the cut one, and enters that the run has ended.
-    fn take_place<E: Sink>(
+    fn take_place(
         &mut self,
         policy: &Policy,
         book: &str,
         beside: &str,
-        err: &mut E,
-    ) -> u8 {
+    ) -> Result<(), Ending<'static>> {
         if fs::rename(self.files, beside, book).is_err() || !is_named_on_disk(self.files, book) {
-            return end(err, Ending::WriteFault);
+            return Err(Ending::WriteFault);
         }
-        if self.chain.end(self.alloc, policy, book) {
-            0
-        } else {
-            end(err, Ending::WriteFault)
+        match self.chain.end(self.alloc, policy, book) {
+            Ok(()) => Ok(()),
+            Err(Unentered::For(ending)) => Err(ending),
+            // (It is another than was just written.)
+            Err(Unentered::NotWhole) => Err(Ending::WriteFault),
         }
+    }
+}
+
+// Tells what was said of a book that was not sealed; the status stands.
+fn tell_unsealed<O: Sink>(out: &mut O, told: &Kept, status: u8) -> u8 {
+    let _ = write_all(out, &told.line);
+    status
+}
+
+// Tells that the run was sealed, and gives the status.
+fn tell_sealed<O: Sink, E: Sink>(told: &Kept, streams: Streams<O, E>) -> u8 {
+    let Streams { out, err } = streams;
+    match write_all(out, &told.line) {
+        Ok(()) => 0,
+        Err(_) => end(err, Ending::WriteFault),
     }
 }

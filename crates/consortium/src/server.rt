@@ -3,12 +3,13 @@
 //! What the sessions come to says the contract of `serve_on`; the pipes, and so this, have none.
 ghost use Rattle.program_line.specs.Kinds.{Opens};
 
-use crate::book_file::{BookFile, CountedBook, FileReceipt, NewBook, new_book, take_away};
-use crate::chain::{HeldChain, HeldFile};
+use crate::book_file::{BookFile, CountedBook, FileReceipt, Lasting, NewBook, new_book, take_away};
+use crate::chain::{HeldChain, HeldFile, Unentered};
 use crate::desk::{desks_at, peers_at};
 use crate::ended::{Ended, let_go, status_of};
-use crate::events::{Event, EventLines, Events};
+use crate::events::{BookEvents, Event, EventLines, Events};
 use crate::folder::Folder;
+use crate::loss::{Silent, TellsLoss};
 use crate::pipes::{Pipes, first_fault, pipes_in};
 use chain_runs::Next;
 use live_session::{Peer, ShowDesk};
@@ -152,7 +153,12 @@ impl<'a, R: AllocGlobal + Threads + Wait + Sync> PipeServer<'a, R> {
         if let Some(unready) = folder.used() {
             return refuse(err, unready);
         }
-        let Ok(events) = Events::new(alloc, all.len()) else {
+        let clock = if self.paths.times {
+            Some(self.files)
+        } else {
+            None
+        };
+        let Ok(events) = Events::new(alloc, all.len(), clock) else {
             return end(err, Ending::NoMemory);
         };
         let Ok(lines) = EventLines::new(alloc, self.out) else {
@@ -188,9 +194,12 @@ impl<'a, R: AllocGlobal + Threads + Wait + Sync> PipeServer<'a, R> {
             self.take_back();
             return refuse(err, unready);
         }
-        if !self.begin(&mut run) {
-            self.take_back();
-            return end(err, Ending::WriteFault);
+        match self.begin(&mut run) {
+            Ok(()) => {}
+            Err(unentered) => {
+                self.take_back();
+                return unbegun(err, unentered);
+            }
         }
         let (is_told, ended) = thread::join(
             rt,
@@ -198,37 +207,31 @@ impl<'a, R: AllocGlobal + Threads + Wait + Sync> PipeServer<'a, R> {
             || self.serve_while_told(policy, peers, book, events, err),
         );
         if ended.sessions != policy.processes() as usize {
-            self.take_back();
+            // (The book of a run that a chain has stays: without it nothing could go on.)
+            if run.is_none() {
+                self.take_back();
+            }
             return ended.status();
         }
-        let status = status_of(rt, ended, events, is_told, err);
-        if !self.end(policy, &mut run) && status == 0 {
-            return end(err, Ending::WriteFault);
-        }
-        status
+        let entered = self.end(policy, &mut run);
+        status_of(rt, ended, entered, events, is_told, err)
     }
 
-    // Writes the line of a run that begins on a chain. False where that failed.
-    fn begin(&self, run: &mut Option<NextRun>) -> bool {
-        let Some(run) = run else {
-            return true;
-        };
-        let Some(book) = &self.paths.book else {
-            return false;
+    // Writes the line of a run that begins on a chain.
+    fn begin(&self, run: &mut Option<NextRun>) -> Result<(), Unentered> {
+        let (Some(run), Some(book)) = (run, &self.paths.book) else {
+            return Ok(());
         };
         let digest = run.digest;
         run.chain
             .begin(self.rt.alloc(), &self.paths.policy, digest, book)
     }
 
-    // Writes the line that it has ended. False where that failed, or its book is not whole: then a
-    // seal of the chain does it.
-    fn end(&self, policy: &Policy, run: &mut Option<NextRun>) -> bool {
-        let Some(run) = run else {
-            return true;
-        };
-        let Some(book) = &self.paths.book else {
-            return false;
+    // Writes the line that it has ended. Where that fails, or its book is not whole, a seal of the
+    // chain does it.
+    fn end(&self, policy: &Policy, run: &mut Option<NextRun>) -> Result<(), Unentered> {
+        let (Some(run), Some(book)) = (run, &self.paths.book) else {
+            return Ok(());
         };
         run.chain.end(self.rt.alloc(), policy, book)
     }
@@ -240,10 +243,20 @@ impl<'a, R: AllocGlobal + Threads + Wait + Sync> PipeServer<'a, R> {
         }
     }
 
+    // What of the book's file is to be on the disk. Its name, where a chain names it: a book that a
+    // chain lacks is never taken as one of no entries.
+    fn lasting(&self) -> Lasting {
+        let posts = self.paths.sync;
+        Lasting {
+            name: posts || self.paths.chain.is_some(),
+            posts,
+        }
+    }
+
     // The file of the book, if it is wanted; or the status, behind the line of the fault.
-    fn book<E: Sink>(&self, err: &mut E) -> Result<Option<NewBook<'a>>, u8> {
+    fn book<E: Sink>(&self, err: &mut E) -> Result<Option<NewBook>, u8> {
         match &self.paths.book {
-            Some(path) => match new_book(self.files, path, self.paths.sync, err) {
+            Some(path) => match new_book(self.files, path, self.lasting(), err) {
                 Ok(book) => Ok(Some(book)),
                 Err(status) => Err(status),
             },
@@ -270,8 +283,9 @@ impl<'a, R: AllocGlobal + Threads + Wait + Sync> PipeServer<'a, R> {
         let ended = match book {
             Some(book) => {
                 let blank = Blank::new(1);
-                let book = CountedBook { book, blank };
-                serve_keeping::<_, _, _, _, Brand>(rt, policy, peers, most, err, book)
+                let told = BookEvents { rt, events };
+                let book = CountedBook { book, blank, told };
+                serve_keeping::<_, _, _, _, Brand, _>(rt, policy, peers, most, err, book)
             }
             None => serve_bookless(rt, policy, peers, most, err),
         };
@@ -280,14 +294,22 @@ impl<'a, R: AllocGlobal + Threads + Wait + Sync> PipeServer<'a, R> {
     }
 }
 
+// The status of a run that did not begin, behind the line of why.
+fn unbegun<E: Sink>(err: &mut E, unentered: Unentered) -> u8 {
+    match unentered {
+        Unentered::For(ending) => end(err, ending),
+        Unentered::NotWhole => end(err, Ending::WriteFault),
+    }
+}
+
 // Serves, and writes the book to this file.
-fn serve_keeping<R, S, O, E: Sink, B: Ledger + Send>(
+fn serve_keeping<R, S, O, E: Sink, B: Ledger + Send, T: TellsLoss + Send + Drop>(
     rt: &R,
     policy: &Policy,
     peers: Vec<Peer<S, O>>,
     most: Option<u64>,
     err: &mut E,
-    book: CountedBook,
+    book: CountedBook<T>,
 ) -> Ended
 where
     R: AllocGlobal + Threads + Wait + Sync,
@@ -295,7 +317,7 @@ where
     O: Sink + Send + Drop,
     requires { Opens book.blank B.name B.parts }
 {
-    let book = BookFile::<B>::new(book);
+    let book = BookFile::<B, T>::new(book);
     let_go(serve_on(rt, rt.alloc(), policy, peers, most, err, Some(book)))
 }
 
@@ -312,5 +334,13 @@ where
     S: ShowDesk<O, Option<FileReceipt>> + Send + Drop,
     O: Sink + Send + Drop,
 {
-    let_go(serve_on::<_, _, _, _, BookFile<Brand>>(rt, rt.alloc(), policy, peers, most, err, None))
+    let_go(serve_on::<_, _, _, _, BookFile<Brand, Silent>>(
+        rt,
+        rt.alloc(),
+        policy,
+        peers,
+        most,
+        err,
+        None,
+    ))
 }
