@@ -160,7 +160,8 @@ def on_a_disk_of(given, size):
     if size < len("book 2\n"):
         out, err = server.communicate(timeout=60)
         want((server.returncode, err), (3, b"write fault\n"), "a start without a first line")
-        want(out in (b"", b"serving 2 processes\n"), True, "events of a server that does not start")
+        want(out, b"serving 2 processes\nunbooked: file too large (ulimit -f)\n",
+             "events of a server that does not start")
         want(house.book.exists(), False, "a book by which nothing was served")
         return False
     raws = [Raw(house, name) for name in house.names]
@@ -192,7 +193,10 @@ def on_a_disk_of(given, size):
             want(raw.read(), b"", "the end of the other session")
     out, err = server.communicate(timeout=60)
     whole = len(open_ones) == 2 and server.returncode == 0
-    want(out.splitlines()[-1], f"served {calls} calls".encode("ascii"), "the last event")
+    events = out.splitlines()
+    want(events[-1], f"served {calls} calls".encode("ascii"), "the last event")
+    lost = [line for line in events if line.startswith(b"unbooked")]
+    want(lost, [] if whole else [b"unbooked: file too large (ulimit -f)"], "what is told of the book")
     if whole:
         want((calls, err), (12, b""), "how the server ends")
         house.audit()
@@ -339,6 +343,7 @@ def syncs_that_fail(given):
         want(raw.read(), b"", "the end of the session")
         until(lambda: house.server.poll() is not None, "the server ends")
         want((house.server.returncode, house.complaint()), (3, "write fault\n"), "how it ends")
+        want(house.events()[2], "unbooked: input/output error", "what is told of the book")
         want(len(sealed(house)) - 2 in (4, 6), True, "what the book has at least")
 
 

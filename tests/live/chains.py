@@ -7,7 +7,8 @@ import os
 import subprocess
 import time
 
-from live import House, Raw, Wrong, a_folder, policy_text, shown, want
+from books import bounded
+from live import SERVERS, House, Raw, Wrong, a_folder, policy_text, shown, want
 
 BANKS = [["alpha", "beta"]]
 THREE = [("a0", "alpha"), ("b0", "beta"), ("n0", None)]
@@ -305,9 +306,7 @@ def stopped_anywhere(given):
     beside = house.book.with_name(house.book.name + ".sealed")
 
     def again(book, left, entries, last):
-        house.book.unlink(missing_ok=True)
-        if book is not None:
-            house.book.write_bytes(book)
+        house.book.write_bytes(book)
         years.chain.write_bytes(began + left)
         years.seal(entries, f"the seal of {shown(book)} behind {shown(left)}")
         want(beside.exists(), False, "what is left beside the book")
@@ -316,16 +315,15 @@ def stopped_anywhere(given):
         want(years.chain.read_bytes(), years.due, "the chain behind the seal")
         years.sound(1, entries)
 
-    # Behind `begun` and before the book; at each byte of the book; behind it.
-    again(None, b"", 0, b"end 0")
+    # At each byte of the book, of which nothing may have been written; behind it.
     for at in range(0, len(whole) + 1, 5):
-        entries = max(whole[:at].count(b"\n") - 1, 0)
         cut = whole[:at].splitlines(keepends=True)[1:]
         posts = sum(line.startswith(b"post") and line.endswith(b"\n") for line in cut)
         # The third post fills the constructor, and the fifth the broadcast.
         due = min(posts + (posts >= 3) + (posts >= 5), 7)
         again(whole[:at], b"", due, f"end {due}".encode("ascii"))
-        want(due >= min(entries, 7), True, "what a seal keeps")
+        finished = whole[:at].rpartition(b"\n")[0]
+        want(house.book.read_bytes().startswith(finished), True, "what a seal keeps")
     # Within the line that it has ended, and where a seal left its file.
     line = ended[len(began):]
     for at in (1, 6, len(line) - 1):
@@ -338,6 +336,30 @@ def stopped_anywhere(given):
     done = years.command("seal")
     want((done.returncode, done.stderr), (2, "chain: no run is under way\n"), "its seal")
     want(years.chain.read_bytes(), b"chain 1\n", "the chain behind it")
+    # A run began when its book was there: one that is missing is never made, and is told.
+    house.book.unlink()
+    years.chain.write_bytes(began)
+    for left in (b"", line[:6]):
+        done = years.command("seal")
+        want((done.returncode, done.stdout, done.stderr), (3, "", "read fault\n"),
+             "the seal of a book that is missing")
+        want((house.book.exists(), beside.exists()), (False, False), "what a seal has made")
+        want(years.chain.read_bytes(), began, "the chain behind it")
+        years.chain.write_bytes(began + left)
+    # A book of the chain that has the name of a seal's own file is not taken away.
+    beside.write_bytes(whole)
+    other = with_ended(with_begun(b"chain 1\n", house.policy, beside), beside)
+    years.chain.write_bytes(with_begun(other, house.policy, house.book))
+    house.book.write_bytes(whole[:60])
+    done = years.command("seal")
+    want((done.returncode, done.stderr), (3, f"book exists: {beside}\n"), "the seal beside a book")
+    want((beside.read_bytes(), house.book.read_bytes()), (whole, whole[:60]), "both books")
+    beside.unlink()
+    # A file that is no chain is left as it is, whatever its last line lacks.
+    for other in (b"chain 2\nnot", b"chain 1\nbegun\nnot", began.replace(b"begun", b"began") + b"x"):
+        years.chain.write_bytes(other)
+        want(years.command("seal").returncode, 2, "the seal of what is no chain")
+        want(years.chain.read_bytes(), other, "what is no chain")
     # A book that no run could have left is told, and stays as it was.
     house.book.write_bytes(whole.replace(b"granted", b"denied simple n0 beta"))
     before = house.book.read_bytes()
@@ -346,6 +368,45 @@ def stopped_anywhere(given):
     want((done.returncode, done.stderr), (2, ""), "the seal of a book that is not sound")
     want((house.book.read_bytes(), years.chain.read_bytes()), (before, began), "book and chain")
     want(beside.exists(), False, "what is left beside it")
+
+
+def on_a_full_disk(house, size):
+    """How a server of the chain ends whose files take so many bytes, and all of whose processes leave
+    at once where it begins."""
+    house.mark()
+    server = subprocess.Popen(house.words, stdin=subprocess.DEVNULL, stdout=subprocess.PIPE,
+                              stderr=subprocess.PIPE, preexec_fn=bounded(size))
+    SERVERS.append(server)
+    if server.stdout.readline():
+        raws = [Raw(house, name) for name in ("a0", "b0", "n0")]
+        for raw in raws:
+            want(raw.ask("leave"), "left", "a leave")
+            raw.close()
+    err = server.communicate(timeout=60)[1]
+    return server.returncode, err
+
+
+def lines_that_find_no_room(given):
+    """A line of the chain that is not written whole is taken back: a run that could not begin has none,
+    and one that could not be entered as ended has not ended."""
+    years = Years(given)
+    for size in (8, 60, 200):
+        house = years.house()
+        want(on_a_full_disk(house, size), (3, b"write fault\n"), f"a start on a disk of {size}")
+        want(years.chain.read_bytes(), b"chain 1\n", "the chain of a run that did not begin")
+        want(house.book.exists(), False, "the book of a run that did not begin")
+    house = years.house()
+    began = with_begun(b"chain 1\n", house.policy, house.book)
+    for more in (0, 40):
+        years.chain.write_bytes(b"chain 1\n")
+        house.book.unlink(missing_ok=True)
+        want(on_a_full_disk(house, len(began) + more), (3, b"write fault\n"), "an end without room")
+        want(years.chain.read_bytes(), began, "the chain of a run that has not ended")
+        want(house.book.read_bytes(), b"book 2\nend 0\n", "its book")
+    years.seal(0)
+    years.due = began
+    years.ended(house)
+    years.sound(1, 0)
 
 
 def killed_while_it_ends(given):
@@ -403,4 +464,5 @@ def many_runs(given):
 
 
 TESTS = [runs_of_three_years, policies_that_shrink, least_numbers_of_their_day, each_byte_is_told,
-         one_server_goes_on, stopped_anywhere, killed_while_it_ends, many_runs]
+         one_server_goes_on, stopped_anywhere, lines_that_find_no_room, killed_while_it_ends,
+         many_runs]

@@ -1,4 +1,5 @@
 """Pipes, events, and what a session is told."""
+import datetime
 import doctest
 import importlib
 import hashlib
@@ -8,6 +9,7 @@ import re
 import shutil
 import signal
 import subprocess
+import time
 from array import array
 
 from live import consortium
@@ -130,6 +132,33 @@ def events_are_told(given):
     want([event for event in events if event.startswith("p2")],
          ["p2 came", "p2 left after 1 calls: end of stream"], "p2's events")
     want(events[-1:] + [len(events)], ["served 4 calls", 8], "the end of the events")
+
+
+def events_have_their_times(given):
+    """With --times each event begins with its time, in UTC; the book and the replies have none."""
+    house = House(given.program, neutral(1))
+    house.mark()
+    begin = int(time.time())
+    server = subprocess.Popen([*house.words, "--times"], stdin=subprocess.DEVNULL,
+                              stdout=subprocess.PIPE, stderr=subprocess.PIPE,
+                              preexec_fn=die_with_parent)
+    SERVERS.append(server)
+    raw = Raw(house, "p0")
+    want(raw.ask("post 0 barrier"), "posted 0", "the post")
+    want(raw.ask("leave"), "left", "the leave")
+    out, err = server.communicate(timeout=60)
+    want((server.returncode, err), (0, b""), "how the server ends")
+    times, events = [], []
+    for line in out.decode("ascii").splitlines():
+        written, event = line.split(" ", 1)
+        at = datetime.datetime.strptime(written, "%Y-%m-%dT%H:%M:%SZ")
+        times.append(at.replace(tzinfo=datetime.timezone.utc).timestamp())
+        events.append(event)
+    want(events, ["serving 1 processes", "p0 came", "p0 left after 1 calls: left", "served 1 calls"],
+         "the events")
+    want(times, sorted(times), "the times")
+    want(begin <= times[0] and times[-1] <= time.time(), True, "the first time and the last")
+    house.audit()
 
 
 def a_failed_write_ends_a_session(given):
@@ -492,6 +521,7 @@ def first_session_of_the_page(given):
 
 
 TESTS = [pipes_are_looked_at, books_are_new, events_that_are_not_written, events_are_told,
-         a_failed_write_ends_a_session, bad_lines_are_answered, examples_of_the_client, four_firms,
+         events_have_their_times, a_failed_write_ends_a_session, bad_lines_are_answered,
+         examples_of_the_client, four_firms,
          refusals_are_typed, nobody_waits_for_the_dead, a_wall_over_days, talk_in_the_shell,
          first_session_of_the_page]
