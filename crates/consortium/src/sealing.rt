@@ -106,21 +106,29 @@ fn chain_of(alloc: Global, held: &mut HeldFile) -> Result<ChainFile, NoChain> {
     }
 }
 
-// The line of a seal, until all is done.
+// The most bytes of the line of a seal: words, a number of 20 digits at most, and the LF.
+const LINE_ROOM: usize = 64;
+
+// The line of a seal, until all is done. Within its room it never fails, and else once.
 #[derive(Drop)]
 struct Kept {
     line: Vec<u8>,
-    failures: u64,
+    has_failed: bool,
 }
 
 impl Sink for Kept {
-    ghost failures = { λ s. s.failures };
+    ghost use Rattle.program_files.specs.Files.{failed_once};
+
+    ghost failures = { λ s. failed_once s.has_failed };
 
     fn write(&mut self, bytes: &[u8]) -> Result<usize, Failed> {
+        if self.has_failed {
+            return Ok(bytes.len());
+        }
         match self.line.extend_from_slice(bytes) {
             Ok(()) => Ok(bytes.len()),
             Err(_) => {
-                self.failures += 1;
+                self.has_failed = true;
                 Err(Failed)
             }
         }
@@ -169,9 +177,12 @@ impl<'a> Sealing<'a> {
         if !self.chain.has_book(&beside) {
             take_away(self.files, &beside);
         }
+        let Ok(line) = Vec::with_capacity(self.alloc, LINE_ROOM) else {
+            return end(err, Ending::NoMemory);
+        };
         let mut told = Kept {
-            line: Vec::new(self.alloc),
-            failures: 0,
+            line,
+            has_failed: false,
         };
         let streams = Streams {
             out: &mut told,
