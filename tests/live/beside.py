@@ -1,7 +1,6 @@
 """A member that means harm beside three that compute: how long these wait for their replies without
 the harm and with it, and what memory and the book come to."""
 import mmap
-import statistics
 import struct
 import time
 
@@ -12,9 +11,10 @@ HONEST = 3
 ROUNDS = 250
 # Between two sums, so that the honest ones do not hold up each other.
 PAUSE = 0.001
-# A call of 100 may take three times as long with the harm, or this long: a machine with less than a
-# processor for each that is awake has them wait for several turns of some milliseconds each.
-TIMES, FLOOR = 3, 0.05
+# With the harm half of the calls, and 99 of 100, may take three times as long as without, or so many
+# seconds. On two processors with four other programs that never sleep half took 0.06 ms all the
+# same, but 99 of 100 up to 21 ms: whoever is woken waits for turns of some milliseconds.
+TIMES, FLOORS = 3, {50: 0.001, 99: 0.05}
 # Seconds: a reply that takes longer does not come, and a stretch that takes longer is over.
 PATIENCE, LONGEST = 10, 20
 ALL_CALLS = 2_000_000
@@ -107,8 +107,9 @@ class Beside:
         text = f"{figures(without)} without, {figures(beside)} with it"
         if self.given.figures:
             print(f"{text}, {self.board.calls()} calls of it, {self.grown} KiB: ", end="")
-        if at(beside, 99) > max(TIMES * at(without, 99), FLOOR):
-            raise Wrong(f"the replies of others, {text}")
+        for percent, floor in FLOORS.items():
+            if at(beside, percent) > max(TIMES * at(without, percent), floor):
+                raise Wrong(f"the replies of others, {text}")
         want(self.board.is_done(), True, f"whether {self.board.calls()} calls are enough of a harm")
         self.sums = told[0][2]
 
@@ -141,7 +142,7 @@ def at(times, percent):
 
 
 def figures(times):
-    return f"{1e3 * statistics.median(times):.2f} ms (99 of 100: {1e3 * at(times, 99):.2f})"
+    return f"{1e3 * at(times, 50):.2f} ms (99 of 100: {1e3 * at(times, 99):.2f})"
 
 
 def is_honest(house, name, label, board, also, last):
