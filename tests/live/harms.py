@@ -75,15 +75,15 @@ def posts_wide(raw, comm, board):
         board.begins()
 
 
-def posts_ahead(raw, _, board):
+def posts_ahead(raw, _, board, type, count):
     """Wide posts to the world's instances, to which nobody else has come, and never will."""
     want(raw.ask("take 1"), "delivered none", "the world's barrier")
-    numbers = " ".join(["7"] * 65_536)
+    numbers = " ".join(["7"] * count)
     board.begins()
     for request in range(2, 1 << 20):
         if not board.goes_on():
             return
-        told = raw.ask(f"post 0 gatherv 0 int64 as public {numbers}")
+        told = raw.ask(f"post 0 gatherv 0 {type} as public {numbers}")
         is_one_more = request < 2 + 256
         due = f"posted {request}" if is_one_more else "refused TooManyRequests"
         want(told, due, "a post ahead")
@@ -246,8 +246,12 @@ def no_room_is_left(given):
 
 def disk_of_one(given):
     """With --sync a member alone settles instances as fast as it can, at a disk that takes two
-    thousandths of a second."""
+    thousandths of a second. Others wait for it, each call for those that came before; they get
+    their turns all the same."""
     beside = Beside(given, 100, words=["--sync"], before=a_slow_disk)
+    # A hundred syncs: 99 of 100 calls took up to 36 of them. Three times as long as without is no
+    # bound here, as long as a turn lasts until the disk has its entry.
+    beside.floors = {**beside.floors, 99: 0.2}
     beside.harmed_by(posts_alone_at_a_disk).end()
 
 
@@ -260,12 +264,14 @@ def wide_instances(given):
 
 def posts_ahead_of_all(given):
     """Wide posts ahead of all others, as many as it may: the memory that SECURITY.md names."""
-    beside = Beside(given, 280).harmed_by(posts_ahead)
-    # 256 posts of 512 KiB each, and some for the lines.
-    beside.grew_by_at_most((128 + 8) << 10)
-    if beside.grown < 120 << 10:
-        raise Wrong(f"{beside.grown} KiB for posts ahead")
-    beside.end()
+    # (a pair is one element, and two numbers)
+    for type, count in (("int64", 65_536), ("2int", 131_072)):
+        beside = Beside(given, 280).harmed_by(posts_ahead, type, count)
+        # 256 posts of 512 KiB each, and some for the lines.
+        beside.grew_by_at_most((128 + 8) << 10)
+        if beside.grown < 120 << 10:
+            raise Wrong(f"{beside.grown} KiB for posts ahead")
+        beside.end()
 
 
 def wrong_first_posts(given):
@@ -292,14 +298,14 @@ def lines_that_are_long(given):
 def noise_beside(given):
     """Noise as fast as it can."""
     beside = Beside(given, 5_000).harmed_by(makes_noise)
-    beside.grew_by_at_most(8 << 10)
+    beside.grew_by_at_most(1024)
     beside.end()
 
 
 def replies_not_read(given):
     """A session that never reads, in the middle of a wide delivery."""
     beside = Beside(given, 1_000).harmed_by(never_reads)
-    beside.grew_by_at_most(16 << 10)
+    beside.grew_by_at_most(8 << 10)
     beside.end()
 
 
