@@ -180,7 +180,7 @@ def stretch(process, ours, is_done, also=None):
         is_last = turn + 1 >= ROUNDS and is_done() or time.monotonic() > end
         values = f"{turn} {int(is_last) if ours.rank == 0 else 0}"
         line = f"post {ours.number} allreduce sum int64 2 as {process.label} {values}"
-        request = ask(line).removeprefix("posted ")
+        request = ask(line).split()[-1]
         told = ask(f"wait {request}")
         is_last = told == f"delivered [{HONEST * turn} 1]"
         if not is_last:

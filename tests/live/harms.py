@@ -122,7 +122,7 @@ def posts_what_is_denied(raw, _, board):
 
 def is_denied(ask, process):
     """What the world's next instance comes to for the honest."""
-    request = ask("post 0 bcast 0 int64 1").removeprefix("posted ")
+    request = ask("post 0 bcast 0 int64 1").split()[-1]
     told = process.ask(f"wait {request}", timeout=PATIENCE)
     # (the split and the barrier of the world were its first two requests)
     want(told in ("denied simple p1 alpha", "denied star p0 beta"), True, f"what is told ({told})")
@@ -133,7 +133,7 @@ def is_told_mismatch(ask, _):
 
 
 def makes_no_communicator(process, ours):
-    request = process.ask(f"post {ours.number} dup", timeout=PATIENCE).removeprefix("posted ")
+    request = process.ask(f"post {ours.number} dup", timeout=PATIENCE).split()[-1]
     want(process.ask(f"wait {request}", timeout=PATIENCE), "noroom", "a constructor of the honest")
 
 
@@ -191,7 +191,7 @@ def leaves(raw, _, board):
 
 def finds_nobody(process, _):
     """The world's next instance never settles: all that are left wait, and are told so."""
-    request = process.ask("post 0 barrier", timeout=PATIENCE).removeprefix("posted ")
+    request = process.ask("post 0 barrier", timeout=PATIENCE).split()[-1]
     told = process.ask(f"wait {request}", timeout=PATIENCE)
     want(told, "pending", "the wait for who has left")
 
@@ -217,7 +217,7 @@ def calls_to_the_end(raw, comm, board, most):
 
 def goes_on_alone(process, ours):
     """What the honest can do behind the end of the other."""
-    request = process.ask(f"post {ours.number} barrier", timeout=PATIENCE).removeprefix("posted ")
+    request = process.ask(f"post {ours.number} barrier", timeout=PATIENCE).split()[-1]
     want(process.ask(f"wait {request}", timeout=PATIENCE), "delivered none", "a barrier")
 
 
