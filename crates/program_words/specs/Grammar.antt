@@ -11,13 +11,16 @@ use Rattle.clap.specs.declared.builder.action.ArgAction.TheVariants.{Append, Set
 use Rattle.program_words.specs.Number.{bound_said}
 use Rattle.program_words.specs.declared.words.ReplayPaths.{ReplayPaths}
 use Rattle.program_words.specs.declared.words.RunPaths.{RunPaths}
+use Rattle.program_words.specs.declared.words.NextPaths.{NextPaths}
 use Rattle.program_words.specs.declared.words.AuditPaths.{AuditPaths}
 use Rattle.program_words.specs.declared.words.ServePaths.{ServePaths}
 use Rattle.program_words.specs.declared.words.SealPaths.{SealPaths}
 use Rattle.program_words.specs.declared.words.CheckPaths.{CheckPaths}
 use Rattle.program_words.specs.declared.words.ReportPaths.{ReportPaths}
+use Rattle.program_words.specs.declared.words.LastPaths.{LastPaths}
 use Rattle.program_words.specs.declared.words.Command.{Command}
 use Rattle.program_words.specs.declared.words.Command.TheVariants.{Replay, Run, Audit, Serve, Seal}
+use Rattle.program_words.specs.declared.words.Command.TheVariants.{ReplayNext, RunNext, ReportLast}
 use Rattle.program_words.specs.declared.words.Command.TheVariants.{AuditChain, SealChain}
 use Rattle.program_words.specs.declared.words.Command.TheVariants.{Check, Report, Usage, Version}
 use Rattle.program_words.specs.declared.words.ArgFault.{ArgFault}
@@ -52,19 +55,22 @@ files_app name file = with_rule (plain_app name file) (repeated_rule (codes "aft
 abbrev pub keeping_app : Text → Text → App
 keeping_app name path = with_rule (files_app name path) (optional_rule (codes "book"))
 
--- audit POLICY BOOK [--after BOOK].., or audit --chain CHAIN
-abbrev pub audit_app : App
-audit_app =
-    let with_policy = with_rule (new_app (codes "audit")) (new_rule (codes "policy")) in
+-- NAME POLICY PATH [--after BOOK].. [--book FILE] [--chain CHAIN]
+abbrev pub chained_app : Text → Text → App
+chained_app name path = with_rule (keeping_app name path) (optional_rule (codes "chain"))
+
+-- NAME POLICY BOOK [--after BOOK].., or NAME --chain CHAIN
+abbrev pub book_app : Text → App
+book_app name =
+    let with_policy = with_rule (new_app name) (new_rule (codes "policy")) in
     let with_book = with_rule with_policy (new_rule (codes "book")) in
     let with_after = with_rule with_book (repeated_rule (codes "after")) in
     with_rule with_after (optional_rule (codes "chain"))
 
--- serve POLICY DIR [--after BOOK].. [--chain CHAIN] [--book FILE] [--sync] [--calls N] [--times]
+-- serve POLICY DIR [--after BOOK].. [--book FILE] [--chain CHAIN] [--sync] [--calls N] [--times]
 abbrev pub serve_app : App
 serve_app =
-    let with_book = keeping_app (codes "serve") (codes "pipes") in
-    let with_chain = with_rule with_book (optional_rule (codes "chain")) in
+    let with_chain = chained_app (codes "serve") (codes "pipes") in
     let with_sync = with_rule with_chain (flag_rule (codes "sync")) in
     let with_calls = with_rule with_sync (optional_rule (codes "calls")) in
     with_rule with_calls (flag_rule (codes "times"))
@@ -86,10 +92,9 @@ check_app =
     let with_book = with_rule with_script (optional_rule (codes "book")) in
     with_rule with_book (repeated_rule (codes "after"))
 
--- report POLICY BOOK [--after BOOK].. [--html FILE]
+-- report POLICY BOOK [--after BOOK].. [--html FILE], or report --chain CHAIN [--html FILE]
 abbrev pub report_app : App
-report_app =
-    with_rule (files_app (codes "report") (codes "book")) (optional_rule (codes "html"))
+report_app = with_rule (book_app (codes "report")) (optional_rule (codes "html"))
 
 -- usage [COMMAND]
 abbrev pub usage_app : App
@@ -103,9 +108,10 @@ bare_app =
 
 unfoldable pub program_app : App
 program_app =
-    let with_replay = with_subcommand bare_app (keeping_app (codes "replay") (codes "script")).top in
-    let with_run = with_subcommand with_replay (keeping_app (codes "run") (codes "script")).top in
-    let with_audit = with_subcommand with_run audit_app.top in
+    let with_replay =
+    with_subcommand bare_app (chained_app (codes "replay") (codes "script")).top in
+    let with_run = with_subcommand with_replay (chained_app (codes "run") (codes "script")).top in
+    let with_audit = with_subcommand with_run (book_app (codes "audit")).top in
     let with_serve = with_subcommand with_audit serve_app.top in
     let with_seal = with_subcommand with_serve seal_app.top in
     let with_check = with_subcommand with_seal check_app.top in
@@ -124,6 +130,13 @@ pub record ReplayFiles : Type 0 where
 pub record RunFiles : Type 0 where
   pub policy : Text
   pub after : List Text
+  pub script : Text
+  pub book : Option Text
+
+-- the files of a script that goes on behind the runs of a chain, as text
+pub record NextFiles : Type 0 where
+  pub policy : Text
+  pub chain : Text
   pub script : Text
   pub book : Option Text
 
@@ -171,10 +184,19 @@ pub record ReportFiles : Type 0 where
   -- where the page goes, if it is wanted
   pub html : Option Text
 
+-- the files of a report on the last run of a chain, as text
+pub record LastFiles : Type 0 where
+  pub chain : Text
+  -- where the page goes, if it is wanted
+  pub html : Option Text
+
 -- a command and its files
 pub data Asked : Type 0 where
   to_replay : ReplayFiles → Asked
+  -- to replay a script, or to run it, behind the runs of a chain
+  to_replay_next : NextFiles → Asked
   to_run : RunFiles → Asked
+  to_run_next : NextFiles → Asked
   to_audit : AuditFiles → Asked
   -- to audit all runs of the chain file at this path
   to_audit_chain : Text → Asked
@@ -184,6 +206,8 @@ pub data Asked : Type 0 where
   to_seal_chain : Text → Asked
   to_check : CheckFiles → Asked
   to_report : ReportFiles → Asked
+  -- to report on the last run of a chain
+  to_report_last : LastFiles → Asked
   -- how it is used, or one of its commands
   to_usage : Option Text → Asked
   to_version : Asked
@@ -214,6 +238,27 @@ are_idle book after = false
 abbrev pub unless_idle : {F : Type 0} → (book : Option Text) → (after : List Text) → F → Option F
 unless_idle book after files = if are_idle book after then None else Some files
 
+-- Whether earlier books are named beside a chain, which has its own, or a file that would be
+-- written over it.
+abbrev pub is_at_odds : (chain : Text) → (after : List Text) → (file : Option Text) → Bool
+is_at_odds chain [] file = is_one_of file (chain ∷ [])
+is_at_odds chain (oldest ∷ newer) file = true
+
+abbrev pub unless_at_odds : {F : Type 0} → (chain : Text) → (after : List Text) →
+    (file : Option Text) → F → Option F
+unless_at_odds chain after file files = if is_at_odds chain after file then None else Some files
+
+-- the files of a script that goes on behind the runs of this chain
+abbrev pub next_in : (chain : Text) → List Row → Option NextFiles
+next_in chain rows =
+    option_and_then (λ p. option_and_then (λ s.
+    unless_at_odds chain (every_of (codes "after") rows) (first_of (codes "book") rows) (record {
+      policy = p;
+      chain = chain;
+      script = s;
+      book = first_of (codes "book") rows;
+    })) (first_of (codes "script") rows)) (first_of (codes "policy") rows)
+
 abbrev pub replay_in : List Row → Option ReplayFiles
 replay_in rows =
     option_and_then (λ p. option_and_then (λ s.
@@ -224,6 +269,14 @@ replay_in rows =
       book = first_of (codes "book") rows;
     })) (first_of (codes "script") rows)) (first_of (codes "policy") rows)
 
+-- a replay behind the runs of a chain where one is named, else behind earlier books
+abbrev pub either_replay : (chain : Option Text) → List Row → Option Asked
+either_replay None rows = option_map to_replay (replay_in rows)
+either_replay (Some chain) rows = option_map to_replay_next (next_in chain rows)
+
+abbrev pub replay_asked : List Row → Option Asked
+replay_asked rows = either_replay (first_of (codes "chain") rows) rows
+
 abbrev pub run_in : List Row → Option RunFiles
 run_in rows =
     option_and_then (λ p. option_and_then (λ s.
@@ -233,6 +286,14 @@ run_in rows =
       script = s;
       book = first_of (codes "book") rows;
     })) (first_of (codes "script") rows)) (first_of (codes "policy") rows)
+
+-- the same of a run
+abbrev pub either_run : (chain : Option Text) → List Row → Option Asked
+either_run None rows = option_map to_run (run_in rows)
+either_run (Some chain) rows = option_map to_run_next (next_in chain rows)
+
+abbrev pub run_asked : List Row → Option Asked
+run_asked rows = either_run (first_of (codes "chain") rows) rows
 
 abbrev pub audit_in : List Row → Option AuditFiles
 audit_in rows =
@@ -323,16 +384,33 @@ report_in rows =
       html = first_of (codes "html") rows;
     })) (first_of (codes "book") rows)) (first_of (codes "policy") rows)
 
+-- A report on a chain's last run, unless a file is named that the chain has, or the page would be
+-- written over it.
+abbrev pub report_alone : (chain : Text) → (policy book : Option Text) → (after : List Text) →
+    (html : Option Text) → Option Asked
+report_alone chain None None after html =
+    unless_at_odds chain after html (to_report_last (record { chain = chain; html = html }))
+report_alone chain policy book after html = None
+
+-- a report on a chain's last run where a chain is named, else on a book
+abbrev pub either_report : (chain : Option Text) → List Row → Option Asked
+either_report None rows = option_map to_report (report_in rows)
+either_report (Some chain) rows = report_alone chain (first_of (codes "policy") rows)
+    (first_of (codes "book") rows) (every_of (codes "after") rows) (first_of (codes "html") rows)
+
+abbrev pub report_asked : List Row → Option Asked
+report_asked rows = either_report (first_of (codes "chain") rows) rows
+
 -- the command of this name
 abbrev pub command_in : Text → List Row → Option Asked
 command_in name rows =
-    if bytes_eq name (codes "replay") then option_map to_replay (replay_in rows)
-    else if bytes_eq name (codes "run") then option_map to_run (run_in rows)
+    if bytes_eq name (codes "replay") then replay_asked rows
+    else if bytes_eq name (codes "run") then run_asked rows
     else if bytes_eq name (codes "audit") then audit_asked rows
     else if bytes_eq name (codes "serve") then option_map to_serve (serve_in rows)
     else if bytes_eq name (codes "seal") then seal_asked rows
     else if bytes_eq name (codes "check") then option_map to_check (check_in rows)
-    else if bytes_eq name (codes "report") then option_map to_report (report_in rows)
+    else if bytes_eq name (codes "report") then report_asked rows
     else if bytes_eq name (codes "usage") then Some (to_usage (first_of (codes "command") rows))
     else if bytes_eq name (codes "version") then Some to_version
     else None
@@ -365,6 +443,14 @@ abbrev pub run_files : RunPaths → RunFiles
 run_files r = record {
   policy = r.policy.now;
   after = texts_of r.after.items;
+  script = r.script.now;
+  book = option_map (λ b. b.now) r.book;
+}
+
+abbrev pub next_files : NextPaths → NextFiles
+next_files r = record {
+  policy = r.policy.now;
+  chain = r.chain.now;
   script = r.script.now;
   book = option_map (λ b. b.now) r.book;
 }
@@ -409,9 +495,14 @@ report_files r = record {
   html = option_map (λ h. h.now) r.html;
 }
 
+abbrev pub last_files : LastPaths → LastFiles
+last_files r = record { chain = r.chain.now; html = option_map (λ h. h.now) r.html }
+
 abbrev pub asked_by : Command → Asked
 asked_by (Replay r) = to_replay (replay_files r)
+asked_by (ReplayNext r) = to_replay_next (next_files r)
 asked_by (Run r) = to_run (run_files r)
+asked_by (RunNext r) = to_run_next (next_files r)
 asked_by (Audit r) = to_audit (audit_files r)
 asked_by (AuditChain chain) = to_audit_chain chain.now
 asked_by (Serve r) = to_serve (serve_files r)
@@ -419,6 +510,7 @@ asked_by (Seal r) = to_seal (seal_files r)
 asked_by (SealChain chain) = to_seal_chain chain.now
 asked_by (Check r) = to_check (check_files r)
 asked_by (Report r) = to_report (report_files r)
+asked_by (ReportLast r) = to_report_last (last_files r)
 asked_by (Usage command) = to_usage (option_map (λ c. c.now) command)
 asked_by Version = to_version
 

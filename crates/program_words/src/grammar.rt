@@ -4,7 +4,8 @@ ghost use Rattle.clap.specs.Words.{app_of, new_app, rule_of, with_subcommand};
 ghost use Rattle.clap.specs.declared.builder.Command.TheViews.{out-Command as fields_of};
 ghost use Rattle.program_words.specs.Grammar.{required_rule, repeated_rule, files_app, keeping_app};
 ghost use Rattle.program_words.specs.Grammar.{plain_app, flag_rule, serve_app, seal_app, check_app};
-ghost use Rattle.program_words.specs.Grammar.{report_app, usage_app, program_app, audit_app};
+ghost use Rattle.program_words.specs.Grammar.{report_app, usage_app, program_app, chained_app};
+ghost use Rattle.program_words.specs.Grammar.{book_app};
 
 use clap::{Arg, ArgAction};
 use std::alloc::{AllocError, Global};
@@ -78,12 +79,27 @@ fn keeping_command<'a>(
     command.arg(Arg::new(alloc, "book").long("book"))
 }
 
-// The command `audit POLICY BOOK [--after BOOK]..`, or `audit --chain CHAIN`.
-fn audit_command<'a>(alloc: Global) -> Result<clap::Command<'a>, AllocError>
-    ensures app { IfOk result (λ c. app_of c ≡ audit_app) }
+// The same with `[--chain CHAIN]`.
+fn chained_command<'a>(
+    alloc: Global,
+    name: &'a str,
+    path: &'a str,
+) -> Result<clap::Command<'a>, AllocError>
+    ensures app { IfOk result (λ c. app_of c ≡ chained_app name.now path.now) }
     ensures globals { IfOk result (λ c. (fields_of c).has_globals ≡ false) }
 {
-    let Ok(command) = clap::Command::new(alloc, "audit").arg(Arg::new(alloc, "policy")) else {
+    let Ok(command) = keeping_command(alloc, name, path) else {
+        return Err(AllocError);
+    };
+    command.arg(Arg::new(alloc, "chain").long("chain"))
+}
+
+// The command `NAME POLICY BOOK [--after BOOK]..`, or `NAME --chain CHAIN`.
+fn book_command<'a>(alloc: Global, name: &'a str) -> Result<clap::Command<'a>, AllocError>
+    ensures app { IfOk result (λ c. app_of c ≡ book_app name.now) }
+    ensures globals { IfOk result (λ c. (fields_of c).has_globals ≡ false) }
+{
+    let Ok(command) = clap::Command::new(alloc, name).arg(Arg::new(alloc, "policy")) else {
         return Err(AllocError);
     };
     let Ok(command) = command.arg(Arg::new(alloc, "book")) else {
@@ -95,16 +111,13 @@ fn audit_command<'a>(alloc: Global) -> Result<clap::Command<'a>, AllocError>
     command.arg(Arg::new(alloc, "chain").long("chain"))
 }
 
-// The command `serve POLICY DIR [--after BOOK].. [--chain CHAIN] [--book FILE] [--sync] [--calls N]
+// The command `serve POLICY DIR [--after BOOK].. [--book FILE] [--chain CHAIN] [--sync] [--calls N]
 // [--times]`.
 fn serve_command<'a>(alloc: Global) -> Result<clap::Command<'a>, AllocError>
     ensures app { IfOk result (λ c. app_of c ≡ serve_app) }
     ensures globals { IfOk result (λ c. (fields_of c).has_globals ≡ false) }
 {
-    let Ok(command) = keeping_command(alloc, "serve", "pipes") else {
-        return Err(AllocError);
-    };
-    let Ok(command) = command.arg(Arg::new(alloc, "chain").long("chain")) else {
+    let Ok(command) = chained_command(alloc, "serve", "pipes") else {
         return Err(AllocError);
     };
     let Ok(command) = command.arg(flag(alloc, "sync")) else {
@@ -153,12 +166,13 @@ fn check_command<'a>(alloc: Global) -> Result<clap::Command<'a>, AllocError>
     command.arg(repeated(alloc, "after"))
 }
 
-// The command `report POLICY BOOK [--after BOOK].. [--html FILE]`.
+// The command `report POLICY BOOK [--after BOOK].. [--html FILE]`, or `report --chain CHAIN [--html
+// FILE]`.
 fn report_command<'a>(alloc: Global) -> Result<clap::Command<'a>, AllocError>
     ensures app { IfOk result (λ c. app_of c ≡ report_app) }
     ensures globals { IfOk result (λ c. (fields_of c).has_globals ≡ false) }
 {
-    let Ok(command) = files_command(alloc, "report", "book") else {
+    let Ok(command) = book_command(alloc, "report") else {
         return Err(AllocError);
     };
     command.arg(Arg::new(alloc, "html").long("html"))
@@ -204,13 +218,13 @@ pub(crate) fn program_command<'a>(alloc: Global) -> Result<clap::Command<'a>, Al
     let program = clap::Command::new(alloc, "consortium")
         .no_binary_name(true)
         .subcommand_required(true);
-    let Ok(program) = with_command(program, keeping_command(alloc, "replay", "script")) else {
+    let Ok(program) = with_command(program, chained_command(alloc, "replay", "script")) else {
         return Err(AllocError);
     };
-    let Ok(program) = with_command(program, keeping_command(alloc, "run", "script")) else {
+    let Ok(program) = with_command(program, chained_command(alloc, "run", "script")) else {
         return Err(AllocError);
     };
-    let Ok(program) = with_command(program, audit_command(alloc)) else {
+    let Ok(program) = with_command(program, book_command(alloc, "audit")) else {
         return Err(AllocError);
     };
     let Ok(program) = with_command(program, serve_command(alloc)) else {

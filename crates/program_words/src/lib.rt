@@ -9,6 +9,6 @@ mod words;
 
 pub use usage::{VERSION, usage_text};
 pub use words::{
-    ArgFault, AuditPaths, CheckPaths, Command, ReplayPaths, ReportPaths, RunPaths, SealPaths,
-    ServePaths, read_words,
+    ArgFault, AuditPaths, CheckPaths, Command, LastPaths, NextPaths, ReplayPaths, ReportPaths,
+    RunPaths, SealPaths, ServePaths, read_words,
 };

@@ -12,8 +12,10 @@ usage: consortium COMMAND WORDS
   serve POLICY DIR --chain CHAIN --book FILE [--sync] [--calls N] [--times]
       answers each process of a policy live, at its two named pipes in DIR
   replay POLICY SCRIPT [--after BOOK].. [--book FILE]
+  replay POLICY SCRIPT --chain CHAIN [--book FILE]
       makes the calls of a script in its order, and writes the replies
   run POLICY SCRIPT [--after BOOK].. [--book FILE]
+  run POLICY SCRIPT --chain CHAIN [--book FILE]
       the same with a thread for each process, whose takes wait
   audit POLICY BOOK [--after BOOK]..
       tells whether a book is what its posts give
@@ -27,6 +29,8 @@ usage: consortium COMMAND WORDS
       tells what a policy means, and where a policy, a script or a book is at fault
   report POLICY BOOK [--after BOOK].. [--html FILE]
       tells who came to hold what by a book, and why posts were barred and instances denied
+  report --chain CHAIN [--html FILE]
+      the same by the book of the last run of a chain
   usage [COMMAND]
       this text, or that of one command
   version
@@ -44,14 +48,18 @@ status  0  all was done
 
 const REPLAY: &str = "\
 usage: consortium replay POLICY SCRIPT [--after BOOK].. [--book FILE]
+       consortium replay POLICY SCRIPT --chain CHAIN [--book FILE]
 
 Makes the calls of SCRIPT in its order under POLICY, and writes a line for each reply to standard
 output. With --book it then writes the audit book to FILE; an older FILE is replaced. With --after,
-any number of times, the oldest first, it goes on after the books of earlier runs.
+any number of times, the oldest first, it goes on after the books of earlier runs; with --chain
+after all runs of the chain file CHAIN, as the next run would. CHAIN stays as it is.
 
 status  0  all lines were answered, and the book was written if it was asked for
         1  the policy is refused                             policy: NAME
+        1  the policy has not grown from the chain's last    chain: next run: policy: ..
         2  an earlier book is no book, or not sound          after PATH: ..
+        2  CHAIN is no chain, or a run of it does not stand  chain: ..
         2  a line of the script is no call                   script: line N: NAME
         3  a file could not be read, or is too long          read fault
         3  a reply or the book could not be written          write fault
@@ -61,15 +69,19 @@ status  0  all lines were answered, and the book was written if it was asked for
 
 const RUN: &str = "\
 usage: consortium run POLICY SCRIPT [--after BOOK].. [--book FILE]
+       consortium run POLICY SCRIPT --chain CHAIN [--book FILE]
 
 Gives each process the calls of SCRIPT that are its own, in a thread for each, whose takes wait.
 Writes a line `rank P NAME` and the replies for each process, and the audit book to FILE with
 --book; an older FILE is replaced. With --after, any number of times, the oldest first, it goes on
-after the books of earlier runs.
+after the books of earlier runs; with --chain after all runs of the chain file CHAIN, as the next
+run would. CHAIN stays as it is.
 
 status  0  all lines were answered, and the book was written if it was asked for
         1  the policy is refused                             policy: NAME
+        1  the policy has not grown from the chain's last    chain: next run: policy: ..
         2  an earlier book is no book, or not sound          after PATH: ..
+        2  CHAIN is no chain, or a run of it does not stand  chain: ..
         2  a line of the script is no call                   script: line N: NAME
         3  a file could not be read, or is too long          read fault
         3  the replies or the book could not be written      write fault
@@ -178,17 +190,23 @@ status  0  all of it reads, and the book is sound
 
 const REPORT: &str = "\
 usage: consortium report POLICY BOOK [--after BOOK].. [--html FILE]
+       consortium report --chain CHAIN [--html FILE]
 
 Tells who came to hold what by BOOK, by which entry and how, what became of each instance, and for
 each post that was barred and each instance that was denied the reason. With --html it then writes
 the same with a picture, as a page by itself, to FILE; an older FILE is replaced. With --after, any
-number of times, the oldest first, the book is one that goes on after earlier ones.
+number of times, the oldest first, the book is one that goes on after earlier ones. With --chain it
+is the book of the last run of the chain file CHAIN, under the policy of that run, after the runs
+before it; all runs have ended, and are read again as by an audit.
 
 status  0  the book is sound, and the report was written, and the page if it was asked for
         1  the policy is refused                             policy: NAME
         2  an earlier book is no book, or not sound          after PATH: ..
         2  the book is unsound                               unsound at entry N, on standard output
         2  the file is no book                               book: line N, book: cut
+        2  CHAIN is no chain, or a run of it does not stand  chain: ..
+        2  a run is under way, or there is none              chain: ..
+        3  CHAIN could not be read, or is too long           read fault
         3  a file could not be read, or is too long          cannot read PATH: ..
         3  the report or the page could not be written       write fault
         4  memory was refused                                out of memory

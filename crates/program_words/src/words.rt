@@ -5,10 +5,11 @@ ghost use Rattle.clap.specs.Words.{subcommand_of, subcommand_rows_of};
 ghost use Rattle.program_words.specs.Grammar.{every_of, is_set, AreEarlier, program_app};
 ghost use Rattle.program_words.specs.Grammar.{is_one_of, are_idle, texts_of};
 ghost use Rattle.program_words.specs.Grammar.{replay_in, run_in, audit_in, serve_in, seal_in};
-ghost use Rattle.program_words.specs.Grammar.{check_in, report_in, to_check, to_report};
+ghost use Rattle.program_words.specs.Grammar.{check_in, report_in, to_check, to_report, next_in};
 ghost use Rattle.program_words.specs.Grammar.{to_replay, to_run, to_audit, to_serve, to_seal};
 ghost use Rattle.program_words.specs.Grammar.{command_in, command_of, asked, asked_by, audit_asked};
-ghost use Rattle.program_words.specs.Grammar.{seal_asked, is_astray};
+ghost use Rattle.program_words.specs.Grammar.{seal_asked, is_astray, replay_asked, run_asked};
+ghost use Rattle.program_words.specs.Grammar.{report_asked, is_at_odds, next_files};
 ghost use Rattle.program_words.specs.Grammar.{SaysCommand};
 
 use crate::grammar::program_command;
@@ -35,6 +36,16 @@ pub struct RunPaths<'a> {
     pub policy: &'a str,
     /// The earlier books, the oldest first.
     pub after: Vec<&'a str>,
+    pub script: &'a str,
+    /// Where the book goes, if it is wanted.
+    pub book: Option<&'a str>,
+}
+
+/// The files of a script that goes on behind the runs of a chain.
+#[derive(Debug, Drop)]
+pub struct NextPaths<'a> {
+    pub policy: &'a str,
+    pub chain: &'a str,
     pub script: &'a str,
     /// Where the book goes, if it is wanted.
     pub book: Option<&'a str>,
@@ -104,11 +115,23 @@ pub struct ReportPaths<'a> {
     pub html: Option<&'a str>,
 }
 
+/// The files of a report on the last run of a chain.
+#[derive(Debug, Drop)]
+pub struct LastPaths<'a> {
+    pub chain: &'a str,
+    /// Where the page goes, if it is wanted.
+    pub html: Option<&'a str>,
+}
+
 /// What the program is asked to do.
 #[derive(Debug, Drop)]
 pub enum Command<'a> {
     Replay(ReplayPaths<'a>),
+    /// To replay a script behind the runs of a chain.
+    ReplayNext(NextPaths<'a>),
     Run(RunPaths<'a>),
+    /// To run a script behind the runs of a chain.
+    RunNext(NextPaths<'a>),
     Audit(AuditPaths<'a>),
     /// To audit all runs of the chain file at this path.
     AuditChain(&'a str),
@@ -118,6 +141,8 @@ pub enum Command<'a> {
     SealChain(&'a str),
     Check(CheckPaths<'a>),
     Report(ReportPaths<'a>),
+    /// To report on the last run of a chain.
+    ReportLast(LastPaths<'a>),
     /// To tell how it is used: one of its commands, where one is named.
     Usage(Option<&'a str>),
     /// To tell its version.
@@ -199,8 +224,40 @@ fn is_astray(chain: Option<&str>, after: &[&str], book: Option<&str>) -> bool
     }
 }
 
-// A replay of the files that its arguments name.
-fn replay_asked<'a>(matches: &ArgMatches<'a>, after: Vec<&'a str>) -> Option<Command<'a>>
+// Whether earlier books are named beside a chain, which has its own, or a file that would be
+// written over it.
+fn is_at_odds(chain: &str, after: &[&str], file: Option<&str>) -> bool
+    ensures { result ≡ is_at_odds chain.now (texts_of after.now)
+        (option_map (λ f. f.now) file.entry) }
+{
+    !after.is_empty() || is_one_of(file, &[chain])
+}
+
+// The files of a script that goes on behind the runs of this chain.
+fn next_paths<'a>(
+    matches: &ArgMatches<'a>,
+    chain: &'a str,
+    after: &[&'a str],
+) -> Option<NextPaths<'a>>
+    requires { AreEarlier (rows_of (found_of matches.now)) after.now }
+    ensures { option_map next_files result ≡ next_in chain.now (rows_of (found_of matches.now)) }
+{
+    let policy = value_of(matches, "policy")?;
+    let script = value_of(matches, "script")?;
+    let wanted = value_of(matches, "book");
+    if is_at_odds(chain, after, wanted) {
+        return None;
+    }
+    Some(NextPaths {
+        policy,
+        chain,
+        script,
+        book: wanted,
+    })
+}
+
+// A replay of the files that its arguments name, behind earlier books.
+fn later_replay_asked<'a>(matches: &ArgMatches<'a>, after: Vec<&'a str>) -> Option<Command<'a>>
     requires { AreEarlier (rows_of (found_of matches.now)) after.items }
     ensures { option_map asked_by result
         ≡ option_map to_replay (replay_in (rows_of (found_of matches.now))) }
@@ -220,8 +277,20 @@ fn replay_asked<'a>(matches: &ArgMatches<'a>, after: Vec<&'a str>) -> Option<Com
     Some(Command::Replay(paths))
 }
 
-// A run of the files that its arguments name.
-fn run_asked<'a>(matches: &ArgMatches<'a>, after: Vec<&'a str>) -> Option<Command<'a>>
+// A replay behind the runs of the chain that its arguments name; or behind earlier books.
+fn replay_asked<'a>(matches: &ArgMatches<'a>, after: Vec<&'a str>) -> Option<Command<'a>>
+    requires { AreEarlier (rows_of (found_of matches.now)) after.items }
+    ensures { option_map asked_by result ≡ replay_asked (rows_of (found_of matches.now)) }
+{
+    let Some(chain) = value_of(matches, "chain") else {
+        return later_replay_asked(matches, after);
+    };
+    let paths = next_paths(matches, chain, &after)?;
+    Some(Command::ReplayNext(paths))
+}
+
+// A run of the files that its arguments name, behind earlier books.
+fn later_run_asked<'a>(matches: &ArgMatches<'a>, after: Vec<&'a str>) -> Option<Command<'a>>
     requires { AreEarlier (rows_of (found_of matches.now)) after.items }
     ensures { option_map asked_by result
         ≡ option_map to_run (run_in (rows_of (found_of matches.now))) }
@@ -239,6 +308,18 @@ fn run_asked<'a>(matches: &ArgMatches<'a>, after: Vec<&'a str>) -> Option<Comman
         book: kept,
     };
     Some(Command::Run(paths))
+}
+
+// A run behind the runs of the chain that its arguments name; or behind earlier books.
+fn run_asked<'a>(matches: &ArgMatches<'a>, after: Vec<&'a str>) -> Option<Command<'a>>
+    requires { AreEarlier (rows_of (found_of matches.now)) after.items }
+    ensures { option_map asked_by result ≡ run_asked (rows_of (found_of matches.now)) }
+{
+    let Some(chain) = value_of(matches, "chain") else {
+        return later_run_asked(matches, after);
+    };
+    let paths = next_paths(matches, chain, &after)?;
+    Some(Command::RunNext(paths))
 }
 
 // An audit of the book that its arguments name.
@@ -370,7 +451,7 @@ fn check_asked<'a>(matches: &ArgMatches<'a>, after: Vec<&'a str>) -> Option<Comm
 }
 
 // A report on the book that its arguments name.
-fn report_asked<'a>(matches: &ArgMatches<'a>, after: Vec<&'a str>) -> Option<Command<'a>>
+fn book_report_asked<'a>(matches: &ArgMatches<'a>, after: Vec<&'a str>) -> Option<Command<'a>>
     requires { AreEarlier (rows_of (found_of matches.now)) after.items }
     ensures { option_map asked_by result
         ≡ option_map to_report (report_in (rows_of (found_of matches.now))) }
@@ -385,6 +466,29 @@ fn report_asked<'a>(matches: &ArgMatches<'a>, after: Vec<&'a str>) -> Option<Com
         html,
     };
     Some(Command::Report(paths))
+}
+
+// A report on the last run of the chain that its arguments name, which has the policy and the book
+// itself; or on a book.
+fn report_asked<'a>(matches: &ArgMatches<'a>, after: Vec<&'a str>) -> Option<Command<'a>>
+    requires { AreEarlier (rows_of (found_of matches.now)) after.items }
+    ensures { option_map asked_by result ≡ report_asked (rows_of (found_of matches.now)) }
+{
+    let Some(chain) = value_of(matches, "chain") else {
+        return book_report_asked(matches, after);
+    };
+    if value_of(matches, "policy").is_some() {
+        return None;
+    }
+    if value_of(matches, "book").is_some() {
+        return None;
+    }
+    let page = value_of(matches, "html");
+    if is_at_odds(chain, &after, page) {
+        return None;
+    }
+    let paths = LastPaths { chain, html: page };
+    Some(Command::ReportLast(paths))
 }
 
 // The command of this name, with its files.
@@ -456,14 +560,20 @@ fn matches_of<'a>(alloc: Global, words: &'a [&'a str]) -> Result<ArgMatches<'a>,
 
 /// What the words after the program's name ask for: `replay POLICY SCRIPT [--book FILE]`, `run
 /// POLICY SCRIPT [--book FILE]`, `audit POLICY BOOK`, `serve POLICY DIR [--book FILE] [--sync]
-/// [--calls N] [--times]`, `seal POLICY BOOK OUT` or `report POLICY BOOK [--html FILE]`, each with `--after
-/// BOOK` any number of times, or `serve` with `--chain CHAIN` in place of them; `audit --chain CHAIN` or
-/// `seal --chain CHAIN`; `check POLICY [SCRIPT] [--book BOOK]`, with `--after BOOK` where it has a book;
-/// `usage [COMMAND]` or `version`. They are bad arguments exactly where `clap` refuses them for
-/// another cause than memory, where the book of a replay or a run would be written over an earlier
-/// one, where a check has earlier books and no book, where a server of a chain has earlier books or
-/// no book, where N is no number from 1 to 2^62, or begins with 0, or where an audit or a seal has a
-/// chain and another file, or neither a chain nor all its files.
+/// [--calls N] [--times]`, `seal POLICY BOOK OUT` or `report POLICY BOOK [--html FILE]`, each with
+/// `--after BOOK` any number of times, or `replay`, `run` and `serve` with `--chain CHAIN` in place
+/// of them; `audit --chain CHAIN`, `seal --chain CHAIN` or `report --chain CHAIN [--html FILE]`;
+/// `check POLICY [SCRIPT] [--book BOOK]`, with `--after BOOK` where it has a book; `usage
+/// [COMMAND]` or `version`. They are bad arguments exactly
+///
+/// - where `clap` refuses them for another cause than memory;
+/// - where the book of a replay or a run would be written over an earlier one, or over the chain,
+///   or the page of a report over the chain;
+/// - where a check has earlier books and no book, a server of a chain no book, or a command a chain
+///   and earlier books;
+/// - where N is no number from 1 to 2^62, or begins with 0;
+/// - where an audit, a seal or a report has a chain and another file that it reads or makes whole,
+///   or neither a chain nor all its files.
 #[tactic(auto, unfolding(crate::specs::Grammar::asked))]
 pub fn read_words<'a>(alloc: Global, words: &'a [&'a str]) -> Result<Command<'a>, ArgFault>
     ensures { SaysCommand result (asked (map (λ w. w.now) words.entry.now)) }

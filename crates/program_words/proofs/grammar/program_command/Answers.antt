@@ -2,7 +2,7 @@ use Rattle.std.proofs.Common.{rules, ◌≡◌, IfOk, IsOkAnd, false, Result, Ok
 use Rattle.clap.specs.Words.{App, app_of, new_app, with_subcommand}
 use Rattle.clap.specs.declared.builder.Command.{Command}
 use Rattle.clap.specs.declared.builder.Command.TheViews.{out-Command as fields_of}
-use Rattle.program_words.specs.Grammar.{bare_app, keeping_app, audit_app, serve_app, seal_app}
+use Rattle.program_words.specs.Grammar.{bare_app, chained_app, book_app, serve_app, seal_app}
 use Rattle.program_words.specs.Grammar.{check_app, report_app, usage_app, program_app}
 use Rattle.program_words.proofs.grammar.program_command.Goals as goal
 
@@ -23,17 +23,17 @@ pub returns : goal.returns
 unfolding program_app
 returns c =
     let bare : app_of c.subcommand_required-program.result ≡ bare_app = search rules in
-    let replay = joined c.subcommand_required-program.result c.keeping_command.result
+    let replay = joined c.subcommand_required-program.result c.chained_command.result
     (Ok c.in-Ok.program)
-    bare_app (keeping_app (codes "replay") (codes "script")) bare c.keeping_command.ensures.app
-    c.keeping_command.ensures.globals c.in-Ok.ensures in
-    let run = joined c.in-Ok.program c.keeping_command-2.result
+    bare_app (chained_app (codes "replay") (codes "script")) bare c.chained_command.ensures.app
+    c.chained_command.ensures.globals c.in-Ok.ensures in
+    let run = joined c.in-Ok.program c.chained_command-2.result
     (Ok c.in-Ok-with_command.program)
-    _ (keeping_app (codes "run") (codes "script")) replay c.keeping_command-2.ensures.app
-    c.keeping_command-2.ensures.globals c.in-Ok-with_command.ensures in
-    let audit = joined c.in-Ok-with_command.program c.audit_command.result
+    _ (chained_app (codes "run") (codes "script")) replay c.chained_command-2.ensures.app
+    c.chained_command-2.ensures.globals c.in-Ok-with_command.ensures in
+    let audit = joined c.in-Ok-with_command.program c.book_command.result
     (Ok c.in-Ok-with_command-2.program)
-    _ audit_app run c.audit_command.ensures.app c.audit_command.ensures.globals
+    _ (book_app (codes "audit")) run c.book_command.ensures.app c.book_command.ensures.globals
     c.in-Ok-with_command-2.ensures in
     let serve = joined c.in-Ok-with_command-2.program c.serve_command.result
     (Ok c.in-Ok-with_command-3.program)
