@@ -7,3 +7,4 @@ pub mod ServeLemmas
 pub mod EarlierLemmas
 pub mod ReportLemmas
 pub mod ChainLemmas
+pub mod ChainReportLemmas

@@ -1,5 +1,5 @@
 -- What this crate offers to the proofs of others: a run without a book, and a report without a
--- page, whichever kind of writer there is none of.
+-- page, on a chain or not, whichever kind of writer there is none of.
 use Rattle.std.proofs.Common.{◌⊎◌, inl, inr, List, Option, None}
 use Rattle.wall_policy.specs.Policy.{ChineseWall}
 use Rattle.run_model.specs.declared.call.Act.{Act}
@@ -10,6 +10,7 @@ use Rattle.program_commands.specs.Running.{IsNoRun, Tells, Runs}
 use Rattle.program_commands.specs.Earlier.{EarlierBooks}
 use Rattle.program_commands.specs.Continuing.{RunAfterEnds}
 pub use Rattle.program_commands.proofs.ReportLemmas.{unpaged}
+pub use Rattle.program_commands.proofs.ChainReportLemmas.{unpaged_report}
 
 abbrev no_writer : (W : Type 0) → Option (Used W)
 no_writer W = None
@@ -24,7 +25,7 @@ module _ {S O : Type 0} (A B : Type 0) (wall : ChineseWall) (script : Used S) (o
   told_bookless scripts (inr t) =
       inr (record { replies = t.replies; run = t.run; ran = t.ran; told = t.told })
 
-  run_bookless : Runs wall script out (no_writer A) ending →
+  pub run_bookless : Runs wall script out (no_writer A) ending →
       Runs wall script out (no_writer B) ending
   run_bookless (inl a) = inl a
   run_bookless (inr a) = inr (a.0, a.1, told_bookless a.0 a.2)

@@ -170,6 +170,16 @@ module _ {S O : Type 0} (wall : ChineseWall) (script : Used S) (out : Used O) wh
 -- ---- a policy that was read or not, what comes of its script, and the book
 
 module _ {S O B : Type 0} (script : Used S) (out : Used O) (book : Option (Used B)) where
+  -- under a policy at hand
+  pub ran_so : (wall : ChineseWall) (hall : Result HallValue Ending) (ending : Ending) →
+      RunsIfRead (Ok wall) script out hall → KeepsIfRan hall book ending →
+      Runs wall script out book ending
+  ran_so wall (Ok hall) ending so kept =
+      reached wall script out book hall ending so
+      (λ run stands. subst (λ w. IsKept w run book ending) so.ran.policy (kept run stands))
+  ran_so wall (Err before) ending so kept =
+      ended wall script out book ending (subst (FellShort wall script out) (sym kept.0) so) kept.1
+
   pub ran_under : (IsOne : ChineseWall → Type 0) (IsNone : Ending → Type 0)
       (wall : Result ChineseWall Ending) (hall : Result HallValue Ending) (ending : Ending) →
       IfOk wall IsOne → IfErr wall IsNone → RunsIfRead wall script out hall →
@@ -179,14 +189,5 @@ module _ {S O B : Type 0} (script : Used S) (out : Used O) (book : Option (Used 
   ran_under IsOne IsNone (Err before) hall ending one none so kept =
       let ends = no_hall book IsNone hall before ending so.0 kept none in
       inl (ends.0, so.1, so.2, ends.1)
-  ran_under IsOne IsNone (Ok wall) (Ok hall) ending one none so kept = inr (
-    wall,
-    one,
-    reached wall script out book hall ending so
-        (λ run stands. subst (λ w. IsKept w run book ending) so.ran.policy (kept run stands)),
-  )
-  ran_under IsOne IsNone (Ok wall) (Err before) ending one none so kept = inr (
-    wall,
-    one,
-    ended wall script out book ending (subst (FellShort wall script out) (sym kept.0) so) kept.1,
-  )
+  ran_under IsOne IsNone (Ok wall) hall ending one none so kept =
+      inr (wall, one, ran_so wall hall ending so kept)

@@ -56,7 +56,7 @@ none_after_reading path cause policy causes earlier first (Err ending) read brok
     inr (first, read, broken)
 
 -- a report without a page, whichever kind of writer there is none of
-unpaged_entries : {O : Type 0} {A B : Type 0} (wall : ChineseWall) (entries : List Entry)
+pub unpaged_entries : {O : Type 0} {A B : Type 0} (wall : ChineseWall) (entries : List Entry)
     (out : Used O) (ending : Ending) → ReportsEntries {W = A} wall entries out None ending →
     ReportsEntries {W = B} wall entries out None ending
 unpaged_entries wall entries out ending (inl r) = inl (record {

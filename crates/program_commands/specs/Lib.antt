@@ -15,3 +15,4 @@ pub mod ChainLines
 pub mod Chains
 -- the policy of a chain's next run, and of its last
 pub mod ChainWalls
+pub mod ChainReports

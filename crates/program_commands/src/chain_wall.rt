@@ -40,7 +40,7 @@ fn past_of<'p, F: FileSystem<'p>, E: Sink>(
 }
 
 // (What a policy proves of itself, and the law over years.)
-fn see_wall(wall: &Policy)
+pub(crate) fn see_wall(wall: &Policy)
     ensures policy { IsPolicy wall.now }
     ensures years { OverYears }
 {

@@ -5,6 +5,7 @@
 mod audit;
 mod chain;
 mod chain_line;
+mod chain_report;
 mod chain_wall;
 mod check;
 mod devices;
@@ -23,14 +24,15 @@ mod wall;
 
 pub use audit::{BOOK_LIMIT, audit_after, audit_on};
 pub use chain::{NoChain, audit_chain, read_chain_file, tell_no_chain};
+pub use chain_report::report_chain;
 pub use chain_wall::{last_on_chain, next_on_chain};
 pub use check::{CheckFiles, check_on};
 pub use devices::{Devices, Streams};
 pub use earlier::{Earlier, read_wall_after};
 pub use ending::{EarlierFault, Ending, Why, end};
-pub use replay::{replay_after, replay_on};
+pub use replay::{replay_after, replay_on, replay_with};
 pub use report::{ReportFiles, report_on};
-pub use run::{run_after, run_on};
+pub use run::{run_after, run_on, run_with};
 pub use seal::{seal_on, seal_with};
 pub use serve::{ServeEnd, receipts_cover_the_book, serve_on};
 pub use text::text_on;

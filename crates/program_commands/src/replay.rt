@@ -6,11 +6,13 @@ ghost use Rattle.program_commands.specs.Endings.{Writes, EndsSo};
 ghost use Rattle.hall_script.specs.Devices.{used};
 ghost use Rattle.program_commands.specs.Replaying.{script_ending, text_of, perhaps, ReplayEnds};
 ghost use Rattle.program_commands.specs.Replaying.{ReplaysIfRead, KeepsIfRan, ending_of};
+ghost use Rattle.program_commands.specs.Replaying.{Replays};
 ghost use Rattle.program_commands.specs.Earlier.{earlier_books};
 ghost use Rattle.program_commands.specs.Continuing.{ReplayAfterEnds};
 ghost use Rattle.program_commands.specs.Using.{policy_used, subject_used, out_used, err_used};
+ghost use Rattle.program_commands.specs.Using.{out_stream, err_stream};
 
-use crate::devices::Devices;
+use crate::devices::{Devices, Streams};
 use crate::earlier::{Earlier, read_wall_after};
 use crate::ending::{Ending, end};
 use crate::wall::read_wall;
@@ -147,6 +149,28 @@ pub fn replay_on<P: Source, S: Source, O: Sink, E: Sink, B: Sink>(
         return end_without_book(hall, err);
     };
     end_with_book(alloc, hall, book, err)
+}
+
+/// What `replay_on` does, under a policy at hand.
+pub fn replay_with<'d, S: Source, O: Sink, E: Sink, B: Sink>(
+    alloc: Global,
+    wall: Policy,
+    script: &'d mut S,
+    streams: Streams<'d, O, E>,
+    book: Option<&'d mut B>,
+) -> u8
+    ensures { EndsSo (Replays wall
+        (used S.failures S.remaining script.old script.new)
+        (out_stream O.failures O.contents streams.entry streams.exit)
+        (perhaps B.failures B.contents book.entry book.exit))
+        (err_stream E.failures E.contents streams.entry streams.exit) result }
+{
+    let Streams { out, err } = streams;
+    let ran = replay_under(alloc, Ok(wall), script, out);
+    let Some(kept) = book else {
+        return end_without_book(ran, err);
+    };
+    end_with_book(alloc, ran, kept, err)
 }
 
 /// What `replay_on` does, under the policy for what comes after earlier books, as `read_wall_after`

@@ -39,9 +39,9 @@ fn tell_fault<O: Sink>(out: &mut O, fault: BookFault) -> Ending<'static>
 
 // What a report reads: the policy after the earlier books, and its book.
 #[derive(Drop)]
-struct Reading {
-    wall: Policy,
-    entries: Book,
+pub(crate) struct Reading {
+    pub(crate) wall: Policy,
+    pub(crate) entries: Book,
 }
 
 // Checks a book, and writes its report; or tells that it is unsound, as an audit would.
@@ -186,7 +186,7 @@ fn read_all<'a, 'd, P: Source + Explains, D: Source + Explains + Drop, B: Source
 }
 
 // Reports on the book, if it was read.
-fn report_read<'a, O: Sink>(
+pub(crate) fn report_read<'a, O: Sink>(
     alloc: Global,
     reading: Result<Reading, Ending<'a>>,
     out: &mut O,
@@ -207,7 +207,7 @@ fn report_read<'a, O: Sink>(
 }
 
 // Does what `report_read` does, with a page behind the report.
-fn page_read<'a, O: Sink, W: Sink>(
+pub(crate) fn page_read<'a, O: Sink, W: Sink>(
     alloc: Global,
     reading: Result<Reading, Ending<'a>>,
     out: &mut O,

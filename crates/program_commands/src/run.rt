@@ -12,13 +12,14 @@ ghost use Rattle.program_commands.specs.Replaying.{perhaps};
 ghost use Rattle.program_commands.specs.Running.{rank_line, reply_lines, rank_text, IsScriptOf};
 ghost use Rattle.program_commands.specs.Running.{IsNoScript, run_ending, IsNoRun, break_ending};
 ghost use Rattle.program_commands.specs.Running.{Breaks};
-ghost use Rattle.program_commands.specs.Running.{FellShort, Reached, RunsIfRead, RunEnds};
+ghost use Rattle.program_commands.specs.Running.{FellShort, Reached, RunsIfRead, RunEnds, Runs};
 ghost use Rattle.program_commands.specs.Running.{process_lines};
 ghost use Rattle.program_commands.specs.Earlier.{earlier_books};
 ghost use Rattle.program_commands.specs.Continuing.{RunAfterEnds};
 ghost use Rattle.program_commands.specs.Using.{policy_used, subject_used, out_used, err_used};
+ghost use Rattle.program_commands.specs.Using.{out_stream, err_stream};
 
-use crate::devices::Devices;
+use crate::devices::{Devices, Streams};
 use crate::earlier::{Earlier, read_wall_after};
 use crate::ending::Ending;
 use crate::replay::{end_with_book, end_without_book, script_ending};
@@ -306,6 +307,29 @@ pub fn run_on<R: Threads + Wait + Sync, P: Source, S: Source, O: Sink, E: Sink, 
         return end_without_book(hall, err);
     };
     end_with_book(alloc, hall, book, err)
+}
+
+/// What `run_on` does, under a policy at hand.
+pub fn run_with<'d, R: Threads + Wait + Sync, S: Source, O: Sink, E: Sink, B: Sink>(
+    rt: &R,
+    alloc: Global,
+    wall: Policy,
+    script: &'d mut S,
+    streams: Streams<'d, O, E>,
+    book: Option<&'d mut B>,
+) -> u8
+    ensures { EndsSo (Runs wall
+        (used S.failures S.remaining script.old script.new)
+        (out_stream O.failures O.contents streams.entry streams.exit)
+        (perhaps B.failures B.contents book.entry book.exit))
+        (err_stream E.failures E.contents streams.entry streams.exit) result }
+{
+    let Streams { out, err } = streams;
+    let ran = run_under(rt, alloc, Ok(wall), Stage { script, out });
+    let Some(kept) = book else {
+        return end_without_book(ran, err);
+    };
+    end_with_book(alloc, ran, kept, err)
 }
 
 /// What `run_on` does, under the policy for what comes after earlier books, as `read_wall_after`

@@ -1,0 +1,102 @@
+-- The last run of a chain, read again, and a report on it without a page.
+use Rattle.std.proofs.Common.{◌≡◌, ℕ, List, Option, None, Result, Ok, Err, inl, inr, subst}
+use Rattle.std.specs.Prelude.{IfOk, IfErr}
+use Rattle.wall_policy.specs.Policy.{ChineseWall}
+use Rattle.wall_policy.specs.declared.growth.GrowthFault.{GrowthFault}
+use Rattle.run_model.specs.Books.{IsSound}
+use Rattle.hall_script.specs.Devices.{Used, used}
+use Rattle.book_stream.specs.declared.fault.AuditFault.TheVariants as audits
+use Rattle.chain_file.specs.declared.run.Run.{Run}
+use Rattle.chain_file.specs.Text.{Chain}
+use Rattle.chain_runs.specs.declared.fault.RunFault.{RunFault}
+use Rattle.chain_runs.specs.declared.fault.RunFault.TheVariants as runs
+use Rattle.chain_runs.specs.declared.runs.Past.{Past}
+use Rattle.chain_runs.specs.Runs.{IsBegunUnder, SaysBook}
+use Rattle.chain_runs.specs.Chains.{Reading, reading}
+use Rattle.program_commands.specs.declared.report.Reading.{Reading as LastRead}
+use Rattle.program_commands.specs.ChainLines.{HasName}
+use Rattle.program_commands.specs.ChainReports.{IsNoBookOf, IsNoRun, IsReadAgain, IsNotReadAgain}
+use Rattle.program_commands.specs.ChainReports.{ChainReported}
+use Rattle.program_commands.proofs.ChainLemmas.{begun_named}
+use Rattle.program_commands.proofs.ReportLemmas.{unpaged_entries}
+
+-- no book says of its policy that it has not grown
+not_of_a_book : {B : Type 0} (wall : ChineseWall) (book : Used B) (digest : List ℕ)
+    (f : GrowthFault) → IsNoBookOf wall book digest (runs.NotGrown f) → ⊥
+not_of_a_book wall book digest f (inl h) =
+    let bad : runs.NotGrown f ≡ runs.BadBook audits.Read = h.0 in cc
+not_of_a_book wall book digest f (inr (inl h)) = h.2
+not_of_a_book wall book digest f (inr (inr h)) =
+    let bad : runs.NotGrown f ≡ runs.NoMemory = h.0 in cc
+
+-- where there is no policy of it, or its book does not stand, what has not grown has a name
+last_named : {P B : Type 0} (after : Option ChineseWall) (run : Run) (policy : Used P)
+    (book : Used B) (fault : RunFault) → IsNoRun after run policy book fault → HasName after fault
+last_named after run policy book fault (inl h) = begun_named after run.begun policy fault h.0
+last_named after run policy book runs.UnreadPolicy (inr h) = tt
+last_named after run policy book runs.OtherPolicy (inr h) = tt
+last_named after run policy book (runs.BadPolicy f) (inr h) = tt
+last_named after run policy book (runs.NotGrown f) (inr h) = absurd
+    (not_of_a_book h.0 book run.book_digest f h.2)
+last_named after run policy book (runs.BadBook f) (inr h) = tt
+last_named after run policy book runs.OtherBook (inr h) = tt
+last_named after run policy book runs.TooMany (inr h) = tt
+last_named after run policy book runs.NoMemory (inr h) = tt
+
+module _ {D : Type 0} (fails : D → ℕ) (left : D → Option (List ℕ))
+    (is_at : D → List ℕ → Type 0) where
+  pub bad_last_named : (past : Past) (run : Run) (fault : RunFault) →
+      IsNotReadAgain fails left is_at past run fault → HasName past.policy fault
+  bad_last_named past run fault why = last_named past.policy run (reading fails left is_at why.0)
+      (reading fails left is_at why.1) fault why.2
+
+module _ {D : Type 0} (fails : D → ℕ) (left : D → Option (List ℕ))
+    (is_at : D → List ℕ → Type 0) (past : Past) (after : Option ChineseWall)
+    (same : after ≡ past.policy) (run : Run) (p q b d : D) (by_policy by_book : List ℕ)
+    (p_is : is_at p by_policy) (same_policy : by_policy ≡ run.begun.policy)
+    (b_is : is_at b by_book) (same_book : by_book ≡ run.begun.book) where
+  by_its_policy : Reading fails left is_at run.begun.policy
+  by_its_policy = record { first = p; last = q; at = subst (is_at p) same_policy p_is }
+
+  by_its_book : Reading fails left is_at run.begun.book
+  by_its_book = record { first = b; last = d; at = subst (is_at b) same_book b_is }
+
+  pub run_read_again : (read : Result LastRead RunFault) →
+      IfOk read (λ r. IsBegunUnder after run.begun (used fails left p q) r.wall) →
+      IfOk read (λ r. SaysBook r.wall (used fails left b d) run.book_digest r.entries.list) →
+      IfOk read (λ r. IsSound r.wall r.entries.list) →
+      IfOk read (λ r. IsReadAgain fails left is_at past run r.wall r.entries.list)
+  unfolding by_its_policy by_its_book
+  run_read_again (Ok r) under says sound = record {
+    policy = by_its_policy;
+    under = subst (λ o. IsBegunUnder o run.begun (used fails left p q) r.wall) same under;
+    book = by_its_book;
+    says = says;
+    sound = sound;
+  }
+  run_read_again (Err fault) under says sound = tt
+
+  pub run_not_read_again : (read : Result LastRead RunFault) →
+      IfErr read (IsNoRun after run (used fails left p q) (used fails left b d)) →
+      IfErr read (IsNotReadAgain fails left is_at past run)
+  unfolding by_its_policy by_its_book
+  run_not_read_again (Ok r) why = tt
+  run_not_read_again (Err fault) why = (
+    by_its_policy,
+    by_its_book,
+    subst (λ o. IsNoRun o run (used fails left p q) (used fails left b d) fault) same why,
+  )
+
+-- a report without a page, whichever kind of writer there is none of
+module _ {D O E : Type 0} (fails : D → ℕ) (left : D → Option (List ℕ))
+    (is_at : D → List ℕ → Type 0) (file : Chain) (out : Used O) (err : Used E) (status : ℕ) where
+  pub unpaged_report : {A W : Type 0} →
+      ChainReported fails left is_at {W = A} file out None err status →
+      ChainReported fails left is_at {W = W} file out None err status
+  unpaged_report (inl none) = inl none
+  unpaged_report {A = A} {W = W} (inr a) = inr (
+    a.0,
+    a.1,
+    a.2,
+    (a.3.0, unpaged_entries {A = A} {B = W} a.0 a.1 out a.3.0 a.3.1, a.3.2, a.3.3),
+  )
